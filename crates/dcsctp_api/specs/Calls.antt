@@ -1,0 +1,71 @@
+-- What the calls of a socket do.
+use Rattle.std.specs.Prelude.{◌≡◌, ℕ, Bool, true, false, Option, Some, None, Result, Ok, Err, List, [], ◌∷◌, ◌++◌, map}
+use Rattle.dcsctp_machine.specs.declared.options.Options.{Options}
+use Rattle.dcsctp_machine.specs.declared.word.Word.{Word}
+use Rattle.dcsctp_machine.specs.Event.{Event, event_map}
+use Rattle.dcsctp_machine.specs.Packet.{Emission, emission_bytes}
+use Rattle.dcsctp_machine.specs.Endpoint.{Endpoint, Core, closed, cookie_wait, cookie_echoed, open_in, OpenPhase, established, shutdown_pending, shutdown_sent, shutdown_received, shutdown_ack_sent}
+use Rattle.dcsctp_machine.specs.Outcome.{Outcome}
+use Rattle.dcsctp_machine.specs.CallTurns.{HandleInput, after_all, words_of, events_of}
+use Rattle.dcsctp_api.specs.declared.errors.SocketFault.{SocketFault}
+use Rattle.dcsctp_api.specs.declared.errors.SocketFault.TheVariants.{OutOfMemory, Failed}
+use Rattle.dcsctp_api.specs.declared.events.SocketEvent.{SocketEvent}
+use Rattle.dcsctp_api.specs.declared.state.SocketState.{SocketState}
+use Rattle.dcsctp_api.specs.declared.state.SocketState.TheVariants as states
+use Rattle.dcsctp_api.specs.Events.{event_content}
+
+-- What a socket is to its user: the endpoint, the events that wait, the words that the present call
+-- drew, and whether a growth was refused.
+pub record UserView : Type 0 where
+  pub endpoint : Endpoint
+  pub events : List (Event (List ℕ))
+  pub words : List Word
+  pub failed : Bool
+
+-- an event as the user sees it: its packet in bytes
+abbrev pub shown : Options → Event Emission → Event (List ℕ)
+shown options event = event_map (emission_bytes options) event
+
+-- The outcomes of a call's turns lead from one view to the other, neither of which has failed.
+pub record Follows (old : UserView) (outcomes : List Outcome) (new : UserView) : Type 0 where
+  pub runs : old.failed ≡ false
+  pub goes_on : new.failed ≡ false
+  pub endpoint : new.endpoint ≡ after_all old.endpoint outcomes
+  pub events : new.events ≡ old.events ++ map (shown old.endpoint.options) (events_of outcomes)
+  pub words : new.words ≡ words_of outcomes
+
+-- A growth was refused: events that were added before stay, in front, and the socket has failed.
+pub record RanOut (old new : UserView) : Type 0 where
+  pub runs : old.failed ≡ false
+  pub fails : new.failed ≡ true
+  pub added : List (Event (List ℕ))
+  pub events : new.events ≡ old.events ++ added
+
+-- The socket had failed, and nothing changes.
+pub record StaysFailed (old new : UserView) : Type 0 where
+  pub had_failed : old.failed ≡ true
+  pub same : new ≡ old
+
+abbrev pub HandlesInput : UserView → List ℕ → Result (Unit {0}) SocketFault → UserView → Type 0
+HandlesInput old packet (Ok done) new = (outcomes : List Outcome) × HandleInput old.endpoint packet outcomes × Follows old outcomes new
+HandlesInput old packet (Err OutOfMemory) new = RanOut old new
+HandlesInput old packet (Err Failed) new = StaysFailed old new
+
+-- The event that was added first is taken, and nothing else changes.
+abbrev pub PollsEvent : UserView → Option SocketEvent → UserView → Type 0
+PollsEvent old None new = (old.events ≡ []) × (new ≡ old)
+PollsEvent old (Some event) new = (old.events ≡ event_content event ∷ new.events) × (new ≡ record old { events = new.events })
+
+-- the state that a user is told
+abbrev pub open_state : OpenPhase → SocketState
+open_state established = states.Connected
+open_state shutdown_pending = states.ShuttingDown
+open_state shutdown_sent = states.ShuttingDown
+open_state shutdown_received = states.ShuttingDown
+open_state shutdown_ack_sent = states.ShuttingDown
+
+abbrev pub socket_state_of : Core → SocketState
+socket_state_of closed = states.Closed
+socket_state_of (cookie_wait my) = states.Connecting
+socket_state_of (cookie_echoed my held cookie) = states.Connecting
+socket_state_of (open_in phase my held) = open_state phase

@@ -1,0 +1,14 @@
+-- What a `StateCookie` says (RFC 9260, section 5.1.3).
+use Rattle.dcsctp_machine.specs.Cookie.{Cookie}
+use Rattle.dcsctp_machine.specs.Offer.{offer_in}
+use Rattle.dcsctp_api.specs.declared.state_cookie.StateCookie.{StateCookie}
+
+abbrev pub cookie_of : StateCookie → Cookie
+cookie_of cookie =
+    record {
+      maker = record { tag = cookie.my_tag; first_tsn = cookie.my_initial_tsn };
+      addressee = record { tag = cookie.peer_tag; first_tsn = cookie.peer_initial_tsn };
+      offer = offer_in cookie.peer_capabilities;
+      window = cookie.a_rwnd;
+      tie = cookie.tie_tag;
+    }

@@ -1,0 +1,6 @@
+pub mod Calls
+pub mod Cookie
+pub mod Events
+pub mod Ids
+pub use Rattle.dcsctp_machine.specs.Event
+pub use Rattle.dcsctp_machine.specs.Offer

@@ -1,0 +1,33 @@
+//! The calls of a socket.
+
+ghost use Rattle.std.specs.Prelude.{◌≡◌};
+ghost use Rattle.dcsctp_api.specs.Calls.{UserView, PollsEvent, HandlesInput, socket_state_of};
+
+use crate::errors::SocketFault;
+use crate::events::SocketEvent;
+use crate::state::SocketState;
+
+/// The calls of an SCTP socket that makes no system call: packets go in, events come out.
+///
+/// A call that may take memory answers `SocketFault::OutOfMemory` where a growth was refused. From
+/// then on the socket has failed: each such call answers `SocketFault::Failed` and changes nothing,
+/// while events can still be polled and queries answer.
+pub trait DcSctpSocket {
+    // What a socket is to its user.
+    ghost user_view: { Self → UserView };
+
+    /// Takes the event that was added first, where there is one. It takes no memory.
+    fn poll_event(&mut self) -> Option<SocketEvent>
+        ensures { PollsEvent (user_view self.old) result (user_view self.new) };
+
+    /// Works a packet from the peer (RFC 9260, sections 5 and 8).
+    ///
+    /// Each packet is counted. One that can't be read, or whose verification tag isn't right, adds one
+    /// `SocketEvent::OnError` and changes nothing else.
+    fn handle_input(&mut self, packet: &[u8]) -> Result<(), SocketFault>
+        ensures { HandlesInput (user_view self.old) packet.now result (user_view self.new) };
+
+    /// The state of the association.
+    fn state(&self) -> SocketState
+        ensures { result ≡ socket_state_of (user_view self.now).endpoint.core };
+}

@@ -1,0 +1,34 @@
+//! The public types of an SCTP socket: moments, identifiers, messages, events and errors.
+//!
+//! `laws` holds what a user may rely on of the comparisons and hashes of these types.
+#![tactic(auto)]
+
+mod calls;
+mod errors;
+mod events;
+mod ids;
+mod laws;
+mod message;
+mod state;
+mod state_cookie;
+#[cfg(test)]
+mod tests;
+mod time;
+
+pub use calls::DcSctpSocket;
+pub use dcsctp_machine::{
+    Association, Capabilities, ErrorKind, Held, Options, Pair, Phase, ReconfigurationResult,
+    SctpImplementation, Word, ZERO_CHECKSUM_ALTERNATE_ERROR_DETECTION_METHOD_LOWER_LAYER_DTLS,
+    ZERO_CHECKSUM_ALTERNATE_ERROR_DETECTION_METHOD_NONE, ZeroChecksumAlternateErrorDetectionMethod,
+};
+pub use errors::SocketFault;
+pub use events::{Events, SocketEvent};
+pub use ids::{LifecycleId, PpId, StreamId};
+pub use laws::{
+    lifecycle_id_hash, lifecycle_id_order, pp_id_hash, send_options_default, socket_time_order,
+    stream_id_hash, stream_id_order,
+};
+pub use message::{Message, SendOptions};
+pub use state::SocketState;
+pub use state_cookie::StateCookie;
+pub use time::SocketTime;

@@ -1,0 +1,99 @@
+//! Moments in the life of a socket.
+
+ghost use Rattle.std.specs.Prelude.{◌≡◌, ◌+◌, ◌-◌, ◌≤◌, min};
+ghost use Rattle.std.specs.Duration.{as_nanos, max_nanos};
+
+use std::marker::Model;
+use std::ops::{Add, Sub};
+use std::time::Duration;
+
+/// A moment, as the time that has passed since the socket was made. It is exact to the nanosecond,
+/// and the last moment is the greatest `Duration` after the first.
+///
+/// A contract sees the number of nanoseconds.
+#[derive(Clone, Copy, Debug, PartialEq, Eq, PartialOrd, Ord)]
+pub struct SocketTime {
+    nanos: u128,
+}
+
+impl Model for SocketTime {
+    ghost use Rattle.std.specs.Prelude.{ℕ, ◌≤◌};
+    ghost use Rattle.std.specs.Duration.{max_nanos};
+
+    ghost Value = { ℕ };
+
+    ghost view = { λ time. time.nanos };
+
+    ghost invariant = { λ time. time.nanos ≤ max_nanos };
+
+    ghost inverse = { λ nanos. record { nanos = nanos } };
+}
+
+impl SocketTime {
+    /// The moment at which the socket was made.
+    pub const fn zero() -> SocketTime
+        ensures { result ≡ 0 }
+    {
+        SocketTime { nanos: 0 }
+    }
+
+    /// The last moment, which stands for one that never comes.
+    pub const fn infinite_future() -> SocketTime
+        ensures { result ≡ max_nanos }
+    {
+        SocketTime {
+            nanos: Duration::MAX.as_nanos(),
+        }
+    }
+
+    /// How many nanoseconds after the making of the socket the moment is.
+    pub const fn as_nanos(self) -> u128
+        ensures value { result ≡ self }
+        ensures limit { self ≤ max_nanos }
+    {
+        self.nanos
+    }
+
+    fn since_start(self) -> Duration
+        ensures { as_nanos result ≡ self }
+    {
+        Duration::from_nanos_u128(self.nanos)
+    }
+}
+
+/// The moment that comes the duration later, or the last one if that is earlier.
+impl Add<Duration> for SocketTime {
+    type Output = SocketTime;
+
+    ghost add_gives = { λ time duration later. later ≡ min (time + as_nanos duration) max_nanos };
+
+    fn add(self, duration: Duration) -> SocketTime {
+        SocketTime {
+            nanos: self.since_start().saturating_add(duration).as_nanos(),
+        }
+    }
+}
+
+/// The moment that comes the duration earlier, or the first one if that is later.
+impl Sub<Duration> for SocketTime {
+    type Output = SocketTime;
+
+    ghost sub_gives = { λ time duration earlier. earlier ≡ time - as_nanos duration };
+
+    fn sub(self, duration: Duration) -> SocketTime {
+        SocketTime {
+            nanos: self.since_start().saturating_sub(duration).as_nanos(),
+        }
+    }
+}
+
+/// How long after the other moment this one is; zero if it isn't later.
+impl Sub<SocketTime> for SocketTime {
+    type Output = Duration;
+
+    ghost sub_gives = { λ later earlier duration. as_nanos duration ≡ later - earlier };
+
+    fn sub(self, earlier: SocketTime) -> Duration {
+        self.since_start().saturating_sub(earlier.since_start())
+    }
+}

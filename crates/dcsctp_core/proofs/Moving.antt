@@ -1,0 +1,65 @@
+-- Turns that move the view one after another.
+use Rattle.std.proofs.Common.{◌≡◌, ℕ, List, [], ◌∷◌, ◌++◌, map, refl, sym, ap, subst, ◌∙◌, append_assoc}
+use Rattle.std.proofs.lemmas.List.{append-nil, map-append}
+use Rattle.rand_core.specs.Stream.{Stream, next_u32, next_u64}
+use Rattle.dcsctp_machine.specs.declared.options.Options.{Options}
+use Rattle.dcsctp_machine.specs.declared.word.Word.{Word}
+use Rattle.dcsctp_machine.specs.declared.word.Word.TheVariants.{U32, U64}
+use Rattle.dcsctp_machine.specs.Event.{Event}
+use Rattle.dcsctp_machine.specs.Packet.{Emission}
+use Rattle.dcsctp_machine.specs.Endpoint.{Endpoint}
+use Rattle.dcsctp_machine.specs.Outcome.{Outcome, still}
+use Rattle.dcsctp_machine.specs.CallTurns.{after_all, words_of, events_of}
+use Rattle.dcsctp_machine.proofs.TurnLemmas.{after_all-append, words_of-append, events_of-append}
+use Rattle.dcsctp_api.specs.Calls.{shown}
+use Rattle.dcsctp_api.specs.Events.{event_content}
+use Rattle.dcsctp_api.specs.declared.events.SocketEvent.{SocketEvent}
+use Rattle.dcsctp_core.specs.View.{View, Drawn, Moves, MovesAll, Extends}
+
+pub Drawn-append : (s t u : Stream) (xs ys : List Word) → Drawn s xs t → Drawn t ys u → Drawn s (xs ++ ys) u
+Drawn-append s t u [] ys a b = subst (λ (v : Stream). Drawn v ys u) a b
+Drawn-append s t u (U32 word ∷ xs) ys a b = (a.0, Drawn-append (next_u32 s).1 t u xs ys a.1 b)
+Drawn-append s t u (U64 word ∷ xs) ys a b = (a.0, Drawn-append (next_u64 s).1 t u xs ys a.1 b)
+
+pub moves_none : {R : Type 0} (stream : R → Stream) (v : View R) → MovesAll stream v [] v
+moves_none stream v = record { endpoint = refl; events = sym (append-nil v.events); words = sym (append-nil v.words); drawn = refl }
+
+pub moves_one : {R : Type 0} (stream : R → Stream) (a b : View R) (o : Outcome) → Moves stream a o b → MovesAll stream a (o ∷ []) b
+moves_one stream a b o m =
+    record {
+      endpoint = m.endpoint;
+      events = m.events ∙ ap (λ (es : List (Event Emission)). a.events ++ map (shown a.endpoint.options) es) (sym (append-nil o.events));
+      words = m.words ∙ ap (λ (ws : List Word). a.words ++ ws) (sym (append-nil o.words));
+      drawn = subst (λ (ws : List Word). Drawn (stream a.generator) ws (stream b.generator)) (sym (append-nil o.words)) m.drawn;
+    }
+
+-- events that are shown after others are shown with them
+shown_then : (options : Options) (old mid : List (Event (List ℕ))) (xs ys : List Outcome) → mid ≡ old ++ map (shown options) (events_of xs) → mid ++ map (shown options) (events_of ys) ≡ old ++ map (shown options) (events_of (xs ++ ys))
+shown_then options old mid xs ys h =
+    ap (λ (es : List (Event (List ℕ))). es ++ map (shown options) (events_of ys)) h
+    ∙ append_assoc old (map (shown options) (events_of xs)) (map (shown options) (events_of ys))
+    ∙ ap (λ (es : List (Event (List ℕ))). old ++ es) (sym (map-append (shown options) (events_of xs) (events_of ys)))
+    ∙ ap (λ (es : List (Event Emission)). old ++ map (shown options) es) (sym (events_of-append xs ys))
+
+pub moves_then : {R : Type 0} (stream : R → Stream) (a b c : View R) (xs ys : List Outcome) → (after_all a.endpoint xs).options ≡ a.endpoint.options → MovesAll stream a xs b → MovesAll stream b ys c → MovesAll stream a (xs ++ ys) c
+moves_then stream a b c xs ys same m n =
+    let options : b.endpoint.options ≡ a.endpoint.options = ap (λ (e : Endpoint). e.options) m.endpoint ∙ same in
+    record {
+      endpoint = n.endpoint ∙ ap (λ (e : Endpoint). after_all e ys) m.endpoint ∙ sym (after_all-append a.endpoint xs ys);
+      events = n.events ∙ ap (λ (o : Options). b.events ++ map (shown o) (events_of ys)) options ∙ shown_then a.endpoint.options a.events b.events xs ys m.events;
+      words = n.words ∙ ap (λ (ws : List Word). ws ++ words_of ys) m.words ∙ append_assoc a.words (words_of xs) (words_of ys) ∙ ap (λ (ws : List Word). a.words ++ ws) (sym (words_of-append xs ys));
+      drawn = subst (λ (ws : List Word). Drawn (stream a.generator) ws (stream c.generator)) (sym (words_of-append xs ys)) (Drawn-append (stream a.generator) (stream b.generator) (stream c.generator) (words_of xs) (words_of ys) m.drawn n.drawn);
+    }
+
+pub moves_still : {R : Type 0} (stream : R → Stream) (v : View R) → Moves stream v (still v.endpoint) v
+moves_still stream v = record { endpoint = refl; events = sym (append-nil v.events); words = sym (append-nil v.words); drawn = refl }
+
+pub extends_none : (events : List SocketEvent) → Extends events events
+extends_none events = ([], sym (append-nil (map event_content events)))
+
+pub extends_then : (a b c : List SocketEvent) → Extends a b → Extends b c → Extends a c
+extends_then a b c e f = (e.0 ++ f.0, f.1 ∙ ap (λ (es : List (Event (List ℕ))). es ++ f.0) e.1 ∙ append_assoc (map event_content a) e.0 f.0)
+
+-- a turn only adds events
+pub moves_extend : {R : Type 0} (stream : R → Stream) (a b : View R) (o : Outcome) → Moves stream a o b → (added : List (Event (List ℕ))) × (b.events ≡ a.events ++ added)
+moves_extend stream a b o m = (map (shown a.endpoint.options) o.events, m.events)

@@ -1,0 +1,4 @@
+pub mod View
+pub use Rattle.dcsctp_api.specs.Events
+pub use Rattle.dcsctp_machine.specs.Endpoint
+pub use Rattle.dcsctp_machine.specs.Outcome

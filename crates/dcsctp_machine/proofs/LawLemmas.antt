@@ -1,0 +1,105 @@
+-- The laws of specs/Laws.
+use Rattle.std.proofs.Common.{◌≡◌, ◌≤◌, ◌<◌, ◌^◌, ℕ, Bool, true, false, not, cond, eqb, ◌&&◌, ◌||◌, List, refl, rules, ap, ◌∙◌, arith, Ok}
+use Rattle.std.specs.Prelude.{min}
+use Rattle.std.specs.Int.{w16, w32, w64, to_be_bytes, from_be_bytes}
+use Rattle.std.proofs.lemmas.Nat.{from_be_bytes-to_be_bytes_2, from_be_bytes-to_be_bytes_4, from_be_bytes-to_be_bytes_8}
+use Rattle.std.proofs.lemmas.Bool.Decides.{nat_tests}
+use Rattle.dcsctp_machine.specs.Offer.{Offer, negotiated, answered, agreed_method}
+use Rattle.dcsctp_machine.specs.Cookie.{Cookie, flag_byte, has_zero_tag, cookie_bytes, cookie_at, cookie_fields, u64_at}
+use Rattle.dcsctp_wire.specs.Format.{u16_at, u32_at}
+use Rattle.dcsctp_machine.specs.declared.word.Word.{Word}
+use Rattle.dcsctp_machine.specs.Packet.{Introduction, Emission}
+use Rattle.dcsctp_machine.specs.Endpoint.{Endpoint, Core, closed, cookie_wait, cookie_echoed, open_in, established, shutdown_pending, shutdown_sent, shutdown_received, shutdown_ack_sent}
+use Rattle.dcsctp_machine.specs.Outcome.{Outcome, emits}
+use Rattle.dcsctp_machine.specs.turns.Handshake.{init_outcome}
+use Rattle.dcsctp_machine.specs.Laws.{IsMirrored, NegotiationIsMutual, AnswerKeepsAgreement, FitsPair, FitsCookie, CookieReadsBack, InitLeavesAssociation}
+
+and_comm : (a b : Bool) → a && b ≡ b && a
+and_comm true true = refl
+and_comm true false = refl
+and_comm false true = refl
+and_comm false false = refl
+
+methods_agree : (m n : ℕ) → cond (eqb m n) m 0 ≡ cond (eqb n m) n 0
+methods_agree m n = grind (arith, nat_tests)
+
+pub negotiation_is_mutual : NegotiationIsMutual
+negotiation_is_mutual a b =
+    record {
+      partial_reliability = and_comm a.partial_reliability b.partial_reliability;
+      message_interleaving = and_comm a.message_interleaving b.message_interleaving;
+      reconfig = and_comm a.reconfig b.reconfig;
+      zero_checksum_method = ap (λ n. record { 0 = n }) (methods_agree a.zero_checksum_method b.zero_checksum_method);
+      incoming = omega arith;
+      outgoing = omega arith;
+    }
+
+-- the method that is agreed on is agreed on again
+method_again : (m n : ℕ) → cond (eqb m (cond (eqb n m) n 0)) m 0 ≡ cond (eqb m n) m 0
+method_again m n = grind (arith, nat_tests)
+
+pub answer_keeps_agreement : AnswerKeepsAgreement
+answer_keeps_agreement mine theirs =
+    ap (λ n. record (negotiated mine theirs) { zero_checksum_method = record { 0 = n } }) (method_again mine.zero_checksum_method theirs.zero_checksum_method)
+
+flag_again : (b : Bool) → not (eqb (flag_byte b) 0) ≡ b
+flag_again true = refl
+flag_again false = refl
+
+zero_tests : (m n : ℕ) → 1 ≤ m → 1 ≤ n → eqb m 0 || eqb n 0 ≡ false
+zero_tests m n h k = grind (arith, nat_tests)
+
+chosen : {A : Type 0} (b : Bool) (x y : A) → b ≡ false → cond b x y ≡ y
+chosen true x y e = absurd (cc)
+chosen false x y e = refl
+
+-- a cookie of these fields
+abbrev made : ℕ → ℕ → ℕ → ℕ → Bool → Bool → Bool → ℕ → ℕ → ℕ → ℕ → ℕ → Cookie
+made maker_tag maker_tsn tag tsn partial interleaving reconfig method inbound outbound window tie =
+    record {
+      maker = record { tag = maker_tag; first_tsn = maker_tsn };
+      addressee = record { tag = tag; first_tsn = tsn };
+      offer = record { partial_reliability = partial; message_interleaving = interleaving; reconfig = reconfig; zero_checksum_method = method; inbound_streams = inbound; outbound_streams = outbound };
+      window = window;
+      tie = tie;
+    }
+
+same_cookie : (a1 b1 a2 b2 a3 b3 a4 b4 : ℕ) (a5 b5 a6 b6 a7 b7 : Bool) (a8 b8 a9 b9 a10 b10 a11 b11 a12 b12 : ℕ)
+  → a1 ≡ b1 → a2 ≡ b2 → a3 ≡ b3 → a4 ≡ b4 → a5 ≡ b5 → a6 ≡ b6 → a7 ≡ b7 → a8 ≡ b8 → a9 ≡ b9 → a10 ≡ b10 → a11 ≡ b11 → a12 ≡ b12
+  → made a1 a2 a3 a4 a5 a6 a7 a8 a9 a10 a11 a12 ≡ made b1 b2 b3 b4 b5 b6 b7 b8 b9 b10 b11 b12
+same_cookie a1 b1 a2 b2 a3 b3 a4 b4 a5 b5 a6 b6 a7 b7 a8 b8 a9 b9 a10 b10 a11 b11 a12 b12 e1 e2 e3 e4 e5 e6 e7 e8 e9 e10 e11 e12 = cc
+
+pub cookie_reads_back : CookieReadsBack
+unfolding cookie_bytes cookie_at
+cookie_reads_back cookie fits =
+    let addressee_tag : u32_at 8 (cookie_bytes cookie) ≡ cookie.addressee.tag = from_be_bytes-to_be_bytes_4 cookie.addressee.tag fits.addressee.tag in
+    let maker_tag : u32_at 12 (cookie_bytes cookie) ≡ cookie.maker.tag = from_be_bytes-to_be_bytes_4 cookie.maker.tag fits.maker.tag in
+    let addressee_tsn : u32_at 16 (cookie_bytes cookie) ≡ cookie.addressee.first_tsn = from_be_bytes-to_be_bytes_4 cookie.addressee.first_tsn fits.addressee.first_tsn in
+    let maker_tsn : u32_at 20 (cookie_bytes cookie) ≡ cookie.maker.first_tsn = from_be_bytes-to_be_bytes_4 cookie.maker.first_tsn fits.maker.first_tsn in
+    let window : u32_at 24 (cookie_bytes cookie) ≡ cookie.window = from_be_bytes-to_be_bytes_4 cookie.window fits.window in
+    let tie : u64_at 28 (cookie_bytes cookie) ≡ cookie.tie = from_be_bytes-to_be_bytes_8 cookie.tie fits.tie in
+    let method : u32_at 40 (cookie_bytes cookie) ≡ cookie.offer.zero_checksum_method = from_be_bytes-to_be_bytes_4 cookie.offer.zero_checksum_method fits.zero_checksum_method in
+    let outbound : u16_at 44 (cookie_bytes cookie) ≡ cookie.offer.outbound_streams = from_be_bytes-to_be_bytes_2 cookie.offer.outbound_streams fits.outbound_streams in
+    let inbound : u16_at 46 (cookie_bytes cookie) ≡ cookie.offer.inbound_streams = from_be_bytes-to_be_bytes_2 cookie.offer.inbound_streams fits.inbound_streams in
+    let no_zero : has_zero_tag (cookie_bytes cookie) ≡ false = zero_tests (u32_at 8 (cookie_bytes cookie)) (u32_at 12 (cookie_bytes cookie)) (omega (arith, addressee_tag, fits.addressee.tag_is_not_zero)) (omega (arith, maker_tag, fits.maker.tag_is_not_zero)) in
+    let fields : cookie_fields (cookie_bytes cookie) ≡ cookie =
+      same_cookie _ _ _ _ _ _ _ _ _ _ _ _ _ _ _ _ _ _ _ _ _ _ _ _ maker_tag maker_tsn addressee_tag addressee_tsn
+      (flag_again cookie.offer.partial_reliability) (flag_again cookie.offer.message_interleaving) (flag_again cookie.offer.reconfig)
+      method inbound outbound window tie in
+    chosen (has_zero_tag (cookie_bytes cookie)) _ _ no_zero ∙ ap (λ c. Ok c) fields
+
+emits_keeps_core : (e : Endpoint) (words : List Word) (emission : Emission) → (emits e words emission).after.core ≡ e.core
+emits_keeps_core e words emission = grind arith
+
+init_keeps_core : (e : Endpoint) (theirs : Introduction) (core : Core) (word next : ℕ) → (init_outcome e theirs core word next).after.core ≡ e.core
+init_keeps_core e theirs closed word next = search (rules, emits_keeps_core)
+init_keeps_core e theirs (cookie_wait mine) word next = search (rules, emits_keeps_core)
+init_keeps_core e theirs (cookie_echoed mine held cookie) word next = search (rules, emits_keeps_core)
+init_keeps_core e theirs (open_in established mine held) word next = search (rules, emits_keeps_core)
+init_keeps_core e theirs (open_in shutdown_pending mine held) word next = search (rules, emits_keeps_core)
+init_keeps_core e theirs (open_in shutdown_sent mine held) word next = search (rules, emits_keeps_core)
+init_keeps_core e theirs (open_in shutdown_received mine held) word next = search (rules, emits_keeps_core)
+init_keeps_core e theirs (open_in shutdown_ack_sent mine held) word next = search (rules, emits_keeps_core)
+
+pub init_leaves_association : InitLeavesAssociation
+init_leaves_association e theirs o turn = ap (λ (x : Outcome). x.after.core) turn.2 ∙ init_keeps_core e theirs e.core turn.0 turn.1

@@ -1,0 +1,3 @@
+pub mod LawLemmas
+pub mod StandardFacts
+pub mod TurnLemmas

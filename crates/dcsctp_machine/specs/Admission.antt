@@ -1,0 +1,38 @@
+-- Which packets are worked, by their verification tag (RFC 9260, sections 8.4 and 8.5).
+use Rattle.std.specs.Prelude.{◌==◌, ℕ, ◌-◌, ◌^◌, Bool, true, false, List, [], ◌∷◌, ◌++◌, codes, if◌then◌else◌}
+use Rattle.std.specs.Fmt.{digits, padded_integral, format_spec}
+use Rattle.dcsctp_machine.specs.Packet.{Content, init, init_ack, other, Packet}
+
+pub data Admission : Type 0 where
+  -- all chunks are worked
+  all_chunks : Admission
+  -- none is, and this is the text of the error
+  refused : List ℕ → Admission
+
+abbrev pub is_init : Content → Bool
+is_init (init introduction) = true
+is_init (init_ack introduction cookie) = false
+is_init (other type flags value) = false
+
+-- is it one chunk, an INIT?
+abbrev pub is_single_init : List Content → Bool
+is_single_init [] = false
+is_single_init (content ∷ []) = is_init content
+is_single_init (content ∷ next ∷ contents) = false
+
+-- a number as `{:08x}` writes it: eight digits in lower case
+abbrev pub hex8 : ℕ → List ℕ
+hex8 n = padded_integral (format_spec 32 0 4 8 (2 ^ 64 - 1)) false [] (digits 16 false n)
+
+abbrev pub single_init_text : List ℕ
+single_init_text = codes "Only a single INIT chunk can be present in packets sent on verification_tag = 0"
+
+abbrev pub wrong_tag_text : ℕ → ℕ → List ℕ
+wrong_tag_text header expected = codes "Packet has invalid verification tag: " ++ hex8 header ++ codes ", expected " ++ hex8 expected
+
+-- The first line that applies decides. Tag 0 is for an INIT that stands alone; any other packet bears
+-- the own tag.
+abbrev pub admits : ℕ → Packet → Admission
+admits own packet =
+    if packet.tag == 0 then (if is_single_init packet.contents then all_chunks else refused single_init_text)
+    else (if packet.tag == own then all_chunks else refused (wrong_tag_text packet.tag own))

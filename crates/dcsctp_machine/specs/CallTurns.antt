@@ -1,0 +1,55 @@
+-- A call is a list of turns, each from where the one before it left the endpoint.
+use Rattle.std.specs.Prelude.{◌≡◌, ℕ, List, [], ◌∷◌, ◌++◌, map, ◌⊎◌}
+use Rattle.dcsctp_machine.specs.declared.word.Word.{Word}
+use Rattle.dcsctp_machine.specs.Settings.{wire_options}
+use Rattle.dcsctp_machine.specs.Event.{Event}
+use Rattle.dcsctp_machine.specs.Packet.{Content, Packet, Emission, packet_in}
+use Rattle.dcsctp_machine.specs.Admission.{Admission, all_chunks, refused, admits}
+use Rattle.dcsctp_machine.specs.Endpoint.{Endpoint, own_tag}
+use Rattle.dcsctp_machine.specs.Outcome.{Outcome}
+use Rattle.dcsctp_machine.specs.Turn.{Input, arrival, refusal, got, Turn, unreadable_text}
+use Rattle.dcsctp_wire.specs.Content.{PacketContent}
+use Rattle.dcsctp_wire.specs.Format.{IsPacket}
+
+-- the outcomes of these inputs, one after another
+abbrev pub Turns : Endpoint → List Input → List Outcome → Type 0
+Turns e [] [] = Unit {0}
+Turns e [] (outcome ∷ outcomes) = ⊥
+Turns e (input ∷ inputs) [] = ⊥
+Turns e (input ∷ inputs) (outcome ∷ outcomes) = Turn e input outcome × Turns outcome.after inputs outcomes
+
+-- what a list of outcomes leaves
+abbrev pub after_all : Endpoint → List Outcome → Endpoint
+after_all e [] = e
+after_all e (outcome ∷ outcomes) = after_all outcome.after outcomes
+
+abbrev pub words_of : List Outcome → List Word
+words_of [] = []
+words_of (outcome ∷ outcomes) = outcome.words ++ words_of outcomes
+
+abbrev pub events_of : List Outcome → List (Event Emission)
+events_of [] = []
+events_of (outcome ∷ outcomes) = outcome.events ++ events_of outcomes
+
+-- ---- handle_input
+
+-- the inputs of an admitted packet: a turn a chunk
+abbrev pub inputs_of : ℕ → List Content → List Input
+inputs_of tag contents = map (λ content. got tag content) contents
+
+-- a packet that was read and counted
+abbrev pub AdmittedTurns : Endpoint → Packet → Admission → List Outcome → Type 0
+AdmittedTurns e packet all_chunks outcomes = Turns e (inputs_of packet.tag packet.contents) outcomes
+AdmittedTurns e packet (refused text) outcomes = Turns e (refusal text ∷ []) outcomes
+
+-- The packet is counted; then it can't be read, or admission decides (RFC 9260, section 8.5).
+pub data HandleInput (e : Endpoint) (bytes : List ℕ) : List Outcome → Type 0 where
+  unreadable : (outcomes : List Outcome)
+      → ((packet : PacketContent) → IsPacket (wire_options e.options) packet bytes → ⊥)
+      → Turns e (arrival ∷ refusal unreadable_text ∷ []) outcomes
+      → HandleInput e bytes outcomes
+  readable : (packet : PacketContent) (counted : Outcome) (outcomes : List Outcome)
+      → IsPacket (wire_options e.options) packet bytes
+      → Turn e arrival counted
+      → AdmittedTurns counted.after (packet_in packet) (admits (own_tag e.core) (packet_in packet)) outcomes
+      → HandleInput e bytes (counted ∷ outcomes)

@@ -1,0 +1,48 @@
+-- Laws of the definitions, in other words than theirs.
+use Rattle.std.specs.Prelude.{◌≡◌, ◌≤◌, ◌<◌, ◌^◌, ℕ, Ok}
+use Rattle.dcsctp_machine.specs.declared.association.Pair.{Pair}
+use Rattle.dcsctp_machine.specs.declared.capabilities.Capabilities.{Capabilities}
+use Rattle.dcsctp_machine.specs.Offer.{Offer, negotiated, answered}
+use Rattle.dcsctp_machine.specs.Cookie.{Cookie, cookie_bytes, cookie_at}
+use Rattle.dcsctp_machine.specs.Packet.{Introduction}
+use Rattle.dcsctp_machine.specs.Endpoint.{Endpoint}
+use Rattle.dcsctp_machine.specs.Outcome.{Outcome}
+use Rattle.dcsctp_machine.specs.turns.Handshake.{InitTurn}
+
+-- Two ends hold the same: the features are equal, and what comes in at one goes out at the other.
+pub record IsMirrored (mine theirs : Capabilities) : Type 0 where
+  pub partial_reliability : mine.partial_reliability ≡ theirs.partial_reliability
+  pub message_interleaving : mine.message_interleaving ≡ theirs.message_interleaving
+  pub reconfig : mine.reconfig ≡ theirs.reconfig
+  pub zero_checksum_method : mine.zero_checksum_method ≡ theirs.zero_checksum_method
+  pub incoming : mine.negotiated_maximum_incoming_streams ≡ theirs.negotiated_maximum_outgoing_streams
+  pub outgoing : mine.negotiated_maximum_outgoing_streams ≡ theirs.negotiated_maximum_incoming_streams
+
+abbrev pub NegotiationIsMutual : Type 0
+NegotiationIsMutual = (a b : Offer) → IsMirrored (negotiated a b) (negotiated b a)
+
+-- An answer that leaves out a method which isn't common changes nothing of what is agreed.
+abbrev pub AnswerKeepsAgreement : Type 0
+AnswerKeepsAgreement = (mine theirs : Offer) → negotiated mine (answered mine theirs) ≡ negotiated mine theirs
+
+-- tags that aren't 0, and numbers within their fields
+pub record FitsPair (pair : Pair) : Type 0 where
+  pub tag_is_not_zero : 1 ≤ pair.tag
+  pub tag : pair.tag < 2 ^ 32
+  pub first_tsn : pair.first_tsn < 2 ^ 32
+
+pub record FitsCookie (cookie : Cookie) : Type 0 where
+  pub maker : FitsPair cookie.maker
+  pub addressee : FitsPair cookie.addressee
+  pub window : cookie.window < 2 ^ 32
+  pub tie : cookie.tie < 2 ^ 64
+  pub zero_checksum_method : cookie.offer.zero_checksum_method < 2 ^ 32
+  pub inbound_streams : cookie.offer.inbound_streams < 2 ^ 16
+  pub outbound_streams : cookie.offer.outbound_streams < 2 ^ 16
+
+abbrev pub CookieReadsBack : Type 0
+CookieReadsBack = (cookie : Cookie) → FitsCookie cookie → cookie_at (cookie_bytes cookie) ≡ Ok cookie
+
+-- An INIT leaves the association as it is, in every phase (RFC 9260, section 5.2).
+abbrev pub InitLeavesAssociation : Type 0
+InitLeavesAssociation = (e : Endpoint) (theirs : Introduction) (o : Outcome) → InitTurn e theirs o → o.after.core ≡ e.core

@@ -1,0 +1,12 @@
+pub mod Admission
+pub mod CallTurns
+pub mod Cookie
+pub mod Endpoint
+pub mod Event
+pub mod Offer
+pub mod Outcome
+pub mod Packet
+pub mod Settings
+pub mod Turn
+pub mod turns
+pub mod Laws

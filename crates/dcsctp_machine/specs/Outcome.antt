@@ -1,0 +1,44 @@
+-- What one turn leaves: the words that it drew, the endpoint after it, and its events in order.
+use Rattle.std.specs.Prelude.{◌==◌, ℕ, ◌+◌, ◌-◌, ◌^◌, min, List, [], ◌∷◌, ◌++◌, length, nat_le, if◌then◌else◌}
+use Rattle.std.specs.List.{flat_map}
+use Rattle.dcsctp_machine.specs.declared.word.Word.{Word}
+use Rattle.dcsctp_machine.specs.declared.kinds.ErrorKind.{ErrorKind}
+use Rattle.dcsctp_machine.specs.declared.options.Options.{Options}
+use Rattle.dcsctp_machine.specs.Settings.{packet_size_limit}
+use Rattle.dcsctp_machine.specs.Event.{Event, sent, error}
+use Rattle.dcsctp_machine.specs.Packet.{Content, Packet, Emission, chunk_out}
+use Rattle.dcsctp_machine.specs.Endpoint.{Endpoint, Counts}
+use Rattle.dcsctp_wire.specs.Spelling.{chunk_bytes}
+
+pub record Outcome : Type 0 where
+  pub words : List Word
+  pub after : Endpoint
+  pub events : List (Event Emission)
+
+-- nothing happens
+abbrev pub still : Endpoint → Outcome
+still e = record { words = []; after = e; events = [] }
+
+-- one more, up to the greatest number of 64 bits
+abbrev pub count_up : ℕ → ℕ
+count_up count = min (count + 1) (2 ^ 64 - 1)
+
+-- one OnError, and no change
+abbrev pub reports : Endpoint → ErrorKind → List ℕ → Outcome
+reports e kind text = record { words = []; after = e; events = error kind text ∷ [] }
+
+-- how long the chunks of a packet are
+abbrev pub contents_len : List Content → ℕ
+contents_len contents = length (flat_map (λ content. chunk_bytes (chunk_out content)) contents)
+
+-- The words that were drawn, and then a packet, where it fits: one that doesn't is neither emitted nor
+-- counted.
+abbrev pub emits : Endpoint → List Word → Emission → Outcome
+emits e words emission =
+    if nat_le (12 + contents_len emission.packet.contents) (packet_size_limit e.options)
+    then record {
+      words = words;
+      after = record e { counts = record e.counts { packets_sent = count_up e.counts.packets_sent } };
+      events = sent emission ∷ [];
+    }
+    else record { words = words; after = e; events = [] }

@@ -1,0 +1,91 @@
+-- What the machine sees of a packet: a verification tag and what each chunk says (RFC 9260, section 3).
+use Rattle.std.specs.Prelude.{ℕ, Bool, Option, None, Some, List, [], ◌∷◌, ◌++◌, map}
+use Rattle.dcsctp_machine.specs.declared.association.Pair.{Pair}
+use Rattle.dcsctp_machine.specs.declared.options.Options.{Options}
+use Rattle.dcsctp_machine.specs.Offer.{Offer, announced, offer_announced}
+use Rattle.dcsctp_wire.specs.Content.{ParameterContent, state_cookie, supported_extensions, zero_checksum_acceptable, forward_tsn_supported, unknown_parameter, InitContent, ChunkContent, init_chunk, init_ack_chunk, other_chunk, PacketContent}
+use Rattle.dcsctp_wire.specs.Spelling.{packet_bytes}
+
+-- what INIT and INIT ACK say of their sender
+pub record Introduction : Type 0 where
+  -- initiate tag and initial TSN
+  pub pair : Pair
+  pub offer : Offer
+  -- its receive window
+  pub window : ℕ
+
+pub data Content : Type 0 where
+  init : Introduction → Content
+  -- with the bytes of the state cookie, where there is one
+  init_ack : Introduction → Option (List ℕ) → Content
+  -- any other chunk: type, flags, value
+  other : ℕ → ℕ → List ℕ → Content
+
+pub record Packet : Type 0 where
+  pub tag : ℕ
+  pub contents : List Content
+
+-- a packet that a socket sends, with a checksum or with 0 in its place
+pub record Emission : Type 0 where
+  pub with_checksum : Bool
+  pub packet : Packet
+
+-- ---- from the wire
+
+abbrev pub introduction_in : InitContent → Introduction
+introduction_in chunk =
+    record {
+      pair = record { tag = chunk.initiate_tag; first_tsn = chunk.initial_tsn };
+      offer = offer_announced chunk.outbound_streams chunk.inbound_streams chunk.parameters;
+      window = chunk.a_rwnd;
+    }
+
+-- The first State Cookie counts.
+abbrev pub cookie_in : List ParameterContent → Option (List ℕ)
+cookie_in [] = None
+cookie_in (state_cookie cookie ∷ parameters) = Some cookie
+cookie_in (supported_extensions chunk_types ∷ parameters) = cookie_in parameters
+cookie_in (zero_checksum_acceptable method ∷ parameters) = cookie_in parameters
+cookie_in (forward_tsn_supported ∷ parameters) = cookie_in parameters
+cookie_in (unknown_parameter type value ∷ parameters) = cookie_in parameters
+
+abbrev pub content_in : ChunkContent → Content
+content_in (init_chunk chunk) = init (introduction_in chunk)
+content_in (init_ack_chunk chunk) = init_ack (introduction_in chunk) (cookie_in chunk.parameters)
+content_in (other_chunk type flags value) = other type flags value
+
+abbrev pub packet_in : PacketContent → Packet
+packet_in packet = record { tag = packet.verification_tag; contents = map content_in packet.chunks }
+
+-- ---- to the wire
+
+-- the cookie is the last parameter
+abbrev pub cookie_parameters : Option (List ℕ) → List ParameterContent
+cookie_parameters None = []
+cookie_parameters (Some cookie) = state_cookie cookie ∷ []
+
+abbrev pub introduction_out : Introduction → Option (List ℕ) → InitContent
+introduction_out introduction cookie =
+    record {
+      initiate_tag = introduction.pair.tag;
+      a_rwnd = introduction.window;
+      outbound_streams = introduction.offer.outbound_streams;
+      inbound_streams = introduction.offer.inbound_streams;
+      initial_tsn = introduction.pair.first_tsn;
+      parameters = announced introduction.offer ++ cookie_parameters cookie;
+    }
+
+abbrev pub chunk_out : Content → ChunkContent
+chunk_out (init introduction) = init_chunk (introduction_out introduction None)
+chunk_out (init_ack introduction cookie) = init_ack_chunk (introduction_out introduction cookie)
+chunk_out (other type flags value) = other_chunk type flags value
+
+-- the bytes of a packet from a socket with these options
+abbrev pub emission_bytes : Options → Emission → List ℕ
+emission_bytes options emission =
+    packet_bytes emission.with_checksum (record {
+      source_port = options.local_port;
+      destination_port = options.remote_port;
+      verification_tag = emission.packet.tag;
+      chunks = map chunk_out emission.packet.contents;
+    })

@@ -1,0 +1,25 @@
+//! Laws of the definitions, each the contract of a function without a body.
+
+ghost use Rattle.dcsctp_machine.specs.Laws.{NegotiationIsMutual, AnswerKeepsAgreement, CookieReadsBack, InitLeavesAssociation};
+
+/// Negotiation is mutual (RFC 9260, section 5.1): what two ends make of their offers has equal features,
+/// and what comes in at one end goes out at the other.
+pub fn negotiation_is_mutual()
+    ensures { NegotiationIsMutual }
+{}
+
+/// An answer that leaves out a method which isn't common changes nothing of what is agreed (RFC 9653,
+/// section 5.1).
+pub fn answer_keeps_agreement()
+    ensures { AnswerKeepsAgreement }
+{}
+
+/// A cookie reads back as what was written (RFC 9260, section 5.1.3), where no tag is 0.
+pub fn cookie_reads_back()
+    ensures { CookieReadsBack }
+{}
+
+/// An INIT leaves the association as it is, in every phase (RFC 9260, section 5.2).
+pub fn init_leaves_association()
+    ensures { InitLeavesAssociation }
+{}

@@ -1,0 +1,23 @@
+//! The machine that a socket is a realisation of: the small types that code and definitions both speak
+//! of. What an endpoint is, and what each input does to it, is defined in `specs/`.
+#![tactic(auto)]
+
+mod association;
+mod capabilities;
+mod kinds;
+mod laws;
+mod options;
+mod word;
+
+pub use association::{Association, Held, Pair, Phase};
+pub use capabilities::Capabilities;
+pub use dcsctp_wire::ReconfigurationResult;
+pub use kinds::{
+    ErrorKind, SctpImplementation, ZERO_CHECKSUM_ALTERNATE_ERROR_DETECTION_METHOD_LOWER_LAYER_DTLS,
+    ZERO_CHECKSUM_ALTERNATE_ERROR_DETECTION_METHOD_NONE, ZeroChecksumAlternateErrorDetectionMethod,
+};
+pub use laws::{
+    answer_keeps_agreement, cookie_reads_back, init_leaves_association, negotiation_is_mutual,
+};
+pub use options::Options;
+pub use word::Word;

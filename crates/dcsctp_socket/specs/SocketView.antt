@@ -1,0 +1,19 @@
+-- What a socket is: its view in the machine, and whether a growth was refused.
+use Rattle.std.specs.Prelude.{Bool, false, []}
+use Rattle.dcsctp_machine.specs.declared.options.Options.{Options}
+use Rattle.dcsctp_machine.specs.Endpoint.{fresh_endpoint}
+use Rattle.dcsctp_api.specs.Calls.{UserView}
+use Rattle.dcsctp_core.specs.View.{View}
+
+pub record SocketView (R : Type 0) : Type 0 where
+  pub view : View R
+  pub failed : Bool
+
+-- without the generator
+abbrev pub user_view_of : {R : Type 0} → SocketView R → UserView
+user_view_of socket = record { endpoint = socket.view.endpoint; events = socket.view.events; words = socket.view.words; failed = socket.failed }
+
+-- a socket that was just made
+abbrev pub fresh_socket : {R : Type 0} → Options → R → SocketView R
+fresh_socket options generator =
+    record { view = record { endpoint = fresh_endpoint options; events = []; words = []; generator = generator }; failed = false }

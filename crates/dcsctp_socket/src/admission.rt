@@ -1,0 +1,83 @@
+//! Which packets are worked, by their verification tag (RFC 9260, sections 8.4 and 8.5).
+
+ghost use Rattle.std.specs.Prelude.{◌≡◌, string_bytes, IfOk};
+ghost use Rattle.dcsctp_wire.specs.Content.{packet_content};
+ghost use Rattle.dcsctp_machine.specs.Admission.{admits, hex8, wrong_tag_text};
+ghost use Rattle.dcsctp_machine.specs.Packet.{packet_in};
+ghost use Rattle.dcsctp_socket.specs.Decisions.{admission_of, refusal_text};
+
+use dcsctp_wire::{Chunk, SctpPacket};
+use std::alloc::{AllocError, Global};
+
+/// What is done with a packet.
+#[derive(Clone, Copy, Debug)]
+pub enum Admission {
+    /// All chunks are worked.
+    AllChunks,
+
+    /// None is.
+    Refused(Refusal),
+}
+
+/// Why a packet isn't worked.
+#[derive(Clone, Copy, Debug)]
+pub enum Refusal {
+    /// Its tag is 0, and it isn't one INIT.
+    NotASingleInit,
+
+    /// Its tag isn't the own one.
+    WrongTag { header: u32, expected: u32 },
+}
+
+/// Decides by the header tag. The first line of RFC 9260, section 8.5.1, that applies counts.
+pub fn admit(own_tag: u32, packet: &SctpPacket<'_>) -> Admission
+    ensures { admission_of result ≡ admits own_tag (packet_in (packet_content packet.now)) }
+{
+    let header = packet.common_header.verification_tag;
+    if header == 0 {
+        return match packet.chunks.as_slice() {
+            [Chunk::Init(_)] => Admission::AllChunks,
+            _ => Admission::Refused(Refusal::NotASingleInit),
+        };
+    }
+    if header == own_tag {
+        return Admission::AllChunks;
+    }
+    let expected = own_tag;
+    Admission::Refused(Refusal::WrongTag { header, expected })
+}
+
+impl Refusal {
+    /// The text of the error. The one error is that a growth was refused.
+    pub fn text(&self, alloc: Global) -> Result<String, AllocError>
+        ensures { IfOk result (λ text. string_bytes text ≡ refusal_text self.now) }
+    {
+        match self {
+            Refusal::NotASingleInit => String::from_str(
+                alloc,
+                "Only a single INIT chunk can be present in packets sent on verification_tag = 0",
+            ),
+            Refusal::WrongTag { header, expected } => wrong_tag(alloc, *header, *expected),
+        }
+    }
+}
+
+// The text for a tag that isn't the own one.
+fn wrong_tag(alloc: Global, header: u32, expected: u32) -> Result<String, AllocError>
+    ensures { IfOk result (λ text. string_bytes text ≡ wrong_tag_text header expected) }
+{
+    let header = hexadecimal(alloc, header)?;
+    let expected = hexadecimal(alloc, expected)?;
+    let mut text = String::from_str(alloc, "Packet has invalid verification tag: ")?;
+    text.push_str(&header)?;
+    text.push_str(", expected ")?;
+    text.push_str(&expected)?;
+    Ok(text)
+}
+
+// A tag in eight hexadecimal digits, lower case.
+fn hexadecimal(alloc: Global, tag: u32) -> Result<String, AllocError>
+    ensures { IfOk result (λ text. string_bytes text ≡ hex8 tag) }
+{
+    format!(in alloc; "{tag:08x}")
+}

@@ -1,0 +1,111 @@
+//! The calls of a socket, over its parts: each is a list of turns.
+
+ghost use Rattle.std.specs.Prelude.{◌≡◌, ℕ, List, OnOk, OnErr};
+ghost use Rattle.dcsctp_wire.specs.Content.{chunk_content, packet_content};
+ghost use Rattle.dcsctp_machine.specs.Admission.{admits};
+ghost use Rattle.dcsctp_machine.specs.Endpoint.{own_tag};
+ghost use Rattle.dcsctp_machine.specs.Settings.{wire_options};
+ghost use Rattle.dcsctp_machine.specs.Outcome.{Outcome};
+ghost use Rattle.dcsctp_machine.specs.Packet.{content_in, packet_in};
+ghost use Rattle.dcsctp_machine.specs.Turn.{ContentTurn};
+ghost use Rattle.dcsctp_machine.specs.CallTurns.{Turns, inputs_of, AdmittedTurns, HandleInput};
+ghost use Rattle.dcsctp_core.specs.View.{core_of, endpoint_of, seen, Moves, MovesAll, CallMoves, Extends};
+
+use crate::admission::{Admission, admit};
+use dcsctp_api::{ErrorKind, Events, Options};
+use dcsctp_core::{Context, State, UNREADABLE, handle_init};
+use dcsctp_wire::{Chunk, PacketError, SctpPacket, WireOptions};
+use rand_core::Rng;
+use std::alloc::AllocError;
+
+// Works a chunk of an admitted packet.
+fn handle_chunk<R: Rng>(
+    state: &mut State,
+    context: &mut Context<R>,
+    events: &mut Events,
+    chunk: &Chunk<'_>,
+) -> Result<(), AllocError>
+    ensures turn { OnOk result ((outcome : Outcome) × ((tag : ℕ) → ContentTurn (endpoint_of state.old context.old) tag (content_in (chunk_content chunk.now)) outcome) × Moves R.stream (seen state.old context.old events.old) outcome (seen state.new context.new events.new)) }
+    ensures err { OnErr result (Extends events.old events.new) }
+{
+    match chunk {
+        Chunk::Init(init) => handle_init(state, context, events, init)?,
+        Chunk::InitAck(_) => {}
+        Chunk::Other(_) => {}
+    }
+    Ok(())
+}
+
+// Works all chunks of an admitted packet, one after another.
+fn handle_chunks<R: Rng>(
+    state: &mut State,
+    context: &mut Context<R>,
+    events: &mut Events,
+    packet: &SctpPacket<'_>,
+) -> Result<(), AllocError>
+    ensures turns { OnOk result ((outcomes : List Outcome) × Turns (endpoint_of state.old context.old) (inputs_of (packet_in (packet_content packet.now)).tag (packet_in (packet_content packet.now)).contents) outcomes × MovesAll R.stream (seen state.old context.old events.old) outcomes (seen state.new context.new events.new)) }
+    ensures err { OnErr result (Extends events.old events.new) }
+{
+    for chunk in &packet.chunks {
+        handle_chunk(state, context, events, chunk)?;
+    }
+    Ok(())
+}
+
+// Works a packet that was read: as admission says.
+fn handle_packet<R: Rng>(
+    state: &mut State,
+    context: &mut Context<R>,
+    events: &mut Events,
+    packet: &SctpPacket<'_>,
+) -> Result<(), AllocError>
+    ensures turns { OnOk result ((outcomes : List Outcome) × AdmittedTurns (endpoint_of state.old context.old) (packet_in (packet_content packet.now)) (admits (own_tag (core_of state.old)) (packet_in (packet_content packet.now))) outcomes × MovesAll R.stream (seen state.old context.old events.old) outcomes (seen state.new context.new events.new)) }
+    ensures err { OnErr result (Extends events.old events.new) }
+{
+    match admit(state.verification_tag(), packet) {
+        Admission::AllChunks => handle_chunks(state, context, events, packet)?,
+        Admission::Refused(refusal) => {
+            let text = refusal.text(context.alloc)?;
+            context.report(events, ErrorKind::ParseFailed, text)?;
+        }
+    }
+    Ok(())
+}
+
+/// Works a packet (RFC 9260, section 8.5): it is counted, read, admitted or refused, and each chunk
+/// has its turn. The one error is that a growth was refused.
+pub fn handle_input<R: Rng>(
+    state: &mut State,
+    context: &mut Context<R>,
+    events: &mut Events,
+    packet: &[u8],
+) -> Result<(), AllocError>
+    ensures turns { OnOk result ((outcomes : List Outcome) × HandleInput (endpoint_of state.old context.old) packet.now outcomes × CallMoves R.stream (seen state.old context.old events.old) outcomes (seen state.new context.new events.new)) }
+    ensures err { OnErr result (Extends events.old events.new) }
+{
+    context.begin_call();
+    context.count_packet();
+    let options = wire_options(&context.options);
+    match SctpPacket::from_bytes(context.alloc, packet, &options) {
+        Ok(packet) => handle_packet(state, context, events, &packet)?,
+        Err(PacketError::Malformed) => {
+            let text = String::from_str(context.alloc, UNREADABLE)?;
+            context.report(events, ErrorKind::ParseFailed, text)?;
+        }
+        Err(PacketError::OutOfMemory) => return Err(AllocError),
+    }
+    Ok(())
+}
+
+// What the reader of packets needs of the options.
+fn wire_options(options: &Options) -> WireOptions
+    ensures { result ≡ wire_options options.now }
+{
+    WireOptions {
+        local_port: options.local_port,
+        disable_checksum_verification: options.disable_checksum_verification,
+        zero_checksum_alternate_error_detection_method: options
+            .zero_checksum_alternate_error_detection_method
+            .0,
+    }
+}

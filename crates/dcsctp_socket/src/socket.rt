@@ -1,0 +1,120 @@
+//! The socket.
+
+use crate::calls;
+use dcsctp_api::{
+    Association, DcSctpSocket, Events, Options, SocketEvent, SocketFault, SocketState,
+};
+use dcsctp_core::{Context, State};
+use rand_core::Rng;
+use std::alloc::Global;
+use std::marker::Model;
+
+/// One end of an SCTP association.
+#[derive(Drop)]
+pub struct Socket<R> {
+    name: String,
+    state: State,
+    context: Context<R>,
+    events: Events,
+    failed: bool,
+}
+
+impl<R> Model for Socket<R> {
+    ghost use Rattle.dcsctp_core.specs.View.{seen};
+    ghost use Rattle.dcsctp_socket.specs.SocketView.{SocketView};
+
+    ghost Value = { SocketView R };
+
+    ghost view = { λ s. record { view = seen s.state s.context s.events; failed = s.failed } };
+}
+
+impl<R: Rng + Drop> Socket<R> {
+    ghost use Rattle.std.specs.Prelude.{◌≡◌, IfOk, IsOkUnless};
+    ghost use Rattle.dcsctp_machine.specs.Endpoint.{association_of, own_tag};
+    ghost use Rattle.dcsctp_machine.specs.Settings.{IsValid};
+    ghost use Rattle.dcsctp_socket.specs.SocketView.{fresh_socket};
+
+    /// Makes a closed socket, at moment zero. Random words come from `rng`; `name` has no effect.
+    ///
+    /// The options have to be valid, which `Options::is_valid` tells. The one error is
+    /// `SocketFault::OutOfMemory`.
+    pub fn new(
+        alloc: Global,
+        name: &str,
+        options: &Options,
+        rng: R,
+    ) -> Result<Socket<R>, SocketFault>
+        requires { IsValid options.now }
+        ensures fresh { IfOk result (λ socket. socket ≡ fresh_socket options.now rng) }
+        ensures fault { IsOkUnless result SocketFault.OutOfMemory }
+    {
+        let name = String::from_str(alloc, name)?;
+        Ok(Socket {
+            name,
+            state: State::Closed,
+            context: Context::new(alloc, *options, rng),
+            events: Events::new(alloc),
+            failed: false,
+        })
+    }
+
+    /// The association; none in the closed state. It takes no memory.
+    pub fn association(&self) -> Option<Association>
+        ensures { result ≡ association_of self.now.view.endpoint.core }
+    {
+        self.state.association()
+    }
+
+    /// The own verification tag, which packets to this socket bear (RFC 9260, section 8.5); 0 in the
+    /// closed state. It takes no memory.
+    pub fn verification_tag(&self) -> u32
+        ensures { result ≡ own_tag self.now.view.endpoint.core }
+    {
+        self.state.verification_tag()
+    }
+
+    /// Was a growth refused in an earlier call? It takes no memory.
+    pub fn has_failed(&self) -> bool
+        ensures { result ≡ self.now.failed }
+    {
+        self.failed
+    }
+}
+
+impl<R: Rng + Drop> DcSctpSocket for Socket<R> {
+    ghost use Rattle.std.specs.Prelude.{◌≡◌, OnOk, IsErrOf};
+    ghost use Rattle.dcsctp_api.specs.Calls.{PollsEvent, HandlesInput};
+    ghost use Rattle.dcsctp_core.specs.View.{Drawn};
+    ghost use Rattle.dcsctp_socket.specs.SocketView.{user_view_of};
+
+    ghost user_view = { user_view_of };
+
+    fn poll_event(&mut self) -> Option<SocketEvent>
+        ensures call { PollsEvent (user_view_of self.old) result (user_view_of self.new) }
+        ensures generator { self.new.view.generator ≡ self.old.view.generator }
+    {
+        self.events.next_event()
+    }
+
+    fn handle_input(&mut self, packet: &[u8]) -> Result<(), SocketFault>
+        ensures call { HandlesInput (user_view_of self.old) packet.now result (user_view_of self.new) }
+        // The words are what the generator gave, in order.
+        ensures drawn { OnOk result (Drawn (R.stream self.old.view.generator) self.new.view.words (R.stream self.new.view.generator)) }
+        ensures failed { IsErrOf result SocketFault.Failed → self.new ≡ self.old }
+    {
+        if self.failed {
+            return Err(SocketFault::Failed);
+        }
+        match calls::handle_input(&mut self.state, &mut self.context, &mut self.events, packet) {
+            Ok(()) => Ok(()),
+            Err(_) => {
+                self.failed = true;
+                Err(SocketFault::OutOfMemory)
+            }
+        }
+    }
+
+    fn state(&self) -> SocketState {
+        self.state.socket_state()
+    }
+}

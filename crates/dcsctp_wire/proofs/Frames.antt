@@ -1,0 +1,23 @@
+-- The frame that bytes begin with, and whether any bytes are left.
+use Rattle.std.proofs.Common.{◌≡◌, ℕ, true, false, eqb, List, [], ◌∷◌, length, Some}
+use Rattle.std.proofs.lemmas.Bool.{eqb-true}
+use Rattle.std.proofs.lemmas.List.{nil_from_length}
+use Rattle.dcsctp_wire.specs.Format.{Frame, frame_at}
+
+-- no frame stands in no bytes
+pub frame_of_nothing : (frame : Frame) → frame_at [] ≡ Some frame → ⊥
+unfolding frame_at
+frame_of_nothing frame e = absurd cc
+
+-- bytes begin with one frame
+pub same_frame : (bytes : List ℕ) (f g : Frame) → frame_at bytes ≡ Some f → frame_at bytes ≡ Some g → f ≡ g
+same_frame bytes f g a b = cc
+
+-- bytes are left
+pub some_left : (bytes : List ℕ) → eqb (length bytes) 0 ≡ false → bytes ≡ [] → ⊥
+some_left [] test e = cc
+some_left (b ∷ bytes) test e = cc
+
+-- no bytes are left
+pub none_left : (bytes : List ℕ) → eqb (length bytes) 0 ≡ true → bytes ≡ []
+none_left bytes test = nil_from_length bytes (eqb-true _ _ test)

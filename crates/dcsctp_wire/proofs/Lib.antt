@@ -1,0 +1,11 @@
+pub mod BuiltPackets
+pub mod Chunks
+pub mod Crc32cBlocks
+pub mod Crc32cFacts
+pub mod Crc32cLemmas
+pub mod Crc32cTable
+pub mod Frames
+pub mod Lengths
+pub mod Packets
+pub mod Parameters
+pub mod Putting

@@ -1,0 +1,115 @@
+-- Which bytes a packet, a chunk and a parameter are read from (RFC 9260, section 3).
+-- A list of chunks or parameters is read where its first stands in front and the others behind it.
+use Rattle.std.specs.Prelude.{◌≡◌, ◌≢◌, ◌≤◌, ◌==◌, ℕ, ◌+◌, ◌-◌, ◌%◌, Bool, false, not, ◌&&◌, ◌||◌, IsTrue, List, [], ◌∷◌, length, take, drop, Option, Some, None, nat_lt, slice_index, if◌then◌else◌}
+use Rattle.std.specs.List.{AllByRecursion}
+use Rattle.std.specs.Int.{w16, w32, from_be_bytes, from_le_bytes}
+use Rattle.dcsctp_wire.specs.declared.packet.WireOptions.{WireOptions}
+use Rattle.dcsctp_wire.specs.Crc32c.{packet_checksum_of}
+use Rattle.dcsctp_wire.specs.Content.{ParameterContent, state_cookie, supported_extensions, zero_checksum_acceptable, forward_tsn_supported, unknown_parameter, InitContent, ChunkContent, init_chunk, init_ack_chunk, other_chunk, PacketContent}
+
+-- big-endian numbers at a place
+abbrev pub u16_at : ℕ → List ℕ → ℕ
+u16_at at bytes = from_be_bytes w16 (take 2 (drop at bytes))
+
+abbrev pub u32_at : ℕ → List ℕ → ℕ
+u32_at at bytes = from_be_bytes w32 (take 4 (drop at bytes))
+
+-- how many bytes of padding follow n bytes, to a multiple of 4
+abbrev pub padding_of : ℕ → ℕ
+padding_of n = (4 - n % 4) % 4
+
+-- the value of a chunk or parameter, and what stands behind its padding
+pub record Frame : Type 0 where
+  pub value : List ℕ
+  pub rest : List ℕ
+
+-- Chunks and parameters have a header of 4 bytes whose last two are the length, header included and
+-- padding not. It is at least 4 and stays inside its container. The last padding may be missing.
+unfoldable pub frame_at : List ℕ → Option Frame
+frame_at bytes =
+    if nat_lt (length bytes) 4 then None
+    else (if nat_lt (u16_at 2 bytes) 4 then None
+    else (if nat_lt (length bytes) (u16_at 2 bytes) then None
+    else Some (record {
+      value = take (u16_at 2 bytes - 4) (drop 4 bytes);
+      rest = drop (u16_at 2 bytes + padding_of (u16_at 2 bytes)) bytes;
+    })))
+
+-- What a parameter of this type and value says (RFC 9260, section 3.3.2.1). A method has four bytes, and
+-- bytes behind them are not looked at.
+unfoldable pub parameter_of : ℕ → List ℕ → Option ParameterContent
+parameter_of parameter_type value =
+    if parameter_type == 7 then Some (state_cookie value)
+    else (if parameter_type == 0x8008 then Some (supported_extensions value)
+    else (if parameter_type == 0x8001 then (if nat_lt (length value) 4 then None else Some (zero_checksum_acceptable (u32_at 0 value)))
+    else (if parameter_type == 0xc000 then Some forward_tsn_supported
+    else Some (unknown_parameter parameter_type value))))
+
+-- the parameter stands in front of the bytes, and rest behind it
+pub record BeginsWithParameter (parameter : ParameterContent) (rest bytes : List ℕ) : Type 0 where
+  pub value : List ℕ
+  pub framed : frame_at bytes ≡ Some (record { value = value; rest = rest })
+  pub read : parameter_of (u16_at 0 bytes) value ≡ Some parameter
+
+-- the bytes are these parameters
+abbrev pub AreParameters : List ParameterContent → List ℕ → Type 0
+AreParameters [] bytes = bytes ≡ []
+AreParameters (parameter ∷ parameters) bytes = (rest : List ℕ) × BeginsWithParameter parameter rest bytes × AreParameters parameters rest
+
+-- the bytes are the value of this INIT or INIT ACK (RFC 9260, sections 3.3.2 and 3.3.3)
+pub record IsInitValue (init : InitContent) (value : List ℕ) : Type 0 where
+  pub long_enough : 16 ≤ length value
+  pub initiate_tag : init.initiate_tag ≡ u32_at 0 value
+  pub a_rwnd : init.a_rwnd ≡ u32_at 4 value
+  pub outbound_streams : init.outbound_streams ≡ u16_at 8 value
+  pub inbound_streams : init.inbound_streams ≡ u16_at 10 value
+  pub initial_tsn : init.initial_tsn ≡ u32_at 12 value
+  pub tag_is_not_zero : 1 ≤ init.initiate_tag
+  pub window_is_large_enough : 1500 ≤ init.a_rwnd
+  pub sends_on_a_stream : 1 ≤ init.outbound_streams
+  pub receives_on_a_stream : 1 ≤ init.inbound_streams
+  pub parameters : AreParameters init.parameters (drop 16 value)
+
+-- a chunk of this type, flags and value
+abbrev pub IsChunkOf : ChunkContent → ℕ → ℕ → List ℕ → Type 0
+IsChunkOf (init_chunk init) chunk_type flags value = (chunk_type ≡ 1) × IsInitValue init value
+IsChunkOf (init_ack_chunk init) chunk_type flags value = (chunk_type ≡ 2) × IsInitValue init value
+IsChunkOf (other_chunk other_type other_flags other_value) chunk_type flags value =
+    (chunk_type ≢ 1) × (chunk_type ≢ 2) × (other_type ≡ chunk_type) × (other_flags ≡ flags) × (other_value ≡ value)
+
+-- the chunk stands in front of the bytes, and rest behind it
+pub record BeginsWithChunk (chunk : ChunkContent) (rest bytes : List ℕ) : Type 0 where
+  pub value : List ℕ
+  pub framed : frame_at bytes ≡ Some (record { value = value; rest = rest })
+  pub read : IsChunkOf chunk (slice_index bytes 0) (slice_index bytes 1) value
+
+-- the bytes are these chunks
+abbrev pub AreChunks : List ChunkContent → List ℕ → Type 0
+AreChunks [] bytes = bytes ≡ []
+AreChunks (chunk ∷ chunks) bytes = (rest : List ℕ) × BeginsWithChunk chunk rest bytes × AreChunks chunks rest
+
+-- is the chunk a COOKIE ECHO (RFC 9260, section 3.3.11)?
+abbrev pub is_cookie_echo : ChunkContent → Bool
+is_cookie_echo (init_chunk init) = false
+is_cookie_echo (init_ack_chunk init) = false
+is_cookie_echo (other_chunk chunk_type flags value) = chunk_type == 10
+
+-- The checksum is right, or its field is 0 and the reader has an alternate error detection method, or
+-- it is not looked at (RFC 9260, section 6.8; RFC 9653, section 5.3).
+abbrev pub checksum_accepted : WireOptions → List ℕ → Bool
+checksum_accepted options bytes =
+    options.disable_checksum_verification
+    || (u32_at 8 bytes == 0 && not (options.zero_checksum_alternate_error_detection_method == 0))
+    || from_le_bytes w32 (take 4 (drop 8 bytes)) == packet_checksum_of bytes
+
+-- The bytes are this packet for a reader with these options (RFC 9260, section 3.1). A COOKIE ECHO
+-- stands in front (RFC 9260, section 5.1).
+pub record IsPacket (options : WireOptions) (packet : PacketContent) (bytes : List ℕ) : Type 0 where
+  pub long_enough : 12 ≤ length bytes
+  pub source_port : packet.source_port ≡ u16_at 0 bytes
+  pub destination_port : packet.destination_port ≡ u16_at 2 bytes
+  pub verification_tag : packet.verification_tag ≡ u32_at 4 bytes
+  pub to_this_port : packet.destination_port ≡ options.local_port
+  pub checked : IsTrue (checksum_accepted options bytes)
+  pub chunks : AreChunks packet.chunks (drop 12 bytes)
+  pub echo_in_front : AllByRecursion (λ chunk. is_cookie_echo chunk ≡ false) (drop 1 packet.chunks)

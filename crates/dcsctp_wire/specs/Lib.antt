@@ -1,0 +1,6 @@
+pub mod Building
+pub mod Content
+pub mod Crc32c
+pub mod Format
+pub mod Reading
+pub mod Spelling

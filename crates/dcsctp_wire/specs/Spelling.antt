@@ -1,0 +1,77 @@
+-- The bytes that a packet, a chunk and a parameter are written as (RFC 9260, section 3).
+use Rattle.std.specs.Prelude.{ℕ, ◌+◌, Bool, true, false, List, [], ◌∷◌, ◌++◌, length, replicate, fold}
+use Rattle.std.specs.List.{flat_map}
+use Rattle.std.specs.Int.{w16, w32, to_be_bytes, to_le_bytes}
+use Rattle.dcsctp_wire.specs.Crc32c.{packet_checksum_of}
+use Rattle.dcsctp_wire.specs.Format.{padding_of}
+use Rattle.dcsctp_wire.specs.Content.{ParameterContent, state_cookie, supported_extensions, zero_checksum_acceptable, forward_tsn_supported, unknown_parameter, InitContent, ChunkContent, init_chunk, init_ack_chunk, other_chunk, PacketContent}
+
+-- that many bytes 0
+abbrev pub zeros : ℕ → List ℕ
+zeros n = replicate n 0
+
+abbrev pub parameter_type : ParameterContent → ℕ
+parameter_type (state_cookie cookie) = 7
+parameter_type (supported_extensions chunk_types) = 0x8008
+parameter_type (zero_checksum_acceptable method) = 0x8001
+parameter_type forward_tsn_supported = 0xc000
+parameter_type (unknown_parameter other value) = other
+
+abbrev pub parameter_value : ParameterContent → List ℕ
+parameter_value (state_cookie cookie) = cookie
+parameter_value (supported_extensions chunk_types) = chunk_types
+parameter_value (zero_checksum_acceptable method) = to_be_bytes w32 method
+parameter_value forward_tsn_supported = []
+parameter_value (unknown_parameter other value) = value
+
+-- a parameter's length without its padding (RFC 9260, section 3.2.1)
+abbrev pub parameter_len : ParameterContent → ℕ
+parameter_len parameter = 4 + length (parameter_value parameter)
+
+-- a parameter with its padding
+unfoldable pub parameter_bytes : ParameterContent → List ℕ
+parameter_bytes parameter =
+    to_be_bytes w16 (parameter_type parameter) ++ to_be_bytes w16 (parameter_len parameter) ++ parameter_value parameter ++ zeros (padding_of (parameter_len parameter))
+
+-- The length of parameters after one another: each but the last has its padding.
+unfoldable pub parameters_len : List ParameterContent → ℕ
+parameters_len parameters = fold (λ len parameter. len + padding_of len + parameter_len parameter) 0 parameters
+
+-- the fixed part of INIT and INIT ACK (RFC 9260, sections 3.3.2 and 3.3.3)
+unfoldable pub init_fields : InitContent → List ℕ
+init_fields init =
+    to_be_bytes w32 init.initiate_tag ++ to_be_bytes w32 init.a_rwnd ++ to_be_bytes w16 init.outbound_streams ++ to_be_bytes w16 init.inbound_streams ++ to_be_bytes w32 init.initial_tsn
+
+-- The length of an INIT or INIT ACK leaves out the padding of its last parameter.
+unfoldable pub init_bytes : ℕ → InitContent → List ℕ
+init_bytes chunk_type init =
+    chunk_type ∷ 0 ∷ to_be_bytes w16 (20 + parameters_len init.parameters) ++ init_fields init ++ flat_map parameter_bytes init.parameters
+
+unfoldable pub other_bytes : ℕ → ℕ → List ℕ → List ℕ
+other_bytes chunk_type flags value =
+    chunk_type ∷ flags ∷ to_be_bytes w16 (4 + length value) ++ value ++ zeros (padding_of (length value))
+
+-- a chunk with its padding (RFC 9260, section 3.2)
+abbrev pub chunk_bytes : ChunkContent → List ℕ
+chunk_bytes (init_chunk init) = init_bytes 1 init
+chunk_bytes (init_ack_chunk init) = init_bytes 2 init
+chunk_bytes (other_chunk chunk_type flags value) = other_bytes chunk_type flags value
+
+-- ports and verification tag (RFC 9260, section 3.1)
+unfoldable pub header_bytes : ℕ → ℕ → ℕ → List ℕ
+header_bytes source_port destination_port verification_tag =
+    to_be_bytes w16 source_port ++ to_be_bytes w16 destination_port ++ to_be_bytes w32 verification_tag
+
+-- The checksum field: CRC32c, lowest byte first (RFC 9260, appendix A), or 0 (RFC 9653, section 5.2).
+unfoldable pub checksum_field : Bool → List ℕ → List ℕ → List ℕ
+checksum_field false header body = zeros 4
+checksum_field true header body = to_le_bytes w32 (packet_checksum_of (header ++ zeros 4 ++ body))
+
+-- A packet with this header, ports and verification tag, and these chunks in bytes.
+unfoldable pub packet_bytes_of : Bool → List ℕ → List ℕ → List ℕ
+packet_bytes_of with_checksum header body = header ++ checksum_field with_checksum header body ++ body
+
+-- a packet of these chunks, with a checksum or with 0 in its place
+abbrev pub packet_bytes : Bool → PacketContent → List ℕ
+packet_bytes with_checksum packet =
+    packet_bytes_of with_checksum (header_bytes packet.source_port packet.destination_port packet.verification_tag) (flat_map chunk_bytes packet.chunks)

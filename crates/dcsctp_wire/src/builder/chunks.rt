@@ -1,0 +1,142 @@
+//! Writing chunks and their parameters where there is room (RFC 9260, section 3.2).
+
+ghost use Rattle.std.specs.Prelude.{◌≡◌, ◌≤◌, ◌<◌, ◌+◌, ◌^◌, ◌++◌, ◌∷◌, length, map};
+ghost use Rattle.std.specs.List.{flat_map};
+ghost use Rattle.std.specs.Vec.{vec_len, vec_capacity};
+ghost use Rattle.std.specs.Int.{w16, to_be_bytes};
+ghost use Rattle.dcsctp_wire.specs.Content.{unknown_parameter, parameter_content, init_content, chunk_content};
+ghost use Rattle.dcsctp_wire.specs.Format.{padding_of};
+ghost use Rattle.dcsctp_wire.specs.Spelling.{zeros, parameter_len, parameter_bytes, init_fields, init_bytes, chunk_bytes};
+
+use super::lengths::{init_len, padding};
+use crate::chunk::{Chunk, InitChunk};
+use crate::parameter::Parameter;
+
+/// Adds the bytes. No memory is taken.
+pub(super) fn put(out: &mut Vec<u8>, bytes: &[u8])
+    requires { vec_len out.old + length bytes.now ≤ vec_capacity out.old }
+    ensures items { out.new.items ≡ out.old.items ++ bytes.now }
+    ensures len { vec_len out.new ≡ vec_len out.old + length bytes.now }
+    ensures capacity { vec_capacity out.old ≤ vec_capacity out.new }
+{
+    out.extend_from_slice(bytes).unwrap();
+}
+
+// A header of 4 bytes, a value and its padding.
+fn put_padded(out: &mut Vec<u8>, head: [u8; 4], value: &[u8])
+    requires { vec_len out.old + 4 + length value.now + padding_of (length value.now) ≤ vec_capacity out.old }
+    ensures items { out.new.items ≡ out.old.items ++ (head ++ value.now ++ zeros (padding_of (length value.now))) }
+    ensures capacity { vec_capacity out.old ≤ vec_capacity out.new }
+{
+    put(out, &head);
+    put(out, value);
+    put(out, &[0, 0, 0][..padding(value.len())]);
+}
+
+fn chunk_head(chunk_type: u8, flags: u8, len: u16) -> [u8; 4]
+    ensures { result ≡ chunk_type ∷ flags ∷ to_be_bytes w16 len }
+{
+    let len = len.to_be_bytes();
+    [chunk_type, flags, len[0], len[1]]
+}
+
+fn parameter_head(parameter_type: u16, len: u16) -> [u8; 4]
+    ensures { result ≡ to_be_bytes w16 parameter_type ++ to_be_bytes w16 len }
+{
+    let parameter_type = parameter_type.to_be_bytes();
+    let len = len.to_be_bytes();
+    [parameter_type[0], parameter_type[1], len[0], len[1]]
+}
+
+// A parameter of this type and value.
+#[tactic(auto, unfolding(crate::specs::Spelling::parameter_bytes))]
+fn put_typed(out: &mut Vec<u8>, parameter_type: u16, value: &[u8])
+    requires fits { 4 + length value.now < 2 ^ 16 }
+    requires room { vec_len out.old + length (parameter_bytes (unknown_parameter parameter_type value.now)) ≤ vec_capacity out.old }
+    ensures items { out.new.items ≡ out.old.items ++ parameter_bytes (unknown_parameter parameter_type value.now) }
+    ensures capacity { vec_capacity out.old ≤ vec_capacity out.new }
+{
+    let head = parameter_head(parameter_type, (4 + value.len()) as u16);
+    put_padded(out, head, value);
+}
+
+#[tactic(auto, unfolding(crate::specs::Spelling::parameter_bytes))]
+fn put_parameter(out: &mut Vec<u8>, parameter: &Parameter<'_>)
+    requires fits { parameter_len (parameter_content parameter.now) < 2 ^ 16 }
+    requires room { vec_len out.old + length (parameter_bytes (parameter_content parameter.now)) ≤ vec_capacity out.old }
+    ensures items { out.new.items ≡ out.old.items ++ parameter_bytes (parameter_content parameter.now) }
+    ensures capacity { vec_capacity out.old ≤ vec_capacity out.new }
+{
+    match parameter {
+        Parameter::StateCookie { cookie } => put_typed(out, 7, cookie),
+        Parameter::SupportedExtensions { chunk_types } => put_typed(out, 0x8008, chunk_types),
+        Parameter::ZeroChecksumAcceptable { method } => {
+            put_typed(out, 0x8001, &method.to_be_bytes())
+        }
+        Parameter::ForwardTsnSupported => put_typed(out, 0xc000, &[]),
+        Parameter::Unknown {
+            parameter_type,
+            value,
+        } => put_typed(out, *parameter_type, value),
+    }
+}
+
+fn put_parameters(out: &mut Vec<u8>, init: &InitChunk<'_>)
+    requires fits { length (flat_map parameter_bytes (map parameter_content init.now.parameters.items)) < 2 ^ 16 }
+    requires room { vec_len out.old + length (flat_map parameter_bytes (map parameter_content init.now.parameters.items)) ≤ vec_capacity out.old }
+    ensures items { out.new.items ≡ out.old.items ++ flat_map parameter_bytes (map parameter_content init.now.parameters.items) }
+    ensures capacity { vec_capacity out.old ≤ vec_capacity out.new }
+{
+    for parameter in &init.parameters {
+        put_parameter(out, parameter);
+    }
+}
+
+#[tactic(auto, unfolding(crate::specs::Spelling::init_fields))]
+#[rattlefmt::skip]
+fn fixed_part(init: &InitChunk<'_>) -> [u8; 16]
+    ensures { result ≡ init_fields (init_content init.now) }
+{
+    let tag = init.initiate_tag.to_be_bytes();
+    let window = init.a_rwnd.to_be_bytes();
+    let outbound = init.nbr_outbound_streams.to_be_bytes();
+    let inbound = init.nbr_inbound_streams.to_be_bytes();
+    let tsn = init.initial_tsn.to_be_bytes();
+    [
+        tag[0], tag[1], tag[2], tag[3],
+        window[0], window[1], window[2], window[3],
+        outbound[0], outbound[1], inbound[0], inbound[1],
+        tsn[0], tsn[1], tsn[2], tsn[3],
+    ]
+}
+
+// An INIT, type 1, or an INIT ACK, type 2.
+fn put_init(out: &mut Vec<u8>, chunk_type: u8, init: &InitChunk<'_>)
+    requires fits { length (init_bytes chunk_type (init_content init.now)) < 2 ^ 16 }
+    requires room { vec_len out.old + length (init_bytes chunk_type (init_content init.now)) ≤ vec_capacity out.old }
+    ensures items { out.new.items ≡ out.old.items ++ init_bytes chunk_type (init_content init.now) }
+    ensures capacity { vec_capacity out.old ≤ vec_capacity out.new }
+{
+    let head = chunk_head(chunk_type, 0, init_len(init) as u16);
+    put(out, &head);
+    put(out, &fixed_part(init));
+    put_parameters(out, init);
+}
+
+/// Adds the chunk with its padding. No memory is taken.
+pub(super) fn put_chunk(out: &mut Vec<u8>, chunk: &Chunk<'_>)
+    requires fits { length (chunk_bytes (chunk_content chunk.now)) < 2 ^ 16 }
+    requires room { vec_len out.old + length (chunk_bytes (chunk_content chunk.now)) ≤ vec_capacity out.old }
+    ensures items { out.new.items ≡ out.old.items ++ chunk_bytes (chunk_content chunk.now) }
+    ensures capacity { vec_capacity out.old ≤ vec_capacity out.new }
+{
+    match chunk {
+        Chunk::Init(init) => put_init(out, 1, init),
+        Chunk::InitAck(init) => put_init(out, 2, init),
+        Chunk::Other(other) => {
+            let len = 4 + other.value.len();
+            let head = chunk_head(other.chunk_type, other.flags, len as u16);
+            put_padded(out, head, other.value);
+        }
+    }
+}

@@ -1,0 +1,21 @@
+//! SCTP packets on the wire (RFC 9260, section 3): what bytes say, and the bytes that say it.
+//!
+//! `SctpPacket::from_bytes` reads a packet, whose chunks borrow its bytes; `SctpPacketBuilder` writes
+//! one, never longer than its size.
+#![tactic(auto)]
+
+mod builder;
+mod bytes;
+mod chunk;
+pub mod crc32c;
+mod packet;
+mod parameter;
+mod reconfiguration;
+
+pub use builder::{SctpPacketBuilder, sizes};
+pub use bytes::{u16_at, u32_at};
+pub use chunk::{Chunk, InitChunk, OtherChunk};
+pub use crc32c::packet_checksum;
+pub use packet::{CommonHeader, PacketError, SctpPacket, WireOptions, one_reading};
+pub use parameter::Parameter;
+pub use reconfiguration::ReconfigurationResult;

@@ -1,0 +1,103 @@
+//! The parameters of INIT and INIT ACK (RFC 9260, section 3.2.1).
+
+ghost use Rattle.std.specs.Prelude.{◌≡◌, ◌<◌, ℕ, List, length, map, MatchOption, IfSome, IfOk, IsErrOf};
+ghost use Rattle.std.specs.Option.{option_map};
+ghost use Rattle.dcsctp_wire.specs.Content.{ParameterContent, parameter_content};
+ghost use Rattle.dcsctp_wire.specs.Format.{parameter_of, BeginsWithParameter, AreParameters};
+
+use crate::bytes::{read_frame, u16_at, u32_at};
+use crate::packet::PacketError;
+use std::alloc::Global;
+
+/// An optional parameter. What it holds is borrowed: from the packet that is read, or from the caller
+/// that writes one.
+///
+/// Each is a type (2 bytes), a length (2 bytes, header included, padding not), a value, and zero bytes
+/// to a multiple of 4.
+#[derive(Clone, Copy, Debug)]
+pub enum Parameter<'a> {
+    /// State Cookie, type 7 (RFC 9260, section 3.3.3): the cookie's bytes.
+    StateCookie {
+        cookie: &'a [u8],
+    },
+
+    /// Supported Extensions, type 0x8008: the chunk types that the sender understands.
+    SupportedExtensions {
+        chunk_types: &'a [u8],
+    },
+
+    /// Zero Checksum Acceptable, type 0x8001 (RFC 9653, section 4): the number of the alternate error
+    /// detection method.
+    ZeroChecksumAcceptable {
+        method: u32,
+    },
+
+    /// Forward-TSN-Supported, type 0xC000 (RFC 3758, section 3.1).
+    ForwardTsnSupported,
+
+    /// Any other parameter, by its type and value.
+    Unknown {
+        parameter_type: u16,
+        value: &'a [u8],
+    },
+}
+
+/// What a parameter of this type and value says (RFC 9260, section 3.3.2.1). There is none where a
+/// method has less than four bytes (RFC 9653, section 4).
+#[tactic(auto, unfolding(crate::specs::Format::parameter_of))]
+fn parameter_from(parameter_type: u16, value: &[u8]) -> Option<Parameter<'_>>
+    ensures { option_map parameter_content result ≡ parameter_of parameter_type value.now }
+{
+    match parameter_type {
+        7 => Some(Parameter::StateCookie { cookie: value }),
+        0x8008 => Some(Parameter::SupportedExtensions { chunk_types: value }),
+        0x8001 if value.len() < 4 => None,
+        0x8001 => Some(Parameter::ZeroChecksumAcceptable {
+            method: u32_at(value, 0),
+        }),
+        0xc000 => Some(Parameter::ForwardTsnSupported),
+        _ => Some(Parameter::Unknown {
+            parameter_type,
+            value,
+        }),
+    }
+}
+
+/// The parameter in front of the bytes, and what stands behind its padding (RFC 9260, section 3.2.1).
+fn read_parameter(bytes: &[u8]) -> Option<(Parameter<'_>, &[u8])>
+    ensures gives { MatchOption result
+        ((parameter : ParameterContent) (rest : List ℕ)
+        → BeginsWithParameter parameter rest bytes.now → ⊥)
+        (λ read. BeginsWithParameter (parameter_content read.0) read.1.now bytes.now) }
+    ensures shorter { IfSome result (λ read. length read.1.now < length bytes.now) }
+{
+    let frame = read_frame(bytes)?;
+    let parameter = parameter_from(u16_at(bytes, 0), frame.value)?;
+    Some((parameter, frame.rest))
+}
+
+/// The parameters that the bytes are, in their order.
+///
+/// # Errors
+///
+/// `Malformed` where the bytes are no parameters, and `OutOfMemory` where the list can't grow.
+pub(crate) fn read_parameters(
+    alloc: Global,
+    bytes: &[u8],
+) -> Result<Vec<Parameter<'_>>, PacketError>
+    ensures found { IfOk result
+        (λ parameters. AreParameters (map parameter_content parameters.items) bytes.now) }
+    ensures malformed { IsErrOf result PacketError.Malformed
+        → (parameters : List ParameterContent) → AreParameters parameters bytes.now → ⊥ }
+{
+    let mut parameters = Vec::new(alloc);
+    let mut rest = bytes;
+    while !rest.is_empty() {
+        let Some((parameter, after)) = read_parameter(rest) else {
+            return Err(PacketError::Malformed);
+        };
+        parameters.push(parameter)?;
+        rest = after;
+    }
+    Ok(parameters)
+}
