@@ -1,5 +1,8 @@
 //! Tests: values from outside, and each public call once.
 
+mod cookie;
+mod options;
+
 use crate::{
     Events, LifecycleId, Message, PpId, SendOptions, SocketEvent, SocketFault, SocketState,
     SocketTime, StreamId, lifecycle_id_hash, lifecycle_id_order, pp_id_hash, send_options_default,

@@ -19,6 +19,8 @@
 mod admission;
 mod calls;
 mod socket;
+#[cfg(test)]
+mod tests;
 
 pub use dcsctp_api::{
     Association, Capabilities, DcSctpSocket, ErrorKind, Held, Options, Pair, Phase,
