@@ -1,5 +1,5 @@
 -- The laws of specs/Laws.
-use Rattle.std.proofs.Common.{◌≡◌, ◌≤◌, ◌<◌, ◌^◌, ℕ, Bool, true, false, not, cond, eqb, ◌&&◌, ◌||◌, List, refl, rules, ap, ◌∙◌, arith, Ok}
+use Rattle.std.proofs.Common.{◌≡◌, ◌≤◌, ◌<◌, ◌^◌, ◌+◌, ℕ, Bool, true, false, not, cond, eqb, leb, ◌&&◌, ◌||◌, List, [], ◌∷◌, length, refl, rules, sym, subst, ap, ◌∙◌, arith, Ok}
 use Rattle.std.specs.Prelude.{min}
 use Rattle.std.specs.Int.{w16, w32, w64, to_be_bytes, from_be_bytes}
 use Rattle.std.proofs.lemmas.Nat.{from_be_bytes-to_be_bytes_2, from_be_bytes-to_be_bytes_4, from_be_bytes-to_be_bytes_8}
@@ -10,9 +10,12 @@ use Rattle.dcsctp_wire.specs.Format.{u16_at, u32_at}
 use Rattle.dcsctp_machine.specs.declared.word.Word.{Word}
 use Rattle.dcsctp_machine.specs.Packet.{Introduction, Emission}
 use Rattle.dcsctp_machine.specs.Endpoint.{Endpoint, Core, closed, cookie_wait, cookie_echoed, open_in, established, shutdown_pending, shutdown_sent, shutdown_received, shutdown_ack_sent}
-use Rattle.dcsctp_machine.specs.Outcome.{Outcome, emits}
-use Rattle.dcsctp_machine.specs.turns.Handshake.{init_outcome}
-use Rattle.dcsctp_machine.specs.Laws.{IsMirrored, NegotiationIsMutual, AnswerKeepsAgreement, FitsPair, FitsCookie, CookieReadsBack, InitLeavesAssociation}
+use Rattle.dcsctp_machine.specs.Outcome.{Outcome, count_up, contents_len, emits}
+use Rattle.dcsctp_machine.specs.Event.{sent}
+use Rattle.dcsctp_machine.specs.Settings.{packet_size_limit}
+use Rattle.dcsctp_machine.specs.declared.word.Word.TheVariants.{U32}
+use Rattle.dcsctp_machine.specs.turns.Handshake.{init_outcome, init_ack_emission, pair_from, renewed_pair, to_peer, shutdown_ack}
+use Rattle.dcsctp_machine.specs.Laws.{IsMirrored, NegotiationIsMutual, AnswerKeepsAgreement, FitsPair, FitsCookie, CookieReadsBack, InitLeavesAssociation, ChangesCountsOnly, InitBringsOnePacket}
 
 and_comm : (a b : Bool) → a && b ≡ b && a
 and_comm true true = refl
@@ -65,8 +68,8 @@ made maker_tag maker_tsn tag tsn partial interleaving reconfig method inbound ou
     }
 
 same_cookie : (a1 b1 a2 b2 a3 b3 a4 b4 : ℕ) (a5 b5 a6 b6 a7 b7 : Bool) (a8 b8 a9 b9 a10 b10 a11 b11 a12 b12 : ℕ)
-  → a1 ≡ b1 → a2 ≡ b2 → a3 ≡ b3 → a4 ≡ b4 → a5 ≡ b5 → a6 ≡ b6 → a7 ≡ b7 → a8 ≡ b8 → a9 ≡ b9 → a10 ≡ b10 → a11 ≡ b11 → a12 ≡ b12
-  → made a1 a2 a3 a4 a5 a6 a7 a8 a9 a10 a11 a12 ≡ made b1 b2 b3 b4 b5 b6 b7 b8 b9 b10 b11 b12
+    → a1 ≡ b1 → a2 ≡ b2 → a3 ≡ b3 → a4 ≡ b4 → a5 ≡ b5 → a6 ≡ b6 → a7 ≡ b7 → a8 ≡ b8 → a9 ≡ b9 → a10 ≡ b10 → a11 ≡ b11 → a12 ≡ b12
+    → made a1 a2 a3 a4 a5 a6 a7 a8 a9 a10 a11 a12 ≡ made b1 b2 b3 b4 b5 b6 b7 b8 b9 b10 b11 b12
 same_cookie a1 b1 a2 b2 a3 b3 a4 b4 a5 b5 a6 b6 a7 b7 a8 b8 a9 b9 a10 b10 a11 b11 a12 b12 e1 e2 e3 e4 e5 e6 e7 e8 e9 e10 e11 e12 = cc
 
 pub cookie_reads_back : CookieReadsBack
@@ -83,9 +86,9 @@ cookie_reads_back cookie fits =
     let inbound : u16_at 46 (cookie_bytes cookie) ≡ cookie.offer.inbound_streams = from_be_bytes-to_be_bytes_2 cookie.offer.inbound_streams fits.inbound_streams in
     let no_zero : has_zero_tag (cookie_bytes cookie) ≡ false = zero_tests (u32_at 8 (cookie_bytes cookie)) (u32_at 12 (cookie_bytes cookie)) (omega (arith, addressee_tag, fits.addressee.tag_is_not_zero)) (omega (arith, maker_tag, fits.maker.tag_is_not_zero)) in
     let fields : cookie_fields (cookie_bytes cookie) ≡ cookie =
-      same_cookie _ _ _ _ _ _ _ _ _ _ _ _ _ _ _ _ _ _ _ _ _ _ _ _ maker_tag maker_tsn addressee_tag addressee_tsn
-      (flag_again cookie.offer.partial_reliability) (flag_again cookie.offer.message_interleaving) (flag_again cookie.offer.reconfig)
-      method inbound outbound window tie in
+    same_cookie _ _ _ _ _ _ _ _ _ _ _ _ _ _ _ _ _ _ _ _ _ _ _ _ maker_tag maker_tsn addressee_tag addressee_tsn
+    (flag_again cookie.offer.partial_reliability) (flag_again cookie.offer.message_interleaving) (flag_again cookie.offer.reconfig)
+    method inbound outbound window tie in
     chosen (has_zero_tag (cookie_bytes cookie)) _ _ no_zero ∙ ap (λ c. Ok c) fields
 
 emits_keeps_core : (e : Endpoint) (words : List Word) (emission : Emission) → (emits e words emission).after.core ≡ e.core
@@ -103,3 +106,31 @@ init_keeps_core e theirs (open_in shutdown_ack_sent mine held) word next = searc
 
 pub init_leaves_association : InitLeavesAssociation
 init_leaves_association e theirs o turn = ap (λ (x : Outcome). x.after.core) turn.2 ∙ init_keeps_core e theirs e.core turn.0 turn.1
+
+-- what an INIT may do
+abbrev IsSmall : Endpoint → Outcome → Type 0
+IsSmall e o = ChangesCountsOnly e o.after × (length o.events ≤ 1)
+
+small_where : (fits : Bool) (e : Endpoint) (words : List Word) (emission : Emission) → IsSmall e (cond fits (record {
+  words = words;
+  after = record e { counts = record e.counts { packets_sent = count_up e.counts.packets_sent } };
+  events = sent emission ∷ [];
+}) (record { words = words; after = e; events = [] }))
+small_where true e words emission = (refl, omega arith)
+small_where false e words emission = (refl, omega arith)
+
+emits_small : (e : Endpoint) (words : List Word) (emission : Emission) → IsSmall e (emits e words emission)
+emits_small e words emission = small_where (leb (12 + contents_len emission.packet.contents) (packet_size_limit e.options)) e words emission
+
+init_small : (e : Endpoint) (theirs : Introduction) (core : Core) (word next : ℕ) → IsSmall e (init_outcome e theirs core word next)
+init_small e theirs closed word next = emits_small e (U32 word ∷ U32 next ∷ []) (init_ack_emission e theirs (pair_from word next) 0)
+init_small e theirs (cookie_wait mine) word next = emits_small e [] (init_ack_emission e theirs mine 0)
+init_small e theirs (cookie_echoed mine held cookie) word next = emits_small e [] (init_ack_emission e theirs mine 0)
+init_small e theirs (open_in established mine held) word next = emits_small e (U32 word ∷ []) (init_ack_emission e theirs (renewed_pair e word) e.tie)
+init_small e theirs (open_in shutdown_pending mine held) word next = emits_small e (U32 word ∷ []) (init_ack_emission e theirs (renewed_pair e word) e.tie)
+init_small e theirs (open_in shutdown_sent mine held) word next = emits_small e (U32 word ∷ []) (init_ack_emission e theirs (renewed_pair e word) e.tie)
+init_small e theirs (open_in shutdown_received mine held) word next = emits_small e (U32 word ∷ []) (init_ack_emission e theirs (renewed_pair e word) e.tie)
+init_small e theirs (open_in shutdown_ack_sent mine held) word next = emits_small e [] (to_peer held shutdown_ack)
+
+pub init_brings_one_packet : InitBringsOnePacket
+init_brings_one_packet e theirs o turn = subst (IsSmall e) (sym turn.2) (init_small e theirs e.core turn.0 turn.1)

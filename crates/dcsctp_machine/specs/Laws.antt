@@ -1,5 +1,5 @@
 -- Laws of the definitions, in other words than theirs.
-use Rattle.std.specs.Prelude.{◌≡◌, ◌≤◌, ◌<◌, ◌^◌, ℕ, Ok}
+use Rattle.std.specs.Prelude.{◌≡◌, ◌≤◌, ◌<◌, ◌^◌, ℕ, Ok, length}
 use Rattle.dcsctp_machine.specs.declared.association.Pair.{Pair}
 use Rattle.dcsctp_machine.specs.declared.capabilities.Capabilities.{Capabilities}
 use Rattle.dcsctp_machine.specs.Offer.{Offer, negotiated, answered}
@@ -46,3 +46,12 @@ CookieReadsBack = (cookie : Cookie) → FitsCookie cookie → cookie_at (cookie_
 -- An INIT leaves the association as it is, in every phase (RFC 9260, section 5.2).
 abbrev pub InitLeavesAssociation : Type 0
 InitLeavesAssociation = (e : Endpoint) (theirs : Introduction) (o : Outcome) → InitTurn e theirs o → o.after.core ≡ e.core
+
+-- Nothing but the counts differs.
+abbrev pub ChangesCountsOnly : Endpoint → Endpoint → Type 0
+ChangesCountsOnly old new = new ≡ record old { counts = new.counts }
+
+-- An INIT brings at most one event, its packet, and moves nothing but the count of packets, in every
+-- phase (RFC 9260, sections 5.1 and 5.2).
+abbrev pub InitBringsOnePacket : Type 0
+InitBringsOnePacket = (e : Endpoint) (theirs : Introduction) (o : Outcome) → InitTurn e theirs o → ChangesCountsOnly e o.after × (length o.events ≤ 1)

@@ -1,6 +1,6 @@
 //! Laws of the definitions, each the contract of a function without a body.
 
-ghost use Rattle.dcsctp_machine.specs.Laws.{NegotiationIsMutual, AnswerKeepsAgreement, CookieReadsBack, InitLeavesAssociation};
+ghost use Rattle.dcsctp_machine.specs.Laws.{NegotiationIsMutual, AnswerKeepsAgreement, CookieReadsBack, InitLeavesAssociation, InitBringsOnePacket};
 
 /// Negotiation is mutual (RFC 9260, section 5.1): what two ends make of their offers has equal features,
 /// and what comes in at one end goes out at the other.
@@ -22,4 +22,10 @@ pub fn cookie_reads_back()
 /// An INIT leaves the association as it is, in every phase (RFC 9260, section 5.2).
 pub fn init_leaves_association()
     ensures { InitLeavesAssociation }
+{}
+
+/// An INIT brings at most one event, its packet, and moves nothing but the count of packets, in every
+/// phase (RFC 9260, sections 5.1 and 5.2).
+pub fn init_brings_one_packet()
+    ensures { InitBringsOnePacket }
 {}

@@ -17,7 +17,8 @@ pub use kinds::{
     ZERO_CHECKSUM_ALTERNATE_ERROR_DETECTION_METHOD_NONE, ZeroChecksumAlternateErrorDetectionMethod,
 };
 pub use laws::{
-    answer_keeps_agreement, cookie_reads_back, init_leaves_association, negotiation_is_mutual,
+    answer_keeps_agreement, cookie_reads_back, init_brings_one_packet, init_leaves_association,
+    negotiation_is_mutual,
 };
 pub use options::Options;
 pub use word::Word;

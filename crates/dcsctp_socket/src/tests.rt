@@ -226,3 +226,40 @@ fn an_answer_that_does_not_fit_is_not_sent(rt: HostRuntime) -> Result<(), Fail> 
     }
     Ok(())
 }
+
+// The driving loop, over any socket: packets in, packets out. Other events are counted.
+fn drive<S: DcSctpSocket>(
+    alloc: Global,
+    socket: &mut S,
+    packets: &[&[u8]],
+) -> Result<(Vec<Vec<u8>>, usize), Fail> {
+    let mut sent = Vec::new(alloc);
+    let mut told: usize = 0;
+    for packet in packets {
+        socket.handle_input(packet)?;
+        while let Some(event) = socket.poll_event() {
+            match event {
+                SocketEvent::SendPacket(bytes) => sent.push(bytes)?,
+                _ => told = told.saturating_add(1),
+            }
+        }
+    }
+    Ok((sent, told))
+}
+
+#[test]
+fn a_socket_is_driven_by_a_loop(rt: HostRuntime) -> Result<(), Fail> {
+    let mut socket = socket_with(rt.alloc(), &Options::default())?;
+    let packets = [INIT.as_slice(), &[1, 2, 3], INIT.as_slice()];
+    let (sent, told) = drive(rt.alloc(), &mut socket, &packets)?;
+    assert_eq!(rt; sent.len(), 2);
+    assert_eq!(rt; told, 1);
+    assert_eq!(rt; sent[0].as_slice(), INIT_ACK.as_slice());
+    // The third and fourth word are 0: tag 1 and first TSN 0.
+    assert_eq!(rt; sent[1].len(), 96);
+    assert_eq!(rt;
+        sent[1][16..20] == [0, 0, 0, 1] && sent[1][28..32] == [0; 4],
+        true
+    );
+    Ok(())
+}
