@@ -1,6 +1,6 @@
 -- What the calls of a socket do.
 use Rattle.std.specs.Prelude.{◌≡◌, ℕ, Bool, true, false, Option, Some, None, Result, Ok, Err, List, [], ◌∷◌, ◌++◌, map}
-use Rattle.dcsctp_machine.specs.declared.options.Options.{Options}
+use Rattle.dcsctp_machine.specs.Settings.{Ports, ports_of}
 use Rattle.dcsctp_machine.specs.declared.word.Word.{Word}
 use Rattle.dcsctp_machine.specs.Event.{Event, event_map}
 use Rattle.dcsctp_machine.specs.Packet.{Emission, emission_bytes}
@@ -23,15 +23,15 @@ pub record UserView : Type 0 where
   pub failed : Bool
 
 -- an event as the user sees it: its packet in bytes
-abbrev pub shown : Options → Event Emission → Event (List ℕ)
-shown options event = event_map (emission_bytes options) event
+abbrev pub user_event : Ports → Event Emission → Event (List ℕ)
+user_event ports event = event_map (emission_bytes ports) event
 
 -- The outcomes of a call's turns lead from one view to the other, neither of which has failed.
 pub record Follows (old : UserView) (outcomes : List Outcome) (new : UserView) : Type 0 where
   pub runs : old.failed ≡ false
   pub goes_on : new.failed ≡ false
   pub endpoint : new.endpoint ≡ after_all old.endpoint outcomes
-  pub events : new.events ≡ old.events ++ map (shown old.endpoint.options) (events_of outcomes)
+  pub events : new.events ≡ old.events ++ map (user_event (ports_of old.endpoint.options)) (events_of outcomes)
   pub words : new.words ≡ words_of outcomes
 
 -- A growth was refused: events that were added before stay, in front, and the socket has failed.

@@ -17,7 +17,7 @@ mod time;
 
 pub use calls::DcSctpSocket;
 pub use dcsctp_machine::{
-    Association, Capabilities, ErrorKind, Held, Options, Pair, Phase, ReconfigurationResult,
+    Association, Capabilities, ErrorKind, Held, Options, Pair, Phase, ReconfigurationResponseResult,
     SctpImplementation, Word, ZERO_CHECKSUM_ALTERNATE_ERROR_DETECTION_METHOD_LOWER_LAYER_DTLS,
     ZERO_CHECKSUM_ALTERNATE_ERROR_DETECTION_METHOD_NONE, ZeroChecksumAlternateErrorDetectionMethod,
 };

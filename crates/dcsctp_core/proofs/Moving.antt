@@ -2,7 +2,7 @@
 use Rattle.std.proofs.Common.{◌≡◌, ℕ, List, [], ◌∷◌, ◌++◌, map, refl, sym, ap, subst, ◌∙◌, append_assoc}
 use Rattle.std.proofs.lemmas.List.{append-nil, map-append}
 use Rattle.rand_core.specs.Stream.{Stream, next_u32, next_u64}
-use Rattle.dcsctp_machine.specs.declared.options.Options.{Options}
+use Rattle.dcsctp_machine.specs.Settings.{Ports, ports_of}
 use Rattle.dcsctp_machine.specs.declared.word.Word.{Word}
 use Rattle.dcsctp_machine.specs.declared.word.Word.TheVariants.{U32, U64}
 use Rattle.dcsctp_machine.specs.Event.{Event}
@@ -11,7 +11,7 @@ use Rattle.dcsctp_machine.specs.Endpoint.{Endpoint}
 use Rattle.dcsctp_machine.specs.Outcome.{Outcome, still}
 use Rattle.dcsctp_machine.specs.CallTurns.{after_all, words_of, events_of}
 use Rattle.dcsctp_machine.proofs.TurnLemmas.{after_all-append, words_of-append, events_of-append}
-use Rattle.dcsctp_api.specs.Calls.{shown}
+use Rattle.dcsctp_api.specs.Calls.{user_event}
 use Rattle.dcsctp_api.specs.Events.{event_content}
 use Rattle.dcsctp_api.specs.declared.events.SocketEvent.{SocketEvent}
 use Rattle.dcsctp_core.specs.View.{View, Drawn, Moves, MovesAll, Extends}
@@ -28,25 +28,25 @@ pub moves_one : {R : Type 0} (stream : R → Stream) (a b : View R) (o : Outcome
 moves_one stream a b o m =
     record {
       endpoint = m.endpoint;
-      events = m.events ∙ ap (λ (es : List (Event Emission)). a.events ++ map (shown a.endpoint.options) es) (sym (append-nil o.events));
+      events = m.events ∙ ap (λ (es : List (Event Emission)). a.events ++ map (user_event (ports_of a.endpoint.options)) es) (sym (append-nil o.events));
       words = m.words ∙ ap (λ (ws : List Word). a.words ++ ws) (sym (append-nil o.words));
       drawn = subst (λ (ws : List Word). Drawn (stream a.generator) ws (stream b.generator)) (sym (append-nil o.words)) m.drawn;
     }
 
--- events that are shown after others are shown with them
-shown_then : (options : Options) (old mid : List (Event (List ℕ))) (xs ys : List Outcome) → mid ≡ old ++ map (shown options) (events_of xs) → mid ++ map (shown options) (events_of ys) ≡ old ++ map (shown options) (events_of (xs ++ ys))
-shown_then options old mid xs ys h =
-    ap (λ (es : List (Event (List ℕ))). es ++ map (shown options) (events_of ys)) h
-    ∙ append_assoc old (map (shown options) (events_of xs)) (map (shown options) (events_of ys))
-    ∙ ap (λ (es : List (Event (List ℕ))). old ++ es) (sym (map-append (shown options) (events_of xs) (events_of ys)))
-    ∙ ap (λ (es : List (Event Emission)). old ++ map (shown options) es) (sym (events_of-append xs ys))
+-- events that a user gets after others are had with them
+user_events_then : (ports : Ports) (old mid : List (Event (List ℕ))) (xs ys : List Outcome) → mid ≡ old ++ map (user_event ports) (events_of xs) → mid ++ map (user_event ports) (events_of ys) ≡ old ++ map (user_event ports) (events_of (xs ++ ys))
+user_events_then ports old mid xs ys h =
+    ap (λ (es : List (Event (List ℕ))). es ++ map (user_event ports) (events_of ys)) h
+    ∙ append_assoc old (map (user_event ports) (events_of xs)) (map (user_event ports) (events_of ys))
+    ∙ ap (λ (es : List (Event (List ℕ))). old ++ es) (sym (map-append (user_event ports) (events_of xs) (events_of ys)))
+    ∙ ap (λ (es : List (Event Emission)). old ++ map (user_event ports) es) (sym (events_of-append xs ys))
 
-pub moves_then : {R : Type 0} (stream : R → Stream) (a b c : View R) (xs ys : List Outcome) → (after_all a.endpoint xs).options ≡ a.endpoint.options → MovesAll stream a xs b → MovesAll stream b ys c → MovesAll stream a (xs ++ ys) c
+pub moves_then : {R : Type 0} (stream : R → Stream) (a b c : View R) (xs ys : List Outcome) → ports_of (after_all a.endpoint xs).options ≡ ports_of a.endpoint.options → MovesAll stream a xs b → MovesAll stream b ys c → MovesAll stream a (xs ++ ys) c
 moves_then stream a b c xs ys same m n =
-    let options : b.endpoint.options ≡ a.endpoint.options = ap (λ (e : Endpoint). e.options) m.endpoint ∙ same in
+    let ports : ports_of b.endpoint.options ≡ ports_of a.endpoint.options = ap (λ (e : Endpoint). ports_of e.options) m.endpoint ∙ same in
     record {
       endpoint = n.endpoint ∙ ap (λ (e : Endpoint). after_all e ys) m.endpoint ∙ sym (after_all-append a.endpoint xs ys);
-      events = n.events ∙ ap (λ (o : Options). b.events ++ map (shown o) (events_of ys)) options ∙ shown_then a.endpoint.options a.events b.events xs ys m.events;
+      events = n.events ∙ ap (λ (p : Ports). b.events ++ map (user_event p) (events_of ys)) ports ∙ user_events_then (ports_of a.endpoint.options) a.events b.events xs ys m.events;
       words = n.words ∙ ap (λ (ws : List Word). ws ++ words_of ys) m.words ∙ append_assoc a.words (words_of xs) (words_of ys) ∙ ap (λ (ws : List Word). a.words ++ ws) (sym (words_of-append xs ys));
       drawn = subst (λ (ws : List Word). Drawn (stream a.generator) ws (stream c.generator)) (sym (words_of-append xs ys)) (Drawn-append (stream a.generator) (stream b.generator) (stream c.generator) (words_of xs) (words_of ys) m.drawn n.drawn);
     }
@@ -62,4 +62,4 @@ extends_then a b c e f = (e.0 ++ f.0, f.1 ∙ ap (λ (es : List (Event (List ℕ
 
 -- a turn only adds events
 pub moves_extend : {R : Type 0} (stream : R → Stream) (a b : View R) (o : Outcome) → Moves stream a o b → (added : List (Event (List ℕ))) × (b.events ≡ a.events ++ added)
-moves_extend stream a b o m = (map (shown a.endpoint.options) o.events, m.events)
+moves_extend stream a b o m = (map (user_event (ports_of a.endpoint.options)) o.events, m.events)

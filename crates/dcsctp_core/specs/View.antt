@@ -9,12 +9,16 @@ use Rattle.dcsctp_machine.specs.Event.{Event}
 use Rattle.dcsctp_machine.specs.Packet.{Content, chunk_out}
 use Rattle.dcsctp_wire.specs.Content.{ChunkContent}
 use Rattle.dcsctp_machine.specs.Endpoint.{Endpoint, Core, closed, fresh_endpoint}
-use Rattle.dcsctp_machine.specs.Outcome.{Outcome, emits}
+use Rattle.dcsctp_machine.specs.Outcome.{Outcome, next_chunk, emits, reports}
+use Rattle.dcsctp_machine.specs.Turn.{arrival_outcome}
+use Rattle.dcsctp_machine.specs.declared.kinds.ErrorKind.{ErrorKind}
 use Rattle.dcsctp_machine.specs.CallTurns.{after_all, words_of, events_of}
-use Rattle.dcsctp_machine.specs.turns.Handshake.{pair_from}
+use Rattle.dcsctp_machine.specs.Settings.{ports_of}
+use Rattle.dcsctp_machine.specs.Packet.{Introduction}
+use Rattle.dcsctp_machine.specs.turns.Handshake.{pair_from, init_outcome, answers_init}
 use Rattle.dcsctp_api.specs.declared.events.SocketEvent.{SocketEvent}
 use Rattle.dcsctp_api.specs.Events.{event_content}
-use Rattle.dcsctp_api.specs.Calls.{shown}
+use Rattle.dcsctp_api.specs.Calls.{user_event}
 use Rattle.dcsctp_core.specs.declared.state.State.{State}
 use Rattle.dcsctp_core.specs.declared.state.State.TheVariants.{Closed}
 use Rattle.dcsctp_core.specs.declared.context.Context.{Context}
@@ -38,15 +42,13 @@ endpoint_of state context =
       counts = record { packets_received = context.rx_packets_count; packets_sent = context.tx_packets_count; messages_queued = 0 };
     }
 
--- drawing words changes nothing else
-pub record KeepsSettings {R : Type 0} (old new : Context R) : Type 0 where
-  pub options : new.options ≡ old.options
-  pub rx_packets_count : new.rx_packets_count ≡ old.rx_packets_count
-  pub tx_packets_count : new.tx_packets_count ≡ old.tx_packets_count
+-- Words may be drawn, and nothing else changes.
+abbrev pub KeepsEndpoint : {R : Type 0} → Context R → Context R → Type 0
+KeepsEndpoint old new = (state : State) → endpoint_of state new ≡ endpoint_of state old
 
 -- the parts of a socket, seen together
-abbrev pub seen : {R : Type 0} → State → Context R → List SocketEvent → View R
-seen state context events =
+abbrev pub view_of : {R : Type 0} → State → Context R → List SocketEvent → View R
+view_of state context events =
     record {
       endpoint = endpoint_of state context;
       events = map event_content events;
@@ -72,32 +74,32 @@ pub record DrawsPair {R : Type 0} (stream : R → Stream) (old : Context R) (pai
   pub from_words : pair ≡ pair_from (first_word (stream old.generator)) (second_word (stream old.generator))
   pub words : new.words.items ≡ old.words.items ++ U32 (first_word (stream old.generator)) ∷ U32 (second_word (stream old.generator)) ∷ []
   pub left : stream new.generator ≡ (next_u32 (next_u32 (stream old.generator)).1).1
-  pub settings : KeepsSettings old new
+  pub endpoint : KeepsEndpoint old new
 
 -- the parts of a socket that was just made
-abbrev pub seen_first : {R : Type 0} → State → Options → R → List SocketEvent → View R
-seen_first state options generator events =
+abbrev pub fresh_view : {R : Type 0} → State → Options → R → List SocketEvent → View R
+fresh_view state options generator events =
     record { endpoint = record (fresh_endpoint options) { core = core_of state }; events = map event_content events; words = []; generator = generator }
 
 -- A turn with this outcome, or several, leads from one view to the other.
 pub record Moves {R : Type 0} (stream : R → Stream) (old : View R) (outcome : Outcome) (new : View R) : Type 0 where
   pub endpoint : new.endpoint ≡ outcome.after
-  pub events : new.events ≡ old.events ++ map (shown old.endpoint.options) outcome.events
+  pub events : new.events ≡ old.events ++ map (user_event (ports_of old.endpoint.options)) outcome.events
   pub words : new.words ≡ old.words ++ outcome.words
   pub drawn : Drawn (stream old.generator) outcome.words (stream new.generator)
 
 -- several turns, one after another
 abbrev pub MovesAll : {R : Type 0} → (R → Stream) → View R → List Outcome → View R → Type 0
 MovesAll stream old outcomes new =
-    Moves stream old (record { words = words_of outcomes; after = after_all old.endpoint outcomes; events = events_of outcomes }) new
+    Moves stream old (record { words = words_of outcomes; after = after_all old.endpoint outcomes; events = events_of outcomes; following = next_chunk }) new
 
 -- the view as a call begins: no words were drawn in it yet
-abbrev pub begun : {R : Type 0} → View R → View R
-begun view = record view { words = [] }
+abbrev pub call_start : {R : Type 0} → View R → View R
+call_start view = record view { words = [] }
 
 -- the turns of a whole call
 abbrev pub CallMoves : {R : Type 0} → (R → Stream) → View R → List Outcome → View R → Type 0
-CallMoves stream old outcomes new = MovesAll stream (begun old) outcomes new
+CallMoves stream old outcomes new = MovesAll stream (call_start old) outcomes new
 
 -- Events that were added before say what they said, in front.
 abbrev pub Extends : List SocketEvent → List SocketEvent → Type 0
@@ -106,6 +108,28 @@ Extends old new = (added : List (Event (List ℕ))) × (map event_content new �
 -- A packet of one chunk goes out, whatever the machine calls the chunk.
 abbrev pub Emits : {R : Type 0} → (R → Stream) → State → Context R → List SocketEvent → Bool → ℕ → ChunkContent → Context R → List SocketEvent → Type 0
 Emits stream state old old_events with_checksum tag chunk new new_events =
-    (content : Content) → chunk_out content ≡ chunk → Moves stream (seen state old old_events)
+    (content : Content) → chunk_out content ≡ chunk → Moves stream (view_of state old old_events)
     (emits (endpoint_of state old) [] (record { with_checksum = with_checksum; packet = record { tag = tag; contents = content ∷ [] } }))
-    (seen state new new_events)
+    (view_of state new new_events)
+
+-- ---- the handlers' turns, by the parts of a socket
+
+-- One packet more was counted.
+abbrev pub CountsPacket : {R : Type 0} → (R → Stream) → Context R → Context R → Type 0
+CountsPacket stream old new =
+    (state : State) (events : List SocketEvent) → Moves stream (view_of state old events) (arrival_outcome (endpoint_of state old)) (view_of state new events)
+
+-- One error was reported.
+abbrev pub ReportsError : {R : Type 0} → (R → Stream) → Context R → List SocketEvent → ErrorKind → List ℕ → Context R → List SocketEvent → Type 0
+ReportsError stream old old_events kind text new new_events =
+    (state : State) → Moves stream (view_of state old old_events) (reports (endpoint_of state old) kind text) (view_of state new new_events)
+
+-- An INIT was answered with this pair and tie tag.
+abbrev pub AnswersInit : {R : Type 0} → (R → Stream) → Context R → List SocketEvent → Introduction → Pair → ℕ → Context R → List SocketEvent → Type 0
+AnswersInit stream old old_events theirs mine tie new new_events =
+    (state : State) → Moves stream (view_of state old old_events) (answers_init (endpoint_of state old) theirs [] mine tie) (view_of state new new_events)
+
+-- An INIT was worked, with the words that the generator gives next.
+abbrev pub InitMoves : {R : Type 0} → (R → Stream) → View R → Introduction → View R → Type 0
+InitMoves stream old theirs new =
+    Moves stream old (init_outcome old.endpoint theirs old.endpoint.core (first_word (stream old.generator)) (second_word (stream old.generator))) new

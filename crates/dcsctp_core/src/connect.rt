@@ -1,12 +1,10 @@
 //! The handshake (RFC 9260, section 5).
 
-ghost use Rattle.std.specs.Prelude.{◌≡◌, ◌++◌, [], map, IfOk, OnOk, OnErr};
-ghost use Rattle.dcsctp_core.specs.declared.state.State.{State};
+ghost use Rattle.std.specs.Prelude.{◌≡◌, ◌++◌, map, IfOk, OnOk, OnErr};
 ghost use Rattle.dcsctp_wire.specs.Content.{parameter_content, init_content};
-ghost use Rattle.dcsctp_machine.specs.Offer.{offer_of, announced, announced_extensions};
+ghost use Rattle.dcsctp_machine.specs.Offer.{offer_of, offer_parameters, announced_extensions};
 ghost use Rattle.dcsctp_machine.specs.Packet.{introduction_in, cookie_parameters};
-ghost use Rattle.dcsctp_machine.specs.turns.Handshake.{answers_init, init_outcome};
-ghost use Rattle.dcsctp_core.specs.View.{core_of, endpoint_of, seen, first_word, second_word, Moves, Extends, DrawsPair};
+ghost use Rattle.dcsctp_core.specs.View.{view_of, AnswersInit, InitMoves, Extends, DrawsPair};
 
 use crate::context::Context;
 use crate::state::State;
@@ -47,7 +45,7 @@ fn init_ack_parameters<'a>(
     method: u32,
     cookie: &'a [u8],
 ) -> Result<Vec<Parameter<'a>>, AllocError>
-    ensures { IfOk result (λ parameters. map parameter_content parameters.items ≡ announced (record (offer_of options.now) { zero_checksum_method = method }) ++ cookie_parameters (Some cookie.now)) }
+    ensures { IfOk result (λ parameters. map parameter_content parameters.items ≡ offer_parameters (record (offer_of options.now) { zero_checksum_method = method }) ++ cookie_parameters (Some cookie.now)) }
 {
     let mut parameters = Vec::with_capacity(alloc, 4)?;
     if options.enable_partial_reliability {
@@ -71,7 +69,7 @@ fn send_init_ack<R: Rng>(
     pair: Pair,
     tie_tag: u64,
 ) -> Result<(), AllocError>
-    ensures turn { OnOk result ((state : State) → Moves R.stream (seen state context.old events.old) (answers_init (endpoint_of state context.old) (introduction_in (init_content init.now)) [] pair tie_tag) (seen state context.new events.new)) }
+    ensures turn { OnOk result (AnswersInit R.stream context.old events.old (introduction_in (init_content init.now)) pair tie_tag context.new events.new) }
     ensures err { OnErr result (Extends events.old events.new) }
 {
     let peer_capabilities = Capabilities::from_parameters(
@@ -113,7 +111,7 @@ pub fn handle_init<R: Rng>(
     events: &mut Events,
     init: &InitChunk<'_>,
 ) -> Result<(), AllocError>
-    ensures turn { OnOk result (Moves R.stream (seen state.old context.old events.old) (init_outcome (endpoint_of state.old context.old) (introduction_in (init_content init.now)) (core_of state.old) (first_word (R.stream context.old.generator)) (second_word (R.stream context.old.generator))) (seen state.new context.new events.new)) }
+    ensures turn { OnOk result (InitMoves R.stream (view_of state.old context.old events.old) (introduction_in (init_content init.now)) (view_of state.new context.new events.new)) }
     ensures err { OnErr result (Extends events.old events.new) }
 {
     match state {

@@ -37,15 +37,13 @@ impl<R: Rng> Context<R> {
     ghost use Rattle.dcsctp_machine.specs.declared.word.Word.TheVariants.{U32};
     ghost use Rattle.dcsctp_wire.specs.Content.{chunk_content};
     ghost use Rattle.dcsctp_core.specs.declared.state.State.{State};
-    ghost use Rattle.dcsctp_core.specs.View.{KeepsSettings, Emits, Extends, endpoint_of, seen, seen_first, begun, Moves};
-    ghost use Rattle.dcsctp_machine.specs.Outcome.{reports};
-    ghost use Rattle.dcsctp_machine.specs.Turn.{arrival_outcome};
+    ghost use Rattle.dcsctp_core.specs.View.{KeepsEndpoint, CountsPacket, ReportsError, Emits, Extends, view_of, fresh_view, call_start};
     ghost use Rattle.dcsctp_api.specs.declared.events.SocketEvent.{SocketEvent};
 
     /// With these options, no words drawn and nothing counted.
     pub fn new(alloc: Global, options: Options, generator: R) -> Context<R>
         requires { IsValid options }
-        ensures view { (state : State) (events : List SocketEvent) → seen state result events ≡ seen_first state options generator events }
+        ensures view { (state : State) (events : List SocketEvent) → view_of state result events ≡ fresh_view state options generator events }
     {
         Context {
             alloc,
@@ -62,7 +60,7 @@ impl<R: Rng> Context<R> {
         ensures word { IfOk result (λ word. word ≡ (next_u32 (R.stream self.old.generator)).0) }
         ensures kept { IfOk result (λ word. self.new.words.items ≡ self.old.words.items ++ U32 word ∷ []) }
         ensures left { OnOk result (R.stream self.new.generator ≡ (next_u32 (R.stream self.old.generator)).1) }
-        ensures settings { KeepsSettings self.old self.new }
+        ensures endpoint { KeepsEndpoint self.old self.new }
     {
         let word = self.generator.next_u32();
         self.words.push(Word::U32(word))?;
@@ -102,14 +100,14 @@ impl<R: Rng> Context<R> {
 
     /// Begins a call: no words were drawn in it yet.
     pub fn begin_call(&mut self)
-        ensures view { (state : State) (events : List SocketEvent) → seen state self.new events ≡ begun (seen state self.old events) }
+        ensures view { (state : State) (events : List SocketEvent) → view_of state self.new events ≡ call_start (view_of state self.old events) }
     {
         self.words.clear();
     }
 
     /// Counts a packet that was handed in, up to the greatest number.
     pub fn count_packet(&mut self)
-        ensures turn { (state : State) (events : List SocketEvent) → Moves R.stream (seen state self.old events) (arrival_outcome (endpoint_of state self.old)) (seen state self.new events) }
+        ensures turn { CountsPacket R.stream self.old self.new }
     {
         self.rx_packets_count = self.rx_packets_count.saturating_add(1);
     }
@@ -121,7 +119,7 @@ impl<R: Rng> Context<R> {
         kind: ErrorKind,
         text: String,
     ) -> Result<(), AllocError>
-        ensures turn { OnOk result ((state : State) → Moves R.stream (seen state self.old events.old) (reports (endpoint_of state self.old) kind (string_bytes text)) (seen state self.new events.new)) }
+        ensures turn { OnOk result (ReportsError R.stream self.old events.old kind (string_bytes text) self.new events.new) }
         ensures err { OnErr result (Extends events.old events.new) }
     {
         events.add(SocketEvent::OnError(kind, text))?;

@@ -4,15 +4,14 @@ use Rattle.std.specs.Prelude.{min}
 use Rattle.std.specs.Int.{w16, w32, w64, to_be_bytes, from_be_bytes}
 use Rattle.std.proofs.lemmas.Nat.{from_be_bytes-to_be_bytes_2, from_be_bytes-to_be_bytes_4, from_be_bytes-to_be_bytes_8}
 use Rattle.std.proofs.lemmas.Bool.Decides.{nat_tests}
-use Rattle.dcsctp_machine.specs.Offer.{Offer, negotiated, answered, agreed_method}
+use Rattle.dcsctp_machine.specs.Offer.{Offer, negotiated, answering_offer, agreed_method}
 use Rattle.dcsctp_machine.specs.Cookie.{Cookie, flag_byte, has_zero_tag, cookie_bytes, cookie_at, cookie_fields, u64_at}
 use Rattle.dcsctp_wire.specs.Format.{u16_at, u32_at}
 use Rattle.dcsctp_machine.specs.declared.word.Word.{Word}
 use Rattle.dcsctp_machine.specs.Packet.{Introduction, Emission}
 use Rattle.dcsctp_machine.specs.Endpoint.{Endpoint, Core, closed, cookie_wait, cookie_echoed, open_in, established, shutdown_pending, shutdown_sent, shutdown_received, shutdown_ack_sent}
-use Rattle.dcsctp_machine.specs.Outcome.{Outcome, count_up, contents_len, emits}
+use Rattle.dcsctp_machine.specs.Outcome.{Outcome, next_chunk, count_up, fits, emits}
 use Rattle.dcsctp_machine.specs.Event.{sent}
-use Rattle.dcsctp_machine.specs.Settings.{packet_size_limit}
 use Rattle.dcsctp_machine.specs.declared.word.Word.TheVariants.{U32}
 use Rattle.dcsctp_machine.specs.turns.Handshake.{init_outcome, init_ack_emission, pair_from, renewed_pair, to_peer, shutdown_ack}
 use Rattle.dcsctp_machine.specs.Laws.{IsMirrored, NegotiationIsMutual, AnswerKeepsAgreement, FitsPair, FitsCookie, CookieReadsBack, InitLeavesAssociation, ChangesCountsOnly, InitBringsOnePacket}
@@ -111,16 +110,17 @@ init_leaves_association e theirs o turn = ap (λ (x : Outcome). x.after.core) tu
 abbrev IsSmall : Endpoint → Outcome → Type 0
 IsSmall e o = ChangesCountsOnly e o.after × (length o.events ≤ 1)
 
-small_where : (fits : Bool) (e : Endpoint) (words : List Word) (emission : Emission) → IsSmall e (cond fits (record {
+small_where : (b : Bool) (e : Endpoint) (words : List Word) (emission : Emission) → IsSmall e (cond b (record {
   words = words;
   after = record e { counts = record e.counts { packets_sent = count_up e.counts.packets_sent } };
   events = sent emission ∷ [];
-}) (record { words = words; after = e; events = [] }))
+  following = next_chunk;
+}) (record { words = words; after = e; events = []; following = next_chunk }))
 small_where true e words emission = (refl, omega arith)
 small_where false e words emission = (refl, omega arith)
 
 emits_small : (e : Endpoint) (words : List Word) (emission : Emission) → IsSmall e (emits e words emission)
-emits_small e words emission = small_where (leb (12 + contents_len emission.packet.contents) (packet_size_limit e.options)) e words emission
+emits_small e words emission = small_where (fits e emission) e words emission
 
 init_small : (e : Endpoint) (theirs : Introduction) (core : Core) (word next : ℕ) → IsSmall e (init_outcome e theirs core word next)
 init_small e theirs closed word next = emits_small e (U32 word ∷ U32 next ∷ []) (init_ack_emission e theirs (pair_from word next) 0)

@@ -1,13 +1,13 @@
--- Lists of turns: one list after another, and what no turn changes.
-use Rattle.std.proofs.Common.{◌≡◌, ℕ, List, [], ◌∷◌, ◌++◌, refl, rules, sym, ap, ◌∙◌, append_assoc, arith}
-use Rattle.dcsctp_machine.specs.declared.options.Options.{Options}
+-- Lists of turns: the chunks of a packet, one list after another, and what no turn changes.
+use Rattle.std.proofs.Common.{◌≡◌, ℕ, Bool, true, false, cond, List, [], ◌∷◌, ◌++◌, refl, rules, sym, subst, ap, ◌∙◌, append_assoc, arith}
 use Rattle.dcsctp_machine.specs.declared.word.Word.{Word}
 use Rattle.dcsctp_machine.specs.Packet.{Introduction, Content, init, init_ack, other, Emission}
 use Rattle.dcsctp_machine.specs.Endpoint.{Endpoint, Core, closed, cookie_wait, cookie_echoed, open_in, established, shutdown_pending, shutdown_sent, shutdown_received, shutdown_ack_sent}
-use Rattle.dcsctp_machine.specs.Outcome.{Outcome, emits}
-use Rattle.dcsctp_machine.specs.Event.{Event}
-use Rattle.dcsctp_machine.specs.Turn.{Input, arrival, refusal, got, Turn, ContentTurn}
-use Rattle.dcsctp_machine.specs.CallTurns.{Turns, after_all, words_of, events_of}
+use Rattle.dcsctp_machine.specs.Settings.{ports_of}
+use Rattle.dcsctp_machine.specs.Outcome.{Outcome, Following, next_chunk, packet_end, dropped_rest, count_up, fits, emits}
+use Rattle.dcsctp_machine.specs.Event.{Event, sent}
+use Rattle.dcsctp_machine.specs.Turn.{ContentTurn}
+use Rattle.dcsctp_machine.specs.CallTurns.{AfterChunk, ChunkTurns, after_all, words_of, events_of}
 use Rattle.dcsctp_machine.specs.turns.Handshake.{init_outcome}
 
 emits_keeps_options : (e : Endpoint) (words : List Word) (emission : Emission) → (emits e words emission).after.options ≡ e.options
@@ -23,22 +23,74 @@ init_keeps_options e theirs (open_in shutdown_sent mine held) word next = search
 init_keeps_options e theirs (open_in shutdown_received mine held) word next = search (rules, emits_keeps_options)
 init_keeps_options e theirs (open_in shutdown_ack_sent mine held) word next = search (rules, emits_keeps_options)
 
-content_keeps_options : (e : Endpoint) (tag : ℕ) (content : Content) (o : Outcome) → ContentTurn e tag content o → o.after.options ≡ e.options
-content_keeps_options e tag (init theirs) o turn = ap (λ (x : Outcome). x.after.options) turn.2 ∙ init_keeps_options e theirs e.core turn.0 turn.1
-content_keeps_options e tag (init_ack theirs cookie) o turn = ap (λ (x : Outcome). x.after.options) turn
-content_keeps_options e tag (other type flags value) o turn = ap (λ (x : Outcome). x.after.options) turn
+content_keeps_ports : (e : Endpoint) (tag : ℕ) (content : Content) (o : Outcome) → ContentTurn e tag content o → ports_of o.after.options ≡ ports_of e.options
+content_keeps_ports e tag (init theirs) o turn = ap (λ (x : Outcome). ports_of x.after.options) turn.2 ∙ ap ports_of (init_keeps_options e theirs e.core turn.0 turn.1)
+content_keeps_ports e tag (init_ack theirs cookie) o turn = ap (λ (x : Outcome). ports_of x.after.options) turn
+content_keeps_ports e tag (other type flags value) o turn = ap (λ (x : Outcome). ports_of x.after.options) turn
 
--- The options stay for good.
-pub turn_keeps_options : (e : Endpoint) (input : Input) (o : Outcome) → Turn e input o → o.after.options ≡ e.options
-turn_keeps_options e arrival o turn = ap (λ (x : Outcome). x.after.options) turn
-turn_keeps_options e (refusal text) o turn = ap (λ (x : Outcome). x.after.options) turn
-turn_keeps_options e (got tag content) o turn = content_keeps_options e tag content o turn
+goes_on_where : (b : Bool) (e : Endpoint) (words : List Word) (emission : Emission) → (cond b (let sends : Outcome = record {
+  words = words;
+  after = record e { counts = record e.counts { packets_sent = count_up e.counts.packets_sent } };
+  events = sent emission ∷ [];
+  following = next_chunk;
+} in sends) (record { words = words; after = e; events = []; following = next_chunk })).following ≡ next_chunk
+goes_on_where true e words emission = refl
+goes_on_where false e words emission = refl
 
-pub turns_keep_options : (e : Endpoint) (inputs : List Input) (os : List Outcome) → Turns e inputs os → (after_all e os).options ≡ e.options
-turns_keep_options e [] [] turns = refl
-turns_keep_options e [] (o ∷ os) turns = absurd turns
-turns_keep_options e (input ∷ inputs) [] turns = absurd turns
-turns_keep_options e (input ∷ inputs) (o ∷ os) turns = turns_keep_options o.after inputs os turns.1 ∙ turn_keeps_options e input o turns.0
+emits_goes_on : (e : Endpoint) (words : List Word) (emission : Emission) → (emits e words emission).following ≡ next_chunk
+emits_goes_on e words emission = goes_on_where (fits e emission) e words emission
+
+-- An INIT ends nothing: the chunk after it has its turn.
+pub init_goes_on : (e : Endpoint) (theirs : Introduction) (core : Core) (word next : ℕ) → (init_outcome e theirs core word next).following ≡ next_chunk
+init_goes_on e theirs closed word next = search (rules, emits_goes_on)
+init_goes_on e theirs (cookie_wait mine) word next = search (rules, emits_goes_on)
+init_goes_on e theirs (cookie_echoed mine held cookie) word next = search (rules, emits_goes_on)
+init_goes_on e theirs (open_in established mine held) word next = search (rules, emits_goes_on)
+init_goes_on e theirs (open_in shutdown_pending mine held) word next = search (rules, emits_goes_on)
+init_goes_on e theirs (open_in shutdown_sent mine held) word next = search (rules, emits_goes_on)
+init_goes_on e theirs (open_in shutdown_received mine held) word next = search (rules, emits_goes_on)
+init_goes_on e theirs (open_in shutdown_ack_sent mine held) word next = search (rules, emits_goes_on)
+
+-- ---- the chunks of a packet
+
+-- After each of these a further chunk has its turn.
+abbrev pub GoOn : List Outcome → Type 0
+GoOn [] = Unit {0}
+GoOn (o ∷ os) = (o.following ≡ next_chunk) × GoOn os
+
+pub GoOn-push : (os : List Outcome) (o : Outcome) → GoOn os → o.following ≡ next_chunk → GoOn (os ++ o ∷ [])
+GoOn-push [] o a b = (b, tt)
+GoOn-push (p ∷ os) o a b = (a.0, GoOn-push os o a.1 b)
+
+-- the other chunks, where a further chunk has its turn
+others : (following : Following) (more none : Type 0) → following ≡ next_chunk → AfterChunk following more none → more
+others following more none goes_on h = subst (λ (f : Following). AfterChunk f more none) goes_on h
+
+-- The ports stay for good.
+pub chunk_turns_keep_ports : (e : Endpoint) (tag : ℕ) (contents : List Content) (os : List Outcome) → GoOn os → ChunkTurns e tag contents os → ports_of (after_all e os).options ≡ ports_of e.options
+chunk_turns_keep_ports e tag [] [] goes_on turns = refl
+chunk_turns_keep_ports e tag [] (o ∷ os) goes_on turns = absurd turns
+chunk_turns_keep_ports e tag (content ∷ contents) [] goes_on turns = absurd turns
+chunk_turns_keep_ports e tag (content ∷ contents) (o ∷ os) goes_on turns =
+    chunk_turns_keep_ports o.after tag contents os goes_on.1 (others o.following (ChunkTurns o.after tag contents os) (os ≡ []) goes_on.0 turns.1)
+    ∙ content_keeps_ports e tag content o turns.0
+
+-- the last chunk so far, whatever it says of further ones
+last_chunk : (e : Endpoint) (tag : ℕ) (following : Following) → AfterChunk following (ChunkTurns e tag [] []) (let none : List Outcome = [] in none ≡ [])
+last_chunk e tag next_chunk = tt
+last_chunk e tag packet_end = refl
+last_chunk e tag dropped_rest = refl
+
+-- one chunk more
+pub chunk_turns-push : (e : Endpoint) (tag : ℕ) (contents : List Content) (os : List Outcome) (content : Content) (o : Outcome)
+    → GoOn os → ChunkTurns e tag contents os → ContentTurn (after_all e os) tag content o → ChunkTurns e tag (contents ++ content ∷ []) (os ++ o ∷ [])
+chunk_turns-push e tag [] [] content o goes_on turns turn = (turn, last_chunk o.after tag o.following)
+chunk_turns-push e tag [] (p ∷ os) content o goes_on turns turn = absurd turns
+chunk_turns-push e tag (c ∷ contents) [] content o goes_on turns turn = absurd turns
+chunk_turns-push e tag (c ∷ contents) (p ∷ os) content o goes_on turns turn =
+    let rest = others p.following (ChunkTurns p.after tag contents os) (os ≡ []) goes_on.0 turns.1 in
+    let more : ChunkTurns p.after tag (contents ++ content ∷ []) (os ++ o ∷ []) = chunk_turns-push p.after tag contents os content o goes_on.1 rest turn in
+    (turns.0, subst (λ (f : Following). AfterChunk f (ChunkTurns p.after tag (contents ++ content ∷ []) (os ++ o ∷ [])) (os ++ o ∷ [] ≡ [])) (sym goes_on.0) more)
 
 -- ---- one list after another
 
@@ -53,9 +105,3 @@ words_of-append (x ∷ xs) ys = ap (λ (ws : List Word). x.words ++ ws) (words_o
 pub events_of-append : (xs ys : List Outcome) → events_of (xs ++ ys) ≡ events_of xs ++ events_of ys
 events_of-append [] ys = refl
 events_of-append (x ∷ xs) ys = ap (λ (ws : List (Event Emission)). x.events ++ ws) (events_of-append xs ys) ∙ sym (append_assoc x.events (events_of xs) (events_of ys))
-
-pub turns-append : (e : Endpoint) (is js : List Input) (os ps : List Outcome) → Turns e is os → Turns (after_all e os) js ps → Turns e (is ++ js) (os ++ ps)
-turns-append e [] js [] ps a b = b
-turns-append e [] js (o ∷ os) ps a b = absurd a
-turns-append e (i ∷ is) js [] ps a b = absurd a
-turns-append e (i ∷ is) js (o ∷ os) ps a b = (a.0, turns-append o.after is js os ps a.1 b)

@@ -1,6 +1,7 @@
 -- Which packets are worked, by their verification tag (RFC 9260, sections 8.4 and 8.5).
 use Rattle.std.specs.Prelude.{◌==◌, ℕ, ◌-◌, ◌^◌, Bool, true, false, List, [], ◌∷◌, ◌++◌, codes, if◌then◌else◌}
 use Rattle.std.specs.Fmt.{digits, padded_integral, format_spec}
+use Rattle.dcsctp_machine.specs.Endpoint.{Core, own_tag}
 use Rattle.dcsctp_machine.specs.Packet.{Content, init, init_ack, other, Packet}
 
 pub data Admission : Type 0 where
@@ -21,18 +22,18 @@ is_single_init (content ∷ []) = is_init content
 is_single_init (content ∷ next ∷ contents) = false
 
 -- a number as `{:08x}` writes it: eight digits in lower case
-abbrev pub hex8 : ℕ → List ℕ
-hex8 n = padded_integral (format_spec 32 0 4 8 (2 ^ 64 - 1)) false [] (digits 16 false n)
+abbrev pub eight_hex_digits : ℕ → List ℕ
+eight_hex_digits n = padded_integral (format_spec 32 0 4 8 (2 ^ 64 - 1)) false [] (digits 16 false n)
 
 abbrev pub single_init_text : List ℕ
 single_init_text = codes "Only a single INIT chunk can be present in packets sent on verification_tag = 0"
 
 abbrev pub wrong_tag_text : ℕ → ℕ → List ℕ
-wrong_tag_text header expected = codes "Packet has invalid verification tag: " ++ hex8 header ++ codes ", expected " ++ hex8 expected
+wrong_tag_text header expected = codes "Packet has invalid verification tag: " ++ eight_hex_digits header ++ codes ", expected " ++ eight_hex_digits expected
 
 -- The first line that applies decides. Tag 0 is for an INIT that stands alone; any other packet bears
 -- the own tag.
-abbrev pub admits : ℕ → Packet → Admission
-admits own packet =
+abbrev pub admits : Core → Packet → Admission
+admits core packet =
     if packet.tag == 0 then (if is_single_init packet.contents then all_chunks else refused single_init_text)
-    else (if packet.tag == own then all_chunks else refused (wrong_tag_text packet.tag own))
+    else (if packet.tag == own_tag core then all_chunks else refused (wrong_tag_text packet.tag (own_tag core)))

@@ -5,9 +5,9 @@ use Rattle.dcsctp_machine.specs.Settings.{wire_options}
 use Rattle.dcsctp_machine.specs.Event.{Event}
 use Rattle.dcsctp_machine.specs.Packet.{Content, Packet, Emission, packet_in}
 use Rattle.dcsctp_machine.specs.Admission.{Admission, all_chunks, refused, admits}
-use Rattle.dcsctp_machine.specs.Endpoint.{Endpoint, own_tag}
-use Rattle.dcsctp_machine.specs.Outcome.{Outcome}
-use Rattle.dcsctp_machine.specs.Turn.{Input, arrival, refusal, got, Turn, unreadable_text}
+use Rattle.dcsctp_machine.specs.Endpoint.{Endpoint}
+use Rattle.dcsctp_machine.specs.Outcome.{Outcome, Following, next_chunk, packet_end, dropped_rest}
+use Rattle.dcsctp_machine.specs.Turn.{Input, arrival, refusal, chunk_input, Turn, unreadable_text}
 use Rattle.dcsctp_wire.specs.Content.{PacketContent}
 use Rattle.dcsctp_wire.specs.Format.{IsPacket}
 
@@ -33,13 +33,23 @@ events_of (outcome ∷ outcomes) = outcome.events ++ events_of outcomes
 
 -- ---- handle_input
 
--- the inputs of an admitted packet: a turn a chunk
-abbrev pub inputs_of : ℕ → List Content → List Input
-inputs_of tag contents = map (λ content. got tag content) contents
+-- what comes after a chunk: the others, or none of them
+abbrev pub AfterChunk : Following → Type 0 → Type 0 → Type 0
+AfterChunk next_chunk others none = others
+AfterChunk packet_end others none = none
+AfterChunk dropped_rest others none = none
+
+-- The chunks of a packet have their turns one after another, as far as the outcomes say.
+abbrev pub ChunkTurns : Endpoint → ℕ → List Content → List Outcome → Type 0
+ChunkTurns e tag [] [] = Unit {0}
+ChunkTurns e tag [] (outcome ∷ outcomes) = ⊥
+ChunkTurns e tag (content ∷ contents) [] = ⊥
+ChunkTurns e tag (content ∷ contents) (outcome ∷ outcomes) =
+    Turn e (chunk_input tag content) outcome × AfterChunk outcome.following (ChunkTurns outcome.after tag contents outcomes) (outcomes ≡ [])
 
 -- a packet that was read and counted
 abbrev pub AdmittedTurns : Endpoint → Packet → Admission → List Outcome → Type 0
-AdmittedTurns e packet all_chunks outcomes = Turns e (inputs_of packet.tag packet.contents) outcomes
+AdmittedTurns e packet all_chunks outcomes = ChunkTurns e packet.tag packet.contents outcomes
 AdmittedTurns e packet (refused text) outcomes = Turns e (refusal text ∷ []) outcomes
 
 -- The packet is counted; then it can't be read, or admission decides (RFC 9260, section 8.5).
@@ -51,5 +61,5 @@ pub data HandleInput (e : Endpoint) (bytes : List ℕ) : List Outcome → Type 0
   readable : (packet : PacketContent) (counted : Outcome) (outcomes : List Outcome)
       → IsPacket (wire_options e.options) packet bytes
       → Turn e arrival counted
-      → AdmittedTurns counted.after (packet_in packet) (admits (own_tag e.core) (packet_in packet)) outcomes
+      → AdmittedTurns counted.after (packet_in packet) (admits e.core (packet_in packet)) outcomes
       → HandleInput e bytes (counted ∷ outcomes)

@@ -46,15 +46,15 @@ own_tag (cookie_wait my) = my.tag
 own_tag (cookie_echoed my held cookie) = my.tag
 own_tag (open_in phase my held) = my.tag
 
--- A timer of this layer (RFC 9260, section 9; RFC 6525, section 5.1). Moments and durations are nanoseconds.
+-- A timer of this layer (RFC 9260, sections 5.1, 8.3 and 9.2; RFC 6525, section 5.1). Moments and durations are nanoseconds.
 pub record TimerState : Type 0 where
   -- None: it isn't running
   pub deadline : Option ℕ
   pub duration : ℕ
   pub expiries : ℕ
 
-abbrev pub stopped : TimerState
-stopped = record { deadline = None; duration = 0; expiries = 0 }
+abbrev pub stopped_timer : TimerState
+stopped_timer = record { deadline = None; duration = 0; expiries = 0 }
 
 -- A timer that belongs to a phase is stopped outside it.
 pub record Timers : Type 0 where
@@ -96,6 +96,18 @@ pub record Below : Type 0 where
   pub unacknowledged_items : ℕ
   -- the streams that are ready to be reset, ascending
   pub ready_streams : List ℕ
+  -- the deadlines of the retransmission timer and of a delayed acknowledgement, where they run
+  pub retransmission : Option ℕ
+  pub delayed_acknowledgement : Option ℕ
+  -- the retransmission timeout and the smoothed round trip, in nanoseconds
+  pub rto : ℕ
+  pub srtt : ℕ
+  -- the congestion window and the peer's receive window, in bytes
+  pub cwnd : ℕ
+  pub rwnd : ℕ
+  pub packets_retransmitted : ℕ
+  pub bytes_retransmitted : ℕ
+  pub messages_received : ℕ
   pub total_buffered_amount : ℕ
   pub buffered_amounts : List StreamNumber
   pub thresholds : List StreamNumber
@@ -110,6 +122,15 @@ nothing_below =
       next_tsn = 0;
       unacknowledged_items = 0;
       ready_streams = [];
+      retransmission = None;
+      delayed_acknowledgement = None;
+      rto = 0;
+      srtt = 0;
+      cwnd = 0;
+      rwnd = 0;
+      packets_retransmitted = 0;
+      bytes_retransmitted = 0;
+      messages_received = 0;
       total_buffered_amount = 0;
       buffered_amounts = [];
       thresholds = [];
@@ -135,8 +156,8 @@ pub record Endpoint : Type 0 where
   pub peer_implementation : SctpImplementation
   pub below : Below
 
-abbrev pub all_stopped : Timers
-all_stopped = record { t1 = stopped; t2 = stopped; reconfiguration = stopped; heartbeat_interval = stopped; heartbeat_timeout = stopped }
+abbrev pub stopped_timers : Timers
+stopped_timers = record { t1 = stopped_timer; t2 = stopped_timer; reconfiguration = stopped_timer; heartbeat_interval = stopped_timer; heartbeat_timeout = stopped_timer }
 
 -- a socket that was just made
 abbrev pub fresh_endpoint : Options → Endpoint
@@ -149,7 +170,7 @@ fresh_endpoint options =
       outstanding = None;
       error_count = 0;
       heartbeat_counter = 0;
-      timers = all_stopped;
+      timers = stopped_timers;
       no_forward_tsn_before = 0;
       counts = record { packets_received = 0; packets_sent = 0; messages_queued = 0 };
       peer_implementation = Unknown;

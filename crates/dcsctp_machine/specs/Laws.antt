@@ -2,7 +2,7 @@
 use Rattle.std.specs.Prelude.{◌≡◌, ◌≤◌, ◌<◌, ◌^◌, ℕ, Ok, length}
 use Rattle.dcsctp_machine.specs.declared.association.Pair.{Pair}
 use Rattle.dcsctp_machine.specs.declared.capabilities.Capabilities.{Capabilities}
-use Rattle.dcsctp_machine.specs.Offer.{Offer, negotiated, answered}
+use Rattle.dcsctp_machine.specs.Offer.{Offer, negotiated, answering_offer}
 use Rattle.dcsctp_machine.specs.Cookie.{Cookie, cookie_bytes, cookie_at}
 use Rattle.dcsctp_machine.specs.Packet.{Introduction}
 use Rattle.dcsctp_machine.specs.Endpoint.{Endpoint}
@@ -23,7 +23,7 @@ NegotiationIsMutual = (a b : Offer) → IsMirrored (negotiated a b) (negotiated 
 
 -- An answer that leaves out a method which isn't common changes nothing of what is agreed.
 abbrev pub AnswerKeepsAgreement : Type 0
-AnswerKeepsAgreement = (mine theirs : Offer) → negotiated mine (answered mine theirs) ≡ negotiated mine theirs
+AnswerKeepsAgreement = (mine theirs : Offer) → negotiated mine (answering_offer mine theirs) ≡ negotiated mine theirs
 
 -- tags that aren't 0, and numbers within their fields
 pub record FitsPair (pair : Pair) : Type 0 where

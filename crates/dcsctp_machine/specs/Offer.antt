@@ -60,8 +60,8 @@ negotiated mine theirs =
 
 -- What an end announces in an INIT ACK to an INIT with this offer: its own offer, with the method only
 -- where both have it.
-abbrev pub answered : Offer → Offer → Offer
-answered theirs mine = record mine { zero_checksum_method = agreed_method mine theirs }
+abbrev pub answering_offer : Offer → Offer → Offer
+answering_offer theirs mine = record mine { zero_checksum_method = agreed_method mine theirs }
 
 -- a peer's offer as capabilities: what it sends on comes in
 abbrev pub capabilities_offered : Offer → Capabilities
@@ -107,8 +107,8 @@ announced_extensions offer =
     re_config_type ∷ ((if offer.partial_reliability then forward_tsn_type ∷ [] else []) ++ (if offer.message_interleaving then i_data_type ∷ i_forward_tsn_type ∷ [] else []))
 
 -- the parameters that announce an offer, in their order
-abbrev pub announced : Offer → List ParameterContent
-announced offer =
+abbrev pub offer_parameters : Offer → List ParameterContent
+offer_parameters offer =
     (if offer.partial_reliability then forward_tsn_supported ∷ [] else [])
     ++ (if offer.zero_checksum_method == 0 then [] else zero_checksum_acceptable offer.zero_checksum_method ∷ [])
     ++ supported_extensions (announced_extensions offer) ∷ []

@@ -1,5 +1,5 @@
 -- What one turn leaves: the words that it drew, the endpoint after it, and its events in order.
-use Rattle.std.specs.Prelude.{◌==◌, ℕ, ◌+◌, ◌-◌, ◌^◌, min, List, [], ◌∷◌, ◌++◌, length, nat_le, if◌then◌else◌}
+use Rattle.std.specs.Prelude.{ℕ, Bool, ◌+◌, ◌-◌, ◌^◌, min, List, [], ◌∷◌, ◌++◌, length, nat_le, if◌then◌else◌}
 use Rattle.std.specs.List.{flat_map}
 use Rattle.dcsctp_machine.specs.declared.word.Word.{Word}
 use Rattle.dcsctp_machine.specs.declared.kinds.ErrorKind.{ErrorKind}
@@ -10,14 +10,24 @@ use Rattle.dcsctp_machine.specs.Packet.{Content, Packet, Emission, chunk_out}
 use Rattle.dcsctp_machine.specs.Endpoint.{Endpoint, Counts}
 use Rattle.dcsctp_wire.specs.Spelling.{chunk_bytes}
 
+-- What follows a chunk in its packet.
+pub data Following : Type 0 where
+  -- the chunk after it
+  next_chunk : Following
+  -- no other chunk, and then the end of the packet
+  packet_end : Following
+  -- nothing: the rest of the packet is dropped
+  dropped_rest : Following
+
 pub record Outcome : Type 0 where
   pub words : List Word
   pub after : Endpoint
   pub events : List (Event Emission)
+  pub following : Following
 
 -- nothing happens
 abbrev pub still : Endpoint → Outcome
-still e = record { words = []; after = e; events = [] }
+still e = record { words = []; after = e; events = []; following = next_chunk }
 
 -- one more, up to the greatest number of 64 bits
 abbrev pub count_up : ℕ → ℕ
@@ -25,20 +35,25 @@ count_up count = min (count + 1) (2 ^ 64 - 1)
 
 -- one OnError, and no change
 abbrev pub reports : Endpoint → ErrorKind → List ℕ → Outcome
-reports e kind text = record { words = []; after = e; events = error kind text ∷ [] }
+reports e kind text = record { words = []; after = e; events = error kind text ∷ []; following = next_chunk }
 
 -- how long the chunks of a packet are
 abbrev pub contents_len : List Content → ℕ
 contents_len contents = length (flat_map (λ content. chunk_bytes (chunk_out content)) contents)
 
+-- does the packet fit in `mtu`?
+abbrev pub fits : Endpoint → Emission → Bool
+fits e emission = nat_le (12 + contents_len emission.packet.contents) (packet_size_limit e.options)
+
 -- The words that were drawn, and then a packet, where it fits: one that doesn't is neither emitted nor
 -- counted.
 abbrev pub emits : Endpoint → List Word → Emission → Outcome
 emits e words emission =
-    if nat_le (12 + contents_len emission.packet.contents) (packet_size_limit e.options)
+    if fits e emission
     then record {
       words = words;
       after = record e { counts = record e.counts { packets_sent = count_up e.counts.packets_sent } };
       events = sent emission ∷ [];
+      following = next_chunk;
     }
-    else record { words = words; after = e; events = [] }
+    else record { words = words; after = e; events = []; following = next_chunk }

@@ -1,8 +1,8 @@
 -- What the machine sees of a packet: a verification tag and what each chunk says (RFC 9260, section 3).
 use Rattle.std.specs.Prelude.{ℕ, Bool, Option, None, Some, List, [], ◌∷◌, ◌++◌, map}
 use Rattle.dcsctp_machine.specs.declared.association.Pair.{Pair}
-use Rattle.dcsctp_machine.specs.declared.options.Options.{Options}
-use Rattle.dcsctp_machine.specs.Offer.{Offer, announced, offer_announced}
+use Rattle.dcsctp_machine.specs.Settings.{Ports}
+use Rattle.dcsctp_machine.specs.Offer.{Offer, offer_parameters, offer_announced}
 use Rattle.dcsctp_wire.specs.Content.{ParameterContent, state_cookie, supported_extensions, zero_checksum_acceptable, forward_tsn_supported, unknown_parameter, InitContent, ChunkContent, init_chunk, init_ack_chunk, other_chunk, PacketContent}
 use Rattle.dcsctp_wire.specs.Spelling.{packet_bytes}
 
@@ -72,7 +72,7 @@ introduction_out introduction cookie =
       outbound_streams = introduction.offer.outbound_streams;
       inbound_streams = introduction.offer.inbound_streams;
       initial_tsn = introduction.pair.first_tsn;
-      parameters = announced introduction.offer ++ cookie_parameters cookie;
+      parameters = offer_parameters introduction.offer ++ cookie_parameters cookie;
     }
 
 abbrev pub chunk_out : Content → ChunkContent
@@ -80,12 +80,12 @@ chunk_out (init introduction) = init_chunk (introduction_out introduction None)
 chunk_out (init_ack introduction cookie) = init_ack_chunk (introduction_out introduction cookie)
 chunk_out (other type flags value) = other_chunk type flags value
 
--- the bytes of a packet from a socket with these options
-abbrev pub emission_bytes : Options → Emission → List ℕ
-emission_bytes options emission =
+-- the bytes of a packet between these ports
+abbrev pub emission_bytes : Ports → Emission → List ℕ
+emission_bytes ports emission =
     packet_bytes emission.with_checksum (record {
-      source_port = options.local_port;
-      destination_port = options.remote_port;
+      source_port = ports.local;
+      destination_port = ports.remote;
       verification_tag = emission.packet.tag;
       chunks = map chunk_out emission.packet.contents;
     })

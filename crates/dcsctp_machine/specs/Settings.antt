@@ -13,6 +13,14 @@ pub record IsValid (options : Options) : Type 0 where
   pub receive_window : options.max_receiver_window_buffer_size < 2 ^ 32
   pub send_buffer : options.max_send_buffer_size < 2 ^ 32
 
+-- the ports of packets out
+pub record Ports : Type 0 where
+  pub local : ℕ
+  pub remote : ℕ
+
+abbrev pub ports_of : Options → Ports
+ports_of options = record { local = options.local_port; remote = options.remote_port }
+
 -- what the reader of packets knows of the options
 abbrev pub wire_options : Options → WireOptions
 wire_options options =

@@ -12,7 +12,7 @@ pub data Input : Type 0 where
   -- it can't be read or isn't admitted, for the reason that the text gives
   refusal : List ℕ → Input
   -- a chunk of an admitted packet with this verification tag is worked
-  got : ℕ → Content → Input
+  chunk_input : ℕ → Content → Input
 
 -- the text for bytes that are no packet
 abbrev pub unreadable_text : List ℕ
@@ -33,4 +33,4 @@ ContentTurn e tag (other type flags value) o = o ≡ still e
 abbrev pub Turn : Endpoint → Input → Outcome → Type 0
 Turn e arrival o = o ≡ arrival_outcome e
 Turn e (refusal text) o = o ≡ refusal_outcome e text
-Turn e (got tag content) o = ContentTurn e tag content o
+Turn e (chunk_input tag content) o = ContentTurn e tag content o

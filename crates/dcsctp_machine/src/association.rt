@@ -1,7 +1,7 @@
 //! What a socket shows of its association (RFC 9260, sections 4 and 5).
 
 use crate::capabilities::Capabilities;
-use dcsctp_wire::ReconfigurationResult;
+use dcsctp_wire::ReconfigurationResponseResult;
 
 /// A verification tag with the first TSN that goes with it: one end of an association.
 #[derive(Clone, Copy, Debug, PartialEq, Eq)]
@@ -57,7 +57,7 @@ pub struct Held {
     pub peer_last: u32,
 
     /// The answer to that request.
-    pub peer_result: ReconfigurationResult,
+    pub peer_result: ReconfigurationResponseResult,
 }
 
 /// The association of a socket that isn't closed.

@@ -1,4 +1,5 @@
 pub mod Decisions
+pub mod Parts
 pub mod SocketView
 pub use Rattle.dcsctp_api.specs.Calls
 pub use Rattle.dcsctp_machine.specs.Endpoint

@@ -2,10 +2,12 @@
 
 ghost use Rattle.std.specs.Prelude.{◌≡◌, string_bytes, IfOk};
 ghost use Rattle.dcsctp_wire.specs.Content.{packet_content};
-ghost use Rattle.dcsctp_machine.specs.Admission.{admits, hex8, wrong_tag_text};
+ghost use Rattle.dcsctp_machine.specs.Admission.{admits, eight_hex_digits, wrong_tag_text};
 ghost use Rattle.dcsctp_machine.specs.Packet.{packet_in};
+ghost use Rattle.dcsctp_core.specs.View.{core_of};
 ghost use Rattle.dcsctp_socket.specs.Decisions.{admission_of, refusal_text};
 
+use dcsctp_core::State;
 use dcsctp_wire::{Chunk, SctpPacket};
 use std::alloc::{AllocError, Global};
 
@@ -29,9 +31,10 @@ pub enum Refusal {
     WrongTag { header: u32, expected: u32 },
 }
 
-/// Decides by the header tag. The first line of RFC 9260, section 8.5.1, that applies counts.
-pub fn admit(own_tag: u32, packet: &SctpPacket<'_>) -> Admission
-    ensures { admission_of result ≡ admits own_tag (packet_in (packet_content packet.now)) }
+/// Decides by the header tag: 0 is for an INIT alone (RFC 9260, section 8.5.1), and any other packet
+/// bears the own tag (RFC 9260, section 8.5).
+pub fn admit(state: &State, packet: &SctpPacket<'_>) -> Admission
+    ensures { admission_of result ≡ admits (core_of state.now) (packet_in (packet_content packet.now)) }
 {
     let header = packet.common_header.verification_tag;
     if header == 0 {
@@ -40,10 +43,10 @@ pub fn admit(own_tag: u32, packet: &SctpPacket<'_>) -> Admission
             _ => Admission::Refused(Refusal::NotASingleInit),
         };
     }
-    if header == own_tag {
+    let expected = state.verification_tag();
+    if header == expected {
         return Admission::AllChunks;
     }
-    let expected = own_tag;
     Admission::Refused(Refusal::WrongTag { header, expected })
 }
 
@@ -77,7 +80,7 @@ fn wrong_tag(alloc: Global, header: u32, expected: u32) -> Result<String, AllocE
 
 // A tag in eight hexadecimal digits, lower case.
 fn hexadecimal(alloc: Global, tag: u32) -> Result<String, AllocError>
-    ensures { IfOk result (λ text. string_bytes text ≡ hex8 tag) }
+    ensures { IfOk result (λ text. string_bytes text ≡ eight_hex_digits tag) }
 {
     format!(in alloc; "{tag:08x}")
 }

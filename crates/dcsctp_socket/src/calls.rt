@@ -1,15 +1,11 @@
 //! The calls of a socket, over its parts: each is a list of turns.
 
-ghost use Rattle.std.specs.Prelude.{◌≡◌, ℕ, List, OnOk, OnErr};
+ghost use Rattle.std.specs.Prelude.{◌≡◌, OnOk, OnErr};
 ghost use Rattle.dcsctp_wire.specs.Content.{chunk_content, packet_content};
-ghost use Rattle.dcsctp_machine.specs.Admission.{admits};
-ghost use Rattle.dcsctp_machine.specs.Endpoint.{own_tag};
+ghost use Rattle.dcsctp_machine.specs.Packet.{content_in};
 ghost use Rattle.dcsctp_machine.specs.Settings.{wire_options};
-ghost use Rattle.dcsctp_machine.specs.Outcome.{Outcome};
-ghost use Rattle.dcsctp_machine.specs.Packet.{content_in, packet_in};
-ghost use Rattle.dcsctp_machine.specs.Turn.{ContentTurn};
-ghost use Rattle.dcsctp_machine.specs.CallTurns.{Turns, inputs_of, AdmittedTurns, HandleInput};
-ghost use Rattle.dcsctp_core.specs.View.{core_of, endpoint_of, seen, Moves, MovesAll, CallMoves, Extends};
+ghost use Rattle.dcsctp_core.specs.View.{view_of, Extends};
+ghost use Rattle.dcsctp_socket.specs.Parts.{ChunkMoves, ChunksMove, PacketMoves, InputMoves};
 
 use crate::admission::{Admission, admit};
 use dcsctp_api::{ErrorKind, Events, Options};
@@ -25,7 +21,7 @@ fn handle_chunk<R: Rng>(
     events: &mut Events,
     chunk: &Chunk<'_>,
 ) -> Result<(), AllocError>
-    ensures turn { OnOk result ((outcome : Outcome) × ((tag : ℕ) → ContentTurn (endpoint_of state.old context.old) tag (content_in (chunk_content chunk.now)) outcome) × Moves R.stream (seen state.old context.old events.old) outcome (seen state.new context.new events.new)) }
+    ensures turn { OnOk result (ChunkMoves R.stream (content_in (chunk_content chunk.now)) (view_of state.old context.old events.old) (view_of state.new context.new events.new)) }
     ensures err { OnErr result (Extends events.old events.new) }
 {
     match chunk {
@@ -43,7 +39,7 @@ fn handle_chunks<R: Rng>(
     events: &mut Events,
     packet: &SctpPacket<'_>,
 ) -> Result<(), AllocError>
-    ensures turns { OnOk result ((outcomes : List Outcome) × Turns (endpoint_of state.old context.old) (inputs_of (packet_in (packet_content packet.now)).tag (packet_in (packet_content packet.now)).contents) outcomes × MovesAll R.stream (seen state.old context.old events.old) outcomes (seen state.new context.new events.new)) }
+    ensures turns { OnOk result (ChunksMove R.stream (packet_content packet.now) (view_of state.old context.old events.old) (view_of state.new context.new events.new)) }
     ensures err { OnErr result (Extends events.old events.new) }
 {
     for chunk in &packet.chunks {
@@ -59,10 +55,10 @@ fn handle_packet<R: Rng>(
     events: &mut Events,
     packet: &SctpPacket<'_>,
 ) -> Result<(), AllocError>
-    ensures turns { OnOk result ((outcomes : List Outcome) × AdmittedTurns (endpoint_of state.old context.old) (packet_in (packet_content packet.now)) (admits (own_tag (core_of state.old)) (packet_in (packet_content packet.now))) outcomes × MovesAll R.stream (seen state.old context.old events.old) outcomes (seen state.new context.new events.new)) }
+    ensures turns { OnOk result (PacketMoves R.stream (packet_content packet.now) (view_of state.old context.old events.old) (view_of state.new context.new events.new)) }
     ensures err { OnErr result (Extends events.old events.new) }
 {
-    match admit(state.verification_tag(), packet) {
+    match admit(state, packet) {
         Admission::AllChunks => handle_chunks(state, context, events, packet)?,
         Admission::Refused(refusal) => {
             let text = refusal.text(context.alloc)?;
@@ -80,7 +76,7 @@ pub fn handle_input<R: Rng>(
     events: &mut Events,
     packet: &[u8],
 ) -> Result<(), AllocError>
-    ensures turns { OnOk result ((outcomes : List Outcome) × HandleInput (endpoint_of state.old context.old) packet.now outcomes × CallMoves R.stream (seen state.old context.old events.old) outcomes (seen state.new context.new events.new)) }
+    ensures turns { OnOk result (InputMoves R.stream packet.now (view_of state.old context.old events.old) (view_of state.new context.new events.new)) }
     ensures err { OnErr result (Extends events.old events.new) }
 {
     context.begin_call();

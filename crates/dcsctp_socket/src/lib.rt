@@ -24,6 +24,6 @@ mod tests;
 
 pub use dcsctp_api::{
     Association, Capabilities, DcSctpSocket, ErrorKind, Held, Options, Pair, Phase,
-    ReconfigurationResult, SocketEvent, SocketFault, SocketState,
+    ReconfigurationResponseResult, SocketEvent, SocketFault, SocketState,
 };
 pub use socket::Socket;

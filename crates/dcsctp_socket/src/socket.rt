@@ -20,12 +20,12 @@ pub struct Socket<R> {
 }
 
 impl<R> Model for Socket<R> {
-    ghost use Rattle.dcsctp_core.specs.View.{seen};
+    ghost use Rattle.dcsctp_core.specs.View.{view_of};
     ghost use Rattle.dcsctp_socket.specs.SocketView.{SocketView};
 
     ghost Value = { SocketView R };
 
-    ghost view = { λ s. record { view = seen s.state s.context s.events; failed = s.failed } };
+    ghost view = { λ s. record { view = view_of s.state s.context s.events; failed = s.failed } };
 }
 
 impl<R: Rng + Drop> Socket<R> {

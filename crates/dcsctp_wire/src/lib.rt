@@ -18,4 +18,4 @@ pub use chunk::{Chunk, InitChunk, OtherChunk};
 pub use crc32c::packet_checksum;
 pub use packet::{CommonHeader, PacketError, SctpPacket, WireOptions, one_reading};
 pub use parameter::Parameter;
-pub use reconfiguration::ReconfigurationResult;
+pub use reconfiguration::ReconfigurationResponseResult;

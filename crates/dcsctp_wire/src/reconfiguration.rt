@@ -2,24 +2,24 @@
 
 /// The result of a request, by its code in a Re-configuration Response.
 #[derive(Clone, Copy, Debug, PartialEq, Eq)]
-pub enum ReconfigurationResult {
+pub enum ReconfigurationResponseResult {
     /// 0: success, there was nothing to do.
-    NothingToDo,
+    SuccessNothingToDo,
 
     /// 1: success, it was performed.
-    Performed,
+    SuccessPerformed,
 
     /// 2: denied.
     Denied,
 
     /// 3: error, wrong stream sequence number.
-    WrongSsn,
+    ErrorWrongSSN,
 
     /// 4: error, a request is already in progress.
-    RequestAlreadyInProgress,
+    ErrorRequestAlreadyInProgress,
 
     /// 5: error, bad sequence number.
-    BadSequenceNumber,
+    ErrorBadSequenceNumber,
 
     /// 6: in progress.
     InProgress,

@@ -4,7 +4,7 @@ use Rattle.dcsctp_machine.specs.declared.association.Pair.{Pair}
 use Rattle.dcsctp_machine.specs.declared.association.Held.{Held}
 use Rattle.dcsctp_machine.specs.declared.word.Word.{Word}
 use Rattle.dcsctp_machine.specs.declared.word.Word.TheVariants.{U32}
-use Rattle.dcsctp_machine.specs.Offer.{Offer, offer_of, answered, agreed_method}
+use Rattle.dcsctp_machine.specs.Offer.{Offer, offer_of, answering_offer, agreed_method}
 use Rattle.dcsctp_machine.specs.Cookie.{Cookie, cookie_bytes}
 use Rattle.dcsctp_machine.specs.Packet.{Introduction, Content, init_ack, other, Emission}
 use Rattle.dcsctp_machine.specs.Endpoint.{Endpoint, Core, closed, cookie_wait, cookie_echoed, open_in, OpenPhase, established, shutdown_pending, shutdown_sent, shutdown_received, shutdown_ack_sent}
@@ -32,7 +32,7 @@ abbrev pub init_ack_for : Endpoint → Introduction → Pair → ℕ → Content
 init_ack_for e theirs mine tie =
     init_ack (record {
       pair = mine;
-      offer = answered theirs.offer (offer_of e.options);
+      offer = answering_offer theirs.offer (offer_of e.options);
       window = e.options.max_receiver_window_buffer_size;
     }) (Some (cookie_bytes (cookie_for theirs mine tie)))
 

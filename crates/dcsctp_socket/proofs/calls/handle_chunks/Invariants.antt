@@ -1,15 +1,16 @@
-use Rattle.std.proofs.Common.{List, map, take}
-use Rattle.dcsctp_wire.specs.Content.{chunk_content}
+use Rattle.std.proofs.Common.{List, take}
 use Rattle.dcsctp_machine.specs.Outcome.{Outcome}
-use Rattle.dcsctp_machine.specs.Packet.{content_in}
-use Rattle.dcsctp_machine.specs.CallTurns.{Turns, inputs_of}
-use Rattle.dcsctp_core.specs.View.{endpoint_of, seen, MovesAll}
+use Rattle.dcsctp_machine.specs.CallTurns.{ChunkTurns}
+use Rattle.dcsctp_machine.proofs.TurnLemmas.{GoOn}
+use Rattle.dcsctp_core.specs.View.{endpoint_of, view_of, MovesAll}
+use Rattle.dcsctp_socket.proofs.ChunkLoop.{contents_of}
 use Rattle.dcsctp_socket.proofs.calls.handle_chunks.Given as goal
 
 -- the turns of the chunks so far
 abbrev pub invariant-loop-chunk : goal.invariant-loop-chunk
 invariant-loop-chunk g l = record {
   outcomes : List Outcome;
-  turns : Turns (endpoint_of l.fn.state l.fn.context) (inputs_of l.packet.common_header.verification_tag (map content_in (map chunk_content (take l.chunk-index l.chunk-items)))) outcomes;
-  moves : MovesAll g.R.Rng.stream (seen l.fn.state l.fn.context l.fn.events) outcomes (seen l.state l.context l.events);
+  goes_on : GoOn outcomes;
+  turns : ChunkTurns (endpoint_of l.fn.state l.fn.context) l.packet.common_header.verification_tag (contents_of (take l.chunk-index l.chunk-items)) outcomes;
+  moves : MovesAll g.R.Rng.stream (view_of l.fn.state l.fn.context l.fn.events) outcomes (view_of l.state l.context l.events);
 }

@@ -1,25 +1,24 @@
-use Rattle.std.proofs.Common.{ap, Err, string_bytes}
+use Rattle.std.proofs.Common.{ap, refl, Err, string_bytes}
 use Rattle.dcsctp_wire.specs.declared.packet.PacketError.{PacketError}
 use Rattle.dcsctp_wire.specs.Content.{packet_content}
-use Rattle.dcsctp_core.specs.View.{seen}
+use Rattle.dcsctp_core.specs.View.{view_of}
 use Rattle.dcsctp_socket.proofs.CallLemmas.{readable_input, unreadable_input}
 use Rattle.dcsctp_socket.proofs.calls.handle_input.Goals as goal
 
 pub returns-in_ok-handle_packet-in-Ok-clause-turns :
     goal.returns-in_ok-handle_packet-in-Ok-clause-turns
 returns-in_ok-handle_packet-in-Ok-clause-turns g c =
-    let turns = c.in_ok-handle_packet-in-Ok.ensures.turns in
-    readable_input g.R.Rng.stream (seen c.args.state.now c.args.context.now c.args.events.now) (seen c.args.state.now c.begin_call.new.self c.args.events.now) (seen c.args.state.now c.count_packet.new.self c.args.events.now)
-    (seen c.handle_packet.new.state c.handle_packet.new.context c.handle_packet.new.events)
-    c.args.packet.now (packet_content c.in-Ok.packet) c.wire_options-options.result turns.0
+    readable_input g.R.Rng.stream (view_of c.args.state.now c.args.context.now c.args.events.now) (view_of c.args.state.now c.begin_call.new.self c.args.events.now) (view_of c.args.state.now c.count_packet.new.self c.args.events.now)
+    (view_of c.handle_packet.new.state c.handle_packet.new.context c.handle_packet.new.events)
+    c.args.packet.now (packet_content c.in-Ok.packet) c.wire_options-options.result
     (c.begin_call.ensures.view c.args.state.now c.args.events.now) (c.count_packet.ensures.turn c.args.state.now c.args.events.now) c.wire_options-options.ensures
-    c.in-Ok.ensures.found turns.1 turns.2
+    c.in-Ok.ensures.found refl c.in_ok-handle_packet-in-Ok.ensures.turns
 
 pub returns-in_ok-report-in-Err-Malformed-clause-turns :
     goal.returns-in_ok-report-in-Err-Malformed-clause-turns
 returns-in_ok-report-in-Err-Malformed-clause-turns g c =
-    unreadable_input g.R.Rng.stream (seen c.args.state.now c.args.context.now c.args.events.now) (seen c.args.state.now c.begin_call.new.self c.args.events.now) (seen c.args.state.now c.count_packet.new.self c.args.events.now)
-    (seen c.args.state.now c.report.new.self c.report.new.events)
+    unreadable_input g.R.Rng.stream (view_of c.args.state.now c.args.context.now c.args.events.now) (view_of c.args.state.now c.begin_call.new.self c.args.events.now) (view_of c.args.state.now c.count_packet.new.self c.args.events.now)
+    (view_of c.args.state.now c.report.new.self c.report.new.events)
     c.args.packet.now c.wire_options-options.result (string_bytes c.in_ok-text-in-Err-Malformed.text)
     (c.begin_call.ensures.view c.args.state.now c.args.events.now) (c.count_packet.ensures.turn c.args.state.now c.args.events.now) c.wire_options-options.ensures
     (c.in-Err-Malformed.ensures.malformed (ap (λ (e : PacketError). Err e) c.in-Err-Malformed.field-0-is)) c.in_ok-text-in-Err-Malformed.ensures.ok (c.in_ok-report-in-Err-Malformed.ensures.turn c.args.state.now)

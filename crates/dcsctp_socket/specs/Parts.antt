@@ -1,0 +1,35 @@
+-- What the calls of a socket do, by its parts.
+use Rattle.std.specs.Prelude.{ℕ, List, ◌≡◌}
+use Rattle.rand_core.specs.Stream.{Stream}
+use Rattle.dcsctp_wire.specs.Content.{PacketContent}
+use Rattle.dcsctp_machine.specs.Admission.{admits}
+use Rattle.dcsctp_machine.specs.Packet.{Content, packet_in}
+use Rattle.dcsctp_machine.specs.Outcome.{Outcome, next_chunk}
+use Rattle.dcsctp_machine.specs.Turn.{ContentTurn}
+use Rattle.dcsctp_machine.specs.CallTurns.{ChunkTurns, AdmittedTurns, HandleInput}
+use Rattle.dcsctp_core.specs.View.{View, Moves, MovesAll, CallMoves}
+
+-- A chunk had its turn, after which the next has its own.
+pub record ChunkMoves {R : Type 0} (stream : R → Stream) (content : Content) (old new : View R) : Type 0 where
+  pub outcome : Outcome
+  pub turn : (tag : ℕ) → ContentTurn old.endpoint tag content outcome
+  pub goes_on : outcome.following ≡ next_chunk
+  pub moves : Moves stream old outcome new
+
+-- The chunks of a packet had their turns.
+pub record ChunksMove {R : Type 0} (stream : R → Stream) (packet : PacketContent) (old new : View R) : Type 0 where
+  pub outcomes : List Outcome
+  pub turns : ChunkTurns old.endpoint (packet_in packet).tag (packet_in packet).contents outcomes
+  pub moves : MovesAll stream old outcomes new
+
+-- A packet that was counted was admitted and worked, or refused.
+pub record PacketMoves {R : Type 0} (stream : R → Stream) (packet : PacketContent) (old new : View R) : Type 0 where
+  pub outcomes : List Outcome
+  pub turns : AdmittedTurns old.endpoint (packet_in packet) (admits old.endpoint.core (packet_in packet)) outcomes
+  pub moves : MovesAll stream old outcomes new
+
+-- A packet was handed in.
+pub record InputMoves {R : Type 0} (stream : R → Stream) (bytes : List ℕ) (old new : View R) : Type 0 where
+  pub outcomes : List Outcome
+  pub turns : HandleInput old.endpoint bytes outcomes
+  pub moves : CallMoves stream old outcomes new
