@@ -1,5 +1,7 @@
 -- What a `StateCookie` says (RFC 9260, section 5.1.3).
-use Rattle.dcsctp_machine.specs.Cookie.{Cookie}
+use Rattle.std.specs.Prelude.{◌≡◌, Ok}
+use Rattle.dcsctp_machine.specs.Cookie.{Cookie, cookie_bytes, cookie_at}
+use Rattle.dcsctp_machine.specs.Laws.{FitsCookie}
 use Rattle.dcsctp_machine.specs.Offer.{offer_in}
 use Rattle.dcsctp_api.specs.declared.state_cookie.StateCookie.{StateCookie}
 
@@ -12,3 +14,7 @@ cookie_of cookie =
       window = cookie.a_rwnd;
       tie = cookie.tie_tag;
     }
+
+-- A cookie that was written is read again.
+abbrev pub StateCookieReadsBack : Type 0
+StateCookieReadsBack = (written read : StateCookie) → FitsCookie (cookie_of written) → cookie_at (cookie_bytes (cookie_of written)) ≡ Ok (cookie_of read) → read ≡ written

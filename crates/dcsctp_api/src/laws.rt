@@ -4,6 +4,7 @@
 ghost use Rattle.std.specs.Prelude.{◌≡◌, ◌↔◌, ℕ, IsTrue, false};
 ghost use Rattle.std.specs.Cmp.{IsTotalOrder};
 ghost use Rattle.std.specs.Ordering.{nat_cmp};
+ghost use Rattle.dcsctp_api.specs.Cookie.{StateCookieReadsBack};
 ghost use Rattle.dcsctp_api.specs.Ids.{lifecycle_number};
 ghost use Rattle.dcsctp_api.specs.declared.ids.LifecycleId.{LifecycleId};
 ghost use Rattle.dcsctp_api.specs.declared.ids.StreamId.{StreamId};
@@ -13,6 +14,7 @@ ghost use Rattle.dcsctp_api.specs.declared.message.SendOptions.{SendOptions};
 use crate::ids::{LifecycleId, PpId, StreamId};
 use crate::message::SendOptions;
 use crate::time::SocketTime;
+use dcsctp_machine::cookie_reads_back;
 use std::hash::Hash;
 
 /// Moments are compared by their nanoseconds: `==` holds of equal ones alone, and `cmp`, `<` and the
@@ -75,3 +77,11 @@ pub fn send_options_default()
           lifecycle_id = None;
         } }
 {}
+
+/// What `StateCookie::serialize` wrote, `StateCookie::from_bytes` reads again (RFC 9260, section 5.1.3),
+/// where no tag is 0.
+pub fn state_cookie_reads_back()
+    ensures { StateCookieReadsBack }
+{
+    cookie_reads_back();
+}

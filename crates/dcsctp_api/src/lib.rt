@@ -17,8 +17,9 @@ mod time;
 
 pub use calls::DcSctpSocket;
 pub use dcsctp_machine::{
-    Association, Capabilities, ErrorKind, Held, Options, Pair, Phase, ReconfigurationResponseResult,
-    SctpImplementation, Word, ZERO_CHECKSUM_ALTERNATE_ERROR_DETECTION_METHOD_LOWER_LAYER_DTLS,
+    Association, Capabilities, ErrorKind, Held, Options, Pair, Phase,
+    ReconfigurationResponseResult, SctpImplementation, Word,
+    ZERO_CHECKSUM_ALTERNATE_ERROR_DETECTION_METHOD_LOWER_LAYER_DTLS,
     ZERO_CHECKSUM_ALTERNATE_ERROR_DETECTION_METHOD_NONE, ZeroChecksumAlternateErrorDetectionMethod,
 };
 pub use errors::SocketFault;
@@ -26,7 +27,7 @@ pub use events::{Events, SocketEvent};
 pub use ids::{LifecycleId, PpId, StreamId};
 pub use laws::{
     lifecycle_id_hash, lifecycle_id_order, pp_id_hash, send_options_default, socket_time_order,
-    stream_id_hash, stream_id_order,
+    state_cookie_reads_back, stream_id_hash, stream_id_order,
 };
 pub use message::{Message, SendOptions};
 pub use state::SocketState;

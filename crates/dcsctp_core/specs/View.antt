@@ -34,7 +34,7 @@ pub record View (R : Type 0) : Type 0 where
 abbrev pub core_of : State → Core
 core_of Closed = closed
 
--- What is not kept yet is as in a socket that was just made.
+-- What has no place in the parts is as in a socket that was just made.
 abbrev pub endpoint_of : {R : Type 0} → State → Context R → Endpoint
 endpoint_of state context =
     record (fresh_endpoint context.options) {

@@ -4,9 +4,7 @@
 mod connect;
 mod context;
 mod state;
-mod texts;
 
 pub use connect::handle_init;
 pub use context::Context;
 pub use state::State;
-pub use texts::UNREADABLE;

@@ -1,3 +1,4 @@
 pub mod LawLemmas
+pub mod ReadBackLemmas
 pub mod StandardFacts
 pub mod TurnLemmas

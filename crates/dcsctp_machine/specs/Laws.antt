@@ -1,12 +1,21 @@
 -- Laws of the definitions, in other words than theirs.
-use Rattle.std.specs.Prelude.{◌≡◌, ◌≤◌, ◌<◌, ◌^◌, ℕ, Ok, length}
+use Rattle.std.specs.Prelude.{◌≡◌, ◌≤◌, ◌<◌, ◌^◌, ℕ, Ok, Option, List, [], ◌∷◌, ◌++◌, length}
 use Rattle.dcsctp_machine.specs.declared.association.Pair.{Pair}
 use Rattle.dcsctp_machine.specs.declared.capabilities.Capabilities.{Capabilities}
-use Rattle.dcsctp_machine.specs.Offer.{Offer, negotiated, answering_offer}
+use Rattle.dcsctp_machine.specs.declared.kinds.ErrorKind.TheVariants.{ParseFailed}
+use Rattle.dcsctp_machine.specs.declared.options.Options.{Options}
+use Rattle.dcsctp_machine.specs.Settings.{wire_options}
+use Rattle.dcsctp_machine.specs.Admission.{refused, admits}
+use Rattle.dcsctp_machine.specs.CallTurns.{HandleInput, after_all, words_of, events_of}
+use Rattle.dcsctp_machine.specs.Event.{error}
+use Rattle.dcsctp_machine.specs.Turn.{unreadable_text}
+use Rattle.dcsctp_wire.specs.Content.{PacketContent}
+use Rattle.dcsctp_wire.specs.Format.{IsPacket}
+use Rattle.dcsctp_machine.specs.Offer.{Offer, offer_of, offer_in, offer_parameters, offer_announced, capabilities_offered, negotiated, answering_offer}
 use Rattle.dcsctp_machine.specs.Cookie.{Cookie, cookie_bytes, cookie_at}
-use Rattle.dcsctp_machine.specs.Packet.{Introduction}
+use Rattle.dcsctp_machine.specs.Packet.{Introduction, cookie_parameters, packet_in}
 use Rattle.dcsctp_machine.specs.Endpoint.{Endpoint}
-use Rattle.dcsctp_machine.specs.Outcome.{Outcome}
+use Rattle.dcsctp_machine.specs.Outcome.{Outcome, count_up}
 use Rattle.dcsctp_machine.specs.turns.Handshake.{InitTurn}
 
 -- Two ends hold the same: the features are equal, and what comes in at one goes out at the other.
@@ -55,3 +64,28 @@ ChangesCountsOnly old new = new ≡ record old { counts = new.counts }
 -- phase (RFC 9260, sections 5.1 and 5.2).
 abbrev pub InitBringsOnePacket : Type 0
 InitBringsOnePacket = (e : Endpoint) (theirs : Introduction) (o : Outcome) → InitTurn e theirs o → ChangesCountsOnly e o.after × (length o.events ≤ 1)
+
+-- What a socket announces in an INIT or INIT ACK is read from it again, with a cookie behind it or none.
+abbrev pub OfferReadsBack : Type 0
+OfferReadsBack = (options : Options) (method : ℕ) (cookie : Option (List ℕ)) →
+    let offer = record (offer_of options) { zero_checksum_method = method } in
+    offer_announced offer.outbound_streams offer.inbound_streams (offer_parameters offer ++ cookie_parameters cookie) ≡ offer
+
+-- An offer is found again in its capabilities.
+abbrev pub CapabilitiesHoldOffer : Type 0
+CapabilitiesHoldOffer = (offer : Offer) → offer_in (capabilities_offered offer) ≡ offer
+
+-- A packet that can't be read, or that admission refuses, is counted, adds one error, and changes
+-- nothing else (RFC 9260, section 8.5).
+pub record IsRefused (e : Endpoint) (text : List ℕ) (outcomes : List Outcome) : Type 0 where
+  pub endpoint : after_all e outcomes ≡ record e { counts = record e.counts { packets_received = count_up e.counts.packets_received } }
+  pub events : events_of outcomes ≡ error ParseFailed text ∷ []
+  pub words : words_of outcomes ≡ []
+
+pub record RefusedPacketAddsOneError : Type 0 where
+  pub unreadable : (e : Endpoint) (bytes : List ℕ) (outcomes : List Outcome) → HandleInput e bytes outcomes
+      → ((packet : PacketContent) → IsPacket (wire_options e.options) packet bytes → ⊥)
+      → IsRefused e unreadable_text outcomes
+  pub refused : (e : Endpoint) (bytes text : List ℕ) (packet : PacketContent) (outcomes : List Outcome) → HandleInput e bytes outcomes
+      → IsPacket (wire_options e.options) packet bytes → admits e.core (packet_in packet) ≡ refused text
+      → IsRefused e text outcomes

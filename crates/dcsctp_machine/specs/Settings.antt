@@ -1,5 +1,6 @@
 -- Which options a socket can be made with, and what they mean for packets.
-use Rattle.std.specs.Prelude.{◌≤◌, ◌<◌, ◌^◌, ◌-◌, ◌%◌, ℕ}
+use Rattle.std.specs.Prelude.{◌≡◌, ◌≤◌, ◌<◌, ◌^◌, ◌-◌, ◌*◌, ◌%◌, ℕ, ℤ, pos, Bool, true, false, Option, Some, None}
+use Rattle.std.specs.Duration.{as_nanos}
 use Rattle.dcsctp_machine.specs.declared.options.Options.{Options}
 use Rattle.dcsctp_wire.specs.declared.packet.WireOptions.{WireOptions}
 
@@ -29,3 +30,46 @@ wire_options options =
       disable_checksum_verification = options.disable_checksum_verification;
       zero_checksum_alternate_error_detection_method = options.zero_checksum_alternate_error_detection_method.0;
     }
+
+-- a number of nanoseconds from milliseconds
+abbrev pub milliseconds : ℕ → ℕ
+milliseconds n = n * 1_000_000
+
+-- The options of a user who sets none.
+pub record IsDefault (options : Options) : Type 0 where
+  pub local_port : options.local_port ≡ 5000
+  pub remote_port : options.remote_port ≡ 5000
+  pub announced_maximum_incoming_streams : options.announced_maximum_incoming_streams ≡ 65535
+  pub announced_maximum_outgoing_streams : options.announced_maximum_outgoing_streams ≡ 65535
+  pub mtu : options.mtu ≡ 1191
+  pub max_message_size : options.max_message_size ≡ 262144
+  pub default_stream_priority : options.default_stream_priority ≡ 256
+  pub max_receiver_window_buffer_size : options.max_receiver_window_buffer_size ≡ 5242880
+  pub max_send_buffer_size : options.max_send_buffer_size ≡ 2000000
+  pub per_stream_send_queue_limit : options.per_stream_send_queue_limit ≡ 2000000
+  pub total_buffered_amount_low_threshold : options.total_buffered_amount_low_threshold ≡ 1800000
+  pub default_stream_buffered_amount_low_threshold : options.default_stream_buffered_amount_low_threshold ≡ 0
+  pub rtt_max : as_nanos options.rtt_max ≡ milliseconds 60000
+  pub rto_initial : as_nanos options.rto_initial ≡ milliseconds 500
+  pub rto_max : as_nanos options.rto_max ≡ milliseconds 60000
+  pub rto_min : as_nanos options.rto_min ≡ milliseconds 400
+  pub t1_init_timeout : as_nanos options.t1_init_timeout ≡ milliseconds 1000
+  pub t1_cookie_timeout : as_nanos options.t1_cookie_timeout ≡ milliseconds 1000
+  pub t2_shutdown_timeout : as_nanos options.t2_shutdown_timeout ≡ milliseconds 1000
+  pub max_timer_backoff_duration : options.max_timer_backoff_duration ≡ None
+  pub heartbeat_interval : as_nanos options.heartbeat_interval ≡ milliseconds 30000
+  pub delayed_ack_max_timeout : as_nanos options.delayed_ack_max_timeout ≡ milliseconds 200
+  pub min_rtt_variance : as_nanos options.min_rtt_variance ≡ milliseconds 220
+  pub cwnd_mtus_initial : options.cwnd_mtus_initial ≡ 10
+  pub cwnd_mtus_min : options.cwnd_mtus_min ≡ 4
+  pub avoid_fragmentation_cwnd_mtus : options.avoid_fragmentation_cwnd_mtus ≡ 6
+  pub immediate_sack_under_cwnd_mtus : options.immediate_sack_under_cwnd_mtus ≡ 10
+  pub max_burst : options.max_burst ≡ pos 4
+  pub max_retransmissions : options.max_retransmissions ≡ Some 10
+  pub max_init_retransmits : options.max_init_retransmits ≡ Some 8
+  pub enable_partial_reliability : options.enable_partial_reliability ≡ true
+  pub enable_message_interleaving : options.enable_message_interleaving ≡ false
+  pub heartbeat_interval_include_rtt : options.heartbeat_interval_include_rtt ≡ true
+  pub zero_checksum_method : options.zero_checksum_alternate_error_detection_method.0 ≡ 0
+  pub disable_checksum_verification : options.disable_checksum_verification ≡ false
+  pub enable_handover_with_outstanding_data : options.enable_handover_with_outstanding_data ≡ false

@@ -24,7 +24,7 @@ arrival_outcome e = still (record e { counts = record e.counts { packets_receive
 abbrev pub refusal_outcome : Endpoint → List ℕ → Outcome
 refusal_outcome e text = reports e ParseFailed text
 
--- A chunk of a kind that has no turn yet changes nothing.
+-- An INIT is answered; an INIT ACK and chunks of other kinds change nothing.
 abbrev pub ContentTurn : Endpoint → ℕ → Content → Outcome → Type 0
 ContentTurn e tag (init theirs) o = InitTurn e theirs o
 ContentTurn e tag (init_ack theirs cookie) o = o ≡ still e

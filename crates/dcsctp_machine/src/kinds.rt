@@ -1,6 +1,6 @@
 //! Kinds of errors, of implementations and of checksums.
 
-/// How an SCTP packet may be protected without its checksum (RFC 9653, section 4), by number.
+/// How an SCTP packet may be protected without its checksum (RFC 9653, section 3), by number.
 #[derive(Clone, Copy, Debug, PartialEq, Eq)]
 pub struct ZeroChecksumAlternateErrorDetectionMethod(pub u32);
 
@@ -8,7 +8,7 @@ pub struct ZeroChecksumAlternateErrorDetectionMethod(pub u32);
 pub const ZERO_CHECKSUM_ALTERNATE_ERROR_DETECTION_METHOD_NONE: ZeroChecksumAlternateErrorDetectionMethod =
     ZeroChecksumAlternateErrorDetectionMethod(0);
 
-/// The DTLS below SCTP detects errors (RFC 9653, section 8).
+/// The DTLS below SCTP detects errors (RFC 9653, section 6).
 pub const ZERO_CHECKSUM_ALTERNATE_ERROR_DETECTION_METHOD_LOWER_LAYER_DTLS: ZeroChecksumAlternateErrorDetectionMethod =
     ZeroChecksumAlternateErrorDetectionMethod(1);
 

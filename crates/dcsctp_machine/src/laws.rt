@@ -1,6 +1,8 @@
 //! Laws of the definitions, each the contract of a function without a body.
 
-ghost use Rattle.dcsctp_machine.specs.Laws.{NegotiationIsMutual, AnswerKeepsAgreement, CookieReadsBack, InitLeavesAssociation, InitBringsOnePacket};
+ghost use Rattle.dcsctp_machine.specs.Laws.{NegotiationIsMutual, AnswerKeepsAgreement, CookieReadsBack, InitLeavesAssociation, InitBringsOnePacket, OfferReadsBack, CapabilitiesHoldOffer, RefusedPacketAddsOneError};
+
+use dcsctp_wire::one_reading;
 
 /// Negotiation is mutual (RFC 9260, section 5.1): what two ends make of their offers has equal features,
 /// and what comes in at one end goes out at the other.
@@ -29,3 +31,18 @@ pub fn init_leaves_association()
 pub fn init_brings_one_packet()
     ensures { InitBringsOnePacket }
 {}
+
+/// What a socket announces is read from its INIT or INIT ACK again (RFC 9260, section 5.1), and an
+/// offer is found again in the capabilities that a cookie holds.
+pub fn offer_reads_back()
+    ensures announced { OfferReadsBack }
+    ensures held { CapabilitiesHoldOffer }
+{}
+
+/// A packet that can't be read, or that admission refuses, is counted, adds one error, and changes
+/// nothing else (RFC 9260, section 8.5).
+pub fn refused_packet_adds_one_error()
+    ensures { RefusedPacketAddsOneError }
+{
+    one_reading();
+}

@@ -18,7 +18,7 @@ pub use kinds::{
 };
 pub use laws::{
     answer_keeps_agreement, cookie_reads_back, init_brings_one_packet, init_leaves_association,
-    negotiation_is_mutual,
+    negotiation_is_mutual, offer_reads_back, refused_packet_adds_one_error,
 };
 pub use options::Options;
 pub use word::Word;

@@ -120,6 +120,10 @@ pub struct Options {
 }
 
 impl Default for Options {
+    ghost use Rattle.dcsctp_machine.specs.Settings.{IsDefault};
+
+    ghost is_default = { IsDefault };
+
     fn default() -> Options {
         Options {
             local_port: 5000,

@@ -7,13 +7,14 @@ ghost use Rattle.dcsctp_machine.specs.Packet.{packet_in};
 ghost use Rattle.dcsctp_core.specs.View.{core_of};
 ghost use Rattle.dcsctp_socket.specs.Decisions.{admission_of, refusal_text};
 
+use crate::texts::{EXPECTED, NOT_A_SINGLE_INIT, WRONG_TAG};
 use dcsctp_core::State;
 use dcsctp_wire::{Chunk, SctpPacket};
 use std::alloc::{AllocError, Global};
 
 /// What is done with a packet.
 #[derive(Clone, Copy, Debug)]
-pub enum Admission {
+pub(crate) enum Admission {
     /// All chunks are worked.
     AllChunks,
 
@@ -23,7 +24,7 @@ pub enum Admission {
 
 /// Why a packet isn't worked.
 #[derive(Clone, Copy, Debug)]
-pub enum Refusal {
+pub(crate) enum Refusal {
     /// Its tag is 0, and it isn't one INIT.
     NotASingleInit,
 
@@ -33,7 +34,7 @@ pub enum Refusal {
 
 /// Decides by the header tag: 0 is for an INIT alone (RFC 9260, section 8.5.1), and any other packet
 /// bears the own tag (RFC 9260, section 8.5).
-pub fn admit(state: &State, packet: &SctpPacket<'_>) -> Admission
+pub(crate) fn admit(state: &State, packet: &SctpPacket<'_>) -> Admission
     ensures { admission_of result ≡ admits (core_of state.now) (packet_in (packet_content packet.now)) }
 {
     let header = packet.common_header.verification_tag;
@@ -52,14 +53,11 @@ pub fn admit(state: &State, packet: &SctpPacket<'_>) -> Admission
 
 impl Refusal {
     /// The text of the error. The one error is that a growth was refused.
-    pub fn text(&self, alloc: Global) -> Result<String, AllocError>
+    pub(crate) fn text(&self, alloc: Global) -> Result<String, AllocError>
         ensures { IfOk result (λ text. string_bytes text ≡ refusal_text self.now) }
     {
         match self {
-            Refusal::NotASingleInit => String::from_str(
-                alloc,
-                "Only a single INIT chunk can be present in packets sent on verification_tag = 0",
-            ),
+            Refusal::NotASingleInit => String::from_str(alloc, NOT_A_SINGLE_INIT),
             Refusal::WrongTag { header, expected } => wrong_tag(alloc, *header, *expected),
         }
     }
@@ -71,9 +69,9 @@ fn wrong_tag(alloc: Global, header: u32, expected: u32) -> Result<String, AllocE
 {
     let header = hexadecimal(alloc, header)?;
     let expected = hexadecimal(alloc, expected)?;
-    let mut text = String::from_str(alloc, "Packet has invalid verification tag: ")?;
+    let mut text = String::from_str(alloc, WRONG_TAG)?;
     text.push_str(&header)?;
-    text.push_str(", expected ")?;
+    text.push_str(EXPECTED)?;
     text.push_str(&expected)?;
     Ok(text)
 }

@@ -8,8 +8,9 @@ ghost use Rattle.dcsctp_core.specs.View.{view_of, Extends};
 ghost use Rattle.dcsctp_socket.specs.Parts.{ChunkMoves, ChunksMove, PacketMoves, InputMoves};
 
 use crate::admission::{Admission, admit};
+use crate::texts::UNREADABLE;
 use dcsctp_api::{ErrorKind, Events, Options};
-use dcsctp_core::{Context, State, UNREADABLE, handle_init};
+use dcsctp_core::{Context, State, handle_init};
 use dcsctp_wire::{Chunk, PacketError, SctpPacket, WireOptions};
 use rand_core::Rng;
 use std::alloc::AllocError;
@@ -70,7 +71,7 @@ fn handle_packet<R: Rng>(
 
 /// Works a packet (RFC 9260, section 8.5): it is counted, read, admitted or refused, and each chunk
 /// has its turn. The one error is that a growth was refused.
-pub fn handle_input<R: Rng>(
+pub(crate) fn handle_input<R: Rng>(
     state: &mut State,
     context: &mut Context<R>,
     events: &mut Events,

@@ -1,7 +1,6 @@
-//! An SCTP socket (RFC 9260) that makes no system call: packets and moments go in, events and
-//! messages come out.
+//! An SCTP socket (RFC 9260) that makes no system call: packets go in, events come out.
 //!
-//! There are four kinds of call. Queries (`state`, `association`, `verification_tag`, `has_failed`)
+//! There are three kinds of call. Queries (`state`, `association`, `verification_tag`, `has_failed`)
 //! answer and change nothing. Inputs (`handle_input`) bring what the peer sent. Polls (`poll_event`)
 //! take what the socket has to tell. A user drives it by a loop:
 //!
@@ -21,9 +20,14 @@ mod calls;
 mod socket;
 #[cfg(test)]
 mod tests;
+mod texts;
 
+pub use dcsctp_api as api;
 pub use dcsctp_api::{
-    Association, Capabilities, DcSctpSocket, ErrorKind, Held, Options, Pair, Phase,
-    ReconfigurationResponseResult, SocketEvent, SocketFault, SocketState,
+    Association, Capabilities, DcSctpSocket, ErrorKind, Events, Held, LifecycleId, Message,
+    Options, Pair, Phase, PpId, ReconfigurationResponseResult, SctpImplementation, SendOptions,
+    SocketEvent, SocketFault, SocketState, SocketTime, StateCookie, StreamId,
+    ZERO_CHECKSUM_ALTERNATE_ERROR_DETECTION_METHOD_LOWER_LAYER_DTLS,
+    ZERO_CHECKSUM_ALTERNATE_ERROR_DETECTION_METHOD_NONE, ZeroChecksumAlternateErrorDetectionMethod,
 };
 pub use socket::Socket;

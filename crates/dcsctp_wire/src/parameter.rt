@@ -16,7 +16,7 @@ use std::alloc::Global;
 /// to a multiple of 4.
 #[derive(Clone, Copy, Debug)]
 pub enum Parameter<'a> {
-    /// State Cookie, type 7 (RFC 9260, section 3.3.3): the cookie's bytes.
+    /// State Cookie, type 7 (RFC 9260, section 3.3.3.1): the cookie's bytes.
     StateCookie {
         cookie: &'a [u8],
     },

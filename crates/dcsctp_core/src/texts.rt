@@ -1,4 +1,0 @@
-//! The texts of events.
-
-/// The bytes are no packet.
-pub const UNREADABLE: &str = "Failed to parse SCTP packet";

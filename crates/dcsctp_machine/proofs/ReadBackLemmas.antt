@@ -1,0 +1,99 @@
+-- What is announced is read again, and refused packets.
+use Rattle.std.proofs.Common.{◌≡◌, ℕ, Bool, true, false, cond, eqb, Option, Some, None, List, [], ◌∷◌, ◌++◌, refl, sym, subst, ap, ◌∙◌, arith}
+use Rattle.dcsctp_machine.specs.declared.options.Options.{Options}
+use Rattle.std.proofs.lemmas.Bool.Decides.{nat_tests}
+use Rattle.dcsctp_wire.specs.declared.packet.WireOptions.{WireOptions}
+use Rattle.dcsctp_wire.specs.Content.{ParameterContent, supported_extensions, zero_checksum_acceptable, forward_tsn_supported}
+use Rattle.dcsctp_machine.specs.Offer.{Offer, offer_announced, re_config_type, forward_tsn_type, i_data_type, i_forward_tsn_type}
+use Rattle.dcsctp_machine.specs.Packet.{cookie_parameters, packet_in}
+use Rattle.dcsctp_machine.specs.Settings.{wire_options}
+use Rattle.dcsctp_machine.specs.Endpoint.{Endpoint}
+use Rattle.dcsctp_machine.specs.Outcome.{Outcome}
+use Rattle.dcsctp_machine.specs.Turn.{arrival, refusal, arrival_outcome, refusal_outcome, unreadable_text}
+use Rattle.dcsctp_machine.specs.Admission.{Admission, all_chunks, refused, admits}
+use Rattle.dcsctp_machine.specs.CallTurns.{Turns, AdmittedTurns, HandleInput, unreadable, readable, after_all, words_of, events_of}
+use Rattle.dcsctp_wire.specs.Content.{PacketContent}
+use Rattle.dcsctp_wire.specs.Format.{IsPacket}
+use Rattle.dcsctp_machine.specs.Laws.{OfferReadsBack, CapabilitiesHoldOffer, IsRefused, RefusedPacketAddsOneError}
+
+-- bytes say at most one packet, as the wire's law tells
+abbrev pub OneReading : Type 0
+OneReading = (options : WireOptions) (bytes : List ℕ) (p q : PacketContent) → IsPacket options p bytes → IsPacket options q bytes → p ≡ q
+
+pub capabilities_hold_offer : CapabilitiesHoldOffer
+capabilities_hold_offer offer = refl
+
+-- an offer of these features
+abbrev made_offer : Bool → Bool → ℕ → ℕ → ℕ → Offer
+made_offer partial interleaving method inbound outbound =
+    record { partial_reliability = partial; message_interleaving = interleaving; reconfig = true; zero_checksum_method = method; inbound_streams = inbound; outbound_streams = outbound }
+
+-- the parameters of an offer, by whether there is no method
+abbrev parameters_by : Bool → Bool → Bool → ℕ → List ParameterContent
+parameters_by partial interleaving no_method method =
+    cond partial (forward_tsn_supported ∷ []) []
+    ++ cond no_method [] (zero_checksum_acceptable method ∷ [])
+    ++ supported_extensions (re_config_type ∷ (cond partial (forward_tsn_type ∷ []) [] ++ cond interleaving (i_data_type ∷ i_forward_tsn_type ∷ []) [])) ∷ []
+
+read_by : (partial interleaving no_method : Bool) (method inbound outbound : ℕ) (cookie : Option (List ℕ))
+    → offer_announced outbound inbound (parameters_by partial interleaving no_method method ++ cookie_parameters cookie) ≡ made_offer partial interleaving (cond no_method 0 method) inbound outbound
+read_by true true true method inbound outbound None = refl
+read_by true true true method inbound outbound (Some bytes) = refl
+read_by true true false method inbound outbound None = refl
+read_by true true false method inbound outbound (Some bytes) = refl
+read_by true false true method inbound outbound None = refl
+read_by true false true method inbound outbound (Some bytes) = refl
+read_by true false false method inbound outbound None = refl
+read_by true false false method inbound outbound (Some bytes) = refl
+read_by false true true method inbound outbound None = refl
+read_by false true true method inbound outbound (Some bytes) = refl
+read_by false true false method inbound outbound None = refl
+read_by false true false method inbound outbound (Some bytes) = refl
+read_by false false true method inbound outbound None = refl
+read_by false false true method inbound outbound (Some bytes) = refl
+read_by false false false method inbound outbound None = refl
+read_by false false false method inbound outbound (Some bytes) = refl
+
+none_is_0 : (method : ℕ) → cond (eqb method 0) 0 method ≡ method
+none_is_0 method = grind (arith, nat_tests)
+
+pub offer_reads_back : OfferReadsBack
+offer_reads_back options method cookie =
+    let partial = options.enable_partial_reliability in
+    let interleaving = options.enable_message_interleaving in
+    let inbound = options.announced_maximum_incoming_streams in
+    let outbound = options.announced_maximum_outgoing_streams in
+    read_by partial interleaving (eqb method 0) method inbound outbound cookie ∙ ap (λ (n : ℕ). made_offer partial interleaving n inbound outbound) (none_is_0 method)
+
+-- ---- refused packets
+
+-- a packet that is counted, and then refused
+counted_and_refused : (e : Endpoint) (text : List ℕ) (os : List Outcome) → Turns e (arrival ∷ refusal text ∷ []) os → IsRefused e text os
+counted_and_refused e text [] turns = absurd turns
+counted_and_refused e text (o ∷ []) turns = absurd turns.1
+counted_and_refused e text (o ∷ p ∷ []) turns =
+    record {
+      endpoint = ap (λ (x : Outcome). x.after) turns.1.0 ∙ ap (λ (x : Outcome). x.after) turns.0;
+      events = ap (λ (x : Outcome). events_of (x ∷ p ∷ [])) turns.0 ∙ ap (λ (x : Outcome). events_of (x ∷ [])) turns.1.0;
+      words = ap (λ (x : Outcome). words_of (x ∷ p ∷ [])) turns.0 ∙ ap (λ (x : Outcome). words_of (x ∷ [])) turns.1.0;
+    }
+counted_and_refused e text (o ∷ p ∷ q ∷ os) turns = absurd turns.1.1
+
+unreadable_refused : (e : Endpoint) (bytes : List ℕ) (outcomes : List Outcome) → HandleInput e bytes outcomes
+    → ((packet : PacketContent) → IsPacket (wire_options e.options) packet bytes → ⊥)
+    → IsRefused e unreadable_text outcomes
+unreadable_refused e bytes outcomes (unreadable os none turns) nothing = counted_and_refused e unreadable_text outcomes turns
+unreadable_refused e bytes outcomes (readable packet counted os found turn admitted) nothing = absurd (nothing packet found)
+
+admission_refused : OneReading → (e : Endpoint) (bytes text : List ℕ) (packet : PacketContent) (outcomes : List Outcome) → HandleInput e bytes outcomes
+    → IsPacket (wire_options e.options) packet bytes → admits e.core (packet_in packet) ≡ refused text
+    → IsRefused e text outcomes
+admission_refused one e bytes text packet outcomes (unreadable os none turns) found refuses = absurd (none packet found)
+admission_refused one e bytes text packet outcomes (readable other counted os there turn admitted) found refuses =
+    let same : other ≡ packet = one (wire_options e.options) bytes other packet there found in
+    let says : admits e.core (packet_in other) ≡ refused text = ap (λ (p : PacketContent). admits e.core (packet_in p)) same ∙ refuses in
+    let turns : Turns counted.after (refusal text ∷ []) os = subst (λ (a : Admission). AdmittedTurns counted.after (packet_in other) a os) says admitted in
+    counted_and_refused e text (counted ∷ os) (turn, turns)
+
+pub refused_packet_adds_one_error : OneReading → RefusedPacketAddsOneError
+refused_packet_adds_one_error one = record { unreadable = unreadable_refused; refused = admission_refused one }

@@ -1,0 +1,14 @@
+//! The texts of events.
+
+/// The bytes are no packet.
+pub(crate) const UNREADABLE: &str = "Failed to parse SCTP packet";
+
+/// A packet has tag 0 and isn't one INIT.
+pub(crate) const NOT_A_SINGLE_INIT: &str =
+    "Only a single INIT chunk can be present in packets sent on verification_tag = 0";
+
+/// A packet has another tag than the own one: this text, the tag, [`EXPECTED`], and the own tag.
+pub(crate) const WRONG_TAG: &str = "Packet has invalid verification tag: ";
+
+/// Between the two tags.
+pub(crate) const EXPECTED: &str = ", expected ";
