@@ -9,7 +9,7 @@ ghost use Rattle.dcsctp_core.specs.View.{view_of, AnswersInit, InitMoves, Extend
 use crate::context::Context;
 use crate::state::State;
 use dcsctp_api::{Capabilities, Events, Options, Pair, StateCookie};
-use dcsctp_wire::{Chunk, InitChunk, Parameter};
+use dcsctp_wire::{Chunk, InitChunk, Parameter, chunk_type};
 use rand_core::Rng;
 use std::alloc::{AllocError, Global};
 
@@ -17,8 +17,8 @@ use std::alloc::{AllocError, Global};
 fn draw_pair<R: Rng>(context: &mut Context<R>) -> Result<Pair, AllocError>
     ensures pair { IfOk result (λ pair. DrawsPair R.stream context.old pair context.new) }
 {
-    let first_tsn = context.draw_u32()? % 0xffff_ffff;
-    let tag = 1 + context.draw_u32()? % 0xffff_fffe;
+    let first_tsn = context.draw_u32()? % u32::MAX;
+    let tag = 1 + context.draw_u32()? % (u32::MAX - 1);
     Ok(Pair { tag, first_tsn })
 }
 
@@ -30,10 +30,19 @@ fn extensions(options: &Options) -> &'static [u8]
         options.enable_partial_reliability,
         options.enable_message_interleaving,
     ) {
-        (false, false) => &[130],
-        (true, false) => &[130, 192],
-        (false, true) => &[130, 64, 194],
-        (true, true) => &[130, 192, 64, 194],
+        (false, false) => &[chunk_type::RE_CONFIG],
+        (true, false) => &[chunk_type::RE_CONFIG, chunk_type::FORWARD_TSN],
+        (false, true) => &[
+            chunk_type::RE_CONFIG,
+            chunk_type::I_DATA,
+            chunk_type::I_FORWARD_TSN,
+        ],
+        (true, true) => &[
+            chunk_type::RE_CONFIG,
+            chunk_type::FORWARD_TSN,
+            chunk_type::I_DATA,
+            chunk_type::I_FORWARD_TSN,
+        ],
     }
 }
 

@@ -4,7 +4,8 @@ use Rattle.dcsctp_machine.specs.declared.options.Options.{Options}
 use Rattle.std.proofs.lemmas.Bool.Decides.{nat_tests}
 use Rattle.dcsctp_wire.specs.declared.packet.WireOptions.{WireOptions}
 use Rattle.dcsctp_wire.specs.Content.{ParameterContent, supported_extensions, zero_checksum_acceptable, forward_tsn_supported}
-use Rattle.dcsctp_machine.specs.Offer.{Offer, offer_announced, re_config_type, forward_tsn_type, i_data_type, i_forward_tsn_type}
+use Rattle.dcsctp_machine.specs.Offer.{Offer, offer_announced}
+use Rattle.dcsctp_wire.specs.Numbers.{re_config_type, forward_tsn_type, i_data_type, i_forward_tsn_type}
 use Rattle.dcsctp_machine.specs.Packet.{cookie_parameters, packet_in}
 use Rattle.dcsctp_machine.specs.Settings.{wire_options}
 use Rattle.dcsctp_machine.specs.Endpoint.{Endpoint}

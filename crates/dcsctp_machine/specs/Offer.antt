@@ -3,6 +3,7 @@ use Rattle.std.specs.Prelude.{◌==◌, ℕ, min, Bool, true, false, ◌&&◌, �
 use Rattle.std.specs.List.{list_any}
 use Rattle.dcsctp_machine.specs.declared.options.Options.{Options}
 use Rattle.dcsctp_machine.specs.declared.capabilities.Capabilities.{Capabilities}
+use Rattle.dcsctp_wire.specs.Numbers.{re_config_type, forward_tsn_type, i_data_type, i_forward_tsn_type}
 use Rattle.dcsctp_wire.specs.Content.{ParameterContent, state_cookie, supported_extensions, zero_checksum_acceptable, forward_tsn_supported, unknown_parameter}
 
 pub record Offer : Type 0 where
@@ -88,19 +89,6 @@ offer_in capabilities =
     }
 
 -- ---- in parameters
-
--- the chunk types of what is optional
-abbrev pub re_config_type : ℕ
-re_config_type = 130
-
-abbrev pub forward_tsn_type : ℕ
-forward_tsn_type = 192
-
-abbrev pub i_data_type : ℕ
-i_data_type = 64
-
-abbrev pub i_forward_tsn_type : ℕ
-i_forward_tsn_type = 194
 
 abbrev pub announced_extensions : Offer → List ℕ
 announced_extensions offer =

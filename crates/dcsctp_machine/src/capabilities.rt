@@ -9,16 +9,7 @@ use crate::kinds::{
     ZERO_CHECKSUM_ALTERNATE_ERROR_DETECTION_METHOD_NONE, ZeroChecksumAlternateErrorDetectionMethod,
 };
 use crate::options::Options;
-use dcsctp_wire::Parameter;
-
-/// The chunk type of FORWARD-TSN (RFC 3758, section 3.2).
-const FORWARD_TSN: u8 = 192;
-
-/// The chunk type of I-DATA (RFC 8260, section 2.1).
-const I_DATA: u8 = 64;
-
-/// The chunk type of RE-CONFIG (RFC 6525, section 3.1).
-const RE_CONFIG: u8 = 130;
+use dcsctp_wire::{Parameter, chunk_type};
 
 /// What both ends of an association support; or, before negotiation, what one end announced.
 #[derive(Clone, Copy, Debug)]
@@ -77,9 +68,9 @@ impl Capabilities {
         let extensions = supported_extensions(parameters);
         let forward_tsn = has_forward_tsn_supported(parameters);
         Capabilities {
-            partial_reliability: forward_tsn || supports(extensions, FORWARD_TSN),
-            message_interleaving: supports(extensions, I_DATA),
-            reconfig: supports(extensions, RE_CONFIG),
+            partial_reliability: forward_tsn || supports(extensions, chunk_type::FORWARD_TSN),
+            message_interleaving: supports(extensions, chunk_type::I_DATA),
+            reconfig: supports(extensions, chunk_type::RE_CONFIG),
             zero_checksum_method: zero_checksum_method(parameters),
             negotiated_maximum_incoming_streams: nbr_outbound_streams,
             negotiated_maximum_outgoing_streams: nbr_inbound_streams,

@@ -4,6 +4,7 @@ use Rattle.std.specs.Prelude.{◌≡◌, ◌≢◌, ◌≤◌, ◌==◌, ℕ, �
 use Rattle.std.specs.List.{AllByRecursion}
 use Rattle.std.specs.Int.{w16, w32, from_be_bytes, from_le_bytes}
 use Rattle.dcsctp_wire.specs.declared.packet.WireOptions.{WireOptions}
+use Rattle.dcsctp_wire.specs.Numbers.{init_type, init_ack_type, cookie_echo_type, state_cookie_type, zero_checksum_acceptable_type, supported_extensions_type, forward_tsn_supported_type}
 use Rattle.dcsctp_wire.specs.Crc32c.{packet_checksum_of}
 use Rattle.dcsctp_wire.specs.Content.{ParameterContent, state_cookie, supported_extensions, zero_checksum_acceptable, forward_tsn_supported, unknown_parameter, InitContent, ChunkContent, init_chunk, init_ack_chunk, other_chunk, PacketContent}
 
@@ -39,10 +40,10 @@ frame_at bytes =
 -- bytes behind them are not looked at.
 unfoldable pub parameter_of : ℕ → List ℕ → Option ParameterContent
 parameter_of parameter_type value =
-    if parameter_type == 7 then Some (state_cookie value)
-    else (if parameter_type == 0x8008 then Some (supported_extensions value)
-    else (if parameter_type == 0x8001 then (if nat_lt (length value) 4 then None else Some (zero_checksum_acceptable (u32_at 0 value)))
-    else (if parameter_type == 0xc000 then Some forward_tsn_supported
+    if parameter_type == state_cookie_type then Some (state_cookie value)
+    else (if parameter_type == supported_extensions_type then Some (supported_extensions value)
+    else (if parameter_type == zero_checksum_acceptable_type then (if nat_lt (length value) 4 then None else Some (zero_checksum_acceptable (u32_at 0 value)))
+    else (if parameter_type == forward_tsn_supported_type then Some forward_tsn_supported
     else Some (unknown_parameter parameter_type value))))
 
 -- the parameter stands in front of the bytes, and rest behind it
@@ -72,10 +73,10 @@ pub record IsInitValue (init : InitContent) (value : List ℕ) : Type 0 where
 
 -- a chunk of this type, flags and value
 abbrev pub IsChunkOf : ChunkContent → ℕ → ℕ → List ℕ → Type 0
-IsChunkOf (init_chunk init) chunk_type flags value = (chunk_type ≡ 1) × IsInitValue init value
-IsChunkOf (init_ack_chunk init) chunk_type flags value = (chunk_type ≡ 2) × IsInitValue init value
+IsChunkOf (init_chunk init) chunk_type flags value = (chunk_type ≡ init_type) × IsInitValue init value
+IsChunkOf (init_ack_chunk init) chunk_type flags value = (chunk_type ≡ init_ack_type) × IsInitValue init value
 IsChunkOf (other_chunk other_type other_flags other_value) chunk_type flags value =
-    (chunk_type ≢ 1) × (chunk_type ≢ 2) × (other_type ≡ chunk_type) × (other_flags ≡ flags) × (other_value ≡ value)
+    (chunk_type ≢ init_type) × (chunk_type ≢ init_ack_type) × (other_type ≡ chunk_type) × (other_flags ≡ flags) × (other_value ≡ value)
 
 -- the chunk stands in front of the bytes, and rest behind it
 pub record BeginsWithChunk (chunk : ChunkContent) (rest bytes : List ℕ) : Type 0 where
@@ -92,7 +93,7 @@ AreChunks (chunk ∷ chunks) bytes = (rest : List ℕ) × BeginsWithChunk chunk 
 abbrev pub is_cookie_echo : ChunkContent → Bool
 is_cookie_echo (init_chunk init) = false
 is_cookie_echo (init_ack_chunk init) = false
-is_cookie_echo (other_chunk chunk_type flags value) = chunk_type == 10
+is_cookie_echo (other_chunk chunk_type flags value) = chunk_type == cookie_echo_type
 
 -- The checksum is right, or its field is 0 and the reader has an alternate error detection method, or
 -- it is not looked at (RFC 9260, section 6.8; RFC 9653, section 5.3).

@@ -2,6 +2,7 @@
 use Rattle.std.specs.Prelude.{ℕ, ◌+◌, Bool, true, false, List, [], ◌∷◌, ◌++◌, length, replicate, fold}
 use Rattle.std.specs.List.{flat_map}
 use Rattle.std.specs.Int.{w16, w32, to_be_bytes, to_le_bytes}
+use Rattle.dcsctp_wire.specs.Numbers.{init_type, init_ack_type, state_cookie_type, zero_checksum_acceptable_type, supported_extensions_type, forward_tsn_supported_type}
 use Rattle.dcsctp_wire.specs.Crc32c.{packet_checksum_of}
 use Rattle.dcsctp_wire.specs.Format.{padding_of}
 use Rattle.dcsctp_wire.specs.Content.{ParameterContent, state_cookie, supported_extensions, zero_checksum_acceptable, forward_tsn_supported, unknown_parameter, InitContent, ChunkContent, init_chunk, init_ack_chunk, other_chunk, PacketContent}
@@ -11,10 +12,10 @@ abbrev pub zeros : ℕ → List ℕ
 zeros n = replicate n 0
 
 abbrev pub parameter_type : ParameterContent → ℕ
-parameter_type (state_cookie cookie) = 7
-parameter_type (supported_extensions chunk_types) = 0x8008
-parameter_type (zero_checksum_acceptable method) = 0x8001
-parameter_type forward_tsn_supported = 0xc000
+parameter_type (state_cookie cookie) = state_cookie_type
+parameter_type (supported_extensions chunk_types) = supported_extensions_type
+parameter_type (zero_checksum_acceptable method) = zero_checksum_acceptable_type
+parameter_type forward_tsn_supported = forward_tsn_supported_type
 parameter_type (unknown_parameter other value) = other
 
 abbrev pub parameter_value : ParameterContent → List ℕ
@@ -53,8 +54,8 @@ other_bytes chunk_type flags value =
 
 -- a chunk with its padding (RFC 9260, section 3.2)
 abbrev pub chunk_bytes : ChunkContent → List ℕ
-chunk_bytes (init_chunk init) = init_bytes 1 init
-chunk_bytes (init_ack_chunk init) = init_bytes 2 init
+chunk_bytes (init_chunk init) = init_bytes init_type init
+chunk_bytes (init_ack_chunk init) = init_bytes init_ack_type init
 chunk_bytes (other_chunk chunk_type flags value) = other_bytes chunk_type flags value
 
 -- ports and verification tag (RFC 9260, section 3.1)

@@ -35,7 +35,7 @@ pub fn u32_at(bytes: &[u8], at: usize) -> u32
 }
 
 /// How many bytes of padding follow `len` bytes, to a multiple of 4.
-fn padding_of(len: usize) -> usize
+pub(crate) fn padding_of(len: usize) -> usize
     ensures { result ≡ padding_of len }
 {
     (4 - len % 4) % 4

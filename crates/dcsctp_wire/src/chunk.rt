@@ -9,16 +9,11 @@ mod other;
 
 use crate::bytes::read_frame;
 use crate::packet::PacketError;
+use crate::types::chunk_type;
 pub use init::InitChunk;
 use init::read_init;
 pub use other::OtherChunk;
 use std::alloc::Global;
-
-/// The type of an INIT (RFC 9260, section 3.3.2).
-const INIT: u8 = 1;
-
-/// The type of an INIT ACK (RFC 9260, section 3.3.3).
-const INIT_ACK: u8 = 2;
 
 /// A chunk. Its bytes are borrowed: from the packet that is read, or from the caller that writes one.
 ///
@@ -53,8 +48,8 @@ fn chunk_from(
         → (chunk : ChunkContent) → IsChunkOf chunk chunk_type flags value.now → ⊥ }
 {
     match chunk_type {
-        INIT => Ok(Chunk::Init(read_init(alloc, value)?)),
-        INIT_ACK => Ok(Chunk::InitAck(read_init(alloc, value)?)),
+        chunk_type::INIT => Ok(Chunk::Init(read_init(alloc, value)?)),
+        chunk_type::INIT_ACK => Ok(Chunk::InitAck(read_init(alloc, value)?)),
         _ => Ok(Chunk::Other(OtherChunk {
             chunk_type,
             flags,

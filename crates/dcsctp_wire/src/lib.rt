@@ -11,11 +11,12 @@ pub mod crc32c;
 mod packet;
 mod parameter;
 mod reconfiguration;
+mod types;
 
 pub use builder::{SctpPacketBuilder, sizes};
 pub use bytes::{u16_at, u32_at};
 pub use chunk::{Chunk, InitChunk, OtherChunk};
-pub use crc32c::packet_checksum;
 pub use packet::{CommonHeader, PacketError, SctpPacket, WireOptions, one_reading};
 pub use parameter::Parameter;
 pub use reconfiguration::ReconfigurationResponseResult;
+pub use types::{chunk_type, parameter_type};

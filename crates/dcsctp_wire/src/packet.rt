@@ -10,10 +10,8 @@ ghost use Rattle.dcsctp_wire.specs.Format.{is_cookie_echo, checksum_accepted, Is
 use crate::bytes::{u16_at, u32_at};
 use crate::chunk::{Chunk, read_chunks};
 use crate::crc32c::packet_checksum;
+use crate::types::chunk_type;
 use std::alloc::{AllocError, AllocFailed, Global};
-
-/// The type of a COOKIE ECHO (RFC 9260, section 3.3.11).
-const COOKIE_ECHO: u8 = 10;
 
 /// What a reader knows of itself.
 #[derive(Clone, Copy, Debug)]
@@ -144,7 +142,7 @@ fn is_cookie_echo(chunk: &Chunk) -> bool
 {
     match chunk {
         Chunk::Init(_) | Chunk::InitAck(_) => false,
-        Chunk::Other(other) => other.chunk_type == COOKIE_ECHO,
+        Chunk::Other(other) => other.chunk_type == chunk_type::COOKIE_ECHO,
     }
 }
 

@@ -7,6 +7,7 @@ ghost use Rattle.dcsctp_wire.specs.Format.{parameter_of, BeginsWithParameter, Ar
 
 use crate::bytes::{read_frame, u16_at, u32_at};
 use crate::packet::PacketError;
+use crate::types::parameter_type as types;
 use std::alloc::Global;
 
 /// An optional parameter. What it holds is borrowed: from the packet that is read, or from the caller
@@ -49,13 +50,13 @@ fn parameter_from(parameter_type: u16, value: &[u8]) -> Option<Parameter<'_>>
     ensures { option_map parameter_content result ≡ parameter_of parameter_type value.now }
 {
     match parameter_type {
-        7 => Some(Parameter::StateCookie { cookie: value }),
-        0x8008 => Some(Parameter::SupportedExtensions { chunk_types: value }),
-        0x8001 if value.len() < 4 => None,
-        0x8001 => Some(Parameter::ZeroChecksumAcceptable {
+        types::STATE_COOKIE => Some(Parameter::StateCookie { cookie: value }),
+        types::SUPPORTED_EXTENSIONS => Some(Parameter::SupportedExtensions { chunk_types: value }),
+        types::ZERO_CHECKSUM_ACCEPTABLE if value.len() < 4 => None,
+        types::ZERO_CHECKSUM_ACCEPTABLE => Some(Parameter::ZeroChecksumAcceptable {
             method: u32_at(value, 0),
         }),
-        0xc000 => Some(Parameter::ForwardTsnSupported),
+        types::FORWARD_TSN_SUPPORTED => Some(Parameter::ForwardTsnSupported),
         _ => Some(Parameter::Unknown {
             parameter_type,
             value,

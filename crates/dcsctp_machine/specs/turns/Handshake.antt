@@ -4,6 +4,7 @@ use Rattle.dcsctp_machine.specs.declared.association.Pair.{Pair}
 use Rattle.dcsctp_machine.specs.declared.association.Held.{Held}
 use Rattle.dcsctp_machine.specs.declared.word.Word.{Word}
 use Rattle.dcsctp_machine.specs.declared.word.Word.TheVariants.{U32}
+use Rattle.dcsctp_wire.specs.Numbers.{shutdown_ack_type}
 use Rattle.dcsctp_machine.specs.Offer.{Offer, offer_of, answering_offer, agreed_method}
 use Rattle.dcsctp_machine.specs.Cookie.{Cookie, cookie_bytes}
 use Rattle.dcsctp_machine.specs.Packet.{Introduction, Content, init_ack, other, Emission}
@@ -48,9 +49,9 @@ init_ack_emission e theirs mine tie =
 abbrev pub answers_init : Endpoint → Introduction → List Word → Pair → ℕ → Outcome
 answers_init e theirs words mine tie = emits e words (init_ack_emission e theirs mine tie)
 
--- SHUTDOWN ACK, type 8 (RFC 9260, section 3.3.9)
+-- SHUTDOWN ACK (RFC 9260, section 3.3.9)
 abbrev pub shutdown_ack : Content
-shutdown_ack = other 8 0 []
+shutdown_ack = other shutdown_ack_type 0 []
 
 -- a packet of one control chunk under the peer's tag
 abbrev pub to_peer : Held → Content → Emission
@@ -60,9 +61,13 @@ to_peer held content =
       packet = record { tag = held.peer.tag; contents = content ∷ [] };
     }
 
+-- how far a new first TSN is from those in use
+abbrev pub tsn_gap : ℕ
+tsn_gap = 1000000
+
 -- a fresh tag, and a first TSN far from those in use (RFC 9260, section 5.2.2)
 abbrev pub renewed_pair : Endpoint → ℕ → Pair
-renewed_pair e word = record { tag = tag_from word; first_tsn = (e.below.next_tsn + 1000000) % 2 ^ 32 }
+renewed_pair e word = record { tag = tag_from word; first_tsn = (e.below.next_tsn + tsn_gap) % 2 ^ 32 }
 
 -- where an association is open
 abbrev pub init_where_open : Endpoint → Introduction → OpenPhase → Held → ℕ → Outcome

@@ -8,9 +8,11 @@ ghost use Rattle.dcsctp_wire.specs.Content.{unknown_parameter, parameter_content
 ghost use Rattle.dcsctp_wire.specs.Format.{padding_of};
 ghost use Rattle.dcsctp_wire.specs.Spelling.{zeros, parameter_len, parameter_bytes, init_fields, init_bytes, chunk_bytes};
 
-use super::lengths::{init_len, padding};
+use super::lengths::init_len;
+use crate::bytes::padding_of;
 use crate::chunk::{Chunk, InitChunk};
 use crate::parameter::Parameter;
+use crate::types::{chunk_type, parameter_type as types};
 
 /// Adds the bytes. No memory is taken.
 pub(super) fn put(out: &mut Vec<u8>, bytes: &[u8])
@@ -30,7 +32,7 @@ fn put_padded(out: &mut Vec<u8>, head: [u8; 4], value: &[u8])
 {
     put(out, &head);
     put(out, value);
-    put(out, &[0, 0, 0][..padding(value.len())]);
+    put(out, &[0, 0, 0][..padding_of(value.len())]);
 }
 
 fn chunk_head(chunk_type: u8, flags: u8, len: u16) -> [u8; 4]
@@ -68,12 +70,16 @@ fn put_parameter(out: &mut Vec<u8>, parameter: &Parameter<'_>)
     ensures capacity { vec_capacity out.old ≤ vec_capacity out.new }
 {
     match parameter {
-        Parameter::StateCookie { cookie } => put_typed(out, 7, cookie),
-        Parameter::SupportedExtensions { chunk_types } => put_typed(out, 0x8008, chunk_types),
+        Parameter::StateCookie { cookie } => put_typed(out, types::STATE_COOKIE, cookie),
+        Parameter::SupportedExtensions { chunk_types } => put_typed(
+            out,
+            types::SUPPORTED_EXTENSIONS,
+            chunk_types,
+        ),
         Parameter::ZeroChecksumAcceptable { method } => {
-            put_typed(out, 0x8001, &method.to_be_bytes())
+            put_typed(out, types::ZERO_CHECKSUM_ACCEPTABLE, &method.to_be_bytes())
         }
-        Parameter::ForwardTsnSupported => put_typed(out, 0xc000, &[]),
+        Parameter::ForwardTsnSupported => put_typed(out, types::FORWARD_TSN_SUPPORTED, &[]),
         Parameter::Unknown {
             parameter_type,
             value,
@@ -131,8 +137,8 @@ pub(super) fn put_chunk(out: &mut Vec<u8>, chunk: &Chunk<'_>)
     ensures capacity { vec_capacity out.old ≤ vec_capacity out.new }
 {
     match chunk {
-        Chunk::Init(init) => put_init(out, 1, init),
-        Chunk::InitAck(init) => put_init(out, 2, init),
+        Chunk::Init(init) => put_init(out, chunk_type::INIT, init),
+        Chunk::InitAck(init) => put_init(out, chunk_type::INIT_ACK, init),
         Chunk::Other(other) => {
             let len = 4 + other.value.len();
             let head = chunk_head(other.chunk_type, other.flags, len as u16);

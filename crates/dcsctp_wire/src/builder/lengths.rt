@@ -6,20 +6,14 @@ ghost use Rattle.dcsctp_wire.specs.Content.{ParameterContent, InitContent, Chunk
 ghost use Rattle.dcsctp_wire.specs.Format.{padding_of};
 ghost use Rattle.dcsctp_wire.specs.Spelling.{parameter_value, parameter_len, parameter_bytes, parameters_len, init_bytes, other_bytes, chunk_bytes};
 
+use crate::bytes::padding_of;
 use crate::chunk::{Chunk, InitChunk};
 use crate::parameter::Parameter;
-
-/// How many zero bytes follow `len` bytes, to a multiple of 4.
-pub(super) fn padding(len: usize) -> usize
-    ensures { result ≡ padding_of len }
-{
-    (4 - len % 4) % 4
-}
 
 fn padded(len: usize) -> usize
     ensures { result ≡ min (len + padding_of len) usize.MAX }
 {
-    len.saturating_add(padding(len))
+    len.saturating_add(padding_of(len))
 }
 
 fn value_len(parameter: &Parameter<'_>) -> usize

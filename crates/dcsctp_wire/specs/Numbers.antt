@@ -1,0 +1,49 @@
+-- The numbers of chunks and parameters (RFC 9260, section 3.2).
+use Rattle.std.specs.Prelude.{ℕ}
+
+-- ---- chunk types
+
+-- RFC 9260, sections 3.3.2, 3.3.3, 3.3.9 and 3.3.11
+abbrev pub init_type : ℕ
+init_type = 1
+
+abbrev pub init_ack_type : ℕ
+init_ack_type = 2
+
+abbrev pub shutdown_ack_type : ℕ
+shutdown_ack_type = 8
+
+abbrev pub cookie_echo_type : ℕ
+cookie_echo_type = 10
+
+-- RFC 8260, sections 2.1 and 2.3.1
+abbrev pub i_data_type : ℕ
+i_data_type = 64
+
+abbrev pub i_forward_tsn_type : ℕ
+i_forward_tsn_type = 194
+
+-- RFC 6525, section 3.1
+abbrev pub re_config_type : ℕ
+re_config_type = 130
+
+-- RFC 3758, section 3.2
+abbrev pub forward_tsn_type : ℕ
+forward_tsn_type = 192
+
+-- ---- parameter types
+
+-- RFC 9260, section 3.3.3.1
+abbrev pub state_cookie_type : ℕ
+state_cookie_type = 7
+
+-- RFC 9653, section 4
+abbrev pub zero_checksum_acceptable_type : ℕ
+zero_checksum_acceptable_type = 0x8001
+
+abbrev pub supported_extensions_type : ℕ
+supported_extensions_type = 0x8008
+
+-- RFC 3758, section 3.1
+abbrev pub forward_tsn_supported_type : ℕ
+forward_tsn_supported_type = 0xc000
