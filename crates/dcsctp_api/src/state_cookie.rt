@@ -74,7 +74,8 @@ impl StateCookie {
     /// `Invalid verification tag in state cookie` where a tag is 0.
     #[tactic(auto, unfolding(dcsctp_machine::specs::Cookie::cookie_at))]
     pub fn from_bytes(bytes: &[u8]) -> Result<StateCookie, &'static str>
-        ensures { MatchResult result (λ cookie. cookie_at bytes.now ≡ Ok (cookie_of cookie)) (λ text. cookie_at bytes.now ≡ Err text.now) }
+        ensures { MatchResult result (λ cookie. cookie_at bytes.now ≡ Ok (cookie_of cookie))
+            (λ text. cookie_at bytes.now ≡ Err text.now) }
     {
         if bytes.len() != COOKIE_SIZE {
             return Err("Invalid state cookie size");

@@ -54,7 +54,9 @@ fn init_ack_parameters<'a>(
     method: u32,
     cookie: &'a [u8],
 ) -> Result<Vec<Parameter<'a>>, AllocError>
-    ensures { IfOk result (λ parameters. map parameter_content parameters.items ≡ offer_parameters (record (offer_of options.now) { zero_checksum_method = method }) ++ cookie_parameters (Some cookie.now)) }
+    ensures { IfOk result (λ parameters. map parameter_content parameters.items ≡ offer_parameters
+        (record (offer_of options.now) { zero_checksum_method = method }) ++ cookie_parameters
+        (Some cookie.now)) }
 {
     let mut parameters = Vec::with_capacity(alloc, 4)?;
     if options.enable_partial_reliability {
@@ -78,7 +80,8 @@ fn send_init_ack<R: Rng>(
     pair: Pair,
     tie_tag: u64,
 ) -> Result<(), AllocError>
-    ensures turn { OnOk result (AnswersInit R.stream context.old events.old (introduction_in (init_content init.now)) pair tie_tag context.new events.new) }
+    ensures turn { OnOk result (AnswersInit R.stream context.old events.old (introduction_in
+        (init_content init.now)) pair tie_tag context.new events.new) }
     ensures err { OnErr result (Extends events.old events.new) }
 {
     let peer_capabilities = Capabilities::from_parameters(
@@ -120,7 +123,8 @@ pub fn handle_init<R: Rng>(
     events: &mut Events,
     init: &InitChunk<'_>,
 ) -> Result<(), AllocError>
-    ensures turn { OnOk result (InitMoves R.stream (view_of state.old context.old events.old) (introduction_in (init_content init.now)) (view_of state.new context.new events.new)) }
+    ensures turn { OnOk result (InitMoves R.stream (view_of state.old context.old events.old)
+        (introduction_in (init_content init.now)) (view_of state.new context.new events.new)) }
     ensures err { OnErr result (Extends events.old events.new) }
 {
     match state {

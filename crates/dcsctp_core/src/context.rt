@@ -43,7 +43,8 @@ impl<R: Rng> Context<R> {
     /// With these options, no words drawn and nothing counted.
     pub fn new(alloc: Global, options: Options, generator: R) -> Context<R>
         requires { IsValid options }
-        ensures view { (state : State) (events : List SocketEvent) → view_of state result events ≡ fresh_view state options generator events }
+        ensures view { (state : State) (events : List SocketEvent) → view_of state result events
+            ≡ fresh_view state options generator events }
     {
         Context {
             alloc,
@@ -58,8 +59,10 @@ impl<R: Rng> Context<R> {
     /// Draws a word, and keeps it among those of the present call.
     pub fn draw_u32(&mut self) -> Result<u32, AllocError>
         ensures word { IfOk result (λ word. word ≡ (next_u32 (R.stream self.old.generator)).0) }
-        ensures kept { IfOk result (λ word. self.new.words.items ≡ self.old.words.items ++ U32 word ∷ []) }
-        ensures left { OnOk result (R.stream self.new.generator ≡ (next_u32 (R.stream self.old.generator)).1) }
+        ensures kept { IfOk result (λ word. self.new.words.items ≡ self.old.words.items ++ U32 word
+            ∷ []) }
+        ensures left { OnOk result (R.stream self.new.generator ≡ (next_u32
+            (R.stream self.old.generator)).1) }
         ensures endpoint { KeepsEndpoint self.old self.new }
     {
         let word = self.generator.next_u32();
@@ -76,7 +79,8 @@ impl<R: Rng> Context<R> {
         write_checksum: bool,
         chunk: &Chunk<'_>,
     ) -> Result<(), AllocError>
-        ensures turn { OnOk result ((state : State) → Emits R.stream state self.old events.old write_checksum tag (chunk_content chunk.now) self.new events.new) }
+        ensures turn { OnOk result ((state : State) → Emits R.stream state self.old events.old
+            write_checksum tag (chunk_content chunk.now) self.new events.new) }
         ensures err { OnErr result (Extends events.old events.new) }
     {
         let alloc = self.alloc;
@@ -100,7 +104,8 @@ impl<R: Rng> Context<R> {
 
     /// Begins a call: no words were drawn in it yet.
     pub fn begin_call(&mut self)
-        ensures view { (state : State) (events : List SocketEvent) → view_of state self.new events ≡ call_start (view_of state self.old events) }
+        ensures view { (state : State) (events : List SocketEvent) → view_of state self.new events
+            ≡ call_start (view_of state self.old events) }
     {
         self.words.clear();
     }
@@ -119,7 +124,8 @@ impl<R: Rng> Context<R> {
         kind: ErrorKind,
         text: String,
     ) -> Result<(), AllocError>
-        ensures turn { OnOk result (ReportsError R.stream self.old events.old kind (string_bytes text) self.new events.new) }
+        ensures turn { OnOk result (ReportsError R.stream self.old events.old kind
+            (string_bytes text) self.new events.new) }
         ensures err { OnErr result (Extends events.old events.new) }
     {
         events.add(SocketEvent::OnError(kind, text))?;

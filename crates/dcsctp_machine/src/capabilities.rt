@@ -63,7 +63,8 @@ impl Capabilities {
         nbr_inbound_streams: u16,
         parameters: &[Parameter<'_>],
     ) -> Capabilities
-        ensures { result ≡ capabilities_offered (offer_announced nbr_outbound_streams nbr_inbound_streams (map parameter_content parameters.now)) }
+        ensures { result ≡ capabilities_offered (offer_announced nbr_outbound_streams
+            nbr_inbound_streams (map parameter_content parameters.now)) }
     {
         let extensions = supported_extensions(parameters);
         let forward_tsn = has_forward_tsn_supported(parameters);

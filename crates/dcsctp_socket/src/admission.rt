@@ -35,7 +35,8 @@ pub(crate) enum Refusal {
 /// Decides by the header tag: 0 is for an INIT alone (RFC 9260, section 8.5.1), and any other packet
 /// bears the own tag (RFC 9260, section 8.5).
 pub(crate) fn admit(state: &State, packet: &SctpPacket<'_>) -> Admission
-    ensures { admission_of result ≡ admits (core_of state.now) (packet_in (packet_content packet.now)) }
+    ensures { admission_of result ≡ admits (core_of state.now) (packet_in
+        (packet_content packet.now)) }
 {
     let header = packet.common_header.verification_tag;
     if header == 0 {

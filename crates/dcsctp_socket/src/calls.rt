@@ -22,7 +22,8 @@ fn handle_chunk<R: Rng>(
     events: &mut Events,
     chunk: &Chunk<'_>,
 ) -> Result<(), AllocError>
-    ensures turn { OnOk result (ChunkMoves R.stream (content_in (chunk_content chunk.now)) (view_of state.old context.old events.old) (view_of state.new context.new events.new)) }
+    ensures turn { OnOk result (ChunkMoves R.stream (content_in (chunk_content chunk.now))
+        (view_of state.old context.old events.old) (view_of state.new context.new events.new)) }
     ensures err { OnErr result (Extends events.old events.new) }
 {
     match chunk {
@@ -40,7 +41,8 @@ fn handle_chunks<R: Rng>(
     events: &mut Events,
     packet: &SctpPacket<'_>,
 ) -> Result<(), AllocError>
-    ensures turns { OnOk result (ChunksMove R.stream (packet_content packet.now) (view_of state.old context.old events.old) (view_of state.new context.new events.new)) }
+    ensures turns { OnOk result (ChunksMove R.stream (packet_content packet.now)
+        (view_of state.old context.old events.old) (view_of state.new context.new events.new)) }
     ensures err { OnErr result (Extends events.old events.new) }
 {
     for chunk in &packet.chunks {
@@ -56,7 +58,8 @@ fn handle_packet<R: Rng>(
     events: &mut Events,
     packet: &SctpPacket<'_>,
 ) -> Result<(), AllocError>
-    ensures turns { OnOk result (PacketMoves R.stream (packet_content packet.now) (view_of state.old context.old events.old) (view_of state.new context.new events.new)) }
+    ensures turns { OnOk result (PacketMoves R.stream (packet_content packet.now)
+        (view_of state.old context.old events.old) (view_of state.new context.new events.new)) }
     ensures err { OnErr result (Extends events.old events.new) }
 {
     match admit(state, packet) {
@@ -77,7 +80,8 @@ pub(crate) fn handle_input<R: Rng>(
     events: &mut Events,
     packet: &[u8],
 ) -> Result<(), AllocError>
-    ensures turns { OnOk result (InputMoves R.stream packet.now (view_of state.old context.old events.old) (view_of state.new context.new events.new)) }
+    ensures turns { OnOk result (InputMoves R.stream packet.now
+        (view_of state.old context.old events.old) (view_of state.new context.new events.new)) }
     ensures err { OnErr result (Extends events.old events.new) }
 {
     context.begin_call();

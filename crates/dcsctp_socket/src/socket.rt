@@ -97,9 +97,11 @@ impl<R: Rng + Drop> DcSctpSocket for Socket<R> {
     }
 
     fn handle_input(&mut self, packet: &[u8]) -> Result<(), SocketFault>
-        ensures call { HandlesInput (user_view_of self.old) packet.now result (user_view_of self.new) }
+        ensures call { HandlesInput (user_view_of self.old) packet.now result
+            (user_view_of self.new) }
         // The words are what the generator gave, in order.
-        ensures drawn { OnOk result (Drawn (R.stream self.old.view.generator) self.new.view.words (R.stream self.new.view.generator)) }
+        ensures drawn { OnOk result (Drawn (R.stream self.old.view.generator) self.new.view.words
+            (R.stream self.new.view.generator)) }
         ensures failed { IsErrOf result SocketFault.Failed → self.new ≡ self.old }
     {
         if self.failed {

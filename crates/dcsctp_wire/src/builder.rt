@@ -61,7 +61,8 @@ impl Model for SctpPacketBuilder {
 #[tactic(auto, unfolding(crate::specs::Spelling::header_bytes))]
 #[rattlefmt::skip]
 fn header_without_checksum(header: CommonHeader) -> [u8; 12]
-    ensures { result ≡ header_bytes header.source_port header.destination_port header.verification_tag ++ zeros 4 }
+    ensures { result ≡ header_bytes header.source_port header.destination_port
+        header.verification_tag ++ zeros 4 }
 {
     let source = header.source_port.to_be_bytes();
     let destination = header.destination_port.to_be_bytes();
@@ -147,14 +148,18 @@ impl SctpPacketBuilder {
     /// Adds a chunk, for which there is room. `Chunk::serialized_size` says how much it needs.
     pub fn add(&mut self, chunk: &Chunk<'_>)
         requires { length (chunk_bytes (chunk_content chunk.now)) ≤ bytes_remaining self.old }
-        ensures { self.new ≡ record self.old { body = self.old.body ++ chunk_bytes (chunk_content chunk.now) } }
+        ensures { self.new ≡ record self.old {
+          body = self.old.body ++ chunk_bytes
+              (chunk_content chunk.now);
+        } }
     {
         put_chunk(&mut self.bytes, chunk);
     }
 
     /// The packet in bytes, never more than the builder's size.
     pub fn build(self) -> Vec<u8>
-        ensures bytes { result.items ≡ packet_bytes_of self.with_checksum (header_bytes self.source_port self.destination_port self.verification_tag) self.body }
+        ensures bytes { result.items ≡ packet_bytes_of self.with_checksum
+            (header_bytes self.source_port self.destination_port self.verification_tag) self.body }
         ensures len { vec_len result ≡ 12 + length self.body }
         ensures within { vec_len result ≤ self.size }
     {

@@ -43,7 +43,8 @@ fn chunk_from(
     flags: u8,
     value: &[u8],
 ) -> Result<Chunk<'_>, PacketError>
-    ensures found { IfOk result (λ chunk. IsChunkOf (chunk_content chunk) chunk_type flags value.now) }
+    ensures found { IfOk result (λ chunk. IsChunkOf (chunk_content chunk) chunk_type flags
+        value.now) }
     ensures malformed { IsErrOf result PacketError.Malformed
         → (chunk : ChunkContent) → IsChunkOf chunk chunk_type flags value.now → ⊥ }
 {
@@ -64,7 +65,8 @@ fn chunk_from(
 ///
 /// `Malformed` where no chunk stands there, and `OutOfMemory` where a list of parameters can't grow.
 fn read_chunk(alloc: Global, bytes: &[u8]) -> Result<(Chunk<'_>, &[u8]), PacketError>
-    ensures found { IfOk result (λ read. BeginsWithChunk (chunk_content read.0) read.1.now bytes.now) }
+    ensures found { IfOk result (λ read. BeginsWithChunk
+        (chunk_content read.0) read.1.now bytes.now) }
     ensures malformed { IsErrOf result PacketError.Malformed
         → (chunk : ChunkContent) (rest : List ℕ) → BeginsWithChunk chunk rest bytes.now → ⊥ }
     ensures shorter { IfOk result (λ read. length read.1.now < length bytes.now) }

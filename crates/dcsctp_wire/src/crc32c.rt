@@ -29,7 +29,8 @@ fn entry(byte: u8, zeros: usize) -> u32
 #[inline(always)]
 fn after_first_four(register: u32, bytes: &[u8], at: usize) -> u32
     requires { at + 4 ≤ length bytes.now }
-    ensures { result ≡ register_after register (slice_range bytes.now at (at + 4) ++ replicate 12 0) }
+    ensures { result ≡ register_after register (slice_range bytes.now at (at + 4)
+        ++ replicate 12 0) }
 {
     let read = u32::from_le_bytes([bytes[at], bytes[at + 1], bytes[at + 2], bytes[at + 3]]);
     let word = register ^ read;

@@ -26,8 +26,10 @@ pub(super) fn put(out: &mut Vec<u8>, bytes: &[u8])
 
 // A header of 4 bytes, a value and its padding.
 fn put_padded(out: &mut Vec<u8>, head: [u8; 4], value: &[u8])
-    requires { vec_len out.old + 4 + length value.now + padding_of (length value.now) ≤ vec_capacity out.old }
-    ensures items { out.new.items ≡ out.old.items ++ (head ++ value.now ++ zeros (padding_of (length value.now))) }
+    requires { vec_len out.old + 4 + length value.now + padding_of (length value.now)
+        ≤ vec_capacity out.old }
+    ensures items { out.new.items ≡ out.old.items ++ (head ++ value.now ++ zeros (padding_of
+        (length value.now))) }
     ensures capacity { vec_capacity out.old ≤ vec_capacity out.new }
 {
     put(out, &head);
@@ -54,8 +56,10 @@ fn parameter_head(parameter_type: u16, len: u16) -> [u8; 4]
 #[tactic(auto, unfolding(crate::specs::Spelling::parameter_bytes))]
 fn put_typed(out: &mut Vec<u8>, parameter_type: u16, value: &[u8])
     requires fits { 4 + length value.now < 2 ^ 16 }
-    requires room { vec_len out.old + length (parameter_bytes (unknown_parameter parameter_type value.now)) ≤ vec_capacity out.old }
-    ensures items { out.new.items ≡ out.old.items ++ parameter_bytes (unknown_parameter parameter_type value.now) }
+    requires room { vec_len out.old + length (parameter_bytes
+        (unknown_parameter parameter_type value.now)) ≤ vec_capacity out.old }
+    ensures items { out.new.items ≡ out.old.items ++ parameter_bytes
+        (unknown_parameter parameter_type value.now) }
     ensures capacity { vec_capacity out.old ≤ vec_capacity out.new }
 {
     let head = parameter_head(parameter_type, (4 + value.len()) as u16);
@@ -65,8 +69,10 @@ fn put_typed(out: &mut Vec<u8>, parameter_type: u16, value: &[u8])
 #[tactic(auto, unfolding(crate::specs::Spelling::parameter_bytes))]
 fn put_parameter(out: &mut Vec<u8>, parameter: &Parameter<'_>)
     requires fits { parameter_len (parameter_content parameter.now) < 2 ^ 16 }
-    requires room { vec_len out.old + length (parameter_bytes (parameter_content parameter.now)) ≤ vec_capacity out.old }
-    ensures items { out.new.items ≡ out.old.items ++ parameter_bytes (parameter_content parameter.now) }
+    requires room { vec_len out.old + length (parameter_bytes (parameter_content parameter.now))
+        ≤ vec_capacity out.old }
+    ensures items { out.new.items ≡ out.old.items ++ parameter_bytes
+        (parameter_content parameter.now) }
     ensures capacity { vec_capacity out.old ≤ vec_capacity out.new }
 {
     match parameter {
@@ -88,9 +94,12 @@ fn put_parameter(out: &mut Vec<u8>, parameter: &Parameter<'_>)
 }
 
 fn put_parameters(out: &mut Vec<u8>, init: &InitChunk<'_>)
-    requires fits { length (flat_map parameter_bytes (map parameter_content init.now.parameters.items)) < 2 ^ 16 }
-    requires room { vec_len out.old + length (flat_map parameter_bytes (map parameter_content init.now.parameters.items)) ≤ vec_capacity out.old }
-    ensures items { out.new.items ≡ out.old.items ++ flat_map parameter_bytes (map parameter_content init.now.parameters.items) }
+    requires fits { length (flat_map parameter_bytes (map parameter_content
+        init.now.parameters.items)) < 2 ^ 16 }
+    requires room { vec_len out.old + length (flat_map parameter_bytes
+        (map parameter_content init.now.parameters.items)) ≤ vec_capacity out.old }
+    ensures items { out.new.items ≡ out.old.items ++ flat_map parameter_bytes
+        (map parameter_content init.now.parameters.items) }
     ensures capacity { vec_capacity out.old ≤ vec_capacity out.new }
 {
     for parameter in &init.parameters {
@@ -119,7 +128,8 @@ fn fixed_part(init: &InitChunk<'_>) -> [u8; 16]
 // An INIT, type 1, or an INIT ACK, type 2.
 fn put_init(out: &mut Vec<u8>, chunk_type: u8, init: &InitChunk<'_>)
     requires fits { length (init_bytes chunk_type (init_content init.now)) < 2 ^ 16 }
-    requires room { vec_len out.old + length (init_bytes chunk_type (init_content init.now)) ≤ vec_capacity out.old }
+    requires room { vec_len out.old + length (init_bytes chunk_type (init_content init.now))
+        ≤ vec_capacity out.old }
     ensures items { out.new.items ≡ out.old.items ++ init_bytes chunk_type (init_content init.now) }
     ensures capacity { vec_capacity out.old ≤ vec_capacity out.new }
 {
@@ -132,7 +142,8 @@ fn put_init(out: &mut Vec<u8>, chunk_type: u8, init: &InitChunk<'_>)
 /// Adds the chunk with its padding. No memory is taken.
 pub(super) fn put_chunk(out: &mut Vec<u8>, chunk: &Chunk<'_>)
     requires fits { length (chunk_bytes (chunk_content chunk.now)) < 2 ^ 16 }
-    requires room { vec_len out.old + length (chunk_bytes (chunk_content chunk.now)) ≤ vec_capacity out.old }
+    requires room { vec_len out.old + length (chunk_bytes (chunk_content chunk.now))
+        ≤ vec_capacity out.old }
     ensures items { out.new.items ≡ out.old.items ++ chunk_bytes (chunk_content chunk.now) }
     ensures capacity { vec_capacity out.old ≤ vec_capacity out.new }
 {

@@ -31,7 +31,8 @@ fn value_len(parameter: &Parameter<'_>) -> usize
 /// The length field of an INIT or INIT ACK, which leaves out the padding of the last parameter, or
 /// `usize::MAX` where it is larger.
 pub(super) fn init_len(init: &InitChunk<'_>) -> usize
-    ensures { result ≡ min (20 + parameters_len (map parameter_content init.now.parameters.items)) usize.MAX }
+    ensures { result ≡ min (20 + parameters_len (map parameter_content init.now.parameters.items))
+        usize.MAX }
 {
     let mut len: usize = 0;
     for parameter in &init.parameters {
@@ -60,7 +61,10 @@ impl<'a> Chunk<'a> {
 pub fn sizes()
     // Each chunk ends at a multiple of 4.
     ensures multiple_of_4 { (chunk : ChunkContent) → length (chunk_bytes chunk) % 4 ≡ 0 }
-    ensures init { (chunk_type : ℕ) (init : InitContent) → length (init_bytes chunk_type init) ≡ 20 + sum_by (λ parameter. length (parameter_bytes parameter)) init.parameters }
-    ensures parameter { (parameter : ParameterContent) → length (parameter_bytes parameter) ≡ parameter_len parameter + padding_of (parameter_len parameter) }
-    ensures other { (chunk_type flags : ℕ) (value : List ℕ) → length (other_bytes chunk_type flags value) ≡ 4 + length value + padding_of (length value) }
+    ensures init { (chunk_type : ℕ) (init : InitContent) → length (init_bytes chunk_type init)
+        ≡ 20 + sum_by (λ parameter. length (parameter_bytes parameter)) init.parameters }
+    ensures parameter { (parameter : ParameterContent) → length (parameter_bytes parameter)
+        ≡ parameter_len parameter + padding_of (parameter_len parameter) }
+    ensures other { (chunk_type flags : ℕ) (value : List ℕ) → length
+        (other_bytes chunk_type flags value) ≡ 4 + length value + padding_of (length value) }
 {}

@@ -140,7 +140,8 @@ fn packet_of_two(
     first: &Chunk<'_>,
     second: &Chunk<'_>,
 ) -> Result<Vec<u8>, AllocError>
-    requires { length (chunk_bytes (chunk_content first.now)) + length (chunk_bytes (chunk_content second.now)) ≤ 1000 }
+    requires { length (chunk_bytes (chunk_content first.now)) + length (chunk_bytes
+        (chunk_content second.now)) ≤ 1000 }
     ensures { IfOk result (λ v. v.items ≡ packet_bytes true (record {
       source_port = 5000;
       destination_port = 5001;
