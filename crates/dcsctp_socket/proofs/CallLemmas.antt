@@ -8,8 +8,8 @@ use Rattle.dcsctp_machine.specs.Packet.{packet_in}
 use Rattle.dcsctp_machine.specs.Admission.{Admission, refused, admits}
 use Rattle.dcsctp_machine.specs.Endpoint.{Endpoint, Core}
 use Rattle.dcsctp_machine.specs.Outcome.{Outcome}
-use Rattle.dcsctp_machine.specs.Turn.{Turn, arrival, refusal, arrival_outcome, refusal_outcome, unreadable_text}
-use Rattle.dcsctp_machine.specs.CallTurns.{Turns, AdmittedTurns, HandleInput, unreadable, readable}
+use Rattle.dcsctp_machine.specs.Turn.{Turn, refusal, arrival_outcome, refusal_outcome, unreadable_text}
+use Rattle.dcsctp_machine.specs.CallTurns.{AdmittedTurns, HandleInput, unreadable, readable}
 use Rattle.dcsctp_core.specs.View.{View, call_start, Moves, MovesAll}
 use Rattle.dcsctp_wire.specs.declared.packet.WireOptions.{WireOptions}
 use Rattle.dcsctp_socket.specs.Parts.{PacketMoves, InputMoves}

@@ -1,4 +1,4 @@
-use Rattle.std.proofs.Common.{◌≡◌, ap, ◌∙◌, List, false}
+use Rattle.std.proofs.Common.{ap, ◌∙◌, List, false}
 use Rattle.dcsctp_core.specs.declared.state.State.TheVariants.{Closed}
 use Rattle.dcsctp_core.specs.View.{View, fresh_view}
 use Rattle.dcsctp_api.specs.declared.events.SocketEvent.{SocketEvent}
