@@ -1,10 +1,8 @@
 -- The laws of specs/Laws.
-use Rattle.std.proofs.Common.{◌≡◌, ◌≤◌, ◌<◌, ◌^◌, ◌+◌, ℕ, Bool, true, false, not, cond, eqb, leb, ◌&&◌, ◌||◌, List, [], ◌∷◌, length, refl, rules, sym, subst, ap, ◌∙◌, arith, Ok}
-use Rattle.std.specs.Prelude.{min}
-use Rattle.std.specs.Int.{w16, w32, w64, to_be_bytes, from_be_bytes}
+use Rattle.std.proofs.Common.{◌≡◌, ◌≤◌, ℕ, Bool, true, false, not, cond, eqb, ◌&&◌, ◌||◌, List, [], ◌∷◌, length, refl, rules, sym, subst, ap, ◌∙◌, arith, Ok}
 use Rattle.std.proofs.lemmas.Nat.{from_be_bytes-to_be_bytes_2, from_be_bytes-to_be_bytes_4, from_be_bytes-to_be_bytes_8}
 use Rattle.std.proofs.lemmas.Bool.Decides.{nat_tests}
-use Rattle.dcsctp_machine.specs.Offer.{Offer, negotiated, answering_offer, agreed_method}
+use Rattle.dcsctp_machine.specs.Offer.{negotiated}
 use Rattle.dcsctp_machine.specs.Cookie.{Cookie, flag_byte, has_zero_tag, cookie_bytes, cookie_at, cookie_fields, u64_at}
 use Rattle.dcsctp_wire.specs.Format.{u16_at, u32_at}
 use Rattle.dcsctp_machine.specs.declared.word.Word.{Word}
@@ -14,7 +12,7 @@ use Rattle.dcsctp_machine.specs.Outcome.{Outcome, next_chunk, count_up, fits, em
 use Rattle.dcsctp_machine.specs.Event.{sent}
 use Rattle.dcsctp_machine.specs.declared.word.Word.TheVariants.{U32}
 use Rattle.dcsctp_machine.specs.turns.Handshake.{init_outcome, init_ack_emission, pair_from, renewed_pair, to_peer, shutdown_ack}
-use Rattle.dcsctp_machine.specs.Laws.{IsMirrored, NegotiationIsMutual, AnswerKeepsAgreement, FitsPair, FitsCookie, CookieReadsBack, InitLeavesAssociation, ChangesCountsOnly, InitBringsOnePacket}
+use Rattle.dcsctp_machine.specs.Laws.{NegotiationIsMutual, AnswerKeepsAgreement, CookieReadsBack, InitLeavesAssociation, ChangesCountsOnly, InitBringsOnePacket}
 
 and_comm : (a b : Bool) → a && b ≡ b && a
 and_comm true true = refl

@@ -1,6 +1,5 @@
 -- What is announced is read again, and refused packets.
-use Rattle.std.proofs.Common.{◌≡◌, ℕ, Bool, true, false, cond, eqb, Option, Some, None, List, [], ◌∷◌, ◌++◌, refl, sym, subst, ap, ◌∙◌, arith}
-use Rattle.dcsctp_machine.specs.declared.options.Options.{Options}
+use Rattle.std.proofs.Common.{◌≡◌, ℕ, Bool, true, false, cond, eqb, Option, Some, None, List, [], ◌∷◌, ◌++◌, refl, subst, ap, ◌∙◌, arith}
 use Rattle.std.proofs.lemmas.Bool.Decides.{nat_tests}
 use Rattle.dcsctp_wire.specs.declared.packet.WireOptions.{WireOptions}
 use Rattle.dcsctp_wire.specs.Content.{ParameterContent, supported_extensions, zero_checksum_acceptable, forward_tsn_supported}
@@ -10,9 +9,9 @@ use Rattle.dcsctp_machine.specs.Packet.{cookie_parameters, packet_in}
 use Rattle.dcsctp_machine.specs.Settings.{wire_options}
 use Rattle.dcsctp_machine.specs.Endpoint.{Endpoint}
 use Rattle.dcsctp_machine.specs.Outcome.{Outcome}
-use Rattle.dcsctp_machine.specs.Turn.{arrival, refusal, arrival_outcome, refusal_outcome, unreadable_text}
-use Rattle.dcsctp_machine.specs.Admission.{Admission, all_chunks, refused, admits}
-use Rattle.dcsctp_machine.specs.CallTurns.{Turns, AdmittedTurns, HandleInput, unreadable, readable, after_all, words_of, events_of}
+use Rattle.dcsctp_machine.specs.Turn.{arrival, refusal, unreadable_text}
+use Rattle.dcsctp_machine.specs.Admission.{Admission, refused, admits}
+use Rattle.dcsctp_machine.specs.CallTurns.{Turns, AdmittedTurns, HandleInput, unreadable, readable, words_of, events_of}
 use Rattle.dcsctp_wire.specs.Content.{PacketContent}
 use Rattle.dcsctp_wire.specs.Format.{IsPacket}
 use Rattle.dcsctp_machine.specs.Laws.{OfferReadsBack, CapabilitiesHoldOffer, IsRefused, RefusedPacketAddsOneError}

@@ -1,9 +1,7 @@
 -- Outside examples, computed by the definitions: a wrong rule in specs/ would not check here.
-use Rattle.std.proofs.Common.{◌≡◌, ℕ, Bool, true, false, List, [], ◌∷◌, refl, Ok, Err, Result, length}
-use Rattle.std.specs.Prelude.{codes, replicate}
-use Rattle.dcsctp_machine.specs.Offer.{Offer, negotiated, offer_parameters, offer_announced}
-use Rattle.dcsctp_machine.specs.Cookie.{Cookie, cookie_bytes, cookie_at, size_text, magic_text, tag_text}
-use Rattle.dcsctp_machine.specs.Admission.{eight_hex_digits, wrong_tag_text}
+use Rattle.std.proofs.Common.{◌≡◌, ℕ, true, false, List, [], ◌∷◌, refl, Ok, Err}
+use Rattle.std.specs.Prelude.{replicate}
+use Rattle.dcsctp_machine.specs.Cookie.{Cookie, cookie_bytes, cookie_at, size_text, magic_text}
 
 -- a cookie whose fields all differ
 every_field : Cookie

@@ -1,5 +1,5 @@
 -- A call is a list of turns, each from where the one before it left the endpoint.
-use Rattle.std.specs.Prelude.{◌≡◌, ℕ, List, [], ◌∷◌, ◌++◌, map, ◌⊎◌}
+use Rattle.std.specs.Prelude.{◌≡◌, ℕ, List, [], ◌∷◌, ◌++◌}
 use Rattle.dcsctp_machine.specs.declared.word.Word.{Word}
 use Rattle.dcsctp_machine.specs.Settings.{wire_options}
 use Rattle.dcsctp_machine.specs.Event.{Event}

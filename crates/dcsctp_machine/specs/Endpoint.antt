@@ -1,5 +1,5 @@
 -- What a socket is between two turns (RFC 9260, sections 4 and 5).
-use Rattle.std.specs.Prelude.{ℕ, Bool, false, Option, None, Some, List, []}
+use Rattle.std.specs.Prelude.{ℕ, Bool, Option, None, Some, List, []}
 use Rattle.dcsctp_machine.specs.declared.association.Pair.{Pair}
 use Rattle.dcsctp_machine.specs.declared.association.Held.{Held}
 use Rattle.dcsctp_machine.specs.declared.association.Association.{Association}

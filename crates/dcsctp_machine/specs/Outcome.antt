@@ -1,13 +1,12 @@
 -- What one turn leaves: the words that it drew, the endpoint after it, and its events in order.
-use Rattle.std.specs.Prelude.{ℕ, Bool, ◌+◌, ◌-◌, ◌^◌, min, List, [], ◌∷◌, ◌++◌, length, nat_le, if◌then◌else◌}
+use Rattle.std.specs.Prelude.{ℕ, Bool, ◌+◌, ◌-◌, ◌^◌, min, List, [], ◌∷◌, length, nat_le, if◌then◌else◌}
 use Rattle.std.specs.List.{flat_map}
 use Rattle.dcsctp_machine.specs.declared.word.Word.{Word}
 use Rattle.dcsctp_machine.specs.declared.kinds.ErrorKind.{ErrorKind}
-use Rattle.dcsctp_machine.specs.declared.options.Options.{Options}
 use Rattle.dcsctp_machine.specs.Settings.{packet_size_limit}
 use Rattle.dcsctp_machine.specs.Event.{Event, sent, error}
-use Rattle.dcsctp_machine.specs.Packet.{Content, Packet, Emission, chunk_out}
-use Rattle.dcsctp_machine.specs.Endpoint.{Endpoint, Counts}
+use Rattle.dcsctp_machine.specs.Packet.{Content, Emission, chunk_out}
+use Rattle.dcsctp_machine.specs.Endpoint.{Endpoint}
 use Rattle.dcsctp_wire.specs.Spelling.{chunk_bytes}
 
 -- What follows a chunk in its packet.

@@ -1,5 +1,5 @@
 -- Which options a socket can be made with, and what they mean for packets.
-use Rattle.std.specs.Prelude.{◌≡◌, ◌≤◌, ◌<◌, ◌^◌, ◌-◌, ◌*◌, ◌%◌, ℕ, ℤ, pos, Bool, true, false, Option, Some, None}
+use Rattle.std.specs.Prelude.{◌≡◌, ◌≤◌, ◌<◌, ◌^◌, ◌-◌, ◌*◌, ◌%◌, ℕ, pos, true, false, Some, None}
 use Rattle.std.specs.Duration.{as_nanos}
 use Rattle.dcsctp_machine.specs.declared.options.Options.{Options}
 use Rattle.dcsctp_wire.specs.declared.packet.WireOptions.{WireOptions}

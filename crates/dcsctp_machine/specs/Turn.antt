@@ -1,5 +1,5 @@
 -- One step of an endpoint: an input, and what comes of it.
-use Rattle.std.specs.Prelude.{◌≡◌, ℕ, List, [], ◌∷◌, codes}
+use Rattle.std.specs.Prelude.{◌≡◌, ℕ, List, codes}
 use Rattle.dcsctp_machine.specs.declared.kinds.ErrorKind.TheVariants.{ParseFailed}
 use Rattle.dcsctp_machine.specs.Packet.{Content, init, init_ack, other}
 use Rattle.dcsctp_machine.specs.Endpoint.{Endpoint}

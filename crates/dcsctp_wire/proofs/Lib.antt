@@ -9,3 +9,4 @@ pub mod Lengths
 pub mod Packets
 pub mod Parameters
 pub mod Putting
+pub mod StandardFacts
