@@ -6,7 +6,7 @@ use Rattle.dcsctp_machine.specs.Event.{Event, event_map}
 use Rattle.dcsctp_machine.specs.Packet.{Emission, emission_bytes}
 use Rattle.dcsctp_machine.specs.Endpoint.{Endpoint, Core, closed, cookie_wait, cookie_echoed, open_in, OpenPhase, established, shutdown_pending, shutdown_sent, shutdown_received, shutdown_ack_sent}
 use Rattle.dcsctp_machine.specs.Outcome.{Outcome}
-use Rattle.dcsctp_machine.specs.CallTurns.{HandleInput, after_all, words_of, events_of}
+use Rattle.dcsctp_machine.specs.CallTurns.{HandleInput, CutInput, after_all, words_of, events_of}
 use Rattle.dcsctp_api.specs.declared.errors.SocketFault.{SocketFault}
 use Rattle.dcsctp_api.specs.declared.errors.SocketFault.TheVariants.{OutOfMemory, Failed}
 use Rattle.dcsctp_api.specs.declared.events.SocketEvent.{SocketEvent}
@@ -34,12 +34,21 @@ pub record Follows (old : UserView) (outcomes : List Outcome) (new : UserView) :
   pub events : new.events ≡ old.events ++ map (user_event (ports_of old.endpoint.options)) (events_of outcomes)
   pub words : new.words ≡ words_of outcomes
 
--- A growth was refused: events that were added before stay, in front, and the socket has failed.
-pub record RanOut (old new : UserView) : Type 0 where
+-- Events were added behind those that wait: the front part of what these turns add.
+pub record AddsFront (ports : Ports) (outcomes : List Outcome) (old new : List (Event (List ℕ))) : Type 0 where
+  pub added : List (Event (List ℕ))
+  pub rest : List (Event (List ℕ))
+  pub behind : new ≡ old ++ added
+  pub front : added ++ rest ≡ map (user_event ports) (events_of outcomes)
+
+-- A growth was refused, and the socket has failed. Events that were added before stay, in front, and
+-- the call added no others than its first turns do.
+pub record RanOut (old : UserView) (packet : List ℕ) (new : UserView) : Type 0 where
   pub runs : old.failed ≡ false
   pub fails : new.failed ≡ true
-  pub added : List (Event (List ℕ))
-  pub events : new.events ≡ old.events ++ added
+  pub outcomes : List Outcome
+  pub turns : CutInput old.endpoint packet outcomes
+  pub events : AddsFront (ports_of old.endpoint.options) outcomes old.events new.events
 
 -- The socket had failed, and nothing changes.
 pub record StaysFailed (old new : UserView) : Type 0 where
@@ -48,7 +57,7 @@ pub record StaysFailed (old new : UserView) : Type 0 where
 
 abbrev pub HandlesInput : UserView → List ℕ → Result (Unit {0}) SocketFault → UserView → Type 0
 HandlesInput old packet (Ok done) new = (outcomes : List Outcome) × HandleInput old.endpoint packet outcomes × Follows old outcomes new
-HandlesInput old packet (Err OutOfMemory) new = RanOut old new
+HandlesInput old packet (Err OutOfMemory) new = RanOut old packet new
 HandlesInput old packet (Err Failed) new = StaysFailed old new
 
 -- The event that was added first is taken, and nothing else changes.

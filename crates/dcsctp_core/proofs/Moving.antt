@@ -12,9 +12,7 @@ use Rattle.dcsctp_machine.specs.Outcome.{Outcome, still}
 use Rattle.dcsctp_machine.specs.CallTurns.{after_all, words_of, events_of}
 use Rattle.dcsctp_machine.proofs.TurnLemmas.{after_all-append, words_of-append, events_of-append}
 use Rattle.dcsctp_api.specs.Calls.{user_event}
-use Rattle.dcsctp_api.specs.Events.{event_content}
-use Rattle.dcsctp_api.specs.declared.events.SocketEvent.{SocketEvent}
-use Rattle.dcsctp_core.specs.View.{View, Drawn, Moves, MovesAll, Extends}
+use Rattle.dcsctp_core.specs.View.{View, Drawn, Moves, MovesAll}
 
 pub Drawn-append : (s t u : Stream) (xs ys : List Word) → Drawn s xs t → Drawn t ys u → Drawn s (xs ++ ys) u
 Drawn-append s t u [] ys a b = subst (λ (v : Stream). Drawn v ys u) a b
@@ -53,13 +51,3 @@ moves_then stream a b c xs ys same m n =
 
 pub moves_still : {R : Type 0} (stream : R → Stream) (v : View R) → Moves stream v (still v.endpoint) v
 moves_still stream v = record { endpoint = refl; events = sym (append-nil v.events); words = sym (append-nil v.words); drawn = refl }
-
-pub extends_none : (events : List SocketEvent) → Extends events events
-extends_none events = ([], sym (append-nil (map event_content events)))
-
-pub extends_then : (a b c : List SocketEvent) → Extends a b → Extends b c → Extends a c
-extends_then a b c e f = (e.0 ++ f.0, f.1 ∙ ap (λ (es : List (Event (List ℕ))). es ++ f.0) e.1 ∙ append_assoc (map event_content a) e.0 f.0)
-
--- a turn only adds events
-pub moves_extend : {R : Type 0} (stream : R → Stream) (a b : View R) (o : Outcome) → Moves stream a o b → (added : List (Event (List ℕ))) × (b.events ≡ a.events ++ added)
-moves_extend stream a b o m = (map (user_event (ports_of a.endpoint.options)) o.events, m.events)

@@ -101,10 +101,6 @@ call_start view = record view { words = [] }
 abbrev pub CallMoves : {R : Type 0} → (R → Stream) → View R → List Outcome → View R → Type 0
 CallMoves stream old outcomes new = MovesAll stream (call_start old) outcomes new
 
--- Events that were added before say what they said, in front.
-abbrev pub Extends : List SocketEvent → List SocketEvent → Type 0
-Extends old new = (added : List (Event (List ℕ))) × (map event_content new ≡ map event_content old ++ added)
-
 -- A packet of one chunk goes out, whatever the machine calls the chunk.
 abbrev pub Emits : {R : Type 0} → (R → Stream) → State → Context R → List SocketEvent → Bool → ℕ → ChunkContent → Context R → List SocketEvent → Type 0
 Emits stream state old old_events with_checksum tag chunk new new_events =

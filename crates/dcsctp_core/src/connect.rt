@@ -4,7 +4,7 @@ ghost use Rattle.std.specs.Prelude.{◌≡◌, ◌++◌, map, IfOk, OnOk, OnErr}
 ghost use Rattle.dcsctp_wire.specs.Content.{parameter_content, init_content};
 ghost use Rattle.dcsctp_machine.specs.Offer.{offer_of, offer_parameters, announced_extensions};
 ghost use Rattle.dcsctp_machine.specs.Packet.{introduction_in, cookie_parameters};
-ghost use Rattle.dcsctp_core.specs.View.{view_of, AnswersInit, InitMoves, Extends, DrawsPair};
+ghost use Rattle.dcsctp_core.specs.View.{view_of, AnswersInit, InitMoves, DrawsPair};
 
 use crate::context::Context;
 use crate::state::State;
@@ -82,7 +82,7 @@ fn send_init_ack<R: Rng>(
 ) -> Result<(), AllocError>
     ensures turn { OnOk result (AnswersInit R.stream context.old events.old (introduction_in
         (init_content init.now)) pair tie_tag context.new events.new) }
-    ensures err { OnErr result (Extends events.old events.new) }
+    ensures err { OnErr result (events.new ≡ events.old) }
 {
     let peer_capabilities = Capabilities::from_parameters(
         init.nbr_outbound_streams,
@@ -116,7 +116,7 @@ fn send_init_ack<R: Rng>(
 
 /// Works an INIT (RFC 9260, sections 5.1 and 5.2). State, pairs and capabilities stay.
 ///
-/// The one error is that a growth was refused; events that were added before stay.
+/// The one error is that a growth was refused; no event is added then.
 pub fn handle_init<R: Rng>(
     state: &mut State,
     context: &mut Context<R>,
@@ -125,7 +125,7 @@ pub fn handle_init<R: Rng>(
 ) -> Result<(), AllocError>
     ensures turn { OnOk result (InitMoves R.stream (view_of state.old context.old events.old)
         (introduction_in (init_content init.now)) (view_of state.new context.new events.new)) }
-    ensures err { OnErr result (Extends events.old events.new) }
+    ensures err { OnErr result (events.new ≡ events.old) }
 {
     match state {
         State::Closed => {

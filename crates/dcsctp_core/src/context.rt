@@ -37,7 +37,7 @@ impl<R: Rng> Context<R> {
     ghost use Rattle.dcsctp_machine.specs.declared.word.Word.TheVariants.{U32};
     ghost use Rattle.dcsctp_wire.specs.Content.{chunk_content};
     ghost use Rattle.dcsctp_core.specs.declared.state.State.{State};
-    ghost use Rattle.dcsctp_core.specs.View.{KeepsEndpoint, CountsPacket, ReportsError, Emits, Extends, view_of, fresh_view, call_start};
+    ghost use Rattle.dcsctp_core.specs.View.{KeepsEndpoint, CountsPacket, ReportsError, Emits, view_of, fresh_view, call_start};
     ghost use Rattle.dcsctp_api.specs.declared.events.SocketEvent.{SocketEvent};
 
     /// With these options, no words drawn and nothing counted.
@@ -81,7 +81,7 @@ impl<R: Rng> Context<R> {
     ) -> Result<(), AllocError>
         ensures turn { OnOk result ((state : State) → Emits R.stream state self.old events.old
             write_checksum tag (chunk_content chunk.now) self.new events.new) }
-        ensures err { OnErr result (Extends events.old events.new) }
+        ensures err { OnErr result (events.new ≡ events.old) }
     {
         let alloc = self.alloc;
         let options = &self.options;
@@ -126,7 +126,7 @@ impl<R: Rng> Context<R> {
     ) -> Result<(), AllocError>
         ensures turn { OnOk result (ReportsError R.stream self.old events.old kind
             (string_bytes text) self.new events.new) }
-        ensures err { OnErr result (Extends events.old events.new) }
+        ensures err { OnErr result (events.new ≡ events.old) }
     {
         events.add(SocketEvent::OnError(kind, text))?;
         Ok(())

@@ -1,5 +1,5 @@
 -- A call is a list of turns, each from where the one before it left the endpoint.
-use Rattle.std.specs.Prelude.{◌≡◌, ℕ, List, [], ◌∷◌, ◌++◌}
+use Rattle.std.specs.Prelude.{◌≡◌, ℕ, List, [], ◌∷◌, ◌++◌, take}
 use Rattle.dcsctp_machine.specs.declared.word.Word.{Word}
 use Rattle.dcsctp_machine.specs.Settings.{wire_options}
 use Rattle.dcsctp_machine.specs.Event.{Event}
@@ -63,3 +63,23 @@ pub data HandleInput (e : Endpoint) (bytes : List ℕ) : List Outcome → Type 0
       → Turn e arrival counted
       → AdmittedTurns counted.after (packet_in packet) (admits e.core (packet_in packet)) outcomes
       → HandleInput e bytes (counted ∷ outcomes)
+
+-- ---- handle_input where a growth is refused
+
+-- so many chunks of a packet had their turns, from the first on
+abbrev pub FirstTurns : Endpoint → ℕ → List Content → List Outcome → Type 0
+FirstTurns e tag contents outcomes = (count : ℕ) × ChunkTurns e tag (take count contents) outcomes
+
+-- the first turns after a packet was counted
+abbrev pub FirstAdmitted : Endpoint → Packet → Admission → List Outcome → Type 0
+FirstAdmitted e packet all_chunks outcomes = FirstTurns e packet.tag packet.contents outcomes
+FirstAdmitted e packet (refused text) outcomes = outcomes ≡ []
+
+-- The call was cut: before the packet was known to be one, or after some of its turns.
+pub data CutInput (e : Endpoint) (bytes : List ℕ) : List Outcome → Type 0 where
+  unread : CutInput e bytes []
+  read : (packet : PacketContent) (counted : Outcome) (outcomes : List Outcome)
+      → IsPacket (wire_options e.options) packet bytes
+      → Turn e arrival counted
+      → FirstAdmitted counted.after (packet_in packet) (admits e.core (packet_in packet)) outcomes
+      → CutInput e bytes (counted ∷ outcomes)

@@ -1,18 +1,21 @@
 -- The turns of a call from those of its parts.
-use Rattle.std.proofs.Common.{◌≡◌, ℕ, List, [], ◌∷◌, refl, sym, ap, subst, ◌∙◌}
+use Rattle.std.proofs.Common.{◌≡◌, ℕ, List, [], ◌∷◌, ◌++◌, map, refl, sym, ap, subst, ◌∙◌, Result, Ok, Err, OnErr}
+use Rattle.std.proofs.lemmas.List.{append-nil}
 use Rattle.rand_core.specs.Stream.{Stream}
 use Rattle.dcsctp_wire.specs.Content.{PacketContent}
 use Rattle.dcsctp_wire.specs.Format.{IsPacket}
-use Rattle.dcsctp_machine.specs.Settings.{wire_options}
+use Rattle.dcsctp_machine.specs.Settings.{Ports, ports_of, wire_options}
+use Rattle.dcsctp_machine.specs.Event.{Event}
 use Rattle.dcsctp_machine.specs.Packet.{packet_in}
 use Rattle.dcsctp_machine.specs.Admission.{Admission, refused, admits}
 use Rattle.dcsctp_machine.specs.Endpoint.{Endpoint, Core}
 use Rattle.dcsctp_machine.specs.Outcome.{Outcome}
 use Rattle.dcsctp_machine.specs.Turn.{Turn, refusal, arrival_outcome, refusal_outcome, unreadable_text}
-use Rattle.dcsctp_machine.specs.CallTurns.{AdmittedTurns, HandleInput, unreadable, readable}
+use Rattle.dcsctp_machine.specs.CallTurns.{AdmittedTurns, HandleInput, unreadable, readable, FirstAdmitted, CutInput, unread, read, events_of}
+use Rattle.dcsctp_api.specs.Calls.{AddsFront, user_event}
 use Rattle.dcsctp_core.specs.View.{View, call_start, Moves, MovesAll}
 use Rattle.dcsctp_wire.specs.declared.packet.WireOptions.{WireOptions}
-use Rattle.dcsctp_socket.specs.Parts.{PacketMoves, InputMoves}
+use Rattle.dcsctp_socket.specs.Parts.{PacketMoves, InputMoves, PacketCut, InputCut}
 use Rattle.dcsctp_core.proofs.Moving.{moves_one, moves_then}
 
 -- A packet that isn't admitted has one turn.
@@ -92,3 +95,65 @@ pub unreadable_input : {R : Type 0} (stream : R → Stream) (old a b c : View R)
 unreadable_input {R = R} stream old a b c bytes options text begins counted is none says moves =
     let here : (packet : PacketContent) → IsPacket (wire_options a.endpoint.options) packet bytes → ⊥ = λ packet found. none packet (subst (λ (o : WireOptions). IsPacket o packet bytes) (sym (options_of stream a b options counted is)) found) in
     called_input stream bytes old c (subst (λ (v : View R). Called stream bytes v c) begins (unreadable_call stream a b c bytes here counted (subst (λ (t : List ℕ). Moves stream b (refusal_outcome b.endpoint t) c) says moves)))
+
+-- ---- where a growth was refused
+
+pub on_err : {A E P : Type 0} (result : Result A E) → P → OnErr result P
+on_err (Ok value) p = tt
+on_err (Err error) p = p
+
+-- no turn was finished
+adds_none : (ports : Ports) (events : List (Event (List ℕ))) → AddsFront ports [] events events
+adds_none ports events = record { added = []; rest = []; behind = sym (append-nil events); front = refl }
+
+-- The turns so far were finished, and the one after them added nothing.
+pub adds_whole : {R : Type 0} (stream : R → Stream) (a b : View R) (outcomes : List Outcome) (events : List (Event (List ℕ)))
+    → MovesAll stream a outcomes b → events ≡ b.events → AddsFront (ports_of a.endpoint.options) outcomes a.events events
+adds_whole stream a b outcomes events moves same =
+    record {
+      added = map (user_event (ports_of a.endpoint.options)) (events_of outcomes);
+      rest = [];
+      behind = same ∙ moves.events;
+      front = append-nil (map (user_event (ports_of a.endpoint.options)) (events_of outcomes));
+    }
+
+pub unread_cut : {R : Type 0} (view : View R) (bytes : List ℕ) → InputCut bytes view view.events
+unread_cut view bytes = record { outcomes = []; turns = unread; adds = adds_none (ports_of view.endpoint.options) view.events }
+
+-- a call that was cut, with the turns that it had
+abbrev Cut : {R : Type 0} → List ℕ → View R → List (Event (List ℕ)) → Type 0
+Cut bytes view events =
+    (outcomes : List Outcome) × CutInput view.endpoint bytes outcomes × AddsFront (ports_of view.endpoint.options) outcomes view.events events
+
+input_cut : {R : Type 0} (bytes : List ℕ) (old : View R) (events : List (Event (List ℕ))) → Cut bytes (call_start old) events → InputCut bytes old events
+input_cut bytes old events cut = record { outcomes = cut.0; turns = cut.1; adds = cut.2 }
+
+-- the packet was counted before, which adds no event
+counted_cut : {R : Type 0} (stream : R → Stream) (a b : View R) (bytes : List ℕ) (packet : PacketContent) (events : List (Event (List ℕ)))
+    → IsPacket (wire_options a.endpoint.options) packet bytes → Moves stream a (arrival_outcome a.endpoint) b
+    → b.endpoint.core ≡ a.endpoint.core → PacketCut packet b events → Cut bytes a events
+counted_cut stream a b bytes packet events found counted same cut =
+    let here : FirstAdmitted b.endpoint (packet_in packet) (admits a.endpoint.core (packet_in packet)) cut.outcomes =
+    subst (λ (core : Core). FirstAdmitted b.endpoint (packet_in packet) (admits core (packet_in packet)) cut.outcomes) same cut.turns in
+    let ports : ports_of b.endpoint.options ≡ ports_of a.endpoint.options = ap (λ (e : Endpoint). ports_of e.options) counted.endpoint in
+    let waiting : b.events ≡ a.events = counted.events ∙ append-nil a.events in (
+      arrival_outcome a.endpoint ∷ cut.outcomes,
+      read packet (arrival_outcome a.endpoint) cut.outcomes found refl
+          (subst (λ (e : Endpoint). FirstAdmitted e (packet_in packet) (admits a.endpoint.core (packet_in packet)) cut.outcomes) counted.endpoint here),
+      record {
+        added = cut.adds.added;
+        rest = cut.adds.rest;
+        behind = cut.adds.behind ∙ ap (λ (es : List (Event (List ℕ))). es ++ cut.adds.added) waiting;
+        front = cut.adds.front ∙ ap (λ (p : Ports). map (user_event p) (events_of cut.outcomes)) ports;
+      },
+    )
+
+pub packet_cut : {R : Type 0} (stream : R → Stream) (old a b : View R) (bytes : List ℕ) (packet : PacketContent) (options : WireOptions) (events : List (Event (List ℕ)))
+    → a ≡ call_start old → Moves stream a (arrival_outcome a.endpoint) b → options ≡ wire_options b.endpoint.options
+    → IsPacket options packet bytes
+    → b.endpoint.core ≡ a.endpoint.core
+    → PacketCut packet b events
+    → InputCut bytes old events
+packet_cut {R = R} stream old a b bytes packet options events begins counted is found same cut =
+    let here : IsPacket (wire_options a.endpoint.options) packet bytes = subst (λ (o : WireOptions). IsPacket o packet bytes) (options_of stream a b options counted is) found in
+    input_cut bytes old events (subst (λ (v : View R). Cut bytes v events) begins (counted_cut stream a b bytes packet events here counted same cut))

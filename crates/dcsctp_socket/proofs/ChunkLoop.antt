@@ -1,6 +1,6 @@
 -- One more chunk of a packet is worked.
 use Rattle.std.proofs.Common.{◌≡◌, ℕ, ◌+◌, ◌<◌, List, [], ◌∷◌, ◌++◌, length, map, take, get_or, sym, ap, subst, ◌∙◌}
-use Rattle.std.proofs.lemmas.List.{take_more, map-append}
+use Rattle.std.proofs.lemmas.List.{take_more, take-map, map-append}
 use Rattle.dcsctp_wire.specs.declared.chunk.Chunk.{Chunk}
 use Rattle.dcsctp_wire.specs.Content.{ChunkContent, chunk_content}
 use Rattle.dcsctp_machine.specs.Packet.{Content, content_in}
@@ -33,3 +33,7 @@ turns_more e now tag chunks i chunk outcomes outcome below is goes_on turns here
     subst (λ (contents : List Content). ChunkTurns e tag contents (outcomes ++ outcome ∷ [])) (sym (contents_more chunks i chunk below is))
     (chunk_turns-push e tag (contents_of (take i chunks)) outcomes (content_in (chunk_content chunk)) outcome goes_on turns
     (subst (λ (x : Endpoint). ContentTurn x tag (content_in (chunk_content chunk)) outcome) here turn))
+
+pub contents_taken : (count : ℕ) (chunks : List Chunk) → contents_of (take count chunks) ≡ take count (contents_of chunks)
+contents_taken count chunks =
+    ap (λ (cs : List ChunkContent). map content_in cs) (sym (take-map chunk_content count chunks)) ∙ sym (take-map content_in count (map chunk_content chunks))

@@ -5,8 +5,11 @@ use Rattle.dcsctp_wire.specs.Content.{PacketContent}
 use Rattle.dcsctp_machine.specs.Admission.{admits}
 use Rattle.dcsctp_machine.specs.Packet.{Content, packet_in}
 use Rattle.dcsctp_machine.specs.Outcome.{Outcome, next_chunk}
+use Rattle.dcsctp_machine.specs.Settings.{ports_of}
+use Rattle.dcsctp_machine.specs.Event.{Event}
 use Rattle.dcsctp_machine.specs.Turn.{ContentTurn}
-use Rattle.dcsctp_machine.specs.CallTurns.{ChunkTurns, AdmittedTurns, HandleInput}
+use Rattle.dcsctp_machine.specs.CallTurns.{ChunkTurns, AdmittedTurns, HandleInput, FirstTurns, FirstAdmitted, CutInput}
+use Rattle.dcsctp_api.specs.Calls.{AddsFront}
 use Rattle.dcsctp_core.specs.View.{View, Moves, MovesAll, CallMoves}
 
 -- A chunk had its turn, after which the next has its own.
@@ -33,3 +36,23 @@ pub record InputMoves {R : Type 0} (stream : R → Stream) (bytes : List ℕ) (o
   pub outcomes : List Outcome
   pub turns : HandleInput old.endpoint bytes outcomes
   pub moves : CallMoves stream old outcomes new
+
+-- ---- where a growth was refused
+
+-- Some chunks of a packet had their turns.
+pub record ChunksCut {R : Type 0} (packet : PacketContent) (old : View R) (events : List (Event (List ℕ))) : Type 0 where
+  pub outcomes : List Outcome
+  pub turns : FirstTurns old.endpoint (packet_in packet).tag (packet_in packet).contents outcomes
+  pub adds : AddsFront (ports_of old.endpoint.options) outcomes old.events events
+
+-- A packet that was counted had some of its turns.
+pub record PacketCut {R : Type 0} (packet : PacketContent) (old : View R) (events : List (Event (List ℕ))) : Type 0 where
+  pub outcomes : List Outcome
+  pub turns : FirstAdmitted old.endpoint (packet_in packet) (admits old.endpoint.core (packet_in packet)) outcomes
+  pub adds : AddsFront (ports_of old.endpoint.options) outcomes old.events events
+
+-- A packet was handed in, and the call was cut.
+pub record InputCut {R : Type 0} (bytes : List ℕ) (old : View R) (events : List (Event (List ℕ))) : Type 0 where
+  pub outcomes : List Outcome
+  pub turns : CutInput old.endpoint bytes outcomes
+  pub adds : AddsFront (ports_of old.endpoint.options) outcomes old.events events

@@ -1,11 +1,12 @@
 //! The calls of a socket, over its parts: each is a list of turns.
 
-ghost use Rattle.std.specs.Prelude.{◌≡◌, OnOk, OnErr};
+ghost use Rattle.std.specs.Prelude.{◌≡◌, OnOk, OnErr, map};
 ghost use Rattle.dcsctp_wire.specs.Content.{chunk_content, packet_content};
 ghost use Rattle.dcsctp_machine.specs.Packet.{content_in};
 ghost use Rattle.dcsctp_machine.specs.Settings.{wire_options};
-ghost use Rattle.dcsctp_core.specs.View.{view_of, Extends};
-ghost use Rattle.dcsctp_socket.specs.Parts.{ChunkMoves, ChunksMove, PacketMoves, InputMoves};
+ghost use Rattle.dcsctp_api.specs.Events.{event_content};
+ghost use Rattle.dcsctp_core.specs.View.{view_of};
+ghost use Rattle.dcsctp_socket.specs.Parts.{ChunkMoves, ChunksMove, PacketMoves, InputMoves, ChunksCut, PacketCut, InputCut};
 
 use crate::admission::{Admission, admit};
 use crate::texts::UNREADABLE;
@@ -24,7 +25,7 @@ fn handle_chunk<R: Rng>(
 ) -> Result<(), AllocError>
     ensures turn { OnOk result (ChunkMoves R.stream (content_in (chunk_content chunk.now))
         (view_of state.old context.old events.old) (view_of state.new context.new events.new)) }
-    ensures err { OnErr result (Extends events.old events.new) }
+    ensures err { OnErr result (events.new ≡ events.old) }
 {
     match chunk {
         Chunk::Init(init) => handle_init(state, context, events, init)?,
@@ -43,7 +44,8 @@ fn handle_chunks<R: Rng>(
 ) -> Result<(), AllocError>
     ensures turns { OnOk result (ChunksMove R.stream (packet_content packet.now)
         (view_of state.old context.old events.old) (view_of state.new context.new events.new)) }
-    ensures err { OnErr result (Extends events.old events.new) }
+    ensures err { OnErr result (ChunksCut (packet_content packet.now)
+        (view_of state.old context.old events.old) (map event_content events.new)) }
 {
     for chunk in &packet.chunks {
         handle_chunk(state, context, events, chunk)?;
@@ -60,7 +62,8 @@ fn handle_packet<R: Rng>(
 ) -> Result<(), AllocError>
     ensures turns { OnOk result (PacketMoves R.stream (packet_content packet.now)
         (view_of state.old context.old events.old) (view_of state.new context.new events.new)) }
-    ensures err { OnErr result (Extends events.old events.new) }
+    ensures err { OnErr result (PacketCut (packet_content packet.now)
+        (view_of state.old context.old events.old) (map event_content events.new)) }
 {
     match admit(state, packet) {
         Admission::AllChunks => handle_chunks(state, context, events, packet)?,
@@ -82,7 +85,8 @@ pub(crate) fn handle_input<R: Rng>(
 ) -> Result<(), AllocError>
     ensures turns { OnOk result (InputMoves R.stream packet.now
         (view_of state.old context.old events.old) (view_of state.new context.new events.new)) }
-    ensures err { OnErr result (Extends events.old events.new) }
+    ensures err { OnErr result (InputCut packet.now (view_of state.old context.old events.old)
+        (map event_content events.new)) }
 {
     context.begin_call();
     context.count_packet();
