@@ -15,6 +15,11 @@ cookie_of cookie =
       tie = cookie.tie_tag;
     }
 
--- A cookie that was written is read again.
+-- A cookie that was written is read, and what is read is it.
+pub record ReadsBack (written : StateCookie) : Type 0 where
+  pub is_read : cookie_at (cookie_bytes (cookie_of written)) ≡ Ok (cookie_of written)
+  pub same : (read : StateCookie) → cookie_at (cookie_bytes (cookie_of written)) ≡ Ok (cookie_of read) → read ≡ written
+
+-- Each number fits its field, and no tag is 0.
 abbrev pub StateCookieReadsBack : Type 0
-StateCookieReadsBack = (written read : StateCookie) → FitsCookie (cookie_of written) → cookie_at (cookie_bytes (cookie_of written)) ≡ Ok (cookie_of read) → read ≡ written
+StateCookieReadsBack = (written : StateCookie) → FitsCookie (cookie_of written) → ReadsBack written

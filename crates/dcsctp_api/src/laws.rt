@@ -78,8 +78,8 @@ pub fn send_options_default()
         } }
 {}
 
-/// What `StateCookie::serialize` wrote, `StateCookie::from_bytes` reads again (RFC 9260, section 5.1.3),
-/// where no tag is 0.
+/// What `StateCookie::serialize` wrote, `StateCookie::from_bytes` reads, and as the same cookie (RFC 9260,
+/// section 5.1.3), where no tag is 0.
 pub fn state_cookie_reads_back()
     ensures { StateCookieReadsBack }
 {

@@ -56,7 +56,8 @@ impl<R: Rng> Context<R> {
         }
     }
 
-    /// Draws a word, and keeps it among those of the present call.
+    /// Draws a word, and keeps it among those of the present call. The one error is want of memory: the
+    /// list of these words can't grow.
     pub fn draw_u32(&mut self) -> Result<u32, AllocError>
         ensures word { IfOk result (λ word. word ≡ (next_u32 (R.stream self.old.generator)).0) }
         ensures kept { IfOk result (λ word. self.new.words.items ≡ self.old.words.items ++ U32 word
@@ -72,6 +73,9 @@ impl<R: Rng> Context<R> {
 
     /// Emits a packet of one chunk, and counts it (up to the greatest number). Where it doesn't fit
     /// `mtu`, nothing is emitted or counted.
+    ///
+    /// The one error is want of memory: for the packet, also where the chunk doesn't fit, or for its
+    /// place among the events. Nothing is emitted or counted then.
     pub fn emit(
         &mut self,
         events: &mut Events,

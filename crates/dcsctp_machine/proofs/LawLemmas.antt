@@ -12,7 +12,7 @@ use Rattle.dcsctp_machine.specs.Outcome.{Outcome, next_chunk, count_up, fits, em
 use Rattle.dcsctp_machine.specs.Event.{sent}
 use Rattle.dcsctp_machine.specs.declared.word.Word.TheVariants.{U32}
 use Rattle.dcsctp_machine.specs.turns.Handshake.{init_outcome, init_ack_emission, pair_from, renewed_pair, to_peer, shutdown_ack}
-use Rattle.dcsctp_machine.specs.Laws.{NegotiationIsMutual, AnswerKeepsAgreement, CookieReadsBack, InitLeavesAssociation, ChangesCountsOnly, InitBringsOnePacket}
+use Rattle.dcsctp_machine.specs.Laws.{NegotiationIsMutual, AnswerKeepsAgreement, CookieReadsBack, InitLeavesAssociation, CountsSentOnly, AtMostOnePacket, no_packet, one_packet, InitBringsOnePacket}
 
 and_comm : (a b : Bool) → a && b ≡ b && a
 and_comm true true = refl
@@ -106,7 +106,7 @@ init_leaves_association e theirs o turn = ap (λ (x : Outcome). x.after.core) tu
 
 -- what an INIT may do
 abbrev IsSmall : Endpoint → Outcome → Type 0
-IsSmall e o = ChangesCountsOnly e o.after × (length o.events ≤ 1)
+IsSmall e o = CountsSentOnly e o.after × AtMostOnePacket o.events
 
 small_where : (b : Bool) (e : Endpoint) (words : List Word) (emission : Emission) → IsSmall e (cond b (record {
   words = words;
@@ -114,8 +114,8 @@ small_where : (b : Bool) (e : Endpoint) (words : List Word) (emission : Emission
   events = sent emission ∷ [];
   following = next_chunk;
 }) (record { words = words; after = e; events = []; following = next_chunk }))
-small_where true e words emission = (refl, omega arith)
-small_where false e words emission = (refl, omega arith)
+small_where true e words emission = (refl, one_packet emission)
+small_where false e words emission = (refl, no_packet)
 
 emits_small : (e : Endpoint) (words : List Word) (emission : Emission) → IsSmall e (emits e words emission)
 emits_small e words emission = small_where (fits e emission) e words emission

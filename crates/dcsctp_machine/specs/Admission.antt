@@ -7,7 +7,8 @@ use Rattle.dcsctp_machine.specs.Packet.{Content, init, init_ack, other, Packet}
 pub data Admission : Type 0 where
   -- all chunks are worked
   all_chunks : Admission
-  -- none is, and this is the text of the error
+  -- None is, and this is the text of the error. Unlike RFC 9260, section 8.4, no ABORT answers
+  -- (docs/DIFFERENCES.md).
   refused : List ℕ → Admission
 
 abbrev pub is_init : Content → Bool
@@ -15,7 +16,7 @@ is_init (init introduction) = true
 is_init (init_ack introduction cookie) = false
 is_init (other type flags value) = false
 
--- is it one chunk, an INIT?
+-- is it one chunk, an INIT (RFC 9260, section 8.5.1)?
 abbrev pub is_single_init : List Content → Bool
 is_single_init [] = false
 is_single_init (content ∷ []) = is_init content
@@ -31,8 +32,8 @@ single_init_text = codes "Only a single INIT chunk can be present in packets sen
 abbrev pub wrong_tag_text : ℕ → ℕ → List ℕ
 wrong_tag_text header expected = codes "Packet has invalid verification tag: " ++ eight_hex_digits header ++ codes ", expected " ++ eight_hex_digits expected
 
--- The first line that applies decides. Tag 0 is for an INIT that stands alone; any other packet bears
--- the own tag.
+-- The first line that applies decides. Tag 0 is for an INIT that stands alone (RFC 9260, section 8.5.1);
+-- any other packet bears the own tag (RFC 9260, section 8.5).
 abbrev pub admits : Core → Packet → Admission
 admits core packet =
     if packet.tag == 0 then (if is_single_init packet.contents then all_chunks else refused single_init_text)

@@ -7,13 +7,13 @@ use Rattle.dcsctp_machine.specs.declared.options.Options.{Options}
 use Rattle.dcsctp_machine.specs.Settings.{wire_options}
 use Rattle.dcsctp_machine.specs.Admission.{refused, admits}
 use Rattle.dcsctp_machine.specs.CallTurns.{HandleInput, after_all, words_of, events_of}
-use Rattle.dcsctp_machine.specs.Event.{error}
+use Rattle.dcsctp_machine.specs.Event.{Event, sent, error}
 use Rattle.dcsctp_machine.specs.Turn.{unreadable_text}
 use Rattle.dcsctp_wire.specs.Content.{PacketContent}
 use Rattle.dcsctp_wire.specs.Format.{IsPacket}
 use Rattle.dcsctp_machine.specs.Offer.{Offer, offer_of, offer_in, offer_parameters, offer_announced, capabilities_offered, negotiated, answering_offer}
 use Rattle.dcsctp_machine.specs.Cookie.{Cookie, cookie_bytes, cookie_at}
-use Rattle.dcsctp_machine.specs.Packet.{Introduction, cookie_parameters, packet_in}
+use Rattle.dcsctp_machine.specs.Packet.{Introduction, Emission, cookie_parameters, packet_in}
 use Rattle.dcsctp_machine.specs.Endpoint.{Endpoint}
 use Rattle.dcsctp_machine.specs.Outcome.{Outcome, count_up}
 use Rattle.dcsctp_machine.specs.turns.Handshake.{InitTurn}
@@ -56,14 +56,19 @@ CookieReadsBack = (cookie : Cookie) → FitsCookie cookie → cookie_at (cookie_
 abbrev pub InitLeavesAssociation : Type 0
 InitLeavesAssociation = (e : Endpoint) (theirs : Introduction) (o : Outcome) → InitTurn e theirs o → o.after.core ≡ e.core
 
--- Nothing but the counts differs.
-abbrev pub ChangesCountsOnly : Endpoint → Endpoint → Type 0
-ChangesCountsOnly old new = new ≡ record old { counts = new.counts }
+-- Nothing but the count of packets sent differs.
+abbrev pub CountsSentOnly : Endpoint → Endpoint → Type 0
+CountsSentOnly old new = new ≡ record old { counts = record old.counts { packets_sent = new.counts.packets_sent } }
 
--- An INIT brings at most one event, its packet, and moves nothing but the count of packets, in every
+-- no event, or a packet
+pub data AtMostOnePacket : List (Event Emission) → Type 0 where
+  no_packet : AtMostOnePacket []
+  one_packet : (emission : Emission) → AtMostOnePacket (sent emission ∷ [])
+
+-- An INIT brings at most one event, a packet, and moves nothing but the count of packets sent, in every
 -- phase (RFC 9260, sections 5.1 and 5.2).
 abbrev pub InitBringsOnePacket : Type 0
-InitBringsOnePacket = (e : Endpoint) (theirs : Introduction) (o : Outcome) → InitTurn e theirs o → ChangesCountsOnly e o.after × (length o.events ≤ 1)
+InitBringsOnePacket = (e : Endpoint) (theirs : Introduction) (o : Outcome) → InitTurn e theirs o → CountsSentOnly e o.after × AtMostOnePacket o.events
 
 -- What a socket announces in an INIT or INIT ACK is read from it again, with a cookie behind it or none.
 abbrev pub OfferReadsBack : Type 0

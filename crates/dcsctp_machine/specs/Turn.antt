@@ -24,7 +24,8 @@ arrival_outcome e = still (record e { counts = record e.counts { packets_receive
 abbrev pub refusal_outcome : Endpoint → List ℕ → Outcome
 refusal_outcome e text = reports e ParseFailed text
 
--- An INIT is answered; an INIT ACK and chunks of other kinds change nothing.
+-- An INIT is answered. An INIT ACK and chunks of other kinds change nothing: a closed socket admits none
+-- of them, and no code leads to another phase.
 abbrev pub ContentTurn : Endpoint → ℕ → Content → Outcome → Type 0
 ContentTurn e tag (init theirs) o = InitTurn e theirs o
 ContentTurn e tag (init_ack theirs cookie) o = o ≡ still e

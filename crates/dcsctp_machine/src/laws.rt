@@ -26,7 +26,7 @@ pub fn init_leaves_association()
     ensures { InitLeavesAssociation }
 {}
 
-/// An INIT brings at most one event, its packet, and moves nothing but the count of packets, in every
+/// An INIT brings at most one event, a packet, and moves nothing but the count of packets sent, in every
 /// phase (RFC 9260, sections 5.1 and 5.2).
 pub fn init_brings_one_packet()
     ensures { InitBringsOnePacket }

@@ -5,50 +5,69 @@ use dcsctp_wire::Parameter;
 use std::time::Duration;
 
 #[test]
-fn defaults_are_those_of_the_documentation(rt: HostRuntime) {
+fn default_ports_and_streams(rt: HostRuntime) {
     let options = Options::default();
-    let numbers = [
-        ("local_port", options.local_port as u64, 5000),
-        ("remote_port", options.remote_port as u64, 5000),
+    let rows = [
+        ("local_port", options.local_port, 5000),
+        ("remote_port", options.remote_port, 5000),
         (
             "incoming",
-            options.announced_maximum_incoming_streams as u64,
+            options.announced_maximum_incoming_streams,
             65535,
         ),
         (
             "outgoing",
-            options.announced_maximum_outgoing_streams as u64,
+            options.announced_maximum_outgoing_streams,
             65535,
         ),
-        ("mtu", options.mtu as u64, 1191),
-        ("max_message_size", options.max_message_size as u64, 262_144),
+        ("priority", options.default_stream_priority, 256),
+    ];
+    for (name, value, expected) in rows {
+        assert_eq!(rt; value, expected, "{name}");
+    }
+}
+
+#[test]
+fn default_sizes_and_windows(rt: HostRuntime) {
+    let options = Options::default();
+    let rows = [
+        ("mtu", options.mtu, 1191),
+        ("max_message_size", options.max_message_size, 262_144),
         (
             "receive window",
-            options.max_receiver_window_buffer_size as u64,
+            options.max_receiver_window_buffer_size,
             5_242_880,
         ),
-        (
-            "max_send_buffer_size",
-            options.max_send_buffer_size as u64,
-            2_000_000,
-        ),
+        ("send buffer", options.max_send_buffer_size, 2_000_000),
         (
             "stream limit",
-            options.per_stream_send_queue_limit as u64,
+            options.per_stream_send_queue_limit,
             2_000_000,
         ),
         (
             "total threshold",
-            options.total_buffered_amount_low_threshold as u64,
+            options.total_buffered_amount_low_threshold,
             1_800_000,
         ),
-        ("cwnd_mtus_initial", options.cwnd_mtus_initial as u64, 10),
-        ("cwnd_mtus_min", options.cwnd_mtus_min as u64, 4),
+        (
+            "threshold",
+            options.default_stream_buffered_amount_low_threshold,
+            0,
+        ),
+        ("cwnd_mtus_initial", options.cwnd_mtus_initial, 10),
+        ("cwnd_mtus_min", options.cwnd_mtus_min, 4),
+        ("fragmentation", options.avoid_fragmentation_cwnd_mtus, 6),
+        ("immediate sack", options.immediate_sack_under_cwnd_mtus, 10),
     ];
-    for (name, value, expected) in numbers {
+    for (name, value, expected) in rows {
         assert_eq!(rt; value, expected, "{name}");
     }
-    let times = [
+}
+
+#[test]
+fn default_times(rt: HostRuntime) {
+    let options = Options::default();
+    let rows = [
         ("rtt_max", options.rtt_max, 60_000),
         ("rto_initial", options.rto_initial, 500),
         ("rto_max", options.rto_max, 60_000),
@@ -57,21 +76,40 @@ fn defaults_are_those_of_the_documentation(rt: HostRuntime) {
         ("t1_cookie_timeout", options.t1_cookie_timeout, 1000),
         ("t2_shutdown_timeout", options.t2_shutdown_timeout, 1000),
         ("heartbeat_interval", options.heartbeat_interval, 30_000),
-        (
-            "delayed_ack_max_timeout",
-            options.delayed_ack_max_timeout,
-            200,
-        ),
+        ("delayed_ack", options.delayed_ack_max_timeout, 200),
         ("min_rtt_variance", options.min_rtt_variance, 220),
     ];
-    for (name, value, expected) in times {
+    for (name, value, expected) in rows {
         assert_eq!(rt; value, Duration::from_millis(expected), "{name}");
     }
+    assert!(rt; options.max_timer_backoff_duration.is_none());
+}
+
+#[test]
+fn default_limits_and_features(rt: HostRuntime) {
+    let options = Options::default();
     assert_eq!(rt; options.max_burst, 4);
     assert_eq!(rt; options.max_retransmissions, Some(10));
     assert_eq!(rt; options.max_init_retransmits, Some(8));
-    assert!(rt; options.enable_partial_reliability && !options.enable_message_interleaving);
-    assert!(rt; !options.disable_checksum_verification);
+    assert_eq!(rt; options.zero_checksum_alternate_error_detection_method.0, 0);
+    let rows = [
+        (
+            "partial reliability",
+            options.enable_partial_reliability,
+            true,
+        ),
+        ("interleaving", options.enable_message_interleaving, false),
+        ("round trip", options.heartbeat_interval_include_rtt, true),
+        ("no checksum", options.disable_checksum_verification, false),
+        (
+            "handover",
+            options.enable_handover_with_outstanding_data,
+            false,
+        ),
+    ];
+    for (name, value, expected) in rows {
+        assert_eq!(rt; value, expected, "{name}");
+    }
 }
 
 #[test]

@@ -29,4 +29,9 @@ ok_is : (a b : Cookie) → done a ≡ done b → a ≡ b
 ok_is a b same = cc
 
 pub returns : goal.returns
-returns c written read fits found = same_cookie read written (ok_is (cookie_of read) (cookie_of written) (sym found ∙ c.cookie_reads_back.ensures (cookie_of written) fits))
+returns c written fits =
+    let is_read = c.cookie_reads_back.ensures (cookie_of written) fits in
+    record {
+      is_read = is_read;
+      same = λ read found. same_cookie read written (ok_is (cookie_of read) (cookie_of written) (sym found ∙ is_read));
+    }
