@@ -1,14 +1,10 @@
--- Outside examples of what INIT and INIT ACK announce, of what two ends agree on and of which packets are
--- worked, computed by the definitions: a wrong rule in specs/ would not check here.
-use Rattle.std.proofs.Common.{◌≡◌, ℕ, Bool, true, false, None, Some, List, [], ◌∷◌, refl}
-use Rattle.std.specs.Prelude.{codes}
-use Rattle.std.specs.Fmt.{padded_integral, digits, char_count}
+-- Outside examples of what INIT and INIT ACK announce and of what two ends agree on, computed by the
+-- definitions: a wrong rule in specs/ would not check here.
+use Rattle.std.proofs.Common.{◌≡◌, ℕ, Bool, true, false, None, Some, [], ◌∷◌, refl}
 use Rattle.dcsctp_wire.specs.Content.{state_cookie, supported_extensions, zero_checksum_acceptable, forward_tsn_supported, unknown_parameter, init_ack_chunk}
 use Rattle.dcsctp_machine.specs.declared.capabilities.Capabilities.{Capabilities}
 use Rattle.dcsctp_machine.specs.Offer.{Offer, agreed_method, negotiated, answering_offer, capabilities_offered, offer_in, offer_parameters, offer_announced}
-use Rattle.dcsctp_machine.specs.Endpoint.{Core, closed, cookie_wait}
-use Rattle.dcsctp_machine.specs.Packet.{Introduction, Content, init, init_ack, other, Packet, cookie_in, introduction_in, introduction_out, chunk_out}
-use Rattle.dcsctp_machine.specs.Admission.{all_chunks, refused, single_init_text, admits}
+use Rattle.dcsctp_machine.specs.Packet.{Introduction, init_ack, cookie_in, introduction_in, introduction_out, chunk_out}
 use Rattle.dcsctp_machine.specs.Outcome.{count_up}
 use Rattle.dcsctp_machine.specs.turns.Handshake.{tag_from, first_tsn_from, pair_from}
 
@@ -107,42 +103,6 @@ init_ack_comes_in = refl
 
 first_cookie_is_taken : cookie_in (forward_tsn_supported ∷ state_cookie (1 ∷ []) ∷ state_cookie (2 ∷ []) ∷ []) ≡ Some (1 ∷ [])
 first_cookie_is_taken = refl
-
--- ---- admission (RFC 9260, section 8.5.1)
-
--- a socket with this tag
-abbrev with_tag : ℕ → Core
-with_tag tag = cookie_wait (record { tag = tag; first_tsn = 0 })
-
-abbrev an_init : Content
-an_init = init introduced
-
-packet : ℕ → List Content → Packet
-packet tag contents = record { tag = tag; contents = contents }
-
-init_under_0 : admits (with_tag 9) (packet 0 (an_init ∷ [])) ≡ all_chunks
-unfolding packet
-init_under_0 = refl
-
-init_under_own_tag : admits (with_tag 9) (packet 9 (an_init ∷ other 11 0 [] ∷ [])) ≡ all_chunks
-unfolding packet
-init_under_own_tag = refl
-
-two_chunks_under_0 : admits (with_tag 9) (packet 0 (an_init ∷ an_init ∷ [])) ≡ refused single_init_text
-unfolding packet
-two_chunks_under_0 = refl
-
-no_init_under_0 : admits closed (packet 0 (other 11 0 [] ∷ [])) ≡ refused single_init_text
-unfolding packet
-no_init_under_0 = refl
-
-no_chunks_under_0 : admits closed (packet 0 []) ≡ refused single_init_text
-unfolding packet
-no_chunks_under_0 = refl
-
-another_tag : admits (with_tag 0x1a) (packet 0xdeadbeef (other 11 0 [] ∷ [])) ≡ refused (codes "Packet has invalid verification tag: deadbeef, expected 0000001a")
-unfolding packet padded_integral digits char_count
-another_tag = refl
 
 -- ---- random words and counts
 

@@ -1,5 +1,11 @@
+pub mod AdmissionFacts
+pub mod AdmissionLemmas
+pub mod ChunkFacts
+pub mod ControlLemmas
+pub mod DeliveryLemmas
 pub mod HandshakeFacts
 pub mod LawLemmas
+pub mod MayBeWorkedLemmas
 pub mod ReadBackLemmas
 pub mod StandardFacts
 pub mod TurnFacts

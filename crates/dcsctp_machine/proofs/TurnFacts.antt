@@ -13,7 +13,7 @@ use Rattle.dcsctp_machine.specs.Settings.{packet_size_limit, IsValid, ports_of, 
 use Rattle.dcsctp_machine.specs.Event.{sent, connected, closed as is_closed, error}
 use Rattle.dcsctp_machine.specs.Offer.{offer_of}
 use Rattle.dcsctp_machine.specs.Cookie.{cookie_bytes, cookie_at}
-use Rattle.dcsctp_machine.specs.Packet.{Introduction, Content, init_ack, other, emission_bytes}
+use Rattle.dcsctp_machine.specs.Packet.{Introduction, Content, init_ack, shutdown_ack, emission_bytes}
 use Rattle.dcsctp_machine.specs.Admission.{refused, single_init_text, admits}
 use Rattle.dcsctp_machine.specs.Endpoint.{Endpoint, closed, cookie_wait, cookie_echoed, open_in, established, shutdown_pending, shutdown_sent, shutdown_received, shutdown_ack_sent, association_of, own_tag}
 use Rattle.dcsctp_machine.specs.Outcome.{Outcome, next_chunk}
@@ -67,7 +67,7 @@ unfolding configured
 size_of_32_is_valid options = record { least_size = omega arith; greatest_size = omega arith; receive_window = omega arith; send_buffer = omega arith }
 
 -- SHUTDOWN ACK is chunk type 8.
-ports_and_tag : (options : Options) → emission_bytes (ports_of (configured options 1191)) (record { with_checksum = false; packet = record { tag = 7; contents = other 8 0 [] ∷ [] } })
+ports_and_tag : (options : Options) → emission_bytes (ports_of (configured options 1191)) (record { with_checksum = false; packet = record { tag = 7; contents = shutdown_ack ∷ [] } })
     ≡ 0x13 ∷ 0x88 ∷ 0x13 ∷ 0x89 ∷ 0 ∷ 0 ∷ 0 ∷ 7 ∷ 0 ∷ 0 ∷ 0 ∷ 0 ∷ 8 ∷ 0 ∷ 0 ∷ 4 ∷ []
 unfolding configured other_bytes header_bytes checksum_field packet_bytes_of
 ports_and_tag options = refl
@@ -186,7 +186,7 @@ init_in_shutdown_received e held = refl
 
 -- Here SHUTDOWN ACK goes to the peer that is held, and no word is drawn (RFC 9260, section 9.2).
 init_in_shutdown_ack_sent : (e : Endpoint) (held : Held) → init_outcome (socket e 1191 4) theirs (open_in shutdown_ack_sent mine (record held { peer = record { tag = 99; first_tsn = 1 }; capabilities = record held.capabilities { zero_checksum_method = record { 0 = 0 } } })) 5 9
-    ≡ record { words = []; after = socket e 1191 5; events = sent (record { with_checksum = true; packet = record { tag = 99; contents = other 8 0 [] ∷ [] } }) ∷ []; following = next_chunk }
+    ≡ record { words = []; after = socket e 1191 5; events = sent (record { with_checksum = true; packet = record { tag = 99; contents = shutdown_ack ∷ [] } }) ∷ []; following = next_chunk }
 unfolding configured socket other_bytes
 init_in_shutdown_ack_sent e held = refl
 

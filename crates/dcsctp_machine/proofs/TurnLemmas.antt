@@ -1,12 +1,13 @@
 -- Lists of turns: the chunks of a packet, one list after another, and what no turn changes.
-use Rattle.std.proofs.Common.{◌≡◌, ℕ, Bool, true, false, cond, List, [], ◌∷◌, ◌++◌, refl, rules, sym, subst, ap, ◌∙◌, append_assoc, arith}
+use Rattle.std.proofs.Common.{◌≡◌, ℕ, Bool, true, false, cond, Option, List, [], ◌∷◌, ◌++◌, refl, rules, sym, subst, ap, ◌∙◌, append_assoc, arith}
 use Rattle.dcsctp_machine.specs.declared.word.Word.{Word}
-use Rattle.dcsctp_machine.specs.Packet.{Introduction, Content, init, init_ack, other, Emission}
+use Rattle.dcsctp_machine.specs.Packet.{Introduction, Content, init, init_ack, cookie_echo, cookie_ack, re_config, abort, shutdown, shutdown_ack, shutdown_complete, other, Emission}
 use Rattle.dcsctp_machine.specs.Endpoint.{Endpoint, Core, closed, cookie_wait, cookie_echoed, open_in, established, shutdown_pending, shutdown_sent, shutdown_received, shutdown_ack_sent}
 use Rattle.dcsctp_machine.specs.Settings.{ports_of}
-use Rattle.dcsctp_machine.specs.Outcome.{Outcome, Following, next_chunk, packet_end, dropped_rest, count_up, fits, emits}
+use Rattle.dcsctp_machine.specs.Outcome.{Outcome, Following, next_chunk, packet_end, dropped_rest, count_up, still, fits, emits}
 use Rattle.dcsctp_machine.specs.Event.{Event, sent}
-use Rattle.dcsctp_machine.specs.Turn.{ContentTurn}
+use Rattle.dcsctp_machine.specs.Controlled.{ControlledChunk}
+use Rattle.dcsctp_machine.specs.Turn.{InitAckTurn, OtherTurn, ContentTurn}
 use Rattle.dcsctp_machine.specs.CallTurns.{AfterChunk, ChunkTurns, after_all, words_of, events_of}
 use Rattle.dcsctp_machine.specs.turns.Handshake.{init_outcome}
 
@@ -23,10 +24,35 @@ init_keeps_options e theirs (open_in shutdown_sent mine held) word next = search
 init_keeps_options e theirs (open_in shutdown_received mine held) word next = search (rules, emits_keeps_options)
 init_keeps_options e theirs (open_in shutdown_ack_sent mine held) word next = search (rules, emits_keeps_options)
 
+still_keeps_ports : (e : Endpoint) (o : Outcome) → o ≡ still e → ports_of o.after.options ≡ ports_of e.options
+still_keeps_ports e o is = ap (λ (x : Outcome). ports_of x.after.options) is
+
+controlled_keeps_ports : (e : Endpoint) (tag : ℕ) (content : Content) (o : Outcome) → ControlledChunk e tag content o → ports_of o.after.options ≡ ports_of e.options
+controlled_keeps_ports e tag content o turn = ap ports_of turn.2.options
+
+init_ack_keeps_ports : (e : Endpoint) (core : Core) (tag : ℕ) (theirs : Introduction) (cookie : Option (List ℕ)) (o : Outcome) → InitAckTurn e core tag theirs cookie o → ports_of o.after.options ≡ ports_of e.options
+init_ack_keeps_ports e closed tag theirs cookie o turn = still_keeps_ports e o turn
+init_ack_keeps_ports e (cookie_wait my) tag theirs cookie o turn = controlled_keeps_ports e tag (init_ack theirs cookie) o turn
+init_ack_keeps_ports e (cookie_echoed my held echoed) tag theirs cookie o turn = still_keeps_ports e o turn
+init_ack_keeps_ports e (open_in phase my held) tag theirs cookie o turn = still_keeps_ports e o turn
+
+other_keeps_ports : (e : Endpoint) (core : Core) (tag : ℕ) (content : Content) (o : Outcome) → OtherTurn e core tag content o → ports_of o.after.options ≡ ports_of e.options
+other_keeps_ports e closed tag content o turn = still_keeps_ports e o turn
+other_keeps_ports e (cookie_wait my) tag content o turn = controlled_keeps_ports e tag content o turn
+other_keeps_ports e (cookie_echoed my held echoed) tag content o turn = controlled_keeps_ports e tag content o turn
+other_keeps_ports e (open_in phase my held) tag content o turn = controlled_keeps_ports e tag content o turn
+
 content_keeps_ports : (e : Endpoint) (tag : ℕ) (content : Content) (o : Outcome) → ContentTurn e tag content o → ports_of o.after.options ≡ ports_of e.options
 content_keeps_ports e tag (init theirs) o turn = ap (λ (x : Outcome). ports_of x.after.options) turn.2 ∙ ap ports_of (init_keeps_options e theirs e.core turn.0 turn.1)
-content_keeps_ports e tag (init_ack theirs cookie) o turn = ap (λ (x : Outcome). ports_of x.after.options) turn
-content_keeps_ports e tag (other type flags value) o turn = ap (λ (x : Outcome). ports_of x.after.options) turn
+content_keeps_ports e tag (init_ack theirs cookie) o turn = init_ack_keeps_ports e e.core tag theirs cookie o turn
+content_keeps_ports e tag (cookie_echo cookie) o turn = controlled_keeps_ports e tag (cookie_echo cookie) o turn
+content_keeps_ports e tag cookie_ack o turn = controlled_keeps_ports e tag cookie_ack o turn
+content_keeps_ports e tag (re_config parameters) o turn = controlled_keeps_ports e tag (re_config parameters) o turn
+content_keeps_ports e tag (abort reflected causes) o turn = controlled_keeps_ports e tag (abort reflected causes) o turn
+content_keeps_ports e tag (shutdown cumulative_tsn) o turn = controlled_keeps_ports e tag (shutdown cumulative_tsn) o turn
+content_keeps_ports e tag shutdown_ack o turn = controlled_keeps_ports e tag shutdown_ack o turn
+content_keeps_ports e tag (shutdown_complete reflected) o turn = controlled_keeps_ports e tag (shutdown_complete reflected) o turn
+content_keeps_ports e tag (other type flags value) o turn = other_keeps_ports e e.core tag (other type flags value) o turn
 
 goes_on_where : (b : Bool) (e : Endpoint) (words : List Word) (emission : Emission) → (cond b (let sends : Outcome = record {
   words = words;

@@ -4,7 +4,7 @@ use Rattle.dcsctp_machine.specs.declared.word.Word.{Word}
 use Rattle.dcsctp_machine.specs.Settings.{wire_options}
 use Rattle.dcsctp_machine.specs.Event.{Event}
 use Rattle.dcsctp_machine.specs.Packet.{Content, Packet, Emission, packet_in}
-use Rattle.dcsctp_machine.specs.Admission.{Admission, all_chunks, refused, admits}
+use Rattle.dcsctp_machine.specs.Admission.{Admission, all_chunks, shutdown_acks_alone, refused, admits, shutdown_acks_in}
 use Rattle.dcsctp_machine.specs.Endpoint.{Endpoint}
 use Rattle.dcsctp_machine.specs.Outcome.{Outcome, Following, next_chunk, packet_end, dropped_rest}
 use Rattle.dcsctp_machine.specs.Turn.{Input, arrival, refusal, chunk_input, Turn, unreadable_text}
@@ -50,6 +50,7 @@ ChunkTurns e tag (content ∷ contents) (outcome ∷ outcomes) =
 -- a packet that was read and counted
 abbrev pub AdmittedTurns : Endpoint → Packet → Admission → List Outcome → Type 0
 AdmittedTurns e packet all_chunks outcomes = ChunkTurns e packet.tag packet.contents outcomes
+AdmittedTurns e packet shutdown_acks_alone outcomes = ChunkTurns e packet.tag (shutdown_acks_in packet.contents) outcomes
 AdmittedTurns e packet (refused text) outcomes = Turns e (refusal text ∷ []) outcomes
 
 -- The packet is counted; then it can't be read, or admission decides (RFC 9260, section 8.5).
@@ -73,6 +74,7 @@ FirstTurns e tag contents outcomes = (count : ℕ) × ChunkTurns e tag (take cou
 -- the first turns after a packet was counted
 abbrev pub FirstAdmitted : Endpoint → Packet → Admission → List Outcome → Type 0
 FirstAdmitted e packet all_chunks outcomes = FirstTurns e packet.tag packet.contents outcomes
+FirstAdmitted e packet shutdown_acks_alone outcomes = FirstTurns e packet.tag (shutdown_acks_in packet.contents) outcomes
 FirstAdmitted e packet (refused text) outcomes = outcomes ≡ []
 
 -- The call was cut: before the packet was known to be one, or after some of its turns.

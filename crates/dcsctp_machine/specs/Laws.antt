@@ -1,20 +1,26 @@
 -- Laws of the definitions, in other words than theirs.
-use Rattle.std.specs.Prelude.{◌≡◌, ◌≤◌, ◌<◌, ◌^◌, ℕ, Ok, Option, List, [], ◌∷◌, ◌++◌, length}
+use Rattle.std.specs.Prelude.{◌≡◌, ◌≤◌, ◌<◌, ◌^◌, ℕ, Ok, Option, List, [], ◌∷◌, ◌++◌}
 use Rattle.dcsctp_machine.specs.declared.association.Pair.{Pair}
 use Rattle.dcsctp_machine.specs.declared.capabilities.Capabilities.{Capabilities}
 use Rattle.dcsctp_machine.specs.declared.kinds.ErrorKind.TheVariants.{ParseFailed}
 use Rattle.dcsctp_machine.specs.declared.options.Options.{Options}
-use Rattle.dcsctp_machine.specs.Settings.{wire_options}
-use Rattle.dcsctp_machine.specs.Admission.{refused, admits}
-use Rattle.dcsctp_machine.specs.CallTurns.{HandleInput, after_all, words_of, events_of}
+use Rattle.dcsctp_machine.specs.Settings.{IsValid, wire_options}
+use Rattle.dcsctp_machine.specs.Admission.{all_chunks, shutdown_acks_alone, refused, admits, shutdown_acks_in}
+use Rattle.dcsctp_machine.specs.CallTurns.{ChunkTurns, AdmittedTurns, HandleInput, after_all, words_of, events_of}
 use Rattle.dcsctp_machine.specs.Event.{Event, sent, error}
-use Rattle.dcsctp_machine.specs.Turn.{unreadable_text}
+use Rattle.dcsctp_machine.specs.Turn.{unreadable_text, refusal_outcome, ContentTurn}
+use Rattle.dcsctp_machine.specs.Controlled.{IsControlled, ControlledChunk}
+use Rattle.dcsctp_machine.specs.control.Effect.{Change}
 use Rattle.dcsctp_wire.specs.Content.{PacketContent}
 use Rattle.dcsctp_wire.specs.Format.{IsPacket}
 use Rattle.dcsctp_machine.specs.Offer.{Offer, offer_of, offer_in, offer_parameters, offer_announced, capabilities_offered, negotiated, answering_offer}
 use Rattle.dcsctp_machine.specs.Cookie.{Cookie, cookie_bytes, cookie_at}
-use Rattle.dcsctp_machine.specs.Packet.{Introduction, Emission, cookie_parameters, packet_in}
-use Rattle.dcsctp_machine.specs.Endpoint.{Endpoint}
+use Rattle.dcsctp_machine.specs.Packet.{Introduction, Content, init, shutdown_ack, Packet, Emission, cookie_parameters, packet_in}
+use Rattle.dcsctp_machine.specs.Endpoint.{Endpoint, Core, closed, cookie_wait, cookie_echoed, open_in}
+use Rattle.dcsctp_machine.specs.World.{MayBeWorked, ChunkChanges, PacketTurns}
+use Rattle.dcsctp_machine.specs.control.Acts.{chunk_change}
+use Rattle.dcsctp_machine.specs.control.Choices.{Choices}
+use Rattle.dcsctp_machine.specs.control.Shutdown.{reflects}
 use Rattle.dcsctp_machine.specs.Outcome.{Outcome, count_up}
 use Rattle.dcsctp_machine.specs.turns.Handshake.{InitTurn}
 
@@ -94,3 +100,70 @@ pub record RefusedPacketAddsOneError : Type 0 where
   pub refused : (e : Endpoint) (bytes text : List ℕ) (packet : PacketContent) (outcomes : List Outcome) → HandleInput e bytes outcomes
       → IsPacket (wire_options e.options) packet bytes → admits e.core (packet_in packet) ≡ refused text
       → IsRefused e text outcomes
+
+-- Whatever admission lets in may be worked in the machine that agreement runs on: a whole packet, or its SHUTDOWN
+-- ACK chunks alone. Each of these is answered, and the association stays as it is (RFC 9260, sections 8.4 and
+-- 8.5.1).
+pub record AdmittedPacketsMayBeWorked : Type 0 where
+  pub whole : (core : Core) (packet : Packet) → admits core packet ≡ all_chunks → MayBeWorked core packet
+  pub cut : (core : Core) (packet : Packet) → admits core packet ≡ shutdown_acks_alone → MayBeWorked core (record packet { contents = shutdown_acks_in packet.contents })
+  pub answered : (options : Options) (core : Core) (packet : Packet) (choices : Choices) → admits core packet ≡ shutdown_acks_alone
+      → chunk_change options core packet.tag shutdown_ack choices ≡ reflects core packet.tag
+
+-- ---- the turns of an endpoint as turns of its association
+
+-- the own pair, where there is one, has numbers within their fields
+abbrev pub FitsOwn : Core → Type 0
+FitsOwn closed = Unit {0}
+FitsOwn (cookie_wait my) = FitsPair my
+FitsOwn (cookie_echoed my held cookie) = FitsPair my
+FitsOwn (open_in phase my held) = Unit {0}
+
+-- the numbers of an INIT and of the cookie that answers it fit their fields, as those of a chunk that was read
+-- and of a socket's memory do
+pub record FitsAnswer (e : Endpoint) (theirs : Introduction) : Type 0 where
+  pub options : IsValid e.options
+  pub own : FitsOwn e.core
+  pub pair : FitsPair theirs.pair
+  pub window : theirs.window < 2 ^ 32
+  pub tie : e.tie < 2 ^ 64
+  pub zero_checksum_method : theirs.offer.zero_checksum_method < 2 ^ 32
+  pub inbound_streams : theirs.offer.inbound_streams < 2 ^ 16
+  pub outbound_streams : theirs.offer.outbound_streams < 2 ^ 16
+
+abbrev pub FitsContent : Endpoint → Content → Type 0
+FitsContent e (init theirs) = FitsAnswer e theirs
+FitsContent e content = Unit {0}
+
+-- Each turn of a chunk is a turn of the association, of which every run is proved (RFC 9260, section 5).
+abbrev pub ChunksAreControlled : Type 0
+ChunksAreControlled = (e : Endpoint) (tag : ℕ) (content : Content) (o : Outcome) → ContentTurn e tag content o → FitsContent e content → ControlledChunk e tag content o
+
+-- where each of a packet's chunks fits at its turn
+abbrev pub FitsTurns : Endpoint → List Content → List Outcome → Type 0
+FitsTurns e [] outcomes = Unit {0}
+FitsTurns e (content ∷ contents) [] = Unit {0}
+FitsTurns e (content ∷ contents) (outcome ∷ outcomes) = FitsContent e content × FitsTurns outcome.after contents outcomes
+
+-- outcome by outcome
+abbrev pub AllControlled : Endpoint → List Outcome → List Change → Type 0
+AllControlled e [] [] = Unit {0}
+AllControlled e [] (change ∷ changes) = ⊥
+AllControlled e (outcome ∷ outcomes) [] = ⊥
+AllControlled e (outcome ∷ outcomes) (change ∷ changes) = IsControlled e outcome change × AllControlled outcome.after outcomes changes
+
+-- The turns of a packet are a delivery to the association.
+abbrev pub PacketsAreControlled : Type 0
+PacketsAreControlled =
+    (e : Endpoint) (tag : ℕ) (contents : List Content) (outcomes : List Outcome) → ChunkTurns e tag contents outcomes → FitsTurns e contents outcomes
+    → (changes : List Change) × ChunkChanges e.options e.core tag contents changes × AllControlled e outcomes changes
+
+-- What comes of a packet that was counted: a delivery to the association, or one error.
+pub data Delivered (e : Endpoint) (packet : Packet) (outcomes : List Outcome) : Type 0 where
+  delivered : (changes : List Change) → PacketTurns e.options e.core packet changes → AllControlled e outcomes changes → Delivered e packet outcomes
+  reported : (text : List ℕ) → outcomes ≡ refusal_outcome e text ∷ [] → Delivered e packet outcomes
+
+abbrev pub DeliveriesAreControlled : Type 0
+DeliveriesAreControlled =
+    (e : Endpoint) (packet : Packet) (outcomes : List Outcome) → AdmittedTurns e packet (admits e.core packet) outcomes → FitsTurns e packet.contents outcomes
+    → Delivered e packet outcomes

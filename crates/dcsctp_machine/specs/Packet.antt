@@ -1,10 +1,15 @@
 -- What the machine sees of a packet: a verification tag and what each chunk says (RFC 9260, section 3).
-use Rattle.std.specs.Prelude.{ℕ, Bool, Option, None, Some, List, [], ◌∷◌, ◌++◌, map}
+use Rattle.std.specs.Prelude.{ℕ, Bool, true, false, Option, None, Some, List, [], ◌∷◌, ◌++◌, map, take}
+use Rattle.std.specs.List.{flat_map}
+use Rattle.std.specs.Int.{w32, to_be_bytes}
 use Rattle.dcsctp_machine.specs.declared.association.Pair.{Pair}
 use Rattle.dcsctp_machine.specs.Settings.{Ports}
 use Rattle.dcsctp_machine.specs.Offer.{Offer, offer_parameters, offer_announced}
 use Rattle.dcsctp_wire.specs.Content.{ParameterContent, state_cookie, supported_extensions, zero_checksum_acceptable, forward_tsn_supported, unknown_parameter, InitContent, ChunkContent, init_chunk, init_ack_chunk, other_chunk, PacketContent}
-use Rattle.dcsctp_wire.specs.Spelling.{packet_bytes}
+use Rattle.dcsctp_wire.specs.Numbers.{abort_type, shutdown_type, shutdown_ack_type, cookie_echo_type, cookie_ack_type, shutdown_complete_type, re_config_type}
+use Rattle.dcsctp_wire.specs.Spelling.{parameter_bytes, parameters_len, packet_bytes}
+use Rattle.dcsctp_machine.specs.Cause.{Cause, cause_content}
+use Rattle.dcsctp_machine.specs.Reconfiguration.{ResetParameter, reset_parameter_content}
 
 -- what INIT and INIT ACK say of their sender
 pub record Introduction : Type 0 where
@@ -18,6 +23,20 @@ pub data Content : Type 0 where
   init : Introduction → Content
   -- with the bytes of the state cookie, where there is one
   init_ack : Introduction → Option (List ℕ) → Content
+  -- COOKIE ECHO (RFC 9260, section 3.3.11): the bytes of the state cookie
+  cookie_echo : List ℕ → Content
+  -- COOKIE ACK (RFC 9260, section 3.3.12)
+  cookie_ack : Content
+  -- RE-CONFIG (RFC 6525, section 3.1)
+  re_config : List ResetParameter → Content
+  -- ABORT (RFC 9260, section 3.3.7): the T bit, and why
+  abort : Bool → List Cause → Content
+  -- SHUTDOWN (RFC 9260, section 3.3.8): the cumulative TSN ack
+  shutdown : ℕ → Content
+  -- SHUTDOWN ACK (RFC 9260, section 3.3.9)
+  shutdown_ack : Content
+  -- SHUTDOWN COMPLETE (RFC 9260, section 3.3.13): the T bit
+  shutdown_complete : Bool → Content
   -- any other chunk: type, flags, value
   other : ℕ → ℕ → List ℕ → Content
 
@@ -49,6 +68,8 @@ cookie_in (zero_checksum_acceptable method ∷ parameters) = cookie_in parameter
 cookie_in (forward_tsn_supported ∷ parameters) = cookie_in parameters
 cookie_in (unknown_parameter type value ∷ parameters) = cookie_in parameters
 
+-- What a chunk says. The reader gives the fields of INIT and INIT ACK alone: every other kind stands as
+-- its type, flags and value until it reads them.
 abbrev pub content_in : ChunkContent → Content
 content_in (init_chunk chunk) = init (introduction_in chunk)
 content_in (init_ack_chunk chunk) = init_ack (introduction_in chunk) (cookie_in chunk.parameters)
@@ -75,9 +96,26 @@ introduction_out introduction cookie =
       parameters = offer_parameters introduction.offer ++ cookie_parameters cookie;
     }
 
+-- the T bit, the lowest of the flags (RFC 9260, section 3.3.7)
+abbrev pub t_bit : Bool → ℕ
+t_bit true = 1
+t_bit false = 0
+
+-- Parameters, or causes, as the value of a chunk: the padding of the last is no part of its length (RFC 9260,
+-- section 3.2).
+abbrev pub parameters_value : List ParameterContent → List ℕ
+parameters_value parameters = take (parameters_len parameters) (flat_map parameter_bytes parameters)
+
 abbrev pub chunk_out : Content → ChunkContent
 chunk_out (init introduction) = init_chunk (introduction_out introduction None)
 chunk_out (init_ack introduction cookie) = init_ack_chunk (introduction_out introduction cookie)
+chunk_out (cookie_echo cookie) = other_chunk cookie_echo_type 0 cookie
+chunk_out cookie_ack = other_chunk cookie_ack_type 0 []
+chunk_out (re_config parameters) = other_chunk re_config_type 0 (parameters_value (map reset_parameter_content parameters))
+chunk_out (abort reflected causes) = other_chunk abort_type (t_bit reflected) (parameters_value (map cause_content causes))
+chunk_out (shutdown cumulative_tsn) = other_chunk shutdown_type 0 (to_be_bytes w32 cumulative_tsn)
+chunk_out shutdown_ack = other_chunk shutdown_ack_type 0 []
+chunk_out (shutdown_complete reflected) = other_chunk shutdown_complete_type (t_bit reflected) []
 chunk_out (other type flags value) = other_chunk type flags value
 
 -- the bytes of a packet between these ports

@@ -1,6 +1,6 @@
 //! Laws of the definitions, each the contract of a function without a body.
 
-ghost use Rattle.dcsctp_machine.specs.Laws.{NegotiationIsMutual, AnswerKeepsAgreement, CookieReadsBack, InitLeavesAssociation, InitBringsOnePacket, OfferReadsBack, CapabilitiesHoldOffer, RefusedPacketAddsOneError};
+ghost use Rattle.dcsctp_machine.specs.Laws.{NegotiationIsMutual, AnswerKeepsAgreement, CookieReadsBack, InitLeavesAssociation, InitBringsOnePacket, OfferReadsBack, CapabilitiesHoldOffer, RefusedPacketAddsOneError, AdmittedPacketsMayBeWorked, ChunksAreControlled, PacketsAreControlled, DeliveriesAreControlled};
 
 use dcsctp_wire::one_reading;
 
@@ -45,4 +45,34 @@ pub fn refused_packet_adds_one_error()
     ensures { RefusedPacketAddsOneError }
 {
     one_reading();
+}
+
+/// The machine that agreement runs on lets in at least what admission lets in (RFC 9260, sections 8.4 and
+/// 8.5.1): whole packets, and SHUTDOWN ACK chunks alone, which leave the association as it is.
+pub fn admitted_packets_may_be_worked()
+    ensures { AdmittedPacketsMayBeWorked }
+{}
+
+/// Each turn of a chunk is a turn of the association (RFC 9260, section 5): so what holds of every run of
+/// associations holds of every run of endpoints.
+pub fn chunks_are_controlled()
+    ensures { ChunksAreControlled }
+{
+    cookie_reads_back();
+}
+
+/// The turns of a packet's chunks are a delivery to the association.
+pub fn packets_are_controlled()
+    ensures { PacketsAreControlled }
+{
+    chunks_are_controlled();
+}
+
+/// What comes of a packet that was counted is a delivery to the association, or one error (RFC 9260,
+/// sections 8.4 and 8.5).
+pub fn deliveries_are_controlled()
+    ensures { DeliveriesAreControlled }
+{
+    packets_are_controlled();
+    admitted_packets_may_be_worked();
 }

@@ -17,8 +17,9 @@ pub use kinds::{
     ZERO_CHECKSUM_ALTERNATE_ERROR_DETECTION_METHOD_NONE, ZeroChecksumAlternateErrorDetectionMethod,
 };
 pub use laws::{
-    answer_keeps_agreement, cookie_reads_back, init_brings_one_packet, init_leaves_association,
-    negotiation_is_mutual, offer_reads_back, refused_packet_adds_one_error,
+    admitted_packets_may_be_worked, answer_keeps_agreement, chunks_are_controlled,
+    cookie_reads_back, deliveries_are_controlled, init_brings_one_packet, init_leaves_association,
+    negotiation_is_mutual, offer_reads_back, packets_are_controlled, refused_packet_adds_one_error,
 };
 pub use options::Options;
 pub use word::Word;

@@ -3,18 +3,33 @@ use Rattle.std.specs.Prelude.{ℕ}
 
 -- ---- chunk types
 
--- RFC 9260, sections 3.3.2, 3.3.3, 3.3.9 and 3.3.11
+-- RFC 9260, sections 3.3.2, 3.3.3 and 3.3.7 to 3.3.13
 abbrev pub init_type : ℕ
 init_type = 1
 
 abbrev pub init_ack_type : ℕ
 init_ack_type = 2
 
+abbrev pub abort_type : ℕ
+abort_type = 6
+
+abbrev pub shutdown_type : ℕ
+shutdown_type = 7
+
 abbrev pub shutdown_ack_type : ℕ
 shutdown_ack_type = 8
 
+abbrev pub error_type : ℕ
+error_type = 9
+
 abbrev pub cookie_echo_type : ℕ
 cookie_echo_type = 10
+
+abbrev pub cookie_ack_type : ℕ
+cookie_ack_type = 11
+
+abbrev pub shutdown_complete_type : ℕ
+shutdown_complete_type = 14
 
 -- RFC 8260, sections 2.1 and 2.3.1
 abbrev pub i_data_type : ℕ

@@ -4,10 +4,9 @@ use Rattle.dcsctp_machine.specs.declared.association.Pair.{Pair}
 use Rattle.dcsctp_machine.specs.declared.association.Held.{Held}
 use Rattle.dcsctp_machine.specs.declared.word.Word.{Word}
 use Rattle.dcsctp_machine.specs.declared.word.Word.TheVariants.{U32}
-use Rattle.dcsctp_wire.specs.Numbers.{shutdown_ack_type}
 use Rattle.dcsctp_machine.specs.Offer.{offer_of, answering_offer, agreed_method}
 use Rattle.dcsctp_machine.specs.Cookie.{Cookie, cookie_bytes}
-use Rattle.dcsctp_machine.specs.Packet.{Introduction, Content, init_ack, other, Emission}
+use Rattle.dcsctp_machine.specs.Packet.{Introduction, Content, init_ack, shutdown_ack, Emission}
 use Rattle.dcsctp_machine.specs.Endpoint.{Endpoint, Core, closed, cookie_wait, cookie_echoed, open_in, OpenPhase, established, shutdown_pending, shutdown_sent, shutdown_received, shutdown_ack_sent}
 use Rattle.dcsctp_machine.specs.Outcome.{Outcome, emits}
 
@@ -48,10 +47,6 @@ init_ack_emission e theirs mine tie =
 
 abbrev pub answers_init : Endpoint → Introduction → List Word → Pair → ℕ → Outcome
 answers_init e theirs words mine tie = emits e words (init_ack_emission e theirs mine tie)
-
--- SHUTDOWN ACK (RFC 9260, section 3.3.9)
-abbrev pub shutdown_ack : Content
-shutdown_ack = other shutdown_ack_type 0 []
 
 -- a packet of one control chunk under the peer's tag
 abbrev pub to_peer : Held → Content → Emission

@@ -1,0 +1,188 @@
+-- The turns of an endpoint are turns of its association.
+use Rattle.std.proofs.Common.{◌≡◌, ◌≤◌, ◌<◌, ℕ, ◌^◌, Bool, true, false, cond, Option, None, List, [], ◌∷◌, refl, sym, subst, arith}
+use Rattle.std.proofs.lemmas.Bool.Decides.{nat_tests}
+use Rattle.dcsctp_wire.specs.Spelling.{other_bytes}
+use Rattle.dcsctp_machine.specs.Settings.{packet_size_limit, IsValid}
+use Rattle.dcsctp_machine.specs.declared.association.Pair.{Pair}
+use Rattle.dcsctp_machine.specs.declared.association.Held.{Held}
+use Rattle.dcsctp_machine.specs.declared.word.Word.{Word}
+use Rattle.dcsctp_machine.specs.declared.word.Word.TheVariants.{U32}
+use Rattle.dcsctp_machine.specs.Cookie.{cookie_bytes}
+use Rattle.dcsctp_machine.specs.Packet.{Introduction, Content, init, init_ack, cookie_echo, cookie_ack, re_config, abort, shutdown, shutdown_ack, shutdown_complete, other}
+use Rattle.dcsctp_machine.specs.Endpoint.{Endpoint, Core, closed, cookie_wait, cookie_echoed, open_in, established, shutdown_pending, shutdown_sent, shutdown_received, shutdown_ack_sent}
+use Rattle.dcsctp_machine.specs.Outcome.{Outcome, next_chunk, count_up, still, fits, emits}
+use Rattle.dcsctp_machine.specs.Event.{sent}
+use Rattle.dcsctp_machine.specs.turns.Handshake.{pair_from, renewed_pair, cookie_for, init_ack_for, init_ack_emission, answers_init, to_peer, init_outcome}
+use Rattle.dcsctp_machine.specs.control.Effect.{Effect, draws, Change, unchanged, emitted_alone}
+use Rattle.dcsctp_machine.specs.control.Choices.{Filling, Choices}
+use Rattle.dcsctp_machine.specs.control.Handshake.{IsCookieOf}
+use Rattle.dcsctp_machine.specs.control.Acts.{ChunkChange}
+use Rattle.dcsctp_machine.specs.Controlled.{IsControlled, ControlledChunk}
+use Rattle.dcsctp_machine.specs.Turn.{InitAckTurn, OtherTurn}
+use Rattle.dcsctp_machine.specs.Laws.{FitsPair, FitsCookie, CookieReadsBack, FitsOwn, FitsAnswer, ChunksAreControlled}
+
+nothing_to_send : Filling
+nothing_to_send = record { is_allowed = false; acknowledgements = []; reset = None; data_chunks = []; further = [] }
+
+-- the choices of a turn that emits one packet at most
+abbrev choices_of : Pair → List ℕ → Bool → Choices
+choices_of drawn cookie fits =
+    record { drawn = drawn; cookie = cookie; tie = 0; fits = fits; is_acknowledged = true; is_reached = true; is_violation = false; causes = []; tsn = 0; following = next_chunk; plain = []; filling = nothing_to_send }
+
+-- ---- an INIT
+
+answer_fits : (e : Endpoint) (theirs : Introduction) (mine : Pair) (tie : ℕ) → FitsAnswer e theirs → FitsPair mine → tie < 2 ^ 64 → FitsCookie (cookie_for theirs mine tie)
+answer_fits e theirs mine tie h mine_fits tie_fits =
+    record {
+      maker = mine_fits;
+      addressee = h.pair;
+      window = h.window;
+      tie = tie_fits;
+      zero_checksum_method = h.zero_checksum_method;
+      inbound_streams = h.inbound_streams;
+      outbound_streams = h.outbound_streams;
+    }
+
+drawn_fits : (word next : ℕ) → FitsPair (pair_from word next)
+drawn_fits word next = record { tag_is_not_zero = omega arith; tag = omega arith; first_tsn = omega arith }
+
+renewed_fits : (e : Endpoint) (word : ℕ) → FitsPair (renewed_pair e word)
+renewed_fits e word = record { tag_is_not_zero = omega arith; tag = omega arith; first_tsn = omega arith }
+
+is_cookie : CookieReadsBack → (e : Endpoint) (theirs : Introduction) (mine : Pair) (tie : ℕ) → FitsAnswer e theirs → FitsPair mine → tie < 2 ^ 64
+    → IsCookieOf theirs mine (cookie_bytes (cookie_for theirs mine tie))
+is_cookie law e theirs mine tie h mine_fits tie_fits =
+    (cookie_for theirs mine tie, law (cookie_for theirs mine tie) (answer_fits e theirs mine tie h mine_fits tie_fits), refl, refl, refl)
+
+-- a packet of one chunk, where it fits
+one_packet : (b : Bool) (e : Endpoint) (words : List Word) (with_checksum : Bool) (tag : ℕ) (content : Content) (core : Core) → e.core ≡ core
+    → IsControlled e (cond b (record {
+      words = words;
+      after = record e { counts = record e.counts { packets_sent = count_up e.counts.packets_sent } };
+      events = sent (record { with_checksum = with_checksum; packet = record { tag = tag; contents = content ∷ [] } }) ∷ [];
+      following = next_chunk;
+    }) (record { words = words; after = e; events = []; following = next_chunk })) (record { core = core; effects = emitted_alone b tag content; following = next_chunk })
+one_packet true e words with_checksum tag content core is = record { core = is; options = refl; signs = refl; following = refl }
+one_packet false e words with_checksum tag content core is = record { core = is; options = refl; signs = refl; following = refl }
+
+-- what is drawn beside it leaves no sign
+drawing : (e : Endpoint) (o : Outcome) (core : Core) (drawn : Pair) (effects : List Effect)
+    → IsControlled e o (record { core = core; effects = effects; following = next_chunk }) → IsControlled e o (record { core = core; effects = draws drawn ∷ effects; following = next_chunk })
+drawing e o core drawn effects h = record { core = h.core; options = h.options; signs = h.signs; following = h.following }
+
+-- the turn of an INIT at an association that the endpoint holds
+abbrev InitControlled : Endpoint → ℕ → Introduction → Core → Outcome → Type 0
+InitControlled e tag theirs core o = (change : Change) × ChunkChange e.options core tag (init theirs) change × IsControlled e o change
+
+answered : CookieReadsBack → (e : Endpoint) (tag : ℕ) (theirs : Introduction) (mine : Pair) (tie : ℕ) (words : List Word) (core : Core) → e.core ≡ core
+    → IsControlled e (answers_init e theirs words mine tie) (record { core = core; effects = emitted_alone (fits e (init_ack_emission e theirs mine tie)) theirs.pair.tag (init_ack_for e theirs mine tie); following = next_chunk })
+answered law e tag theirs mine tie words core is =
+    one_packet (fits e (init_ack_emission e theirs mine tie)) e words (init_ack_emission e theirs mine tie).with_checksum theirs.pair.tag (init_ack_for e theirs mine tie) core is
+
+renewed : CookieReadsBack → (e : Endpoint) (tag : ℕ) (theirs : Introduction) (word : ℕ) (core : Core) → e.core ≡ core → FitsAnswer e theirs
+    → IsCookieOf theirs (renewed_pair e word) (cookie_bytes (cookie_for theirs (renewed_pair e word) e.tie))
+    × IsControlled e (answers_init e theirs (U32 word ∷ []) (renewed_pair e word) e.tie)
+    (record { core = core; effects = draws (renewed_pair e word) ∷ emitted_alone (fits e (init_ack_emission e theirs (renewed_pair e word) e.tie)) theirs.pair.tag (init_ack_for e theirs (renewed_pair e word) e.tie); following = next_chunk })
+renewed law e tag theirs word core is h = (
+  is_cookie law e theirs (renewed_pair e word) e.tie h (renewed_fits e word) h.tie,
+  drawing e _ core (renewed_pair e word) _ (answered law e tag theirs (renewed_pair e word) e.tie (U32 word ∷ []) core is),
+)
+
+-- A SHUTDOWN ACK fits every packet.
+ack_fits : (e : Endpoint) (held : Held) → IsValid e.options → fits e (to_peer held shutdown_ack) ≡ true
+unfolding other_bytes
+ack_fits e held valid = let least : 32 ≤ packet_size_limit e.options = valid.least_size in grind (arith, nat_tests)
+
+ack_controlled : (e : Endpoint) (held : Held) (core : Core) → e.core ≡ core → IsValid e.options
+    → IsControlled e (emits e [] (to_peer held shutdown_ack)) (record { core = core; effects = emitted_alone true held.peer.tag shutdown_ack; following = next_chunk })
+ack_controlled e held core is valid =
+    subst (λ (b : Bool). IsControlled e (emits e [] (to_peer held shutdown_ack)) (record { core = core; effects = emitted_alone b held.peer.tag shutdown_ack; following = next_chunk })) (ack_fits e held valid)
+    (one_packet (fits e (to_peer held shutdown_ack)) e [] (to_peer held shutdown_ack).with_checksum held.peer.tag shutdown_ack core is)
+
+-- the choices that such an INIT makes
+abbrev renewing : Endpoint → Introduction → ℕ → Choices
+renewing e theirs word =
+    choices_of (renewed_pair e word) (cookie_bytes (cookie_for theirs (renewed_pair e word) e.tie)) (fits e (init_ack_emission e theirs (renewed_pair e word) e.tie))
+
+init_controlled : CookieReadsBack → (e : Endpoint) (tag : ℕ) (theirs : Introduction) (core : Core) (word next : ℕ) → e.core ≡ core → FitsOwn core → FitsAnswer e theirs
+    → InitControlled e tag theirs core (init_outcome e theirs core word next)
+init_controlled law e tag theirs closed word next is own h = (
+  _,
+  (
+    choices_of (pair_from word next) (cookie_bytes (cookie_for theirs (pair_from word next) 0)) (fits e (init_ack_emission e theirs (pair_from word next) 0)),
+    is_cookie law e theirs (pair_from word next) 0 h (drawn_fits word next) (omega arith),
+    refl,
+  ),
+  drawing e _ closed (pair_from word next) _ (answered law e tag theirs (pair_from word next) 0 (U32 word ∷ U32 next ∷ []) closed is),
+)
+init_controlled law e tag theirs (cookie_wait my) word next is own h = (
+  _,
+  (choices_of my (cookie_bytes (cookie_for theirs my 0)) (fits e (init_ack_emission e theirs my 0)), is_cookie law e theirs my 0 h own (omega arith), refl),
+  answered law e tag theirs my 0 [] (cookie_wait my) is,
+)
+init_controlled law e tag theirs (cookie_echoed my held echoed) word next is own h = (
+  _,
+  (choices_of my (cookie_bytes (cookie_for theirs my 0)) (fits e (init_ack_emission e theirs my 0)), is_cookie law e theirs my 0 h own (omega arith), refl),
+  answered law e tag theirs my 0 [] (cookie_echoed my held echoed) is,
+)
+init_controlled law e tag theirs (open_in established my held) word next is own h =
+    let r = renewed law e tag theirs word (open_in established my held) is h in
+    (_, (renewing e theirs word, r.0, refl), r.1)
+init_controlled law e tag theirs (open_in shutdown_pending my held) word next is own h =
+    let r = renewed law e tag theirs word (open_in shutdown_pending my held) is h in
+    (_, (renewing e theirs word, r.0, refl), r.1)
+init_controlled law e tag theirs (open_in shutdown_sent my held) word next is own h =
+    let r = renewed law e tag theirs word (open_in shutdown_sent my held) is h in
+    (_, (renewing e theirs word, r.0, refl), r.1)
+init_controlled law e tag theirs (open_in shutdown_received my held) word next is own h =
+    let r = renewed law e tag theirs word (open_in shutdown_received my held) is h in
+    (_, (renewing e theirs word, r.0, refl), r.1)
+init_controlled law e tag theirs (open_in shutdown_ack_sent my held) word next is own h =
+    (_, (renewing e theirs word, is_cookie law e theirs (renewed_pair e word) e.tie h (renewed_fits e word) h.tie, refl), ack_controlled e held (open_in shutdown_ack_sent my held) is h.options)
+
+-- ---- every chunk
+
+-- a turn in which nothing happens
+still_controlled : (e : Endpoint) (core : Core) (o : Outcome) → e.core ≡ core → o ≡ still e → IsControlled e o (unchanged core)
+still_controlled e core o is turn = subst (λ (x : Outcome). IsControlled e x (unchanged core)) (sym turn) (record { core = is; options = refl; signs = refl; following = refl })
+
+-- nothing is chosen
+abbrev no_choices : Choices
+no_choices = choices_of (record { tag = 0; first_tsn = 0 }) [] true
+
+init_ack_controlled : (e : Endpoint) (core : Core) (tag : ℕ) (theirs : Introduction) (cookie : Option (List ℕ)) (o : Outcome) → e.core ≡ core → InitAckTurn e core tag theirs cookie o
+    → ControlledChunk e tag (init_ack theirs cookie) o
+init_ack_controlled e closed tag theirs cookie o is turn =
+    (unchanged closed, subst (λ (c : Core). ChunkChange e.options c tag (init_ack theirs cookie) (unchanged closed)) (sym is) (no_choices, tt, refl), still_controlled e closed o is turn)
+init_ack_controlled e (cookie_wait my) tag theirs cookie o is turn = turn
+init_ack_controlled e (cookie_echoed my held echoed) tag theirs cookie o is turn = (
+  unchanged (cookie_echoed my held echoed),
+  subst (λ (c : Core). ChunkChange e.options c tag (init_ack theirs cookie) (unchanged (cookie_echoed my held echoed))) (sym is) (no_choices, tt, refl),
+  still_controlled e (cookie_echoed my held echoed) o is turn,
+)
+init_ack_controlled e (open_in phase my held) tag theirs cookie o is turn = (
+  unchanged (open_in phase my held),
+  subst (λ (c : Core). ChunkChange e.options c tag (init_ack theirs cookie) (unchanged (open_in phase my held))) (sym is) (no_choices, tt, refl),
+  still_controlled e (open_in phase my held) o is turn,
+)
+
+other_controlled : (e : Endpoint) (core : Core) (tag chunk_type flags : ℕ) (value : List ℕ) (o : Outcome) → e.core ≡ core → OtherTurn e core tag (other chunk_type flags value) o
+    → ControlledChunk e tag (other chunk_type flags value) o
+other_controlled e closed tag chunk_type flags value o is turn =
+    (unchanged closed, subst (λ (c : Core). ChunkChange e.options c tag (other chunk_type flags value) (unchanged closed)) (sym is) (no_choices, tt, refl), still_controlled e closed o is turn)
+other_controlled e (cookie_wait my) tag chunk_type flags value o is turn = turn
+other_controlled e (cookie_echoed my held echoed) tag chunk_type flags value o is turn = turn
+other_controlled e (open_in phase my held) tag chunk_type flags value o is turn = turn
+
+pub chunks_are_controlled : CookieReadsBack → ChunksAreControlled
+chunks_are_controlled law e tag (init theirs) o turn fitting =
+    subst (ControlledChunk e tag (init theirs)) (sym turn.2) (init_controlled law e tag theirs e.core turn.0 turn.1 refl fitting.own fitting)
+chunks_are_controlled law e tag (init_ack theirs cookie) o turn fitting = init_ack_controlled e e.core tag theirs cookie o refl turn
+chunks_are_controlled law e tag (cookie_echo cookie) o turn fitting = turn
+chunks_are_controlled law e tag cookie_ack o turn fitting = turn
+chunks_are_controlled law e tag (re_config parameters) o turn fitting = turn
+chunks_are_controlled law e tag (abort reflected causes) o turn fitting = turn
+chunks_are_controlled law e tag (shutdown cumulative_tsn) o turn fitting = turn
+chunks_are_controlled law e tag shutdown_ack o turn fitting = turn
+chunks_are_controlled law e tag (shutdown_complete reflected) o turn fitting = turn
+chunks_are_controlled law e tag (other chunk_type flags value) o turn fitting = other_controlled e e.core tag chunk_type flags value o refl turn

@@ -1,0 +1,110 @@
+-- What one side has done so far, newest first, and where in it each effect may stand.
+use Rattle.std.specs.Prelude.{◌≡◌, ◌≢◌, ℕ, ◌+◌, ◌%◌, ◌^◌, Option, None, Some, List, [], ◌∷◌, ◌⊎◌}
+use Rattle.dcsctp_machine.specs.declared.association.Pair.{Pair}
+use Rattle.dcsctp_machine.specs.control.Effect.{Link, Effect, draws, holds, connects, ends, begins, completes, fails, accepts, performs}
+use Rattle.dcsctp_machine.specs.control.Flush.{next_number}
+
+-- It is one of these.
+abbrev pub Has : Effect → List Effect → Type 0
+Has effect [] = ⊥
+Has effect (newest ∷ earlier) = (effect ≡ newest) ⊎ Has effect earlier
+
+-- Each effect stands as the rule wants it, by what came before it.
+abbrev pub Each : (Effect → List Effect → Type 0) → List Effect → Type 0
+Each Rule [] = Unit {0}
+Each Rule (newest ∷ earlier) = Rule newest earlier × Each Rule earlier
+
+-- ---- fresh tags
+
+-- A tag that is drawn was never drawn before.
+abbrev pub FreshDraw : Effect → List Effect → Type 0
+FreshDraw (draws pair) earlier = (other : Pair) → Has (draws other) earlier → pair.tag ≢ other.tag
+FreshDraw effect earlier = Unit {0}
+
+-- No verification tag is drawn twice by this side.
+abbrev pub HasFreshTags : List Effect → Type 0
+HasFreshTags past = Each FreshDraw past
+
+-- ---- what the past leaves
+
+-- the association that is held
+abbrev pub current : List Effect → Option Link
+current [] = None
+current (holds link ∷ earlier) = Some link
+current (ends ∷ earlier) = None
+current (effect ∷ earlier) = current earlier
+
+-- the association that is held and hasn't connected
+abbrev pub unconnected : List Effect → Option Link
+unconnected [] = None
+unconnected (holds link ∷ earlier) = Some link
+unconnected (connects link ∷ earlier) = None
+unconnected (ends ∷ earlier) = None
+unconnected (effect ∷ earlier) = unconnected earlier
+
+-- the number that an own request has to bear: the own first TSN, and then one more each time
+abbrev pub number_to_begin : List Effect → Option ℕ
+number_to_begin [] = None
+number_to_begin (holds link ∷ earlier) = Some link.my.first_tsn
+number_to_begin (begins number ∷ earlier) = Some (next_number number)
+number_to_begin (ends ∷ earlier) = None
+number_to_begin (effect ∷ earlier) = number_to_begin earlier
+
+-- the number of the own request that has not ended
+abbrev pub outstanding : List Effect → Option ℕ
+outstanding [] = None
+outstanding (holds link ∷ earlier) = None
+outstanding (begins number ∷ earlier) = Some number
+outstanding (completes my number ∷ earlier) = None
+outstanding (fails number ∷ earlier) = None
+outstanding (ends ∷ earlier) = None
+outstanding (effect ∷ earlier) = outstanding earlier
+
+-- how many own requests were begun in the association that is held
+abbrev pub requests_begun : List Effect → ℕ
+requests_begun [] = 0
+requests_begun (holds link ∷ earlier) = 0
+requests_begun (begins number ∷ earlier) = requests_begun earlier + 1
+requests_begun (ends ∷ earlier) = 0
+requests_begun (effect ∷ earlier) = requests_begun earlier
+
+-- the number that a request of the peer has to bear to be accepted: its first TSN, and then one more each time
+abbrev pub number_to_accept : List Effect → Option ℕ
+number_to_accept [] = None
+number_to_accept (holds link ∷ earlier) = Some (link.peer.first_tsn % 2 ^ 32)
+number_to_accept (accepts number ∷ earlier) = Some (next_number number)
+number_to_accept (ends ∷ earlier) = None
+number_to_accept (effect ∷ earlier) = number_to_accept earlier
+
+-- the number of the peer's request that was accepted last and not performed
+abbrev pub number_to_perform : List Effect → Option ℕ
+number_to_perform [] = None
+number_to_perform (holds link ∷ earlier) = None
+number_to_perform (accepts number ∷ earlier) = Some number
+number_to_perform (performs peer number ∷ earlier) = None
+number_to_perform (ends ∷ earlier) = None
+number_to_perform (effect ∷ earlier) = number_to_perform earlier
+
+-- the own pair of an association, where there is one, and its peer's
+abbrev pub my_of : Option Link → Option Pair
+my_of None = None
+my_of (Some link) = Some link.my
+
+abbrev pub peer_of : Option Link → Option Pair
+peer_of None = None
+peer_of (Some link) = Some link.peer
+
+-- ---- the rules of one side
+
+-- One holding connects at most once, and as it is held.
+-- Own requests go up by one from the own first TSN, one at a time; each has at most one end, under the own pair.
+-- The peer's accepted requests go up by one from its first TSN; each is performed at most once, under its
+-- pair, and none that wasn't accepted.
+abbrev pub InPlace : Effect → List Effect → Type 0
+InPlace (connects link) earlier = unconnected earlier ≡ Some link
+InPlace (begins number) earlier = (number_to_begin earlier ≡ Some number) × (outstanding earlier ≡ None)
+InPlace (completes my number) earlier = (outstanding earlier ≡ Some number) × (my_of (current earlier) ≡ Some my)
+InPlace (fails number) earlier = outstanding earlier ≡ Some number
+InPlace (accepts number) earlier = number_to_accept earlier ≡ Some number
+InPlace (performs peer number) earlier = (number_to_perform earlier ≡ Some number) × (peer_of (current earlier) ≡ Some peer)
+InPlace effect earlier = Unit {0}

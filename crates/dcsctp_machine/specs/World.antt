@@ -1,0 +1,146 @@
+-- Two sides and every schedule: what each does, and what is delivered to it of all that the other ever sent.
+use Rattle.std.specs.Prelude.{◌≡◌, ℕ, List, [], ◌∷◌, ◌⊎◌}
+use Rattle.dcsctp_machine.specs.declared.options.Options.{Options}
+use Rattle.dcsctp_machine.specs.Packet.{Introduction, Content, init, cookie_echo, abort, shutdown, shutdown_ack, shutdown_complete, Packet}
+use Rattle.dcsctp_machine.specs.Endpoint.{Core, closed, own_tag}
+use Rattle.dcsctp_machine.specs.control.Effect.{Effect, sends, Change}
+use Rattle.dcsctp_machine.specs.control.Choices.{Choices}
+use Rattle.dcsctp_machine.specs.control.Acts.{Act, act_change, chunk_change, ChunkChange}
+use Rattle.dcsctp_machine.specs.Admission.{shutdown_acks_in}
+use Rattle.dcsctp_machine.specs.Past.{Has}
+
+-- ---- one side
+
+pub record SideState : Type 0 where
+  pub options : Options
+  pub core : Core
+  -- all effects so far, newest first
+  pub past : List Effect
+
+abbrev pub fresh_side : Options → SideState
+fresh_side options = record { options = options; core = closed; past = [] }
+
+-- the past after these effects, which come in order
+abbrev pub after_effects : List Effect → List Effect → List Effect
+after_effects [] past = past
+after_effects (effect ∷ effects) past = after_effects effects (effect ∷ past)
+
+abbrev pub after_change : SideState → Change → SideState
+after_change side change = record side { core = change.core; past = after_effects change.effects side.past }
+
+abbrev pub after_changes : SideState → List Change → SideState
+after_changes side [] = side
+after_changes side (change ∷ changes) = after_changes (after_change side change) changes
+
+-- One turn of the association: an act, or a chunk of any packet.
+pub data ControlTurn (options : Options) (core : Core) (change : Change) : Type 0 where
+  acted : (act : Act) (choices : Choices) → change ≡ act_change options core act choices → ControlTurn options core change
+  worked : (header : ℕ) (content : Content) (choices : Choices) → change ≡ chunk_change options core header content choices → ControlTurn options core change
+
+abbrev pub ControlTurns : Options → Core → List Change → Type 0
+ControlTurns options core [] = Unit {0}
+ControlTurns options core (change ∷ changes) = ControlTurn options core change × ControlTurns options change.core changes
+
+-- A side after several steps of one or more turns, newest first, whatever packets it was handed.
+abbrev pub side_after : Options → List (List Change) → SideState
+side_after options [] = fresh_side options
+side_after options (changes ∷ earlier) = after_changes (side_after options earlier) changes
+
+abbrev pub SideRun : Options → List (List Change) → Type 0
+SideRun options [] = Unit {0}
+SideRun options (changes ∷ earlier) = ControlTurns options (side_after options earlier).core changes × SideRun options earlier
+
+-- ---- one packet
+
+-- ABORT and the three chunks of shutdown
+abbrev pub IsEnding : Content → Type 0
+IsEnding (abort reflected causes) = Unit {0}
+IsEnding (shutdown cumulative_tsn) = Unit {0}
+IsEnding shutdown_ack = Unit {0}
+IsEnding (shutdown_complete reflected) = Unit {0}
+IsEnding content = ⊥
+
+abbrev pub HasEnding : List Content → Type 0
+HasEnding [] = ⊥
+HasEnding (content ∷ contents) = IsEnding content ⊎ HasEnding contents
+
+-- The packets whose chunks may be worked (RFC 9260, sections 8.4 and 8.5): under the own tag, with a COOKIE
+-- ECHO in front, an INIT alone, and any with an ending chunk. Admission lets in fewer: an INIT under tag 0 alone,
+-- and ending chunks by their own rules.
+pub data MayBeWorked (core : Core) (packet : Packet) : Type 0 where
+  own_tag_borne : packet.tag ≡ own_tag core → MayBeWorked core packet
+  echo_in_front : (cookie : List ℕ) (behind : List Content) → packet.contents ≡ cookie_echo cookie ∷ behind → MayBeWorked core packet
+  init_alone : (theirs : Introduction) → packet.contents ≡ init theirs ∷ [] → MayBeWorked core packet
+  ending_in : HasEnding packet.contents → MayBeWorked core packet
+
+-- The chunks of a packet one after another, as far as they are worked: the rest may be dropped after each,
+-- whatever follows it. A socket drops it after an unknown chunk, an end or a refused COOKIE ECHO alone.
+abbrev pub ChunkChanges : Options → Core → ℕ → List Content → List Change → Type 0
+ChunkChanges options core header contents [] = Unit {0}
+ChunkChanges options core header [] (change ∷ changes) = ⊥
+ChunkChanges options core header (content ∷ contents) (change ∷ changes) =
+    ChunkChange options core header content change × ChunkChanges options change.core header contents changes
+
+-- What comes of a packet: its chunks are worked where they may be, or its SHUTDOWN ACK chunks alone, whatever
+-- its tag (RFC 9260, section 8.5.1).
+pub data PacketTurns (options : Options) (core : Core) (packet : Packet) (changes : List Change) : Type 0 where
+  worked_whole : MayBeWorked core packet → ChunkChanges options core packet.tag packet.contents changes → PacketTurns options core packet changes
+  worked_acks : ChunkChanges options core packet.tag (shutdown_acks_in packet.contents) changes → PacketTurns options core packet changes
+
+-- ---- two sides
+
+pub data Move : Type 0 where
+  -- what the user or a timer brings
+  does : Act → Move
+  -- A packet is delivered.
+  receives : Packet → Move
+
+-- What comes of a move of one side. Whatever is delivered was emitted by the other side before, once or often,
+-- lately or long ago.
+abbrev pub MoveTurns : SideState → List Effect → Move → List Change → Type 0
+MoveTurns side sent (does act) changes = (choices : Choices) × (changes ≡ act_change side.options side.core act choices ∷ [])
+MoveTurns side sent (receives packet) changes = Has (sends packet) sent × PacketTurns side.options side.core packet changes
+
+pub record World : Type 0 where
+  pub a : SideState
+  pub b : SideState
+
+pub data Which : Type 0 where
+  at_a : Which
+  at_b : Which
+
+-- who moves, how, and what comes of it
+pub record Step : Type 0 where
+  pub side : Which
+  pub move : Move
+  pub changes : List Change
+
+abbrev pub step_after : World → Which → List Change → World
+step_after world at_a changes = record world { a = after_changes world.a changes }
+step_after world at_b changes = record world { b = after_changes world.b changes }
+
+-- the world after these steps, newest first
+abbrev pub world_after : Options → Options → List Step → World
+world_after options_a options_b [] = record { a = fresh_side options_a; b = fresh_side options_b }
+world_after options_a options_b (step ∷ earlier) = step_after (world_after options_a options_b earlier) step.side step.changes
+
+abbrev pub StepTurns : World → Which → Move → List Change → Type 0
+StepTurns world at_a move changes = MoveTurns world.a world.b.past move changes
+StepTurns world at_b move changes = MoveTurns world.b world.a.past move changes
+
+-- A run: each of these steps comes of the world before it. Its moves are the schedule.
+abbrev pub Run : Options → Options → List Step → Type 0
+Run options_a options_b [] = Unit {0}
+Run options_a options_b (step ∷ earlier) =
+    StepTurns (world_after options_a options_b earlier) step.side step.move step.changes × Run options_a options_b earlier
+
+-- the steps of one side, newest first
+abbrev pub steps_with : Which → Which → List Change → List (List Change) → List (List Change)
+steps_with at_a at_a changes earlier = changes ∷ earlier
+steps_with at_a at_b changes earlier = earlier
+steps_with at_b at_a changes earlier = earlier
+steps_with at_b at_b changes earlier = changes ∷ earlier
+
+abbrev pub steps_of : Which → List Step → List (List Change)
+steps_of which [] = []
+steps_of which (step ∷ earlier) = steps_with which step.side step.changes (steps_of which earlier)

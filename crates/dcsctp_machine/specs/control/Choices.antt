@@ -1,0 +1,57 @@
+-- What a turn of the association takes from the rest of the endpoint. Over every run each of these may be
+-- anything, but that a drawn tag is fresh and that a cookie reads back as what its maker put in.
+use Rattle.std.specs.Prelude.{ℕ, Bool, Option, List, map}
+use Rattle.dcsctp_machine.specs.declared.association.Pair.{Pair}
+use Rattle.dcsctp_machine.specs.Cause.{Cause}
+use Rattle.dcsctp_machine.specs.Packet.{Content, other}
+use Rattle.dcsctp_machine.specs.Outcome.{Following}
+use Rattle.dcsctp_machine.specs.Reconfiguration.{RequestedReset}
+
+-- a chunk that speaks of no association: data, an acknowledgement, and the like
+pub record Plain : Type 0 where
+  pub chunk_type : ℕ
+  pub flags : ℕ
+  pub value : List ℕ
+
+abbrev pub plain_content : Plain → Content
+plain_content chunk = other chunk.chunk_type chunk.flags chunk.value
+
+abbrev pub plain_contents : List Plain → List Content
+plain_contents chunks = map plain_content chunks
+
+-- what a flush finds to send
+pub record Filling : Type 0 where
+  -- Does `max_burst` allow a packet?
+  pub is_allowed : Bool
+  -- in the first packet, after what its builder holds: SACK, FORWARD-TSN
+  pub acknowledgements : List Plain
+  -- the reset that is begun, where a stream is ready for it and the request fits
+  pub reset : Option RequestedReset
+  -- the data behind it
+  pub data_chunks : List Plain
+  -- the packets after the first
+  pub further : List (List Plain)
+
+pub record Choices : Type 0 where
+  -- the pair that is drawn, where one is
+  pub drawn : Pair
+  -- the bytes of the cookie, where one is made
+  pub cookie : List ℕ
+  -- the association's tie tag (RFC 9260, section 5.2.2)
+  pub tie : ℕ
+  -- Does the packet of one chunk fit?
+  pub fits : Bool
+  -- Is all data acknowledged that was sent?
+  pub is_acknowledged : Bool
+  -- Has all data come that was sent before a reset was requested?
+  pub is_reached : Bool
+  -- Does the chunk break the protocol that was negotiated, and what is said then?
+  pub is_violation : Bool
+  pub causes : List Cause
+  -- the cumulative TSN ack of a SHUTDOWN that is sent
+  pub tsn : ℕ
+  -- what follows a chunk that speaks of no association
+  pub following : Following
+  -- packets that speak of no association, before a flush: HEARTBEAT ACK, ERROR, a fast retransmit
+  pub plain : List (List Plain)
+  pub filling : Filling

@@ -1,0 +1,120 @@
+-- What a COOKIE ECHO does to the association (RFC 9260, section 5.2.4): which case it is, and what each does.
+use Rattle.std.specs.Prelude.{◌==◌, ℕ, Bool, true, false, List, [], ◌∷◌, Result, Ok, Err}
+use Rattle.dcsctp_machine.specs.declared.association.Pair.{Pair}
+use Rattle.dcsctp_machine.specs.declared.association.Held.{Held}
+use Rattle.dcsctp_machine.specs.declared.options.Options.{Options}
+use Rattle.dcsctp_machine.specs.Offer.{offer_of, negotiated}
+use Rattle.dcsctp_machine.specs.Cookie.{Cookie, cookie_at}
+use Rattle.dcsctp_machine.specs.Cause.{cookie_received_while_shutting_down, cause_bytes}
+use Rattle.dcsctp_wire.specs.Numbers.{error_type}
+use Rattle.dcsctp_machine.specs.Packet.{Content, cookie_ack, shutdown_ack, other}
+use Rattle.dcsctp_machine.specs.Endpoint.{Core, closed, cookie_wait, cookie_echoed, open_in, OpenPhase, established, shutdown_pending, shutdown_sent, shutdown_received, shutdown_ack_sent}
+use Rattle.dcsctp_machine.specs.Outcome.{next_chunk, dropped_rest}
+use Rattle.dcsctp_machine.specs.control.Effect.{holds, connects, Change, unchanged, dropped, emitted, link_of}
+use Rattle.dcsctp_machine.specs.control.Choices.{Choices}
+use Rattle.dcsctp_machine.specs.control.Flush.{Flushed, flush}
+use Rattle.dcsctp_machine.specs.control.Handshake.{new_held}
+
+-- ---- which case
+
+pub data Resolution : Type 0 where
+  -- No peer is held: the association is made.
+  establish_new : Resolution
+  -- The peer began anew: both tags are other ones, and the tie tag is the association's.
+  restart : Resolution
+  -- Both sides began at the same time.
+  simultaneous_init : Resolution
+  -- The cookie is of an attempt that is over.
+  discard : Resolution
+  -- The association is the one that is held.
+  maintain_existing : Resolution
+  invalid_tag : Resolution
+
+-- The table of RFC 9260, section 5.2.4, where a peer is held, by four answers: is the header tag the own tag,
+-- is the cookie's peer tag the peer's, is its tie tag the association's, and is it 0?
+abbrev pub case_by : Bool → Bool → Bool → Bool → Resolution
+case_by false false true zero = restart
+case_by false false false zero = invalid_tag
+case_by true false tie zero = simultaneous_init
+case_by false true tie true = discard
+case_by false true tie false = invalid_tag
+case_by true true tie zero = maintain_existing
+
+-- Where no peer is held, the header bears the tag that the cookie's maker had chosen.
+abbrev pub case_without_peer : Bool → Resolution
+case_without_peer true = establish_new
+case_without_peer false = invalid_tag
+
+abbrev pub case_with_peer : Pair → Held → ℕ → ℕ → Cookie → Resolution
+case_with_peer my held tie header cookie = case_by (header == my.tag) (cookie.addressee.tag == held.peer.tag) (cookie.tie == tie) (cookie.tie == 0)
+
+-- by the association, its tie tag, the header tag and the cookie
+abbrev pub resolve : Core → ℕ → ℕ → Cookie → Resolution
+resolve closed tie header cookie = case_without_peer (header == cookie.maker.tag)
+resolve (cookie_wait my) tie header cookie = case_without_peer (header == cookie.maker.tag)
+resolve (cookie_echoed my held echoed) tie header cookie = case_with_peer my held tie header cookie
+resolve (open_in phase my held) tie header cookie = case_with_peer my held tie header cookie
+
+-- ---- what each does
+
+-- the peer that a cookie shows
+abbrev pub held_by_cookie : Options → Cookie → Held
+held_by_cookie options cookie = new_held cookie.maker cookie.addressee (negotiated (offer_of options) cookie.offer)
+
+-- A new association: of the pairs in the cookie, with what was offered in the INIT that it answers. COOKIE ACK
+-- is the first chunk of a flush.
+abbrev pub new_association : Options → Cookie → Choices → Change
+new_association options cookie choices =
+    let held : Held = held_by_cookie options cookie in
+    let after : Flushed = flush cookie.addressee.tag held (cookie_ack ∷ []) choices.filling in
+    record {
+      core = open_in established cookie.maker after.held;
+      effects = holds (link_of cookie.maker held) ∷ connects (link_of cookie.maker held) ∷ after.effects;
+      following = next_chunk;
+    }
+
+-- ERROR with the cause Cookie Received While Shutting Down
+abbrev pub shutting_down_error : Content
+shutting_down_error = other error_type 0 (cause_bytes cookie_received_while_shutting_down)
+
+-- A restart is refused once SHUTDOWN ACK was sent.
+abbrev pub restarts_where_open : Options → OpenPhase → Pair → Held → Cookie → Choices → Change
+restarts_where_open options established my held cookie choices = new_association options cookie choices
+restarts_where_open options shutdown_pending my held cookie choices = new_association options cookie choices
+restarts_where_open options shutdown_sent my held cookie choices = new_association options cookie choices
+restarts_where_open options shutdown_received my held cookie choices = new_association options cookie choices
+restarts_where_open options shutdown_ack_sent my held cookie choices =
+    record { core = open_in shutdown_ack_sent my held; effects = emitted held.peer.tag (shutdown_ack ∷ shutting_down_error ∷ []); following = dropped_rest }
+
+abbrev pub restarts : Options → Core → Cookie → Choices → Change
+restarts options closed cookie choices = new_association options cookie choices
+restarts options (cookie_wait my) cookie choices = new_association options cookie choices
+restarts options (cookie_echoed my held echoed) cookie choices = new_association options cookie choices
+restarts options (open_in phase my held) cookie choices = restarts_where_open options phase my held cookie choices
+
+-- Where its COOKIE ACK is awaited, the association is established; in every phase COOKIE ACK goes out.
+abbrev pub maintains : Core → Cookie → Choices → Change
+maintains closed cookie choices = unchanged closed
+maintains (cookie_wait my) cookie choices = unchanged (cookie_wait my)
+maintains (cookie_echoed my held echoed) cookie choices =
+    let after : Flushed = flush cookie.addressee.tag held (cookie_ack ∷ []) choices.filling in
+    record { core = open_in established my after.held; effects = connects (link_of my held) ∷ after.effects; following = next_chunk }
+maintains (open_in phase my held) cookie choices =
+    let after : Flushed = flush cookie.addressee.tag held (cookie_ack ∷ []) choices.filling in
+    record { core = open_in phase my after.held; effects = after.effects; following = next_chunk }
+
+abbrev pub resolved : Options → Core → Cookie → Choices → Resolution → Change
+resolved options core cookie choices establish_new = new_association options cookie choices
+resolved options core cookie choices restart = restarts options core cookie choices
+resolved options core cookie choices simultaneous_init = new_association options cookie choices
+resolved options core cookie choices discard = dropped core
+resolved options core cookie choices maintain_existing = maintains core cookie choices
+resolved options core cookie choices invalid_tag = dropped core
+
+-- Bytes that are no cookie change nothing.
+abbrev pub echo_read : Options → Core → ℕ → Result Cookie (List ℕ) → Choices → Change
+echo_read options core header (Err text) choices = dropped core
+echo_read options core header (Ok cookie) choices = resolved options core cookie choices (resolve core choices.tie header cookie)
+
+abbrev pub cookie_echo_change : Options → Core → ℕ → List ℕ → Choices → Change
+cookie_echo_change options core header bytes choices = echo_read options core header (cookie_at bytes) choices

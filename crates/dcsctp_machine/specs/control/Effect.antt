@@ -1,0 +1,74 @@
+-- What a turn does to the association, and what it does that two sides have to agree on.
+use Rattle.std.specs.Prelude.{ℕ, Bool, Option, None, Some, List, [], ◌∷◌, ◌++◌, if◌then◌else◌}
+use Rattle.dcsctp_machine.specs.declared.association.Pair.{Pair}
+use Rattle.dcsctp_machine.specs.declared.association.Held.{Held}
+use Rattle.dcsctp_machine.specs.declared.capabilities.Capabilities.{Capabilities}
+use Rattle.dcsctp_machine.specs.Packet.{Content, Packet}
+use Rattle.dcsctp_machine.specs.Endpoint.{Core, closed, cookie_wait, cookie_echoed, open_in}
+use Rattle.dcsctp_machine.specs.Outcome.{Following, next_chunk, dropped_rest}
+
+-- an association with a peer, as one side sees it
+pub record Link : Type 0 where
+  pub my : Pair
+  pub peer : Pair
+  pub capabilities : Capabilities
+
+pub data Effect : Type 0 where
+  -- A pair was drawn.
+  draws : Pair → Effect
+  -- A packet was emitted.
+  sends : Packet → Effect
+  -- From here on this association is held, in place of the one before.
+  holds : Link → Effect
+  -- OnConnected, of this association
+  connects : Link → Effect
+  -- OnClosed or OnAborted
+  ends : Effect
+  -- An own request to reset streams was begun, by its number.
+  begins : ℕ → Effect
+  -- OnStreamsResetPerformed: the own request of this number has ended, under this own pair.
+  completes : Pair → ℕ → Effect
+  -- OnStreamsResetFailed: the own request of this number has ended.
+  fails : ℕ → Effect
+  -- The peer's request of this number was accepted: it is the next one.
+  accepts : ℕ → Effect
+  -- OnIncomingStreamReset: the peer's request of this number was performed, under this peer's pair.
+  performs : Pair → ℕ → Effect
+
+-- What one turn makes of the association, and its effects in order.
+pub record Change : Type 0 where
+  pub core : Core
+  pub effects : List Effect
+  pub following : Following
+
+-- nothing happens
+abbrev pub unchanged : Core → Change
+unchanged core = record { core = core; effects = []; following = next_chunk }
+
+-- Nothing happens, and the rest of the packet is dropped.
+abbrev pub dropped : Core → Change
+dropped core = record { core = core; effects = []; following = dropped_rest }
+
+-- The association ends, and the rest of the packet is dropped.
+abbrev pub ended : List Effect → Change
+ended before = record { core = closed; effects = before ++ ends ∷ []; following = dropped_rest }
+
+-- a packet, unless it is empty: one without chunks isn't emitted
+abbrev pub emitted : ℕ → List Content → List Effect
+emitted tag [] = []
+emitted tag (content ∷ contents) = sends (record { tag = tag; contents = content ∷ contents }) ∷ []
+
+-- a packet of one chunk, where it fits
+abbrev pub emitted_alone : Bool → ℕ → Content → List Effect
+emitted_alone fits tag content = if fits then emitted tag (content ∷ []) else []
+
+-- the association with a peer that this is
+abbrev pub link_of : Pair → Held → Link
+link_of my held = record { my = my; peer = held.peer; capabilities = held.capabilities }
+
+-- the association that is held, outside CookieWait
+abbrev pub link_in : Core → Option Link
+link_in closed = None
+link_in (cookie_wait my) = None
+link_in (cookie_echoed my held cookie) = Some (link_of my held)
+link_in (open_in phase my held) = Some (link_of my held)
