@@ -1,36 +1,48 @@
 -- Admission of a packet that was read.
 use Rattle.std.proofs.Common.{◌≡◌, ◌==◌, ◌≤◌, ℕ, Bool, true, false, cond, Option, None, List, [], ◌∷◌, length, map, refl, ap, ◌∙◌, arith}
 use Rattle.std.proofs.lemmas.List.{length-map}
-use Rattle.dcsctp_wire.specs.Content.{ChunkContent, init_chunk, init_ack_chunk, other_chunk, PacketContent}
+use Rattle.dcsctp_wire.specs.Content.{ChunkContent, init_chunk, init_ack_chunk, abort_chunk, cookie_echo_chunk, cookie_ack_chunk, other_chunk, PacketContent}
 use Rattle.dcsctp_machine.specs.Endpoint.{Core, own_tag}
 use Rattle.dcsctp_machine.specs.Packet.{Content, Packet, content_in, packet_in}
 use Rattle.dcsctp_machine.specs.Admission.{Admission, all_chunks, refused, first_abort, first_shutdown_complete, has_shutdown_ack, is_echo_in_front, is_single_init, is_own_tag, single_init_text, wrong_tag_text, admitted_where, admits_by, admits}
 
--- The reader gives ABORT, the chunks of shutdown and COOKIE ECHO by their headers alone, so no line of the
--- table for one of them applies.
+-- ABORT, the chunks of shutdown and COOKIE ECHO stand as type, flags and value, so no line of the table for one
+-- of them applies.
 
 no_abort : (chunks : List ChunkContent) → first_abort (map content_in chunks) ≡ None
 no_abort [] = refl
 no_abort (init_chunk chunk ∷ chunks) = no_abort chunks
 no_abort (init_ack_chunk chunk ∷ chunks) = no_abort chunks
+no_abort (abort_chunk reflected causes ∷ chunks) = no_abort chunks
+no_abort (cookie_echo_chunk cookie ∷ chunks) = no_abort chunks
+no_abort (cookie_ack_chunk ∷ chunks) = no_abort chunks
 no_abort (other_chunk type flags value ∷ chunks) = no_abort chunks
 
 no_shutdown_complete : (chunks : List ChunkContent) → first_shutdown_complete (map content_in chunks) ≡ None
 no_shutdown_complete [] = refl
 no_shutdown_complete (init_chunk chunk ∷ chunks) = no_shutdown_complete chunks
 no_shutdown_complete (init_ack_chunk chunk ∷ chunks) = no_shutdown_complete chunks
+no_shutdown_complete (abort_chunk reflected causes ∷ chunks) = no_shutdown_complete chunks
+no_shutdown_complete (cookie_echo_chunk cookie ∷ chunks) = no_shutdown_complete chunks
+no_shutdown_complete (cookie_ack_chunk ∷ chunks) = no_shutdown_complete chunks
 no_shutdown_complete (other_chunk type flags value ∷ chunks) = no_shutdown_complete chunks
 
 no_shutdown_ack : (chunks : List ChunkContent) → has_shutdown_ack (map content_in chunks) ≡ false
 no_shutdown_ack [] = refl
 no_shutdown_ack (init_chunk chunk ∷ chunks) = no_shutdown_ack chunks
 no_shutdown_ack (init_ack_chunk chunk ∷ chunks) = no_shutdown_ack chunks
+no_shutdown_ack (abort_chunk reflected causes ∷ chunks) = no_shutdown_ack chunks
+no_shutdown_ack (cookie_echo_chunk cookie ∷ chunks) = no_shutdown_ack chunks
+no_shutdown_ack (cookie_ack_chunk ∷ chunks) = no_shutdown_ack chunks
 no_shutdown_ack (other_chunk type flags value ∷ chunks) = no_shutdown_ack chunks
 
 no_echo_in_front : (chunks : List ChunkContent) → is_echo_in_front (map content_in chunks) ≡ false
 no_echo_in_front [] = refl
 no_echo_in_front (init_chunk chunk ∷ chunks) = refl
 no_echo_in_front (init_ack_chunk chunk ∷ chunks) = refl
+no_echo_in_front (abort_chunk reflected causes ∷ chunks) = refl
+no_echo_in_front (cookie_echo_chunk cookie ∷ chunks) = refl
+no_echo_in_front (cookie_ack_chunk ∷ chunks) = refl
 no_echo_in_front (other_chunk type flags value ∷ chunks) = refl
 
 either : (test : Bool) (text : List ℕ) → admitted_where test text ≡ cond test all_chunks (refused text)

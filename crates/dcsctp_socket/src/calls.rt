@@ -30,6 +30,9 @@ fn handle_chunk<R: Rng>(
     match chunk {
         Chunk::Init(init) => handle_init(state, context, events, init)?,
         Chunk::InitAck(_) => {}
+        Chunk::Abort(_) => {}
+        Chunk::CookieEcho(_) => {}
+        Chunk::CookieAck => {}
         Chunk::Other(_) => {}
     }
     Ok(())

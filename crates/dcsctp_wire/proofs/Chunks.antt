@@ -1,10 +1,11 @@
 -- Reading chunks one after the other, as a loop does.
 use Rattle.std.proofs.Common.{◌≡◌, ℕ, List, [], ◌∷◌, Some, refl, sym, ap, subst, ◌∙◌, arith}
 use Rattle.std.specs.Prelude.{slice_index}
-use Rattle.dcsctp_wire.specs.Content.{InitContent, ChunkContent, init_chunk, init_ack_chunk, other_chunk}
+use Rattle.dcsctp_wire.specs.Content.{InitContent, ChunkContent, init_chunk, init_ack_chunk, abort_chunk, cookie_echo_chunk, cookie_ack_chunk, other_chunk}
 use Rattle.dcsctp_wire.specs.Format.{Frame, frame_at, IsInitValue, IsChunkOf, BeginsWithChunk, AreChunks}
 use Rattle.dcsctp_wire.proofs.Frames.{frame_of_nothing, same_frame}
 use Rattle.dcsctp_wire.proofs.Parameters.{same_parameters}
+use Rattle.dcsctp_wire.proofs.Causes.{same_causes}
 
 -- a value is one INIT
 same_init : (a b : InitContent) (value : List ℕ) → IsInitValue a value → IsInitValue b value → a ≡ b
@@ -27,14 +28,14 @@ same_init a b value x y =
 -- type, flags and value are those of one chunk
 same_chunk_of : (a b : ChunkContent) (chunk_type flags : ℕ) (value : List ℕ) → IsChunkOf a chunk_type flags value → IsChunkOf b chunk_type flags value → a ≡ b
 same_chunk_of (init_chunk a) (init_chunk b) chunk_type flags value x y = ap init_chunk (same_init a b value x.1 y.1)
-same_chunk_of (init_chunk a) (init_ack_chunk b) chunk_type flags value x y = absurd (omega (arith, x.0, y.0))
-same_chunk_of (init_chunk a) (other_chunk b c d) chunk_type flags value x y = absurd (y.0 x.0)
-same_chunk_of (init_ack_chunk a) (init_chunk b) chunk_type flags value x y = absurd (omega (arith, x.0, y.0))
 same_chunk_of (init_ack_chunk a) (init_ack_chunk b) chunk_type flags value x y = ap init_ack_chunk (same_init a b value x.1 y.1)
-same_chunk_of (init_ack_chunk a) (other_chunk b c d) chunk_type flags value x y = absurd (y.1 x.0)
-same_chunk_of (other_chunk b c d) (init_chunk a) chunk_type flags value x y = absurd (x.0 y.0)
-same_chunk_of (other_chunk b c d) (init_ack_chunk a) chunk_type flags value x y = absurd (x.1 y.0)
-same_chunk_of (other_chunk b c d) (other_chunk e f g) chunk_type flags value x y = cc (x.2, x.3, x.4, y.2, y.3, y.4)
+same_chunk_of (abort_chunk a ps) (abort_chunk b qs) chunk_type flags value x y =
+    let causes : ps ≡ qs = same_causes ps qs value x.2 y.2 in
+    cc (x.1, y.1, causes)
+same_chunk_of (cookie_echo_chunk a) (cookie_echo_chunk b) chunk_type flags value x y = cc (x.1, y.1)
+same_chunk_of cookie_ack_chunk cookie_ack_chunk chunk_type flags value x y = refl
+same_chunk_of (other_chunk b c d) (other_chunk e f g) chunk_type flags value x y = cc (x.1, x.2, x.3, y.1, y.2, y.3)
+same_chunk_of a b chunk_type flags value x y = absurd (grind (arith, x, y))
 
 -- what stands in front is one chunk
 same_chunk : (p q : ChunkContent) (rest after bytes : List ℕ) → BeginsWithChunk p rest bytes → BeginsWithChunk q after bytes → (p ≡ q) × (rest ≡ after)

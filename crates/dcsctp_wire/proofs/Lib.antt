@@ -1,4 +1,6 @@
 pub mod BuiltPackets
+pub mod CauseFacts
+pub mod Causes
 pub mod Chunks
 pub mod Crc32cBlocks
 pub mod Crc32cFacts

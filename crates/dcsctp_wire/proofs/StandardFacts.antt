@@ -4,8 +4,8 @@ use Rattle.std.proofs.Common.{◌≡◌, ℕ, Bool, true, false, None, Some, Lis
 use Rattle.dcsctp_wire.specs.declared.packet.WireOptions.{WireOptions}
 use Rattle.dcsctp_wire.specs.Building.{bytes_remaining}
 use Rattle.dcsctp_wire.specs.Crc32c.{bit_step, eight_bit_steps, byte_step, register_after, crc32c_of, packet_checksum_of}
-use Rattle.dcsctp_wire.specs.Content.{state_cookie, supported_extensions, zero_checksum_acceptable, forward_tsn_supported, unknown_parameter, InitContent, init_chunk, init_ack_chunk, other_chunk, PacketContent}
-use Rattle.dcsctp_wire.specs.Format.{u16_at, u32_at, frame_at, parameter_of, IsInitValue, IsChunkOf, is_cookie_echo, checksum_accepted, IsPacket}
+use Rattle.dcsctp_wire.specs.Content.{state_cookie, supported_extensions, zero_checksum_acceptable, forward_tsn_supported, unknown_parameter, InitContent, init_chunk, init_ack_chunk, cookie_echo_chunk, cookie_ack_chunk, other_chunk, PacketContent}
+use Rattle.dcsctp_wire.specs.Format.{u16_at, u32_at, frame_at, parameter_of, IsInitValue, IsChunkOf, checksum_accepted, IsPacket}
 use Rattle.dcsctp_wire.specs.Spelling.{parameter_bytes, parameters_len, init_fields, init_bytes, other_bytes, chunk_bytes, header_bytes, checksum_field, packet_bytes_of, packet_bytes}
 
 -- ---- numbers (RFC 9260, section 3: the highest byte comes first)
@@ -152,7 +152,7 @@ init_ack_is_spelled : chunk_bytes (init_ack_chunk (record { initiate_tag = 1; a_
 unfolding init_bytes init_fields parameters_len parameter_bytes
 init_ack_is_spelled = refl
 
-other_chunk_is_spelled : chunk_bytes (other_chunk 6 1 (0xaa ∷ [])) ≡ 6 ∷ 1 ∷ 0 ∷ 5 ∷ 0xaa ∷ 0 ∷ 0 ∷ 0 ∷ []
+other_chunk_is_spelled : chunk_bytes (other_chunk 7 1 (0xaa ∷ [])) ≡ 7 ∷ 1 ∷ 0 ∷ 5 ∷ 0xaa ∷ 0 ∷ 0 ∷ 0 ∷ []
 unfolding other_bytes
 other_chunk_is_spelled = refl
 
@@ -182,13 +182,35 @@ init_ack_is_read = (refl, every_field_is_read)
 
 -- Neither is read by its header alone.
 init_has_fields : (flags : ℕ) (value : List ℕ) → IsChunkOf (other_chunk 1 flags value) 1 flags value → ⊥
-init_has_fields flags value h = h.0 refl
+init_has_fields flags value h = h.0.0 refl
 
 init_ack_has_fields : (flags : ℕ) (value : List ℕ) → IsChunkOf (other_chunk 2 flags value) 2 flags value → ⊥
-init_ack_has_fields flags value h = h.1 refl
+init_ack_has_fields flags value h = h.0.1 refl
 
-other_chunk_is_read : IsChunkOf (other_chunk 6 1 (0xaa ∷ [])) 6 1 (0xaa ∷ [])
-other_chunk_is_read = (λ e. absurd (omega (arith, e)), λ e. absurd (omega (arith, e)), refl, refl, refl)
+other_chunk_is_read : IsChunkOf (other_chunk 7 1 (0xaa ∷ [])) 7 1 (0xaa ∷ [])
+other_chunk_is_read =
+    ((λ e. absurd (omega (arith, e)), λ e. absurd (omega (arith, e)), λ e. absurd (omega (arith, e)), λ e. absurd (omega (arith, e)), λ e. absurd (omega (arith, e))), refl, refl, refl)
+
+-- 10 is COOKIE ECHO, whose value is the cookie, and 11 COOKIE ACK (RFC 9260, sections 3.3.11 and 3.3.12).
+cookie_echo_is_spelled : chunk_bytes (cookie_echo_chunk (1 ∷ 2 ∷ 3 ∷ 4 ∷ 5 ∷ [])) ≡ 10 ∷ 0 ∷ 0 ∷ 9 ∷ 1 ∷ 2 ∷ 3 ∷ 4 ∷ 5 ∷ 0 ∷ 0 ∷ 0 ∷ []
+unfolding other_bytes
+cookie_echo_is_spelled = refl
+
+cookie_ack_alone_is_spelled : chunk_bytes cookie_ack_chunk ≡ 11 ∷ 0 ∷ 0 ∷ 4 ∷ []
+unfolding other_bytes
+cookie_ack_alone_is_spelled = refl
+
+cookie_echo_is_read : IsChunkOf (cookie_echo_chunk (1 ∷ 2 ∷ 3 ∷ [])) 10 0xff (1 ∷ 2 ∷ 3 ∷ [])
+cookie_echo_is_read = (refl, refl)
+
+value_of_cookie_ack_is_not_looked_at : IsChunkOf cookie_ack_chunk 11 0xff (1 ∷ [])
+value_of_cookie_ack_is_not_looked_at = refl
+
+cookie_echo_has_a_cookie : (flags : ℕ) (value : List ℕ) → IsChunkOf (other_chunk 10 flags value) 10 flags value → ⊥
+cookie_echo_has_a_cookie flags value h = h.0.3 refl
+
+cookie_ack_has_no_value : (flags : ℕ) (value : List ℕ) → IsChunkOf (other_chunk 11 flags value) 11 flags value → ⊥
+cookie_ack_has_no_value flags value h = h.0.4 refl
 
 init_of_15_bytes_is_refused : (init : InitContent) → IsInitValue init (1 ∷ 2 ∷ 3 ∷ 4 ∷ 5 ∷ 6 ∷ 7 ∷ 8 ∷ 9 ∷ 10 ∷ 11 ∷ 12 ∷ 13 ∷ 14 ∷ 15 ∷ []) → ⊥
 init_of_15_bytes_is_refused init h = absurd (omega (arith, h.long_enough))
@@ -233,13 +255,6 @@ no_inbound_stream_is_refused : IsInitValue (least 1 1500 1 0) (least_value 1 0xd
 unfolding least
 no_inbound_stream_is_refused h = absurd (omega (arith, h.receives_on_a_stream))
 
--- 10 is COOKIE ECHO, 11 COOKIE ACK (RFC 9260, section 3.2).
-echo_is_10 : is_cookie_echo (other_chunk 10 0 []) ≡ true
-echo_is_10 = refl
-
-ack_is_no_echo : is_cookie_echo (other_chunk 11 0 []) ≡ false
-ack_is_no_echo = refl
-
 -- ---- packets (RFC 9260, section 3.1)
 
 header_is_spelled : header_bytes 5000 5001 0x01020304 ≡ 0x13 ∷ 0x88 ∷ 0x13 ∷ 0x89 ∷ 1 ∷ 2 ∷ 3 ∷ 4 ∷ []
@@ -248,7 +263,7 @@ header_is_spelled = refl
 
 -- a COOKIE ACK, whose checksum 0x9583628b was computed elsewhere
 cookie_ack : PacketContent
-cookie_ack = record { source_port = 5000; destination_port = 5001; verification_tag = 0x01020304; chunks = other_chunk 11 0 [] ∷ [] }
+cookie_ack = record { source_port = 5000; destination_port = 5001; verification_tag = 0x01020304; chunks = cookie_ack_chunk ∷ [] }
 
 cookie_ack_bytes : List ℕ
 cookie_ack_bytes = 0x13 ∷ 0x88 ∷ 0x13 ∷ 0x89 ∷ 1 ∷ 2 ∷ 3 ∷ 4 ∷ 0x8b ∷ 0x62 ∷ 0x83 ∷ 0x95 ∷ 11 ∷ 0 ∷ 0 ∷ 4 ∷ []
@@ -300,7 +315,7 @@ cookie_ack_is_read =
       verification_tag = refl;
       to_this_port = refl;
       checked = refl;
-      chunks = (_, record { value = []; framed = refl; read = (λ e. absurd (omega (arith, e)), λ e. absurd (omega (arith, e)), refl, refl, refl) }, refl);
+      chunks = (_, record { value = []; framed = refl; read = refl }, refl);
       echo_in_front = tt;
     }
 
@@ -312,10 +327,10 @@ unfolding reader cookie_ack
 other_port_is_refused h = absurd (omega (arith, h.to_this_port))
 
 -- a COOKIE ECHO behind a COOKIE ACK
-late_echo_is_refused : (bytes : List ℕ) → IsPacket (reader 5001 true 0) (record cookie_ack { chunks = other_chunk 11 0 [] ∷ other_chunk 10 0 [] ∷ [] }) bytes → ⊥
+late_echo_is_refused : (bytes : List ℕ) → IsPacket (reader 5001 true 0) (record cookie_ack { chunks = cookie_ack_chunk ∷ cookie_echo_chunk [] ∷ [] }) bytes → ⊥
 late_echo_is_refused bytes h = absurd (cc h.echo_in_front.0)
 
-echo_first_is_read : IsPacket (reader 5001 true 0) (record cookie_ack { chunks = other_chunk 10 0 [] ∷ other_chunk 11 0 [] ∷ [] })
+echo_first_is_read : IsPacket (reader 5001 true 0) (record cookie_ack { chunks = cookie_echo_chunk [] ∷ cookie_ack_chunk ∷ [] })
     (0x13 ∷ 0x88 ∷ 0x13 ∷ 0x89 ∷ 1 ∷ 2 ∷ 3 ∷ 4 ∷ 0 ∷ 0 ∷ 0 ∷ 0 ∷ 10 ∷ 0 ∷ 0 ∷ 4 ∷ 11 ∷ 0 ∷ 0 ∷ 4 ∷ [])
 unfolding frame_at reader cookie_ack
 echo_first_is_read =
@@ -328,8 +343,8 @@ echo_first_is_read =
       checked = refl;
       chunks = (
         _,
-        record { value = []; framed = refl; read = (λ e. absurd (omega (arith, e)), λ e. absurd (omega (arith, e)), refl, refl, refl) },
-        (_, record { value = []; framed = refl; read = (λ e. absurd (omega (arith, e)), λ e. absurd (omega (arith, e)), refl, refl, refl) }, refl),
+        record { value = []; framed = refl; read = (refl, refl) },
+        (_, record { value = []; framed = refl; read = refl }, refl),
       );
       echo_in_front = (refl, tt);
     }

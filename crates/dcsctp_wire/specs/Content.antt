@@ -1,10 +1,12 @@
 -- What packets, chunks and parameters say, apart from where they lie in memory (RFC 9260, section 3).
-use Rattle.std.specs.Prelude.{ℕ, List, map}
+use Rattle.std.specs.Prelude.{ℕ, Bool, List, map}
 use Rattle.dcsctp_wire.specs.declared.parameter.Parameter.{Parameter}
 use Rattle.dcsctp_wire.specs.declared.parameter.Parameter.TheVariants.{StateCookie, SupportedExtensions, ZeroChecksumAcceptable, ForwardTsnSupported, Unknown}
+use Rattle.dcsctp_wire.specs.declared.cause.ErrorCause.{ErrorCause}
+use Rattle.dcsctp_wire.specs.declared.cause.ErrorCause.TheVariants as causes
 use Rattle.dcsctp_wire.specs.declared.chunk.init.InitChunk.{InitChunk}
 use Rattle.dcsctp_wire.specs.declared.chunk.Chunk.{Chunk}
-use Rattle.dcsctp_wire.specs.declared.chunk.Chunk.TheVariants.{Init, InitAck, Other}
+use Rattle.dcsctp_wire.specs.declared.chunk.Chunk.TheVariants.{Init, InitAck, Abort, CookieEcho, CookieAck, Other}
 use Rattle.dcsctp_wire.specs.declared.packet.SctpPacket.{SctpPacket}
 
 -- An optional parameter of INIT or INIT ACK (RFC 9260, section 3.2.1)
@@ -29,10 +31,23 @@ pub record InitContent : Type 0 where
   pub initial_tsn : ℕ
   pub parameters : List ParameterContent
 
+-- An error cause (RFC 9260, section 3.3.10)
+pub data CauseContent : Type 0 where
+  -- Missing Mandatory Parameter (RFC 9260, section 3.3.10.2): the types of the parameters, two bytes each
+  missing_mandatory_parameter : List ℕ → CauseContent
+  -- any other: its code and value
+  unknown_cause : ℕ → List ℕ → CauseContent
+
 -- A chunk (RFC 9260, section 3.2)
 pub data ChunkContent : Type 0 where
   init_chunk : InitContent → ChunkContent
   init_ack_chunk : InitContent → ChunkContent
+  -- ABORT (RFC 9260, section 3.3.7): the T bit, and why
+  abort_chunk : Bool → List CauseContent → ChunkContent
+  -- COOKIE ECHO (RFC 9260, section 3.3.11): the bytes of the state cookie
+  cookie_echo_chunk : List ℕ → ChunkContent
+  -- COOKIE ACK (RFC 9260, section 3.3.12)
+  cookie_ack_chunk : ChunkContent
   -- a chunk that is read by its header alone: type, flags, value
   other_chunk : ℕ → ℕ → List ℕ → ChunkContent
 
@@ -51,6 +66,11 @@ parameter_content (ZeroChecksumAcceptable method) = zero_checksum_acceptable met
 parameter_content ForwardTsnSupported = forward_tsn_supported
 parameter_content (Unknown parameter_type value) = unknown_parameter parameter_type value.now
 
+-- what a cause in memory says
+abbrev pub cause_content : ErrorCause → CauseContent
+cause_content (causes.MissingMandatoryParameter types) = missing_mandatory_parameter types.now
+cause_content (causes.Unknown code value) = unknown_cause code value.now
+
 -- what an INIT or INIT ACK in memory says
 abbrev pub init_content : InitChunk → InitContent
 init_content chunk =
@@ -67,6 +87,9 @@ init_content chunk =
 abbrev pub chunk_content : Chunk → ChunkContent
 chunk_content (Init chunk) = init_chunk (init_content chunk)
 chunk_content (InitAck chunk) = init_ack_chunk (init_content chunk)
+chunk_content (Abort chunk) = abort_chunk chunk.tag_reflected (map cause_content chunk.error_causes.items)
+chunk_content (CookieEcho chunk) = cookie_echo_chunk chunk.cookie.now
+chunk_content CookieAck = cookie_ack_chunk
 chunk_content (Other chunk) = other_chunk chunk.chunk_type chunk.flags chunk.value.now
 
 -- what a packet in memory says

@@ -1,12 +1,13 @@
 -- Which bytes a packet, a chunk and a parameter are read from (RFC 9260, section 3).
 -- A list of chunks or parameters is read where its first stands in front and the others behind it.
-use Rattle.std.specs.Prelude.{◌≡◌, ◌≢◌, ◌≤◌, ◌==◌, ℕ, ◌+◌, ◌-◌, ◌%◌, Bool, false, not, ◌&&◌, ◌||◌, IsTrue, List, [], ◌∷◌, length, take, drop, Option, Some, None, nat_lt, slice_index, if◌then◌else◌}
+use Rattle.std.specs.Prelude.{◌≡◌, ◌≢◌, ◌≤◌, ◌==◌, ℕ, ◌+◌, ◌*◌, ◌-◌, ◌%◌, Bool, true, false, not, ◌&&◌, ◌||◌, IsTrue, List, [], ◌∷◌, length, take, drop, Option, Some, None, nat_lt, slice_index, if◌then◌else◌}
 use Rattle.std.specs.List.{AllByRecursion}
+use Rattle.std.specs.Option.{option_map}
 use Rattle.std.specs.Int.{w16, w32, from_be_bytes, from_le_bytes}
 use Rattle.dcsctp_wire.specs.declared.packet.WireOptions.{WireOptions}
-use Rattle.dcsctp_wire.specs.Numbers.{init_type, init_ack_type, cookie_echo_type, state_cookie_type, zero_checksum_acceptable_type, supported_extensions_type, forward_tsn_supported_type}
+use Rattle.dcsctp_wire.specs.Numbers.{init_type, init_ack_type, abort_type, missing_mandatory_parameter_code, cookie_echo_type, cookie_ack_type, state_cookie_type, zero_checksum_acceptable_type, supported_extensions_type, forward_tsn_supported_type}
 use Rattle.dcsctp_wire.specs.Crc32c.{packet_checksum_of}
-use Rattle.dcsctp_wire.specs.Content.{ParameterContent, state_cookie, supported_extensions, zero_checksum_acceptable, forward_tsn_supported, unknown_parameter, InitContent, ChunkContent, init_chunk, init_ack_chunk, other_chunk, PacketContent}
+use Rattle.dcsctp_wire.specs.Content.{ParameterContent, state_cookie, supported_extensions, zero_checksum_acceptable, forward_tsn_supported, unknown_parameter, InitContent, CauseContent, missing_mandatory_parameter, unknown_cause, ChunkContent, init_chunk, init_ack_chunk, abort_chunk, cookie_echo_chunk, cookie_ack_chunk, other_chunk, PacketContent}
 
 -- big-endian numbers at a place
 abbrev pub u16_at : ℕ → List ℕ → ℕ
@@ -71,12 +72,45 @@ pub record IsInitValue (init : InitContent) (value : List ℕ) : Type 0 where
   pub receives_on_a_stream : 1 ≤ init.inbound_streams
   pub parameters : AreParameters init.parameters (drop 16 value)
 
--- a chunk of this type, flags and value
+-- The types of missing parameters: a number of four bytes, and that many types of two (RFC 9260, section
+-- 3.3.10.2). Bytes behind them are not looked at.
+unfoldable pub missing_types : List ℕ → Option (List ℕ)
+missing_types value =
+    if nat_lt (length value) 4 then None
+    else (if nat_lt (length value) (4 + 2 * u32_at 0 value) then None
+    else Some (take (2 * u32_at 0 value) (drop 4 value)))
+
+-- What a cause of this code and value says (RFC 9260, section 3.3.10).
+unfoldable pub cause_of : ℕ → List ℕ → Option CauseContent
+cause_of code value =
+    if code == missing_mandatory_parameter_code then option_map missing_mandatory_parameter (missing_types value)
+    else Some (unknown_cause code value)
+
+-- The cause stands in front of the bytes, and rest behind it. Causes have the frame of parameters.
+pub record BeginsWithCause (cause : CauseContent) (rest bytes : List ℕ) : Type 0 where
+  pub value : List ℕ
+  pub framed : frame_at bytes ≡ Some (record { value = value; rest = rest })
+  pub read : cause_of (u16_at 0 bytes) value ≡ Some cause
+
+-- the bytes are these causes
+abbrev pub AreCauses : List CauseContent → List ℕ → Type 0
+AreCauses [] bytes = bytes ≡ []
+AreCauses (cause ∷ causes) bytes = (rest : List ℕ) × BeginsWithCause cause rest bytes × AreCauses causes rest
+
+-- Chunks of this type are read by their header alone.
+abbrev pub IsOtherType : ℕ → Type 0
+IsOtherType chunk_type = (chunk_type ≢ init_type) × (chunk_type ≢ init_ack_type) × (chunk_type ≢ abort_type) × (chunk_type ≢ cookie_echo_type) × (chunk_type ≢ cookie_ack_type)
+
+-- A chunk of this type, flags and value. The flags of the kinds that have none are not looked at, and the value
+-- of a COOKIE ACK (RFC 9260, section 3.3.12) isn't either.
 abbrev pub IsChunkOf : ChunkContent → ℕ → ℕ → List ℕ → Type 0
 IsChunkOf (init_chunk init) chunk_type flags value = (chunk_type ≡ init_type) × IsInitValue init value
 IsChunkOf (init_ack_chunk init) chunk_type flags value = (chunk_type ≡ init_ack_type) × IsInitValue init value
+IsChunkOf (abort_chunk reflected causes) chunk_type flags value = (chunk_type ≡ abort_type) × (reflected ≡ (flags % 2 == 1)) × AreCauses causes value
+IsChunkOf (cookie_echo_chunk cookie) chunk_type flags value = (chunk_type ≡ cookie_echo_type) × (cookie ≡ value)
+IsChunkOf cookie_ack_chunk chunk_type flags value = chunk_type ≡ cookie_ack_type
 IsChunkOf (other_chunk other_type other_flags other_value) chunk_type flags value =
-    (chunk_type ≢ init_type) × (chunk_type ≢ init_ack_type) × (other_type ≡ chunk_type) × (other_flags ≡ flags) × (other_value ≡ value)
+    IsOtherType chunk_type × (other_type ≡ chunk_type) × (other_flags ≡ flags) × (other_value ≡ value)
 
 -- the chunk stands in front of the bytes, and rest behind it
 pub record BeginsWithChunk (chunk : ChunkContent) (rest bytes : List ℕ) : Type 0 where
@@ -93,7 +127,10 @@ AreChunks (chunk ∷ chunks) bytes = (rest : List ℕ) × BeginsWithChunk chunk 
 abbrev pub is_cookie_echo : ChunkContent → Bool
 is_cookie_echo (init_chunk init) = false
 is_cookie_echo (init_ack_chunk init) = false
-is_cookie_echo (other_chunk chunk_type flags value) = chunk_type == cookie_echo_type
+is_cookie_echo (abort_chunk reflected causes) = false
+is_cookie_echo (cookie_echo_chunk cookie) = true
+is_cookie_echo cookie_ack_chunk = false
+is_cookie_echo (other_chunk chunk_type flags value) = false
 
 -- The checksum is right, or its field is 0 and the reader has an alternate error detection method, or
 -- it is not looked at (RFC 9260, section 6.8; RFC 9653, section 5.3).

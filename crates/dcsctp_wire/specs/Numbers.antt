@@ -62,3 +62,9 @@ supported_extensions_type = 0x8008
 -- RFC 3758, section 3.1
 abbrev pub forward_tsn_supported_type : ℕ
 forward_tsn_supported_type = 0xc000
+
+-- ---- codes of error causes
+
+-- RFC 9260, section 3.3.10.2
+abbrev pub missing_mandatory_parameter_code : ℕ
+missing_mandatory_parameter_code = 2

@@ -1,11 +1,11 @@
 -- The bytes that a packet, a chunk and a parameter are written as (RFC 9260, section 3).
-use Rattle.std.specs.Prelude.{ℕ, ◌+◌, Bool, true, false, List, [], ◌∷◌, ◌++◌, length, replicate, fold}
+use Rattle.std.specs.Prelude.{ℕ, ◌+◌, ◌/◌, map, Bool, true, false, List, [], ◌∷◌, ◌++◌, length, replicate, fold}
 use Rattle.std.specs.List.{flat_map}
 use Rattle.std.specs.Int.{w16, w32, to_be_bytes, to_le_bytes}
-use Rattle.dcsctp_wire.specs.Numbers.{init_type, init_ack_type, state_cookie_type, zero_checksum_acceptable_type, supported_extensions_type, forward_tsn_supported_type}
+use Rattle.dcsctp_wire.specs.Numbers.{init_type, init_ack_type, abort_type, missing_mandatory_parameter_code, cookie_echo_type, cookie_ack_type, state_cookie_type, zero_checksum_acceptable_type, supported_extensions_type, forward_tsn_supported_type}
 use Rattle.dcsctp_wire.specs.Crc32c.{packet_checksum_of}
 use Rattle.dcsctp_wire.specs.Format.{padding_of}
-use Rattle.dcsctp_wire.specs.Content.{ParameterContent, state_cookie, supported_extensions, zero_checksum_acceptable, forward_tsn_supported, unknown_parameter, InitContent, ChunkContent, init_chunk, init_ack_chunk, other_chunk, PacketContent}
+use Rattle.dcsctp_wire.specs.Content.{ParameterContent, state_cookie, supported_extensions, zero_checksum_acceptable, forward_tsn_supported, unknown_parameter, InitContent, CauseContent, missing_mandatory_parameter, unknown_cause, ChunkContent, init_chunk, init_ack_chunk, abort_chunk, cookie_echo_chunk, cookie_ack_chunk, other_chunk, PacketContent}
 
 -- that many bytes 0
 abbrev pub zeros : ℕ → List ℕ
@@ -48,6 +48,29 @@ unfoldable pub init_bytes : ℕ → InitContent → List ℕ
 init_bytes chunk_type init =
     chunk_type ∷ 0 ∷ to_be_bytes w16 (20 + parameters_len init.parameters) ++ init_fields init ++ flat_map parameter_bytes init.parameters
 
+abbrev pub cause_code : CauseContent → ℕ
+cause_code (missing_mandatory_parameter types) = missing_mandatory_parameter_code
+cause_code (unknown_cause code value) = code
+
+abbrev pub cause_value : CauseContent → List ℕ
+cause_value (missing_mandatory_parameter types) = to_be_bytes w32 (length types / 2) ++ types
+cause_value (unknown_cause code value) = value
+
+-- A cause is written as a parameter is: its code, its length and its value.
+abbrev pub as_parameter : CauseContent → ParameterContent
+as_parameter cause = unknown_parameter (cause_code cause) (cause_value cause)
+
+-- the T bit, the lowest of the flags (RFC 9260, section 3.3.7)
+abbrev pub t_bit : Bool → ℕ
+t_bit true = 1
+t_bit false = 0
+
+-- The length of an ABORT leaves out the padding of its last cause.
+unfoldable pub abort_bytes : Bool → List CauseContent → List ℕ
+abort_bytes reflected causes =
+    abort_type ∷ t_bit reflected ∷ to_be_bytes w16 (4 + parameters_len (map as_parameter causes)) ++ flat_map parameter_bytes (map as_parameter causes)
+
+-- a chunk of this type, flags and value
 unfoldable pub other_bytes : ℕ → ℕ → List ℕ → List ℕ
 other_bytes chunk_type flags value =
     chunk_type ∷ flags ∷ to_be_bytes w16 (4 + length value) ++ value ++ zeros (padding_of (length value))
@@ -56,6 +79,9 @@ other_bytes chunk_type flags value =
 abbrev pub chunk_bytes : ChunkContent → List ℕ
 chunk_bytes (init_chunk init) = init_bytes init_type init
 chunk_bytes (init_ack_chunk init) = init_bytes init_ack_type init
+chunk_bytes (abort_chunk reflected causes) = abort_bytes reflected causes
+chunk_bytes (cookie_echo_chunk cookie) = other_bytes cookie_echo_type 0 cookie
+chunk_bytes cookie_ack_chunk = other_bytes cookie_ack_type 0 []
 chunk_bytes (other_chunk chunk_type flags value) = other_bytes chunk_type flags value
 
 -- ports and verification tag (RFC 9260, section 3.1)

@@ -4,12 +4,17 @@ ghost use Rattle.std.specs.Prelude.{◌≡◌, ◌<◌, ℕ, List, length, map, 
 ghost use Rattle.dcsctp_wire.specs.Content.{ChunkContent, chunk_content};
 ghost use Rattle.dcsctp_wire.specs.Format.{IsChunkOf, BeginsWithChunk, AreChunks};
 
+mod abort;
+mod cookie;
 mod init;
 mod other;
 
 use crate::bytes::read_frame;
+use crate::cause::read_causes;
 use crate::packet::PacketError;
 use crate::types::chunk_type;
+pub use abort::AbortChunk;
+pub use cookie::CookieEchoChunk;
 pub use init::InitChunk;
 use init::read_init;
 pub use other::OtherChunk;
@@ -27,6 +32,15 @@ pub enum Chunk<'a> {
     /// INIT ACK, type 2 (RFC 9260, section 3.3.3).
     InitAck(InitChunk<'a>),
 
+    /// ABORT, type 6 (RFC 9260, section 3.3.7).
+    Abort(AbortChunk<'a>),
+
+    /// COOKIE ECHO, type 10 (RFC 9260, section 3.3.11).
+    CookieEcho(CookieEchoChunk<'a>),
+
+    /// COOKIE ACK, type 11 (RFC 9260, section 3.3.12). A value is not looked at, and none is written.
+    CookieAck,
+
     /// A chunk that is read by its header alone.
     Other(OtherChunk<'a>),
 }
@@ -35,8 +49,8 @@ pub enum Chunk<'a> {
 ///
 /// # Errors
 ///
-/// `Malformed` where the type is INIT or INIT ACK and the value isn't one's, and `OutOfMemory` where a
-/// list of parameters can't grow.
+/// `Malformed` where the type is INIT, INIT ACK or ABORT and the value isn't one's, and `OutOfMemory`
+/// where a list of parameters or causes can't grow.
 fn chunk_from(
     alloc: Global,
     chunk_type: u8,
@@ -51,6 +65,12 @@ fn chunk_from(
     match chunk_type {
         chunk_type::INIT => Ok(Chunk::Init(read_init(alloc, value)?)),
         chunk_type::INIT_ACK => Ok(Chunk::InitAck(read_init(alloc, value)?)),
+        chunk_type::ABORT => Ok(Chunk::Abort(AbortChunk {
+            tag_reflected: flags % 2 == 1,
+            error_causes: read_causes(alloc, value)?,
+        })),
+        chunk_type::COOKIE_ECHO => Ok(Chunk::CookieEcho(CookieEchoChunk { cookie: value })),
+        chunk_type::COOKIE_ACK => Ok(Chunk::CookieAck),
         _ => Ok(Chunk::Other(OtherChunk {
             chunk_type,
             flags,
@@ -63,7 +83,7 @@ fn chunk_from(
 ///
 /// # Errors
 ///
-/// `Malformed` where no chunk stands there, and `OutOfMemory` where a list of parameters can't grow.
+/// `Malformed` where no chunk stands there, and `OutOfMemory` where a list can't grow.
 fn read_chunk(alloc: Global, bytes: &[u8]) -> Result<(Chunk<'_>, &[u8]), PacketError>
     ensures found { IfOk result (λ read. BeginsWithChunk
         (chunk_content read.0) read.1.now bytes.now) }

@@ -6,6 +6,7 @@
 
 mod builder;
 mod bytes;
+mod cause;
 mod chunk;
 pub mod crc32c;
 mod packet;
@@ -15,8 +16,9 @@ mod types;
 
 pub use builder::{SctpPacketBuilder, sizes};
 pub use bytes::{u16_at, u32_at};
-pub use chunk::{Chunk, InitChunk, OtherChunk};
+pub use cause::ErrorCause;
+pub use chunk::{AbortChunk, Chunk, CookieEchoChunk, InitChunk, OtherChunk};
 pub use packet::{CommonHeader, PacketError, SctpPacket, WireOptions, one_reading};
 pub use parameter::Parameter;
 pub use reconfiguration::ReconfigurationResponseResult;
-pub use types::{chunk_type, parameter_type};
+pub use types::{cause_code, chunk_type, parameter_type};

@@ -10,7 +10,6 @@ ghost use Rattle.dcsctp_wire.specs.Format.{is_cookie_echo, checksum_accepted, Is
 use crate::bytes::{u16_at, u32_at};
 use crate::chunk::{Chunk, read_chunks};
 use crate::crc32c::packet_checksum;
-use crate::types::chunk_type;
 use std::alloc::{AllocError, AllocFailed, Global};
 
 /// What a reader knows of itself.
@@ -141,8 +140,9 @@ fn is_cookie_echo(chunk: &Chunk) -> bool
     ensures { result ≡ is_cookie_echo (chunk_content chunk.now) }
 {
     match chunk {
-        Chunk::Init(_) | Chunk::InitAck(_) => false,
-        Chunk::Other(other) => other.chunk_type == chunk_type::COOKIE_ECHO,
+        Chunk::CookieEcho(_) => true,
+        Chunk::Init(_) | Chunk::InitAck(_) | Chunk::Abort(_) | Chunk::CookieAck | Chunk::Other(_) =>
+            false,
     }
 }
 

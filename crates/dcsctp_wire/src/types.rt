@@ -1,4 +1,5 @@
-//! The numbers of chunks and parameters (RFC 9260, section 3.2).
+//! The numbers of chunks and parameters (RFC 9260, section 3.2), and of error causes (RFC 9260, section
+//! 3.3.10).
 
 /// Chunk types.
 pub mod chunk_type {
@@ -8,8 +9,14 @@ pub mod chunk_type {
     /// INIT ACK (RFC 9260, section 3.3.3).
     pub const INIT_ACK: u8 = 2;
 
+    /// ABORT (RFC 9260, section 3.3.7).
+    pub const ABORT: u8 = 6;
+
     /// COOKIE ECHO (RFC 9260, section 3.3.11).
     pub const COOKIE_ECHO: u8 = 10;
+
+    /// COOKIE ACK (RFC 9260, section 3.3.12).
+    pub const COOKIE_ACK: u8 = 11;
 
     /// I-DATA (RFC 8260, section 2.1).
     pub const I_DATA: u8 = 64;
@@ -37,4 +44,10 @@ pub mod parameter_type {
 
     /// Forward-TSN-Supported (RFC 3758, section 3.1).
     pub const FORWARD_TSN_SUPPORTED: u16 = 0xc000;
+}
+
+/// Codes of error causes.
+pub mod cause_code {
+    /// Missing Mandatory Parameter (RFC 9260, section 3.3.10.2).
+    pub const MISSING_MANDATORY_PARAMETER: u16 = 2;
 }

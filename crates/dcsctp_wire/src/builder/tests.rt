@@ -5,7 +5,8 @@ ghost use Rattle.dcsctp_wire.specs.Content.{chunk_content};
 ghost use Rattle.dcsctp_wire.specs.Spelling.{chunk_bytes, packet_bytes};
 
 use super::*;
-use crate::chunk::{InitChunk, OtherChunk};
+use crate::cause::ErrorCause;
+use crate::chunk::{AbortChunk, CookieEchoChunk, InitChunk, OtherChunk};
 use crate::parameter::Parameter;
 use std::test::*;
 
@@ -41,10 +42,23 @@ const INIT_ACK: [u8; 104] = [
 ];
 
 #[rattlefmt::skip]
-const OTHERS: [u8; 28] = [
+const ABORT: [u8; 36] = [
+    0x13, 0x88, 0x13, 0x89, 0, 0, 0, 9, 0, 0, 0, 0,
+    // ABORT with the T bit, of 22 bytes without the last padding
+    6, 1, 0, 22,
+    // Protocol Violation, with 2 bytes of padding
+    0, 13, 0, 6, 0x68, 0x69, 0, 0,
+    // Missing Mandatory Parameter: the State Cookie, and 2 bytes of padding
+    0, 2, 0, 10, 0, 0, 0, 1, 0, 7, 0, 0,
+];
+
+#[rattlefmt::skip]
+const OTHERS: [u8; 32] = [
     0x13, 0x88, 0x13, 0x89, 0, 0, 0, 9, 0, 0, 0, 0,
     // COOKIE ECHO, with 3 bytes of padding
     10, 0, 0, 9, 1, 2, 3, 4, 5, 0, 0, 0,
+    // COOKIE ACK
+    11, 0, 0, 4,
     // a chunk with flags and no value
     14, 1, 0, 4,
 ];
@@ -110,26 +124,48 @@ fn writes_an_init_ack(rt: HostRuntime) -> Result<(), Fail> {
 }
 
 #[test]
-fn writes_other_chunks(rt: HostRuntime) -> Result<(), Fail> {
-    let echo = Chunk::Other(OtherChunk {
-        chunk_type: 10,
-        flags: 0,
-        value: &[1, 2, 3, 4, 5],
+fn writes_chunks_of_one_value_or_none(rt: HostRuntime) -> Result<(), Fail> {
+    let echo = Chunk::CookieEcho(CookieEchoChunk {
+        cookie: &[1, 2, 3, 4, 5],
     });
+    let ack = Chunk::CookieAck;
     let complete = Chunk::Other(OtherChunk {
         chunk_type: 14,
         flags: 1,
         value: &[],
     });
-    let mut builder = SctpPacketBuilder::new(rt.alloc(), 9, 5000, 5001, 28)?.write_checksum(false);
+    let mut builder = SctpPacketBuilder::new(rt.alloc(), 9, 5000, 5001, 32)?.write_checksum(false);
     assert!(rt; echo.serialized_size() <= builder.bytes_remaining());
     builder.add(&echo);
+    assert!(rt; ack.serialized_size() <= builder.bytes_remaining());
+    builder.add(&ack);
     assert!(rt; complete.serialized_size() <= builder.bytes_remaining());
     builder.add(&complete);
     assert_eq!(rt; builder.build().as_slice(), OTHERS.as_slice());
     assert!(rt; echo.serialized_size() <= 12);
     assert!(rt; complete.serialized_size() <= 4);
     assert_eq!(rt; packet_of_two(rt.alloc(), 9, &echo, &complete)?.len(), 28);
+    Ok(())
+}
+
+#[test]
+fn writes_an_abort(rt: HostRuntime) -> Result<(), Fail> {
+    let causes = [
+        ErrorCause::Unknown {
+            code: 13,
+            value: &[0x68, 0x69],
+        },
+        ErrorCause::MissingMandatoryParameter { types: &[0, 7] },
+    ];
+    let chunk = Chunk::Abort(AbortChunk {
+        tag_reflected: true,
+        error_causes: Vec::from_slice(rt.alloc(), &causes)?,
+    });
+    assert_eq!(rt; chunk.serialized_size(), 24);
+    let mut builder = SctpPacketBuilder::new(rt.alloc(), 9, 5000, 5001, 36)?.write_checksum(false);
+    assert!(rt; chunk.serialized_size() <= builder.bytes_remaining());
+    builder.add(&chunk);
+    assert_eq!(rt; builder.build().as_slice(), ABORT.as_slice());
     Ok(())
 }
 

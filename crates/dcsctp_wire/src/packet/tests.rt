@@ -3,6 +3,7 @@
 ghost use Rattle.std.specs.Prelude.{◌≤◌};
 
 use super::*;
+use crate::cause::ErrorCause;
 use crate::parameter::Parameter;
 use std::process::Abort;
 use std::test::Fail;
@@ -45,7 +46,23 @@ const ECHO_AND_ACK: [u8; 20] = [
     11, 0, 0, 4, // COOKIE ACK
 ];
 
-/// The same the other way round.
+/// A COOKIE ECHO of 5 bytes with its padding, and a COOKIE ACK with flags and a value, which aren't looked
+/// at.
+const ECHO_OF_FIVE: [u8; 32] = [
+    0x13, 0x88, 0x13, 0x88, 0, 0, 0, 0, 0, 0, 0, 0, // common header
+    10, 0, 0, 9, 1, 2, 3, 4, 5, 0, 0, 0, // COOKIE ECHO
+    11, 1, 0, 5, 9, 0, 0, 0, // COOKIE ACK
+];
+
+/// An ABORT with the T bit and two causes.
+const ABORT: [u8; 36] = [
+    0x13, 0x88, 0x13, 0x88, 0, 0, 0, 0, 0, 0, 0, 0, // common header
+    6, 1, 0, 22, // ABORT of 22 bytes
+    0, 13, 0, 6, 0x68, 0x69, 0, 0, // Protocol Violation, and padding
+    0, 2, 0, 10, 0, 0, 0, 1, 0, 7, 0, 0, // Missing Mandatory Parameter, and padding
+];
+
+/// COOKIE ACK and COOKIE ECHO, the other way round.
 const ACK_AND_ECHO: [u8; 20] = [
     0x13, 0x88, 0x13, 0x88, 0, 0, 0, 0, 0, 0, 0, 0, // common header
     11, 0, 0, 4, // COOKIE ACK
@@ -189,6 +206,86 @@ fn a_cookie_echo_stands_in_front(rt: HostRuntime) {
         &rt,
         rt.alloc(),
         &[("a COOKIE ECHO before a COOKIE ACK", &ECHO_AND_ACK)],
+    );
+}
+
+#[test]
+fn a_cookie_echo_has_its_cookie(rt: HostRuntime) -> Result<(), Fail> {
+    let packet = SctpPacket::from_bytes(rt.alloc(), &ECHO_OF_FIVE, &UNCHECKED)?;
+    assert_eq!(rt; packet.chunks.len(), 2);
+    let Chunk::CookieEcho(echo) = &packet.chunks[0] else {
+        return Err("the first chunk is no COOKIE ECHO")?;
+    };
+    assert_eq!(rt; echo.cookie, [1, 2, 3, 4, 5].as_slice());
+    assert!(rt; matches!(packet.chunks[1], Chunk::CookieAck));
+    Ok(())
+}
+
+#[test]
+fn an_abort_has_its_causes(rt: HostRuntime) -> Result<(), Fail> {
+    let packet = SctpPacket::from_bytes(rt.alloc(), &ABORT, &UNCHECKED)?;
+    assert_eq!(rt; packet.chunks.len(), 1);
+    let Chunk::Abort(abort) = &packet.chunks[0] else {
+        return Err("the chunk is no ABORT")?;
+    };
+    assert!(rt; abort.tag_reflected);
+    assert_eq!(rt; abort.error_causes.len(), 2);
+    let ErrorCause::Unknown { code, value } = abort.error_causes[0] else {
+        return Err("the first cause is known")?;
+    };
+    assert_eq!(rt; code, 13);
+    assert_eq!(rt; value, [0x68, 0x69].as_slice());
+    let ErrorCause::MissingMandatoryParameter { types } = abort.error_causes[1] else {
+        return Err("the second cause is no Missing Mandatory Parameter")?;
+    };
+    assert_eq!(rt; types, [0, 7].as_slice());
+    Ok(())
+}
+
+/// An ABORT of this header, and eight bytes of value.
+fn abort(header: [u8; 4], cause: [u8; 4], value: [u8; 4]) -> [u8; 44] {
+    with(with(with(INIT, 12, header), 16, cause), 20, value)
+}
+
+#[test]
+fn causes_stay_inside_their_abort(rt: HostRuntime) {
+    let none = [0, 0, 0, 0];
+    assert_refused(
+        &rt,
+        rt.alloc(),
+        &[
+            (
+                "a cause of length 3",
+                &abort([6, 0, 0, 8], [0, 13, 0, 3], none)[..20],
+            ),
+            (
+                "a cause past its ABORT",
+                &abort([6, 0, 0, 8], [0, 13, 0, 5], none)[..20],
+            ),
+            ("1 stray byte", &abort([6, 0, 0, 5], none, none)[..20]),
+            ("2 stray bytes", &abort([6, 0, 0, 6], none, none)[..20]),
+            ("3 stray bytes", &abort([6, 0, 0, 7], none, none)[..20]),
+            (
+                "a number of 3 bytes",
+                &abort([6, 0, 0, 11], [0, 2, 0, 7], none)[..24],
+            ),
+            (
+                "types that are cut off",
+                &abort([6, 0, 0, 12], [0, 2, 0, 8], [0, 0, 0, 1])[..24],
+            ),
+        ],
+    );
+    assert_read(
+        &rt,
+        rt.alloc(),
+        &[
+            ("no cause", &abort([6, 0, 0, 4], none, none)[..16]),
+            (
+                "a cause of length 4",
+                &abort([6, 0, 0, 8], [0, 13, 0, 4], none)[..20],
+            ),
+            ("no type", &abort([6, 0, 0, 12], [0, 2, 0, 8], none)[..24]),
+        ],
     );
 }
 

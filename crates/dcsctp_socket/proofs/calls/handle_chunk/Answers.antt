@@ -14,6 +14,30 @@ returns-in-InitAck-clause-turn g c = record {
   moves = moves_still g.R.Rng.stream (view_of c.args.state.now c.args.context.now c.args.events.now);
 }
 
+pub returns-in-CookieEcho-clause-turn : goal.returns-in-CookieEcho-clause-turn
+returns-in-CookieEcho-clause-turn g c = record {
+  outcome = still (endpoint_of c.args.state.now c.args.context.now);
+  turn = λ tag. rw c.in-CookieEcho.is (other_still c.args.state.now _ tag _);
+  goes_on = refl;
+  moves = moves_still g.R.Rng.stream (view_of c.args.state.now c.args.context.now c.args.events.now);
+}
+
+pub returns-in-CookieAck-clause-turn : goal.returns-in-CookieAck-clause-turn
+returns-in-CookieAck-clause-turn g c = record {
+  outcome = still (endpoint_of c.args.state.now c.args.context.now);
+  turn = λ tag. rw c.in-CookieAck.is (other_still c.args.state.now _ tag _);
+  goes_on = refl;
+  moves = moves_still g.R.Rng.stream (view_of c.args.state.now c.args.context.now c.args.events.now);
+}
+
+pub returns-in-Abort-clause-turn : goal.returns-in-Abort-clause-turn
+returns-in-Abort-clause-turn g c = record {
+  outcome = still (endpoint_of c.args.state.now c.args.context.now);
+  turn = λ tag. rw c.in-Abort.is (other_still c.args.state.now _ tag _);
+  goes_on = refl;
+  moves = moves_still g.R.Rng.stream (view_of c.args.state.now c.args.context.now c.args.events.now);
+}
+
 pub returns-in-Other-clause-turn : goal.returns-in-Other-clause-turn
 returns-in-Other-clause-turn g c = record {
   outcome = still (endpoint_of c.args.state.now c.args.context.now);

@@ -1,0 +1,40 @@
+-- Outside examples of ABORT and error causes, written by hand from RFC 9260, sections 3.3.7 and 3.3.10.
+use Rattle.std.proofs.Common.{◌≡◌, true, false, None, Some, [], ◌∷◌, refl}
+use Rattle.dcsctp_wire.specs.Content.{missing_mandatory_parameter, unknown_cause, abort_chunk}
+use Rattle.dcsctp_wire.specs.Format.{frame_at, missing_types, cause_of, IsChunkOf}
+use Rattle.dcsctp_wire.specs.Spelling.{parameter_bytes, parameters_len, abort_bytes, chunk_bytes}
+
+abort_is_spelled : chunk_bytes (abort_chunk false []) ≡ 6 ∷ 0 ∷ 0 ∷ 4 ∷ []
+unfolding abort_bytes parameters_len
+abort_is_spelled = refl
+
+-- The T bit is the lowest flag. The State Cookie, parameter 7, is missing; two bytes of padding are no part of
+-- the chunk's length.
+missing_parameter_is_spelled : chunk_bytes (abort_chunk true (missing_mandatory_parameter (0 ∷ 7 ∷ []) ∷ []))
+    ≡ 6 ∷ 1 ∷ 0 ∷ 14 ∷ 0 ∷ 2 ∷ 0 ∷ 10 ∷ 0 ∷ 0 ∷ 0 ∷ 1 ∷ 0 ∷ 7 ∷ 0 ∷ 0 ∷ []
+unfolding abort_bytes parameters_len parameter_bytes
+missing_parameter_is_spelled = refl
+
+missing_parameter_is_read : cause_of 2 (0 ∷ 0 ∷ 0 ∷ 1 ∷ 0 ∷ 7 ∷ []) ≡ Some (missing_mandatory_parameter (0 ∷ 7 ∷ []))
+unfolding cause_of missing_types
+missing_parameter_is_read = refl
+
+bytes_behind_types_are_not_looked_at : cause_of 2 (0 ∷ 0 ∷ 0 ∷ 1 ∷ 0 ∷ 7 ∷ 9 ∷ []) ≡ Some (missing_mandatory_parameter (0 ∷ 7 ∷ []))
+unfolding cause_of missing_types
+bytes_behind_types_are_not_looked_at = refl
+
+cut_types_are_refused : cause_of 2 (0 ∷ 0 ∷ 0 ∷ 2 ∷ 0 ∷ 7 ∷ 0 ∷ []) ≡ None
+unfolding cause_of missing_types
+cut_types_are_refused = refl
+
+cut_number_is_refused : cause_of 2 (0 ∷ 0 ∷ 0 ∷ []) ≡ None
+unfolding cause_of missing_types
+cut_number_is_refused = refl
+
+other_cause_is_read : cause_of 13 (1 ∷ 2 ∷ []) ≡ Some (unknown_cause 13 (1 ∷ 2 ∷ []))
+unfolding cause_of
+other_cause_is_read = refl
+
+abort_is_read : IsChunkOf (abort_chunk true (missing_mandatory_parameter (0 ∷ 7 ∷ []) ∷ [])) 6 1 (0 ∷ 2 ∷ 0 ∷ 10 ∷ 0 ∷ 0 ∷ 0 ∷ 1 ∷ 0 ∷ 7 ∷ [])
+unfolding frame_at cause_of missing_types
+abort_is_read = (refl, refl, (_, record { value = 0 ∷ 0 ∷ 0 ∷ 1 ∷ 0 ∷ 7 ∷ []; framed = refl; read = refl }, refl))

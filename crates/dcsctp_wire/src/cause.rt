@@ -1,0 +1,87 @@
+//! Error causes (RFC 9260, section 3.3.10), which have the form of parameters.
+
+ghost use Rattle.std.specs.Prelude.{◌≡◌, ◌<◌, ℕ, List, length, map, MatchOption, IfSome, IfOk, IsErrOf};
+ghost use Rattle.std.specs.Option.{option_map};
+ghost use Rattle.dcsctp_wire.specs.Content.{CauseContent, cause_content};
+ghost use Rattle.dcsctp_wire.specs.Format.{missing_types, cause_of, BeginsWithCause, AreCauses};
+
+use crate::bytes::{read_frame, u16_at, u32_at};
+use crate::packet::PacketError;
+use crate::types::cause_code;
+use std::alloc::Global;
+
+/// An error cause. What it holds is borrowed: from the packet that is read, or from the caller that writes
+/// one.
+///
+/// Each is a code (2 bytes), a length (2 bytes, header included, padding not), a value, and zero bytes to a
+/// multiple of 4.
+#[derive(Clone, Copy, Debug)]
+pub enum ErrorCause<'a> {
+    /// Missing Mandatory Parameter, code 2 (RFC 9260, section 3.3.10.2): the types of the parameters, two
+    /// bytes each, highest first. Their number, four bytes, stands before them.
+    MissingMandatoryParameter { types: &'a [u8] },
+
+    /// Any other cause, by its code and value.
+    Unknown { code: u16, value: &'a [u8] },
+}
+
+/// The types of the missing parameters, where the value is long enough for its number of them.
+#[tactic(auto, unfolding(crate::specs::Format::missing_types))]
+fn types_in(value: &[u8]) -> Option<&[u8]>
+    ensures { option_map (λ types. types.now) result ≡ missing_types value.now }
+{
+    if value.len() < 4 {
+        return None;
+    }
+    let end = 4 + 2 * (u32_at(value, 0) as usize);
+    if value.len() < end {
+        return None;
+    }
+    Some(&value[4..end])
+}
+
+/// What a cause of this code and value says (RFC 9260, section 3.3.10).
+#[tactic(auto, unfolding(crate::specs::Format::cause_of))]
+fn cause_from(code: u16, value: &[u8]) -> Option<ErrorCause<'_>>
+    ensures { option_map cause_content result ≡ cause_of code value.now }
+{
+    if code != cause_code::MISSING_MANDATORY_PARAMETER {
+        return Some(ErrorCause::Unknown { code, value });
+    }
+    let types = types_in(value)?;
+    Some(ErrorCause::MissingMandatoryParameter { types })
+}
+
+/// The cause in front of the bytes, and what stands behind its padding.
+fn read_cause(bytes: &[u8]) -> Option<(ErrorCause<'_>, &[u8])>
+    ensures gives { MatchOption result
+        ((cause : CauseContent) (rest : List ℕ) → BeginsWithCause cause rest bytes.now → ⊥)
+        (λ read. BeginsWithCause (cause_content read.0) read.1.now bytes.now) }
+    ensures shorter { IfSome result (λ read. length read.1.now < length bytes.now) }
+{
+    let frame = read_frame(bytes)?;
+    let cause = cause_from(u16_at(bytes, 0), frame.value)?;
+    Some((cause, frame.rest))
+}
+
+/// The causes that the bytes are, in their order.
+///
+/// # Errors
+///
+/// `Malformed` where the bytes are no causes, and `OutOfMemory` where the list can't grow.
+pub(crate) fn read_causes(alloc: Global, bytes: &[u8]) -> Result<Vec<ErrorCause<'_>>, PacketError>
+    ensures found { IfOk result (λ causes. AreCauses (map cause_content causes.items) bytes.now) }
+    ensures malformed { IsErrOf result PacketError.Malformed
+        → (causes : List CauseContent) → AreCauses causes bytes.now → ⊥ }
+{
+    let mut causes = Vec::new(alloc);
+    let mut rest = bytes;
+    while !rest.is_empty() {
+        let Some((cause, after)) = read_cause(rest) else {
+            return Err(PacketError::Malformed);
+        };
+        causes.push(cause)?;
+        rest = after;
+    }
+    Ok(causes)
+}
