@@ -14,11 +14,11 @@ xor_both x y z =
     ∙ xor_assoc (bit_xor x y) z z ∙ ap (bit_xor (bit_xor x y)) (xor_self z) ∙ xor_zero_r (bit_xor x y)
 
 -- ---- a bit step is linear
-bit_step_even : (c : ℕ) → c % 2 ≡ 0 → bit_step c ≡ c / 2
+pub bit_step_even : (c : ℕ) → c % 2 ≡ 0 → bit_step c ≡ c / 2
 unfolding bit_step
 bit_step_even c even = rw even refl
 
-bit_step_odd : (c : ℕ) → c % 2 ≡ 1 → bit_step c ≡ bit_xor (c / 2) polynomial
+pub bit_step_odd : (c : ℕ) → c % 2 ≡ 1 → bit_step c ≡ bit_xor (c / 2) polynomial
 unfolding bit_step
 bit_step_odd c odd = rw odd refl
 
@@ -26,7 +26,7 @@ bit_cases : (bit : ℕ) → bit < 2 → (bit ≡ 0) ⊎ (bit ≡ 1)
 bit_cases zero small = inl refl
 bit_cases (suc n) small = inr (omega arith)
 
-parity : (c : ℕ) → (c % 2 ≡ 0) ⊎ (c % 2 ≡ 1)
+pub parity : (c : ℕ) → (c % 2 ≡ 0) ⊎ (c % 2 ≡ 1)
 parity c = bit_cases (c % 2) (omega arith)
 
 bit_step_both : (a b : ℕ) → (a % 2 ≡ 0) ⊎ (a % 2 ≡ 1) → (b % 2 ≡ 0) ⊎ (b % 2 ≡ 1) → bit_step (bit_xor a b) ≡ bit_xor (bit_step a) (bit_step b)

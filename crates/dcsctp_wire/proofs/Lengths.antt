@@ -29,7 +29,7 @@ unfolding init_bytes init_fields
 length-init_bytes chunk_type init = omega arith
 
 -- the length of parameters, with one more behind them
-abbrev and_one_more : ℕ → ParameterContent → ℕ
+abbrev pub and_one_more : ℕ → ParameterContent → ℕ
 and_one_more len parameter = len + padding_of len + parameter_len parameter
 
 padded_fold : (len : ℕ) (parameters : List ParameterContent) → fold and_one_more len parameters + padding_of (fold and_one_more len parameters) ≡ len + padding_of len + length (flat_map parameter_bytes parameters)

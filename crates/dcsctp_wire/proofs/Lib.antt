@@ -11,4 +11,9 @@ pub mod Lengths
 pub mod Packets
 pub mod Parameters
 pub mod Putting
+pub mod ReadsBack
+pub mod ReadsBackChecksum
+pub mod ReadsBackChunks
+pub mod ReadsBackFrames
+pub mod ReadsBackParameters
 pub mod StandardFacts

@@ -18,7 +18,9 @@ pub use builder::{SctpPacketBuilder, sizes};
 pub use bytes::{u16_at, u32_at};
 pub use cause::ErrorCause;
 pub use chunk::{AbortChunk, Chunk, CookieEchoChunk, InitChunk, OtherChunk};
-pub use packet::{CommonHeader, PacketError, SctpPacket, WireOptions, one_reading};
+pub use packet::{
+    CommonHeader, PacketError, SctpPacket, WireOptions, built_packet_reads_back, one_reading,
+};
 pub use parameter::Parameter;
 pub use reconfiguration::ReconfigurationResponseResult;
 pub use types::{cause_code, chunk_type, parameter_type};

@@ -1,0 +1,85 @@
+-- Written chunks read back.
+use Rattle.std.proofs.Common.{◌≡◌, ℕ, ◌+◌, ◌<◌, ◌≤◌, ◌^◌, List, [], ◌∷◌, ◌++◌, length, take, drop, Some, refl, sym, ap, ◌∙◌, append_assoc, length-drop, arith}
+use Rattle.std.specs.Int.{w16, to_be_bytes}
+use Rattle.std.specs.List.{flat_map, AllByRecursion}
+use Rattle.std.proofs.lemmas.List.{drop_at, take-append-drop, length-replicate, length-take-le}
+use Rattle.std.proofs.lemmas.Nat.{from_be_bytes-to_be_bytes_2, from_be_bytes-to_be_bytes_4}
+use Rattle.dcsctp_wire.specs.Content.{InitContent, ChunkContent, init_chunk, init_ack_chunk, abort_chunk, cookie_echo_chunk, cookie_ack_chunk, other_chunk}
+use Rattle.dcsctp_wire.specs.Format.{padding_of, frame_at, IsInitValue, BeginsWithChunk, AreChunks}
+use Rattle.dcsctp_wire.specs.Numbers.{init_type, init_ack_type, cookie_echo_type, cookie_ack_type}
+use Rattle.dcsctp_wire.specs.Spelling.{zeros, parameter_bytes, parameters_len, init_fields, init_bytes, other_bytes, chunk_bytes}
+use Rattle.dcsctp_wire.specs.ReadsBack.{IsWritableInit, IsWritableChunk}
+use Rattle.dcsctp_wire.proofs.Lengths.{padded_parameters}
+use Rattle.dcsctp_wire.proofs.ReadsBackFrames.{frame_behind}
+use Rattle.dcsctp_wire.proofs.ReadsBackParameters.{parameters_read_back}
+
+-- ---- INIT and INIT ACK
+
+-- the value of an INIT or INIT ACK: its fields, and its parameters without the padding of the last
+abbrev init_value : InitContent → List ℕ
+init_value init = init_fields init ++ take (parameters_len init.parameters) (flat_map parameter_bytes init.parameters)
+
+cut : (fields all rest : List ℕ) (n : ℕ) → (fields ++ all) ++ rest ≡ (fields ++ take n all) ++ (drop n all ++ rest)
+cut fields all rest n =
+    ap (λ (x : List ℕ). (fields ++ x) ++ rest) (sym (take-append-drop n all))
+    ∙ ap (λ (x : List ℕ). x ++ rest) (sym (append_assoc fields (take n all) (drop n all)))
+    ∙ append_assoc (fields ++ take n all) (drop n all) rest
+
+length-init_value : (init : InitContent) → length (init_value init) ≡ 16 + parameters_len init.parameters
+unfolding init_fields
+length-init_value init =
+    let all : List ℕ = flat_map parameter_bytes init.parameters in
+    let inside : parameters_len init.parameters ≤ length all = omega (arith, padded_parameters init.parameters) in
+    omega (arith, length-take-le (parameters_len init.parameters) all inside)
+
+init_framed : (chunk_type : ℕ) (init : InitContent) → IsWritableInit init → (rest : List ℕ) → frame_at (init_bytes chunk_type init ++ rest) ≡ Some (record { value = init_value init; rest = rest })
+unfolding init_bytes
+init_framed chunk_type init fits rest =
+    let all : List ℕ = flat_map parameter_bytes init.parameters in
+    let n : ℕ = parameters_len init.parameters in
+    let padding : length (drop n all) ≡ padding_of (20 + n) = omega (arith, length-drop n all, padded_parameters init.parameters) in
+    ap (λ (x : List ℕ). frame_at (chunk_type ∷ 0 ∷ to_be_bytes w16 (20 + n) ++ x)) (cut (init_fields init) all rest n)
+    ∙ frame_behind chunk_type 0 (20 + n) (init_value init) (drop n all ++ rest) rest (omega (arith, length-init_value init)) fits.len_fits (drop_at (drop n all) rest (padding_of (20 + n)) padding)
+
+init_read : (init : InitContent) → IsWritableInit init → IsInitValue init (init_value init)
+unfolding init_fields
+init_read init fits =
+    record {
+      long_enough = omega (arith, length-init_value init);
+      initiate_tag = sym (from_be_bytes-to_be_bytes_4 init.initiate_tag fits.initiate_tag);
+      a_rwnd = sym (from_be_bytes-to_be_bytes_4 init.a_rwnd fits.a_rwnd);
+      outbound_streams = sym (from_be_bytes-to_be_bytes_2 init.outbound_streams fits.outbound_streams);
+      inbound_streams = sym (from_be_bytes-to_be_bytes_2 init.inbound_streams fits.inbound_streams);
+      initial_tsn = sym (from_be_bytes-to_be_bytes_4 init.initial_tsn fits.initial_tsn);
+      tag_is_not_zero = fits.tag_is_not_zero;
+      window_is_large_enough = fits.window_is_large_enough;
+      sends_on_a_stream = fits.sends_on_a_stream;
+      receives_on_a_stream = fits.receives_on_a_stream;
+      parameters = parameters_read_back init.parameters fits.parameters (omega (arith, fits.len_fits));
+    }
+
+-- ---- other chunks
+
+other_framed : (chunk_type flags : ℕ) (value : List ℕ) → 4 + length value < 2 ^ 16 → (rest : List ℕ) → frame_at (other_bytes chunk_type flags value ++ rest) ≡ Some (record { value = value; rest = rest })
+unfolding other_bytes
+other_framed chunk_type flags value len_fits rest =
+    let padding : List ℕ = zeros (padding_of (length value)) in
+    let padding_is : length padding ≡ padding_of (4 + length value) = omega (arith, length-replicate {A = ℕ} (padding_of (length value)) 0) in
+    ap (λ (x : List ℕ). frame_at (chunk_type ∷ flags ∷ to_be_bytes w16 (4 + length value) ++ x)) (append_assoc value padding rest)
+    ∙ frame_behind chunk_type flags (4 + length value) value (padding ++ rest) rest refl len_fits (drop_at padding rest (padding_of (4 + length value)) padding_is)
+
+-- ---- chunks after one another
+
+begins : (chunk : ChunkContent) → IsWritableChunk chunk → (rest : List ℕ) → BeginsWithChunk chunk rest (chunk_bytes chunk ++ rest)
+unfolding init_bytes other_bytes
+begins (init_chunk init) fits rest = record { value = init_value init; framed = init_framed init_type init fits rest; read = (refl, init_read init fits) }
+begins (init_ack_chunk init) fits rest = record { value = init_value init; framed = init_framed init_ack_type init fits rest; read = (refl, init_read init fits) }
+begins (abort_chunk reflected causes) fits rest = absurd fits
+begins (cookie_echo_chunk cookie) fits rest = record { value = cookie; framed = other_framed cookie_echo_type 0 cookie fits.len_fits rest; read = (refl, refl) }
+begins cookie_ack_chunk fits rest = record { value = []; framed = other_framed cookie_ack_type 0 [] (omega arith) rest; read = refl }
+begins (other_chunk chunk_type flags value) fits rest =
+    record { value = value; framed = other_framed chunk_type flags value fits.len_fits rest; read = (fits.read_by_header, refl, refl, refl) }
+
+pub chunks_read_back : (chunks : List ChunkContent) → AllByRecursion IsWritableChunk chunks → AreChunks chunks (flat_map chunk_bytes chunks)
+chunks_read_back [] fits = refl
+chunks_read_back (chunk ∷ chunks) fits = (flat_map chunk_bytes chunks, begins chunk fits.0 (flat_map chunk_bytes chunks), chunks_read_back chunks fits.1)
