@@ -23,8 +23,9 @@ pub record FindsCrossed (mine theirs : SideState) (link : Link) : Type 0 where
 abbrev pub ConnectsCrossed : SideState → SideState → Type 0
 ConnectsCrossed mine theirs = (link : Link) → Has (connects link) mine.past → FindsCrossed mine theirs link
 
--- OnStreamsResetPerformed, of one of the first 2^32 - 1 own requests, finds that the other performed a request
--- of that number in an association whose peer pair is the own pair.
+-- Of `completes` alone (OnStreamsResetPerformed): where at most 2^32 - 1 own requests were begun in the holding so
+-- far, which is what `requests_begun` counts, the other performed a request of that number in an association
+-- whose peer pair is the own pair. Of every other effect it says nothing.
 abbrev pub FindsPerformed : List Effect → Effect → List Effect → Type 0
 FindsPerformed theirs (completes my number) earlier = requests_begun earlier ≤ 2 ^ 32 - 1 → Has (performs my number) theirs
 FindsPerformed theirs effect earlier = Unit {0}

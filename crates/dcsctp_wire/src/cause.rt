@@ -18,7 +18,8 @@ use std::alloc::Global;
 #[derive(Clone, Copy, Debug)]
 pub enum ErrorCause<'a> {
     /// Missing Mandatory Parameter, code 2 (RFC 9260, section 3.3.10.2): the types of the parameters, two
-    /// bytes each, highest first. Their number, four bytes, stands before them.
+    /// bytes each, highest first. Their number, four bytes, stands before them. An odd last byte is
+    /// part of no type.
     MissingMandatoryParameter { types: &'a [u8] },
 
     /// Any other cause, by its code and value.

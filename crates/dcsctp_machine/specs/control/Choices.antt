@@ -7,7 +7,8 @@ use Rattle.dcsctp_machine.specs.Packet.{Content, other}
 use Rattle.dcsctp_machine.specs.Outcome.{Following}
 use Rattle.dcsctp_machine.specs.Reconfiguration.{RequestedReset}
 
--- a chunk that speaks of no association: data, an acknowledgement, and the like
+-- A chunk that speaks of no association: data, an acknowledgement, and the like. Its type is none of those that
+-- `Content` names by a constructor of their own; nothing in the record says so, and agreement doesn't need it.
 pub record Plain : Type 0 where
   pub chunk_type : ℕ
   pub flags : ℕ
