@@ -1,8 +1,9 @@
 -- Outside examples of ABORT and error causes, written by hand from RFC 9260, sections 3.3.7 and 3.3.10.
-use Rattle.std.proofs.Common.{◌≡◌, true, false, None, Some, [], ◌∷◌, refl}
+use Rattle.std.proofs.Common.{◌≡◌, true, false, None, Some, [], ◌∷◌, refl, arith}
 use Rattle.dcsctp_wire.specs.Content.{missing_mandatory_parameter, unknown_cause, abort_chunk}
 use Rattle.dcsctp_wire.specs.Format.{frame_at, missing_types, cause_of, IsChunkOf}
 use Rattle.dcsctp_wire.specs.Spelling.{parameter_bytes, parameters_len, abort_bytes, chunk_bytes}
+use Rattle.dcsctp_wire.specs.ReadsBack.{IsWritableChunk}
 
 abort_is_spelled : chunk_bytes (abort_chunk false []) ≡ 6 ∷ 0 ∷ 0 ∷ 4 ∷ []
 unfolding abort_bytes parameters_len
@@ -38,3 +39,15 @@ other_cause_is_read = refl
 abort_is_read : IsChunkOf (abort_chunk true (missing_mandatory_parameter (0 ∷ 7 ∷ []) ∷ [])) 6 1 (0 ∷ 2 ∷ 0 ∷ 10 ∷ 0 ∷ 0 ∷ 0 ∷ 1 ∷ 0 ∷ 7 ∷ [])
 unfolding frame_at cause_of missing_types
 abort_is_read = (refl, refl, (_, record { value = 0 ∷ 0 ∷ 0 ∷ 1 ∷ 0 ∷ 7 ∷ []; framed = refl; read = refl }, refl))
+
+-- An ABORT with a cause of each kind fits its fields.
+abort_is_writable : IsWritableChunk (abort_chunk true (missing_mandatory_parameter (0 ∷ 7 ∷ []) ∷ unknown_cause 13 (1 ∷ 255 ∷ []) ∷ []))
+unfolding parameters_len
+abort_is_writable =
+    record {
+      len_fits = omega arith;
+      causes_fit = (
+        record { whole = refl; types_in_bytes = (omega arith, (omega arith, tt)) },
+        (record { code_fits = omega arith; not_missing_parameter = λ e. absurd (omega (arith, e)); value_in_bytes = (omega arith, (omega arith, tt)) }, tt),
+      );
+    }

@@ -5,8 +5,9 @@ use Rattle.std.specs.List.{list_any, AllByRecursion}
 use Rattle.dcsctp_wire.specs.declared.chunk.Chunk.{Chunk}
 use Rattle.dcsctp_wire.specs.declared.packet.WireOptions.{WireOptions}
 use Rattle.dcsctp_wire.specs.Content.{ChunkContent, PacketContent, chunk_content}
-use Rattle.dcsctp_wire.specs.Format.{is_cookie_echo, IsPacket}
-use Rattle.dcsctp_wire.proofs.Chunks.{same_chunks}
+use Rattle.dcsctp_wire.specs.Format.{IsReadByHeader, is_cookie_echo, IsPacket}
+use Rattle.dcsctp_wire.proofs.Items.{same_items}
+use Rattle.dcsctp_wire.proofs.Chunks.{one_chunk}
 
 -- bytes are one packet
 pub same_packet : (options : WireOptions) (bytes : List ℕ) (p q : PacketContent) → IsPacket options p bytes → IsPacket options q bytes → p ≡ q
@@ -14,7 +15,7 @@ same_packet options bytes p q a b =
     let source : p.source_port ≡ q.source_port = a.source_port ∙ sym b.source_port in
     let destination : p.destination_port ≡ q.destination_port = a.destination_port ∙ sym b.destination_port in
     let tag : p.verification_tag ≡ q.verification_tag = a.verification_tag ∙ sym b.verification_tag in
-    let chunks : p.chunks ≡ q.chunks = same_chunks p.chunks q.chunks _ a.chunks b.chunks in
+    let chunks : p.chunks ≡ q.chunks = same_items IsReadByHeader one_chunk p.chunks q.chunks _ a.chunks b.chunks in
     λ i. record { source_port = source i; destination_port = destination i; verification_tag = tag i; chunks = chunks i }
 
 abbrev IsNoEcho : ChunkContent → Type 0

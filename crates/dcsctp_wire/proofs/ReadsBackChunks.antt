@@ -1,23 +1,21 @@
 -- Written chunks read back.
-use Rattle.std.proofs.Common.{◌≡◌, ℕ, ◌+◌, ◌<◌, ◌≤◌, ◌^◌, List, [], ◌∷◌, ◌++◌, length, take, drop, Some, refl, sym, ap, ◌∙◌, append_assoc, length-drop, arith}
+use Rattle.std.proofs.Common.{◌≡◌, ℕ, ◌+◌, ◌%◌, ◌<◌, ◌≤◌, ◌^◌, Bool, true, false, List, [], ◌∷◌, ◌++◌, length, map, take, drop, Some, refl, sym, ap, ◌∙◌, append_assoc, length-append, length-drop, arith}
+use Rattle.std.specs.Prelude.{◌==◌}
 use Rattle.std.specs.Int.{w16, to_be_bytes}
 use Rattle.std.specs.List.{flat_map, AllByRecursion}
 use Rattle.std.proofs.lemmas.List.{drop_at, take-append-drop, length-replicate, length-take-le}
 use Rattle.std.proofs.lemmas.Nat.{from_be_bytes-to_be_bytes_2, from_be_bytes-to_be_bytes_4}
-use Rattle.dcsctp_wire.specs.Content.{InitContent, ChunkContent, init_chunk, init_ack_chunk, abort_chunk, cookie_echo_chunk, cookie_ack_chunk, other_chunk}
+use Rattle.dcsctp_wire.specs.Content.{ParameterContent, InitContent, CauseContent, ChunkContent, init_chunk, init_ack_chunk, abort_chunk, cookie_echo_chunk, cookie_ack_chunk, other_chunk}
 use Rattle.dcsctp_wire.specs.Format.{padding_of, frame_at, IsInitValue, BeginsWithChunk, AreChunks}
-use Rattle.dcsctp_wire.specs.Numbers.{init_type, init_ack_type, cookie_echo_type, cookie_ack_type}
-use Rattle.dcsctp_wire.specs.Spelling.{zeros, parameter_bytes, parameters_len, init_fields, init_bytes, other_bytes, chunk_bytes}
-use Rattle.dcsctp_wire.specs.ReadsBack.{IsWritableInit, IsWritableChunk}
+use Rattle.dcsctp_wire.specs.Numbers.{init_type, init_ack_type, abort_type, cookie_echo_type, cookie_ack_type}
+use Rattle.dcsctp_wire.specs.Spelling.{zeros, parameter_bytes, parameters_len, init_fields, init_bytes, as_parameter, t_bit, abort_bytes, other_bytes, chunk_bytes}
+use Rattle.dcsctp_wire.specs.ReadsBack.{IsWritableInit, IsWritableAbort, IsWritableChunk}
 use Rattle.dcsctp_wire.proofs.Lengths.{padded_parameters}
 use Rattle.dcsctp_wire.proofs.ReadsBackFrames.{frame_behind}
 use Rattle.dcsctp_wire.proofs.ReadsBackParameters.{parameters_read_back}
+use Rattle.dcsctp_wire.proofs.ReadsBackCauses.{causes_read_back}
 
--- ---- INIT and INIT ACK
-
--- the value of an INIT or INIT ACK: its fields, and its parameters without the padding of the last
-abbrev init_value : InitContent → List ℕ
-init_value init = init_fields init ++ take (parameters_len init.parameters) (flat_map parameter_bytes init.parameters)
+-- ---- chunks that end in parameters or causes
 
 cut : (fields all rest : List ℕ) (n : ℕ) → (fields ++ all) ++ rest ≡ (fields ++ take n all) ++ (drop n all ++ rest)
 cut fields all rest n =
@@ -25,27 +23,42 @@ cut fields all rest n =
     ∙ ap (λ (x : List ℕ). x ++ rest) (sym (append_assoc fields (take n all) (drop n all)))
     ∙ append_assoc (fields ++ take n all) (drop n all) rest
 
-length-init_value : (init : InitContent) → length (init_value init) ≡ 16 + parameters_len init.parameters
-unfolding init_fields
-length-init_value init =
-    let all : List ℕ = flat_map parameter_bytes init.parameters in
-    let inside : parameters_len init.parameters ≤ length all = omega (arith, padded_parameters init.parameters) in
-    omega (arith, length-take-le (parameters_len init.parameters) all inside)
+-- fields, and parameters without the padding of the last
+abbrev value_with : List ℕ → List ParameterContent → List ℕ
+value_with fields parameters = fields ++ take (parameters_len parameters) (flat_map parameter_bytes parameters)
+
+length-value_with : (fields : List ℕ) (parameters : List ParameterContent) → length (value_with fields parameters) ≡ length fields + parameters_len parameters
+length-value_with fields parameters =
+    let all : List ℕ = flat_map parameter_bytes parameters in
+    let n : ℕ = parameters_len parameters in
+    let inside : n ≤ length all = omega (arith, padded_parameters parameters) in
+    omega (arith, length-append fields (take n all), length-take-le n all inside)
+
+-- The fields are a multiple of 4 bytes long.
+framed_with : (first second len : ℕ) (fields : List ℕ) (parameters : List ParameterContent) → length fields % 4 ≡ 0 → len ≡ 4 + length fields + parameters_len parameters → len < 2 ^ 16 → (rest : List ℕ)
+    → frame_at (first ∷ second ∷ to_be_bytes w16 len ++ (fields ++ flat_map parameter_bytes parameters) ++ rest) ≡ Some (record { value = value_with fields parameters; rest = rest })
+framed_with first second len fields parameters whole is fits rest =
+    let all : List ℕ = flat_map parameter_bytes parameters in
+    let n : ℕ = parameters_len parameters in
+    let padding : length (drop n all) ≡ padding_of len = omega (arith, length-drop n all, padded_parameters parameters) in
+    ap (λ (x : List ℕ). frame_at (first ∷ second ∷ to_be_bytes w16 len ++ x)) (cut fields all rest n)
+    ∙ frame_behind first second len (value_with fields parameters) (drop n all ++ rest) rest (omega (arith, length-value_with fields parameters)) fits (drop_at (drop n all) rest (padding_of len) padding)
+
+-- ---- INIT and INIT ACK
+
+abbrev init_value : InitContent → List ℕ
+init_value init = value_with (init_fields init) init.parameters
 
 init_framed : (chunk_type : ℕ) (init : InitContent) → IsWritableInit init → (rest : List ℕ) → frame_at (init_bytes chunk_type init ++ rest) ≡ Some (record { value = init_value init; rest = rest })
-unfolding init_bytes
+unfolding init_bytes init_fields
 init_framed chunk_type init fits rest =
-    let all : List ℕ = flat_map parameter_bytes init.parameters in
-    let n : ℕ = parameters_len init.parameters in
-    let padding : length (drop n all) ≡ padding_of (20 + n) = omega (arith, length-drop n all, padded_parameters init.parameters) in
-    ap (λ (x : List ℕ). frame_at (chunk_type ∷ 0 ∷ to_be_bytes w16 (20 + n) ++ x)) (cut (init_fields init) all rest n)
-    ∙ frame_behind chunk_type 0 (20 + n) (init_value init) (drop n all ++ rest) rest (omega (arith, length-init_value init)) fits.len_fits (drop_at (drop n all) rest (padding_of (20 + n)) padding)
+    framed_with chunk_type 0 (20 + parameters_len init.parameters) (init_fields init) init.parameters refl (omega arith) fits.len_fits rest
 
 init_read : (init : InitContent) → IsWritableInit init → IsInitValue init (init_value init)
 unfolding init_fields
 init_read init fits =
     record {
-      long_enough = omega (arith, length-init_value init);
+      long_enough = omega (arith, length-value_with (init_fields init) init.parameters);
       initiate_tag = sym (from_be_bytes-to_be_bytes_4 init.initiate_tag fits.initiate_tag);
       a_rwnd = sym (from_be_bytes-to_be_bytes_4 init.a_rwnd fits.a_rwnd);
       outbound_streams = sym (from_be_bytes-to_be_bytes_2 init.outbound_streams fits.outbound_streams);
@@ -57,6 +70,20 @@ init_read init fits =
       receives_on_a_stream = fits.receives_on_a_stream;
       parameters = parameters_read_back init.parameters fits.parameters (omega (arith, fits.len_fits));
     }
+
+-- ---- ABORT
+
+abbrev abort_value : List CauseContent → List ℕ
+abort_value causes = value_with [] (map as_parameter causes)
+
+abort_framed : (reflected : Bool) (causes : List CauseContent) → IsWritableAbort causes → (rest : List ℕ) → frame_at (abort_bytes reflected causes ++ rest) ≡ Some (record { value = abort_value causes; rest = rest })
+unfolding abort_bytes
+abort_framed reflected causes fits rest =
+    framed_with abort_type (t_bit reflected) (4 + parameters_len (map as_parameter causes)) [] (map as_parameter causes) refl refl fits.len_fits rest
+
+t_bit_read : (reflected : Bool) → reflected ≡ (t_bit reflected % 2 == 1)
+t_bit_read true = refl
+t_bit_read false = refl
 
 -- ---- other chunks
 
@@ -71,10 +98,15 @@ other_framed chunk_type flags value len_fits rest =
 -- ---- chunks after one another
 
 begins : (chunk : ChunkContent) → IsWritableChunk chunk → (rest : List ℕ) → BeginsWithChunk chunk rest (chunk_bytes chunk ++ rest)
-unfolding init_bytes other_bytes
+unfolding init_bytes abort_bytes other_bytes
 begins (init_chunk init) fits rest = record { value = init_value init; framed = init_framed init_type init fits rest; read = (refl, init_read init fits) }
 begins (init_ack_chunk init) fits rest = record { value = init_value init; framed = init_framed init_ack_type init fits rest; read = (refl, init_read init fits) }
-begins (abort_chunk reflected causes) fits rest = absurd fits
+begins (abort_chunk reflected causes) fits rest =
+    record {
+      value = abort_value causes;
+      framed = abort_framed reflected causes fits rest;
+      read = (refl, t_bit_read reflected, causes_read_back causes fits.causes_fit (omega (arith, fits.len_fits)));
+    }
 begins (cookie_echo_chunk cookie) fits rest = record { value = cookie; framed = other_framed cookie_echo_type 0 cookie fits.len_fits rest; read = (refl, refl) }
 begins cookie_ack_chunk fits rest = record { value = []; framed = other_framed cookie_ack_type 0 [] (omega arith) rest; read = refl }
 begins (other_chunk chunk_type flags value) fits rest =

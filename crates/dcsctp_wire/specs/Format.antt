@@ -37,6 +37,22 @@ frame_at bytes =
       rest = drop (u16_at 2 bytes + padding_of (u16_at 2 bytes)) bytes;
     })))
 
+-- An item, which is a chunk, a parameter or a cause, stands in front of the bytes, and rest behind it. Says
+-- relates it to its header, with which the bytes begin, and to its value.
+pub record BeginsWith {Item : Type 0} (Says : Item → List ℕ → List ℕ → Type 0) (item : Item) (rest bytes : List ℕ) : Type 0 where
+  pub value : List ℕ
+  pub framed : frame_at bytes ≡ Some (record { value = value; rest = rest })
+  pub read : Says item bytes value
+
+-- the bytes are these items
+abbrev pub AreItems : {Item : Type 0} → (Item → List ℕ → List ℕ → Type 0) → List Item → List ℕ → Type 0
+AreItems Says [] bytes = bytes ≡ []
+AreItems Says (item ∷ items) bytes = (rest : List ℕ) × BeginsWith Says item rest bytes × AreItems Says items rest
+
+-- the item that a function reads from the type or code, which is the first two bytes, and the value
+abbrev pub IsReadBy : {Item : Type 0} → (ℕ → List ℕ → Option Item) → Item → List ℕ → List ℕ → Type 0
+IsReadBy read item bytes value = read (u16_at 0 bytes) value ≡ Some item
+
 -- What a parameter of this type and value says (RFC 9260, section 3.3.2.1). A method has four bytes, and
 -- bytes behind them are not looked at.
 unfoldable pub parameter_of : ℕ → List ℕ → Option ParameterContent
@@ -48,15 +64,12 @@ parameter_of parameter_type value =
     else Some (unknown_parameter parameter_type value))))
 
 -- the parameter stands in front of the bytes, and rest behind it
-pub record BeginsWithParameter (parameter : ParameterContent) (rest bytes : List ℕ) : Type 0 where
-  pub value : List ℕ
-  pub framed : frame_at bytes ≡ Some (record { value = value; rest = rest })
-  pub read : parameter_of (u16_at 0 bytes) value ≡ Some parameter
+abbrev pub BeginsWithParameter : ParameterContent → List ℕ → List ℕ → Type 0
+BeginsWithParameter = BeginsWith (IsReadBy parameter_of)
 
 -- the bytes are these parameters
 abbrev pub AreParameters : List ParameterContent → List ℕ → Type 0
-AreParameters [] bytes = bytes ≡ []
-AreParameters (parameter ∷ parameters) bytes = (rest : List ℕ) × BeginsWithParameter parameter rest bytes × AreParameters parameters rest
+AreParameters = AreItems (IsReadBy parameter_of)
 
 -- the bytes are the value of this INIT or INIT ACK (RFC 9260, sections 3.3.2 and 3.3.3)
 pub record IsInitValue (init : InitContent) (value : List ℕ) : Type 0 where
@@ -87,15 +100,12 @@ cause_of code value =
     else Some (unknown_cause code value)
 
 -- The cause stands in front of the bytes, and rest behind it. Causes have the frame of parameters.
-pub record BeginsWithCause (cause : CauseContent) (rest bytes : List ℕ) : Type 0 where
-  pub value : List ℕ
-  pub framed : frame_at bytes ≡ Some (record { value = value; rest = rest })
-  pub read : cause_of (u16_at 0 bytes) value ≡ Some cause
+abbrev pub BeginsWithCause : CauseContent → List ℕ → List ℕ → Type 0
+BeginsWithCause = BeginsWith (IsReadBy cause_of)
 
 -- the bytes are these causes
 abbrev pub AreCauses : List CauseContent → List ℕ → Type 0
-AreCauses [] bytes = bytes ≡ []
-AreCauses (cause ∷ causes) bytes = (rest : List ℕ) × BeginsWithCause cause rest bytes × AreCauses causes rest
+AreCauses = AreItems (IsReadBy cause_of)
 
 -- Chunks of this type are read by their header alone.
 abbrev pub IsOtherType : ℕ → Type 0
@@ -112,16 +122,17 @@ IsChunkOf cookie_ack_chunk chunk_type flags value = chunk_type ≡ cookie_ack_ty
 IsChunkOf (other_chunk other_type other_flags other_value) chunk_type flags value =
     IsOtherType chunk_type × (other_type ≡ chunk_type) × (other_flags ≡ flags) × (other_value ≡ value)
 
+-- what the type and the flags, the first two bytes, and the value say
+abbrev pub IsReadByHeader : ChunkContent → List ℕ → List ℕ → Type 0
+IsReadByHeader chunk bytes value = IsChunkOf chunk (slice_index bytes 0) (slice_index bytes 1) value
+
 -- the chunk stands in front of the bytes, and rest behind it
-pub record BeginsWithChunk (chunk : ChunkContent) (rest bytes : List ℕ) : Type 0 where
-  pub value : List ℕ
-  pub framed : frame_at bytes ≡ Some (record { value = value; rest = rest })
-  pub read : IsChunkOf chunk (slice_index bytes 0) (slice_index bytes 1) value
+abbrev pub BeginsWithChunk : ChunkContent → List ℕ → List ℕ → Type 0
+BeginsWithChunk = BeginsWith IsReadByHeader
 
 -- the bytes are these chunks
 abbrev pub AreChunks : List ChunkContent → List ℕ → Type 0
-AreChunks [] bytes = bytes ≡ []
-AreChunks (chunk ∷ chunks) bytes = (rest : List ℕ) × BeginsWithChunk chunk rest bytes × AreChunks chunks rest
+AreChunks = AreItems IsReadByHeader
 
 -- is the chunk a COOKIE ECHO (RFC 9260, section 3.3.11)?
 abbrev pub is_cookie_echo : ChunkContent → Bool

@@ -1,11 +1,11 @@
 -- A built packet reads back (RFC 9260, section 3): the packets whose numbers fit their fields, and the law.
-use Rattle.std.specs.Prelude.{◌≡◌, ◌≢◌, ◌≤◌, ◌<◌, ◌⊎◌, ℕ, ◌+◌, ◌^◌, Bool, true, false, List, length, drop}
+use Rattle.std.specs.Prelude.{◌≡◌, ◌≢◌, ◌≤◌, ◌<◌, ◌⊎◌, ℕ, ◌+◌, ◌%◌, ◌^◌, Bool, true, false, List, map, length, drop}
 use Rattle.std.specs.List.{AllByRecursion}
 use Rattle.dcsctp_wire.specs.declared.packet.WireOptions.{WireOptions}
-use Rattle.dcsctp_wire.specs.Numbers.{state_cookie_type, zero_checksum_acceptable_type, supported_extensions_type, forward_tsn_supported_type}
-use Rattle.dcsctp_wire.specs.Content.{ParameterContent, state_cookie, supported_extensions, zero_checksum_acceptable, forward_tsn_supported, unknown_parameter, InitContent, ChunkContent, init_chunk, init_ack_chunk, abort_chunk, cookie_echo_chunk, cookie_ack_chunk, other_chunk, PacketContent}
+use Rattle.dcsctp_wire.specs.Numbers.{missing_mandatory_parameter_code, state_cookie_type, zero_checksum_acceptable_type, supported_extensions_type, forward_tsn_supported_type}
+use Rattle.dcsctp_wire.specs.Content.{ParameterContent, state_cookie, supported_extensions, zero_checksum_acceptable, forward_tsn_supported, unknown_parameter, InitContent, CauseContent, missing_mandatory_parameter, unknown_cause, ChunkContent, init_chunk, init_ack_chunk, abort_chunk, cookie_echo_chunk, cookie_ack_chunk, other_chunk, PacketContent}
 use Rattle.dcsctp_wire.specs.Format.{IsOtherType, is_cookie_echo, IsPacket}
-use Rattle.dcsctp_wire.specs.Spelling.{parameters_len, packet_bytes}
+use Rattle.dcsctp_wire.specs.Spelling.{as_parameter, parameters_len, packet_bytes}
 
 abbrev pub IsByte : ℕ → Type 0
 IsByte byte = byte < 2 ^ 8
@@ -55,11 +55,32 @@ pub record IsWritableEcho (cookie : List ℕ) : Type 0 where
   pub len_fits : 4 + length cookie < 2 ^ 16
   pub cookie_in_bytes : AllByRecursion IsByte cookie
 
--- a chunk within its fields; of an ABORT nothing is said
+-- the types of missing parameters, two bytes each (RFC 9260, section 3.3.10.2)
+pub record AreWholeTypes (types : List ℕ) : Type 0 where
+  pub whole : length types % 2 ≡ 0
+  pub types_in_bytes : AllByRecursion IsByte types
+
+-- an unknown cause within its fields: its code is not the one that is known
+pub record IsWritableUnknownCause (code : ℕ) (value : List ℕ) : Type 0 where
+  pub code_fits : code < 2 ^ 16
+  pub not_missing_parameter : code ≢ missing_mandatory_parameter_code
+  pub value_in_bytes : AllByRecursion IsByte value
+
+-- A cause within its fields (RFC 9260, section 3.3.10). Its length fits where that of its chunk does.
+abbrev pub IsWritableCause : CauseContent → Type 0
+IsWritableCause (missing_mandatory_parameter types) = AreWholeTypes types
+IsWritableCause (unknown_cause code value) = IsWritableUnknownCause code value
+
+-- an ABORT within its fields (RFC 9260, section 3.3.7)
+pub record IsWritableAbort (causes : List CauseContent) : Type 0 where
+  pub len_fits : 4 + parameters_len (map as_parameter causes) < 2 ^ 16
+  pub causes_fit : AllByRecursion IsWritableCause causes
+
+-- a chunk within its fields
 abbrev pub IsWritableChunk : ChunkContent → Type 0
 IsWritableChunk (init_chunk init) = IsWritableInit init
 IsWritableChunk (init_ack_chunk init) = IsWritableInit init
-IsWritableChunk (abort_chunk reflected causes) = ⊥
+IsWritableChunk (abort_chunk reflected causes) = IsWritableAbort causes
 IsWritableChunk (cookie_echo_chunk cookie) = IsWritableEcho cookie
 IsWritableChunk cookie_ack_chunk = Unit {0}
 IsWritableChunk (other_chunk chunk_type flags value) = IsWritableOther chunk_type flags value

@@ -3,7 +3,9 @@ use Rattle.std.specs.List.{list_any}
 use Rattle.std.proofs.lemmas.List.{take_rest}
 use Rattle.std.proofs.lemmas.Result.{err_from_is_err_and}
 use Rattle.dcsctp_wire.specs.Content.{chunk_content}
-use Rattle.dcsctp_wire.proofs.Chunks.{same_chunks}
+use Rattle.dcsctp_wire.specs.Format.{IsReadByHeader}
+use Rattle.dcsctp_wire.proofs.Items.{same_items}
+use Rattle.dcsctp_wire.proofs.Chunks.{one_chunk}
 use Rattle.dcsctp_wire.proofs.Packets.{is_echo, echo_in_front, found_in_front}
 use Rattle.dcsctp_wire.proofs.packet.SctpPacket.from_bytes.Goals as goal
 
@@ -15,7 +17,7 @@ returns-in_err-chunks-clause-malformed c = λ is packet h.
 pub returns-then-not-is_echo_in_front-clause-malformed : goal.returns-then-not-is_echo_in_front-clause-malformed
 returns-then-not-is_echo_in_front-clause-malformed c = λ _ packet h.
     let chunks = c.in_ok-chunks.chunks.items in
-    let same : packet.chunks ≡ map chunk_content chunks = same_chunks packet.chunks (map chunk_content chunks) (drop 12 c.args.bytes.now) h.chunks (rw (take_rest c.args.bytes.now 12) at c.in_ok-chunks.ensures.found) in
+    let same : packet.chunks ≡ map chunk_content chunks = same_items IsReadByHeader one_chunk packet.chunks (map chunk_content chunks) (drop 12 c.args.bytes.now) h.chunks (rw (take_rest c.args.bytes.now 12) at c.in_ok-chunks.ensures.found) in
     let none = found_in_front chunks packet.chunks same h.echo_in_front in
     cc (c.is_echo_in_front.ensures, c.if-not-is_echo_in_front.true, none)
 
