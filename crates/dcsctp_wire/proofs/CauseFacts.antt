@@ -1,9 +1,13 @@
--- Outside examples of ABORT and error causes, written by hand from RFC 9260, sections 3.3.7 and 3.3.10.
+-- Outside examples of ABORT and error causes, written by hand from RFC 9260, sections 3.3.7 and 3.3.10, and of
+-- the texts of causes.
 use Rattle.std.proofs.Common.{◌≡◌, true, false, None, Some, [], ◌∷◌, refl, arith}
+use Rattle.std.specs.Prelude.{codes}
+use Rattle.std.specs.Fmt.{digits}
 use Rattle.dcsctp_wire.specs.Content.{missing_mandatory_parameter, unknown_cause, abort_chunk}
 use Rattle.dcsctp_wire.specs.Format.{frame_at, missing_types, cause_of, IsChunkOf}
 use Rattle.dcsctp_wire.specs.Spelling.{parameter_bytes, parameters_len, abort_bytes, chunk_bytes}
 use Rattle.dcsctp_wire.specs.ReadsBack.{IsWritableChunk}
+use Rattle.dcsctp_wire.specs.Texts.{cause_text, causes_text}
 
 abort_is_spelled : chunk_bytes (abort_chunk false []) ≡ 6 ∷ 0 ∷ 0 ∷ 4 ∷ []
 unfolding abort_bytes parameters_len
@@ -51,3 +55,33 @@ abort_is_writable =
         (record { code_fits = omega arith; not_missing_parameter = λ e. absurd (omega (arith, e)); value_in_bytes = (omega arith, (omega arith, tt)) }, tt),
       );
     }
+
+-- ---- texts
+
+user_initiated_abort_is_shown : cause_text (unknown_cause 12 (codes "Close called")) ≡ codes "cause 12: Close called"
+unfolding digits
+user_initiated_abort_is_shown = refl
+
+-- A space, 32, is the first byte that is shown, and a tilde, 126, the last.
+bytes_that_do_not_print_are_dots : cause_text (unknown_cause 13 (0 ∷ 31 ∷ 32 ∷ 126 ∷ 127 ∷ 255 ∷ [])) ≡ codes "cause 13: .. ~.."
+unfolding digits
+bytes_that_do_not_print_are_dots = refl
+
+empty_text_is_shown : cause_text (unknown_cause 12 []) ≡ codes "cause 12: "
+unfolding digits
+empty_text_is_shown = refl
+
+other_values_are_not_shown : cause_text (unknown_cause 65535 (codes "hi")) ≡ codes "cause 65535"
+unfolding digits
+other_values_are_not_shown = refl
+
+missing_types_are_not_shown : cause_text (missing_mandatory_parameter (0 ∷ 7 ∷ [])) ≡ codes "cause 2"
+unfolding digits
+missing_types_are_not_shown = refl
+
+texts_are_joined : causes_text (unknown_cause 13 (codes "hi") ∷ missing_mandatory_parameter [] ∷ unknown_cause 10 [] ∷ []) ≡ codes "cause 13: hi,cause 2,cause 10"
+unfolding digits
+texts_are_joined = refl
+
+no_causes_have_no_text : causes_text [] ≡ []
+no_causes_have_no_text = refl

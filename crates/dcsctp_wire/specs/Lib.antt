@@ -6,3 +6,4 @@ pub mod Numbers
 pub mod Reading
 pub mod ReadsBack
 pub mod Spelling
+pub mod Texts

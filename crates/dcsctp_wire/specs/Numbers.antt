@@ -68,3 +68,11 @@ forward_tsn_supported_type = 0xc000
 -- RFC 9260, section 3.3.10.2
 abbrev pub missing_mandatory_parameter_code : ℕ
 missing_mandatory_parameter_code = 2
+
+-- RFC 9260, section 3.3.10.12
+abbrev pub user_initiated_abort_code : ℕ
+user_initiated_abort_code = 12
+
+-- RFC 9260, section 3.3.10.13
+abbrev pub protocol_violation_code : ℕ
+protocol_violation_code = 13

@@ -5,10 +5,13 @@ ghost use Rattle.std.specs.Option.{option_map};
 ghost use Rattle.dcsctp_wire.specs.Content.{CauseContent, cause_content};
 ghost use Rattle.dcsctp_wire.specs.Format.{missing_types, cause_of, BeginsWithCause, AreCauses};
 
+mod text;
+
 use crate::bytes::{read_frame, u16_at, u32_at};
 use crate::packet::PacketError;
 use crate::types::cause_code;
 use std::alloc::Global;
+pub use text::causes_text;
 
 /// An error cause. What it holds is borrowed: from the packet that is read, or from the caller that writes
 /// one.

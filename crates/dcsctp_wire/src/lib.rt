@@ -16,7 +16,7 @@ mod types;
 
 pub use builder::{SctpPacketBuilder, sizes};
 pub use bytes::{u16_at, u32_at};
-pub use cause::ErrorCause;
+pub use cause::{ErrorCause, causes_text};
 pub use chunk::{AbortChunk, Chunk, CookieEchoChunk, InitChunk, OtherChunk};
 pub use packet::{
     CommonHeader, PacketError, SctpPacket, WireOptions, built_packet_reads_back, one_reading,

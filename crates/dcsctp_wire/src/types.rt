@@ -50,4 +50,19 @@ pub mod parameter_type {
 pub mod cause_code {
     /// Missing Mandatory Parameter (RFC 9260, section 3.3.10.2).
     pub const MISSING_MANDATORY_PARAMETER: u16 = 2;
+
+    /// Unrecognized Chunk Type (RFC 9260, section 3.3.10.6).
+    pub const UNRECOGNIZED_CHUNK_TYPE: u16 = 6;
+
+    /// No User Data (RFC 9260, section 3.3.10.9).
+    pub const NO_USER_DATA: u16 = 9;
+
+    /// Cookie Received While Shutting Down (RFC 9260, section 3.3.10.10).
+    pub const COOKIE_RECEIVED_WHILE_SHUTTING_DOWN: u16 = 10;
+
+    /// User-Initiated Abort (RFC 9260, section 3.3.10.12).
+    pub const USER_INITIATED_ABORT: u16 = 12;
+
+    /// Protocol Violation (RFC 9260, section 3.3.10.13).
+    pub const PROTOCOL_VIOLATION: u16 = 13;
 }
