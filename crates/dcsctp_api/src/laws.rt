@@ -13,8 +13,7 @@ ghost use Rattle.dcsctp_api.specs.declared.message.SendOptions.{SendOptions};
 
 use crate::ids::{LifecycleId, PpId, StreamId};
 use crate::message::SendOptions;
-use crate::time::SocketTime;
-use dcsctp_machine::cookie_reads_back;
+use dcsctp_machine::{SocketTime, cookie_reads_back};
 use std::hash::Hash;
 
 /// Moments are compared by their nanoseconds: `==` holds of equal ones alone, and `cmp`, `<` and the

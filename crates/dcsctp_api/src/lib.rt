@@ -13,12 +13,11 @@ mod state;
 mod state_cookie;
 #[cfg(test)]
 mod tests;
-mod time;
 
 pub use calls::DcSctpSocket;
 pub use dcsctp_machine::{
     Association, Capabilities, ErrorKind, Held, Options, Pair, Phase,
-    ReconfigurationResponseResult, SctpImplementation, Word,
+    ReconfigurationResponseResult, SctpImplementation, SocketTime, Word,
     ZERO_CHECKSUM_ALTERNATE_ERROR_DETECTION_METHOD_LOWER_LAYER_DTLS,
     ZERO_CHECKSUM_ALTERNATE_ERROR_DETECTION_METHOD_NONE, ZeroChecksumAlternateErrorDetectionMethod,
 };
@@ -32,4 +31,3 @@ pub use laws::{
 pub use message::{Message, SendOptions};
 pub use state::SocketState;
 pub use state_cookie::StateCookie;
-pub use time::SocketTime;

@@ -3,8 +3,9 @@
 use Rattle.std.proofs.Common.{◌≡◌, ℕ, true, false, List, [], ◌∷◌, refl}
 use Rattle.std.specs.Prelude.{codes}
 use Rattle.dcsctp_wire.specs.declared.reconfiguration.ReconfigurationResponseResult.TheVariants.{SuccessNothingToDo, SuccessPerformed, Denied, ErrorWrongSSN, ErrorRequestAlreadyInProgress, ErrorBadSequenceNumber, InProgress}
-use Rattle.dcsctp_wire.specs.Spelling.{parameter_bytes, parameters_len, other_bytes, header_bytes, checksum_field, packet_bytes_of, chunk_bytes}
-use Rattle.dcsctp_machine.specs.Cause.{missing_mandatory_parameter, cookie_received_while_shutting_down, user_initiated_abort, protocol_violation, other_cause}
+use Rattle.dcsctp_wire.specs.Spelling.{parameter_bytes, parameters_len, abort_bytes, other_bytes, header_bytes, checksum_field, packet_bytes_of, chunk_bytes}
+use Rattle.dcsctp_machine.specs.Cause.{missing_mandatory_parameter, cookie_received_while_shutting_down, user_initiated_abort, protocol_violation}
+use Rattle.dcsctp_wire.specs.Content.{unknown_cause}
 use Rattle.dcsctp_machine.specs.Reconfiguration.{outgoing_reset_request, incoming_reset_request, reconfiguration_response, other_reset_parameter, result_code}
 use Rattle.dcsctp_machine.specs.Packet.{Content, cookie_echo, cookie_ack, re_config, abort, shutdown, shutdown_ack, shutdown_complete, chunk_out, emission_bytes}
 use Rattle.dcsctp_machine.specs.control.CookieEcho.{shutting_down_error}
@@ -43,26 +44,26 @@ shutdown_complete_has_t_bit = refl
 -- ---- ABORT and error causes (RFC 9260, sections 3.3.7 and 3.3.10)
 
 abort_is_6 : bytes_of (abort false []) ≡ 6 ∷ 0 ∷ 0 ∷ 4 ∷ []
-unfolding parameters_len other_bytes
+unfolding parameters_len abort_bytes
 abort_is_6 = refl
 
 abort_has_t_bit : bytes_of (abort true []) ≡ 6 ∷ 1 ∷ 0 ∷ 4 ∷ []
-unfolding parameters_len other_bytes
+unfolding parameters_len abort_bytes
 abort_has_t_bit = refl
 
 -- The State Cookie, parameter 7, is missing. Two bytes of padding are no part of the length.
 missing_parameter_is_2 : bytes_of (abort false (missing_mandatory_parameter (7 ∷ []) ∷ []))
     ≡ 6 ∷ 0 ∷ 0 ∷ 14 ∷ 0 ∷ 2 ∷ 0 ∷ 10 ∷ 0 ∷ 0 ∷ 0 ∷ 1 ∷ 0 ∷ 7 ∷ 0 ∷ 0 ∷ []
-unfolding parameter_bytes parameters_len other_bytes
+unfolding parameter_bytes parameters_len abort_bytes
 missing_parameter_is_2 = refl
 
 two_missing_parameters : bytes_of (abort false (missing_mandatory_parameter (7 ∷ 0x8008 ∷ []) ∷ []))
     ≡ 6 ∷ 0 ∷ 0 ∷ 16 ∷ 0 ∷ 2 ∷ 0 ∷ 12 ∷ 0 ∷ 0 ∷ 0 ∷ 2 ∷ 0 ∷ 7 ∷ 0x80 ∷ 8 ∷ []
-unfolding parameter_bytes parameters_len other_bytes
+unfolding parameter_bytes parameters_len abort_bytes
 two_missing_parameters = refl
 
 cookie_while_shutting_down_is_10 : bytes_of (abort false (cookie_received_while_shutting_down ∷ [])) ≡ 6 ∷ 0 ∷ 0 ∷ 8 ∷ 0 ∷ 10 ∷ 0 ∷ 4 ∷ []
-unfolding parameter_bytes parameters_len other_bytes
+unfolding parameter_bytes parameters_len abort_bytes
 cookie_while_shutting_down_is_10 = refl
 
 -- in an ERROR chunk, type 9
@@ -72,22 +73,22 @@ error_is_9 = refl
 
 user_initiated_abort_is_12 : bytes_of (abort false (user_initiated_abort (codes "Close called") ∷ []))
     ≡ 6 ∷ 0 ∷ 0 ∷ 20 ∷ 0 ∷ 12 ∷ 0 ∷ 16 ∷ 0x43 ∷ 0x6c ∷ 0x6f ∷ 0x73 ∷ 0x65 ∷ 0x20 ∷ 0x63 ∷ 0x61 ∷ 0x6c ∷ 0x6c ∷ 0x65 ∷ 0x64 ∷ []
-unfolding parameter_bytes parameters_len other_bytes
+unfolding parameter_bytes parameters_len abort_bytes
 user_initiated_abort_is_12 = refl
 
 protocol_violation_is_13 : bytes_of (abort false (protocol_violation (codes "bad") ∷ [])) ≡ 6 ∷ 0 ∷ 0 ∷ 11 ∷ 0 ∷ 13 ∷ 0 ∷ 7 ∷ 0x62 ∷ 0x61 ∷ 0x64 ∷ 0 ∷ []
-unfolding parameter_bytes parameters_len other_bytes
+unfolding parameter_bytes parameters_len abort_bytes
 protocol_violation_is_13 = refl
 
 -- The padding of the first cause counts, and that of the last doesn't.
 two_causes : bytes_of (abort false (protocol_violation (codes "x") ∷ missing_mandatory_parameter (7 ∷ []) ∷ []))
     ≡ 6 ∷ 0 ∷ 0 ∷ 22 ∷ 0 ∷ 13 ∷ 0 ∷ 5 ∷ 0x78 ∷ 0 ∷ 0 ∷ 0 ∷ 0 ∷ 2 ∷ 0 ∷ 10 ∷ 0 ∷ 0 ∷ 0 ∷ 1 ∷ 0 ∷ 7 ∷ 0 ∷ 0 ∷ []
-unfolding parameter_bytes parameters_len other_bytes
+unfolding parameter_bytes parameters_len abort_bytes
 two_causes = refl
 
 -- Out of Resource, a cause without a value (RFC 9260, section 3.3.10.4)
-out_of_resource : bytes_of (abort false (other_cause 4 [] ∷ [])) ≡ 6 ∷ 0 ∷ 0 ∷ 8 ∷ 0 ∷ 4 ∷ 0 ∷ 4 ∷ []
-unfolding parameter_bytes parameters_len other_bytes
+out_of_resource : bytes_of (abort false (unknown_cause 4 [] ∷ [])) ≡ 6 ∷ 0 ∷ 0 ∷ 8 ∷ 0 ∷ 4 ∷ 0 ∷ 4 ∷ []
+unfolding parameter_bytes parameters_len abort_bytes
 out_of_resource = refl
 
 -- ---- RE-CONFIG (RFC 6525, sections 3.1 and 4)

@@ -1,5 +1,5 @@
 -- The turns of an endpoint are turns of its association.
-use Rattle.std.proofs.Common.{◌≡◌, ◌≤◌, ◌<◌, ℕ, ◌^◌, Bool, true, false, cond, Option, None, List, [], ◌∷◌, refl, sym, subst, arith}
+use Rattle.std.proofs.Common.{◌≡◌, ◌≤◌, ◌<◌, ℕ, ◌^◌, Bool, true, false, cond, List, [], ◌∷◌, refl, sym, subst, arith}
 use Rattle.std.proofs.lemmas.Bool.Decides.{nat_tests}
 use Rattle.dcsctp_wire.specs.Spelling.{other_bytes}
 use Rattle.dcsctp_machine.specs.Settings.{packet_size_limit, IsValid}
@@ -10,24 +10,17 @@ use Rattle.dcsctp_machine.specs.declared.word.Word.TheVariants.{U32}
 use Rattle.dcsctp_machine.specs.Cookie.{cookie_bytes}
 use Rattle.dcsctp_machine.specs.Packet.{Introduction, Content, init, init_ack, cookie_echo, cookie_ack, re_config, abort, shutdown, shutdown_ack, shutdown_complete, other}
 use Rattle.dcsctp_machine.specs.Endpoint.{Endpoint, Core, closed, cookie_wait, cookie_echoed, open_in, established, shutdown_pending, shutdown_sent, shutdown_received, shutdown_ack_sent}
-use Rattle.dcsctp_machine.specs.Outcome.{Outcome, next_chunk, count_up, still, fits, emits}
+use Rattle.dcsctp_machine.specs.Outcome.{Outcome, still, next_chunk, count_up, fits, emits}
 use Rattle.dcsctp_machine.specs.Event.{sent}
 use Rattle.dcsctp_machine.specs.turns.Handshake.{pair_from, renewed_pair, cookie_for, init_ack_for, init_ack_emission, answers_init, to_peer, init_outcome}
-use Rattle.dcsctp_machine.specs.control.Effect.{Effect, draws, Change, unchanged, emitted_alone}
-use Rattle.dcsctp_machine.specs.control.Choices.{Filling, Choices}
+use Rattle.dcsctp_machine.specs.control.Effect.{Effect, draws, unchanged, emitted_alone}
+use Rattle.dcsctp_machine.specs.control.Choices.{Choices}
 use Rattle.dcsctp_machine.specs.control.Handshake.{IsCookieOf}
-use Rattle.dcsctp_machine.specs.control.Acts.{ChunkChange}
+use Rattle.dcsctp_machine.specs.control.Acts.{connect, t1_expires, shut_down, step_of_shutdown, shutdown_repeats, abort_with, hands_over, flushes, request_again, ChunkChange}
 use Rattle.dcsctp_machine.specs.Controlled.{IsControlled, ControlledChunk}
-use Rattle.dcsctp_machine.specs.Turn.{InitAckTurn, OtherTurn}
-use Rattle.dcsctp_machine.specs.Laws.{FitsPair, FitsCookie, CookieReadsBack, FitsOwn, FitsAnswer, ChunksAreControlled}
-
-nothing_to_send : Filling
-nothing_to_send = record { is_allowed = false; acknowledgements = []; reset = None; data_chunks = []; further = [] }
-
--- the choices of a turn that emits one packet at most
-abbrev choices_of : Pair → List ℕ → Bool → Choices
-choices_of drawn cookie fits =
-    record { drawn = drawn; cookie = cookie; tie = 0; fits = fits; is_acknowledged = true; is_reached = true; is_violation = false; causes = []; tsn = 0; following = next_chunk; plain = []; filling = nothing_to_send }
+use Rattle.dcsctp_machine.specs.Laws.{FitsPair, FitsCookie, CookieReadsBack, FitsOwn, FitsAnswer, ChunksAreControlled, ActsAreControlled}
+use Rattle.dcsctp_machine.proofs.ControlHandshake.{choices_of, no_choices, filling_where, ControlledAt, still_controlled, init_ack_controlled, cookie_ack_controlled, abort_controlled, connect_controlled}
+use Rattle.dcsctp_machine.proofs.ControlEcho.{cookie_echo_controlled}
 
 -- ---- an INIT
 
@@ -70,10 +63,6 @@ drawing : (e : Endpoint) (o : Outcome) (core : Core) (drawn : Pair) (effects : L
     → IsControlled e o (record { core = core; effects = effects; following = next_chunk }) → IsControlled e o (record { core = core; effects = draws drawn ∷ effects; following = next_chunk })
 drawing e o core drawn effects h = record { core = h.core; options = h.options; signs = h.signs; following = h.following }
 
--- the turn of an INIT at an association that the endpoint holds
-abbrev InitControlled : Endpoint → ℕ → Introduction → Core → Outcome → Type 0
-InitControlled e tag theirs core o = (change : Change) × ChunkChange e.options core tag (init theirs) change × IsControlled e o change
-
 answered : CookieReadsBack → (e : Endpoint) (tag : ℕ) (theirs : Introduction) (mine : Pair) (tie : ℕ) (words : List Word) (core : Core) → e.core ≡ core
     → IsControlled e (answers_init e theirs words mine tie) (record { core = core; effects = emitted_alone (fits e (init_ack_emission e theirs mine tie)) theirs.pair.tag (init_ack_for e theirs mine tie); following = next_chunk })
 answered law e tag theirs mine tie words core is =
@@ -102,14 +91,14 @@ ack_controlled e held core is valid =
 -- the choices that such an INIT makes
 abbrev renewing : Endpoint → Introduction → ℕ → Choices
 renewing e theirs word =
-    choices_of (renewed_pair e word) (cookie_bytes (cookie_for theirs (renewed_pair e word) e.tie)) (fits e (init_ack_emission e theirs (renewed_pair e word) e.tie))
+    choices_of e (renewed_pair e word) (cookie_bytes (cookie_for theirs (renewed_pair e word) e.tie)) (fits e (init_ack_emission e theirs (renewed_pair e word) e.tie))
 
 init_controlled : CookieReadsBack → (e : Endpoint) (tag : ℕ) (theirs : Introduction) (core : Core) (word next : ℕ) → e.core ≡ core → FitsOwn core → FitsAnswer e theirs
-    → InitControlled e tag theirs core (init_outcome e theirs core word next)
+    → ControlledAt e core tag (init theirs) (init_outcome e theirs core word next)
 init_controlled law e tag theirs closed word next is own h = (
   _,
   (
-    choices_of (pair_from word next) (cookie_bytes (cookie_for theirs (pair_from word next) 0)) (fits e (init_ack_emission e theirs (pair_from word next) 0)),
+    choices_of e (pair_from word next) (cookie_bytes (cookie_for theirs (pair_from word next) 0)) (fits e (init_ack_emission e theirs (pair_from word next) 0)),
     is_cookie law e theirs (pair_from word next) 0 h (drawn_fits word next) (omega arith),
     refl,
   ),
@@ -117,12 +106,12 @@ init_controlled law e tag theirs closed word next is own h = (
 )
 init_controlled law e tag theirs (cookie_wait my) word next is own h = (
   _,
-  (choices_of my (cookie_bytes (cookie_for theirs my 0)) (fits e (init_ack_emission e theirs my 0)), is_cookie law e theirs my 0 h own (omega arith), refl),
+  (choices_of e my (cookie_bytes (cookie_for theirs my 0)) (fits e (init_ack_emission e theirs my 0)), is_cookie law e theirs my 0 h own (omega arith), refl),
   answered law e tag theirs my 0 [] (cookie_wait my) is,
 )
 init_controlled law e tag theirs (cookie_echoed my held echoed) word next is own h = (
   _,
-  (choices_of my (cookie_bytes (cookie_for theirs my 0)) (fits e (init_ack_emission e theirs my 0)), is_cookie law e theirs my 0 h own (omega arith), refl),
+  (choices_of e my (cookie_bytes (cookie_for theirs my 0)) (fits e (init_ack_emission e theirs my 0)), is_cookie law e theirs my 0 h own (omega arith), refl),
   answered law e tag theirs my 0 [] (cookie_echoed my held echoed) is,
 )
 init_controlled law e tag theirs (open_in established my held) word next is own h =
@@ -142,47 +131,47 @@ init_controlled law e tag theirs (open_in shutdown_ack_sent my held) word next i
 
 -- ---- every chunk
 
--- a turn in which nothing happens
-still_controlled : (e : Endpoint) (core : Core) (o : Outcome) → e.core ≡ core → o ≡ still e → IsControlled e o (unchanged core)
-still_controlled e core o is turn = subst (λ (x : Outcome). IsControlled e x (unchanged core)) (sym turn) (record { core = is; options = refl; signs = refl; following = refl })
+-- what a chunk chooses where nothing waits and nothing is said
+abbrev nothing_chosen : Endpoint → Choices
+nothing_chosen e = record (no_choices e false) { is_acknowledged = false; filling = filling_where false }
 
--- nothing is chosen
-abbrev no_choices : Choices
-no_choices = choices_of (record { tag = 0; first_tsn = 0 }) [] true
+-- It may change nothing, whatever the association is.
+other_change_is_none : (e : Endpoint) (core : Core) (tag chunk_type flags : ℕ) (value : List ℕ) → ChunkChange e.options core tag (other chunk_type flags value) (unchanged core)
+other_change_is_none e closed tag chunk_type flags value = (nothing_chosen e, tt, refl)
+other_change_is_none e (cookie_wait my) tag chunk_type flags value = (nothing_chosen e, tt, refl)
+other_change_is_none e (cookie_echoed my held cookie) tag chunk_type flags value = (nothing_chosen e, tt, refl)
+other_change_is_none e (open_in established my held) tag chunk_type flags value = (nothing_chosen e, tt, refl)
+other_change_is_none e (open_in shutdown_pending my held) tag chunk_type flags value = (nothing_chosen e, tt, refl)
+other_change_is_none e (open_in shutdown_sent my held) tag chunk_type flags value = (nothing_chosen e, tt, refl)
+other_change_is_none e (open_in shutdown_received my held) tag chunk_type flags value = (nothing_chosen e, tt, refl)
+other_change_is_none e (open_in shutdown_ack_sent my held) tag chunk_type flags value = (nothing_chosen e, tt, refl)
 
-init_ack_controlled : (e : Endpoint) (core : Core) (tag : ℕ) (theirs : Introduction) (cookie : Option (List ℕ)) (o : Outcome) → e.core ≡ core → InitAckTurn e core tag theirs cookie o
-    → ControlledChunk e tag (init_ack theirs cookie) o
-init_ack_controlled e closed tag theirs cookie o is turn =
-    (unchanged closed, subst (λ (c : Core). ChunkChange e.options c tag (init_ack theirs cookie) (unchanged closed)) (sym is) (no_choices, tt, refl), still_controlled e closed o is turn)
-init_ack_controlled e (cookie_wait my) tag theirs cookie o is turn = turn
-init_ack_controlled e (cookie_echoed my held echoed) tag theirs cookie o is turn = (
-  unchanged (cookie_echoed my held echoed),
-  subst (λ (c : Core). ChunkChange e.options c tag (init_ack theirs cookie) (unchanged (cookie_echoed my held echoed))) (sym is) (no_choices, tt, refl),
-  still_controlled e (cookie_echoed my held echoed) o is turn,
-)
-init_ack_controlled e (open_in phase my held) tag theirs cookie o is turn = (
-  unchanged (open_in phase my held),
-  subst (λ (c : Core). ChunkChange e.options c tag (init_ack theirs cookie) (unchanged (open_in phase my held))) (sym is) (no_choices, tt, refl),
-  still_controlled e (open_in phase my held) o is turn,
-)
-
-other_controlled : (e : Endpoint) (core : Core) (tag chunk_type flags : ℕ) (value : List ℕ) (o : Outcome) → e.core ≡ core → OtherTurn e core tag (other chunk_type flags value) o
-    → ControlledChunk e tag (other chunk_type flags value) o
-other_controlled e closed tag chunk_type flags value o is turn =
-    (unchanged closed, subst (λ (c : Core). ChunkChange e.options c tag (other chunk_type flags value) (unchanged closed)) (sym is) (no_choices, tt, refl), still_controlled e closed o is turn)
-other_controlled e (cookie_wait my) tag chunk_type flags value o is turn = turn
-other_controlled e (cookie_echoed my held echoed) tag chunk_type flags value o is turn = turn
-other_controlled e (open_in phase my held) tag chunk_type flags value o is turn = turn
+other_controlled : (e : Endpoint) (tag chunk_type flags : ℕ) (value : List ℕ) (o : Outcome) → o ≡ still e → ControlledChunk e tag (other chunk_type flags value) o
+other_controlled e tag chunk_type flags value o turn =
+    subst (ControlledChunk e tag (other chunk_type flags value)) (sym turn) (unchanged e.core, other_change_is_none e e.core tag chunk_type flags value, still_controlled e e.core refl)
 
 pub chunks_are_controlled : CookieReadsBack → ChunksAreControlled
 chunks_are_controlled law e tag (init theirs) o turn fitting =
     subst (ControlledChunk e tag (init theirs)) (sym turn.2) (init_controlled law e tag theirs e.core turn.0 turn.1 refl fitting.own fitting)
-chunks_are_controlled law e tag (init_ack theirs cookie) o turn fitting = init_ack_controlled e e.core tag theirs cookie o refl turn
-chunks_are_controlled law e tag (cookie_echo cookie) o turn fitting = turn
-chunks_are_controlled law e tag cookie_ack o turn fitting = turn
+chunks_are_controlled law e tag (init_ack theirs cookie) o turn fitting = init_ack_controlled e tag theirs cookie o turn
+chunks_are_controlled law e tag (cookie_echo cookie) o turn fitting = cookie_echo_controlled e tag cookie o turn
+chunks_are_controlled law e tag cookie_ack o turn fitting = cookie_ack_controlled e tag o turn
 chunks_are_controlled law e tag (re_config parameters) o turn fitting = turn
-chunks_are_controlled law e tag (abort reflected causes) o turn fitting = turn
+chunks_are_controlled law e tag (abort reflected causes) o turn fitting = abort_controlled e tag reflected causes o turn
 chunks_are_controlled law e tag (shutdown cumulative_tsn) o turn fitting = turn
 chunks_are_controlled law e tag shutdown_ack o turn fitting = turn
 chunks_are_controlled law e tag (shutdown_complete reflected) o turn fitting = turn
-chunks_are_controlled law e tag (other chunk_type flags value) o turn fitting = other_controlled e e.core tag chunk_type flags value o refl turn
+chunks_are_controlled law e tag (other chunk_type flags value) o turn fitting = other_controlled e tag chunk_type flags value o turn
+
+-- ---- every act
+
+pub acts_are_controlled : ActsAreControlled
+acts_are_controlled e connect o turn = connect_controlled e o turn
+acts_are_controlled e (t1_expires again) o turn = turn
+acts_are_controlled e shut_down o turn = turn
+acts_are_controlled e step_of_shutdown o turn = turn
+acts_are_controlled e shutdown_repeats o turn = turn
+acts_are_controlled e (abort_with causes) o turn = turn
+acts_are_controlled e hands_over o turn = turn
+acts_are_controlled e flushes o turn = turn
+acts_are_controlled e (request_again reset) o turn = turn

@@ -1,9 +1,13 @@
 pub mod AdmissionFacts
 pub mod AdmissionLemmas
 pub mod ChunkFacts
+pub mod ControlEcho
+pub mod ControlHandshake
 pub mod ControlLemmas
+pub mod CookieEchoFacts
 pub mod DeliveryLemmas
 pub mod HandshakeFacts
+pub mod HandshakeTurnFacts
 pub mod LawLemmas
 pub mod MayBeWorkedLemmas
 pub mod ReadBackLemmas

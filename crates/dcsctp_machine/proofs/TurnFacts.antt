@@ -14,6 +14,7 @@ use Rattle.dcsctp_machine.specs.Event.{sent, connected, closed as is_closed, err
 use Rattle.dcsctp_machine.specs.Offer.{offer_of}
 use Rattle.dcsctp_machine.specs.Cookie.{cookie_bytes, cookie_at}
 use Rattle.dcsctp_machine.specs.Packet.{Introduction, Content, init_ack, shutdown_ack, emission_bytes}
+use Rattle.dcsctp_machine.specs.Transfer.{empty_queue, new_retransmission, new_transfer}
 use Rattle.dcsctp_machine.specs.Admission.{refused, single_init_text, admits}
 use Rattle.dcsctp_machine.specs.Endpoint.{Endpoint, closed, cookie_wait, cookie_echoed, open_in, established, shutdown_pending, shutdown_sent, shutdown_received, shutdown_ack_sent, association_of, own_tag}
 use Rattle.dcsctp_machine.specs.Outcome.{Outcome, next_chunk}
@@ -112,7 +113,7 @@ socket e mtu packets_sent =
       options = configured e.options mtu;
       tie = 77;
       counts = record { packets_received = 3; packets_sent = packets_sent; messages_queued = 5 };
-      below = record e.below { next_tsn = 0xffffffff };
+      below = record { queue = empty_queue; transfer = Some (record (new_transfer e.options 0 0 0) { retransmission = new_retransmission e.options 0xffffffff 0 }) };
     }
 
 -- the answer without a checksum, of this pair and with this tie tag in the cookie

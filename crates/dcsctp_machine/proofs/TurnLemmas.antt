@@ -1,5 +1,5 @@
 -- Lists of turns: the chunks of a packet, one list after another, and what no turn changes.
-use Rattle.std.proofs.Common.{◌≡◌, ℕ, Bool, true, false, cond, Option, List, [], ◌∷◌, ◌++◌, refl, rules, sym, subst, ap, ◌∙◌, append_assoc, arith}
+use Rattle.std.proofs.Common.{◌≡◌, ℕ, Bool, true, false, cond, List, [], ◌∷◌, ◌++◌, refl, rules, sym, subst, ap, ◌∙◌, append_assoc, arith}
 use Rattle.dcsctp_machine.specs.declared.word.Word.{Word}
 use Rattle.dcsctp_machine.specs.Packet.{Introduction, Content, init, init_ack, cookie_echo, cookie_ack, re_config, abort, shutdown, shutdown_ack, shutdown_complete, other, Emission}
 use Rattle.dcsctp_machine.specs.Endpoint.{Endpoint, Core, closed, cookie_wait, cookie_echoed, open_in, established, shutdown_pending, shutdown_sent, shutdown_received, shutdown_ack_sent}
@@ -7,9 +7,11 @@ use Rattle.dcsctp_machine.specs.Settings.{ports_of}
 use Rattle.dcsctp_machine.specs.Outcome.{Outcome, Following, next_chunk, packet_end, dropped_rest, count_up, still, fits, emits}
 use Rattle.dcsctp_machine.specs.Event.{Event, sent}
 use Rattle.dcsctp_machine.specs.Controlled.{ControlledChunk}
-use Rattle.dcsctp_machine.specs.Turn.{InitAckTurn, OtherTurn, ContentTurn}
+use Rattle.dcsctp_machine.specs.Turn.{ContentTurn}
 use Rattle.dcsctp_machine.specs.CallTurns.{AfterChunk, ChunkTurns, after_all, words_of, events_of}
 use Rattle.dcsctp_machine.specs.turns.Handshake.{init_outcome}
+use Rattle.dcsctp_machine.proofs.ControlHandshake.{init_ack_controlled, cookie_ack_controlled, abort_controlled}
+use Rattle.dcsctp_machine.proofs.ControlEcho.{cookie_echo_controlled}
 
 emits_keeps_options : (e : Endpoint) (words : List Word) (emission : Emission) → (emits e words emission).after.options ≡ e.options
 emits_keeps_options e words emission = grind arith
@@ -30,29 +32,17 @@ still_keeps_ports e o is = ap (λ (x : Outcome). ports_of x.after.options) is
 controlled_keeps_ports : (e : Endpoint) (tag : ℕ) (content : Content) (o : Outcome) → ControlledChunk e tag content o → ports_of o.after.options ≡ ports_of e.options
 controlled_keeps_ports e tag content o turn = ap ports_of turn.2.options
 
-init_ack_keeps_ports : (e : Endpoint) (core : Core) (tag : ℕ) (theirs : Introduction) (cookie : Option (List ℕ)) (o : Outcome) → InitAckTurn e core tag theirs cookie o → ports_of o.after.options ≡ ports_of e.options
-init_ack_keeps_ports e closed tag theirs cookie o turn = still_keeps_ports e o turn
-init_ack_keeps_ports e (cookie_wait my) tag theirs cookie o turn = controlled_keeps_ports e tag (init_ack theirs cookie) o turn
-init_ack_keeps_ports e (cookie_echoed my held echoed) tag theirs cookie o turn = still_keeps_ports e o turn
-init_ack_keeps_ports e (open_in phase my held) tag theirs cookie o turn = still_keeps_ports e o turn
-
-other_keeps_ports : (e : Endpoint) (core : Core) (tag : ℕ) (content : Content) (o : Outcome) → OtherTurn e core tag content o → ports_of o.after.options ≡ ports_of e.options
-other_keeps_ports e closed tag content o turn = still_keeps_ports e o turn
-other_keeps_ports e (cookie_wait my) tag content o turn = controlled_keeps_ports e tag content o turn
-other_keeps_ports e (cookie_echoed my held echoed) tag content o turn = controlled_keeps_ports e tag content o turn
-other_keeps_ports e (open_in phase my held) tag content o turn = controlled_keeps_ports e tag content o turn
-
 content_keeps_ports : (e : Endpoint) (tag : ℕ) (content : Content) (o : Outcome) → ContentTurn e tag content o → ports_of o.after.options ≡ ports_of e.options
 content_keeps_ports e tag (init theirs) o turn = ap (λ (x : Outcome). ports_of x.after.options) turn.2 ∙ ap ports_of (init_keeps_options e theirs e.core turn.0 turn.1)
-content_keeps_ports e tag (init_ack theirs cookie) o turn = init_ack_keeps_ports e e.core tag theirs cookie o turn
-content_keeps_ports e tag (cookie_echo cookie) o turn = controlled_keeps_ports e tag (cookie_echo cookie) o turn
-content_keeps_ports e tag cookie_ack o turn = controlled_keeps_ports e tag cookie_ack o turn
+content_keeps_ports e tag (init_ack theirs cookie) o turn = controlled_keeps_ports e tag (init_ack theirs cookie) o (init_ack_controlled e tag theirs cookie o turn)
+content_keeps_ports e tag (cookie_echo cookie) o turn = controlled_keeps_ports e tag (cookie_echo cookie) o (cookie_echo_controlled e tag cookie o turn)
+content_keeps_ports e tag cookie_ack o turn = controlled_keeps_ports e tag cookie_ack o (cookie_ack_controlled e tag o turn)
 content_keeps_ports e tag (re_config parameters) o turn = controlled_keeps_ports e tag (re_config parameters) o turn
-content_keeps_ports e tag (abort reflected causes) o turn = controlled_keeps_ports e tag (abort reflected causes) o turn
+content_keeps_ports e tag (abort reflected causes) o turn = controlled_keeps_ports e tag (abort reflected causes) o (abort_controlled e tag reflected causes o turn)
 content_keeps_ports e tag (shutdown cumulative_tsn) o turn = controlled_keeps_ports e tag (shutdown cumulative_tsn) o turn
 content_keeps_ports e tag shutdown_ack o turn = controlled_keeps_ports e tag shutdown_ack o turn
 content_keeps_ports e tag (shutdown_complete reflected) o turn = controlled_keeps_ports e tag (shutdown_complete reflected) o turn
-content_keeps_ports e tag (other type flags value) o turn = other_keeps_ports e e.core tag (other type flags value) o turn
+content_keeps_ports e tag (other type flags value) o turn = still_keeps_ports e o turn
 
 goes_on_where : (b : Bool) (e : Endpoint) (words : List Word) (emission : Emission) → (cond b (let sends : Outcome = record {
   words = words;

@@ -1,5 +1,7 @@
 -- What a socket is between two turns (RFC 9260, sections 4 and 5).
-use Rattle.std.specs.Prelude.{ℕ, Bool, Option, None, Some, List, []}
+use Rattle.std.specs.Prelude.{ℕ, ◌+◌, min, Bool, Option, None, Some, List, []}
+use Rattle.std.specs.Duration.{max_nanos}
+use Rattle.dcsctp_machine.specs.Transfer.{Below, nothing_below}
 use Rattle.dcsctp_machine.specs.declared.association.Pair.{Pair}
 use Rattle.dcsctp_machine.specs.declared.association.Held.{Held}
 use Rattle.dcsctp_machine.specs.declared.association.Association.{Association}
@@ -46,23 +48,32 @@ own_tag (cookie_wait my) = my.tag
 own_tag (cookie_echoed my held cookie) = my.tag
 own_tag (open_in phase my held) = my.tag
 
--- A timer of this layer (RFC 9260, sections 5.1, 8.3 and 9.2; RFC 6525, section 5.1). Moments and durations are nanoseconds.
-pub record TimerState : Type 0 where
-  -- None: it isn't running
-  pub deadline : Option ℕ
+-- A timer of this layer that runs (RFC 9260, sections 5.1, 8.3 and 9.2; RFC 6525, section 5.1). Moments and durations are nanoseconds.
+pub record RunningTimer : Type 0 where
+  -- when it expires next
+  pub deadline : ℕ
+  -- how long it ran before it expired first
   pub duration : ℕ
   pub expiries : ℕ
 
-abbrev pub stopped_timer : TimerState
-stopped_timer = record { deadline = None; duration = 0; expiries = 0 }
-
--- A timer that belongs to a phase is stopped outside it.
+-- A timer that belongs to a phase doesn't run outside it.
 pub record Timers : Type 0 where
-  pub t1 : TimerState
-  pub t2 : TimerState
-  pub reconfiguration : TimerState
-  pub heartbeat_interval : TimerState
-  pub heartbeat_timeout : TimerState
+  pub t1 : Option RunningTimer
+  pub t2 : Option RunningTimer
+  pub reconfiguration : Option RunningTimer
+  pub heartbeat_interval : Option RunningTimer
+  pub heartbeat_timeout : Option RunningTimer
+
+abbrev pub stopped_timers : Timers
+stopped_timers = record { t1 = None; t2 = None; reconfiguration = None; heartbeat_interval = None; heartbeat_timeout = None }
+
+-- the moment that comes so much later, or the last one that there is
+abbrev pub moment_after : ℕ → ℕ → ℕ
+moment_after moment duration = min (moment + duration) max_nanos
+
+-- a timer that is started at this moment
+abbrev pub started : ℕ → ℕ → Option RunningTimer
+started moment duration = Some (record { deadline = moment_after moment duration; duration = duration; expiries = 0 })
 
 -- the own request to reset streams that is under way (RFC 6525, section 4.1)
 pub record OutstandingRequest : Type 0 where
@@ -76,67 +87,6 @@ pub record Counts : Type 0 where
   pub packets_received : ℕ
   pub packets_sent : ℕ
   pub messages_queued : ℕ
-
--- a number that goes with a stream
-pub record StreamNumber : Type 0 where
-  pub stream : ℕ
-  pub number : ℕ
-
--- a message that waits to be taken by the user
-pub record ReadyMessage : Type 0 where
-  pub stream : ℕ
-  pub ppid : ℕ
-  pub payload : List ℕ
-
--- The public values of the transfer layer below.
-pub record Below : Type 0 where
-  pub cumulative_tsn : ℕ
-  pub next_tsn : ℕ
-  -- sent, and neither acknowledged nor abandoned
-  pub unacknowledged_items : ℕ
-  -- the streams that are ready to be reset, ascending
-  pub ready_streams : List ℕ
-  -- the deadlines of the retransmission timer and of a delayed acknowledgement, where they run
-  pub retransmission : Option ℕ
-  pub delayed_acknowledgement : Option ℕ
-  -- the retransmission timeout and the smoothed round trip, in nanoseconds
-  pub rto : ℕ
-  pub srtt : ℕ
-  -- the congestion window and the peer's receive window, in bytes
-  pub cwnd : ℕ
-  pub rwnd : ℕ
-  pub packets_retransmitted : ℕ
-  pub bytes_retransmitted : ℕ
-  pub messages_received : ℕ
-  pub total_buffered_amount : ℕ
-  pub buffered_amounts : List StreamNumber
-  pub thresholds : List StreamNumber
-  pub priorities : List StreamNumber
-  pub messages : List ReadyMessage
-
--- as it is before any association or message
-abbrev pub nothing_below : Below
-nothing_below =
-    record {
-      cumulative_tsn = 0;
-      next_tsn = 0;
-      unacknowledged_items = 0;
-      ready_streams = [];
-      retransmission = None;
-      delayed_acknowledgement = None;
-      rto = 0;
-      srtt = 0;
-      cwnd = 0;
-      rwnd = 0;
-      packets_retransmitted = 0;
-      bytes_retransmitted = 0;
-      messages_received = 0;
-      total_buffered_amount = 0;
-      buffered_amounts = [];
-      thresholds = [];
-      priorities = [];
-      messages = [];
-    }
 
 pub record Endpoint : Type 0 where
   -- nanoseconds since the socket was made
@@ -155,9 +105,6 @@ pub record Endpoint : Type 0 where
   pub counts : Counts
   pub peer_implementation : SctpImplementation
   pub below : Below
-
-abbrev pub stopped_timers : Timers
-stopped_timers = record { t1 = stopped_timer; t2 = stopped_timer; reconfiguration = stopped_timer; heartbeat_interval = stopped_timer; heartbeat_timeout = stopped_timer }
 
 -- a socket that was just made
 abbrev pub fresh_endpoint : Options → Endpoint

@@ -8,8 +8,8 @@ use Rattle.dcsctp_machine.specs.Settings.{IsValid, wire_options}
 use Rattle.dcsctp_machine.specs.Admission.{all_chunks, shutdown_acks_alone, refused, admits, shutdown_acks_in}
 use Rattle.dcsctp_machine.specs.CallTurns.{ChunkTurns, AdmittedTurns, HandleInput, after_all, words_of, events_of}
 use Rattle.dcsctp_machine.specs.Event.{Event, sent, error}
-use Rattle.dcsctp_machine.specs.Turn.{unreadable_text, refusal_outcome, ContentTurn}
-use Rattle.dcsctp_machine.specs.Controlled.{IsControlled, ControlledChunk}
+use Rattle.dcsctp_machine.specs.Turn.{unreadable_text, refusal_outcome, ContentTurn, ActTurn}
+use Rattle.dcsctp_machine.specs.Controlled.{IsControlled, ControlledChunk, ControlledAct}
 use Rattle.dcsctp_machine.specs.control.Effect.{Change}
 use Rattle.dcsctp_wire.specs.Content.{PacketContent}
 use Rattle.dcsctp_wire.specs.Format.{IsPacket}
@@ -18,7 +18,7 @@ use Rattle.dcsctp_machine.specs.Cookie.{Cookie, cookie_bytes, cookie_at}
 use Rattle.dcsctp_machine.specs.Packet.{Introduction, Content, init, shutdown_ack, Packet, Emission, cookie_parameters, packet_in}
 use Rattle.dcsctp_machine.specs.Endpoint.{Endpoint, Core, closed, cookie_wait, cookie_echoed, open_in}
 use Rattle.dcsctp_machine.specs.World.{MayBeWorked, ChunkChanges, PacketTurns}
-use Rattle.dcsctp_machine.specs.control.Acts.{chunk_change}
+use Rattle.dcsctp_machine.specs.control.Acts.{Act, chunk_change}
 use Rattle.dcsctp_machine.specs.control.Choices.{Choices}
 use Rattle.dcsctp_machine.specs.control.Shutdown.{reflects}
 use Rattle.dcsctp_machine.specs.Outcome.{Outcome, count_up}
@@ -138,6 +138,10 @@ FitsContent e content = Unit {0}
 -- Each turn of a chunk is a turn of the association, of which every run is proved (RFC 9260, section 5).
 abbrev pub ChunksAreControlled : Type 0
 ChunksAreControlled = (e : Endpoint) (tag : ℕ) (content : Content) (o : Outcome) → ContentTurn e tag content o → FitsContent e content → ControlledChunk e tag content o
+
+-- Each turn that the user or a timer brings is one of the association too.
+abbrev pub ActsAreControlled : Type 0
+ActsAreControlled = (e : Endpoint) (act : Act) (o : Outcome) → ActTurn e act o → ControlledAct e act o
 
 -- where each of a packet's chunks fits at its turn
 abbrev pub FitsTurns : Endpoint → List Content → List Outcome → Type 0

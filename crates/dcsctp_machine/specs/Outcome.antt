@@ -1,5 +1,5 @@
 -- What one turn leaves: the words that it drew, the endpoint after it, and its events in order.
-use Rattle.std.specs.Prelude.{ℕ, Bool, ◌+◌, ◌-◌, ◌^◌, min, List, [], ◌∷◌, length, nat_le, if◌then◌else◌}
+use Rattle.std.specs.Prelude.{ℕ, Bool, ◌+◌, ◌-◌, ◌^◌, min, List, [], ◌∷◌, ◌++◌, length, nat_le, if◌then◌else◌}
 use Rattle.std.specs.List.{flat_map}
 use Rattle.dcsctp_machine.specs.declared.word.Word.{Word}
 use Rattle.dcsctp_machine.specs.declared.kinds.ErrorKind.{ErrorKind}
@@ -44,15 +44,19 @@ contents_len contents = length (flat_map (λ content. chunk_bytes (chunk_out con
 abbrev pub fits : Endpoint → Emission → Bool
 fits e emission = nat_le (12 + contents_len emission.packet.contents) (packet_size_limit e.options)
 
+-- the endpoint once a packet has gone out
+abbrev pub counted : Endpoint → Endpoint
+counted e = record e { counts = record e.counts { packets_sent = count_up e.counts.packets_sent } }
+
+-- these words and events, and no packet behind them
+abbrev pub quiet : Endpoint → List Word → List (Event Emission) → Outcome
+quiet e words events = record { words = words; after = e; events = events; following = next_chunk }
+
+-- these words and events, and then a packet
+abbrev pub sends : Endpoint → List Word → List (Event Emission) → Emission → Outcome
+sends e words events emission = record { words = words; after = counted e; events = events ++ sent emission ∷ []; following = next_chunk }
+
 -- The words that were drawn, and then a packet, where it fits: one that doesn't is neither emitted nor
 -- counted.
 abbrev pub emits : Endpoint → List Word → Emission → Outcome
-emits e words emission =
-    if fits e emission
-    then record {
-      words = words;
-      after = record e { counts = record e.counts { packets_sent = count_up e.counts.packets_sent } };
-      events = sent emission ∷ [];
-      following = next_chunk;
-    }
-    else record { words = words; after = e; events = []; following = next_chunk }
+emits e words emission = if fits e emission then sends e words [] emission else quiet e words []

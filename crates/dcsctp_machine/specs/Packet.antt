@@ -8,7 +8,7 @@ use Rattle.dcsctp_machine.specs.Offer.{Offer, offer_parameters, offer_announced}
 use Rattle.dcsctp_wire.specs.Content.{ParameterContent, state_cookie, supported_extensions, zero_checksum_acceptable, forward_tsn_supported, unknown_parameter, InitContent, ChunkContent, init_chunk, init_ack_chunk, abort_chunk, cookie_echo_chunk, cookie_ack_chunk, other_chunk, PacketContent}
 use Rattle.dcsctp_wire.specs.Numbers.{abort_type, shutdown_type, shutdown_ack_type, cookie_echo_type, cookie_ack_type, shutdown_complete_type, re_config_type}
 use Rattle.dcsctp_wire.specs.Spelling.{parameter_bytes, parameters_len, as_parameter, t_bit, packet_bytes}
-use Rattle.dcsctp_machine.specs.Cause.{Cause, cause_content}
+use Rattle.dcsctp_machine.specs.Cause.{Cause}
 use Rattle.dcsctp_machine.specs.Reconfiguration.{ResetParameter, reset_parameter_content}
 
 -- what INIT and INIT ACK say of their sender
@@ -73,14 +73,14 @@ cookie_in (unknown_parameter type value ∷ parameters) = cookie_in parameters
 abbrev pub parameters_value : List ParameterContent → List ℕ
 parameters_value parameters = take (parameters_len parameters) (flat_map parameter_bytes parameters)
 
--- What a chunk says. Every kind but INIT and INIT ACK stands as its type, flags and value, as it is written, until
--- its handler is there.
+-- What a chunk says. A kind without a handler stands as its type, flags and value, as it is written, until its
+-- handler is there.
 abbrev pub content_in : ChunkContent → Content
 content_in (init_chunk chunk) = init (introduction_in chunk)
 content_in (init_ack_chunk chunk) = init_ack (introduction_in chunk) (cookie_in chunk.parameters)
-content_in (abort_chunk reflected causes) = other abort_type (t_bit reflected) (parameters_value (map as_parameter causes))
-content_in (cookie_echo_chunk cookie) = other cookie_echo_type 0 cookie
-content_in cookie_ack_chunk = other cookie_ack_type 0 []
+content_in (abort_chunk reflected causes) = abort reflected causes
+content_in (cookie_echo_chunk cookie) = cookie_echo cookie
+content_in cookie_ack_chunk = cookie_ack
 content_in (other_chunk type flags value) = other type flags value
 
 abbrev pub packet_in : PacketContent → Packet
@@ -110,7 +110,7 @@ chunk_out (init_ack introduction cookie) = init_ack_chunk (introduction_out intr
 chunk_out (cookie_echo cookie) = cookie_echo_chunk cookie
 chunk_out cookie_ack = cookie_ack_chunk
 chunk_out (re_config parameters) = other_chunk re_config_type 0 (parameters_value (map reset_parameter_content parameters))
-chunk_out (abort reflected causes) = other_chunk abort_type (t_bit reflected) (parameters_value (map cause_content causes))
+chunk_out (abort reflected causes) = abort_chunk reflected causes
 chunk_out (shutdown cumulative_tsn) = other_chunk shutdown_type 0 (to_be_bytes w32 cumulative_tsn)
 chunk_out shutdown_ack = other_chunk shutdown_ack_type 0 []
 chunk_out (shutdown_complete reflected) = other_chunk shutdown_complete_type (t_bit reflected) []

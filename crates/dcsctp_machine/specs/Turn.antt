@@ -1,11 +1,13 @@
 -- One step of an endpoint: an input, and what comes of it.
-use Rattle.std.specs.Prelude.{◌≡◌, ℕ, Option, List, codes}
+use Rattle.std.specs.Prelude.{◌≡◌, ℕ, List, codes}
 use Rattle.dcsctp_machine.specs.declared.kinds.ErrorKind.TheVariants.{ParseFailed}
 use Rattle.dcsctp_machine.specs.Packet.{Introduction, Content, init, init_ack, cookie_echo, cookie_ack, re_config, abort, shutdown, shutdown_ack, shutdown_complete, other}
 use Rattle.dcsctp_machine.specs.Endpoint.{Endpoint, Core, closed, cookie_wait, cookie_echoed, open_in}
 use Rattle.dcsctp_machine.specs.Outcome.{Outcome, still, count_up, reports}
-use Rattle.dcsctp_machine.specs.turns.Handshake.{InitTurn}
-use Rattle.dcsctp_machine.specs.control.Acts.{Act}
+use Rattle.dcsctp_machine.specs.turns.Handshake.{InitTurn, ConnectTurn, InitAckTurn, cookie_ack_outcome}
+use Rattle.dcsctp_machine.specs.turns.CookieEcho.{CookieEchoTurn}
+use Rattle.dcsctp_machine.specs.turns.Ends.{abort_outcome}
+use Rattle.dcsctp_machine.specs.control.Acts.{Act, connect, t1_expires, shut_down, step_of_shutdown, shutdown_repeats, abort_with, hands_over, flushes, request_again}
 use Rattle.dcsctp_machine.specs.Controlled.{ControlledChunk, ControlledAct}
 
 pub data Input : Type 0 where
@@ -28,36 +30,34 @@ arrival_outcome e = still (record e { counts = record e.counts { packets_receive
 abbrev pub refusal_outcome : Endpoint → List ℕ → Outcome
 refusal_outcome e text = reports e ParseFailed text
 
--- INIT ACK counts in CookieWait alone (RFC 9260, section 5.2.3).
-abbrev pub InitAckTurn : Endpoint → Core → ℕ → Introduction → Option (List ℕ) → Outcome → Type 0
-InitAckTurn e closed tag theirs cookie o = o ≡ still e
-InitAckTurn e (cookie_wait my) tag theirs cookie o = ControlledChunk e tag (init_ack theirs cookie) o
-InitAckTurn e (cookie_echoed my held echoed) tag theirs cookie o = o ≡ still e
-InitAckTurn e (open_in phase my held) tag theirs cookie o = o ≡ still e
-
--- A chunk that speaks of no association changes nothing where there is none.
-abbrev pub OtherTurn : Endpoint → Core → ℕ → Content → Outcome → Type 0
-OtherTurn e closed tag content o = o ≡ still e
-OtherTurn e (cookie_wait my) tag content o = ControlledChunk e tag content o
-OtherTurn e (cookie_echoed my held echoed) tag content o = ControlledChunk e tag content o
-OtherTurn e (open_in phase my held) tag content o = ControlledChunk e tag content o
-
--- What a chunk does. Where it is said by the association alone, the rest of the endpoint is open: no code
--- leads there yet.
+-- What a chunk does. One that is read by its header alone changes nothing. Where a chunk is said by the association
+-- alone, the rest of the endpoint is open.
 abbrev pub ContentTurn : Endpoint → ℕ → Content → Outcome → Type 0
 ContentTurn e tag (init theirs) o = InitTurn e theirs o
-ContentTurn e tag (init_ack theirs cookie) o = InitAckTurn e e.core tag theirs cookie o
-ContentTurn e tag (cookie_echo cookie) o = ControlledChunk e tag (cookie_echo cookie) o
-ContentTurn e tag cookie_ack o = ControlledChunk e tag cookie_ack o
+ContentTurn e tag (init_ack theirs cookie) o = InitAckTurn e theirs cookie o
+ContentTurn e tag (cookie_echo cookie) o = CookieEchoTurn e tag cookie o
+ContentTurn e tag cookie_ack o = o ≡ cookie_ack_outcome e e.core
 ContentTurn e tag (re_config parameters) o = ControlledChunk e tag (re_config parameters) o
-ContentTurn e tag (abort reflected causes) o = ControlledChunk e tag (abort reflected causes) o
+ContentTurn e tag (abort reflected causes) o = o ≡ abort_outcome e causes e.core
 ContentTurn e tag (shutdown cumulative_tsn) o = ControlledChunk e tag (shutdown cumulative_tsn) o
 ContentTurn e tag shutdown_ack o = ControlledChunk e tag shutdown_ack o
 ContentTurn e tag (shutdown_complete reflected) o = ControlledChunk e tag (shutdown_complete reflected) o
-ContentTurn e tag (other type flags value) o = OtherTurn e e.core tag (other type flags value) o
+ContentTurn e tag (other type flags value) o = o ≡ still e
+
+-- What the user and the timers bring.
+abbrev pub ActTurn : Endpoint → Act → Outcome → Type 0
+ActTurn e connect o = ConnectTurn e o
+ActTurn e (t1_expires again) o = ControlledAct e (t1_expires again) o
+ActTurn e shut_down o = ControlledAct e shut_down o
+ActTurn e step_of_shutdown o = ControlledAct e step_of_shutdown o
+ActTurn e shutdown_repeats o = ControlledAct e shutdown_repeats o
+ActTurn e (abort_with causes) o = ControlledAct e (abort_with causes) o
+ActTurn e hands_over o = ControlledAct e hands_over o
+ActTurn e flushes o = ControlledAct e flushes o
+ActTurn e (request_again reset) o = ControlledAct e (request_again reset) o
 
 abbrev pub Turn : Endpoint → Input → Outcome → Type 0
 Turn e arrival o = o ≡ arrival_outcome e
 Turn e (refusal text) o = o ≡ refusal_outcome e text
 Turn e (chunk_input tag content) o = ContentTurn e tag content o
-Turn e (act_input act) o = ControlledAct e act o
+Turn e (act_input act) o = ActTurn e act o

@@ -1,1 +1,4 @@
+pub mod CookieEcho
+pub mod Ends
+pub mod Flush
 pub mod Handshake

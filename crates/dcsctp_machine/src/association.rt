@@ -16,13 +16,13 @@ pub struct Pair {
 /// The state of an association (RFC 9260, section 4). A closed socket has none.
 #[derive(Clone, Copy, Debug, PartialEq, Eq)]
 pub enum Phase {
-    /// An INIT was sent, and its INIT ACK is awaited.
+    /// An INIT ACK is awaited.
     CookieWait,
 
-    /// A COOKIE ECHO was sent, and its COOKIE ACK is awaited.
+    /// A COOKIE ACK is awaited.
     CookieEchoed,
 
-    /// Both ends hold the association.
+    /// The handshake is over at this end.
     Established,
 
     /// This end wants to shut down and waits until its data is acknowledged.

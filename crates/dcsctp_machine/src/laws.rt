@@ -1,6 +1,6 @@
 //! Laws of the definitions, each the contract of a function without a body.
 
-ghost use Rattle.dcsctp_machine.specs.Laws.{NegotiationIsMutual, AnswerKeepsAgreement, CookieReadsBack, InitLeavesAssociation, InitBringsOnePacket, OfferReadsBack, CapabilitiesHoldOffer, RefusedPacketAddsOneError, AdmittedPacketsMayBeWorked, ChunksAreControlled, PacketsAreControlled, DeliveriesAreControlled};
+ghost use Rattle.dcsctp_machine.specs.Laws.{NegotiationIsMutual, AnswerKeepsAgreement, CookieReadsBack, InitLeavesAssociation, InitBringsOnePacket, OfferReadsBack, CapabilitiesHoldOffer, RefusedPacketAddsOneError, AdmittedPacketsMayBeWorked, ChunksAreControlled, ActsAreControlled, PacketsAreControlled, DeliveriesAreControlled};
 
 use dcsctp_wire::one_reading;
 
@@ -60,6 +60,11 @@ pub fn chunks_are_controlled()
 {
     cookie_reads_back();
 }
+
+/// Each turn that the user or a timer brings is a turn of the association (RFC 9260, sections 5.1 and 9).
+pub fn acts_are_controlled()
+    ensures { ActsAreControlled }
+{}
 
 /// The turns of a packet's chunks are a delivery to the association.
 pub fn packets_are_controlled()

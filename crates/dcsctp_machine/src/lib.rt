@@ -7,6 +7,7 @@ mod capabilities;
 mod kinds;
 mod laws;
 mod options;
+mod time;
 mod word;
 
 pub use association::{Association, Held, Pair, Phase};
@@ -17,9 +18,11 @@ pub use kinds::{
     ZERO_CHECKSUM_ALTERNATE_ERROR_DETECTION_METHOD_NONE, ZeroChecksumAlternateErrorDetectionMethod,
 };
 pub use laws::{
-    admitted_packets_may_be_worked, answer_keeps_agreement, chunks_are_controlled,
-    cookie_reads_back, deliveries_are_controlled, init_brings_one_packet, init_leaves_association,
-    negotiation_is_mutual, offer_reads_back, packets_are_controlled, refused_packet_adds_one_error,
+    acts_are_controlled, admitted_packets_may_be_worked, answer_keeps_agreement,
+    chunks_are_controlled, cookie_reads_back, deliveries_are_controlled, init_brings_one_packet,
+    init_leaves_association, negotiation_is_mutual, offer_reads_back, packets_are_controlled,
+    refused_packet_adds_one_error,
 };
 pub use options::Options;
+pub use time::SocketTime;
 pub use word::Word;

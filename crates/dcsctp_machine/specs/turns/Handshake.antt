@@ -1,14 +1,26 @@
 -- The turns of the handshake (RFC 9260, sections 5.1 and 5.2).
-use Rattle.std.specs.Prelude.{◌≡◌, ◌==◌, ℕ, ◌+◌, ◌-◌, ◌%◌, ◌^◌, Some, List, [], ◌∷◌}
+use Rattle.std.specs.Prelude.{◌≡◌, ◌==◌, ℕ, ◌+◌, ◌-◌, ◌%◌, ◌^◌, Bool, true, false, Option, None, Some, List, [], ◌∷◌, length, nat_le, nat_eq, codes, if◌then◌else◌}
+use Rattle.std.specs.List.{starts_with}
+use Rattle.std.specs.Duration.{as_nanos}
 use Rattle.dcsctp_machine.specs.declared.association.Pair.{Pair}
 use Rattle.dcsctp_machine.specs.declared.association.Held.{Held}
 use Rattle.dcsctp_machine.specs.declared.word.Word.{Word}
-use Rattle.dcsctp_machine.specs.declared.word.Word.TheVariants.{U32}
+use Rattle.dcsctp_machine.specs.declared.word.Word.TheVariants.{U32, U64}
+use Rattle.dcsctp_machine.specs.declared.kinds.ErrorKind.TheVariants.{ProtocolViolation}
+use Rattle.dcsctp_machine.specs.declared.kinds.SctpImplementation.{SctpImplementation}
+use Rattle.dcsctp_machine.specs.declared.kinds.SctpImplementation.TheVariants.{Unknown, DcsctpRs, DcsctpCc, UsrSctp}
+use Rattle.dcsctp_wire.specs.Numbers.{state_cookie_type}
 use Rattle.dcsctp_machine.specs.Offer.{offer_of, answering_offer, agreed_method}
 use Rattle.dcsctp_machine.specs.Cookie.{Cookie, cookie_bytes}
-use Rattle.dcsctp_machine.specs.Packet.{Introduction, Content, init_ack, shutdown_ack, Emission}
-use Rattle.dcsctp_machine.specs.Endpoint.{Endpoint, Core, closed, cookie_wait, cookie_echoed, open_in, OpenPhase, established, shutdown_pending, shutdown_sent, shutdown_received, shutdown_ack_sent}
-use Rattle.dcsctp_machine.specs.Outcome.{Outcome, emits}
+use Rattle.dcsctp_machine.specs.Cause.{missing_mandatory_parameter}
+use Rattle.dcsctp_machine.specs.Event.{aborted, connected}
+use Rattle.dcsctp_machine.specs.Packet.{Introduction, Content, init, init_ack, cookie_echo, abort, shutdown_ack, Emission}
+use Rattle.dcsctp_machine.specs.Transfer.{SendQueueState, queue_after_reset, new_transfer, next_tsn_of}
+use Rattle.dcsctp_machine.specs.Endpoint.{Endpoint, Core, closed, cookie_wait, cookie_echoed, open_in, OpenPhase, established, shutdown_pending, shutdown_sent, shutdown_received, shutdown_ack_sent, Timers, started}
+use Rattle.dcsctp_machine.specs.Outcome.{Outcome, still, quiet, fits, emits}
+use Rattle.dcsctp_machine.specs.control.Handshake.{introduction_of, held_by_init_ack}
+use Rattle.dcsctp_machine.specs.turns.Flush.{flushes}
+use Rattle.dcsctp_machine.specs.turns.Ends.{ends_with}
 
 -- a verification tag from a random word: never 0
 abbrev pub tag_from : ℕ → ℕ
@@ -62,7 +74,7 @@ tsn_gap = 1000000
 
 -- a fresh tag, and a first TSN far from those in use (RFC 9260, section 5.2.2)
 abbrev pub renewed_pair : Endpoint → ℕ → Pair
-renewed_pair e word = record { tag = tag_from word; first_tsn = (e.below.next_tsn + tsn_gap) % 2 ^ 32 }
+renewed_pair e word = record { tag = tag_from word; first_tsn = (next_tsn_of e.below.transfer + tsn_gap) % 2 ^ 32 }
 
 -- where an association is open
 abbrev pub init_where_open : Endpoint → Introduction → OpenPhase → Held → ℕ → Outcome
@@ -72,8 +84,9 @@ init_where_open e theirs shutdown_sent held word = answers_init e theirs (U32 wo
 init_where_open e theirs shutdown_received held word = answers_init e theirs (U32 word ∷ []) (renewed_pair e word) e.tie
 init_where_open e theirs shutdown_ack_sent held word = emits e [] (to_peer held shutdown_ack)
 
--- An INIT is answered with the own pair where there is one, else with a drawn one that isn't kept. The
--- association stays as it is in every phase. The words are those that come next, drawn or not.
+-- An INIT is answered with the own pair while a handshake is under way, else with a drawn tag: a closed socket draws
+-- the first TSN too, an open association takes one far from its own. Neither is kept. The association stays as it is in
+-- every phase. The words are those that come next, drawn or not.
 abbrev pub init_outcome : Endpoint → Introduction → Core → ℕ → ℕ → Outcome
 init_outcome e theirs closed word next =
     answers_init e theirs (U32 word ∷ U32 next ∷ []) (pair_from word next) 0
@@ -84,3 +97,111 @@ init_outcome e theirs (open_in phase mine held) word next = init_where_open e th
 -- an INIT is worked
 abbrev pub InitTurn : Endpoint → Introduction → Outcome → Type 0
 InitTurn e theirs o = (word next : ℕ) × (o ≡ init_outcome e theirs e.core word next)
+
+-- ---- connect
+
+-- INIT goes out under tag 0 (RFC 9260, section 8.5.1).
+abbrev pub init_emission : Endpoint → Pair → Emission
+init_emission e mine = record { with_checksum = true; packet = record { tag = 0; contents = init (introduction_of e.options mine) ∷ [] } }
+
+-- an INIT ACK is awaited
+abbrev pub awaits_init_ack : Endpoint → Pair → Endpoint
+awaits_init_ack e mine =
+    record e { core = cookie_wait mine; timers = record e.timers { t1 = started e.moment (as_nanos e.options.t1_init_timeout) } }
+
+-- A closed socket draws a pair and begins an association. The words are those that come next, drawn or not.
+abbrev pub connect_outcome : Endpoint → Core → ℕ → ℕ → Outcome
+connect_outcome e closed word next =
+    emits (awaits_init_ack e (pair_from word next)) (U32 word ∷ U32 next ∷ []) (init_emission e (pair_from word next))
+connect_outcome e (cookie_wait my) word next = still e
+connect_outcome e (cookie_echoed my held cookie) word next = still e
+connect_outcome e (open_in phase my held) word next = still e
+
+-- the user connects
+abbrev pub ConnectTurn : Endpoint → Outcome → Type 0
+ConnectTurn e o = (word next : ℕ) × (o ≡ connect_outcome e e.core word next)
+
+-- ---- INIT ACK
+
+abbrev pub no_cookie_text : List ℕ
+no_cookie_text = codes "InitAck chunk doesn't contain a cookie"
+
+-- ABORT with the cause Missing Mandatory Parameter (RFC 9260, section 3.3.10.2), under the tag of the INIT ACK
+abbrev pub abort_emission : Introduction → Emission
+abort_emission theirs =
+    record {
+      with_checksum = true;
+      packet = record { tag = theirs.pair.tag; contents = abort false (missing_mandatory_parameter (state_cookie_type ∷ []) ∷ []) ∷ [] };
+    }
+
+abbrev pub refuses_init_ack : Endpoint → Introduction → Outcome
+refuses_init_ack e theirs = ends_with (emits e [] (abort_emission theirs)) (aborted ProtocolViolation no_cookie_text)
+
+-- The peer's implementation, by its cookie.
+abbrev pub implementation_of : List ℕ → SctpImplementation
+implementation_of cookie =
+    if nat_le (length cookie) 8 then Unknown
+    else (if starts_with nat_eq cookie (codes "dcSCTP00") then DcsctpCc
+    else (if starts_with nat_eq cookie (codes "dcSCTPr0") then DcsctpRs
+    else (if starts_with nat_eq cookie (codes "KAME-BSD") then UsrSctp
+    else Unknown)))
+
+-- the queue as a new association finds it, with its numbers anew
+abbrev pub queue_anew : SendQueueState → Bool → SendQueueState
+queue_anew queue is_interleaved = queue_after_reset (record queue { is_interleaved = is_interleaved })
+
+-- the peer that an INIT ACK shows: a COOKIE ACK is awaited
+abbrev pub awaits_cookie_ack : Endpoint → Pair → Introduction → List ℕ → ℕ → Endpoint
+awaits_cookie_ack e mine theirs cookie tie =
+    let held : Held = held_by_init_ack e.options mine theirs in
+    record e {
+      core = cookie_echoed mine held cookie;
+      tie = tie;
+      timers = record e.timers { t1 = started e.moment (as_nanos e.options.t1_cookie_timeout) };
+      peer_implementation = implementation_of cookie;
+      below = record {
+        queue = queue_anew e.below.queue held.capabilities.message_interleaving;
+        transfer = Some (new_transfer e.options mine.first_tsn theirs.pair.first_tsn theirs.window);
+      };
+    }
+
+-- COOKIE ECHO goes out under the peer's tag, with a checksum, where it fits; else nothing does.
+abbrev pub echo_emission : ℕ → List ℕ → Emission
+echo_emission tag cookie = record { with_checksum = true; packet = record { tag = tag; contents = cookie_echo cookie ∷ [] } }
+
+abbrev pub echoes_cookie : Endpoint → List Word → ℕ → List ℕ → Outcome
+echoes_cookie e words tag cookie = if fits e (echo_emission tag cookie) then flushes e words [] (echo_emission tag cookie).with_checksum tag (echo_emission tag cookie).packet.contents else quiet e words []
+
+abbrev pub accepts_init_ack : Endpoint → Pair → Introduction → Option (List ℕ) → ℕ → Outcome
+accepts_init_ack e mine theirs None tie = refuses_init_ack e theirs
+accepts_init_ack e mine theirs (Some cookie) tie = echoes_cookie (awaits_cookie_ack e mine theirs cookie tie) (U64 tie ∷ []) theirs.pair.tag cookie
+
+-- INIT ACK counts in CookieWait alone (RFC 9260, section 5.2.3). The word is the one that comes next, drawn or not.
+abbrev pub init_ack_outcome : Endpoint → Introduction → Option (List ℕ) → Core → ℕ → Outcome
+init_ack_outcome e theirs cookie closed word = still e
+init_ack_outcome e theirs cookie (cookie_wait mine) word = accepts_init_ack e mine theirs cookie word
+init_ack_outcome e theirs cookie (cookie_echoed mine held echoed) word = still e
+init_ack_outcome e theirs cookie (open_in phase mine held) word = still e
+
+-- an INIT ACK is worked
+abbrev pub InitAckTurn : Endpoint → Introduction → Option (List ℕ) → Outcome → Type 0
+InitAckTurn e theirs cookie o = (word : ℕ) × (o ≡ init_ack_outcome e theirs cookie e.core word)
+
+-- ---- COOKIE ACK
+
+-- An interval of zero switches heartbeats off.
+abbrev pub heartbeats_begun : Endpoint → Timers → Timers
+heartbeats_begun e timers =
+    if as_nanos e.options.heartbeat_interval == 0 then timers
+    else record timers { heartbeat_interval = started e.moment (as_nanos e.options.heartbeat_interval) }
+
+-- The association is established. T1 is stopped, and the heartbeat interval begins anew.
+abbrev pub connected_after : Endpoint → Pair → Held → Endpoint
+connected_after e mine held = record e { core = open_in established mine held; timers = heartbeats_begun e (record e.timers { t1 = None }) }
+
+-- COOKIE ACK counts in CookieEchoed alone (RFC 9260, section 5.2.5). A flush follows.
+abbrev pub cookie_ack_outcome : Endpoint → Core → Outcome
+cookie_ack_outcome e closed = still e
+cookie_ack_outcome e (cookie_wait mine) = still e
+cookie_ack_outcome e (cookie_echoed mine held cookie) = flushes (connected_after e mine held) [] (connected ∷ []) (held.capabilities.zero_checksum_method.0 == 0) held.peer.tag []
+cookie_ack_outcome e (open_in phase mine held) = still e

@@ -1,0 +1,249 @@
+-- Outside examples of what a socket does with connect, INIT ACK and COOKIE ACK, worked by hand and computed by
+-- the definitions: a wrong rule in specs/ would not check here.
+use Rattle.std.proofs.Common.{◌≡◌, ℕ, Bool, true, false, Option, None, Some, List, [], ◌∷◌, refl}
+use Rattle.std.specs.Prelude.{ℤ, pos, negsuc, codes}
+use Rattle.dcsctp_wire.specs.declared.reconfiguration.ReconfigurationResponseResult.TheVariants.{SuccessNothingToDo}
+use Rattle.dcsctp_wire.specs.Spelling.{parameter_bytes, parameters_len, init_fields, init_bytes, abort_bytes, other_bytes}
+use Rattle.dcsctp_machine.specs.declared.association.Pair.{Pair}
+use Rattle.dcsctp_machine.specs.declared.association.Held.{Held}
+use Rattle.dcsctp_machine.specs.declared.kinds.ErrorKind.TheVariants.{ProtocolViolation}
+use Rattle.dcsctp_machine.specs.declared.kinds.SctpImplementation.TheVariants.{Unknown, DcsctpRs, DcsctpCc, UsrSctp}
+use Rattle.dcsctp_machine.specs.declared.options.Options.{Options}
+use Rattle.dcsctp_machine.specs.declared.word.Word.TheVariants.{U32, U64}
+use Rattle.dcsctp_machine.specs.Event.{Event, sent, connected, aborted}
+use Rattle.dcsctp_machine.specs.Cause.{missing_mandatory_parameter}
+use Rattle.dcsctp_machine.specs.Packet.{Introduction, Content, init, cookie_echo, abort, Emission}
+use Rattle.dcsctp_machine.specs.Transfer.{SendQueueState, Transfer}
+use Rattle.dcsctp_machine.specs.Endpoint.{Endpoint, Core, closed, cookie_wait, cookie_echoed, open_in, established, RunningTimer, stopped_timers}
+use Rattle.dcsctp_machine.specs.Outcome.{next_chunk, dropped_rest}
+use Rattle.dcsctp_machine.specs.turns.Ends.{closed_after}
+use Rattle.dcsctp_machine.specs.turns.Handshake.{connect_outcome, implementation_of, init_ack_outcome, cookie_ack_outcome}
+
+-- ---- two sockets
+
+-- the options that count here, with an MTU and a `max_burst`; the others are left open
+abbrev pub configured : Options → ℕ → ℤ → Options
+configured options mtu max_burst =
+    record options {
+      mtu = mtu;
+      announced_maximum_incoming_streams = 10;
+      announced_maximum_outgoing_streams = 20;
+      max_receiver_window_buffer_size = 5242880;
+      max_send_buffer_size = 2000000;
+      rto_initial = record { secs = 0; nanos = 500_000_000 };
+      t1_init_timeout = record { secs = 1; nanos = 0 };
+      t1_cookie_timeout = record { secs = 2; nanos = 0 };
+      heartbeat_interval = record { secs = 30; nanos = 0 };
+      cwnd_mtus_initial = 10;
+      max_burst = max_burst;
+      enable_partial_reliability = true;
+      enable_message_interleaving = true;
+      zero_checksum_alternate_error_detection_method = record { 0 = 1 };
+    }
+
+-- 12 bytes of a message on stream 3 went out, and 30 wait
+abbrev pub queue : Bool → SendQueueState
+queue is_interleaved =
+    record {
+      is_interleaved = is_interleaved;
+      total_buffered_amount = 30;
+      buffered_amounts = record { stream = 3; number = 30 } ∷ [];
+      thresholds = [];
+      priorities = [];
+      under_way = Some (record { stream = 3; number = 12 });
+      ready_streams = 4 ∷ [];
+    }
+
+-- and with the message before its first byte again
+abbrev pub queue_at_start : SendQueueState
+queue_at_start =
+    record {
+      is_interleaved = true;
+      total_buffered_amount = 42;
+      buffered_amounts = record { stream = 3; number = 42 } ∷ [];
+      thresholds = [];
+      priorities = [];
+      under_way = None;
+      ready_streams = [];
+    }
+
+-- 5 seconds after it was made
+abbrev pub socket : Endpoint → ℕ → ℤ → Core → ℕ → Endpoint
+socket e mtu max_burst core packets_sent =
+    record e {
+      moment = 5_000_000_000;
+      options = configured e.options mtu max_burst;
+      core = core;
+      tie = 77;
+      counts = record { packets_received = 3; packets_sent = packets_sent; messages_queued = 5 };
+      below = record { queue = queue false; transfer = None };
+    }
+
+-- a timer that was just started
+abbrev pub due : ℕ → ℕ → Option RunningTimer
+due deadline duration = Some (record { deadline = deadline; duration = duration; expiries = 0 })
+
+abbrev pub mine : Pair
+mine = record { tag = 7; first_tsn = 100 }
+
+abbrev theirs : Introduction
+theirs =
+    record {
+      pair = record { tag = 9; first_tsn = 200 };
+      offer = record { partial_reliability = false; message_interleaving = true; reconfig = true; zero_checksum_method = 1; inbound_streams = 30; outbound_streams = 40 };
+      window = 1500;
+    }
+
+-- what the two agree on
+abbrev pub held : Held
+held =
+    record {
+      peer = record { tag = 9; first_tsn = 200 };
+      capabilities = record {
+        partial_reliability = false;
+        message_interleaving = true;
+        reconfig = true;
+        zero_checksum_method = record { 0 = 1 };
+        negotiated_maximum_incoming_streams = 10;
+        negotiated_maximum_outgoing_streams = 20;
+      };
+      own_next = 100;
+      own_outstanding = None;
+      peer_last = 199;
+      peer_result = SuccessNothingToDo;
+    }
+
+-- before any data; the congestion window is ten packets of this MTU
+abbrev pub transfer_begun : ℕ → Option Transfer
+transfer_begun cwnd =
+    Some (record {
+      retransmission = record { next_tsn = 100; unacknowledged_items = 0; deadline = None; cwnd = cwnd; rwnd = 1500; packets_retransmitted = 0; bytes_retransmitted = 0 };
+      timeout = record { rto = 500_000_000; srtt = 500_000_000 };
+      tracker = record { cumulative_tsn = 199; delayed_acknowledgement = None };
+      reassembly = record { messages = []; messages_received = 0; remaining_bytes = 5242880 };
+    })
+
+abbrev pub packet_of : Bool → ℕ → List Content → Event Emission
+packet_of with_checksum tag contents = sent (record { with_checksum = with_checksum; packet = record { tag = tag; contents = contents } })
+
+-- ---- connect
+
+-- T1 is due a second later.
+abbrev connecting : Endpoint → ℕ → ℕ → Endpoint
+connecting e mtu packets_sent = record (socket e mtu (pos 4) (cookie_wait mine) packets_sent) { timers = record e.timers { t1 = due 6_000_000_000 1_000_000_000 } }
+
+-- The first TSN is 100 from the first word, the tag 7 from the second.
+connect_sends_init : (e : Endpoint) → connect_outcome (socket e 52 (pos 4) closed 4) closed 100 6
+    ≡ record {
+      words = U32 100 ∷ U32 6 ∷ [];
+      after = connecting e 52 5;
+      events = packet_of true 0 (init (record {
+        pair = mine;
+        offer = record { partial_reliability = true; message_interleaving = true; reconfig = true; zero_checksum_method = 1; inbound_streams = 10; outbound_streams = 20 };
+        window = 5242880;
+      }) ∷ []) ∷ [];
+      following = next_chunk;
+    }
+unfolding init_bytes init_fields parameters_len parameter_bytes
+connect_sends_init e = refl
+
+-- It has 52 bytes: 12, 20, 4, 8 and 8. Where it doesn't fit, T1 runs all the same.
+init_that_does_not_fit : (e : Endpoint) → connect_outcome (socket e 51 (pos 4) closed 4) closed 100 6
+    ≡ record { words = U32 100 ∷ U32 6 ∷ []; after = connecting e 51 4; events = []; following = next_chunk }
+unfolding init_bytes init_fields parameters_len parameter_bytes
+init_that_does_not_fit e = refl
+
+connect_in_established : (e : Endpoint) → connect_outcome e (open_in established mine held) 100 6 ≡ record { words = []; after = e; events = []; following = next_chunk }
+connect_in_established e = refl
+
+-- ---- INIT ACK
+
+-- of 16 bytes
+abbrev foreign_cookie : List ℕ
+foreign_cookie = codes "dcSCTP00abcdefgh"
+
+-- The tie tag is the word that was drawn, and T1 is due two seconds later.
+abbrev echoing : Endpoint → ℕ → ℤ → ℕ → ℕ → Endpoint
+echoing e mtu max_burst cwnd packets_sent =
+    record (socket e mtu max_burst (cookie_echoed mine held foreign_cookie) packets_sent) {
+      tie = 55;
+      timers = record e.timers { t1 = due 7_000_000_000 2_000_000_000 };
+      peer_implementation = DcsctpCc;
+      below = record { queue = queue_at_start; transfer = transfer_begun cwnd };
+    }
+
+-- COOKIE ECHO has a checksum, whatever was agreed.
+init_ack_is_echoed : (e : Endpoint) → init_ack_outcome (socket e 1191 (pos 1) (cookie_wait mine) 4) theirs (Some foreign_cookie) (cookie_wait mine) 55
+    ≡ record { words = U64 55 ∷ []; after = echoing e 1191 (pos 1) 11910 5; events = packet_of true 9 (cookie_echo foreign_cookie ∷ []) ∷ []; following = next_chunk }
+unfolding other_bytes
+init_ack_is_echoed e = refl
+
+-- No flush sends a packet.
+echo_under_burst_0 : (e : Endpoint) → init_ack_outcome (socket e 1191 (pos 0) (cookie_wait mine) 4) theirs (Some foreign_cookie) (cookie_wait mine) 55
+    ≡ record { words = U64 55 ∷ []; after = echoing e 1191 (pos 0) 11910 4; events = []; following = next_chunk }
+unfolding other_bytes
+echo_under_burst_0 e = refl
+
+echo_under_negative_burst : (e : Endpoint) → init_ack_outcome (socket e 1191 (negsuc 0) (cookie_wait mine) 4) theirs (Some foreign_cookie) (cookie_wait mine) 55
+    ≡ record { words = U64 55 ∷ []; after = echoing e 1191 (negsuc 0) 11910 4; events = []; following = next_chunk }
+unfolding other_bytes
+echo_under_negative_burst e = refl
+
+-- The packet has 32 bytes.
+echo_that_does_not_fit : (e : Endpoint) → init_ack_outcome (socket e 31 (pos 4) (cookie_wait mine) 4) theirs (Some foreign_cookie) (cookie_wait mine) 55
+    ≡ record { words = U64 55 ∷ []; after = echoing e 31 (pos 4) 310 4; events = []; following = next_chunk }
+unfolding other_bytes
+echo_that_does_not_fit e = refl
+
+-- The peer is told that the State Cookie, parameter 7, is missing; then the association ends.
+init_ack_without_cookie : (e : Endpoint) → init_ack_outcome (socket e 1191 (pos 0) (cookie_wait mine) 4) theirs None (cookie_wait mine) 55
+    ≡ record {
+      words = [];
+      after = record (socket e 1191 (pos 0) closed 5) { tie = 0; outstanding = None; timers = stopped_timers };
+      events = packet_of true 9 (abort false (missing_mandatory_parameter (7 ∷ []) ∷ []) ∷ []) ∷ aborted ProtocolViolation (codes "InitAck chunk doesn't contain a cookie") ∷ [];
+      following = dropped_rest;
+    }
+unfolding parameter_bytes parameters_len abort_bytes
+init_ack_without_cookie e = refl
+
+end_leaves_queue : (e : Endpoint) → (closed_after e).below ≡ record { queue = e.below.queue; transfer = None }
+end_leaves_queue e = refl
+
+init_ack_in_cookie_echoed : (e : Endpoint) → init_ack_outcome e theirs None (cookie_echoed mine held []) 55 ≡ record { words = []; after = e; events = []; following = next_chunk }
+init_ack_in_cookie_echoed e = refl
+
+-- More than the eight bytes of the name are wanted.
+implementation_of_cc : implementation_of (codes "dcSCTP00a") ≡ DcsctpCc
+implementation_of_cc = refl
+
+implementation_of_rs : implementation_of (codes "dcSCTPr0a") ≡ DcsctpRs
+implementation_of_rs = refl
+
+implementation_of_usrsctp : implementation_of (codes "KAME-BSD 1.1") ≡ UsrSctp
+implementation_of_usrsctp = refl
+
+implementation_of_8_bytes : implementation_of (codes "dcSCTP00") ≡ Unknown
+implementation_of_8_bytes = refl
+
+implementation_of_others : implementation_of (codes "dcSCTP01a") ≡ Unknown
+implementation_of_others = refl
+
+-- ---- COOKIE ACK
+
+-- The heartbeat interval is over 30 seconds later.
+cookie_ack_connects : (e : Endpoint) → cookie_ack_outcome (socket e 1191 (pos 4) (cookie_echoed mine held foreign_cookie) 4) (cookie_echoed mine held foreign_cookie)
+    ≡ record {
+      words = [];
+      after = record (socket e 1191 (pos 4) (open_in established mine held) 4) { timers = record e.timers { t1 = None; heartbeat_interval = due 35_000_000_000 30_000_000_000 } };
+      events = connected ∷ [];
+      following = next_chunk;
+    }
+cookie_ack_connects e = refl
+
+cookie_ack_without_heartbeats : (e : Endpoint)
+    → (cookie_ack_outcome (record e { options = record e.options { heartbeat_interval = record { secs = 0; nanos = 0 } } }) (cookie_echoed mine held foreign_cookie)).after.timers
+    ≡ record e.timers { t1 = None }
+cookie_ack_without_heartbeats e = refl
+
+cookie_ack_in_cookie_wait : (e : Endpoint) → cookie_ack_outcome e (cookie_wait mine) ≡ record { words = []; after = e; events = []; following = next_chunk }
+cookie_ack_in_cookie_wait e = refl
