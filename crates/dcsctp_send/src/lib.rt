@@ -1,0 +1,15 @@
+//! The sending part of the transfer layer: timers, the retransmission timeout, what waits to be sent and
+//! what is in flight.
+#![tactic(auto)]
+
+mod retransmission_queue;
+mod retransmission_timeout;
+mod send_queue;
+#[cfg(test)]
+mod tests;
+mod timer;
+
+pub use retransmission_queue::RetransmissionQueue;
+pub use retransmission_timeout::RetransmissionTimeout;
+pub use send_queue::SendQueue;
+pub use timer::{BackoffAlgorithm, Timer};
