@@ -6,7 +6,9 @@ use Rattle.dcsctp_machine.specs.Event.{Event, event_map}
 use Rattle.dcsctp_machine.specs.Packet.{Emission, emission_bytes}
 use Rattle.dcsctp_machine.specs.Endpoint.{Endpoint, Core, closed, cookie_wait, cookie_echoed, open_in, OpenPhase, established, shutdown_pending, shutdown_sent, shutdown_received, shutdown_ack_sent}
 use Rattle.dcsctp_machine.specs.Outcome.{Outcome}
-use Rattle.dcsctp_machine.specs.CallTurns.{HandleInput, CutInput, after_all, words_of, events_of}
+use Rattle.dcsctp_machine.specs.Turn.{act_input}
+use Rattle.dcsctp_machine.specs.control.Acts.{connect}
+use Rattle.dcsctp_machine.specs.CallTurns.{Turns, HandleInput, CutInput, after_all, words_of, events_of}
 use Rattle.dcsctp_api.specs.declared.errors.SocketFault.{SocketFault}
 use Rattle.dcsctp_api.specs.declared.errors.SocketFault.TheVariants.{OutOfMemory, Failed}
 use Rattle.dcsctp_api.specs.declared.events.SocketEvent.{SocketEvent}
@@ -43,11 +45,11 @@ pub record AddsFront (ports : Ports) (outcomes : List Outcome) (old new : List (
 
 -- A growth was refused, and the socket has failed. Events that were added before stay, in front, and
 -- the call added no others than its first turns do.
-pub record RanOut (old : UserView) (packet : List ℕ) (new : UserView) : Type 0 where
+pub record RanOut (old : UserView) (FirstTurns : List Outcome → Type 0) (new : UserView) : Type 0 where
   pub runs : old.failed ≡ false
   pub fails : new.failed ≡ true
   pub outcomes : List Outcome
-  pub turns : CutInput old.endpoint packet outcomes
+  pub turns : FirstTurns outcomes
   pub events : AddsFront (ports_of old.endpoint.options) outcomes old.events new.events
 
 -- The socket had failed, and nothing changes.
@@ -57,13 +59,26 @@ pub record StaysFailed (old new : UserView) : Type 0 where
 
 abbrev pub HandlesInput : UserView → List ℕ → Result (Unit {0}) SocketFault → UserView → Type 0
 HandlesInput old packet (Ok done) new = (outcomes : List Outcome) × HandleInput old.endpoint packet outcomes × Follows old outcomes new
-HandlesInput old packet (Err OutOfMemory) new = RanOut old packet new
+HandlesInput old packet (Err OutOfMemory) new = RanOut old (CutInput old.endpoint packet) new
 HandlesInput old packet (Err Failed) new = StaysFailed old new
+
+-- The call is one turn. Where a growth was refused, it added none of its events.
+abbrev pub Connects : UserView → Result (Unit {0}) SocketFault → UserView → Type 0
+Connects old (Ok done) new = (outcomes : List Outcome) × Turns old.endpoint (act_input connect ∷ []) outcomes × Follows old outcomes new
+Connects old (Err OutOfMemory) new = RanOut old (λ outcomes. outcomes ≡ []) new
+Connects old (Err Failed) new = StaysFailed old new
 
 -- The event that was added first is taken, and nothing else changes.
 abbrev pub PollsEvent : UserView → Option SocketEvent → UserView → Type 0
 PollsEvent old None new = (old.events ≡ []) × (new ≡ old)
 PollsEvent old (Some event) new = (old.events ≡ event_content event ∷ new.events) × (new ≡ record old { events = new.events })
+
+-- is there an association?
+abbrev pub is_closed : Core → Bool
+is_closed closed = true
+is_closed (cookie_wait my) = false
+is_closed (cookie_echoed my held cookie) = false
+is_closed (open_in phase my held) = false
 
 -- the state that a user is told
 abbrev pub open_state : OpenPhase → SocketState

@@ -1,7 +1,7 @@
 //! The calls of a socket.
 
-ghost use Rattle.std.specs.Prelude.{◌≡◌};
-ghost use Rattle.dcsctp_api.specs.Calls.{UserView, PollsEvent, HandlesInput, socket_state_of};
+ghost use Rattle.std.specs.Prelude.{◌≡◌, false, IsOk};
+ghost use Rattle.dcsctp_api.specs.Calls.{UserView, PollsEvent, HandlesInput, Connects, is_closed, socket_state_of};
 
 use crate::errors::SocketFault;
 use crate::events::SocketEvent;
@@ -26,6 +26,13 @@ pub trait DcSctpSocket {
     /// `SocketEvent::OnError` and changes nothing else.
     fn handle_input(&mut self, packet: &[u8]) -> Result<(), SocketFault>
         ensures { HandlesInput (user_view self.old) packet.now result (user_view self.new) };
+
+    /// Begins an association (RFC 9260, section 5.1): a tag and a first TSN are drawn, and an INIT goes
+    /// out where it fits `mtu`. On a socket that isn't closed it changes nothing and takes no memory.
+    fn connect(&mut self) -> Result<(), SocketFault>
+        ensures call { Connects (user_view self.old) result (user_view self.new) }
+        ensures open { (user_view self.old).failed ≡ false
+            → is_closed (user_view self.old).endpoint.core ≡ false → IsOk result };
 
     /// The state of the association.
     fn state(&self) -> SocketState

@@ -19,9 +19,6 @@ Drawn-append s t u [] ys a b = subst (λ (v : Stream). Drawn v ys u) a b
 Drawn-append s t u (U32 word ∷ xs) ys a b = (a.0, Drawn-append (next_u32 s).1 t u xs ys a.1 b)
 Drawn-append s t u (U64 word ∷ xs) ys a b = (a.0, Drawn-append (next_u64 s).1 t u xs ys a.1 b)
 
-pub moves_none : {R : Type 0} (stream : R → Stream) (v : View R) → MovesAll stream v [] v
-moves_none stream v = record { endpoint = refl; events = sym (append-nil v.events); words = sym (append-nil v.words); drawn = refl }
-
 pub moves_one : {R : Type 0} (stream : R → Stream) (a b : View R) (o : Outcome) → Moves stream a o b → MovesAll stream a (o ∷ []) b
 moves_one stream a b o m =
     record {

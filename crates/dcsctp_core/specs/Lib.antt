@@ -1,3 +1,6 @@
+pub mod Echoes
+pub mod Flushing
+pub mod Handling
 pub mod View
 pub use Rattle.dcsctp_api.specs.Events
 pub use Rattle.dcsctp_machine.specs.Endpoint

@@ -1,26 +1,22 @@
 -- What a socket's parts are in the machine, and how a turn moves them.
-use Rattle.std.specs.Prelude.{◌≡◌, ℕ, Bool, List, [], ◌∷◌, ◌++◌, map}
+use Rattle.std.specs.Prelude.{◌≡◌, ℕ, Bool, true, false, Option, None, Some, List, [], ◌∷◌, ◌++◌, map, take}
 use Rattle.rand_core.specs.Stream.{Stream, next_u32, next_u64}
 use Rattle.dcsctp_machine.specs.declared.options.Options.{Options}
-use Rattle.dcsctp_machine.specs.declared.association.Pair.{Pair}
 use Rattle.dcsctp_machine.specs.declared.word.Word.{Word}
 use Rattle.dcsctp_machine.specs.declared.word.Word.TheVariants.{U32, U64}
 use Rattle.dcsctp_machine.specs.Event.{Event}
-use Rattle.dcsctp_machine.specs.Packet.{Content, chunk_out}
-use Rattle.dcsctp_wire.specs.Content.{ChunkContent}
-use Rattle.dcsctp_machine.specs.Endpoint.{Endpoint, Core, closed, fresh_endpoint}
-use Rattle.dcsctp_machine.specs.Outcome.{Outcome, next_chunk, emits, reports}
-use Rattle.dcsctp_machine.specs.Turn.{arrival_outcome}
-use Rattle.dcsctp_machine.specs.declared.kinds.ErrorKind.{ErrorKind}
+use Rattle.dcsctp_machine.specs.declared.association.Held.{Held}
+use Rattle.dcsctp_machine.specs.Transfer.{Transfer}
+use Rattle.dcsctp_machine.specs.Endpoint.{Endpoint, Core, closed, cookie_wait, cookie_echoed, open_in, established, RunningTimer, stopped_timers, fresh_endpoint}
+use Rattle.dcsctp_machine.specs.Outcome.{Outcome, next_chunk}
 use Rattle.dcsctp_machine.specs.CallTurns.{after_all, words_of, events_of}
 use Rattle.dcsctp_machine.specs.Settings.{ports_of}
-use Rattle.dcsctp_machine.specs.Packet.{Introduction}
-use Rattle.dcsctp_machine.specs.turns.Handshake.{pair_from, init_outcome, answers_init}
 use Rattle.dcsctp_api.specs.declared.events.SocketEvent.{SocketEvent}
 use Rattle.dcsctp_api.specs.Events.{event_content}
 use Rattle.dcsctp_api.specs.Calls.{user_event}
 use Rattle.dcsctp_core.specs.declared.state.State.{State}
-use Rattle.dcsctp_core.specs.declared.state.State.TheVariants.{Closed}
+use Rattle.dcsctp_core.specs.declared.state.State.TheVariants.{Closed, CookieWait, CookieEchoed, Established}
+use Rattle.dcsctp_core.specs.declared.transmission_control_block.TransmissionControlBlock.{TransmissionControlBlock}
 use Rattle.dcsctp_core.specs.declared.context.Context.{Context}
 
 -- what turns move: the endpoint, the events that wait, the words that the present call drew, and the
@@ -31,15 +27,77 @@ pub record View (R : Type 0) : Type 0 where
   pub words : List Word
   pub generator : R
 
+-- what an association keeps of its peer
+abbrev pub held_of : TransmissionControlBlock → Held
+held_of tcb =
+    record {
+      peer = tcb.peer;
+      capabilities = tcb.capabilities;
+      own_next = tcb.next_outgoing_reset_req_seq_nbr;
+      own_outstanding = None;
+      peer_last = tcb.last_processed_req_seq_nbr;
+      peer_result = tcb.last_processed_req_result;
+    }
+
 abbrev pub core_of : State → Core
 core_of Closed = closed
+core_of (CookieWait wait) = cookie_wait wait.my
+core_of (CookieEchoed echoed) = cookie_echoed echoed.tcb.my (held_of echoed.tcb) echoed.cookie.items
+core_of (Established tcb) = open_in established tcb.my (held_of tcb)
+
+-- the association with a peer, where one is held
+abbrev pub tcb_of : State → Option TransmissionControlBlock
+tcb_of Closed = None
+tcb_of (CookieWait wait) = None
+tcb_of (CookieEchoed echoed) = Some echoed.tcb
+tcb_of (Established tcb) = Some tcb
+
+abbrev pub is_cookie_echoed : State → Bool
+is_cookie_echoed Closed = false
+is_cookie_echoed (CookieWait wait) = false
+is_cookie_echoed (CookieEchoed echoed) = true
+is_cookie_echoed (Established tcb) = false
+
+-- the state once its COOKIE ACK has come
+abbrev pub established_from : State → State
+established_from Closed = Closed
+established_from (CookieWait wait) = CookieWait wait
+established_from (CookieEchoed echoed) = Established echoed.tcb
+established_from (Established tcb) = Established tcb
+
+abbrev pub tie_of : State → ℕ
+tie_of Closed = 0
+tie_of (CookieWait wait) = 0
+tie_of (CookieEchoed echoed) = echoed.tcb.tie_tag
+tie_of (Established tcb) = tcb.tie_tag
+
+abbrev pub t1_of : State → Option RunningTimer
+t1_of Closed = None
+t1_of (CookieWait wait) = wait.t1_init.running
+t1_of (CookieEchoed echoed) = echoed.t1_cookie.running
+t1_of (Established tcb) = None
+
+-- what an association has of the transfer layer
+abbrev pub transfer_in : TransmissionControlBlock → Transfer
+transfer_in tcb = record { retransmission = tcb.retransmission_queue; timeout = tcb.rto; tracker = tcb.data_tracker; reassembly = tcb.reassembly_queue }
+
+abbrev pub transfer_of : State → Option Transfer
+transfer_of Closed = None
+transfer_of (CookieWait wait) = None
+transfer_of (CookieEchoed echoed) = Some (transfer_in echoed.tcb)
+transfer_of (Established tcb) = Some (transfer_in tcb)
 
 -- What has no place in the parts is as in a socket that was just made.
 abbrev pub endpoint_of : {R : Type 0} → State → Context R → Endpoint
 endpoint_of state context =
     record (fresh_endpoint context.options) {
+      moment = context.now;
       core = core_of state;
+      tie = tie_of state;
+      timers = record stopped_timers { t1 = t1_of state; heartbeat_interval = context.heartbeat_interval.running };
       counts = record { packets_received = context.rx_packets_count; packets_sent = context.tx_packets_count; messages_queued = 0 };
+      peer_implementation = context.peer_implementation;
+      below = record { queue = context.send_queue; transfer = transfer_of state };
     }
 
 -- Words may be drawn, and nothing else changes.
@@ -69,17 +127,9 @@ Drawn old [] new = new ≡ old
 Drawn old (U32 word ∷ words) new = (word ≡ (next_u32 old).0) × Drawn (next_u32 old).1 words new
 Drawn old (U64 word ∷ words) new = (word ≡ (next_u64 old).0) × Drawn (next_u64 old).1 words new
 
--- The pair is made of the next two words: its first TSN, and then its tag. Nothing else changes.
-pub record DrawsPair {R : Type 0} (stream : R → Stream) (old : Context R) (pair : Pair) (new : Context R) : Type 0 where
-  pub from_words : pair ≡ pair_from (first_word (stream old.generator)) (second_word (stream old.generator))
-  pub words : new.words.items ≡ old.words.items ++ U32 (first_word (stream old.generator)) ∷ U32 (second_word (stream old.generator)) ∷ []
-  pub left : stream new.generator ≡ (next_u32 (next_u32 (stream old.generator)).1).1
-  pub endpoint : KeepsEndpoint old new
-
 -- the parts of a socket that was just made
-abbrev pub fresh_view : {R : Type 0} → State → Options → R → List SocketEvent → View R
-fresh_view state options generator events =
-    record { endpoint = record (fresh_endpoint options) { core = core_of state }; events = map event_content events; words = []; generator = generator }
+abbrev pub fresh_view : {R : Type 0} → Options → R → List SocketEvent → View R
+fresh_view options generator events = record { endpoint = fresh_endpoint options; events = map event_content events; words = []; generator = generator }
 
 -- A turn with this outcome, or several, leads from one view to the other.
 pub record Moves {R : Type 0} (stream : R → Stream) (old : View R) (outcome : Outcome) (new : View R) : Type 0 where
@@ -101,31 +151,7 @@ call_start view = record view { words = [] }
 abbrev pub CallMoves : {R : Type 0} → (R → Stream) → View R → List Outcome → View R → Type 0
 CallMoves stream old outcomes new = MovesAll stream (call_start old) outcomes new
 
--- A packet of one chunk goes out, whatever the machine calls the chunk.
-abbrev pub Emits : {R : Type 0} → (R → Stream) → State → Context R → List SocketEvent → Bool → ℕ → ChunkContent → Context R → List SocketEvent → Type 0
-Emits stream state old old_events with_checksum tag chunk new new_events =
-    (content : Content) → chunk_out content ≡ chunk → Moves stream (view_of state old old_events)
-    (emits (endpoint_of state old) [] (record { with_checksum = with_checksum; packet = record { tag = tag; contents = content ∷ [] } }))
-    (view_of state new new_events)
-
--- ---- the handlers' turns, by the parts of a socket
-
--- One packet more was counted.
-abbrev pub CountsPacket : {R : Type 0} → (R → Stream) → Context R → Context R → Type 0
-CountsPacket stream old new =
-    (state : State) (events : List SocketEvent) → Moves stream (view_of state old events) (arrival_outcome (endpoint_of state old)) (view_of state new events)
-
--- One error was reported.
-abbrev pub ReportsError : {R : Type 0} → (R → Stream) → Context R → List SocketEvent → ErrorKind → List ℕ → Context R → List SocketEvent → Type 0
-ReportsError stream old old_events kind text new new_events =
-    (state : State) → Moves stream (view_of state old old_events) (reports (endpoint_of state old) kind text) (view_of state new new_events)
-
--- An INIT was answered with this pair and tie tag.
-abbrev pub AnswersInit : {R : Type 0} → (R → Stream) → Context R → List SocketEvent → Introduction → Pair → ℕ → Context R → List SocketEvent → Type 0
-AnswersInit stream old old_events theirs mine tie new new_events =
-    (state : State) → Moves stream (view_of state old old_events) (answers_init (endpoint_of state old) theirs [] mine tie) (view_of state new new_events)
-
--- An INIT was worked, with the words that the generator gives next.
-abbrev pub InitMoves : {R : Type 0} → (R → Stream) → View R → Introduction → View R → Type 0
-InitMoves stream old theirs new =
-    Moves stream old (init_outcome old.endpoint theirs old.endpoint.core (first_word (stream old.generator)) (second_word (stream old.generator))) new
+-- The turn was cut by a growth that was refused, after it had added so many of its events.
+pub record CutTurn {R : Type 0} (old : View R) (outcome : Outcome) (events : List (Event (List ℕ))) : Type 0 where
+  pub count : ℕ
+  pub added : events ≡ old.events ++ take count (map (user_event (ports_of old.endpoint.options)) outcome.events)

@@ -1,23 +1,102 @@
 //! The state of a socket (RFC 9260, section 4).
 
-use dcsctp_api::{Association, SocketState};
+use crate::transmission_control_block::TransmissionControlBlock;
+use dcsctp_api::{Association, Pair, Phase, SocketState};
+use dcsctp_send::Timer;
+
+/// Moves a state of one variant to another, with the data of the variant. The state has to be of the
+/// variant that is named first.
+#[macro_export]
+macro_rules! transition_between {
+    ($state:expr, $from:pat => $to:expr) => {
+        $state = match std::mem::replace(&mut $state, State::Closed) {
+            $from => $to,
+            _ => unreachable!(),
+        };
+    };
+}
+
+/// An INIT ACK is awaited.
+#[derive(Debug, Drop)]
+pub struct CookieWaitState {
+    /// When the INIT is sent again. It runs.
+    pub t1_init: Timer,
+
+    /// The own pair.
+    pub my: Pair,
+}
+
+/// A COOKIE ACK is awaited.
+#[derive(Debug, Drop)]
+pub struct CookieEchoState {
+    /// When the COOKIE ECHO is sent again. It runs.
+    pub t1_cookie: Timer,
+
+    /// The cookie that is echoed.
+    pub cookie: Vec<u8>,
+
+    /// The association.
+    pub tcb: TransmissionControlBlock,
+}
 
 /// The state, with the data of its phase.
 ///
 /// ```text
-/// Closed
+/// Closed --connect--> CookieWait --INIT ACK--> CookieEchoed --COOKIE ACK--> Established
+///    |                    |                         |                           |
+///    +------------------- COOKIE ECHO, from each, also anew --------------------+
+/// each --ABORT, or an INIT ACK without a cookie--> Closed
 /// ```
 #[derive(Debug, Drop)]
 pub enum State {
     /// There is no association.
     Closed,
+
+    /// An INIT ACK is awaited.
+    CookieWait(CookieWaitState),
+
+    /// A COOKIE ACK is awaited.
+    CookieEchoed(CookieEchoState),
+
+    /// The handshake is over at this end.
+    Established(TransmissionControlBlock),
 }
 
 impl State {
-    ghost use Rattle.std.specs.Prelude.{◌≡◌};
+    ghost use Rattle.std.specs.Prelude.{◌≡◌, true};
     ghost use Rattle.dcsctp_machine.specs.Endpoint.{own_tag, association_of};
-    ghost use Rattle.dcsctp_api.specs.Calls.{socket_state_of};
-    ghost use Rattle.dcsctp_core.specs.View.{core_of};
+    ghost use Rattle.dcsctp_api.specs.Calls.{socket_state_of, is_closed};
+    ghost use Rattle.std.specs.Option.{option_map};
+    ghost use Rattle.dcsctp_core.specs.View.{core_of, tcb_of, is_cookie_echoed, established_from};
+
+    /// The association with a peer, where one is held. It takes no memory.
+    pub fn tcb(&self) -> Option<&TransmissionControlBlock>
+        ensures { option_map (λ tcb. tcb.now) result ≡ tcb_of self.now }
+    {
+        match self {
+            State::Closed | State::CookieWait(_) => None,
+            State::CookieEchoed(echoed) => Some(&echoed.tcb),
+            State::Established(tcb) => Some(tcb),
+        }
+    }
+
+    /// Establishes the association whose COOKIE ACK is awaited, which stops T1.
+    pub(crate) fn establish(&mut self)
+        requires { is_cookie_echoed self.old ≡ true }
+        ensures { self.new ≡ established_from self.old }
+    {
+        transition_between!(*self, State::CookieEchoed(echoed) => State::Established(echoed.tcb));
+    }
+
+    /// Is there no association? It takes no memory.
+    pub fn is_closed(&self) -> bool
+        ensures { result ≡ is_closed (core_of self.now) }
+    {
+        match self {
+            State::Closed => true,
+            State::CookieWait(_) | State::CookieEchoed(_) | State::Established(_) => false,
+        }
+    }
 
     /// The own verification tag, 0 in `Closed`. It takes no memory.
     pub fn verification_tag(&self) -> u32
@@ -25,6 +104,9 @@ impl State {
     {
         match self {
             State::Closed => 0,
+            State::CookieWait(wait) => wait.my.tag,
+            State::CookieEchoed(echoed) => echoed.tcb.my.tag,
+            State::Established(tcb) => tcb.my.tag,
         }
     }
 
@@ -34,6 +116,13 @@ impl State {
     {
         match self {
             State::Closed => None,
+            State::CookieWait(wait) => Some(Association {
+                phase: Phase::CookieWait,
+                my: wait.my,
+                held: None,
+            }),
+            State::CookieEchoed(echoed) => Some(echoed.tcb.association(Phase::CookieEchoed)),
+            State::Established(tcb) => Some(tcb.association(Phase::Established)),
         }
     }
 
@@ -43,6 +132,9 @@ impl State {
     {
         match self {
             State::Closed => SocketState::Closed,
+            State::CookieWait(_) => SocketState::Connecting,
+            State::CookieEchoed(_) => SocketState::Connecting,
+            State::Established(_) => SocketState::Connected,
         }
     }
 }

@@ -1,21 +1,23 @@
 -- The turns of a call from those of its parts.
-use Rattle.std.proofs.Common.{◌≡◌, ℕ, List, [], ◌∷◌, ◌++◌, map, refl, sym, ap, subst, ◌∙◌, Result, Ok, Err, OnErr}
-use Rattle.std.proofs.lemmas.List.{append-nil}
+use Rattle.std.proofs.Common.{◌≡◌, ℕ, List, [], ◌∷◌, ◌++◌, map, take, drop, refl, sym, ap, subst, ◌∙◌, append_assoc, Result, Ok, Err, OnOk, OnErr}
+use Rattle.std.proofs.lemmas.List.{append-nil, map-append, take-append-drop}
 use Rattle.rand_core.specs.Stream.{Stream}
 use Rattle.dcsctp_wire.specs.Content.{PacketContent}
 use Rattle.dcsctp_wire.specs.Format.{IsPacket}
 use Rattle.dcsctp_machine.specs.Settings.{Ports, ports_of, wire_options}
 use Rattle.dcsctp_machine.specs.Event.{Event}
-use Rattle.dcsctp_machine.specs.Packet.{packet_in}
+use Rattle.dcsctp_machine.specs.Packet.{packet_in, Emission}
 use Rattle.dcsctp_machine.specs.Admission.{Admission, refused, admits}
 use Rattle.dcsctp_machine.specs.Endpoint.{Endpoint, Core}
 use Rattle.dcsctp_machine.specs.Outcome.{Outcome}
 use Rattle.dcsctp_machine.specs.Turn.{Turn, refusal, arrival_outcome, refusal_outcome, unreadable_text}
 use Rattle.dcsctp_machine.specs.CallTurns.{AdmittedTurns, HandleInput, unreadable, readable, FirstAdmitted, CutInput, unread, read, events_of}
 use Rattle.dcsctp_api.specs.Calls.{AddsFront, user_event}
-use Rattle.dcsctp_core.specs.View.{View, call_start, Moves, MovesAll}
+use Rattle.dcsctp_machine.proofs.TurnLemmas.{events_of-append}
+use Rattle.dcsctp_core.specs.View.{View, call_start, Moves, MovesAll, CutTurn, first_word, second_word}
+use Rattle.dcsctp_core.specs.Handling.{connect_turn}
 use Rattle.dcsctp_wire.specs.declared.packet.WireOptions.{WireOptions}
-use Rattle.dcsctp_socket.specs.Parts.{PacketMoves, InputMoves, PacketCut, InputCut}
+use Rattle.dcsctp_socket.specs.Parts.{PacketMoves, InputMoves, ConnectMoves, PacketCut, InputCut}
 use Rattle.dcsctp_core.proofs.Moving.{moves_one, moves_then}
 
 -- A packet that isn't admitted has one turn.
@@ -96,6 +98,24 @@ unreadable_input {R = R} stream old a b c bytes options text begins counted is n
     let here : (packet : PacketContent) → IsPacket (wire_options a.endpoint.options) packet bytes → ⊥ = λ packet found. none packet (subst (λ (o : WireOptions). IsPacket o packet bytes) (sym (options_of stream a b options counted is)) found) in
     called_input stream bytes old c (subst (λ (v : View R). Called stream bytes v c) begins (unreadable_call stream a b c bytes here counted (subst (λ (t : List ℕ). Moves stream b (refusal_outcome b.endpoint t) c) says moves)))
 
+-- ---- connect
+
+-- the turn, from the view as the call begins
+connected_from : {R : Type 0} (stream : R → Stream) (old start new : View R) → start ≡ call_start old → Moves stream start (connect_turn stream start) new
+    → Moves stream (call_start old) (connect_turn stream (call_start old)) new
+connected_from {R = R} stream old start new begins moves = subst (λ (v : View R). Moves stream v (connect_turn stream v) new) begins moves
+
+pub connect_moves : {R T E : Type 0} (stream : R → Stream) (old start new : View R) (result : Result T E) → start ≡ call_start old
+    → OnOk result (Moves stream start (connect_turn stream start) new) → OnOk result (ConnectMoves stream old new)
+connect_moves stream old start new (Ok value) begins moves =
+    let turn = connect_turn stream (call_start old) in
+    record {
+      outcomes = turn ∷ [];
+      turns = ((first_word (stream old.generator), second_word (stream old.generator), refl), tt);
+      moves = moves_one stream (call_start old) new turn (connected_from stream old start new begins moves);
+    }
+connect_moves stream old start new (Err error) begins moves = tt
+
 -- ---- where a growth was refused
 
 pub on_err : {A E P : Type 0} (result : Result A E) → P → OnErr result P
@@ -106,15 +126,26 @@ on_err (Err error) p = p
 adds_none : (ports : Ports) (events : List (Event (List ℕ))) → AddsFront ports [] events events
 adds_none ports events = record { added = []; rest = []; behind = sym (append-nil events); front = refl }
 
--- The turns so far were finished, and the one after them added nothing.
-pub adds_whole : {R : Type 0} (stream : R → Stream) (a b : View R) (outcomes : List Outcome) (events : List (Event (List ℕ)))
-    → MovesAll stream a outcomes b → events ≡ b.events → AddsFront (ports_of a.endpoint.options) outcomes a.events events
-adds_whole stream a b outcomes events moves same =
+-- The turns so far were finished, and the one after them was cut.
+pub adds_cut : {R : Type 0} (stream : R → Stream) (a b : View R) (outcomes : List Outcome) (outcome : Outcome) (events : List (Event (List ℕ)))
+    → ports_of b.endpoint.options ≡ ports_of a.endpoint.options
+    → MovesAll stream a outcomes b → CutTurn b outcome events → AddsFront (ports_of a.endpoint.options) (outcomes ++ outcome ∷ []) a.events events
+adds_cut stream a b outcomes outcome events same moves cut =
+    let ports = ports_of a.endpoint.options in
+    let before : List (Event (List ℕ)) = map (user_event ports) (events_of outcomes) in
+    let last : List (Event (List ℕ)) = map (user_event ports) outcome.events in
     record {
-      added = map (user_event (ports_of a.endpoint.options)) (events_of outcomes);
-      rest = [];
-      behind = same ∙ moves.events;
-      front = append-nil (map (user_event (ports_of a.endpoint.options)) (events_of outcomes));
+      added = before ++ take cut.count last;
+      rest = drop cut.count last;
+      behind = cut.added
+          ∙ ap (λ (p : Ports). b.events ++ take cut.count (map (user_event p) outcome.events)) same
+          ∙ ap (λ (es : List (Event (List ℕ))). es ++ take cut.count last) moves.events
+          ∙ append_assoc a.events before (take cut.count last);
+      front = append_assoc before (take cut.count last) (drop cut.count last)
+          ∙ ap (λ (es : List (Event (List ℕ))). before ++ es) (take-append-drop cut.count last)
+          ∙ sym (map-append (user_event ports) (events_of outcomes) outcome.events)
+          ∙ ap (λ (es : List (Event Emission)). map (user_event ports) (events_of outcomes ++ es)) (sym (append-nil outcome.events))
+          ∙ ap (λ (es : List (Event Emission)). map (user_event ports) es) (sym (events_of-append outcomes (outcome ∷ [])));
     }
 
 pub unread_cut : {R : Type 0} (view : View R) (bytes : List ℕ) → InputCut bytes view view.events

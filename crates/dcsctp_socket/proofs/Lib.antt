@@ -1,3 +1,3 @@
 mod CallLemmas
+mod ChunkLemmas
 mod ChunkLoop
-mod ClosedLemmas

@@ -1,13 +1,14 @@
 -- What the decisions of the code say.
 use Rattle.std.specs.Prelude.{ℕ, List}
 use Rattle.dcsctp_machine.specs.Admission as machine
-use Rattle.dcsctp_machine.specs.Admission.{all_chunks, refused, single_init_text, wrong_tag_text}
+use Rattle.dcsctp_machine.specs.Admission.{all_chunks, refused, abort_text, single_init_text, wrong_tag_text}
 use Rattle.dcsctp_socket.specs.declared.admission.Admission.{Admission}
 use Rattle.dcsctp_socket.specs.declared.admission.Admission.TheVariants.{AllChunks, Refused}
 use Rattle.dcsctp_socket.specs.declared.admission.Refusal.{Refusal}
-use Rattle.dcsctp_socket.specs.declared.admission.Refusal.TheVariants.{NotASingleInit, WrongTag}
+use Rattle.dcsctp_socket.specs.declared.admission.Refusal.TheVariants.{WrongAbortTag, NotASingleInit, WrongTag}
 
 abbrev pub refusal_text : Refusal → List ℕ
+refusal_text WrongAbortTag = abort_text
 refusal_text NotASingleInit = single_init_text
 refusal_text (WrongTag header expected) = wrong_tag_text header expected
 

@@ -1,22 +1,25 @@
 -- What the calls of a socket do, by its parts.
-use Rattle.std.specs.Prelude.{ℕ, List, ◌≡◌}
+use Rattle.std.specs.Prelude.{◌≡◌, ℕ, List, [], ◌∷◌}
 use Rattle.rand_core.specs.Stream.{Stream}
 use Rattle.dcsctp_wire.specs.Content.{PacketContent}
 use Rattle.dcsctp_machine.specs.Admission.{admits}
 use Rattle.dcsctp_machine.specs.Packet.{Content, packet_in}
-use Rattle.dcsctp_machine.specs.Outcome.{Outcome, next_chunk}
+use Rattle.dcsctp_machine.specs.Outcome.{Outcome}
 use Rattle.dcsctp_machine.specs.Settings.{ports_of}
 use Rattle.dcsctp_machine.specs.Event.{Event}
-use Rattle.dcsctp_machine.specs.Turn.{ContentTurn}
-use Rattle.dcsctp_machine.specs.CallTurns.{ChunkTurns, AdmittedTurns, HandleInput, FirstTurns, FirstAdmitted, CutInput}
+use Rattle.dcsctp_machine.specs.Turn.{ContentTurn, act_input}
+use Rattle.dcsctp_machine.specs.control.Acts.{connect}
+use Rattle.dcsctp_machine.specs.CallTurns.{Turns, ChunkTurns, AdmittedTurns, HandleInput, FirstTurns, FirstAdmitted, CutInput}
 use Rattle.dcsctp_api.specs.Calls.{AddsFront}
-use Rattle.dcsctp_core.specs.View.{View, Moves, MovesAll, CallMoves}
+use Rattle.dcsctp_core.specs.View.{View, Moves, MovesAll, CallMoves, CutTurn}
+use Rattle.dcsctp_core.specs.declared.following.Following.{Following}
+use Rattle.dcsctp_core.specs.Handling.{following_of}
 
--- A chunk had its turn, after which the next has its own.
-pub record ChunkMoves {R : Type 0} (stream : R → Stream) (content : Content) (old new : View R) : Type 0 where
+-- A chunk had its turn, and this follows it.
+pub record ChunkMoves {R : Type 0} (stream : R → Stream) (tag : ℕ) (content : Content) (old : View R) (next : Following) (new : View R) : Type 0 where
   pub outcome : Outcome
-  pub turn : (tag : ℕ) → ContentTurn old.endpoint tag content outcome
-  pub goes_on : outcome.following ≡ next_chunk
+  pub turn : ContentTurn old.endpoint tag content outcome
+  pub following : outcome.following ≡ following_of next
   pub moves : Moves stream old outcome new
 
 -- The chunks of a packet had their turns.
@@ -37,7 +40,19 @@ pub record InputMoves {R : Type 0} (stream : R → Stream) (bytes : List ℕ) (o
   pub turns : HandleInput old.endpoint bytes outcomes
   pub moves : CallMoves stream old outcomes new
 
+-- The user connected.
+pub record ConnectMoves {R : Type 0} (stream : R → Stream) (old new : View R) : Type 0 where
+  pub outcomes : List Outcome
+  pub turns : Turns old.endpoint (act_input connect ∷ []) outcomes
+  pub moves : CallMoves stream old outcomes new
+
 -- ---- where a growth was refused
+
+-- The turn of a chunk was cut after it had added so many of its events.
+pub record ChunkCut {R : Type 0} (tag : ℕ) (content : Content) (old : View R) (events : List (Event (List ℕ))) : Type 0 where
+  pub outcome : Outcome
+  pub turn : ContentTurn old.endpoint tag content outcome
+  pub cut : CutTurn old outcome events
 
 -- Some chunks of a packet had their turns.
 pub record ChunksCut {R : Type 0} (packet : PacketContent) (old : View R) (events : List (Event (List ℕ))) : Type 0 where

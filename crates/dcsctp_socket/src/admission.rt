@@ -1,13 +1,13 @@
 //! Which packets are worked, by their verification tag (RFC 9260, sections 8.4 and 8.5).
 
-ghost use Rattle.std.specs.Prelude.{◌≡◌, string_bytes, IfOk};
-ghost use Rattle.dcsctp_wire.specs.Content.{packet_content};
-ghost use Rattle.dcsctp_machine.specs.Admission.{admits, eight_hex_digits, wrong_tag_text};
-ghost use Rattle.dcsctp_machine.specs.Packet.{packet_in};
+ghost use Rattle.std.specs.Prelude.{◌≡◌, map, string_bytes, IfOk};
+ghost use Rattle.dcsctp_wire.specs.Content.{chunk_content, packet_content};
+ghost use Rattle.dcsctp_machine.specs.Admission.{first_abort, is_echo_in_front, is_single_init, bears_tag, admits, eight_hex_digits, wrong_tag_text};
+ghost use Rattle.dcsctp_machine.specs.Packet.{content_in, packet_in};
 ghost use Rattle.dcsctp_core.specs.View.{core_of};
 ghost use Rattle.dcsctp_socket.specs.Decisions.{admission_of, refusal_text};
 
-use crate::texts::{EXPECTED, NOT_A_SINGLE_INIT, WRONG_TAG};
+use crate::texts::{EXPECTED, NOT_A_SINGLE_INIT, WRONG_ABORT_TAG, WRONG_TAG};
 use dcsctp_core::State;
 use dcsctp_wire::{Chunk, SctpPacket};
 use std::alloc::{AllocError, Global};
@@ -25,6 +25,9 @@ pub(crate) enum Admission {
 /// Why a packet isn't worked.
 #[derive(Clone, Copy, Debug)]
 pub(crate) enum Refusal {
+    /// It has an ABORT, and another tag than the ABORT's T bit asks for.
+    WrongAbortTag,
+
     /// Its tag is 0, and it isn't one INIT.
     NotASingleInit,
 
@@ -32,18 +35,73 @@ pub(crate) enum Refusal {
     WrongTag { header: u32, expected: u32 },
 }
 
-/// Decides by the header tag: 0 is for an INIT alone (RFC 9260, section 8.5.1), and any other packet
-/// bears the own tag (RFC 9260, section 8.5).
+// The T bit of the first ABORT, where there is one.
+fn first_abort(chunks: &[Chunk<'_>]) -> Option<bool>
+    ensures { result ≡ first_abort (map content_in (map chunk_content chunks.now)) }
+{
+    for chunk in chunks {
+        if let Chunk::Abort(abort) = chunk {
+            return Some(abort.tag_reflected);
+        }
+    }
+    None
+}
+
+// Is the first chunk a COOKIE ECHO?
+fn is_echo_in_front(chunks: &[Chunk<'_>]) -> bool
+    ensures { result ≡ is_echo_in_front (map content_in (map chunk_content chunks.now)) }
+{
+    match chunks {
+        [Chunk::CookieEcho(_), ..] => true,
+        _ => false,
+    }
+}
+
+// Is it one chunk, an INIT?
+fn is_single_init(chunks: &[Chunk<'_>]) -> bool
+    ensures { result ≡ is_single_init (map content_in (map chunk_content chunks.now)) }
+{
+    match chunks {
+        [Chunk::Init(_)] => true,
+        _ => false,
+    }
+}
+
+// Does the packet bear the tag that the T bit asks for (RFC 9260, section 8.5.1, B)? With the bit that is
+// the peer's, where a peer is held, else the own one.
+fn bears_tag(state: &State, header: u32, tag_reflected: bool) -> bool
+    ensures { result ≡ bears_tag (core_of state.now) header tag_reflected }
+{
+    if !tag_reflected {
+        return header == state.verification_tag();
+    }
+    match state.tcb() {
+        None => false,
+        Some(tcb) => header == tcb.peer.tag,
+    }
+}
+
+/// Decides by the header tag (RFC 9260, section 8.5.1): a packet with an ABORT by the ABORT's T bit; a COOKIE
+/// ECHO in front is let in; 0 is for an INIT alone, and any other packet bears the own tag.
 pub(crate) fn admit(state: &State, packet: &SctpPacket<'_>) -> Admission
     ensures { admission_of result ≡ admits (core_of state.now) (packet_in
         (packet_content packet.now)) }
 {
     let header = packet.common_header.verification_tag;
+    if let Some(tag_reflected) = first_abort(&packet.chunks) {
+        if bears_tag(state, header, tag_reflected) {
+            return Admission::AllChunks;
+        }
+        return Admission::Refused(Refusal::WrongAbortTag);
+    }
+    if is_echo_in_front(&packet.chunks) {
+        return Admission::AllChunks;
+    }
     if header == 0 {
-        return match packet.chunks.as_slice() {
-            [Chunk::Init(_)] => Admission::AllChunks,
-            _ => Admission::Refused(Refusal::NotASingleInit),
-        };
+        if is_single_init(&packet.chunks) {
+            return Admission::AllChunks;
+        }
+        return Admission::Refused(Refusal::NotASingleInit);
     }
     let expected = state.verification_tag();
     if header == expected {
@@ -58,6 +116,7 @@ impl Refusal {
         ensures { IfOk result (λ text. string_bytes text ≡ refusal_text self.now) }
     {
         match self {
+            Refusal::WrongAbortTag => String::from_str(alloc, WRONG_ABORT_TAG),
             Refusal::NotASingleInit => String::from_str(alloc, NOT_A_SINGLE_INIT),
             Refusal::WrongTag { header, expected } => wrong_tag(alloc, *header, *expected),
         }

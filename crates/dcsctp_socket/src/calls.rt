@@ -1,44 +1,56 @@
 //! The calls of a socket, over its parts: each is a list of turns.
 
-ghost use Rattle.std.specs.Prelude.{◌≡◌, OnOk, OnErr, map};
+ghost use Rattle.std.specs.Prelude.{◌≡◌, false, IfOk, IsOk, OnOk, OnErr, map};
 ghost use Rattle.dcsctp_wire.specs.Content.{chunk_content, packet_content};
 ghost use Rattle.dcsctp_machine.specs.Packet.{content_in};
 ghost use Rattle.dcsctp_machine.specs.Settings.{wire_options};
 ghost use Rattle.dcsctp_api.specs.Events.{event_content};
-ghost use Rattle.dcsctp_core.specs.View.{view_of};
-ghost use Rattle.dcsctp_socket.specs.Parts.{ChunkMoves, ChunksMove, PacketMoves, InputMoves, ChunksCut, PacketCut, InputCut};
+ghost use Rattle.dcsctp_api.specs.Calls.{is_closed};
+ghost use Rattle.dcsctp_core.specs.View.{core_of, view_of};
+ghost use Rattle.dcsctp_socket.specs.Parts.{ChunkMoves, ChunksMove, PacketMoves, InputMoves, ConnectMoves, ChunkCut, ChunksCut, PacketCut, InputCut};
 
 use crate::admission::{Admission, admit};
 use crate::texts::UNREADABLE;
 use dcsctp_api::{ErrorKind, Events, Options};
-use dcsctp_core::{Context, State, handle_init};
+use dcsctp_core::{
+    Context, Following, State, do_connect, handle_abort, handle_cookie_ack, handle_cookie_echo,
+    handle_init, handle_init_ack,
+};
 use dcsctp_wire::{Chunk, PacketError, SctpPacket, WireOptions};
 use rand_core::Rng;
 use std::alloc::AllocError;
 
-// Works a chunk of an admitted packet.
+// Works a chunk of an admitted packet with this header tag, and says what follows it.
 fn handle_chunk<R: Rng>(
     state: &mut State,
     context: &mut Context<R>,
     events: &mut Events,
+    header_tag: u32,
     chunk: &Chunk<'_>,
-) -> Result<(), AllocError>
-    ensures turn { OnOk result (ChunkMoves R.stream (content_in (chunk_content chunk.now))
-        (view_of state.old context.old events.old) (view_of state.new context.new events.new)) }
-    ensures err { OnErr result (events.new ≡ events.old) }
+) -> Result<Following, AllocError>
+    ensures turn { IfOk result (λ following. ChunkMoves R.stream header_tag
+        (content_in (chunk_content chunk.now)) (view_of state.old context.old events.old) following
+        (view_of state.new context.new events.new)) }
+    ensures err { OnErr result (ChunkCut header_tag (content_in (chunk_content chunk.now))
+        (view_of state.old context.old events.old) (map event_content events.new)) }
 {
     match chunk {
-        Chunk::Init(init) => handle_init(state, context, events, init)?,
-        Chunk::InitAck(_) => {}
-        Chunk::Abort(_) => {}
-        Chunk::CookieEcho(_) => {}
-        Chunk::CookieAck => {}
-        Chunk::Other(_) => {}
+        Chunk::Init(init) => {
+            handle_init(state, context, events, init)?;
+            Ok(Following::NextChunk)
+        }
+        Chunk::InitAck(init_ack) => handle_init_ack(state, context, events, init_ack),
+        Chunk::Abort(abort) => handle_abort(state, context, events, abort),
+        Chunk::CookieEcho(echo) => handle_cookie_echo(state, context, events, header_tag, echo),
+        Chunk::CookieAck => {
+            handle_cookie_ack(state, context, events)?;
+            Ok(Following::NextChunk)
+        }
+        Chunk::Other(_) => Ok(Following::NextChunk),
     }
-    Ok(())
 }
 
-// Works all chunks of an admitted packet, one after another.
+// Works the chunks of an admitted packet one after another, until one says that the rest is dropped.
 fn handle_chunks<R: Rng>(
     state: &mut State,
     context: &mut Context<R>,
@@ -50,8 +62,12 @@ fn handle_chunks<R: Rng>(
     ensures err { OnErr result (ChunksCut (packet_content packet.now)
         (view_of state.old context.old events.old) (map event_content events.new)) }
 {
+    let header_tag = packet.common_header.verification_tag;
     for chunk in &packet.chunks {
-        handle_chunk(state, context, events, chunk)?;
+        match handle_chunk(state, context, events, header_tag, chunk)? {
+            Following::NextChunk => {}
+            Following::DroppedRest => return Ok(()),
+        }
     }
     Ok(())
 }
@@ -103,6 +119,22 @@ pub(crate) fn handle_input<R: Rng>(
         Err(PacketError::OutOfMemory) => return Err(AllocError),
     }
     Ok(())
+}
+
+/// Begins an association where there is none (RFC 9260, section 5.1). The one error is that a growth was
+/// refused; no event is added then.
+pub(crate) fn connect<R: Rng>(
+    state: &mut State,
+    context: &mut Context<R>,
+    events: &mut Events,
+) -> Result<(), AllocError>
+    ensures turn { OnOk result (ConnectMoves R.stream (view_of state.old context.old events.old)
+        (view_of state.new context.new events.new)) }
+    ensures err { OnErr result (events.new ≡ events.old) }
+    ensures open { is_closed (core_of state.old) ≡ false → IsOk result }
+{
+    context.begin_call();
+    do_connect(state, context, events)
 }
 
 // What the reader of packets needs of the options.

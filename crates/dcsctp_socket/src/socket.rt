@@ -82,8 +82,8 @@ impl<R: Rng + Drop> Socket<R> {
 }
 
 impl<R: Rng + Drop> DcSctpSocket for Socket<R> {
-    ghost use Rattle.std.specs.Prelude.{◌≡◌, OnOk, IsErrOf};
-    ghost use Rattle.dcsctp_api.specs.Calls.{PollsEvent, HandlesInput};
+    ghost use Rattle.std.specs.Prelude.{◌≡◌, false, IsOk, OnOk, IsErrOf};
+    ghost use Rattle.dcsctp_api.specs.Calls.{PollsEvent, HandlesInput, Connects, is_closed};
     ghost use Rattle.dcsctp_core.specs.View.{Drawn};
     ghost use Rattle.dcsctp_socket.specs.SocketView.{user_view_of};
 
@@ -104,10 +104,33 @@ impl<R: Rng + Drop> DcSctpSocket for Socket<R> {
             (R.stream self.new.view.generator)) }
         ensures failed { IsErrOf result SocketFault.Failed → self.new ≡ self.old }
     {
+        // A socket that has failed counts no packet.
         if self.failed {
             return Err(SocketFault::Failed);
         }
         match calls::handle_input(&mut self.state, &mut self.context, &mut self.events, packet) {
+            Ok(()) => Ok(()),
+            Err(_) => {
+                self.failed = true;
+                Err(SocketFault::OutOfMemory)
+            }
+        }
+    }
+
+    fn connect(&mut self) -> Result<(), SocketFault>
+        ensures call { Connects (user_view_of self.old) result (user_view_of self.new) }
+        ensures open { self.old.failed ≡ false → is_closed self.old.view.endpoint.core ≡ false
+            → IsOk result }
+        // The words are what the generator gave, in order.
+        ensures drawn { OnOk result (Drawn (R.stream self.old.view.generator) self.new.view.words
+            (R.stream self.new.view.generator)) }
+        ensures failed { IsErrOf result SocketFault.Failed → self.new ≡ self.old }
+    {
+        // A socket that has failed draws no pair.
+        if self.failed {
+            return Err(SocketFault::Failed);
+        }
+        match calls::connect(&mut self.state, &mut self.context, &mut self.events) {
             Ok(()) => Ok(()),
             Err(_) => {
                 self.failed = true;

@@ -1,4 +1,6 @@
-//! Whole calls on a socket, with values worked out by hand and a checksum computed outside.
+//! Whole calls on a socket, with values worked out by hand and checksums computed outside.
+
+mod association;
 
 use crate::{DcSctpSocket, ErrorKind, Options, Socket, SocketEvent, SocketState};
 use dcsctp_wire::{Chunk, InitChunk, Parameter, SctpPacketBuilder};
@@ -58,23 +60,35 @@ const INIT_ACK: [u8; 96] = [
     0xff, 0xff,
 ];
 
-// A socket that draws 200 and 8.
-fn socket_with(alloc: Global, options: &Options) -> Result<Socket<TwoWords>, Fail> {
+// A socket that draws these two words.
+fn socket_that_draws(
+    alloc: Global,
+    options: &Options,
+    first: u64,
+    second: u64,
+) -> Result<Socket<TwoWords>, Fail> {
     if !options.is_valid() {
         return Err(Fail::new("the options are not valid"));
     }
-    let words = TwoWords {
-        first: 200,
-        second: 8,
+    Ok(Socket::new(alloc, "socket", options, TwoWords { first, second })?)
+}
+
+// A socket that draws 200 and 8.
+fn socket_with(alloc: Global, options: &Options) -> Result<Socket<TwoWords>, Fail> {
+    socket_that_draws(alloc, options, 200, 8)
+}
+
+// The next event has to be a packet.
+fn next_packet(socket: &mut Socket<TwoWords>) -> Result<Vec<u8>, Fail> {
+    let Some(SocketEvent::SendPacket(packet)) = socket.poll_event() else {
+        return Err(Fail::new("no packet was emitted"));
     };
-    Ok(Socket::new(alloc, "socket", options, words)?)
+    Ok(packet)
 }
 
 // The next event has to be a packet, and no event may follow.
 fn only_packet(socket: &mut Socket<TwoWords>) -> Result<Vec<u8>, Fail> {
-    let Some(SocketEvent::SendPacket(packet)) = socket.poll_event() else {
-        return Err(Fail::new("no packet was emitted"));
-    };
+    let packet = next_packet(socket)?;
     if socket.poll_event().is_some() {
         return Err(Fail::new("another event follows"));
     }

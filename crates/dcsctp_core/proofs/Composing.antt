@@ -1,0 +1,116 @@
+-- One step of a handler after another: what the steps before a turn had drawn and added.
+use Rattle.std.proofs.Common.{◌≡◌, ℕ, Bool, true, false, cond, suc, Result, Ok, Err, OnErr, List, [], ◌∷◌, ◌++◌, map, take, refl, sym, ap, subst, ◌∙◌, append_assoc}
+use Rattle.std.proofs.lemmas.List.{append-nil, map-append}
+use Rattle.rand_core.specs.Stream.{Stream}
+use Rattle.dcsctp_machine.specs.Settings.{Ports, ports_of}
+use Rattle.dcsctp_machine.specs.declared.word.Word.{Word}
+use Rattle.dcsctp_machine.specs.Event.{Event}
+use Rattle.dcsctp_machine.specs.Packet.{Content, Emission}
+use Rattle.dcsctp_machine.specs.Endpoint.{Endpoint}
+use Rattle.dcsctp_machine.specs.Outcome.{Outcome, next_chunk, quiet, sends}
+use Rattle.dcsctp_machine.specs.turns.Flush.{allows_packet, flushes}
+use Rattle.dcsctp_api.specs.Calls.{user_event}
+use Rattle.dcsctp_core.specs.View.{View, Drawn, Moves, CutTurn}
+use Rattle.dcsctp_core.proofs.Moving.{Drawn-append}
+
+-- these words and events, and then those of a turn
+abbrev pub behind : List Word → List (Event Emission) → Outcome → Outcome
+behind words events o = record { words = words ++ o.words; after = o.after; events = events ++ o.events; following = o.following }
+
+-- These events were added, and the ports stay.
+pub record Adds {R : Type 0} (old : View R) (added : List (Event Emission)) (new : View R) : Type 0 where
+  pub ports : ports_of new.endpoint.options ≡ ports_of old.endpoint.options
+  pub events : new.events ≡ old.events ++ map (user_event (ports_of old.endpoint.options)) added
+
+-- These words were drawn.
+pub record Draws {R : Type 0} (stream : R → Stream) (old : View R) (taken : List Word) (new : View R) : Type 0 where
+  pub words : new.words ≡ old.words ++ taken
+  pub drawn : Drawn (stream old.generator) taken (stream new.generator)
+
+-- ---- a turn behind them
+
+-- The events after a turn, or after a part of it, are those that were had before, and its own.
+events_behind : (ports later : Ports) (old mid new : List (Event (List ℕ))) (events more : List (Event Emission)) → later ≡ ports
+    → mid ≡ old ++ map (user_event ports) events → new ≡ mid ++ map (user_event later) more → new ≡ old ++ map (user_event ports) (events ++ more)
+events_behind ports later old mid new events more same before after =
+    after
+    ∙ ap (λ (q : Ports). mid ++ map (user_event q) more) same
+    ∙ ap (λ (es : List (Event (List ℕ))). es ++ map (user_event ports) more) before
+    ∙ append_assoc old (map (user_event ports) events) (map (user_event ports) more)
+    ∙ ap (λ (es : List (Event (List ℕ))). old ++ es) (sym (map-append (user_event ports) events more))
+
+pub moves_behind : {R : Type 0} (stream : R → Stream) (a b c : View R) (words : List Word) (events : List (Event Emission)) (o : Outcome)
+    → Adds a events b → Draws stream a words b → Moves stream b o c → Moves stream a (behind words events o) c
+moves_behind stream a b c words events o added drawn m =
+    record {
+      endpoint = m.endpoint;
+      events = events_behind (ports_of a.endpoint.options) (ports_of b.endpoint.options) a.events b.events c.events events o.events added.ports added.events m.events;
+      words = m.words ∙ ap (λ (ws : List Word). ws ++ o.words) drawn.words ∙ append_assoc a.words words o.words;
+      drawn = Drawn-append (stream a.generator) (stream b.generator) (stream c.generator) words o.words drawn.drawn m.drawn;
+    }
+
+-- ---- a flush behind them
+
+flush_where : (b : Bool) (e : Endpoint) (words more : List Word) (events others : List (Event Emission)) (emission : Emission)
+    → behind words events (cond b (sends e more others emission) (quiet e more others))
+    ≡ cond b (sends e (words ++ more) (events ++ others) emission) (quiet e (words ++ more) (events ++ others))
+flush_where true e words more events others emission =
+    ap (λ (es : List (Event Emission)). record { words = words ++ more; after = (sends e more others emission).after; events = es; following = next_chunk })
+    (sym (append_assoc events others ((sends e [] [] emission).events)))
+flush_where false e words more events others emission = refl
+
+pub flush_behind : (e : Endpoint) (words more : List Word) (events others : List (Event Emission)) (with_checksum : Bool) (tag : ℕ) (contents : List Content)
+    → behind words events (flushes e more others with_checksum tag contents) ≡ flushes e (words ++ more) (events ++ others) with_checksum tag contents
+flush_behind e words more events others with_checksum tag [] = refl
+flush_behind e words more events others with_checksum tag (content ∷ contents) =
+    flush_where (allows_packet e.options.max_burst) e words more events others (record { with_checksum = with_checksum; packet = record { tag = tag; contents = content ∷ contents } })
+
+-- ---- the same outcome in another form
+
+pub moves_as : {R : Type 0} (stream : R → Stream) (a b : View R) (o p : Outcome) → p ≡ o → Moves stream a o b → Moves stream a p b
+moves_as stream a b o p is m = subst (λ (x : Outcome). Moves stream a x b) (sym is) m
+
+-- ---- a turn that was cut
+
+-- what holds anyway holds of an error
+pub on_err : {A E P : Type 0} (result : Result A E) → P → OnErr result P
+on_err (Ok value) p = tt
+on_err (Err error) p = p
+
+-- so many more than these
+count_behind : {A : Type 0} → List A → ℕ → ℕ
+count_behind [] n = n
+count_behind (x ∷ xs) n = suc (count_behind xs n)
+
+take_behind : {A B : Type 0} (f : A → B) (xs ys : List A) (n : ℕ) → take (count_behind xs n) (map f (xs ++ ys)) ≡ map f xs ++ take n (map f ys)
+unfolding count_behind
+take_behind f [] ys n = refl
+take_behind f (x ∷ xs) ys n = ap (λ zs. f x ∷ zs) (take_behind f xs ys n)
+
+-- what is cut behind these events
+pub cut_behind : {R : Type 0} (a b : View R) (words : List Word) (events : List (Event Emission)) (o : Outcome) (es : List (Event (List ℕ)))
+    → Adds a events b → CutTurn b o es → CutTurn a (behind words events o) es
+cut_behind a b words events o es added cut =
+    let ports : Ports = ports_of a.endpoint.options in
+    record {
+      count = count_behind events cut.count;
+      added =
+          cut.added
+          ∙ ap (λ (q : Ports). b.events ++ take cut.count (map (user_event q) o.events)) added.ports
+          ∙ ap (λ (old : List (Event (List ℕ))). old ++ take cut.count (map (user_event ports) o.events)) added.events
+          ∙ append_assoc a.events (map (user_event ports) events) (take cut.count (map (user_event ports) o.events))
+          ∙ ap (λ (more : List (Event (List ℕ))). a.events ++ more) (sym (take_behind (user_event ports) events o.events cut.count));
+    }
+
+-- before its first event
+pub cut_first : {R : Type 0} (a : View R) (o : Outcome) (es : List (Event (List ℕ))) → es ≡ a.events → CutTurn a o es
+cut_first a o es same = record { count = 0; added = same ∙ sym (append-nil a.events) }
+
+-- The events in front of its outcome's were added, and no others.
+pub cut_after : {R : Type 0} (old : View R) (o : Outcome) (events : List (Event (List ℕ))) (front rest : List (Event Emission))
+    → o.events ≡ front ++ rest → events ≡ old.events ++ map (user_event (ports_of old.endpoint.options)) front → CutTurn old o events
+cut_after old o events front rest is added =
+    let later : Outcome = record o { events = rest } in
+    let cut : CutTurn old (behind [] front later) events = cut_behind old (record old { events = events }) [] front later events (record { ports = refl; events = added })
+    (cut_first (record old { events = events }) later events refl) in
+    record { count = cut.count; added = cut.added ∙ ap (λ (es : List (Event Emission)). old.events ++ take cut.count (map (user_event (ports_of old.endpoint.options)) es)) (sym is) }

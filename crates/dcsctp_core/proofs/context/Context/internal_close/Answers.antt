@@ -1,0 +1,29 @@
+use Rattle.std.proofs.Common.{ℕ, List, [], ◌∷◌, ◌++◌, map, string_bytes, refl, sym, ap, ◌∙◌}
+use Rattle.std.proofs.lemmas.List.{append-nil, map-append}
+use Rattle.dcsctp_machine.specs.Settings.{ports_of}
+use Rattle.dcsctp_machine.specs.Event.{Event}
+use Rattle.dcsctp_machine.specs.Endpoint.{stopped_timers}
+use Rattle.dcsctp_machine.specs.turns.Ends.{closed_after}
+use Rattle.dcsctp_send.specs.Timer.{TimerModel}
+use Rattle.dcsctp_api.specs.Events.{event_content}
+use Rattle.dcsctp_api.specs.declared.events.SocketEvent.{SocketEvent}
+use Rattle.dcsctp_core.specs.View.{core_of, view_of, endpoint_of}
+use Rattle.dcsctp_core.specs.Handling.{end_event}
+use Rattle.dcsctp_core.proofs.Composing.{moves_as}
+use Rattle.dcsctp_core.proofs.EndLemmas.{close_where_open}
+use Rattle.dcsctp_core.proofs.context.Context.internal_close.Goals as goal
+
+pub returns-clause-turn : goal.returns-clause-turn
+returns-clause-turn g c =
+    let e = endpoint_of c.args.state.now c.args.self.now in
+    let a = view_of c.args.state.now c.args.self.now c.args.events.now in
+    moves_as g.R.Rng.stream a _ _ _ (close_where_open e (core_of c.args.state.now) (end_event c.args.error (string_bytes c.args.message)) (sym c.is_closed.ensures ∙ c.if-is_closed.false))
+    (record {
+      endpoint = ap (λ (t : TimerModel). record (closed_after e) { timers = record stopped_timers { heartbeat_interval = t.running } }) c.stop.ensures;
+      events =
+          ap (λ (es : List SocketEvent). map event_content es) c.in_ok-add.ensures.ok
+          ∙ map-append event_content c.args.events.now (c.end_event.result ∷ [])
+          ∙ ap (λ (event : Event (List ℕ)). map event_content c.args.events.now ++ event ∷ []) (c.end_event.ensures (ports_of c.args.self.now.options));
+      words = sym (append-nil c.args.self.now.words.items);
+      drawn = refl;
+    })

@@ -1,0 +1,55 @@
+-- What goes out in a flush.
+use Rattle.std.specs.Prelude.{◌≡◌, ◌≤◌, ℕ, ℤ, pos, negsuc, Bool, List, [], ◌++◌, length, map}
+use Rattle.std.specs.List.{flat_map, AllByRecursion}
+use Rattle.rand_core.specs.Stream.{Stream}
+use Rattle.dcsctp_wire.specs.Building.{Building}
+use Rattle.dcsctp_wire.specs.Spelling.{chunk_bytes}
+use Rattle.dcsctp_machine.specs.declared.options.Options.{Options}
+use Rattle.dcsctp_machine.specs.Settings.{packet_size_limit}
+use Rattle.dcsctp_machine.specs.Packet.{Content, chunk_out}
+use Rattle.dcsctp_machine.specs.turns.Flush.{flushes}
+use Rattle.dcsctp_api.specs.declared.events.SocketEvent.{SocketEvent}
+use Rattle.dcsctp_api.specs.declared.events.SocketEvent.TheVariants.{SendPacket}
+use Rattle.dcsctp_core.specs.declared.state.State.{State}
+use Rattle.dcsctp_core.specs.declared.context.Context.{Context}
+use Rattle.dcsctp_core.specs.View.{endpoint_of, view_of, Moves}
+
+-- a packet of these chunks that is being built, under this tag
+abbrev pub packet_of : Options → Bool → ℕ → List Content → Building
+packet_of options with_checksum tag contents =
+    record {
+      source_port = options.local_port;
+      destination_port = options.remote_port;
+      verification_tag = tag;
+      size = packet_size_limit options;
+      with_checksum = with_checksum;
+      body = flat_map chunk_bytes (map chunk_out contents);
+    }
+
+abbrev pub empty_packet : Options → Bool → ℕ → Building
+empty_packet options with_checksum tag = packet_of options with_checksum tag []
+
+-- A flush, whatever the machine calls the chunks that the packet holds.
+abbrev pub Flushes : {R : Type 0} → (R → Stream) → Context R → List SocketEvent → Building → Context R → List SocketEvent → Type 0
+Flushes stream old old_events packet new new_events =
+    (state : State) (with_checksum : Bool) (tag : ℕ) (contents : List Content) → packet ≡ packet_of old.options with_checksum tag contents
+    → Moves stream (view_of state old old_events) (flushes (endpoint_of state old) [] [] with_checksum tag contents) (view_of state new new_events)
+
+-- ---- its limits
+
+-- how many packets `max_burst` allows
+abbrev pub burst_limit : ℤ → ℕ
+burst_limit (pos n) = n
+burst_limit (negsuc n) = 0
+
+-- a packet of so many bytes at most
+abbrev pub IsPacketWithin : ℕ → SocketEvent → Type 0
+IsPacketWithin size (SendPacket bytes) = length bytes.items ≤ size
+IsPacketWithin size event = ⊥
+
+-- What was added is packets, none of them longer than `mtu`, and no more of them than `max_burst` (RFC 9260, section 6.1).
+pub record WithinLimits (options : Options) (old new : List SocketEvent) : Type 0 where
+  pub packets : List SocketEvent
+  pub behind : new ≡ old ++ packets
+  pub burst : length packets ≤ burst_limit options.max_burst
+  pub sizes : AllByRecursion (IsPacketWithin options.mtu) packets

@@ -1,0 +1,11 @@
+//! What follows a chunk in its packet.
+
+/// What follows a chunk in its packet, once it had its turn.
+#[derive(Clone, Copy, Debug, PartialEq, Eq)]
+pub enum Following {
+    /// The next chunk has its turn.
+    NextChunk,
+
+    /// The rest of the packet is dropped.
+    DroppedRest,
+}

@@ -1,0 +1,136 @@
+//! An association with a peer (RFC 9260, section 14.2).
+
+ghost use Rattle.std.specs.Prelude.{◌≡◌, ◌==◌, Some, IfOk};
+ghost use Rattle.dcsctp_machine.specs.Settings.{IsValid};
+ghost use Rattle.dcsctp_machine.specs.Transfer.{new_transfer};
+ghost use Rattle.dcsctp_machine.specs.control.Handshake.{new_held};
+ghost use Rattle.dcsctp_core.specs.View.{held_of, transfer_in};
+ghost use Rattle.dcsctp_core.specs.Flushing.{empty_packet};
+
+use dcsctp_api::{
+    Association, Capabilities, Held, Options, Pair, Phase, ReconfigurationResponseResult,
+};
+use dcsctp_receive::{DataTracker, ReassemblyQueue};
+use dcsctp_send::{RetransmissionQueue, RetransmissionTimeout};
+use dcsctp_wire::SctpPacketBuilder;
+use std::alloc::{AllocError, Global};
+
+/// What an INIT ACK or a cookie tells of the peer.
+#[derive(Clone, Copy, Debug)]
+pub struct Peer {
+    /// Its pair.
+    pub pair: Pair,
+
+    /// Its receive window in bytes.
+    pub a_rwnd: u32,
+
+    /// What both ends support.
+    pub capabilities: Capabilities,
+}
+
+/// An association, from the moment at which the peer is known.
+#[derive(Debug, Drop)]
+pub struct TransmissionControlBlock {
+    /// The own pair.
+    pub my: Pair,
+
+    /// The peer's pair.
+    pub peer: Pair,
+
+    /// What both ends support.
+    pub capabilities: Capabilities,
+
+    /// Stands in the cookies that are made while the association is open (RFC 9260, section 5.2.2).
+    pub tie_tag: u64,
+
+    /// Which TSNs were received.
+    pub data_tracker: DataTracker,
+
+    /// What was received and not taken.
+    pub reassembly_queue: ReassemblyQueue,
+
+    /// What is in flight.
+    pub retransmission_queue: RetransmissionQueue,
+
+    /// The retransmission timeout.
+    pub rto: RetransmissionTimeout,
+
+    /// The number of the next own request to reset streams (RFC 6525, section 4.1).
+    pub next_outgoing_reset_req_seq_nbr: u32,
+
+    /// The number of the last request of the peer that was accepted.
+    pub last_processed_req_seq_nbr: u32,
+
+    /// The answer to it.
+    pub last_processed_req_result: ReconfigurationResponseResult,
+}
+
+impl TransmissionControlBlock {
+    /// An association with this peer, with nothing sent and nothing received.
+    pub fn new(options: &Options, my: Pair, peer: &Peer, tie_tag: u64) -> TransmissionControlBlock
+        ensures my { result.my ≡ my }
+        ensures held { held_of result ≡ new_held my peer.now.pair peer.now.capabilities }
+        ensures tie { result.tie_tag ≡ tie_tag }
+        ensures transfer { transfer_in result ≡ new_transfer options.now my.first_tsn
+            peer.now.pair.first_tsn peer.now.a_rwnd }
+    {
+        TransmissionControlBlock {
+            my,
+            peer: peer.pair,
+            capabilities: peer.capabilities,
+            tie_tag,
+            data_tracker: DataTracker::new(peer.pair.first_tsn),
+            reassembly_queue: ReassemblyQueue::new(options.max_receiver_window_buffer_size),
+            retransmission_queue: RetransmissionQueue::new(options, my.first_tsn, peer.a_rwnd),
+            rto: RetransmissionTimeout::new(options),
+            next_outgoing_reset_req_seq_nbr: my.first_tsn,
+            last_processed_req_seq_nbr: peer.pair.first_tsn.wrapping_sub(1),
+            last_processed_req_result: ReconfigurationResponseResult::SuccessNothingToDo,
+        }
+    }
+
+    /// A packet to the peer with no chunks, with a checksum unless zero checksum was negotiated
+    /// (RFC 9653, section 5.2). The one error is that there is no memory for it.
+    pub fn new_packet(
+        &self,
+        alloc: Global,
+        options: &Options,
+    ) -> Result<SctpPacketBuilder, AllocError>
+        requires { IsValid options.now }
+        ensures { IfOk result (λ builder. builder ≡ empty_packet options.now
+            (self.now.capabilities.zero_checksum_method.0 == 0) self.now.peer.tag) }
+    {
+        let builder = SctpPacketBuilder::new(
+            alloc,
+            self.peer.tag,
+            options.local_port,
+            options.remote_port,
+            options.mtu,
+        )?;
+        Ok(builder.write_checksum(!self.capabilities.zero_checksum_enabled()))
+    }
+
+    /// The association as a user sees it, in this phase.
+    pub(crate) fn association(&self, phase: Phase) -> Association
+        ensures { result ≡ record {
+          phase = phase;
+          my = self.now.my;
+          held = Some
+              (held_of self.now);
+        } }
+    {
+        let held = Held {
+            peer: self.peer,
+            capabilities: self.capabilities,
+            own_next: self.next_outgoing_reset_req_seq_nbr,
+            own_outstanding: None,
+            peer_last: self.last_processed_req_seq_nbr,
+            peer_result: self.last_processed_req_result,
+        };
+        Association {
+            phase,
+            my: self.my,
+            held: Some(held),
+        }
+    }
+}
