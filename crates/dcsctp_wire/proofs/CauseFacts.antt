@@ -6,7 +6,7 @@ use Rattle.std.specs.Fmt.{digits}
 use Rattle.dcsctp_wire.specs.Content.{missing_mandatory_parameter, unknown_cause, abort_chunk}
 use Rattle.dcsctp_wire.specs.Format.{frame_at, missing_types, cause_of, IsChunkOf}
 use Rattle.dcsctp_wire.specs.Spelling.{parameter_bytes, parameters_len, abort_bytes, chunk_bytes}
-use Rattle.dcsctp_wire.specs.ReadsBack.{IsWritableChunk}
+use Rattle.dcsctp_wire.specs.ReadsBack.{FitsChunk}
 use Rattle.dcsctp_wire.specs.Texts.{cause_text, causes_text}
 
 abort_is_spelled : chunk_bytes (abort_chunk false []) ≡ 6 ∷ 0 ∷ 0 ∷ 4 ∷ []
@@ -45,9 +45,9 @@ unfolding frame_at cause_of missing_types
 abort_is_read = (refl, refl, (_, record { value = 0 ∷ 0 ∷ 0 ∷ 1 ∷ 0 ∷ 7 ∷ []; framed = refl; read = refl }, refl))
 
 -- An ABORT with a cause of each kind fits its fields.
-abort_is_writable : IsWritableChunk (abort_chunk true (missing_mandatory_parameter (0 ∷ 7 ∷ []) ∷ unknown_cause 13 (1 ∷ 255 ∷ []) ∷ []))
+abort_fits : FitsChunk (abort_chunk true (missing_mandatory_parameter (0 ∷ 7 ∷ []) ∷ unknown_cause 13 (1 ∷ 255 ∷ []) ∷ []))
 unfolding parameters_len
-abort_is_writable =
+abort_fits =
     record {
       len_fits = omega arith;
       causes_fit = (

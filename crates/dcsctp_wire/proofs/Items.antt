@@ -20,7 +20,7 @@ module _ {Item : Type 0} (Says : Item → List ℕ → List ℕ → Type 0) wher
       (one p q bytes b.value (subst (Says p bytes) same_value a.read) b.read, ap (λ (f : Frame). f.rest) frames)
 
   -- no item stands in no bytes
-  nothing_begins : (p : Item) (rest bytes : List ℕ) → BeginsWith Says p rest bytes → bytes ≡ [] → ⊥
+  pub nothing_begins : (p : Item) (rest bytes : List ℕ) → BeginsWith Says p rest bytes → bytes ≡ [] → ⊥
   nothing_begins p rest bytes begins e =
       frame_of_nothing _ (subst (λ (b : List ℕ). frame_at b ≡ Some (record { value = begins.value; rest = rest })) e begins.framed)
 

@@ -11,6 +11,7 @@ pub mod Lengths
 pub mod Packets
 pub mod Putting
 pub mod ReadsBack
+pub mod ReadsBackAsItself
 pub mod ReadsBackCauses
 pub mod ReadsBackChecksum
 pub mod ReadsBackChunks

@@ -1,5 +1,5 @@
--- A built packet reads back.
-use Rattle.std.proofs.Common.{◌≡◌, ℕ, true, false, not, eqb, inl, inr, List, [], ◌∷◌, ◌++◌, sym, ap, arith}
+-- A built packet reads back, and as nothing else.
+use Rattle.std.proofs.Common.{◌≡◌, ℕ, true, false, not, eqb, inl, inr, List, [], ◌∷◌, ◌++◌, sym, ap, ◌∙◌, arith}
 use Rattle.std.specs.Prelude.{IsTrue}
 use Rattle.std.specs.List.{flat_map}
 use Rattle.std.proofs.lemmas.Bool.{eq-eqb, ne_eqb, or_left, or_right}
@@ -8,10 +8,11 @@ use Rattle.dcsctp_wire.specs.declared.packet.WireOptions.{WireOptions}
 use Rattle.dcsctp_wire.specs.Content.{PacketContent}
 use Rattle.dcsctp_wire.specs.Format.{checksum_accepted, IsPacket}
 use Rattle.dcsctp_wire.specs.Spelling.{chunk_bytes, header_bytes, checksum_field, packet_bytes_of, packet_bytes}
-use Rattle.dcsctp_wire.specs.ReadsBack.{IsWritable, BuiltPacketReadsBack}
+use Rattle.dcsctp_wire.specs.ReadsBack.{FitsFields, IsWritable, BuiltPacketReadsBack, BuiltPacketReadsAsItself}
 use Rattle.dcsctp_wire.proofs.BuiltPackets.{length-header_bytes}
 use Rattle.dcsctp_wire.proofs.ReadsBackChecksum.{in_header, in_chunks, field_reads_back}
 use Rattle.dcsctp_wire.proofs.ReadsBackChunks.{chunks_read_back}
+use Rattle.dcsctp_wire.proofs.ReadsBackAsItself.{chunks_read_as_themselves}
 
 abbrev header_of : PacketContent → List ℕ
 header_of packet = header_bytes packet.source_port packet.destination_port packet.verification_tag
@@ -26,12 +27,12 @@ unfolding header_bytes
 reads options packet a b c d fits port checked =
     record {
       long_enough = omega arith;
-      source_port = sym (from_be_bytes-to_be_bytes_2 packet.source_port fits.source_port);
-      destination_port = sym (from_be_bytes-to_be_bytes_2 packet.destination_port fits.destination_port);
-      verification_tag = sym (from_be_bytes-to_be_bytes_4 packet.verification_tag fits.verification_tag);
+      source_port = sym (from_be_bytes-to_be_bytes_2 packet.source_port fits.fields.source_port);
+      destination_port = sym (from_be_bytes-to_be_bytes_2 packet.destination_port fits.fields.destination_port);
+      verification_tag = sym (from_be_bytes-to_be_bytes_4 packet.verification_tag fits.fields.verification_tag);
       to_this_port = sym port;
       checked = checked;
-      chunks = chunks_read_back packet.chunks fits.chunks;
+      chunks = chunks_read_back packet.chunks fits.fields.chunks fits.minima;
       echo_in_front = fits.echo_in_front;
     }
 
@@ -41,7 +42,7 @@ right_checksum options packet fits =
     let body : List ℕ = flat_map chunk_bytes packet.chunks in
     or_right _ _ (eq-eqb _ _
     (field_reads_back header body (length-header_bytes packet.source_port packet.destination_port packet.verification_tag)
-    (in_header packet.source_port packet.destination_port packet.verification_tag) (in_chunks packet.chunks fits.chunks)))
+    (in_header packet.source_port packet.destination_port packet.verification_tag) (in_chunks packet.chunks fits.fields.chunks)))
 
 no_checksum : (options : WireOptions) (packet : PacketContent) → (options.zero_checksum_alternate_error_detection_method ≡ 0 → ⊥) → IsTrue (checksum_accepted options (packet_bytes false packet))
 unfolding packet_bytes_of checksum_field header_bytes
@@ -55,3 +56,17 @@ built_packet_reads_back options true packet fits reader = reads options packet _
 built_packet_reads_back options false packet fits reader =
     reads options packet 0 0 0 0 fits reader.to_this_port
     (elim reader.checked [ inl e ↦ absurd cc | inr has ↦ no_checksum options packet has ])
+
+read_as_itself : (options : WireOptions) (packet read : PacketContent) (a b c d : ℕ) → FitsFields packet → IsPacket options read (with_field a b c d packet) → read ≡ packet
+unfolding header_bytes
+read_as_itself options packet read a b c d fits is =
+    let source : read.source_port ≡ packet.source_port = is.source_port ∙ from_be_bytes-to_be_bytes_2 packet.source_port fits.source_port in
+    let destination : read.destination_port ≡ packet.destination_port = is.destination_port ∙ from_be_bytes-to_be_bytes_2 packet.destination_port fits.destination_port in
+    let tag : read.verification_tag ≡ packet.verification_tag = is.verification_tag ∙ from_be_bytes-to_be_bytes_4 packet.verification_tag fits.verification_tag in
+    let chunks : read.chunks ≡ packet.chunks = chunks_read_as_themselves packet.chunks read.chunks fits.chunks is.chunks in
+    λ i. record { source_port = source i; destination_port = destination i; verification_tag = tag i; chunks = chunks i }
+
+pub built_packet_reads_as_itself : BuiltPacketReadsAsItself
+unfolding packet_bytes_of checksum_field
+built_packet_reads_as_itself options true packet read fits is = read_as_itself options packet read _ _ _ _ fits is
+built_packet_reads_as_itself options false packet read fits is = read_as_itself options packet read 0 0 0 0 fits is

@@ -9,7 +9,7 @@ use Rattle.std.proofs.lemmas.Nat.{from_be_bytes-to_be_bytes_4}
 use Rattle.dcsctp_wire.specs.Content.{CauseContent, missing_mandatory_parameter, unknown_cause}
 use Rattle.dcsctp_wire.specs.Format.{u32_at, missing_types, cause_of, AreCauses}
 use Rattle.dcsctp_wire.specs.Spelling.{cause_code, cause_value, as_parameter, parameter_len, parameter_bytes, parameters_len}
-use Rattle.dcsctp_wire.specs.ReadsBack.{IsWritableCause}
+use Rattle.dcsctp_wire.specs.ReadsBack.{FitsCause}
 use Rattle.dcsctp_wire.proofs.ReadsBackItems.{IsReadBack, items_read_back}
 
 -- the number of the types, and as many types
@@ -20,21 +20,21 @@ types_in value types n number behind long whole =
     let within : ltb (length value) (4 + 2 * n) ≡ false = le-ltb (length value) (4 + 2 * n) (omega arith) in
     rw (number, header, within, behind) (ap Some (take_all (2 * n) types (omega arith)))
 
-cause_reads : (cause : CauseContent) → IsWritableCause cause → parameter_len (as_parameter cause) < 2 ^ 16 → cause_of (cause_code cause) (cause_value cause) ≡ Some cause
+cause_reads : (cause : CauseContent) → FitsCause cause → parameter_len (as_parameter cause) < 2 ^ 16 → cause_of (cause_code cause) (cause_value cause) ≡ Some cause
 unfolding cause_of
 cause_reads (missing_mandatory_parameter types) fits short =
     let n : ℕ = length types / 2 in
     ap (option_map missing_mandatory_parameter) (types_in (to_be_bytes w32 n ++ types) types n (from_be_bytes-to_be_bytes_4 n (omega arith)) refl (omega arith) (omega (arith, fits.whole)))
 cause_reads (unknown_cause code value) fits short = rw (ne_eqb code _ fits.not_missing_parameter) refl
 
-code_fits : (cause : CauseContent) → IsWritableCause cause → cause_code cause < 2 ^ 16
+code_fits : (cause : CauseContent) → FitsCause cause → cause_code cause < 2 ^ 16
 code_fits (missing_mandatory_parameter types) fits = omega arith
 code_fits (unknown_cause code value) fits = fits.code_fits
 
-each_cause : (causes : List CauseContent) → AllByRecursion IsWritableCause causes → AllByRecursion (IsReadBack cause_of as_parameter) causes
+each_cause : (causes : List CauseContent) → AllByRecursion FitsCause causes → AllByRecursion (IsReadBack cause_of as_parameter) causes
 each_cause [] fits = tt
 each_cause (cause ∷ causes) fits = (record { type_fits = code_fits cause fits.0; reads = cause_reads cause fits.0 }, each_cause causes fits.1)
 
-pub causes_read_back : (causes : List CauseContent) → AllByRecursion IsWritableCause causes → parameters_len (map as_parameter causes) < 2 ^ 16
+pub causes_read_back : (causes : List CauseContent) → AllByRecursion FitsCause causes → parameters_len (map as_parameter causes) < 2 ^ 16
     → AreCauses causes (take (parameters_len (map as_parameter causes)) (flat_map parameter_bytes (map as_parameter causes)))
 causes_read_back causes fits short = items_read_back cause_of as_parameter causes (each_cause causes fits) short

@@ -9,7 +9,7 @@ use Rattle.dcsctp_wire.specs.Content.{ParameterContent, state_cookie, supported_
 use Rattle.dcsctp_wire.specs.Crc32c.{polynomial, all_ones, bit_step, eight_bit_steps, byte_step, register_after, crc32c_of, packet_checksum_of}
 use Rattle.dcsctp_wire.specs.Format.{padding_of}
 use Rattle.dcsctp_wire.specs.Spelling.{zeros, parameter_type, parameter_value, parameter_len, parameter_bytes, parameters_len, init_fields, init_bytes, cause_value, as_parameter, t_bit, abort_bytes, other_bytes, chunk_bytes, header_bytes, packet_bytes_of, checksum_field}
-use Rattle.dcsctp_wire.specs.ReadsBack.{IsByte, IsWritableParameter, IsWritableInit, IsWritableCause, IsWritableAbort, IsWritableChunk}
+use Rattle.dcsctp_wire.specs.ReadsBack.{IsByte, FitsParameter, FitsInit, FitsCause, FitsAbort, FitsChunk}
 use Rattle.dcsctp_wire.proofs.Crc32cLemmas.{bit_step_even, bit_step_odd, parity}
 
 -- ---- the checksum of bytes has 32 bits
@@ -49,7 +49,7 @@ in_two n = (omega arith, (omega arith, tt))
 in_four : (n : ℕ) → AllByRecursion IsByte (to_be_bytes w32 n)
 in_four n = (omega arith, (omega arith, (omega arith, (omega arith, tt))))
 
-in_value : (parameter : ParameterContent) → IsWritableParameter parameter → AllByRecursion IsByte (parameter_value parameter)
+in_value : (parameter : ParameterContent) → FitsParameter parameter → AllByRecursion IsByte (parameter_value parameter)
 in_value (state_cookie cookie) fits = fits
 in_value (supported_extensions chunk_types) fits = fits
 in_value (zero_checksum_acceptable method) fits = in_four method
@@ -66,16 +66,16 @@ in_parameter parameter in_value =
     both (first ++ second ++ value) (zeros padding)
     (both (first ++ second) value (both first second (in_two (parameter_type parameter)) (in_two (parameter_len parameter))) in_value) (in_zeros padding)
 
-in_parameters : (parameters : List ParameterContent) → AllByRecursion IsWritableParameter parameters → AllByRecursion IsByte (flat_map parameter_bytes parameters)
+in_parameters : (parameters : List ParameterContent) → AllByRecursion FitsParameter parameters → AllByRecursion IsByte (flat_map parameter_bytes parameters)
 in_parameters [] fits = tt
 in_parameters (parameter ∷ parameters) fits =
     both (parameter_bytes parameter) (flat_map parameter_bytes parameters) (in_parameter parameter (in_value parameter fits.0)) (in_parameters parameters fits.1)
 
-in_cause : (cause : CauseContent) → IsWritableCause cause → AllByRecursion IsByte (cause_value cause)
+in_cause : (cause : CauseContent) → FitsCause cause → AllByRecursion IsByte (cause_value cause)
 in_cause (missing_mandatory_parameter types) fits = both (to_be_bytes w32 (length types / 2)) types (in_four (length types / 2)) fits.types_in_bytes
 in_cause (unknown_cause code value) fits = fits.value_in_bytes
 
-in_causes : (causes : List CauseContent) → AllByRecursion IsWritableCause causes → AllByRecursion IsByte (flat_map parameter_bytes (map as_parameter causes))
+in_causes : (causes : List CauseContent) → AllByRecursion FitsCause causes → AllByRecursion IsByte (flat_map parameter_bytes (map as_parameter causes))
 in_causes [] fits = tt
 in_causes (cause ∷ causes) fits =
     both (parameter_bytes (as_parameter cause)) (flat_map parameter_bytes (map as_parameter causes)) (in_parameter (as_parameter cause) (in_cause cause fits.0)) (in_causes causes fits.1)
@@ -92,7 +92,7 @@ in_fields init =
     let in_inbound : AllByRecursion IsByte four = both three (to_be_bytes w16 init.inbound_streams) in_outbound (in_two init.inbound_streams) in
     both four (to_be_bytes w32 init.initial_tsn) in_inbound (in_four init.initial_tsn)
 
-in_init : (chunk_type : ℕ) → IsByte chunk_type → (init : InitContent) → IsWritableInit init → AllByRecursion IsByte (init_bytes chunk_type init)
+in_init : (chunk_type : ℕ) → IsByte chunk_type → (init : InitContent) → FitsInit init → AllByRecursion IsByte (init_bytes chunk_type init)
 unfolding init_bytes
 in_init chunk_type small init fits =
     let n : ℕ = 20 + parameters_len init.parameters in
@@ -104,7 +104,7 @@ in_t_bit : (reflected : Bool) → IsByte (t_bit reflected)
 in_t_bit true = omega arith
 in_t_bit false = omega arith
 
-in_abort : (reflected : Bool) (causes : List CauseContent) → IsWritableAbort causes → AllByRecursion IsByte (abort_bytes reflected causes)
+in_abort : (reflected : Bool) (causes : List CauseContent) → FitsAbort causes → AllByRecursion IsByte (abort_bytes reflected causes)
 unfolding abort_bytes
 in_abort reflected causes fits =
     let n : ℕ = 4 + parameters_len (map as_parameter causes) in
@@ -117,7 +117,7 @@ in_other chunk_type flags value type_fits flags_fit value_in_bytes =
     let len : List ℕ = to_be_bytes w16 (4 + length value) in
     (type_fits, (flags_fit, both (len ++ value) padding (both len value (in_two (4 + length value)) value_in_bytes) (in_zeros (padding_of (length value)))))
 
-in_chunk : (chunk : ChunkContent) → IsWritableChunk chunk → AllByRecursion IsByte (chunk_bytes chunk)
+in_chunk : (chunk : ChunkContent) → FitsChunk chunk → AllByRecursion IsByte (chunk_bytes chunk)
 in_chunk (init_chunk init) fits = in_init 1 (omega arith) init fits
 in_chunk (init_ack_chunk init) fits = in_init 2 (omega arith) init fits
 in_chunk (abort_chunk reflected causes) fits = in_abort reflected causes fits
@@ -125,7 +125,7 @@ in_chunk (cookie_echo_chunk cookie) fits = in_other 10 0 cookie (omega arith) (o
 in_chunk cookie_ack_chunk fits = in_other 11 0 [] (omega arith) (omega arith) tt
 in_chunk (other_chunk chunk_type flags value) fits = in_other chunk_type flags value fits.type_fits fits.flags_fit fits.value_in_bytes
 
-pub in_chunks : (chunks : List ChunkContent) → AllByRecursion IsWritableChunk chunks → AllByRecursion IsByte (flat_map chunk_bytes chunks)
+pub in_chunks : (chunks : List ChunkContent) → AllByRecursion FitsChunk chunks → AllByRecursion IsByte (flat_map chunk_bytes chunks)
 in_chunks [] fits = tt
 in_chunks (chunk ∷ chunks) fits = both (chunk_bytes chunk) (flat_map chunk_bytes chunks) (in_chunk chunk fits.0) (in_chunks chunks fits.1)
 

@@ -6,10 +6,10 @@ use Rattle.std.specs.List.{flat_map, AllByRecursion}
 use Rattle.std.proofs.lemmas.List.{drop_at, take-append-drop, length-replicate, length-take-le}
 use Rattle.std.proofs.lemmas.Nat.{from_be_bytes-to_be_bytes_2, from_be_bytes-to_be_bytes_4}
 use Rattle.dcsctp_wire.specs.Content.{ParameterContent, InitContent, CauseContent, ChunkContent, init_chunk, init_ack_chunk, abort_chunk, cookie_echo_chunk, cookie_ack_chunk, other_chunk}
-use Rattle.dcsctp_wire.specs.Format.{padding_of, frame_at, IsInitValue, BeginsWithChunk, AreChunks}
+use Rattle.dcsctp_wire.specs.Format.{padding_of, frame_at, HasInitMinima, IsInitValue, IsReadByHeader, BeginsWithChunk, AreChunks}
 use Rattle.dcsctp_wire.specs.Numbers.{init_type, init_ack_type, abort_type, cookie_echo_type, cookie_ack_type}
 use Rattle.dcsctp_wire.specs.Spelling.{zeros, parameter_bytes, parameters_len, init_fields, init_bytes, as_parameter, t_bit, abort_bytes, other_bytes, chunk_bytes}
-use Rattle.dcsctp_wire.specs.ReadsBack.{IsWritableInit, IsWritableAbort, IsWritableChunk}
+use Rattle.dcsctp_wire.specs.ReadsBack.{FitsInit, FitsAbort, FitsChunk, HasMinima}
 use Rattle.dcsctp_wire.proofs.Lengths.{padded_parameters}
 use Rattle.dcsctp_wire.proofs.ReadsBackFrames.{frame_behind}
 use Rattle.dcsctp_wire.proofs.ReadsBackParameters.{parameters_read_back}
@@ -46,17 +46,17 @@ framed_with first second len fields parameters whole is fits rest =
 
 -- ---- INIT and INIT ACK
 
-abbrev init_value : InitContent → List ℕ
+abbrev pub init_value : InitContent → List ℕ
 init_value init = value_with (init_fields init) init.parameters
 
-init_framed : (chunk_type : ℕ) (init : InitContent) → IsWritableInit init → (rest : List ℕ) → frame_at (init_bytes chunk_type init ++ rest) ≡ Some (record { value = init_value init; rest = rest })
+init_framed : (chunk_type : ℕ) (init : InitContent) → FitsInit init → (rest : List ℕ) → frame_at (init_bytes chunk_type init ++ rest) ≡ Some (record { value = init_value init; rest = rest })
 unfolding init_bytes init_fields
 init_framed chunk_type init fits rest =
     framed_with chunk_type 0 (20 + parameters_len init.parameters) (init_fields init) init.parameters refl (omega arith) fits.len_fits rest
 
-init_read : (init : InitContent) → IsWritableInit init → IsInitValue init (init_value init)
+init_read : (init : InitContent) → FitsInit init → HasInitMinima init → IsInitValue init (init_value init)
 unfolding init_fields
-init_read init fits =
+init_read init fits minima =
     record {
       long_enough = omega (arith, length-value_with (init_fields init) init.parameters);
       initiate_tag = sym (from_be_bytes-to_be_bytes_4 init.initiate_tag fits.initiate_tag);
@@ -64,10 +64,7 @@ init_read init fits =
       outbound_streams = sym (from_be_bytes-to_be_bytes_2 init.outbound_streams fits.outbound_streams);
       inbound_streams = sym (from_be_bytes-to_be_bytes_2 init.inbound_streams fits.inbound_streams);
       initial_tsn = sym (from_be_bytes-to_be_bytes_4 init.initial_tsn fits.initial_tsn);
-      tag_is_not_zero = fits.tag_is_not_zero;
-      window_is_large_enough = fits.window_is_large_enough;
-      sends_on_a_stream = fits.sends_on_a_stream;
-      receives_on_a_stream = fits.receives_on_a_stream;
+      minima = minima;
       parameters = parameters_read_back init.parameters fits.parameters (omega (arith, fits.len_fits));
     }
 
@@ -76,7 +73,7 @@ init_read init fits =
 abbrev abort_value : List CauseContent → List ℕ
 abort_value causes = value_with [] (map as_parameter causes)
 
-abort_framed : (reflected : Bool) (causes : List CauseContent) → IsWritableAbort causes → (rest : List ℕ) → frame_at (abort_bytes reflected causes ++ rest) ≡ Some (record { value = abort_value causes; rest = rest })
+abort_framed : (reflected : Bool) (causes : List CauseContent) → FitsAbort causes → (rest : List ℕ) → frame_at (abort_bytes reflected causes ++ rest) ≡ Some (record { value = abort_value causes; rest = rest })
 unfolding abort_bytes
 abort_framed reflected causes fits rest =
     framed_with abort_type (t_bit reflected) (4 + parameters_len (map as_parameter causes)) [] (map as_parameter causes) refl refl fits.len_fits rest
@@ -97,21 +94,36 @@ other_framed chunk_type flags value len_fits rest =
 
 -- ---- chunks after one another
 
-begins : (chunk : ChunkContent) → IsWritableChunk chunk → (rest : List ℕ) → BeginsWithChunk chunk rest (chunk_bytes chunk ++ rest)
-unfolding init_bytes abort_bytes other_bytes
-begins (init_chunk init) fits rest = record { value = init_value init; framed = init_framed init_type init fits rest; read = (refl, init_read init fits) }
-begins (init_ack_chunk init) fits rest = record { value = init_value init; framed = init_framed init_ack_type init fits rest; read = (refl, init_read init fits) }
-begins (abort_chunk reflected causes) fits rest =
-    record {
-      value = abort_value causes;
-      framed = abort_framed reflected causes fits rest;
-      read = (refl, t_bit_read reflected, causes_read_back causes fits.causes_fit (omega (arith, fits.len_fits)));
-    }
-begins (cookie_echo_chunk cookie) fits rest = record { value = cookie; framed = other_framed cookie_echo_type 0 cookie fits.len_fits rest; read = (refl, refl) }
-begins cookie_ack_chunk fits rest = record { value = []; framed = other_framed cookie_ack_type 0 [] (omega arith) rest; read = refl }
-begins (other_chunk chunk_type flags value) fits rest =
-    record { value = value; framed = other_framed chunk_type flags value fits.len_fits rest; read = (fits.read_by_header, refl, refl, refl) }
+-- the value of a chunk
+abbrev pub chunk_value : ChunkContent → List ℕ
+chunk_value (init_chunk init) = init_value init
+chunk_value (init_ack_chunk init) = init_value init
+chunk_value (abort_chunk reflected causes) = abort_value causes
+chunk_value (cookie_echo_chunk cookie) = cookie
+chunk_value cookie_ack_chunk = []
+chunk_value (other_chunk chunk_type flags value) = value
 
-pub chunks_read_back : (chunks : List ChunkContent) → AllByRecursion IsWritableChunk chunks → AreChunks chunks (flat_map chunk_bytes chunks)
-chunks_read_back [] fits = refl
-chunks_read_back (chunk ∷ chunks) fits = (flat_map chunk_bytes chunks, begins chunk fits.0 (flat_map chunk_bytes chunks), chunks_read_back chunks fits.1)
+pub framed : (chunk : ChunkContent) → FitsChunk chunk → (rest : List ℕ) → frame_at (chunk_bytes chunk ++ rest) ≡ Some (record { value = chunk_value chunk; rest = rest })
+framed (init_chunk init) fits rest = init_framed init_type init fits rest
+framed (init_ack_chunk init) fits rest = init_framed init_ack_type init fits rest
+framed (abort_chunk reflected causes) fits rest = abort_framed reflected causes fits rest
+framed (cookie_echo_chunk cookie) fits rest = other_framed cookie_echo_type 0 cookie fits.len_fits rest
+framed cookie_ack_chunk fits rest = other_framed cookie_ack_type 0 [] (omega arith) rest
+framed (other_chunk chunk_type flags value) fits rest = other_framed chunk_type flags value fits.len_fits rest
+
+says : (chunk : ChunkContent) → FitsChunk chunk → HasMinima chunk → (rest : List ℕ) → IsReadByHeader chunk (chunk_bytes chunk ++ rest) (chunk_value chunk)
+unfolding init_bytes abort_bytes other_bytes
+says (init_chunk init) fits minima rest = (refl, init_read init fits minima)
+says (init_ack_chunk init) fits minima rest = (refl, init_read init fits minima)
+says (abort_chunk reflected causes) fits minima rest = (refl, t_bit_read reflected, causes_read_back causes fits.causes_fit (omega (arith, fits.len_fits)))
+says (cookie_echo_chunk cookie) fits minima rest = (refl, refl)
+says cookie_ack_chunk fits minima rest = refl
+says (other_chunk chunk_type flags value) fits minima rest = (fits.read_by_header, refl, refl, refl)
+
+pub begins : (chunk : ChunkContent) → FitsChunk chunk → HasMinima chunk → (rest : List ℕ) → BeginsWithChunk chunk rest (chunk_bytes chunk ++ rest)
+begins chunk fits minima rest = record { value = chunk_value chunk; framed = framed chunk fits rest; read = says chunk fits minima rest }
+
+pub chunks_read_back : (chunks : List ChunkContent) → AllByRecursion FitsChunk chunks → AllByRecursion HasMinima chunks → AreChunks chunks (flat_map chunk_bytes chunks)
+chunks_read_back [] fits minima = refl
+chunks_read_back (chunk ∷ chunks) fits minima =
+    (flat_map chunk_bytes chunks, begins chunk fits.0 minima.0 (flat_map chunk_bytes chunks), chunks_read_back chunks fits.1 minima.1)

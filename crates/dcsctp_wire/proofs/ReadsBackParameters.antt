@@ -7,10 +7,10 @@ use Rattle.std.proofs.lemmas.Nat.{from_be_bytes-to_be_bytes_4}
 use Rattle.dcsctp_wire.specs.Content.{ParameterContent, state_cookie, supported_extensions, zero_checksum_acceptable, forward_tsn_supported, unknown_parameter}
 use Rattle.dcsctp_wire.specs.Format.{parameter_of, AreParameters}
 use Rattle.dcsctp_wire.specs.Spelling.{parameter_type, parameter_value, parameter_bytes, parameters_len}
-use Rattle.dcsctp_wire.specs.ReadsBack.{IsWritableParameter}
+use Rattle.dcsctp_wire.specs.ReadsBack.{FitsParameter}
 use Rattle.dcsctp_wire.proofs.ReadsBackItems.{IsReadBack, items_read_back}
 
-reads : (parameter : ParameterContent) → IsWritableParameter parameter → parameter_of (parameter_type parameter) (parameter_value parameter) ≡ Some parameter
+reads : (parameter : ParameterContent) → FitsParameter parameter → parameter_of (parameter_type parameter) (parameter_value parameter) ≡ Some parameter
 unfolding parameter_of
 reads (state_cookie cookie) fits = refl
 reads (supported_extensions chunk_types) fits = refl
@@ -19,7 +19,7 @@ reads forward_tsn_supported fits = refl
 reads (unknown_parameter other value) fits =
     rw (ne_eqb other _ fits.not_cookie, ne_eqb other _ fits.not_extensions, ne_eqb other _ fits.not_zero_checksum, ne_eqb other _ fits.not_forward_tsn) refl
 
-type_fits : (parameter : ParameterContent) → IsWritableParameter parameter → parameter_type parameter < 2 ^ 16
+type_fits : (parameter : ParameterContent) → FitsParameter parameter → parameter_type parameter < 2 ^ 16
 type_fits (state_cookie cookie) fits = omega arith
 type_fits (supported_extensions chunk_types) fits = omega arith
 type_fits (zero_checksum_acceptable method) fits = omega arith
@@ -30,12 +30,12 @@ type_fits (unknown_parameter other value) fits = fits.type_fits
 abbrev itself : ParameterContent → ParameterContent
 itself parameter = parameter
 
-each_parameter : (parameters : List ParameterContent) → AllByRecursion IsWritableParameter parameters → AllByRecursion (IsReadBack parameter_of itself) parameters
+each_parameter : (parameters : List ParameterContent) → AllByRecursion FitsParameter parameters → AllByRecursion (IsReadBack parameter_of itself) parameters
 each_parameter [] fits = tt
 each_parameter (parameter ∷ parameters) fits =
     (record { type_fits = type_fits parameter fits.0; reads = λ _. reads parameter fits.0 }, each_parameter parameters fits.1)
 
-pub parameters_read_back : (parameters : List ParameterContent) → AllByRecursion IsWritableParameter parameters → parameters_len parameters < 2 ^ 16
+pub parameters_read_back : (parameters : List ParameterContent) → AllByRecursion FitsParameter parameters → parameters_len parameters < 2 ^ 16
     → AreParameters parameters (take (parameters_len parameters) (flat_map parameter_bytes parameters))
 parameters_read_back parameters fits short =
     let same : map itself parameters ≡ parameters = map-id parameters in

@@ -166,10 +166,7 @@ every_field_is_read =
       outbound_streams = refl;
       inbound_streams = refl;
       initial_tsn = refl;
-      tag_is_not_zero = omega arith;
-      window_is_large_enough = omega arith;
-      sends_on_a_stream = omega arith;
-      receives_on_a_stream = omega arith;
+      minima = record { tag_is_not_zero = omega arith; window_is_large_enough = omega arith; sends_on_a_stream = omega arith; receives_on_a_stream = omega arith };
       parameters = (_, record { value = []; framed = refl; read = refl }, (_, record { value = 0x82 ∷ 0xc0 ∷ []; framed = refl; read = refl }, refl));
     }
 
@@ -232,28 +229,25 @@ least_is_read =
       outbound_streams = refl;
       inbound_streams = refl;
       initial_tsn = refl;
-      tag_is_not_zero = omega arith;
-      window_is_large_enough = omega arith;
-      sends_on_a_stream = omega arith;
-      receives_on_a_stream = omega arith;
+      minima = record { tag_is_not_zero = omega arith; window_is_large_enough = omega arith; sends_on_a_stream = omega arith; receives_on_a_stream = omega arith };
       parameters = refl;
     }
 
 tag_0_is_refused : IsInitValue (least 0 1500 1 1) (least_value 0 0xdc 1 1) → ⊥
 unfolding least
-tag_0_is_refused h = absurd (omega (arith, h.tag_is_not_zero))
+tag_0_is_refused h = absurd (omega (arith, h.minima.tag_is_not_zero))
 
 window_of_1499_is_refused : IsInitValue (least 1 1499 1 1) (least_value 1 0xdb 1 1) → ⊥
 unfolding least
-window_of_1499_is_refused h = absurd (omega (arith, h.window_is_large_enough))
+window_of_1499_is_refused h = absurd (omega (arith, h.minima.window_is_large_enough))
 
 no_outbound_stream_is_refused : IsInitValue (least 1 1500 0 1) (least_value 1 0xdc 0 1) → ⊥
 unfolding least
-no_outbound_stream_is_refused h = absurd (omega (arith, h.sends_on_a_stream))
+no_outbound_stream_is_refused h = absurd (omega (arith, h.minima.sends_on_a_stream))
 
 no_inbound_stream_is_refused : IsInitValue (least 1 1500 1 0) (least_value 1 0xdc 1 0) → ⊥
 unfolding least
-no_inbound_stream_is_refused h = absurd (omega (arith, h.receives_on_a_stream))
+no_inbound_stream_is_refused h = absurd (omega (arith, h.minima.receives_on_a_stream))
 
 -- ---- packets (RFC 9260, section 3.1)
 

@@ -71,6 +71,14 @@ BeginsWithParameter = BeginsWith (IsReadBy parameter_of)
 abbrev pub AreParameters : List ParameterContent → List ℕ → Type 0
 AreParameters = AreItems (IsReadBy parameter_of)
 
+-- What is asked of the numbers of an INIT or INIT ACK (RFC 9260, sections 3.3.2 and 3.3.3): a tag, a window of
+-- 1500 bytes, and a stream in each direction.
+pub record HasInitMinima (init : InitContent) : Type 0 where
+  pub tag_is_not_zero : 1 ≤ init.initiate_tag
+  pub window_is_large_enough : 1500 ≤ init.a_rwnd
+  pub sends_on_a_stream : 1 ≤ init.outbound_streams
+  pub receives_on_a_stream : 1 ≤ init.inbound_streams
+
 -- the bytes are the value of this INIT or INIT ACK (RFC 9260, sections 3.3.2 and 3.3.3)
 pub record IsInitValue (init : InitContent) (value : List ℕ) : Type 0 where
   pub long_enough : 16 ≤ length value
@@ -79,10 +87,7 @@ pub record IsInitValue (init : InitContent) (value : List ℕ) : Type 0 where
   pub outbound_streams : init.outbound_streams ≡ u16_at 8 value
   pub inbound_streams : init.inbound_streams ≡ u16_at 10 value
   pub initial_tsn : init.initial_tsn ≡ u32_at 12 value
-  pub tag_is_not_zero : 1 ≤ init.initiate_tag
-  pub window_is_large_enough : 1500 ≤ init.a_rwnd
-  pub sends_on_a_stream : 1 ≤ init.outbound_streams
-  pub receives_on_a_stream : 1 ≤ init.inbound_streams
+  pub minima : HasInitMinima init
   pub parameters : AreParameters init.parameters (drop 16 value)
 
 -- The types of missing parameters: a number of four bytes, and that many types of two (RFC 9260, section

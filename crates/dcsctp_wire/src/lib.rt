@@ -19,7 +19,8 @@ pub use bytes::{u16_at, u32_at};
 pub use cause::{ErrorCause, causes_text};
 pub use chunk::{AbortChunk, Chunk, CookieEchoChunk, InitChunk, OtherChunk};
 pub use packet::{
-    CommonHeader, PacketError, SctpPacket, WireOptions, built_packet_reads_back, one_reading,
+    CommonHeader, PacketError, SctpPacket, WireOptions, built_packet_reads_as_itself,
+    built_packet_reads_back, one_reading,
 };
 pub use parameter::Parameter;
 pub use reconfiguration::ReconfigurationResponseResult;
