@@ -15,11 +15,11 @@ chunk_turns options core header [] (change ∷ changes) turns = absurd turns
 chunk_turns options core header (content ∷ contents) (change ∷ changes) turns =
     (worked header content turns.0.0 turns.0.2, chunk_turns options change.core header contents changes turns.1)
 
-packet_turns : (options : Options) (core : Core) (packet : Packet) (changes : List Change) → PacketTurns options core packet changes → ControlTurns options core changes
+pub packet_turns : (options : Options) (core : Core) (packet : Packet) (changes : List Change) → PacketTurns options core packet changes → ControlTurns options core changes
 packet_turns options core packet changes (worked_whole may turns) = chunk_turns options core packet.tag packet.contents changes turns
 packet_turns options core packet changes (worked_acks turns) = chunk_turns options core packet.tag (shutdown_acks_in packet.contents) changes turns
 
-move_turns : (side : SideState) (sent : List Effect) (move : Move) (changes : List Change) → MoveTurns side sent move changes → ControlTurns side.options side.core changes
+pub move_turns : (side : SideState) (sent : List Effect) (move : Move) (changes : List Change) → MoveTurns side sent move changes → ControlTurns side.options side.core changes
 move_turns side sent (does act) changes turns =
     subst (ControlTurns side.options side.core) (sym turns.1) (acted act turns.0 refl, tt)
 move_turns side sent (receives packet) changes turns = packet_turns side.options side.core packet changes turns.1

@@ -1,6 +1,7 @@
 -- What the calls of a socket do.
 use Rattle.std.specs.Prelude.{◌≡◌, ℕ, Bool, true, false, Option, Some, None, Result, Ok, Err, List, [], ◌∷◌, ◌++◌, map}
 use Rattle.dcsctp_machine.specs.Settings.{Ports, ports_of}
+use Rattle.dcsctp_machine.specs.declared.association.Pair.{Pair}
 use Rattle.dcsctp_machine.specs.declared.word.Word.{Word}
 use Rattle.dcsctp_machine.specs.Event.{Event, event_map}
 use Rattle.dcsctp_machine.specs.Packet.{Emission, emission_bytes}
@@ -8,7 +9,7 @@ use Rattle.dcsctp_machine.specs.Endpoint.{Endpoint, Core, closed, cookie_wait, c
 use Rattle.dcsctp_machine.specs.Outcome.{Outcome}
 use Rattle.dcsctp_machine.specs.Turn.{act_input}
 use Rattle.dcsctp_machine.specs.control.Acts.{connect}
-use Rattle.dcsctp_machine.specs.CallTurns.{Turns, HandleInput, CutInput, after_all, words_of, events_of}
+use Rattle.dcsctp_machine.specs.CallTurns.{Turns, HandleInput, CutInput, after_all, words_of, pairs_of, events_of}
 use Rattle.dcsctp_api.specs.declared.errors.SocketFault.{SocketFault}
 use Rattle.dcsctp_api.specs.declared.errors.SocketFault.TheVariants.{OutOfMemory, Failed}
 use Rattle.dcsctp_api.specs.declared.events.SocketEvent.{SocketEvent}
@@ -17,11 +18,12 @@ use Rattle.dcsctp_api.specs.declared.state.SocketState.TheVariants as states
 use Rattle.dcsctp_api.specs.Events.{event_content}
 
 -- What a socket is to its user: the endpoint, the events that wait, the words that the present call
--- drew, and whether a growth was refused.
+-- drew and the pairs that it made of them, and whether a growth was refused.
 pub record UserView : Type 0 where
   pub endpoint : Endpoint
   pub events : List (Event (List ℕ))
   pub words : List Word
+  pub pairs : List Pair
   pub failed : Bool
 
 -- an event as the user sees it: its packet in bytes
@@ -35,6 +37,7 @@ pub record Follows (old : UserView) (outcomes : List Outcome) (new : UserView) :
   pub endpoint : new.endpoint ≡ after_all old.endpoint outcomes
   pub events : new.events ≡ old.events ++ map (user_event (ports_of old.endpoint.options)) (events_of outcomes)
   pub words : new.words ≡ words_of outcomes
+  pub pairs : new.pairs ≡ pairs_of outcomes
 
 -- Events were added behind those that wait: the front part of what these turns add.
 pub record AddsFront (ports : Ports) (outcomes : List Outcome) (old new : List (Event (List ℕ))) : Type 0 where

@@ -3,6 +3,7 @@ use Rattle.std.proofs.Common.{◌≡◌, ℕ, Bool, true, false, cond, suc, Resu
 use Rattle.std.proofs.lemmas.List.{append-nil, map-append}
 use Rattle.rand_core.specs.Stream.{Stream}
 use Rattle.dcsctp_machine.specs.Settings.{Ports, ports_of}
+use Rattle.dcsctp_machine.specs.declared.association.Pair.{Pair}
 use Rattle.dcsctp_machine.specs.declared.word.Word.{Word}
 use Rattle.dcsctp_machine.specs.Event.{Event}
 use Rattle.dcsctp_machine.specs.Packet.{Content, Emission}
@@ -15,16 +16,17 @@ use Rattle.dcsctp_core.proofs.Moving.{Drawn-append}
 
 -- these words and events, and then those of a turn
 abbrev pub behind : List Word → List (Event Emission) → Outcome → Outcome
-behind words events o = record { words = words ++ o.words; after = o.after; events = events ++ o.events; following = o.following }
+behind words events o = record { words = words ++ o.words; drawn = o.drawn; after = o.after; events = events ++ o.events; following = o.following }
 
 -- These events were added, and the ports stay.
 pub record Adds {R : Type 0} (old : View R) (added : List (Event Emission)) (new : View R) : Type 0 where
   pub ports : ports_of new.endpoint.options ≡ ports_of old.endpoint.options
   pub events : new.events ≡ old.events ++ map (user_event (ports_of old.endpoint.options)) added
 
--- These words were drawn.
+-- These words were drawn, and the pairs stay.
 pub record Draws {R : Type 0} (stream : R → Stream) (old : View R) (taken : List Word) (new : View R) : Type 0 where
   pub words : new.words ≡ old.words ++ taken
+  pub pairs : new.pairs ≡ old.pairs
   pub drawn : Drawn (stream old.generator) taken (stream new.generator)
 
 -- ---- a turn behind them
@@ -46,6 +48,7 @@ moves_behind stream a b c words events o added drawn m =
       endpoint = m.endpoint;
       events = events_behind (ports_of a.endpoint.options) (ports_of b.endpoint.options) a.events b.events c.events events o.events added.ports added.events m.events;
       words = m.words ∙ ap (λ (ws : List Word). ws ++ o.words) drawn.words ∙ append_assoc a.words words o.words;
+      pairs = m.pairs ∙ ap (λ (ps : List Pair). ps ++ o.drawn) drawn.pairs;
       drawn = Drawn-append (stream a.generator) (stream b.generator) (stream c.generator) words o.words drawn.drawn m.drawn;
     }
 
@@ -55,7 +58,7 @@ flush_where : (b : Bool) (e : Endpoint) (words more : List Word) (events others 
     → behind words events (cond b (sends e more others emission) (quiet e more others))
     ≡ cond b (sends e (words ++ more) (events ++ others) emission) (quiet e (words ++ more) (events ++ others))
 flush_where true e words more events others emission =
-    ap (λ (es : List (Event Emission)). record { words = words ++ more; after = (sends e more others emission).after; events = es; following = next_chunk })
+    ap (λ (es : List (Event Emission)). record { words = words ++ more; drawn = []; after = (sends e more others emission).after; events = es; following = next_chunk })
     (sym (append_assoc events others ((sends e [] [] emission).events)))
 flush_where false e words more events others emission = refl
 

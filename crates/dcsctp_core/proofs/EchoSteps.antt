@@ -34,7 +34,7 @@ use Rattle.dcsctp_core.specs.declared.state.State.TheVariants.{Closed, CookieWai
 use Rattle.dcsctp_core.specs.declared.context.Context.{Context}
 use Rattle.dcsctp_core.specs.declared.transmission_control_block.TransmissionControlBlock.{TransmissionControlBlock}
 use Rattle.dcsctp_core.specs.declared.transmission_control_block.Peer.{Peer}
-use Rattle.dcsctp_core.specs.View.{View, KeepsEndpoint, endpoint_of, core_of, tcb_of, held_of, transfer_in, view_of, Moves, CutTurn}
+use Rattle.dcsctp_core.specs.View.{View, KeepsEndpoint, established_from, endpoint_of, core_of, tcb_of, held_of, transfer_in, view_of, Moves, CutTurn}
 use Rattle.dcsctp_core.specs.Handling.{next_word}
 use Rattle.dcsctp_core.specs.Flushing.{Flushes, empty_packet}
 use Rattle.dcsctp_core.specs.Echoes.{acknowledges_peer, acknowledged, Acknowledges, HoldsAddressee, maintain_turn}
@@ -47,7 +47,7 @@ pub refused : {R : Type 0} (stream : R → Stream) (old new : View R) (bytes tex
     → bytes ≡ text → Moves stream old (reports old.endpoint ParseFailed bytes) new → Moves stream old (refuses_echo old.endpoint text) new
 refused stream old new bytes text same m =
     let moves : Moves stream old (reports old.endpoint ParseFailed text) new = subst (λ (t : List ℕ). Moves stream old (reports old.endpoint ParseFailed t) new) same m in
-    record { endpoint = moves.endpoint; events = moves.events; words = moves.words; drawn = moves.drawn }
+    record { endpoint = moves.endpoint; events = moves.events; words = moves.words; pairs = moves.pairs; drawn = moves.drawn }
 
 -- ---- COOKIE ACK
 
@@ -147,11 +147,12 @@ establishes_behind stream old mid new cookie queue tie here added drawn m =
 -- the word that was drawn
 pub draws_word : {R : Type 0} (stream : R → Stream) (state later : State) (old drawn new : Context R) (events more : List SocketEvent) (word : ℕ)
     → word ≡ next_word (stream old.generator) → drawn.words.items ≡ old.words.items ++ U64 word ∷ [] → stream drawn.generator ≡ (next_u64 (stream old.generator)).1
-    → new.words ≡ drawn.words → new.generator ≡ drawn.generator
+    → drawn.pairs ≡ old.pairs → new.words ≡ drawn.words → new.pairs ≡ drawn.pairs → new.generator ≡ drawn.generator
     → Draws stream (view_of state old events) (U64 (next_word (stream old.generator)) ∷ []) (view_of later new more)
-draws_word stream state later old drawn new events more word is kept left words generator =
+draws_word stream state later old drawn new events more word is kept left stays words pairs generator =
     record {
       words = ap (λ ws. ws.items) words ∙ kept ∙ ap (λ (w : ℕ). old.words.items ++ U64 w ∷ []) is;
+      pairs = ap (λ ps. ps.items) (pairs ∙ stays);
       drawn = (refl, ap stream generator ∙ left);
     }
 
@@ -183,19 +184,22 @@ connects_behind stream old mid new my held cookie here added drawn m addressed =
     (subst (λ (x : Endpoint). Moves stream mid (acknowledged x x.core) new) here m))
 
 -- where COOKIE ACK was awaited
-pub connected_turn : {R : Type 0} (stream : R → Stream) (state : State) (echoed : CookieEchoState) (old mid new : Context R) (old_events mid_events new_events : List SocketEvent) (cookie : Cookie)
-    → CookieEchoed echoed ≡ state
+pub connected_turn : {R : Type 0} (stream : R → Stream) (state later : State) (echoed : CookieEchoState) (old mid new : Context R) (old_events mid_events new_events : List SocketEvent) (cookie : Cookie)
+    → state ≡ CookieEchoed echoed → later ≡ established_from state
     → endpoint_of (Established echoed.tcb) mid ≡ begun (endpoint_of (Established echoed.tcb) old)
-    → mid.words ≡ old.words → mid.generator ≡ old.generator
+    → mid.words ≡ old.words → mid.pairs ≡ old.pairs → mid.generator ≡ old.generator
     → mid_events ≡ old_events ++ OnConnected ∷ []
-    → Acknowledges stream (Established echoed.tcb) mid mid_events new new_events
+    → Acknowledges stream later mid mid_events new new_events
     → HoldsAddressee cookie (core_of state)
-    → Moves stream (view_of state old old_events) (maintain_turn (view_of state old old_events) cookie) (view_of (Established echoed.tcb) new new_events)
-connected_turn stream state echoed old mid new old_events mid_events new_events cookie was begins words generator added m =
-    subst (λ (s : State). HoldsAddressee cookie (core_of s) → Moves stream (view_of s old old_events) (maintain_turn (view_of s old old_events) cookie) (view_of (Established echoed.tcb) new new_events)) was
+    → Moves stream (view_of state old old_events) (maintain_turn (view_of state old old_events) cookie) (view_of later new new_events)
+connected_turn stream state later echoed old mid new old_events mid_events new_events cookie was is begins words pairs generator added m =
+    let here : later ≡ Established echoed.tcb = is ∙ ap established_from was in
+    subst (λ (s : State). HoldsAddressee cookie (core_of s) → Moves stream (view_of s old old_events) (maintain_turn (view_of s old old_events) cookie) (view_of later new new_events)) (sym was)
+    (subst (λ (s : State). HoldsAddressee cookie (core_of (CookieEchoed echoed)) → Moves stream (view_of (CookieEchoed echoed) old old_events) (maintain_turn (view_of (CookieEchoed echoed) old old_events) cookie) (view_of s new new_events)) (sym here)
     (connects_behind stream (view_of (CookieEchoed echoed) old old_events) (view_of (Established echoed.tcb) mid mid_events) (view_of (Established echoed.tcb) new new_events) echoed.tcb.my (held_of echoed.tcb) cookie begins
     (added_one old_events mid_events OnConnected added)
-    (record { words = ap (λ ws. ws.items) words ∙ sym (append-nil old.words.items); drawn = ap stream generator }) m)
+    (record { words = ap (λ ws. ws.items) words ∙ sym (append-nil old.words.items); pairs = ap (λ ps. ps.items) pairs; drawn = ap stream generator })
+    (subst (λ (s : State). Acknowledges stream s mid mid_events new new_events) here m)))
 
 -- the same, cut
 pub connected_cut : {R : Type 0} (state : State) (echoed : CookieEchoState) (context : Context R) (old mid new : List SocketEvent) (cookie : Cookie)
@@ -222,7 +226,7 @@ pub restarts_behind : {R : Type 0} (stream : R → Stream) (state : State) (cont
 restarts_behind stream state context old mid new cookie tie is m =
     subst (λ (o : Outcome). Moves stream (view_of state context old) o new) (restart_is (endpoint_of state context) cookie tie)
     (moves_behind stream (view_of state context old) (view_of state context mid) new [] (connection_restarted ∷ []) (replaces (endpoint_of state context) cookie tie (connected ∷ []))
-    (record { ports = refl; events = added_one old mid OnConnectionRestarted is }) (record { words = sym (append-nil context.words.items); drawn = refl }) m)
+    (record { ports = refl; events = added_one old mid OnConnectionRestarted is }) (record { words = sym (append-nil context.words.items); pairs = refl; drawn = refl }) m)
 
 -- the same, cut
 pub restart_cut : {R : Type 0} (state : State) (context : Context R) (old mid : List SocketEvent) (cookie : Cookie) (tie : ℕ) (es : List (Event (List ℕ)))

@@ -2,6 +2,7 @@
 use Rattle.std.proofs.Common.{◌≡◌, Bool, true, false, cond, List, [], ◌∷◌, ◌++◌, refl, sym, ap, ◌∙◌}
 use Rattle.std.proofs.lemmas.List.{append-nil}
 use Rattle.rand_core.specs.Stream.{Stream}
+use Rattle.dcsctp_machine.specs.declared.association.Pair.{Pair}
 use Rattle.dcsctp_machine.specs.declared.word.Word.{Word}
 use Rattle.dcsctp_machine.specs.Settings.{ports_of}
 use Rattle.dcsctp_machine.specs.Event.{Event}
@@ -23,6 +24,10 @@ emits_where : (b : Bool) (e : Endpoint) (words : List Word) (emission : Emission
 emits_where true e words emission = refl
 emits_where false e words emission = refl
 
+draws_no_pair : (b : Bool) (e : Endpoint) (words : List Word) (emission : Emission) → (cond b (sends e words [] emission) (quiet e words [])).drawn ≡ []
+draws_no_pair true e words emission = refl
+draws_no_pair false e words emission = refl
+
 -- After a packet the association ends.
 pub ends_after_packet : {R : Type 0} (stream : R → Stream) (a b c : View R) (emission : Emission) (event : Event Emission)
     → is_closed b.endpoint.core ≡ false
@@ -34,8 +39,12 @@ ends_after_packet {R = R} stream a b c emission event runs first second =
     let ports = ap (λ (e : Endpoint). ports_of e.options) first.endpoint ∙ ap ports_of (emits_where (fits a.endpoint emission) a.endpoint [] emission) in
     let m : Moves stream a (behind o.words o.events (ends_with (quiet b.endpoint [] []) event)) c =
     moves_behind stream a b c o.words o.events (ends_with (quiet b.endpoint [] []) event) (record { ports = ports; events = first.events })
-    (record { words = first.words; drawn = first.drawn }) ended in
+    (record {
+      words = first.words;
+      pairs = first.pairs ∙ ap (λ (ps : List Pair). a.pairs ++ ps) (draws_no_pair (fits a.endpoint emission) a.endpoint [] emission) ∙ append-nil a.pairs;
+      drawn = first.drawn;
+    }) ended in
     moves_as stream a c _ _
-    (ap (λ (e : Endpoint). let out : Outcome = record { words = o.words; after = closed_after e; events = o.events ++ event ∷ []; following = dropped_rest } in out) (sym first.endpoint)
-    ∙ ap (λ (ws : List Word). let out : Outcome = record { words = ws; after = closed_after b.endpoint; events = o.events ++ event ∷ []; following = dropped_rest } in out) (sym (append-nil o.words)))
+    (ap (λ (e : Endpoint). let out : Outcome = record { words = o.words; drawn = []; after = closed_after e; events = o.events ++ event ∷ []; following = dropped_rest } in out) (sym first.endpoint)
+    ∙ ap (λ (ws : List Word). let out : Outcome = record { words = ws; drawn = []; after = closed_after b.endpoint; events = o.events ++ event ∷ []; following = dropped_rest } in out) (sym (append-nil o.words)))
     m

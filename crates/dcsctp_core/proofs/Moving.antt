@@ -3,14 +3,15 @@ use Rattle.std.proofs.Common.{◌≡◌, ℕ, List, [], ◌∷◌, ◌++◌, map
 use Rattle.std.proofs.lemmas.List.{append-nil, map-append}
 use Rattle.rand_core.specs.Stream.{Stream, next_u32, next_u64}
 use Rattle.dcsctp_machine.specs.Settings.{Ports, ports_of}
+use Rattle.dcsctp_machine.specs.declared.association.Pair.{Pair}
 use Rattle.dcsctp_machine.specs.declared.word.Word.{Word}
 use Rattle.dcsctp_machine.specs.declared.word.Word.TheVariants.{U32, U64}
 use Rattle.dcsctp_machine.specs.Event.{Event}
 use Rattle.dcsctp_machine.specs.Packet.{Emission}
 use Rattle.dcsctp_machine.specs.Endpoint.{Endpoint}
 use Rattle.dcsctp_machine.specs.Outcome.{Outcome, still}
-use Rattle.dcsctp_machine.specs.CallTurns.{after_all, words_of, events_of}
-use Rattle.dcsctp_machine.proofs.TurnLemmas.{after_all-append, words_of-append, events_of-append}
+use Rattle.dcsctp_machine.specs.CallTurns.{after_all, words_of, pairs_of, events_of}
+use Rattle.dcsctp_machine.proofs.TurnLemmas.{after_all-append, words_of-append, pairs_of-append, events_of-append}
 use Rattle.dcsctp_api.specs.Calls.{user_event}
 use Rattle.dcsctp_core.specs.View.{View, Drawn, Moves, MovesAll}
 
@@ -25,6 +26,7 @@ moves_one stream a b o m =
       endpoint = m.endpoint;
       events = m.events ∙ ap (λ (es : List (Event Emission)). a.events ++ map (user_event (ports_of a.endpoint.options)) es) (sym (append-nil o.events));
       words = m.words ∙ ap (λ (ws : List Word). a.words ++ ws) (sym (append-nil o.words));
+      pairs = m.pairs ∙ ap (λ (ps : List Pair). a.pairs ++ ps) (sym (append-nil o.drawn));
       drawn = subst (λ (ws : List Word). Drawn (stream a.generator) ws (stream b.generator)) (sym (append-nil o.words)) m.drawn;
     }
 
@@ -43,8 +45,9 @@ moves_then stream a b c xs ys same m n =
       endpoint = n.endpoint ∙ ap (λ (e : Endpoint). after_all e ys) m.endpoint ∙ sym (after_all-append a.endpoint xs ys);
       events = n.events ∙ ap (λ (p : Ports). b.events ++ map (user_event p) (events_of ys)) ports ∙ user_events_then (ports_of a.endpoint.options) a.events b.events xs ys m.events;
       words = n.words ∙ ap (λ (ws : List Word). ws ++ words_of ys) m.words ∙ append_assoc a.words (words_of xs) (words_of ys) ∙ ap (λ (ws : List Word). a.words ++ ws) (sym (words_of-append xs ys));
+      pairs = n.pairs ∙ ap (λ (ps : List Pair). ps ++ pairs_of ys) m.pairs ∙ append_assoc a.pairs (pairs_of xs) (pairs_of ys) ∙ ap (λ (ps : List Pair). a.pairs ++ ps) (sym (pairs_of-append xs ys));
       drawn = subst (λ (ws : List Word). Drawn (stream a.generator) ws (stream c.generator)) (sym (words_of-append xs ys)) (Drawn-append (stream a.generator) (stream b.generator) (stream c.generator) (words_of xs) (words_of ys) m.drawn n.drawn);
     }
 
 pub moves_still : {R : Type 0} (stream : R → Stream) (v : View R) → Moves stream v (still v.endpoint) v
-moves_still stream v = record { endpoint = refl; events = sym (append-nil v.events); words = sym (append-nil v.words); drawn = refl }
+moves_still stream v = record { endpoint = refl; events = sym (append-nil v.events); words = sym (append-nil v.words); pairs = sym (append-nil v.pairs); drawn = refl }

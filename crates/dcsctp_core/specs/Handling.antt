@@ -24,10 +24,11 @@ use Rattle.dcsctp_core.specs.declared.state.State.{State}
 use Rattle.dcsctp_core.specs.declared.context.Context.{Context}
 use Rattle.dcsctp_core.specs.View.{View, core_of, endpoint_of, view_of, Moves, KeepsEndpoint, first_word, second_word}
 
--- The pair is made of the next two words: its first TSN, and then its tag. Nothing else changes.
+-- The pair is made of the next two words, its first TSN and then its tag, and kept once. Nothing else changes.
 pub record DrawsPair {R : Type 0} (stream : R → Stream) (old : Context R) (pair : Pair) (new : Context R) : Type 0 where
   pub from_words : pair ≡ pair_from (first_word (stream old.generator)) (second_word (stream old.generator))
   pub words : new.words.items ≡ old.words.items ++ U32 (first_word (stream old.generator)) ∷ U32 (second_word (stream old.generator)) ∷ []
+  pub pairs : new.pairs.items ≡ old.pairs.items ++ pair ∷ []
   pub left : stream new.generator ≡ (next_u32 (next_u32 (stream old.generator)).1).1
   pub endpoint : KeepsEndpoint old new
 
@@ -35,6 +36,7 @@ pub record DrawsPair {R : Type 0} (stream : R → Stream) (old : Context R) (pai
 pub record DrawsTag {R : Type 0} (stream : R → Stream) (old : Context R) (tag : ℕ) (new : Context R) : Type 0 where
   pub from_word : tag ≡ tag_from (first_word (stream old.generator))
   pub words : new.words.items ≡ old.words.items ++ U32 (first_word (stream old.generator)) ∷ []
+  pub pairs : new.pairs ≡ old.pairs
   pub left : stream new.generator ≡ (next_u32 (stream old.generator)).1
   pub endpoint : KeepsEndpoint old new
 

@@ -2,6 +2,7 @@
 use Rattle.std.specs.Prelude.{◌≡◌, ℕ, Bool, true, false, Option, None, Some, List, [], ◌∷◌, ◌++◌, map, take}
 use Rattle.rand_core.specs.Stream.{Stream, next_u32, next_u64}
 use Rattle.dcsctp_machine.specs.declared.options.Options.{Options}
+use Rattle.dcsctp_machine.specs.declared.association.Pair.{Pair}
 use Rattle.dcsctp_machine.specs.declared.word.Word.{Word}
 use Rattle.dcsctp_machine.specs.declared.word.Word.TheVariants.{U32, U64}
 use Rattle.dcsctp_machine.specs.Event.{Event}
@@ -9,7 +10,7 @@ use Rattle.dcsctp_machine.specs.declared.association.Held.{Held}
 use Rattle.dcsctp_machine.specs.Transfer.{Transfer}
 use Rattle.dcsctp_machine.specs.Endpoint.{Endpoint, Core, closed, cookie_wait, cookie_echoed, open_in, established, RunningTimer, stopped_timers, fresh_endpoint}
 use Rattle.dcsctp_machine.specs.Outcome.{Outcome, next_chunk}
-use Rattle.dcsctp_machine.specs.CallTurns.{after_all, words_of, events_of}
+use Rattle.dcsctp_machine.specs.CallTurns.{after_all, words_of, pairs_of, events_of}
 use Rattle.dcsctp_machine.specs.Settings.{ports_of}
 use Rattle.dcsctp_api.specs.declared.events.SocketEvent.{SocketEvent}
 use Rattle.dcsctp_api.specs.Events.{event_content}
@@ -19,12 +20,13 @@ use Rattle.dcsctp_core.specs.declared.state.State.TheVariants.{Closed, CookieWai
 use Rattle.dcsctp_core.specs.declared.transmission_control_block.TransmissionControlBlock.{TransmissionControlBlock}
 use Rattle.dcsctp_core.specs.declared.context.Context.{Context}
 
--- what turns move: the endpoint, the events that wait, the words that the present call drew, and the
--- generator
+-- what turns move: the endpoint, the events that wait, the words that the present call drew with the pairs that
+-- it made of them, and the generator
 pub record View (R : Type 0) : Type 0 where
   pub endpoint : Endpoint
   pub events : List (Event (List ℕ))
   pub words : List Word
+  pub pairs : List Pair
   pub generator : R
 
 -- what an association keeps of its peer
@@ -100,7 +102,7 @@ endpoint_of state context =
       below = record { queue = context.send_queue; transfer = transfer_of state };
     }
 
--- Words may be drawn, and nothing else changes.
+-- Words may be drawn and pairs kept, and nothing else changes.
 abbrev pub KeepsEndpoint : {R : Type 0} → Context R → Context R → Type 0
 KeepsEndpoint old new = (state : State) → endpoint_of state new ≡ endpoint_of state old
 
@@ -111,6 +113,7 @@ view_of state context events =
       endpoint = endpoint_of state context;
       events = map event_content events;
       words = context.words.items;
+      pairs = context.pairs.items;
       generator = context.generator;
     }
 
@@ -129,23 +132,24 @@ Drawn old (U64 word ∷ words) new = (word ≡ (next_u64 old).0) × Drawn (next_
 
 -- the parts of a socket that was just made
 abbrev pub fresh_view : {R : Type 0} → Options → R → List SocketEvent → View R
-fresh_view options generator events = record { endpoint = fresh_endpoint options; events = map event_content events; words = []; generator = generator }
+fresh_view options generator events = record { endpoint = fresh_endpoint options; events = map event_content events; words = []; pairs = []; generator = generator }
 
 -- A turn with this outcome, or several, leads from one view to the other.
 pub record Moves {R : Type 0} (stream : R → Stream) (old : View R) (outcome : Outcome) (new : View R) : Type 0 where
   pub endpoint : new.endpoint ≡ outcome.after
   pub events : new.events ≡ old.events ++ map (user_event (ports_of old.endpoint.options)) outcome.events
   pub words : new.words ≡ old.words ++ outcome.words
+  pub pairs : new.pairs ≡ old.pairs ++ outcome.drawn
   pub drawn : Drawn (stream old.generator) outcome.words (stream new.generator)
 
 -- several turns, one after another
 abbrev pub MovesAll : {R : Type 0} → (R → Stream) → View R → List Outcome → View R → Type 0
 MovesAll stream old outcomes new =
-    Moves stream old (record { words = words_of outcomes; after = after_all old.endpoint outcomes; events = events_of outcomes; following = next_chunk }) new
+    Moves stream old (record { words = words_of outcomes; drawn = pairs_of outcomes; after = after_all old.endpoint outcomes; events = events_of outcomes; following = next_chunk }) new
 
--- the view as a call begins: no words were drawn in it yet
+-- the view as a call begins: no word and no pair was drawn in it yet
 abbrev pub call_start : {R : Type 0} → View R → View R
-call_start view = record view { words = [] }
+call_start view = record view { words = []; pairs = [] }
 
 -- the turns of a whole call
 abbrev pub CallMoves : {R : Type 0} → (R → Stream) → View R → List Outcome → View R → Type 0

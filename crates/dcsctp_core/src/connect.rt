@@ -2,6 +2,7 @@
 
 ghost use Rattle.std.specs.Prelude.{◌≡◌, ◌≢◌, ℕ, false, map, IfOk, OnOk, OnErr, IsOk};
 ghost use Rattle.dcsctp_wire.specs.Content.{init_content};
+ghost use Rattle.dcsctp_machine.specs.Offer.{offer_of, negotiated};
 ghost use Rattle.dcsctp_machine.specs.Packet.{Introduction, introduction_in, cookie_in};
 ghost use Rattle.dcsctp_machine.specs.turns.Handshake.{implementation_of, refuses_init_ack};
 ghost use Rattle.dcsctp_api.specs.Calls.{is_closed};
@@ -16,13 +17,15 @@ use crate::parameters::{introduction, state_cookie};
 use crate::state::{CookieEchoState, CookieWaitState, State};
 use crate::texts::NO_COOKIE;
 use crate::transmission_control_block::{Peer, TransmissionControlBlock};
-use dcsctp_api::{Capabilities, ErrorKind, Events, Pair, SctpImplementation, SocketEvent};
+use dcsctp_api::{Capabilities, ErrorKind, Events, Options, Pair, SctpImplementation, SocketEvent};
 use dcsctp_send::{BackoffAlgorithm, Timer};
-use dcsctp_wire::{AbortChunk, Chunk, CookieEchoChunk, ErrorCause, InitChunk};
+use dcsctp_wire::{AbortChunk, Chunk, CookieEchoChunk, ErrorCause, InitChunk, parameter_type};
 use rand_core::Rng;
 use std::alloc::AllocError;
 
 /// Sends an INIT with this pair, under tag 0, where it fits `mtu`.
+///
+/// The one error is that a growth was refused; no event is added then.
 fn send_init<R: Rng>(
     context: &mut Context<R>,
     events: &mut Events,
@@ -75,6 +78,8 @@ pub fn do_connect<R: Rng>(
 }
 
 /// Sends an ABORT under this tag, since the INIT ACK under it has no cookie.
+///
+/// The one error is that a growth was refused; no event is added then.
 fn send_missing_cookie<R: Rng>(
     context: &mut Context<R>,
     events: &mut Events,
@@ -84,7 +89,7 @@ fn send_missing_cookie<R: Rng>(
         events.new) }
     ensures err { OnErr result (events.new ≡ events.old) }
 {
-    let types = [0, 7];
+    let types = parameter_type::STATE_COOKIE.to_be_bytes();
     let mut error_causes = Vec::with_capacity(context.alloc, 1)?;
     error_causes.push(ErrorCause::MissingMandatoryParameter { types: &types })?;
     let abort = AbortChunk {
@@ -96,6 +101,8 @@ fn send_missing_cookie<R: Rng>(
 }
 
 /// Ends the association, since an INIT ACK of this tag has no cookie: ABORT goes out under that tag.
+///
+/// The one error is that a growth was refused. The first events of the turn may stand then.
 fn refuse_init_ack<R: Rng>(
     state: &mut State,
     context: &mut Context<R>,
@@ -135,6 +142,8 @@ fn implementation_of(cookie: &[u8]) -> SctpImplementation
 
 /// Sends the cookie that is echoed, where it fits `mtu`: it is in front of a flush. In another state
 /// nothing is sent.
+///
+/// The one error is that a growth was refused; no event is added then.
 fn send_cookie_echo<R: Rng>(
     state: &State,
     context: &mut Context<R>,
@@ -159,7 +168,31 @@ fn send_cookie_echo<R: Rng>(
     Ok(())
 }
 
+/// The peer that an INIT ACK shows.
+fn peer_in_init_ack(options: &Options, init_ack: &InitChunk<'_>) -> Peer
+    ensures pair { result.pair ≡ (introduction_in (init_content init_ack.now)).pair }
+    ensures capabilities { result.capabilities ≡ negotiated (offer_of options.now)
+        (introduction_in (init_content init_ack.now)).offer }
+    ensures window { result.a_rwnd ≡ (introduction_in (init_content init_ack.now)).window }
+{
+    let offered = Capabilities::from_parameters(
+        init_ack.nbr_outbound_streams,
+        init_ack.nbr_inbound_streams,
+        &init_ack.parameters,
+    );
+    Peer {
+        pair: Pair {
+            tag: init_ack.initiate_tag,
+            first_tsn: init_ack.initial_tsn,
+        },
+        a_rwnd: init_ack.a_rwnd,
+        capabilities: offered.negotiate(options),
+    }
+}
+
 /// Holds the association that an INIT ACK with this cookie shows, and echoes the cookie.
+///
+/// The one error is that a growth was refused; no event is added then.
 fn echo_cookie<R: Rng>(
     state: &mut State,
     context: &mut Context<R>,
@@ -173,20 +206,7 @@ fn echo_cookie<R: Rng>(
         (view_of state.new context.new events.new)) }
     ensures err { OnErr result (events.new ≡ events.old) }
 {
-    let offered = Capabilities::from_parameters(
-        init_ack.nbr_outbound_streams,
-        init_ack.nbr_inbound_streams,
-        &init_ack.parameters,
-    );
-    let capabilities = offered.negotiate(&context.options);
-    let peer = Peer {
-        pair: Pair {
-            tag: init_ack.initiate_tag,
-            first_tsn: init_ack.initial_tsn,
-        },
-        a_rwnd: init_ack.a_rwnd,
-        capabilities,
-    };
+    let peer = peer_in_init_ack(&context.options, init_ack);
     let mut echoed = Vec::with_capacity(context.alloc, cookie.len())?;
     echoed.extend_from_slice(cookie)?;
     let tie_tag = context.draw_u64()?;
@@ -198,7 +218,7 @@ fn echo_cookie<R: Rng>(
     );
     t1_cookie.start(context.now);
     context.peer_implementation = implementation_of(cookie);
-    let interleaving = capabilities.message_interleaving;
+    let interleaving = peer.capabilities.message_interleaving;
     context.send_queue.enable_message_interleaving(interleaving);
     context.send_queue.reset();
     *state = State::CookieEchoed(CookieEchoState {

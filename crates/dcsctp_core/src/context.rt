@@ -7,7 +7,9 @@ ghost use Rattle.dcsctp_machine.specs.Settings.{IsValid};
 use crate::ending::end_event;
 use crate::flush::allows_packet;
 use crate::state::State;
-use dcsctp_api::{ErrorKind, Events, Options, SctpImplementation, SocketEvent, SocketTime, Word};
+use dcsctp_api::{
+    ErrorKind, Events, Options, Pair, SctpImplementation, SocketEvent, SocketTime, Word,
+};
 use dcsctp_send::{BackoffAlgorithm, SendQueue, Timer};
 use dcsctp_wire::{Chunk, SctpPacketBuilder};
 use rand_core::Rng;
@@ -30,6 +32,9 @@ pub struct Context<R> {
 
     /// The words that the present call drew, in order.
     pub words: Vec<Word>,
+
+    /// The pairs that it made of them, in order.
+    pub pairs: Vec<Pair>,
 
     /// What waits to be sent.
     pub send_queue: SendQueue,
@@ -78,6 +83,7 @@ impl<R: Rng> Context<R> {
             options,
             generator,
             words: Vec::new(alloc),
+            pairs: Vec::new(alloc),
             send_queue: SendQueue::new(),
             heartbeat_interval: Timer::new(
                 options.heartbeat_interval,
@@ -99,6 +105,7 @@ impl<R: Rng> Context<R> {
             ∷ []) }
         ensures left { OnOk result (R.stream self.new.generator ≡ (next_u32
             (R.stream self.old.generator)).1) }
+        ensures pairs { self.new.pairs ≡ self.old.pairs }
         ensures endpoint { KeepsEndpoint self.old self.new }
     {
         let word = self.generator.next_u32();
@@ -113,11 +120,24 @@ impl<R: Rng> Context<R> {
             ∷ []) }
         ensures left { OnOk result (R.stream self.new.generator ≡ (next_u64
             (R.stream self.old.generator)).1) }
+        ensures pairs { self.new.pairs ≡ self.old.pairs }
         ensures endpoint { KeepsEndpoint self.old self.new }
     {
         let word = self.generator.next_u64();
         self.words.push(Word::U64(word))?;
         Ok(word)
+    }
+
+    /// Keeps a pair that was made of words among those of the present call. The one error is want of
+    /// memory: the list of these pairs can't grow.
+    pub fn keep_pair(&mut self, pair: Pair) -> Result<(), AllocError>
+        ensures kept { OnOk result (self.new.pairs.items ≡ self.old.pairs.items ++ pair ∷ []) }
+        ensures words { self.new.words ≡ self.old.words }
+        ensures generator { self.new.generator ≡ self.old.generator }
+        ensures endpoint { KeepsEndpoint self.old self.new }
+    {
+        self.pairs.push(pair)?;
+        Ok(())
     }
 
     /// Emits a packet of one chunk, and counts it (up to the greatest number). Where it doesn't fit
@@ -160,6 +180,7 @@ impl<R: Rng> Context<R> {
         ensures endpoint { (state : State) → endpoint_of state self.new ≡ counted (endpoint_of state
             self.old) }
         ensures words { self.new.words ≡ self.old.words }
+        ensures pairs { self.new.pairs ≡ self.old.pairs }
         ensures generator { self.new.generator ≡ self.old.generator }
     {
         self.tx_packets_count = self.tx_packets_count.saturating_add(1);
@@ -222,6 +243,7 @@ impl<R: Rng> Context<R> {
                   self.old).timers;
             } }
         ensures words { self.new.words ≡ self.old.words }
+        ensures pairs { self.new.pairs ≡ self.old.pairs }
         ensures generator { self.new.generator ≡ self.old.generator }
     {
         if !self.options.heartbeat_interval.is_zero() {
@@ -232,7 +254,7 @@ impl<R: Rng> Context<R> {
     /// Ends the association: with OnClosed where the error is `NoError`, else with OnAborted and this
     /// text. A closed socket stays as it is.
     ///
-    /// The one error is that there is no memory for the event; the association goes on then.
+    /// The one error is that there is no memory for the event. No event is added then.
     pub fn internal_close(
         &mut self,
         state: &mut State,
@@ -253,12 +275,13 @@ impl<R: Rng> Context<R> {
         Ok(())
     }
 
-    /// Begins a call: no words were drawn in it yet.
+    /// Begins a call: no word and no pair was drawn in it yet.
     pub fn begin_call(&mut self)
         ensures view { (state : State) (events : List SocketEvent) → view_of state self.new events
             ≡ call_start (view_of state self.old events) }
     {
         self.words.clear();
+        self.pairs.clear();
     }
 
     /// Counts a packet that was handed in, up to the greatest number.

@@ -16,7 +16,6 @@ use crate::context::Context;
 use crate::following::Following;
 use crate::state::State;
 use crate::texts::INVALID_TAG;
-use crate::transition_between;
 use crate::transmission_control_block::{Peer, TransmissionControlBlock};
 use dcsctp_api::{ErrorKind, Events, Options, Pair, SocketEvent, StateCookie};
 use dcsctp_wire::{Chunk, CookieEchoChunk};
@@ -70,6 +69,8 @@ fn resolve(state: &State, header_tag: u32, cookie: &StateCookie) -> CookieResolu
 }
 
 /// Sends COOKIE ACK to the peer that is held: it is in front of a flush.
+///
+/// The one error is that a growth was refused; no event is added then.
 fn send_cookie_ack<R: Rng>(
     state: &State,
     context: &mut Context<R>,
@@ -108,6 +109,8 @@ fn peer_in(options: &Options, cookie: &StateCookie) -> Peer
 }
 
 /// Makes the association that a cookie shows, with the send queue as it is, and acknowledges it.
+///
+/// The one error is that a growth was refused. The first events of the turn may stand then.
 fn establish<R: Rng>(
     state: &mut State,
     context: &mut Context<R>,
@@ -136,6 +139,8 @@ fn establish<R: Rng>(
 }
 
 /// Makes the association that a cookie shows where no peer is held. What waits to be sent stays.
+///
+/// The one error is that a growth was refused. The first events of the turn may stand then.
 fn establish_new<R: Rng>(
     state: &mut State,
     context: &mut Context<R>,
@@ -159,6 +164,8 @@ fn establish_new<R: Rng>(
 
 /// Makes the association that a cookie shows in place of the one that is held. What waits to be sent
 /// begins anew.
+///
+/// The one error is that a growth was refused. The first events of the turn may stand then.
 fn replace<R: Rng>(
     state: &mut State,
     context: &mut Context<R>,
@@ -182,6 +189,8 @@ fn replace<R: Rng>(
 }
 
 /// Makes the association anew, since the peer began it anew.
+///
+/// The one error is that a growth was refused. The first events of the turn may stand then.
 fn restart<R: Rng>(
     state: &mut State,
     context: &mut Context<R>,
@@ -201,6 +210,8 @@ fn restart<R: Rng>(
 }
 
 /// Acknowledges the association that is held; where its COOKIE ACK is awaited, it is established.
+///
+/// The one error is that a growth was refused. The first events of the turn may stand then.
 fn maintain<R: Rng>(
     state: &mut State,
     context: &mut Context<R>,
@@ -218,7 +229,7 @@ fn maintain<R: Rng>(
     match state {
         State::CookieEchoed(_) => {
             events.add(SocketEvent::OnConnected())?;
-            transition_between!(*state, State::CookieEchoed(echoed) => State::Established(echoed.tcb));
+            state.establish();
             context.start_heartbeat_interval();
             send_cookie_ack(state, context, events)?;
         }
@@ -270,6 +281,8 @@ pub fn handle_cookie_echo<R: Rng>(
 }
 
 /// Reports that a COOKIE ECHO was refused, and why.
+///
+/// The one error is that a growth was refused; no event is added then.
 fn refuse<R: Rng>(
     context: &mut Context<R>,
     events: &mut Events,

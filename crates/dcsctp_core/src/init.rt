@@ -17,26 +17,29 @@ use std::alloc::AllocError;
 /// How far a new first TSN is from those in use.
 const TSN_GAP: u32 = 1_000_000;
 
-/// Draws a tag, which is never 0.
+/// Draws a tag, which is never 0. The one error is that a growth was refused.
 fn draw_tag<R: Rng>(context: &mut Context<R>) -> Result<u32, AllocError>
     ensures tag { IfOk result (λ tag. DrawsTag R.stream context.old tag context.new) }
 {
     Ok(1 + context.draw_u32()? % (u32::MAX - 1))
 }
 
-/// Draws a first TSN, and then the tag that goes with it.
+/// Draws a first TSN, and then the tag that goes with it. The pair is kept. The one error is that a
+/// growth was refused.
 pub(crate) fn draw_pair<R: Rng>(context: &mut Context<R>) -> Result<Pair, AllocError>
     ensures pair { IfOk result (λ pair. DrawsPair R.stream context.old pair context.new) }
 {
     let first_tsn = context.draw_u32()? % u32::MAX;
-    Ok(Pair {
-        tag: draw_tag(context)?,
-        first_tsn,
-    })
+    let tag = draw_tag(context)?;
+    let pair = Pair { tag, first_tsn };
+    context.keep_pair(pair)?;
+    Ok(pair)
 }
 
 /// Answers an INIT with this pair: an INIT ACK with a state cookie under the INIT's initiate tag,
 /// without a checksum where zero checksum is negotiated (RFC 9653, section 5.2).
+///
+/// The one error is that a growth was refused; no event is added then.
 fn send_init_ack<R: Rng>(
     context: &mut Context<R>,
     events: &mut Events,
@@ -71,18 +74,18 @@ fn send_init_ack<R: Rng>(
     Ok(())
 }
 
-/// Works an INIT. State, pairs and capabilities stay: while a handshake is under way the answer bears
-/// the own pair, else a drawn tag, and the tie tag where an association is open.
+/// Works an INIT, which leaves the association as it is: while a handshake is under way the answer bears
+/// the own pair, else one that is drawn for it, and the tie tag where an association is open.
 ///
 /// The one error is that a growth was refused; no event is added then.
 pub fn handle_init<R: Rng>(
-    state: &mut State,
+    state: &State,
     context: &mut Context<R>,
     events: &mut Events,
     init: &InitChunk<'_>,
 ) -> Result<(), AllocError>
-    ensures turn { OnOk result (InitMoves R.stream (view_of state.old context.old events.old)
-        (introduction_in (init_content init.now)) (view_of state.new context.new events.new)) }
+    ensures turn { OnOk result (InitMoves R.stream (view_of state.now context.old events.old)
+        (introduction_in (init_content init.now)) (view_of state.now context.new events.new)) }
     ensures err { OnErr result (events.new ≡ events.old) }
 {
     match state {
@@ -93,10 +96,13 @@ pub fn handle_init<R: Rng>(
         State::CookieWait(wait) => send_init_ack(context, events, init, wait.my, 0)?,
         State::CookieEchoed(echoed) => send_init_ack(context, events, init, echoed.tcb.my, 0)?,
         State::Established(tcb) => {
-            let tag = draw_tag(context)?;
             let first_tsn = tcb.retransmission_queue.next_tsn().wrapping_add(TSN_GAP);
-            let pair = Pair { tag, first_tsn };
-            send_init_ack(context, events, init, pair, tcb.tie_tag)?;
+            let renewed = Pair {
+                tag: draw_tag(context)?,
+                first_tsn,
+            };
+            context.keep_pair(renewed)?;
+            send_init_ack(context, events, init, renewed, tcb.tie_tag)?;
         }
     }
     Ok(())

@@ -34,7 +34,8 @@ fn extensions(options: &Options) -> &'static [u8]
     }
 }
 
-/// What is offered, with this method, and the cookie where there is one.
+/// What is offered, with this method, and the cookie where there is one. The one error is that a growth
+/// was refused.
 fn parameters<'a>(
     alloc: Global,
     options: &Options,

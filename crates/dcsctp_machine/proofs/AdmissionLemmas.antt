@@ -1,10 +1,9 @@
 -- Admission of a packet that was read.
-use Rattle.std.proofs.Common.{◌≡◌, ◌==◌, ◌≤◌, ℕ, Bool, true, false, cond, Option, None, List, [], ◌∷◌, length, map, refl, ap, ◌∙◌, arith}
-use Rattle.std.proofs.lemmas.List.{length-map}
+use Rattle.std.proofs.Common.{◌≡◌, ◌==◌, ◌≤◌, Bool, false, Option, None, List, [], ◌∷◌, length, map, refl, ap, ◌∙◌, arith}
 use Rattle.dcsctp_wire.specs.Content.{ChunkContent, init_chunk, init_ack_chunk, abort_chunk, cookie_echo_chunk, cookie_ack_chunk, other_chunk, PacketContent}
-use Rattle.dcsctp_machine.specs.Endpoint.{Core, own_tag}
-use Rattle.dcsctp_machine.specs.Packet.{Content, Packet, content_in, packet_in}
-use Rattle.dcsctp_machine.specs.Admission.{Admission, all_chunks, refused, first_abort, first_shutdown_complete, has_shutdown_ack, is_echo_in_front, is_single_init, is_own_tag, single_init_text, wrong_tag_text, admitted_where, admits_by, admits}
+use Rattle.dcsctp_machine.specs.Endpoint.{Core}
+use Rattle.dcsctp_machine.specs.Packet.{Content, content_in, packet_in}
+use Rattle.dcsctp_machine.specs.Admission.{first_abort, first_shutdown_complete, has_shutdown_ack, is_echo_in_front, is_single_init, admits_by, admits}
 
 -- The chunks of shutdown stand as type, flags and value, so no line of the table for one of them applies.
 

@@ -28,14 +28,14 @@ makes allowed e cookie queue tie events =
 
 made_where : (allowed : Bool) (e : Endpoint) (cookie : Cookie) (queue : SendQueueState) (tie : ℕ)
     → IsControlled e (makes allowed e cookie queue tie (connected ∷ [])) (new_association e.options cookie (choosing e true allowed))
-made_where true e cookie queue tie = record { core = refl; options = refl; signs = refl; following = refl }
-made_where false e cookie queue tie = record { core = refl; options = refl; signs = refl; following = refl }
+made_where true e cookie queue tie = record { core = refl; options = refl; signs = refl; drawn = refl; following = refl }
+made_where false e cookie queue tie = record { core = refl; options = refl; signs = refl; drawn = refl; following = refl }
 
 -- A restart is told to the user beside the connection.
 remade_where : (allowed : Bool) (e : Endpoint) (cookie : Cookie) (queue : SendQueueState) (tie : ℕ)
     → IsControlled e (makes allowed e cookie queue tie (connection_restarted ∷ connected ∷ [])) (new_association e.options cookie (choosing e true allowed))
-remade_where true e cookie queue tie = record { core = refl; options = refl; signs = refl; following = refl }
-remade_where false e cookie queue tie = record { core = refl; options = refl; signs = refl; following = refl }
+remade_where true e cookie queue tie = record { core = refl; options = refl; signs = refl; drawn = refl; following = refl }
+remade_where false e cookie queue tie = record { core = refl; options = refl; signs = refl; drawn = refl; following = refl }
 
 made : (e : Endpoint) (cookie : Cookie) (queue : SendQueueState) (tie : ℕ)
     → IsControlled e (makes (allows_packet e.options.max_burst) e cookie queue tie (connected ∷ [])) (new_association e.options cookie (no_choices e true))
@@ -53,7 +53,7 @@ restart_in e cookie tie established mine held is = remade e cookie tie
 restart_in e cookie tie shutdown_pending mine held is = remade e cookie tie
 restart_in e cookie tie shutdown_sent mine held is = remade e cookie tie
 restart_in e cookie tie shutdown_received mine held is = remade e cookie tie
-restart_in e cookie tie shutdown_ack_sent mine held is = record { core = is; options = refl; signs = refl; following = refl }
+restart_in e cookie tie shutdown_ack_sent mine held is = record { core = is; options = refl; signs = refl; drawn = refl; following = refl }
 
 restart_at : (e : Endpoint) (cookie : Cookie) (tie : ℕ) (core : Core) → e.core ≡ core
     → IsControlled e (restarts_where e cookie tie core) (restarts e.options core cookie (no_choices e true))
@@ -77,13 +77,13 @@ AnsweredBy allowed e cookie phase mine held after =
 
 connected_where : (allowed : Bool) (e : Endpoint) (cookie : Cookie) (mine : Pair) (held : Held)
     → ConnectedBy allowed e cookie mine held (record { held = held; effects = emitted_alone allowed cookie.addressee.tag cookie_ack })
-connected_where true e cookie mine held = record { core = refl; options = refl; signs = refl; following = refl }
-connected_where false e cookie mine held = record { core = refl; options = refl; signs = refl; following = refl }
+connected_where true e cookie mine held = record { core = refl; options = refl; signs = refl; drawn = refl; following = refl }
+connected_where false e cookie mine held = record { core = refl; options = refl; signs = refl; drawn = refl; following = refl }
 
 answered_where : (allowed : Bool) (e : Endpoint) (cookie : Cookie) (phase : OpenPhase) (mine : Pair) (held : Held) → e.core ≡ open_in phase mine held
     → AnsweredBy allowed e cookie phase mine held (record { held = held; effects = emitted_alone allowed cookie.addressee.tag cookie_ack })
-answered_where true e cookie phase mine held is = record { core = is; options = refl; signs = refl; following = refl }
-answered_where false e cookie phase mine held is = record { core = is; options = refl; signs = refl; following = refl }
+answered_where true e cookie phase mine held is = record { core = is; options = refl; signs = refl; drawn = refl; following = refl }
+answered_where false e cookie phase mine held is = record { core = is; options = refl; signs = refl; drawn = refl; following = refl }
 
 maintain_at : (e : Endpoint) (cookie : Cookie) (core : Core) → e.core ≡ core → IsControlled e (maintains e cookie core) (maintained core cookie (no_choices e true))
 maintain_at e cookie closed is = still_controlled e closed is
@@ -102,13 +102,13 @@ resolved_at : (e : Endpoint) (cookie : Cookie) (core : Core) (word : ℕ) (resol
 resolved_at e cookie core word establish_new is = made e cookie (record e.below.queue { is_interleaved = interleaves e cookie }) word
 resolved_at e cookie core word restart is = restart_at e cookie word core is
 resolved_at e cookie core word simultaneous_init is = made e cookie (queue_anew e.below.queue (interleaves e cookie)) word
-resolved_at e cookie core word discard is = record { core = is; options = refl; signs = refl; following = refl }
+resolved_at e cookie core word discard is = record { core = is; options = refl; signs = refl; drawn = refl; following = refl }
 resolved_at e cookie core word maintain_existing is = maintain_at e cookie core is
-resolved_at e cookie core word invalid_tag is = record { core = is; options = refl; signs = refl; following = refl }
+resolved_at e cookie core word invalid_tag is = record { core = is; options = refl; signs = refl; drawn = refl; following = refl }
 
 echo_at : (e : Endpoint) (core : Core) (header : ℕ) (read : Result Cookie (List ℕ)) (word : ℕ) → e.core ≡ core
     → IsControlled e (cookie_echo_outcome e core header read word) (echo_read e.options core header read (no_choices e true))
-echo_at e core header (Err text) word is = record { core = is; options = refl; signs = refl; following = refl }
+echo_at e core header (Err text) word is = record { core = is; options = refl; signs = refl; drawn = refl; following = refl }
 echo_at e core header (Ok cookie) word is = resolved_at e cookie core word (resolve core e.tie header cookie) is
 
 pub cookie_echo_controlled : (e : Endpoint) (tag : ℕ) (bytes : List ℕ) (o : Outcome) → CookieEchoTurn e tag bytes o → ControlledChunk e tag (cookie_echo bytes) o

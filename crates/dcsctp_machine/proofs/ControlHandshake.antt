@@ -10,7 +10,7 @@ use Rattle.dcsctp_machine.specs.Cause.{Cause}
 use Rattle.dcsctp_machine.specs.Event.{Event, aborted, connected}
 use Rattle.dcsctp_machine.specs.Packet.{Introduction, Content, init_ack, cookie_echo, cookie_ack, abort, Emission}
 use Rattle.dcsctp_machine.specs.Endpoint.{Endpoint, Core, closed, cookie_wait, cookie_echoed, open_in, established}
-use Rattle.dcsctp_machine.specs.Outcome.{Outcome, next_chunk, still, quiet, sends, fits}
+use Rattle.dcsctp_machine.specs.Outcome.{Outcome, next_chunk, still, quiet, sends, fits, drawing}
 use Rattle.dcsctp_machine.specs.turns.Flush.{allows_packet}
 use Rattle.dcsctp_machine.specs.turns.Ends.{ends_with, abort_outcome}
 use Rattle.dcsctp_machine.specs.turns.Handshake.{pair_from, init_emission, awaits_init_ack, connect_outcome, ConnectTurn, no_cookie_text, abort_emission, awaits_cookie_ack, echo_emission, init_ack_outcome, InitAckTurn, connected_after, cookie_ack_outcome}
@@ -59,7 +59,7 @@ ControlledAt e core tag content o = (change : Change) × ChunkChange e.options c
 
 -- a turn in which nothing happens
 pub still_controlled : (e : Endpoint) (core : Core) → e.core ≡ core → IsControlled e (still e) (unchanged core)
-still_controlled e core is = record { core = is; options = refl; signs = refl; following = refl }
+still_controlled e core is = record { core = is; options = refl; signs = refl; drawn = refl; following = refl }
 
 -- ---- a flush
 
@@ -88,9 +88,9 @@ flushes_one allowed e words events with_checksum tag content =
 -- ---- connect
 
 connects_where : (b : Bool) (e : Endpoint) (mine : Pair) (words : List Word)
-    → IsControlled e (if b then sends (awaits_init_ack e mine) words [] (init_emission e mine) else quiet (awaits_init_ack e mine) words []) (connect_change e.options closed (choices_of e mine [] b))
-connects_where true e mine words = record { core = refl; options = refl; signs = refl; following = refl }
-connects_where false e mine words = record { core = refl; options = refl; signs = refl; following = refl }
+    → IsControlled e (drawing mine (if b then sends (awaits_init_ack e mine) words [] (init_emission e mine) else quiet (awaits_init_ack e mine) words [])) (connect_change e.options closed (choices_of e mine [] b))
+connects_where true e mine words = record { core = refl; options = refl; signs = refl; drawn = refl; following = refl }
+connects_where false e mine words = record { core = refl; options = refl; signs = refl; drawn = refl; following = refl }
 
 connect_at : (e : Endpoint) (core : Core) (word next : ℕ) → e.core ≡ core
     → (choices : Choices) × IsControlled e (connect_outcome e core word next) (connect_change e.options core choices)
@@ -111,16 +111,16 @@ connect_controlled e o turn = subst (ControlledAct e connect) (sym turn.2) (conn
 refused_where : (b : Bool) (e : Endpoint) (mine : Pair) (theirs : Introduction)
     → IsControlled e (ends_with (if b then sends e [] [] (abort_emission theirs) else quiet e [] []) (aborted ProtocolViolation no_cookie_text))
     (init_ack_change e.options (cookie_wait mine) theirs None (no_choices e b))
-refused_where true e mine theirs = record { core = refl; options = refl; signs = refl; following = refl }
-refused_where false e mine theirs = record { core = refl; options = refl; signs = refl; following = refl }
+refused_where true e mine theirs = record { core = refl; options = refl; signs = refl; drawn = refl; following = refl }
+refused_where false e mine theirs = record { core = refl; options = refl; signs = refl; drawn = refl; following = refl }
 
 -- With one, its COOKIE ECHO goes out where it fits and where a packet is allowed.
 echoed_where : (b allowed : Bool) (e : Endpoint) (mine : Pair) (theirs : Introduction) (cookie : List ℕ) (tie : ℕ)
     → IsControlled e (if b then flushes_one allowed (awaits_cookie_ack e mine theirs cookie tie) (U64 tie ∷ []) [] true theirs.pair.tag (cookie_echo cookie) else quiet (awaits_cookie_ack e mine theirs cookie tie) (U64 tie ∷ []) [])
     (init_ack_change e.options (cookie_wait mine) theirs (Some cookie) (choosing e b allowed))
-echoed_where true true e mine theirs cookie tie = record { core = refl; options = refl; signs = refl; following = refl }
-echoed_where true false e mine theirs cookie tie = record { core = refl; options = refl; signs = refl; following = refl }
-echoed_where false allowed e mine theirs cookie tie = record { core = refl; options = refl; signs = refl; following = refl }
+echoed_where true true e mine theirs cookie tie = record { core = refl; options = refl; signs = refl; drawn = refl; following = refl }
+echoed_where true false e mine theirs cookie tie = record { core = refl; options = refl; signs = refl; drawn = refl; following = refl }
+echoed_where false allowed e mine theirs cookie tie = record { core = refl; options = refl; signs = refl; drawn = refl; following = refl }
 
 init_ack_at : (e : Endpoint) (core : Core) (tag : ℕ) (theirs : Introduction) (cookie : Option (List ℕ)) (word : ℕ) → e.core ≡ core
     → ControlledAt e core tag (init_ack theirs cookie) (init_ack_outcome e theirs cookie core word)
@@ -152,7 +152,7 @@ cookie_ack_at e (cookie_wait mine) tag is = (_, (no_choices e true, tt, refl), s
 cookie_ack_at e (cookie_echoed mine held cookie) tag is = (
   _,
   (no_choices e true, tt, refl),
-  subst (ConnectedBy e mine held) (sym (flush_of_none (allows_packet e.options.max_burst) held.peer.tag held)) (record { core = refl; options = refl; signs = refl; following = refl }),
+  subst (ConnectedBy e mine held) (sym (flush_of_none (allows_packet e.options.max_burst) held.peer.tag held)) (record { core = refl; options = refl; signs = refl; drawn = refl; following = refl }),
 )
 cookie_ack_at e (open_in phase mine held) tag is = (_, (no_choices e true, tt, refl), still_controlled e (open_in phase mine held) is)
 
@@ -164,8 +164,8 @@ cookie_ack_controlled e tag o turn = subst (ControlledChunk e tag cookie_ack) (s
 abort_at : (e : Endpoint) (core : Core) (tag : ℕ) (reflected : Bool) (causes : List Cause) → e.core ≡ core → ControlledAt e core tag (abort reflected causes) (abort_outcome e causes core)
 abort_at e closed tag reflected causes is = (_, (no_choices e true, tt, refl), still_controlled e closed is)
 abort_at e (cookie_wait mine) tag reflected causes is = (_, (no_choices e true, tt, refl), still_controlled e (cookie_wait mine) is)
-abort_at e (cookie_echoed mine held cookie) tag reflected causes is = (_, (no_choices e true, tt, refl), record { core = refl; options = refl; signs = refl; following = refl })
-abort_at e (open_in phase mine held) tag reflected causes is = (_, (no_choices e true, tt, refl), record { core = refl; options = refl; signs = refl; following = refl })
+abort_at e (cookie_echoed mine held cookie) tag reflected causes is = (_, (no_choices e true, tt, refl), record { core = refl; options = refl; signs = refl; drawn = refl; following = refl })
+abort_at e (open_in phase mine held) tag reflected causes is = (_, (no_choices e true, tt, refl), record { core = refl; options = refl; signs = refl; drawn = refl; following = refl })
 
 pub abort_controlled : (e : Endpoint) (tag : ℕ) (reflected : Bool) (causes : List Cause) (o : Outcome) → o ≡ abort_outcome e causes e.core → ControlledChunk e tag (abort reflected causes) o
 abort_controlled e tag reflected causes o turn = subst (ControlledChunk e tag (abort reflected causes)) (sym turn) (abort_at e e.core tag reflected causes refl)

@@ -1,5 +1,5 @@
 -- The turns of an endpoint are turns of its association.
-use Rattle.std.proofs.Common.{◌≡◌, ◌≤◌, ◌<◌, ℕ, ◌^◌, Bool, true, false, cond, List, [], ◌∷◌, refl, sym, subst, arith}
+use Rattle.std.proofs.Common.{◌≡◌, ◌≤◌, ℕ, Bool, true, false, cond, List, [], ◌∷◌, refl, sym, subst, ap, ◌∙◌, arith}
 use Rattle.std.proofs.lemmas.Bool.Decides.{nat_tests}
 use Rattle.dcsctp_wire.specs.Spelling.{other_bytes}
 use Rattle.dcsctp_machine.specs.Settings.{packet_size_limit, IsValid}
@@ -8,33 +8,22 @@ use Rattle.dcsctp_machine.specs.declared.association.Held.{Held}
 use Rattle.dcsctp_machine.specs.declared.word.Word.{Word}
 use Rattle.dcsctp_machine.specs.declared.word.Word.TheVariants.{U32}
 use Rattle.dcsctp_machine.specs.Cookie.{cookie_bytes}
-use Rattle.dcsctp_machine.specs.Packet.{Introduction, Content, init, init_ack, cookie_echo, cookie_ack, re_config, abort, shutdown, shutdown_ack, shutdown_complete, other}
+use Rattle.dcsctp_machine.specs.Packet.{Introduction, Content, init, init_ack, cookie_echo, cookie_ack, re_config, abort, shutdown, shutdown_ack, shutdown_complete, other, Emission}
 use Rattle.dcsctp_machine.specs.Endpoint.{Endpoint, Core, closed, cookie_wait, cookie_echoed, open_in, established, shutdown_pending, shutdown_sent, shutdown_received, shutdown_ack_sent}
-use Rattle.dcsctp_machine.specs.Outcome.{Outcome, still, next_chunk, count_up, fits, emits}
+use Rattle.dcsctp_machine.specs.Outcome.{Outcome, still, next_chunk, count_up, fits, quiet, sends, emits, drawing}
 use Rattle.dcsctp_machine.specs.Event.{sent}
-use Rattle.dcsctp_machine.specs.turns.Handshake.{pair_from, renewed_pair, cookie_for, init_ack_for, init_ack_emission, answers_init, to_peer, init_outcome}
+use Rattle.dcsctp_machine.specs.turns.Handshake.{pair_from, renewed_pair, renews, cookie_for, init_ack_for, init_ack_emission, answers_init, to_peer, init_outcome}
 use Rattle.dcsctp_machine.specs.control.Effect.{Effect, draws, unchanged, emitted_alone}
 use Rattle.dcsctp_machine.specs.control.Choices.{Choices}
 use Rattle.dcsctp_machine.specs.control.Handshake.{IsCookieOf}
 use Rattle.dcsctp_machine.specs.control.Acts.{connect, t1_expires, shut_down, step_of_shutdown, shutdown_repeats, abort_with, hands_over, flushes, request_again, ChunkChange}
 use Rattle.dcsctp_machine.specs.Controlled.{IsControlled, ControlledChunk}
-use Rattle.dcsctp_machine.specs.Laws.{FitsPair, FitsCookie, CookieReadsBack, FitsOwn, FitsAnswer, ChunksAreControlled, ActsAreControlled}
+use Rattle.dcsctp_machine.specs.Laws.{FitsPair, FitsOwn, FitsAnswer, ChunksAreControlled, ActsAreControlled}
+use Rattle.dcsctp_machine.proofs.LawLemmas.{names_read_back}
 use Rattle.dcsctp_machine.proofs.ControlHandshake.{choices_of, no_choices, filling_where, ControlledAt, still_controlled, init_ack_controlled, cookie_ack_controlled, abort_controlled, connect_controlled}
 use Rattle.dcsctp_machine.proofs.ControlEcho.{cookie_echo_controlled}
 
 -- ---- an INIT
-
-answer_fits : (e : Endpoint) (theirs : Introduction) (mine : Pair) (tie : ℕ) → FitsAnswer e theirs → FitsPair mine → tie < 2 ^ 64 → FitsCookie (cookie_for theirs mine tie)
-answer_fits e theirs mine tie h mine_fits tie_fits =
-    record {
-      maker = mine_fits;
-      addressee = h.pair;
-      window = h.window;
-      tie = tie_fits;
-      zero_checksum_method = h.zero_checksum_method;
-      inbound_streams = h.inbound_streams;
-      outbound_streams = h.outbound_streams;
-    }
 
 drawn_fits : (word next : ℕ) → FitsPair (pair_from word next)
 drawn_fits word next = record { tag_is_not_zero = omega arith; tag = omega arith; first_tsn = omega arith }
@@ -42,39 +31,46 @@ drawn_fits word next = record { tag_is_not_zero = omega arith; tag = omega arith
 renewed_fits : (e : Endpoint) (word : ℕ) → FitsPair (renewed_pair e word)
 renewed_fits e word = record { tag_is_not_zero = omega arith; tag = omega arith; first_tsn = omega arith }
 
-is_cookie : CookieReadsBack → (e : Endpoint) (theirs : Introduction) (mine : Pair) (tie : ℕ) → FitsAnswer e theirs → FitsPair mine → tie < 2 ^ 64
+is_cookie : (e : Endpoint) (theirs : Introduction) (mine : Pair) (tie : ℕ) → FitsAnswer e theirs → FitsPair mine
     → IsCookieOf theirs mine (cookie_bytes (cookie_for theirs mine tie))
-is_cookie law e theirs mine tie h mine_fits tie_fits =
-    (cookie_for theirs mine tie, law (cookie_for theirs mine tie) (answer_fits e theirs mine tie h mine_fits tie_fits), refl, refl, refl)
+is_cookie e theirs mine tie h mine_fits =
+    (_, names_read_back (cookie_for theirs mine tie) (record { maker = mine_fits; addressee = h.pair; offer = h.offer }), refl, refl, refl)
 
 -- a packet of one chunk, where it fits
 one_packet : (b : Bool) (e : Endpoint) (words : List Word) (with_checksum : Bool) (tag : ℕ) (content : Content) (core : Core) → e.core ≡ core
     → IsControlled e (cond b (record {
       words = words;
+      drawn = [];
       after = record e { counts = record e.counts { packets_sent = count_up e.counts.packets_sent } };
       events = sent (record { with_checksum = with_checksum; packet = record { tag = tag; contents = content ∷ [] } }) ∷ [];
       following = next_chunk;
-    }) (record { words = words; after = e; events = []; following = next_chunk })) (record { core = core; effects = emitted_alone b tag content; following = next_chunk })
-one_packet true e words with_checksum tag content core is = record { core = is; options = refl; signs = refl; following = refl }
-one_packet false e words with_checksum tag content core is = record { core = is; options = refl; signs = refl; following = refl }
+    }) (record { words = words; drawn = []; after = e; events = []; following = next_chunk })) (record { core = core; effects = emitted_alone b tag content; following = next_chunk })
+one_packet true e words with_checksum tag content core is = record { core = is; options = refl; signs = refl; drawn = refl; following = refl }
+one_packet false e words with_checksum tag content core is = record { core = is; options = refl; signs = refl; drawn = refl; following = refl }
 
 -- what is drawn beside it leaves no sign
-drawing : (e : Endpoint) (o : Outcome) (core : Core) (drawn : Pair) (effects : List Effect)
-    → IsControlled e o (record { core = core; effects = effects; following = next_chunk }) → IsControlled e o (record { core = core; effects = draws drawn ∷ effects; following = next_chunk })
-drawing e o core drawn effects h = record { core = h.core; options = h.options; signs = h.signs; following = h.following }
+pub drawing_controlled : (e : Endpoint) (o : Outcome) (core : Core) (pair : Pair) (effects : List Effect) → o.drawn ≡ []
+    → IsControlled e o (record { core = core; effects = effects; following = next_chunk }) → IsControlled e (drawing pair o) (record { core = core; effects = draws pair ∷ effects; following = next_chunk })
+drawing_controlled e o core pair effects none h =
+    record { core = h.core; options = h.options; signs = h.signs; drawn = ap (λ (ps : List Pair). pair ∷ ps) (sym none ∙ h.drawn); following = h.following }
 
-answered : CookieReadsBack → (e : Endpoint) (tag : ℕ) (theirs : Introduction) (mine : Pair) (tie : ℕ) (words : List Word) (core : Core) → e.core ≡ core
+answer_draws_none : (b : Bool) (e : Endpoint) (words : List Word) (emission : Emission) → (cond b (sends e words [] emission) (quiet e words [])).drawn ≡ []
+answer_draws_none true e words emission = refl
+answer_draws_none false e words emission = refl
+
+answered : (e : Endpoint) (tag : ℕ) (theirs : Introduction) (mine : Pair) (tie : ℕ) (words : List Word) (core : Core) → e.core ≡ core
     → IsControlled e (answers_init e theirs words mine tie) (record { core = core; effects = emitted_alone (fits e (init_ack_emission e theirs mine tie)) theirs.pair.tag (init_ack_for e theirs mine tie); following = next_chunk })
-answered law e tag theirs mine tie words core is =
+answered e tag theirs mine tie words core is =
     one_packet (fits e (init_ack_emission e theirs mine tie)) e words (init_ack_emission e theirs mine tie).with_checksum theirs.pair.tag (init_ack_for e theirs mine tie) core is
 
-renewed : CookieReadsBack → (e : Endpoint) (tag : ℕ) (theirs : Introduction) (word : ℕ) (core : Core) → e.core ≡ core → FitsAnswer e theirs
+renewed : (e : Endpoint) (tag : ℕ) (theirs : Introduction) (word : ℕ) (core : Core) → e.core ≡ core → FitsAnswer e theirs
     → IsCookieOf theirs (renewed_pair e word) (cookie_bytes (cookie_for theirs (renewed_pair e word) e.tie))
-    × IsControlled e (answers_init e theirs (U32 word ∷ []) (renewed_pair e word) e.tie)
+    × IsControlled e (renews e theirs word)
     (record { core = core; effects = draws (renewed_pair e word) ∷ emitted_alone (fits e (init_ack_emission e theirs (renewed_pair e word) e.tie)) theirs.pair.tag (init_ack_for e theirs (renewed_pair e word) e.tie); following = next_chunk })
-renewed law e tag theirs word core is h = (
-  is_cookie law e theirs (renewed_pair e word) e.tie h (renewed_fits e word) h.tie,
-  drawing e _ core (renewed_pair e word) _ (answered law e tag theirs (renewed_pair e word) e.tie (U32 word ∷ []) core is),
+renewed e tag theirs word core is h = (
+  is_cookie e theirs (renewed_pair e word) e.tie h (renewed_fits e word),
+  drawing_controlled e _ core (renewed_pair e word) _ (answer_draws_none (fits e (init_ack_emission e theirs (renewed_pair e word) e.tie)) e (U32 word ∷ []) (init_ack_emission e theirs (renewed_pair e word) e.tie))
+      (answered e tag theirs (renewed_pair e word) e.tie (U32 word ∷ []) core is),
 )
 
 -- A SHUTDOWN ACK fits every packet.
@@ -93,41 +89,42 @@ abbrev renewing : Endpoint → Introduction → ℕ → Choices
 renewing e theirs word =
     choices_of e (renewed_pair e word) (cookie_bytes (cookie_for theirs (renewed_pair e word) e.tie)) (fits e (init_ack_emission e theirs (renewed_pair e word) e.tie))
 
-init_controlled : CookieReadsBack → (e : Endpoint) (tag : ℕ) (theirs : Introduction) (core : Core) (word next : ℕ) → e.core ≡ core → FitsOwn core → FitsAnswer e theirs
+init_controlled : (e : Endpoint) (tag : ℕ) (theirs : Introduction) (core : Core) (word next : ℕ) → e.core ≡ core → FitsOwn core → FitsAnswer e theirs
     → ControlledAt e core tag (init theirs) (init_outcome e theirs core word next)
-init_controlled law e tag theirs closed word next is own h = (
+init_controlled e tag theirs closed word next is own h = (
   _,
   (
     choices_of e (pair_from word next) (cookie_bytes (cookie_for theirs (pair_from word next) 0)) (fits e (init_ack_emission e theirs (pair_from word next) 0)),
-    is_cookie law e theirs (pair_from word next) 0 h (drawn_fits word next) (omega arith),
+    is_cookie e theirs (pair_from word next) 0 h (drawn_fits word next),
     refl,
   ),
-  drawing e _ closed (pair_from word next) _ (answered law e tag theirs (pair_from word next) 0 (U32 word ∷ U32 next ∷ []) closed is),
+  drawing_controlled e _ closed (pair_from word next) _ (answer_draws_none (fits e (init_ack_emission e theirs (pair_from word next) 0)) e (U32 word ∷ U32 next ∷ []) (init_ack_emission e theirs (pair_from word next) 0))
+      (answered e tag theirs (pair_from word next) 0 (U32 word ∷ U32 next ∷ []) closed is),
 )
-init_controlled law e tag theirs (cookie_wait my) word next is own h = (
+init_controlled e tag theirs (cookie_wait my) word next is own h = (
   _,
-  (choices_of e my (cookie_bytes (cookie_for theirs my 0)) (fits e (init_ack_emission e theirs my 0)), is_cookie law e theirs my 0 h own (omega arith), refl),
-  answered law e tag theirs my 0 [] (cookie_wait my) is,
+  (choices_of e my (cookie_bytes (cookie_for theirs my 0)) (fits e (init_ack_emission e theirs my 0)), is_cookie e theirs my 0 h own, refl),
+  answered e tag theirs my 0 [] (cookie_wait my) is,
 )
-init_controlled law e tag theirs (cookie_echoed my held echoed) word next is own h = (
+init_controlled e tag theirs (cookie_echoed my held echoed) word next is own h = (
   _,
-  (choices_of e my (cookie_bytes (cookie_for theirs my 0)) (fits e (init_ack_emission e theirs my 0)), is_cookie law e theirs my 0 h own (omega arith), refl),
-  answered law e tag theirs my 0 [] (cookie_echoed my held echoed) is,
+  (choices_of e my (cookie_bytes (cookie_for theirs my 0)) (fits e (init_ack_emission e theirs my 0)), is_cookie e theirs my 0 h own, refl),
+  answered e tag theirs my 0 [] (cookie_echoed my held echoed) is,
 )
-init_controlled law e tag theirs (open_in established my held) word next is own h =
-    let r = renewed law e tag theirs word (open_in established my held) is h in
+init_controlled e tag theirs (open_in established my held) word next is own h =
+    let r = renewed e tag theirs word (open_in established my held) is h in
     (_, (renewing e theirs word, r.0, refl), r.1)
-init_controlled law e tag theirs (open_in shutdown_pending my held) word next is own h =
-    let r = renewed law e tag theirs word (open_in shutdown_pending my held) is h in
+init_controlled e tag theirs (open_in shutdown_pending my held) word next is own h =
+    let r = renewed e tag theirs word (open_in shutdown_pending my held) is h in
     (_, (renewing e theirs word, r.0, refl), r.1)
-init_controlled law e tag theirs (open_in shutdown_sent my held) word next is own h =
-    let r = renewed law e tag theirs word (open_in shutdown_sent my held) is h in
+init_controlled e tag theirs (open_in shutdown_sent my held) word next is own h =
+    let r = renewed e tag theirs word (open_in shutdown_sent my held) is h in
     (_, (renewing e theirs word, r.0, refl), r.1)
-init_controlled law e tag theirs (open_in shutdown_received my held) word next is own h =
-    let r = renewed law e tag theirs word (open_in shutdown_received my held) is h in
+init_controlled e tag theirs (open_in shutdown_received my held) word next is own h =
+    let r = renewed e tag theirs word (open_in shutdown_received my held) is h in
     (_, (renewing e theirs word, r.0, refl), r.1)
-init_controlled law e tag theirs (open_in shutdown_ack_sent my held) word next is own h =
-    (_, (renewing e theirs word, is_cookie law e theirs (renewed_pair e word) e.tie h (renewed_fits e word) h.tie, refl), ack_controlled e held (open_in shutdown_ack_sent my held) is h.options)
+init_controlled e tag theirs (open_in shutdown_ack_sent my held) word next is own h =
+    (_, (renewing e theirs word, is_cookie e theirs (renewed_pair e word) e.tie h (renewed_fits e word), refl), ack_controlled e held (open_in shutdown_ack_sent my held) is h.options)
 
 -- ---- every chunk
 
@@ -150,18 +147,18 @@ other_controlled : (e : Endpoint) (tag chunk_type flags : ℕ) (value : List ℕ
 other_controlled e tag chunk_type flags value o turn =
     subst (ControlledChunk e tag (other chunk_type flags value)) (sym turn) (unchanged e.core, other_change_is_none e e.core tag chunk_type flags value, still_controlled e e.core refl)
 
-pub chunks_are_controlled : CookieReadsBack → ChunksAreControlled
-chunks_are_controlled law e tag (init theirs) o turn fitting =
-    subst (ControlledChunk e tag (init theirs)) (sym turn.2) (init_controlled law e tag theirs e.core turn.0 turn.1 refl fitting.own fitting)
-chunks_are_controlled law e tag (init_ack theirs cookie) o turn fitting = init_ack_controlled e tag theirs cookie o turn
-chunks_are_controlled law e tag (cookie_echo cookie) o turn fitting = cookie_echo_controlled e tag cookie o turn
-chunks_are_controlled law e tag cookie_ack o turn fitting = cookie_ack_controlled e tag o turn
-chunks_are_controlled law e tag (re_config parameters) o turn fitting = turn
-chunks_are_controlled law e tag (abort reflected causes) o turn fitting = abort_controlled e tag reflected causes o turn
-chunks_are_controlled law e tag (shutdown cumulative_tsn) o turn fitting = turn
-chunks_are_controlled law e tag shutdown_ack o turn fitting = turn
-chunks_are_controlled law e tag (shutdown_complete reflected) o turn fitting = turn
-chunks_are_controlled law e tag (other chunk_type flags value) o turn fitting = other_controlled e tag chunk_type flags value o turn
+pub chunks_are_controlled : ChunksAreControlled
+chunks_are_controlled e tag (init theirs) o turn fitting =
+    subst (ControlledChunk e tag (init theirs)) (sym turn.2) (init_controlled e tag theirs e.core turn.0 turn.1 refl fitting.own fitting)
+chunks_are_controlled e tag (init_ack theirs cookie) o turn fitting = init_ack_controlled e tag theirs cookie o turn
+chunks_are_controlled e tag (cookie_echo cookie) o turn fitting = cookie_echo_controlled e tag cookie o turn
+chunks_are_controlled e tag cookie_ack o turn fitting = cookie_ack_controlled e tag o turn
+chunks_are_controlled e tag (re_config parameters) o turn fitting = turn
+chunks_are_controlled e tag (abort reflected causes) o turn fitting = abort_controlled e tag reflected causes o turn
+chunks_are_controlled e tag (shutdown cumulative_tsn) o turn fitting = turn
+chunks_are_controlled e tag shutdown_ack o turn fitting = turn
+chunks_are_controlled e tag (shutdown_complete reflected) o turn fitting = turn
+chunks_are_controlled e tag (other chunk_type flags value) o turn fitting = other_controlled e tag chunk_type flags value o turn
 
 -- ---- every act
 

@@ -12,7 +12,7 @@ use Rattle.dcsctp_machine.specs.Outcome.{Outcome, next_chunk, count_up, fits, em
 use Rattle.dcsctp_machine.specs.Event.{sent}
 use Rattle.dcsctp_machine.specs.declared.word.Word.TheVariants.{U32}
 use Rattle.dcsctp_machine.specs.turns.Handshake.{init_outcome, init_ack_emission, pair_from, renewed_pair, to_peer}
-use Rattle.dcsctp_machine.specs.Laws.{NegotiationIsMutual, AnswerKeepsAgreement, CookieReadsBack, InitLeavesAssociation, CountsSentOnly, AtMostOnePacket, no_packet, one_packet, InitBringsOnePacket}
+use Rattle.dcsctp_machine.specs.Laws.{NegotiationIsMutual, AnswerKeepsAgreement, FitsNames, CookieReadsBack, InitLeavesAssociation, CountsSentOnly, AtMostOnePacket, no_packet, one_packet, InitBringsOnePacket}
 
 and_comm : (a b : Bool) → a && b ≡ b && a
 and_comm true true = refl
@@ -69,24 +69,33 @@ same_cookie : (a1 b1 a2 b2 a3 b3 a4 b4 : ℕ) (a5 b5 a6 b6 a7 b7 : Bool) (a8 b8 
     → made a1 a2 a3 a4 a5 a6 a7 a8 a9 a10 a11 a12 ≡ made b1 b2 b3 b4 b5 b6 b7 b8 b9 b10 b11 b12
 same_cookie a1 b1 a2 b2 a3 b3 a4 b4 a5 b5 a6 b6 a7 b7 a8 b8 a9 b9 a10 b10 a11 b11 a12 b12 e1 e2 e3 e4 e5 e6 e7 e8 e9 e10 e11 e12 = cc
 
-pub cookie_reads_back : CookieReadsBack
+-- What is found in a cookie again, whatever its window and tie tag are. These are cut to their fields.
+abbrev pub NamesReadBack : Type 0
+NamesReadBack = (cookie : Cookie) → FitsNames cookie → cookie_at (cookie_bytes cookie) ≡ Ok (record cookie { window = u32_at 24 (cookie_bytes cookie); tie = u64_at 28 (cookie_bytes cookie) })
+
+pub names_read_back : NamesReadBack
 unfolding cookie_bytes cookie_at
-cookie_reads_back cookie fits =
+names_read_back cookie fits =
     let addressee_tag : u32_at 8 (cookie_bytes cookie) ≡ cookie.addressee.tag = from_be_bytes-to_be_bytes_4 cookie.addressee.tag fits.addressee.tag in
     let maker_tag : u32_at 12 (cookie_bytes cookie) ≡ cookie.maker.tag = from_be_bytes-to_be_bytes_4 cookie.maker.tag fits.maker.tag in
     let addressee_tsn : u32_at 16 (cookie_bytes cookie) ≡ cookie.addressee.first_tsn = from_be_bytes-to_be_bytes_4 cookie.addressee.first_tsn fits.addressee.first_tsn in
     let maker_tsn : u32_at 20 (cookie_bytes cookie) ≡ cookie.maker.first_tsn = from_be_bytes-to_be_bytes_4 cookie.maker.first_tsn fits.maker.first_tsn in
-    let window : u32_at 24 (cookie_bytes cookie) ≡ cookie.window = from_be_bytes-to_be_bytes_4 cookie.window fits.window in
-    let tie : u64_at 28 (cookie_bytes cookie) ≡ cookie.tie = from_be_bytes-to_be_bytes_8 cookie.tie fits.tie in
-    let method : u32_at 40 (cookie_bytes cookie) ≡ cookie.offer.zero_checksum_method = from_be_bytes-to_be_bytes_4 cookie.offer.zero_checksum_method fits.zero_checksum_method in
-    let outbound : u16_at 44 (cookie_bytes cookie) ≡ cookie.offer.outbound_streams = from_be_bytes-to_be_bytes_2 cookie.offer.outbound_streams fits.outbound_streams in
-    let inbound : u16_at 46 (cookie_bytes cookie) ≡ cookie.offer.inbound_streams = from_be_bytes-to_be_bytes_2 cookie.offer.inbound_streams fits.inbound_streams in
+    let method : u32_at 40 (cookie_bytes cookie) ≡ cookie.offer.zero_checksum_method = from_be_bytes-to_be_bytes_4 cookie.offer.zero_checksum_method fits.offer.zero_checksum_method in
+    let outbound : u16_at 44 (cookie_bytes cookie) ≡ cookie.offer.outbound_streams = from_be_bytes-to_be_bytes_2 cookie.offer.outbound_streams fits.offer.outbound_streams in
+    let inbound : u16_at 46 (cookie_bytes cookie) ≡ cookie.offer.inbound_streams = from_be_bytes-to_be_bytes_2 cookie.offer.inbound_streams fits.offer.inbound_streams in
     let no_zero : has_zero_tag (cookie_bytes cookie) ≡ false = zero_tests (u32_at 8 (cookie_bytes cookie)) (u32_at 12 (cookie_bytes cookie)) (omega (arith, addressee_tag, fits.addressee.tag_is_not_zero)) (omega (arith, maker_tag, fits.maker.tag_is_not_zero)) in
-    let fields : cookie_fields (cookie_bytes cookie) ≡ cookie =
+    let fields : cookie_fields (cookie_bytes cookie) ≡ record cookie { window = u32_at 24 (cookie_bytes cookie); tie = u64_at 28 (cookie_bytes cookie) } =
     same_cookie _ _ _ _ _ _ _ _ _ _ _ _ _ _ _ _ _ _ _ _ _ _ _ _ maker_tag maker_tsn addressee_tag addressee_tsn
     (flag_again cookie.offer.partial_reliability) (flag_again cookie.offer.message_interleaving) (flag_again cookie.offer.reconfig)
-    method inbound outbound window tie in
+    method inbound outbound refl refl in
     chosen (has_zero_tag (cookie_bytes cookie)) _ _ no_zero ∙ ap (λ c. Ok c) fields
+
+pub cookie_reads_back : CookieReadsBack
+unfolding cookie_bytes
+cookie_reads_back cookie fits =
+    names_read_back cookie fits.names
+    ∙ ap (λ (n : ℕ). Ok (record cookie { window = n; tie = u64_at 28 (cookie_bytes cookie) })) (from_be_bytes-to_be_bytes_4 cookie.window fits.window)
+    ∙ ap (λ (n : ℕ). Ok (record cookie { tie = n })) (from_be_bytes-to_be_bytes_8 cookie.tie fits.tie)
 
 emits_keeps_core : (e : Endpoint) (words : List Word) (emission : Emission) → (emits e words emission).after.core ≡ e.core
 emits_keeps_core e words emission = grind arith
@@ -110,10 +119,11 @@ IsSmall e o = CountsSentOnly e o.after × AtMostOnePacket o.events
 
 small_where : (b : Bool) (e : Endpoint) (words : List Word) (emission : Emission) → IsSmall e (cond b (record {
   words = words;
+  drawn = [];
   after = record e { counts = record e.counts { packets_sent = count_up e.counts.packets_sent } };
   events = sent emission ∷ [];
   following = next_chunk;
-}) (record { words = words; after = e; events = []; following = next_chunk }))
+}) (record { words = words; drawn = []; after = e; events = []; following = next_chunk }))
 small_where true e words emission = (refl, one_packet emission)
 small_where false e words emission = (refl, no_packet)
 

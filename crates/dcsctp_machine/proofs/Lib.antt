@@ -11,6 +11,7 @@ pub mod HandshakeTurnFacts
 pub mod LawLemmas
 pub mod MayBeWorkedLemmas
 pub mod ReadBackLemmas
+pub mod SocketLemmas
 pub mod StandardFacts
 pub mod TurnFacts
 pub mod TurnLemmas

@@ -1,5 +1,6 @@
 -- Lists of turns: the chunks of a packet, one list after another, and what no turn changes.
 use Rattle.std.proofs.Common.{◌≡◌, ℕ, Bool, true, false, cond, List, [], ◌∷◌, ◌++◌, refl, rules, sym, subst, ap, ◌∙◌, append_assoc, arith}
+use Rattle.dcsctp_machine.specs.declared.association.Pair.{Pair}
 use Rattle.dcsctp_machine.specs.declared.word.Word.{Word}
 use Rattle.dcsctp_machine.specs.Packet.{Introduction, Content, init, init_ack, cookie_echo, cookie_ack, re_config, abort, shutdown, shutdown_ack, shutdown_complete, other, Emission}
 use Rattle.dcsctp_machine.specs.Endpoint.{Endpoint, Core, closed, cookie_wait, cookie_echoed, open_in, established, shutdown_pending, shutdown_sent, shutdown_received, shutdown_ack_sent}
@@ -8,7 +9,7 @@ use Rattle.dcsctp_machine.specs.Outcome.{Outcome, Following, next_chunk, packet_
 use Rattle.dcsctp_machine.specs.Event.{Event, sent}
 use Rattle.dcsctp_machine.specs.Controlled.{ControlledChunk}
 use Rattle.dcsctp_machine.specs.Turn.{ContentTurn}
-use Rattle.dcsctp_machine.specs.CallTurns.{AfterChunk, ChunkTurns, after_all, words_of, events_of}
+use Rattle.dcsctp_machine.specs.CallTurns.{AfterChunk, ChunkTurns, after_all, words_of, pairs_of, events_of}
 use Rattle.dcsctp_machine.specs.turns.Handshake.{init_outcome}
 use Rattle.dcsctp_machine.proofs.ControlHandshake.{init_ack_controlled, cookie_ack_controlled, abort_controlled}
 use Rattle.dcsctp_machine.proofs.ControlEcho.{cookie_echo_controlled}
@@ -26,30 +27,32 @@ init_keeps_options e theirs (open_in shutdown_sent mine held) word next = search
 init_keeps_options e theirs (open_in shutdown_received mine held) word next = search (rules, emits_keeps_options)
 init_keeps_options e theirs (open_in shutdown_ack_sent mine held) word next = search (rules, emits_keeps_options)
 
-still_keeps_ports : (e : Endpoint) (o : Outcome) → o ≡ still e → ports_of o.after.options ≡ ports_of e.options
-still_keeps_ports e o is = ap (λ (x : Outcome). ports_of x.after.options) is
+still_keeps_options : (e : Endpoint) (o : Outcome) → o ≡ still e → o.after.options ≡ e.options
+still_keeps_options e o is = ap (λ (x : Outcome). x.after.options) is
 
-controlled_keeps_ports : (e : Endpoint) (tag : ℕ) (content : Content) (o : Outcome) → ControlledChunk e tag content o → ports_of o.after.options ≡ ports_of e.options
-controlled_keeps_ports e tag content o turn = ap ports_of turn.2.options
+controlled_keeps_options : (e : Endpoint) (tag : ℕ) (content : Content) (o : Outcome) → ControlledChunk e tag content o → o.after.options ≡ e.options
+controlled_keeps_options e tag content o turn = turn.2.options
 
-content_keeps_ports : (e : Endpoint) (tag : ℕ) (content : Content) (o : Outcome) → ContentTurn e tag content o → ports_of o.after.options ≡ ports_of e.options
-content_keeps_ports e tag (init theirs) o turn = ap (λ (x : Outcome). ports_of x.after.options) turn.2 ∙ ap ports_of (init_keeps_options e theirs e.core turn.0 turn.1)
-content_keeps_ports e tag (init_ack theirs cookie) o turn = controlled_keeps_ports e tag (init_ack theirs cookie) o (init_ack_controlled e tag theirs cookie o turn)
-content_keeps_ports e tag (cookie_echo cookie) o turn = controlled_keeps_ports e tag (cookie_echo cookie) o (cookie_echo_controlled e tag cookie o turn)
-content_keeps_ports e tag cookie_ack o turn = controlled_keeps_ports e tag cookie_ack o (cookie_ack_controlled e tag o turn)
-content_keeps_ports e tag (re_config parameters) o turn = controlled_keeps_ports e tag (re_config parameters) o turn
-content_keeps_ports e tag (abort reflected causes) o turn = controlled_keeps_ports e tag (abort reflected causes) o (abort_controlled e tag reflected causes o turn)
-content_keeps_ports e tag (shutdown cumulative_tsn) o turn = controlled_keeps_ports e tag (shutdown cumulative_tsn) o turn
-content_keeps_ports e tag shutdown_ack o turn = controlled_keeps_ports e tag shutdown_ack o turn
-content_keeps_ports e tag (shutdown_complete reflected) o turn = controlled_keeps_ports e tag (shutdown_complete reflected) o turn
-content_keeps_ports e tag (other type flags value) o turn = still_keeps_ports e o turn
+-- The options stay for good.
+pub content_keeps_options : (e : Endpoint) (tag : ℕ) (content : Content) (o : Outcome) → ContentTurn e tag content o → o.after.options ≡ e.options
+content_keeps_options e tag (init theirs) o turn = ap (λ (x : Outcome). x.after.options) turn.2 ∙ init_keeps_options e theirs e.core turn.0 turn.1
+content_keeps_options e tag (init_ack theirs cookie) o turn = controlled_keeps_options e tag (init_ack theirs cookie) o (init_ack_controlled e tag theirs cookie o turn)
+content_keeps_options e tag (cookie_echo cookie) o turn = controlled_keeps_options e tag (cookie_echo cookie) o (cookie_echo_controlled e tag cookie o turn)
+content_keeps_options e tag cookie_ack o turn = controlled_keeps_options e tag cookie_ack o (cookie_ack_controlled e tag o turn)
+content_keeps_options e tag (re_config parameters) o turn = controlled_keeps_options e tag (re_config parameters) o turn
+content_keeps_options e tag (abort reflected causes) o turn = controlled_keeps_options e tag (abort reflected causes) o (abort_controlled e tag reflected causes o turn)
+content_keeps_options e tag (shutdown cumulative_tsn) o turn = controlled_keeps_options e tag (shutdown cumulative_tsn) o turn
+content_keeps_options e tag shutdown_ack o turn = controlled_keeps_options e tag shutdown_ack o turn
+content_keeps_options e tag (shutdown_complete reflected) o turn = controlled_keeps_options e tag (shutdown_complete reflected) o turn
+content_keeps_options e tag (other type flags value) o turn = still_keeps_options e o turn
 
 goes_on_where : (b : Bool) (e : Endpoint) (words : List Word) (emission : Emission) → (cond b (let sends : Outcome = record {
   words = words;
+  drawn = [];
   after = record e { counts = record e.counts { packets_sent = count_up e.counts.packets_sent } };
   events = sent emission ∷ [];
   following = next_chunk;
-} in sends) (record { words = words; after = e; events = []; following = next_chunk })).following ≡ next_chunk
+} in sends) (record { words = words; drawn = []; after = e; events = []; following = next_chunk })).following ≡ next_chunk
 goes_on_where true e words emission = refl
 goes_on_where false e words emission = refl
 
@@ -89,7 +92,7 @@ chunk_turns_keep_ports e tag [] (o ∷ os) goes_on turns = absurd turns
 chunk_turns_keep_ports e tag (content ∷ contents) [] goes_on turns = absurd turns
 chunk_turns_keep_ports e tag (content ∷ contents) (o ∷ os) goes_on turns =
     chunk_turns_keep_ports o.after tag contents os goes_on.1 (others o.following (ChunkTurns o.after tag contents os) (os ≡ []) goes_on.0 turns.1)
-    ∙ content_keeps_ports e tag content o turns.0
+    ∙ ap ports_of (content_keeps_options e tag content o turns.0)
 
 -- the last chunk so far, whatever it says of further ones
 last_chunk : (e : Endpoint) (tag : ℕ) (following : Following) → AfterChunk following (ChunkTurns e tag [] []) (let none : List Outcome = [] in none ≡ [])
@@ -117,6 +120,10 @@ after_all-append e (x ∷ xs) ys = after_all-append x.after xs ys
 pub words_of-append : (xs ys : List Outcome) → words_of (xs ++ ys) ≡ words_of xs ++ words_of ys
 words_of-append [] ys = refl
 words_of-append (x ∷ xs) ys = ap (λ (ws : List Word). x.words ++ ws) (words_of-append xs ys) ∙ sym (append_assoc x.words (words_of xs) (words_of ys))
+
+pub pairs_of-append : (xs ys : List Outcome) → pairs_of (xs ++ ys) ≡ pairs_of xs ++ pairs_of ys
+pairs_of-append [] ys = refl
+pairs_of-append (x ∷ xs) ys = ap (λ (ps : List Pair). x.drawn ++ ps) (pairs_of-append xs ys) ∙ sym (append_assoc x.drawn (pairs_of xs) (pairs_of ys))
 
 pub events_of-append : (xs ys : List Outcome) → events_of (xs ++ ys) ≡ events_of xs ++ events_of ys
 events_of-append [] ys = refl

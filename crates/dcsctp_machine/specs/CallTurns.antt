@@ -1,5 +1,6 @@
 -- A call is a list of turns, each from where the one before it left the endpoint.
 use Rattle.std.specs.Prelude.{◌≡◌, ℕ, List, [], ◌∷◌, ◌++◌, take}
+use Rattle.dcsctp_machine.specs.declared.association.Pair.{Pair}
 use Rattle.dcsctp_machine.specs.declared.word.Word.{Word}
 use Rattle.dcsctp_machine.specs.Settings.{wire_options}
 use Rattle.dcsctp_machine.specs.Event.{Event}
@@ -26,6 +27,11 @@ after_all e (outcome ∷ outcomes) = after_all outcome.after outcomes
 abbrev pub words_of : List Outcome → List Word
 words_of [] = []
 words_of (outcome ∷ outcomes) = outcome.words ++ words_of outcomes
+
+-- the pairs that were drawn
+abbrev pub pairs_of : List Outcome → List Pair
+pairs_of [] = []
+pairs_of (outcome ∷ outcomes) = outcome.drawn ++ pairs_of outcomes
 
 abbrev pub events_of : List Outcome → List (Event Emission)
 events_of [] = []

@@ -1,5 +1,5 @@
 -- What a socket is between two turns (RFC 9260, sections 4 and 5).
-use Rattle.std.specs.Prelude.{ℕ, ◌+◌, min, Bool, Option, None, Some, List, []}
+use Rattle.std.specs.Prelude.{ℕ, ◌+◌, min, Bool, Option, None, Some, List}
 use Rattle.std.specs.Duration.{max_nanos}
 use Rattle.dcsctp_machine.specs.Transfer.{Below, nothing_below}
 use Rattle.dcsctp_machine.specs.declared.association.Pair.{Pair}

@@ -6,6 +6,9 @@ use Rattle.dcsctp_machine.specs.declared.kinds.ErrorKind.TheVariants.{ParseFaile
 use Rattle.dcsctp_machine.specs.declared.options.Options.{Options}
 use Rattle.dcsctp_machine.specs.Settings.{IsValid, wire_options}
 use Rattle.dcsctp_machine.specs.Admission.{all_chunks, shutdown_acks_alone, refused, admits, shutdown_acks_in}
+use Rattle.dcsctp_machine.specs.declared.schedule.Side.{Side}
+use Rattle.dcsctp_machine.specs.declared.schedule.Step.{Step}
+use Rattle.dcsctp_machine.specs.Sockets.{Both, of_side, StepTurns, Worked, SocketRun, turns_after, endpoint_after}
 use Rattle.dcsctp_machine.specs.CallTurns.{ChunkTurns, AdmittedTurns, HandleInput, after_all, words_of, events_of}
 use Rattle.dcsctp_machine.specs.Event.{Event, sent, error}
 use Rattle.dcsctp_machine.specs.Turn.{unreadable_text, refusal_outcome, ContentTurn, ActTurn}
@@ -46,14 +49,21 @@ pub record FitsPair (pair : Pair) : Type 0 where
   pub tag : pair.tag < 2 ^ 32
   pub first_tsn : pair.first_tsn < 2 ^ 32
 
-pub record FitsCookie (cookie : Cookie) : Type 0 where
+pub record FitsOffer (offer : Offer) : Type 0 where
+  pub zero_checksum_method : offer.zero_checksum_method < 2 ^ 32
+  pub inbound_streams : offer.inbound_streams < 2 ^ 16
+  pub outbound_streams : offer.outbound_streams < 2 ^ 16
+
+-- the pairs and the offer of a cookie fit their fields
+pub record FitsNames (cookie : Cookie) : Type 0 where
   pub maker : FitsPair cookie.maker
   pub addressee : FitsPair cookie.addressee
+  pub offer : FitsOffer cookie.offer
+
+pub record FitsCookie (cookie : Cookie) : Type 0 where
+  pub names : FitsNames cookie
   pub window : cookie.window < 2 ^ 32
   pub tie : cookie.tie < 2 ^ 64
-  pub zero_checksum_method : cookie.offer.zero_checksum_method < 2 ^ 32
-  pub inbound_streams : cookie.offer.inbound_streams < 2 ^ 16
-  pub outbound_streams : cookie.offer.outbound_streams < 2 ^ 16
 
 abbrev pub CookieReadsBack : Type 0
 CookieReadsBack = (cookie : Cookie) → FitsCookie cookie → cookie_at (cookie_bytes cookie) ≡ Ok cookie
@@ -119,17 +129,13 @@ FitsOwn (cookie_wait my) = FitsPair my
 FitsOwn (cookie_echoed my held cookie) = FitsPair my
 FitsOwn (open_in phase my held) = Unit {0}
 
--- the numbers of an INIT and of the cookie that answers it fit their fields, as those of a chunk that was read
--- and of a socket's memory do
+-- the pairs and the offer of an INIT and of the cookie that answers it fit their fields, as those of a chunk that
+-- was read and of a socket's memory do
 pub record FitsAnswer (e : Endpoint) (theirs : Introduction) : Type 0 where
   pub options : IsValid e.options
   pub own : FitsOwn e.core
   pub pair : FitsPair theirs.pair
-  pub window : theirs.window < 2 ^ 32
-  pub tie : e.tie < 2 ^ 64
-  pub zero_checksum_method : theirs.offer.zero_checksum_method < 2 ^ 32
-  pub inbound_streams : theirs.offer.inbound_streams < 2 ^ 16
-  pub outbound_streams : theirs.offer.outbound_streams < 2 ^ 16
+  pub offer : FitsOffer theirs.offer
 
 abbrev pub FitsContent : Endpoint → Content → Type 0
 FitsContent e (init theirs) = FitsAnswer e theirs
@@ -171,3 +177,11 @@ abbrev pub DeliveriesAreControlled : Type 0
 DeliveriesAreControlled =
     (e : Endpoint) (packet : Packet) (outcomes : List Outcome) → AdmittedTurns e packet (admits e.core packet) outcomes → FitsTurns e packet.contents outcomes
     → Delivered e packet outcomes
+
+-- ---- two sockets
+
+-- The options of a socket stay for good, whatever the user calls and whatever is delivered.
+pub record SocketsKeepOptions : Type 0 where
+  pub step : (e : Endpoint) (packets : List (List ℕ)) (step : Step) (outcomes : List Outcome) → StepTurns e packets step outcomes → (after_all e outcomes).options ≡ e.options
+  pub run : (options : Both Options) (steps : List Worked) → SocketRun options steps
+      → (side : Side) → (endpoint_after (of_side side options) (of_side side (turns_after steps))).options ≡ of_side side options

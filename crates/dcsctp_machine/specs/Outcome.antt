@@ -1,6 +1,8 @@
--- What one turn leaves: the words that it drew, the endpoint after it, and its events in order.
+-- What one turn leaves: the words that it drew and the pairs that it made of them, the endpoint after it, and
+-- its events in order.
 use Rattle.std.specs.Prelude.{ℕ, Bool, ◌+◌, ◌-◌, ◌^◌, min, List, [], ◌∷◌, ◌++◌, length, nat_le, if◌then◌else◌}
 use Rattle.std.specs.List.{flat_map}
+use Rattle.dcsctp_machine.specs.declared.association.Pair.{Pair}
 use Rattle.dcsctp_machine.specs.declared.word.Word.{Word}
 use Rattle.dcsctp_machine.specs.declared.kinds.ErrorKind.{ErrorKind}
 use Rattle.dcsctp_machine.specs.Settings.{packet_size_limit}
@@ -20,13 +22,15 @@ pub data Following : Type 0 where
 
 pub record Outcome : Type 0 where
   pub words : List Word
+  -- the pairs that were made of the words, in order: a verification tag is drawn with each
+  pub drawn : List Pair
   pub after : Endpoint
   pub events : List (Event Emission)
   pub following : Following
 
 -- nothing happens
 abbrev pub still : Endpoint → Outcome
-still e = record { words = []; after = e; events = []; following = next_chunk }
+still e = record { words = []; drawn = []; after = e; events = []; following = next_chunk }
 
 -- one more, up to the greatest number of 64 bits
 abbrev pub count_up : ℕ → ℕ
@@ -34,7 +38,7 @@ count_up count = min (count + 1) (2 ^ 64 - 1)
 
 -- one OnError, and no change
 abbrev pub reports : Endpoint → ErrorKind → List ℕ → Outcome
-reports e kind text = record { words = []; after = e; events = error kind text ∷ []; following = next_chunk }
+reports e kind text = record { words = []; drawn = []; after = e; events = error kind text ∷ []; following = next_chunk }
 
 -- how long the chunks of a packet are
 abbrev pub contents_len : List Content → ℕ
@@ -50,13 +54,17 @@ counted e = record e { counts = record e.counts { packets_sent = count_up e.coun
 
 -- these words and events, and no packet behind them
 abbrev pub quiet : Endpoint → List Word → List (Event Emission) → Outcome
-quiet e words events = record { words = words; after = e; events = events; following = next_chunk }
+quiet e words events = record { words = words; drawn = []; after = e; events = events; following = next_chunk }
 
 -- these words and events, and then a packet
 abbrev pub sends : Endpoint → List Word → List (Event Emission) → Emission → Outcome
-sends e words events emission = record { words = words; after = counted e; events = events ++ sent emission ∷ []; following = next_chunk }
+sends e words events emission = record { words = words; drawn = []; after = counted e; events = events ++ sent emission ∷ []; following = next_chunk }
 
 -- The words that were drawn, and then a packet, where it fits: one that doesn't is neither emitted nor
 -- counted.
 abbrev pub emits : Endpoint → List Word → Emission → Outcome
 emits e words emission = if fits e emission then sends e words [] emission else quiet e words []
+
+-- what comes of a turn that draws this pair
+abbrev pub drawing : Pair → Outcome → Outcome
+drawing pair o = record o { drawn = pair ∷ [] }

@@ -6,8 +6,8 @@ use Rattle.dcsctp_machine.specs.declared.association.Pair.{Pair}
 use Rattle.dcsctp_machine.specs.Settings.{Ports}
 use Rattle.dcsctp_machine.specs.Offer.{Offer, offer_parameters, offer_announced}
 use Rattle.dcsctp_wire.specs.Content.{ParameterContent, state_cookie, supported_extensions, zero_checksum_acceptable, forward_tsn_supported, unknown_parameter, InitContent, ChunkContent, init_chunk, init_ack_chunk, abort_chunk, cookie_echo_chunk, cookie_ack_chunk, other_chunk, PacketContent}
-use Rattle.dcsctp_wire.specs.Numbers.{abort_type, shutdown_type, shutdown_ack_type, cookie_echo_type, cookie_ack_type, shutdown_complete_type, re_config_type}
-use Rattle.dcsctp_wire.specs.Spelling.{parameter_bytes, parameters_len, as_parameter, t_bit, packet_bytes}
+use Rattle.dcsctp_wire.specs.Numbers.{shutdown_type, shutdown_ack_type, shutdown_complete_type, re_config_type}
+use Rattle.dcsctp_wire.specs.Spelling.{parameter_bytes, parameters_len, t_bit, packet_bytes}
 use Rattle.dcsctp_machine.specs.Cause.{Cause}
 use Rattle.dcsctp_machine.specs.Reconfiguration.{ResetParameter, reset_parameter_content}
 

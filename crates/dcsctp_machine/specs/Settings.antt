@@ -14,6 +14,14 @@ pub record IsValid (options : Options) : Type 0 where
   pub receive_window : options.max_receiver_window_buffer_size < 2 ^ 32
   pub send_buffer : options.max_send_buffer_size < 2 ^ 32
 
+-- The numbers that stand in packets fit their fields, as those of options in memory do.
+pub record FitsOptions (options : Options) : Type 0 where
+  pub local_port : options.local_port < 2 ^ 16
+  pub remote_port : options.remote_port < 2 ^ 16
+  pub inbound_streams : options.announced_maximum_incoming_streams < 2 ^ 16
+  pub outbound_streams : options.announced_maximum_outgoing_streams < 2 ^ 16
+  pub zero_checksum_method : options.zero_checksum_alternate_error_detection_method.0 < 2 ^ 32
+
 -- the ports of packets out
 pub record Ports : Type 0 where
   pub local : ℕ

@@ -1,8 +1,8 @@
 -- One step of an endpoint: an input, and what comes of it.
 use Rattle.std.specs.Prelude.{◌≡◌, ℕ, List, codes}
 use Rattle.dcsctp_machine.specs.declared.kinds.ErrorKind.TheVariants.{ParseFailed}
-use Rattle.dcsctp_machine.specs.Packet.{Introduction, Content, init, init_ack, cookie_echo, cookie_ack, re_config, abort, shutdown, shutdown_ack, shutdown_complete, other}
-use Rattle.dcsctp_machine.specs.Endpoint.{Endpoint, Core, closed, cookie_wait, cookie_echoed, open_in}
+use Rattle.dcsctp_machine.specs.Packet.{Content, init, init_ack, cookie_echo, cookie_ack, re_config, abort, shutdown, shutdown_ack, shutdown_complete, other}
+use Rattle.dcsctp_machine.specs.Endpoint.{Endpoint}
 use Rattle.dcsctp_machine.specs.Outcome.{Outcome, still, count_up, reports}
 use Rattle.dcsctp_machine.specs.turns.Handshake.{InitTurn, ConnectTurn, InitAckTurn, cookie_ack_outcome}
 use Rattle.dcsctp_machine.specs.turns.CookieEcho.{CookieEchoTurn}

@@ -1,7 +1,10 @@
 //! Laws of the definitions, each the contract of a function without a body.
 
-ghost use Rattle.dcsctp_machine.specs.Laws.{NegotiationIsMutual, AnswerKeepsAgreement, CookieReadsBack, InitLeavesAssociation, InitBringsOnePacket, OfferReadsBack, CapabilitiesHoldOffer, RefusedPacketAddsOneError, AdmittedPacketsMayBeWorked, ChunksAreControlled, ActsAreControlled, PacketsAreControlled, DeliveriesAreControlled};
+ghost use Rattle.std.specs.Prelude.{◌<◌, ◌^◌};
+ghost use Rattle.dcsctp_machine.specs.Settings.{FitsOptions};
+ghost use Rattle.dcsctp_machine.specs.Laws.{NegotiationIsMutual, AnswerKeepsAgreement, CookieReadsBack, InitLeavesAssociation, InitBringsOnePacket, OfferReadsBack, CapabilitiesHoldOffer, RefusedPacketAddsOneError, AdmittedPacketsMayBeWorked, ChunksAreControlled, ActsAreControlled, PacketsAreControlled, DeliveriesAreControlled, SocketsKeepOptions};
 
+use crate::options::Options;
 use dcsctp_wire::one_reading;
 
 /// Negotiation is mutual (RFC 9260, section 5.1): what two ends make of their offers has equal features,
@@ -39,6 +42,27 @@ pub fn offer_reads_back()
     ensures held { CapabilitiesHoldOffer }
 {}
 
+// A number of two bytes is one.
+fn fits_two_bytes(number: u16)
+    ensures { number < 2 ^ 16 }
+{}
+
+// A number of four bytes is one.
+fn fits_four_bytes(number: u32)
+    ensures { number < 2 ^ 32 }
+{}
+
+/// The numbers of options fit their types.
+pub fn options_fit(options: &Options)
+    ensures { FitsOptions options.now }
+{
+    fits_two_bytes(options.local_port);
+    fits_two_bytes(options.remote_port);
+    fits_two_bytes(options.announced_maximum_incoming_streams);
+    fits_two_bytes(options.announced_maximum_outgoing_streams);
+    fits_four_bytes(options.zero_checksum_alternate_error_detection_method.0);
+}
+
 /// A packet that can't be read, or that admission refuses, is counted, adds one error, and changes
 /// nothing else (RFC 9260, section 8.5).
 pub fn refused_packet_adds_one_error()
@@ -57,9 +81,7 @@ pub fn admitted_packets_may_be_worked()
 /// associations holds of every run of endpoints.
 pub fn chunks_are_controlled()
     ensures { ChunksAreControlled }
-{
-    cookie_reads_back();
-}
+{}
 
 /// Each turn that the user or a timer brings is a turn of the association (RFC 9260, sections 5.1 and 9).
 pub fn acts_are_controlled()
@@ -81,3 +103,8 @@ pub fn deliveries_are_controlled()
     packets_are_controlled();
     admitted_packets_may_be_worked();
 }
+
+/// The options of two sockets stay for good.
+pub fn sockets_keep_options()
+    ensures { SocketsKeepOptions }
+{}

@@ -7,6 +7,7 @@ mod capabilities;
 mod kinds;
 mod laws;
 mod options;
+mod schedule;
 mod time;
 mod word;
 
@@ -20,9 +21,10 @@ pub use kinds::{
 pub use laws::{
     acts_are_controlled, admitted_packets_may_be_worked, answer_keeps_agreement,
     chunks_are_controlled, cookie_reads_back, deliveries_are_controlled, init_brings_one_packet,
-    init_leaves_association, negotiation_is_mutual, offer_reads_back, packets_are_controlled,
-    refused_packet_adds_one_error,
+    init_leaves_association, negotiation_is_mutual, offer_reads_back, options_fit,
+    packets_are_controlled, refused_packet_adds_one_error, sockets_keep_options,
 };
 pub use options::Options;
+pub use schedule::{Call, Side, Step};
 pub use time::SocketTime;
 pub use word::Word;

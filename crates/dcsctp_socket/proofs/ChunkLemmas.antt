@@ -1,20 +1,14 @@
 -- Turns of chunks: one without a handler, and one that was cut before it added an event.
-use Rattle.std.proofs.Common.{◌≡◌, ℕ, Bool, false, List, map, refl, sym, ap, subst, ◌∙◌, Result, Ok, Err, OnErr}
+use Rattle.std.proofs.Common.{◌≡◌, ℕ, Bool, List, map, refl, sym, ap, ◌∙◌, Result, Ok, Err, OnErr}
 use Rattle.std.proofs.lemmas.List.{append-nil}
 use Rattle.rand_core.specs.Stream.{Stream}
 use Rattle.dcsctp_machine.specs.Cause.{Cause}
 use Rattle.dcsctp_machine.specs.Event.{Event}
 use Rattle.dcsctp_machine.specs.Packet.{Introduction, Content, init, abort, other}
-use Rattle.dcsctp_machine.specs.Endpoint.{Endpoint, Core, closed, cookie_wait, cookie_echoed, open_in, established, shutdown_pending, shutdown_sent, shutdown_received, shutdown_ack_sent}
 use Rattle.dcsctp_machine.specs.Outcome.{Outcome, still}
-use Rattle.dcsctp_machine.specs.control.Effect.{unchanged}
-use Rattle.dcsctp_machine.specs.control.Choices.{Choices}
-use Rattle.dcsctp_machine.specs.control.Acts.{ChunkChange}
-use Rattle.dcsctp_machine.specs.Controlled.{ControlledChunk}
 use Rattle.dcsctp_machine.specs.Turn.{ContentTurn}
 use Rattle.dcsctp_machine.specs.turns.Handshake.{init_outcome}
 use Rattle.dcsctp_machine.specs.turns.Ends.{abort_outcome}
-use Rattle.dcsctp_machine.proofs.ControlHandshake.{no_choices, filling_where, still_controlled}
 use Rattle.dcsctp_api.specs.declared.events.SocketEvent.{SocketEvent}
 use Rattle.dcsctp_api.specs.Events.{event_content}
 use Rattle.dcsctp_core.specs.declared.following.Following.TheVariants.{NextChunk}

@@ -11,9 +11,9 @@ pub record SocketView (R : Type 0) : Type 0 where
 
 -- without the generator
 abbrev pub user_view_of : {R : Type 0} → SocketView R → UserView
-user_view_of socket = record { endpoint = socket.view.endpoint; events = socket.view.events; words = socket.view.words; failed = socket.failed }
+user_view_of socket = record { endpoint = socket.view.endpoint; events = socket.view.events; words = socket.view.words; pairs = socket.view.pairs; failed = socket.failed }
 
 -- a socket that was just made
 abbrev pub fresh_socket : {R : Type 0} → Options → R → SocketView R
 fresh_socket options generator =
-    record { view = record { endpoint = fresh_endpoint options; events = []; words = []; generator = generator }; failed = false }
+    record { view = record { endpoint = fresh_endpoint options; events = []; words = []; pairs = []; generator = generator }; failed = false }

@@ -2,7 +2,7 @@
 
 use crate::calls;
 use dcsctp_api::{
-    Association, DcSctpSocket, Events, Options, SocketEvent, SocketFault, SocketState,
+    Association, DcSctpSocket, Events, Options, Pair, SocketEvent, SocketFault, SocketState,
 };
 use dcsctp_core::{Context, State};
 use rand_core::Rng;
@@ -71,6 +71,14 @@ impl<R: Rng + Drop> Socket<R> {
         ensures { result ≡ own_tag self.now.view.endpoint.core }
     {
         self.state.verification_tag()
+    }
+
+    /// The pairs of a tag and a first TSN that the last call of this socket drew, in order: own ones,
+    /// and those of answers to an INIT (RFC 9260, section 5.1). It takes no memory.
+    pub fn drawn_pairs(&self) -> &[Pair]
+        ensures { result.now ≡ self.now.view.pairs }
+    {
+        &self.context.pairs
     }
 
     /// Was a growth refused in an earlier call? It takes no memory.

@@ -1,11 +1,8 @@
 -- The turn of a COOKIE ECHO (RFC 9260, sections 5.1 and 5.2.4). Which case it is stands in control/CookieEcho.
 use Rattle.std.specs.Prelude.{◌≡◌, ◌==◌, ℕ, min, Bool, None, Some, List, [], ◌∷◌, codes, Result, Ok, Err}
-use Rattle.dcsctp_machine.specs.declared.association.Pair.{Pair}
 use Rattle.dcsctp_machine.specs.declared.association.Held.{Held}
 use Rattle.dcsctp_machine.specs.declared.options.Options.{Options}
-use Rattle.dcsctp_machine.specs.declared.word.Word.{Word}
 use Rattle.dcsctp_machine.specs.declared.word.Word.TheVariants.{U64}
-use Rattle.dcsctp_machine.specs.declared.kinds.ErrorKind.{ErrorKind}
 use Rattle.dcsctp_machine.specs.declared.kinds.ErrorKind.TheVariants.{ParseFailed, WrongSequence}
 use Rattle.dcsctp_machine.specs.Cookie.{Cookie, cookie_at}
 use Rattle.dcsctp_machine.specs.Event.{Event, sent, connected, connection_restarted, error}
@@ -27,11 +24,11 @@ shutting_down_text = codes "Received COOKIE-ECHO while shutting down"
 
 -- Nothing happens, and the rest of the packet is dropped.
 abbrev pub discards : Endpoint → Outcome
-discards e = record { words = []; after = e; events = []; following = dropped_rest }
+discards e = record { words = []; drawn = []; after = e; events = []; following = dropped_rest }
 
 -- one OnError, no change, and the rest of the packet is dropped
 abbrev pub refuses_echo : Endpoint → List ℕ → Outcome
-refuses_echo e text = record { words = []; after = e; events = error ParseFailed text ∷ []; following = dropped_rest }
+refuses_echo e text = record { words = []; drawn = []; after = e; events = error ParseFailed text ∷ []; following = dropped_rest }
 
 -- SHUTDOWN ACK again, and ERROR with the cause Cookie Received While Shutting Down (RFC 9260, section 5.2.4, A)
 abbrev pub shutting_down_emission : Held → Emission
@@ -43,7 +40,7 @@ shutting_down_emission held =
 
 abbrev pub refuses_restart : Endpoint → Held → Outcome
 refuses_restart e held =
-    record { words = []; after = counted e; events = sent (shutting_down_emission held) ∷ error WrongSequence shutting_down_text ∷ []; following = dropped_rest }
+    record { words = []; drawn = []; after = counted e; events = sent (shutting_down_emission held) ∷ error WrongSequence shutting_down_text ∷ []; following = dropped_rest }
 
 -- ---- one that makes an association
 

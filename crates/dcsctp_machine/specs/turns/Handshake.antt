@@ -17,7 +17,7 @@ use Rattle.dcsctp_machine.specs.Event.{aborted, connected}
 use Rattle.dcsctp_machine.specs.Packet.{Introduction, Content, init, init_ack, cookie_echo, abort, shutdown_ack, Emission}
 use Rattle.dcsctp_machine.specs.Transfer.{SendQueueState, queue_after_reset, new_transfer, next_tsn_of}
 use Rattle.dcsctp_machine.specs.Endpoint.{Endpoint, Core, closed, cookie_wait, cookie_echoed, open_in, OpenPhase, established, shutdown_pending, shutdown_sent, shutdown_received, shutdown_ack_sent, Timers, started}
-use Rattle.dcsctp_machine.specs.Outcome.{Outcome, still, quiet, fits, emits}
+use Rattle.dcsctp_machine.specs.Outcome.{Outcome, still, quiet, fits, emits, drawing}
 use Rattle.dcsctp_machine.specs.control.Handshake.{introduction_of, held_by_init_ack}
 use Rattle.dcsctp_machine.specs.turns.Flush.{flushes}
 use Rattle.dcsctp_machine.specs.turns.Ends.{ends_with}
@@ -76,12 +76,16 @@ tsn_gap = 1000000
 abbrev pub renewed_pair : Endpoint → ℕ → Pair
 renewed_pair e word = record { tag = tag_from word; first_tsn = (next_tsn_of e.below.transfer + tsn_gap) % 2 ^ 32 }
 
+-- An INIT is answered with a pair that is drawn for it.
+abbrev pub renews : Endpoint → Introduction → ℕ → Outcome
+renews e theirs word = drawing (renewed_pair e word) (answers_init e theirs (U32 word ∷ []) (renewed_pair e word) e.tie)
+
 -- where an association is open
 abbrev pub init_where_open : Endpoint → Introduction → OpenPhase → Held → ℕ → Outcome
-init_where_open e theirs established held word = answers_init e theirs (U32 word ∷ []) (renewed_pair e word) e.tie
-init_where_open e theirs shutdown_pending held word = answers_init e theirs (U32 word ∷ []) (renewed_pair e word) e.tie
-init_where_open e theirs shutdown_sent held word = answers_init e theirs (U32 word ∷ []) (renewed_pair e word) e.tie
-init_where_open e theirs shutdown_received held word = answers_init e theirs (U32 word ∷ []) (renewed_pair e word) e.tie
+init_where_open e theirs established held word = renews e theirs word
+init_where_open e theirs shutdown_pending held word = renews e theirs word
+init_where_open e theirs shutdown_sent held word = renews e theirs word
+init_where_open e theirs shutdown_received held word = renews e theirs word
 init_where_open e theirs shutdown_ack_sent held word = emits e [] (to_peer held shutdown_ack)
 
 -- An INIT is answered with the own pair while a handshake is under way, else with a drawn tag: a closed socket draws
@@ -89,7 +93,7 @@ init_where_open e theirs shutdown_ack_sent held word = emits e [] (to_peer held 
 -- every phase. The words are those that come next, drawn or not.
 abbrev pub init_outcome : Endpoint → Introduction → Core → ℕ → ℕ → Outcome
 init_outcome e theirs closed word next =
-    answers_init e theirs (U32 word ∷ U32 next ∷ []) (pair_from word next) 0
+    drawing (pair_from word next) (answers_init e theirs (U32 word ∷ U32 next ∷ []) (pair_from word next) 0)
 init_outcome e theirs (cookie_wait mine) word next = answers_init e theirs [] mine 0
 init_outcome e theirs (cookie_echoed mine held cookie) word next = answers_init e theirs [] mine 0
 init_outcome e theirs (open_in phase mine held) word next = init_where_open e theirs phase held word
@@ -112,7 +116,7 @@ awaits_init_ack e mine =
 -- A closed socket draws a pair and begins an association. The words are those that come next, drawn or not.
 abbrev pub connect_outcome : Endpoint → Core → ℕ → ℕ → Outcome
 connect_outcome e closed word next =
-    emits (awaits_init_ack e (pair_from word next)) (U32 word ∷ U32 next ∷ []) (init_emission e (pair_from word next))
+    drawing (pair_from word next) (emits (awaits_init_ack e (pair_from word next)) (U32 word ∷ U32 next ∷ []) (init_emission e (pair_from word next)))
 connect_outcome e (cookie_wait my) word next = still e
 connect_outcome e (cookie_echoed my held cookie) word next = still e
 connect_outcome e (open_in phase my held) word next = still e

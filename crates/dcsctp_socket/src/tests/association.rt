@@ -4,7 +4,7 @@ use super::{
     INIT, INIT_ACK, TwoWords, next_packet, only_packet, only_parse_error, socket_that_draws,
     socket_with,
 };
-use crate::{DcSctpSocket, ErrorKind, Options, Socket, SocketEvent, SocketState};
+use crate::{DcSctpSocket, ErrorKind, Options, Pair, Socket, SocketEvent, SocketState};
 use std::alloc::Global;
 use std::test::Fail;
 
@@ -195,5 +195,72 @@ fn an_init_ack_without_a_cookie_ends_the_association(rt: HostRuntime) -> Result<
     assert_eq!(rt; kind, ErrorKind::ProtocolViolation);
     assert_eq!(rt; text.as_str(), "InitAck chunk doesn't contain a cookie");
     assert_eq!(rt; socket.state(), SocketState::Closed);
+    Ok(())
+}
+
+// The pair that the last call drew, where it drew one and no other.
+fn only_pair(socket: &Socket<TwoWords>) -> Option<Pair> {
+    match socket.drawn_pairs() {
+        [pair] => Some(*pair),
+        _ => None,
+    }
+}
+
+// The pair that a closed socket draws for an INIT from these words.
+fn pair_for_init(alloc: Global, first: u64, second: u64) -> Result<Option<Pair>, Fail> {
+    let mut socket = socket_that_draws(alloc, &Options::default(), first, second)?;
+    socket.handle_input(&INIT)?;
+    Ok(only_pair(&socket))
+}
+
+// The pair that a closed socket draws from these words as it connects.
+fn pair_by_connect(alloc: Global, first: u64, second: u64) -> Result<Option<Pair>, Fail> {
+    let mut socket = socket_that_draws(alloc, &Options::default(), first, second)?;
+    socket.connect()?;
+    Ok(only_pair(&socket))
+}
+
+#[test]
+fn a_pair_is_made_of_two_words(rt: HostRuntime) -> Result<(), Fail> {
+    // The first TSN is the first word modulo 2^32 - 1, and the tag is 1 and the second modulo 2^32 - 2.
+    let rows = [
+        ("small words", 200, 8, 200, 9),
+        (
+            "the greatest pair",
+            0xffff_fffe,
+            0xffff_fffd,
+            0xffff_fffe,
+            0xffff_fffe,
+        ),
+        ("the moduli", 0xffff_ffff, 0xffff_fffe, 0, 1),
+        ("the greatest words", 0xffff_ffff, 0xffff_ffff, 0, 2),
+    ];
+    for (name, first, second, first_tsn, tag) in rows {
+        let pair = Some(Pair { tag, first_tsn });
+        assert_eq!(rt; pair_for_init(rt.alloc(), first, second)?, pair, "{name}");
+        assert_eq!(rt; pair_by_connect(rt.alloc(), first, second)?, pair, "{name}");
+    }
+    Ok(())
+}
+
+#[test]
+fn an_init_to_a_connecting_socket_draws_no_pair(rt: HostRuntime) -> Result<(), Fail> {
+    let mut socket = connecting(rt.alloc())?;
+    socket.handle_input(&INIT)?;
+    assert!(rt; socket.drawn_pairs().is_empty());
+    Ok(())
+}
+
+#[test]
+fn an_init_to_an_open_association_draws_a_pair(rt: HostRuntime) -> Result<(), Fail> {
+    let mut socket = connected(rt.alloc())?;
+    assert!(rt; socket.drawn_pairs().is_empty());
+    socket.handle_input(&INIT)?;
+    // The word is 0, and the next TSN is 100.
+    let pair = Pair {
+        tag: 1,
+        first_tsn: 1_000_100,
+    };
+    assert_eq!(rt; only_pair(&socket), Some(pair));
     Ok(())
 }

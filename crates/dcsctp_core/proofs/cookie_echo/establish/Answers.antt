@@ -36,5 +36,6 @@ returns-clause-turn g c =
     c.new-tcb.ensures.my c.new-tcb.ensures.held c.new-tcb.ensures.tie c.new-tcb.ensures.transfer)
     (added_one c.args.events.now events OnConnected c.in_ok-add.ensures.ok)
     (draws_word g.R.Rng.stream c.args.state.now (Established tcb) old drawn mid c.args.events.now events c.in_ok-tie_tag.tie_tag
-    c.in_ok-tie_tag.ensures.word c.in_ok-tie_tag.ensures.kept c.in_ok-tie_tag.ensures.left c.start_heartbeat_interval.ensures.words c.start_heartbeat_interval.ensures.generator)
+    c.in_ok-tie_tag.ensures.word c.in_ok-tie_tag.ensures.kept c.in_ok-tie_tag.ensures.left c.draw_u64.ensures.pairs
+    c.start_heartbeat_interval.ensures.words c.start_heartbeat_interval.ensures.pairs c.start_heartbeat_interval.ensures.generator)
     c.in_ok-send_cookie_ack.ensures.turn

@@ -13,8 +13,8 @@ returns-in_err-send_cookie_ack-in-CookieEchoed-clause-err g c =
 pub returns-in_ok-send_cookie_ack-in-CookieEchoed-clause-turn :
     goal.returns-in_ok-send_cookie_ack-in-CookieEchoed-clause-turn
 returns-in_ok-send_cookie_ack-in-CookieEchoed-clause-turn g c = λ cookie holds.
-    let echoed = c.in-CookieEchoed-replace.echoed in
-    connected_turn g.R.Rng.stream c.args.state.now echoed c.args.context.now c.start_heartbeat_interval.new.self c.send_cookie_ack.new.context
+    let echoed = c.in-CookieEchoed.field-0 in
+    connected_turn g.R.Rng.stream c.args.state.now c.establish.new.self echoed c.args.context.now c.start_heartbeat_interval.new.self c.send_cookie_ack.new.context
     c.args.events.now c.add.new.self c.send_cookie_ack.new.events cookie
-    c.in-CookieEchoed-replace.ensures.value (c.start_heartbeat_interval.ensures.endpoint (Established echoed.tcb))
-    c.start_heartbeat_interval.ensures.words c.start_heartbeat_interval.ensures.generator c.in_ok-add-in-CookieEchoed.ensures.ok c.in_ok-send_cookie_ack-in-CookieEchoed.ensures.turn holds
+    c.in-CookieEchoed.is c.establish.ensures (c.start_heartbeat_interval.ensures.endpoint (Established echoed.tcb))
+    c.start_heartbeat_interval.ensures.words c.start_heartbeat_interval.ensures.pairs c.start_heartbeat_interval.ensures.generator c.in_ok-add-in-CookieEchoed.ensures.ok c.in_ok-send_cookie_ack-in-CookieEchoed.ensures.turn holds

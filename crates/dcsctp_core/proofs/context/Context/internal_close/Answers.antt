@@ -25,5 +25,6 @@ returns-clause-turn g c =
           ∙ map-append event_content c.args.events.now (c.end_event.result ∷ [])
           ∙ ap (λ (event : Event (List ℕ)). map event_content c.args.events.now ++ event ∷ []) (c.end_event.ensures (ports_of c.args.self.now.options));
       words = sym (append-nil c.args.self.now.words.items);
+      pairs = sym (append-nil c.args.self.now.pairs.items);
       drawn = refl;
     })

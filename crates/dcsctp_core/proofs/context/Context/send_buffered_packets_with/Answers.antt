@@ -27,4 +27,4 @@ returns-clause-turn g c = λ state with_checksum tag contents is.
     (c.count_emitted.ensures.endpoint state)
     (ap (λ (es : List SocketEvent). map event_content es) c.in_ok-add.ensures.ok ∙ map-append event_content c.args.events.now (SendPacket c.build.result ∷ []))
     (built_bytes c.args.self.now.options c.args.builder with_checksum tag contents c.build.result.items is c.build.ensures.bytes)
-    (cc c.count_emitted.ensures.words) c.count_emitted.ensures.generator)
+    (cc c.count_emitted.ensures.words) (cc c.count_emitted.ensures.pairs) c.count_emitted.ensures.generator)

@@ -1,0 +1,117 @@
+-- Two sockets and every schedule: what comes of each call and of each delivery, and what a side shows.
+use Rattle.std.specs.Prelude.{◌≡◌, ℕ, zero, suc, Option, None, Some, List, [], ◌∷◌, ◌++◌, map}
+use Rattle.std.specs.List.{slice_get}
+use Rattle.dcsctp_machine.specs.declared.association.Association.{Association}
+use Rattle.dcsctp_machine.specs.declared.options.Options.{Options}
+use Rattle.dcsctp_machine.specs.declared.schedule.Side.{Side}
+use Rattle.dcsctp_machine.specs.declared.schedule.Side.TheVariants as sides
+use Rattle.dcsctp_machine.specs.declared.schedule.Call.{Call}
+use Rattle.dcsctp_machine.specs.declared.schedule.Call.TheVariants as calls
+use Rattle.dcsctp_machine.specs.declared.schedule.Step.{Step}
+use Rattle.dcsctp_machine.specs.declared.schedule.Step.TheVariants as steps
+use Rattle.dcsctp_machine.specs.Settings.{ports_of}
+use Rattle.dcsctp_machine.specs.Event.{Event, event_map, sent}
+use Rattle.dcsctp_machine.specs.Packet.{emission_bytes}
+use Rattle.dcsctp_machine.specs.Endpoint.{Endpoint, fresh_endpoint, association_of}
+use Rattle.dcsctp_machine.specs.Outcome.{Outcome}
+use Rattle.dcsctp_machine.specs.Turn.{act_input}
+use Rattle.dcsctp_machine.specs.control.Acts.{connect}
+use Rattle.dcsctp_machine.specs.CallTurns.{Turns, HandleInput, after_all, events_of}
+
+-- ---- what a side shows
+
+-- the packets among events, in order
+abbrev pub packets_in : {P : Type 0} → List (Event P) → List P
+packets_in [] = []
+packets_in (sent packet ∷ events) = packet ∷ packets_in events
+packets_in (event ∷ events) = packets_in events
+
+-- A socket that was made with these options, after these turns.
+abbrev pub endpoint_after : Options → List Outcome → Endpoint
+endpoint_after options turns = after_all (fresh_endpoint options) turns
+
+-- its events as its user sees them, each packet in bytes
+abbrev pub events_shown : Options → List Outcome → List (Event (List ℕ))
+events_shown options turns = map (event_map (emission_bytes (ports_of options))) (events_of turns)
+
+-- the bytes of all packets that it ever emitted
+abbrev pub packets_shown : Options → List Outcome → List (List ℕ)
+packets_shown options turns = packets_in (events_shown options turns)
+
+-- ---- steps
+
+-- the packet of this number, counted from 1
+abbrev pub numbered : ℕ → List (List ℕ) → Option (List ℕ)
+numbered zero packets = None
+numbered (suc before) packets = slice_get packets before
+
+-- what comes of bytes that are handed in, where there are any
+abbrev pub DeliveryTurns : Endpoint → Option (List ℕ) → List Outcome → Type 0
+DeliveryTurns e None outcomes = outcomes ≡ []
+DeliveryTurns e (Some bytes) outcomes = HandleInput e bytes outcomes
+
+-- what comes of a user's call
+abbrev pub UserTurns : Endpoint → Call → List Outcome → Type 0
+UserTurns e calls.Connect outcomes = Turns e (act_input connect ∷ []) outcomes
+
+abbrev pub side_of : Step → Side
+side_of (steps.Call side call) = side
+side_of (steps.Deliver side number) = side
+
+-- what comes of a step at its side, where the other has emitted these packets
+abbrev pub StepTurns : Endpoint → List (List ℕ) → Step → List Outcome → Type 0
+StepTurns e packets (steps.Call side call) outcomes = UserTurns e call outcomes
+StepTurns e packets (steps.Deliver side number) outcomes = DeliveryTurns e (numbered number packets) outcomes
+
+-- ---- runs
+
+-- a step, and what came of it
+pub record Worked : Type 0 where
+  pub step : Step
+  pub outcomes : List Outcome
+
+-- the options of two sockets, or what came of each
+pub record Both (T : Type 0) : Type 0 where
+  pub a : T
+  pub b : T
+
+abbrev pub of_side : {T : Type 0} → Side → Both T → T
+of_side sides.A both = both.a
+of_side sides.B both = both.b
+
+abbrev pub of_other : {T : Type 0} → Side → Both T → T
+of_other sides.A both = both.b
+of_other sides.B both = both.a
+
+-- these turns behind those of one side
+abbrev pub with_turns : Side → List Outcome → Both (List Outcome) → Both (List Outcome)
+with_turns sides.A outcomes turns = record turns { a = turns.a ++ outcomes }
+with_turns sides.B outcomes turns = record turns { b = turns.b ++ outcomes }
+
+-- all turns of each side after these steps, which stand newest first
+abbrev pub turns_after : List Worked → Both (List Outcome)
+turns_after [] = record { a = []; b = [] }
+turns_after (worked ∷ earlier) = with_turns (side_of worked.step) worked.outcomes (turns_after earlier)
+
+-- what comes of a step after these turns
+abbrev pub NextTurns : Both Options → Both (List Outcome) → Step → List Outcome → Type 0
+NextTurns options turns step outcomes =
+    StepTurns (endpoint_after (of_side (side_of step) options) (of_side (side_of step) turns))
+    (packets_shown (of_other (side_of step) options) (of_other (side_of step) turns)) step outcomes
+
+-- Two sockets run: each of these steps, newest first, comes of what the steps before it left. Whatever is
+-- delivered was emitted by the other socket before, byte for byte.
+abbrev pub SocketRun : Both Options → List Worked → Type 0
+SocketRun options [] = Unit {0}
+SocketRun options (worked ∷ earlier) = NextTurns options (turns_after earlier) worked.step worked.outcomes × SocketRun options earlier
+
+-- the steps of a run, newest first
+abbrev pub schedule_of : List Worked → List Step
+schedule_of [] = []
+schedule_of (worked ∷ earlier) = worked.step ∷ schedule_of earlier
+
+-- what a side's association was at the start and after each step of either side, newest first
+abbrev pub associations_of : Side → Both Options → List Worked → List (Option Association)
+associations_of side options [] = association_of (fresh_endpoint (of_side side options)).core ∷ []
+associations_of side options (worked ∷ earlier) =
+    association_of (endpoint_after (of_side side options) (of_side side (turns_after (worked ∷ earlier)))).core ∷ associations_of side options earlier
