@@ -1,0 +1,15 @@
+mod Bytes
+mod Deliver
+mod Follow
+mod Fresh
+mod HandshakeEnds
+mod HandshakeReads
+mod HandshakeRuns
+mod HandshakeSizes
+mod HandshakeTurns
+mod Moves
+mod Sendable
+mod Sent
+mod Signs
+mod SocketsAgree
+mod TurnsFit

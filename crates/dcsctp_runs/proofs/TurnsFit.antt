@@ -1,0 +1,204 @@
+-- Each turn leaves numbers that fit their fields, and sends what is read as itself.
+use Rattle.std.proofs.Common.{◌≡◌, ℕ, ◌<◌, Bool, true, false, cond, Option, None, Some, Result, Ok, Err, List, [], ◌∷◌, ◌^◌, refl, sym, subst, arith}
+use Rattle.dcsctp_wire.specs.ReadsBack.{FitsEcho}
+use Rattle.dcsctp_machine.specs.declared.association.Pair.{Pair}
+use Rattle.dcsctp_machine.specs.declared.word.Word.{Word}
+use Rattle.dcsctp_machine.specs.declared.word.Word.TheVariants.{U32, U64}
+use Rattle.dcsctp_machine.specs.declared.kinds.ErrorKind.TheVariants.{ProtocolViolation}
+use Rattle.dcsctp_machine.specs.Settings.{IsValid, FitsOptions}
+use Rattle.dcsctp_machine.specs.Cookie.{Cookie, cookie_at}
+use Rattle.dcsctp_machine.specs.Cause.{Cause}
+use Rattle.dcsctp_machine.specs.Event.{Event, sent, connected, connection_restarted, aborted}
+use Rattle.dcsctp_machine.specs.Packet.{Introduction, Content, init, init_ack, cookie_echo, cookie_ack, re_config, abort, shutdown, shutdown_ack, shutdown_complete, other, Emission}
+use Rattle.dcsctp_machine.specs.Transfer.{SendQueueState}
+use Rattle.dcsctp_machine.specs.Endpoint.{Endpoint, Core, closed, cookie_wait, cookie_echoed, open_in, established, shutdown_pending, shutdown_sent, shutdown_received, shutdown_ack_sent}
+use Rattle.dcsctp_machine.specs.Outcome.{Outcome, still, quiet, sends, emits, fits, drawing}
+use Rattle.dcsctp_machine.specs.Turn.{ContentTurn}
+use Rattle.dcsctp_machine.specs.turns.Flush.{allows_packet, flushes}
+use Rattle.dcsctp_machine.specs.turns.Ends.{ends_with, abort_outcome}
+use Rattle.dcsctp_machine.specs.turns.Handshake.{pair_from, renewed_pair, cookie_for, init_ack_emission, init_outcome, init_emission, awaits_init_ack, connect_outcome, no_cookie_text, abort_emission, queue_anew, awaits_cookie_ack, echo_emission, accepts_init_ack, init_ack_outcome, connected_after, cookie_ack_outcome}
+use Rattle.dcsctp_machine.specs.turns.CookieEcho.{established_by, establishes, interleaves, restarts_where, maintains, resolved_outcome, cookie_echo_outcome}
+use Rattle.dcsctp_machine.specs.control.CookieEcho.{Resolution, establish_new, restart, simultaneous_init, discard, maintain_existing, invalid_tag, resolve}
+use Rattle.dcsctp_machine.specs.Laws.{FitsPair, OfferReadsBack}
+use Rattle.dcsctp_runs.proofs.Bytes.{ReadPairs, read_pairs_fit}
+use Rattle.dcsctp_runs.proofs.Sendable.{Sendable, SendablePacket, init_sendable, init_ack_sendable, echo_sendable, ack_sendable, abort_sendable}
+use Rattle.dcsctp_runs.proofs.Sent.{AllSent, all_sent_append}
+
+-- The own pair fits its fields while the handshake is under way. No shutdown is under way: so far none begins.
+abbrev pub FitsCore : Core → Type 0
+FitsCore closed = Unit {0}
+FitsCore (cookie_wait my) = FitsPair my
+FitsCore (cookie_echoed my held cookie) = FitsPair my
+FitsCore (open_in established my held) = Unit {0}
+FitsCore (open_in shutdown_pending my held) = ⊥
+FitsCore (open_in shutdown_sent my held) = ⊥
+FitsCore (open_in shutdown_received my held) = ⊥
+FitsCore (open_in shutdown_ack_sent my held) = ⊥
+
+pub record FitsEndpoint (e : Endpoint) : Type 0 where
+  pub valid : IsValid e.options
+  pub options : FitsOptions e.options
+  pub core : FitsCore e.core
+
+abbrev pub IsSendable : Emission → Type 0
+IsSendable emission = SendablePacket emission.packet
+
+pub record TurnFits (o : Outcome) : Type 0 where
+  pub after : FitsEndpoint o.after
+  pub sends : AllSent IsSendable o.events
+
+pub still_fits : (e : Endpoint) → FitsEndpoint e → TurnFits (still e)
+still_fits e h = record { after = h; sends = tt }
+
+-- ---- one packet at most
+
+packet_fits : (b : Bool) (e : Endpoint) (words : List Word) (events : List (Event Emission)) (emission : Emission) → FitsEndpoint e → AllSent IsSendable events → IsSendable emission
+    → TurnFits (cond b (sends e words events emission) (quiet e words events))
+packet_fits true e words events emission h before good =
+    record { after = record { valid = h.valid; options = h.options; core = h.core }; sends = all_sent_append IsSendable events (sent emission ∷ []) before (good, tt) }
+packet_fits false e words events emission h before good = record { after = h; sends = before }
+
+emits_fit : (e : Endpoint) (words : List Word) (emission : Emission) → FitsEndpoint e → IsSendable emission → TurnFits (emits e words emission)
+emits_fit e words emission h good = packet_fits (fits e emission) e words [] emission h tt good
+
+drawing_fits : (pair : Pair) (o : Outcome) → TurnFits o → TurnFits (drawing pair o)
+drawing_fits pair o h = record { after = h.after; sends = h.sends }
+
+-- ---- INIT
+
+pub drawn_fits : (word next : ℕ) → FitsPair (pair_from word next)
+drawn_fits word next = record { tag_is_not_zero = omega arith; tag = omega arith; first_tsn = omega arith }
+
+renewed_fits : (e : Endpoint) (word : ℕ) → FitsPair (renewed_pair e word)
+renewed_fits e word = record { tag_is_not_zero = omega arith; tag = omega arith; first_tsn = omega arith }
+
+answer_fits : OfferReadsBack → (e : Endpoint) (theirs : Introduction) (mine : Pair) (tie : ℕ) → FitsEndpoint e → FitsPair theirs.pair → FitsPair mine → IsSendable (init_ack_emission e theirs mine tie)
+answer_fits law e theirs mine tie h said own = record { tag = said.tag; contents = (init_ack_sendable law e.options theirs mine (cookie_for theirs mine tie) h.valid h.options own, tt) }
+
+init_fits : OfferReadsBack → (e : Endpoint) (theirs : Introduction) (core : Core) (word next : ℕ) → FitsEndpoint e → FitsCore core → FitsPair theirs.pair → TurnFits (init_outcome e theirs core word next)
+init_fits law e theirs closed word next h own said =
+    drawing_fits (pair_from word next) _
+    (emits_fit e (U32 word ∷ U32 next ∷ []) (init_ack_emission e theirs (pair_from word next) 0) h (answer_fits law e theirs (pair_from word next) 0 h said (drawn_fits word next)))
+init_fits law e theirs (cookie_wait my) word next h own said = emits_fit e [] (init_ack_emission e theirs my 0) h (answer_fits law e theirs my 0 h said own)
+init_fits law e theirs (cookie_echoed my held cookie) word next h own said = emits_fit e [] (init_ack_emission e theirs my 0) h (answer_fits law e theirs my 0 h said own)
+init_fits law e theirs (open_in established my held) word next h own said =
+    drawing_fits (renewed_pair e word) _
+    (emits_fit e (U32 word ∷ []) (init_ack_emission e theirs (renewed_pair e word) e.tie) h (answer_fits law e theirs (renewed_pair e word) e.tie h said (renewed_fits e word)))
+init_fits law e theirs (open_in shutdown_pending my held) word next h own said = absurd own
+init_fits law e theirs (open_in shutdown_sent my held) word next h own said = absurd own
+init_fits law e theirs (open_in shutdown_received my held) word next h own said = absurd own
+init_fits law e theirs (open_in shutdown_ack_sent my held) word next h own said = absurd own
+
+-- ---- connect
+
+pub connect_fits : OfferReadsBack → (e : Endpoint) (core : Core) (word next : ℕ) → FitsEndpoint e → TurnFits (connect_outcome e core word next)
+connect_fits law e closed word next h =
+    let mine : Pair = pair_from word next in
+    let waiting : FitsEndpoint (awaits_init_ack e mine) = record { valid = h.valid; options = h.options; core = drawn_fits word next } in
+    drawing_fits mine _
+    (emits_fit (awaits_init_ack e mine) (U32 word ∷ U32 next ∷ []) (init_emission e mine) waiting
+    (record { tag = omega arith; contents = (init_sendable law e.options mine h.valid h.options (drawn_fits word next), tt) }))
+connect_fits law e (cookie_wait my) word next h = still_fits e h
+connect_fits law e (cookie_echoed my held cookie) word next h = still_fits e h
+connect_fits law e (open_in phase my held) word next h = still_fits e h
+
+-- ---- INIT ACK
+
+refused_fits : (b : Bool) (e : Endpoint) (theirs : Introduction) → FitsEndpoint e → IsSendable (abort_emission theirs)
+    → TurnFits (ends_with (cond b (sends e [] [] (abort_emission theirs)) (quiet e [] [])) (aborted ProtocolViolation no_cookie_text))
+refused_fits true e theirs h good = record { after = record { valid = h.valid; options = h.options; core = tt }; sends = (good, (tt, tt)) }
+refused_fits false e theirs h good = record { after = record { valid = h.valid; options = h.options; core = tt }; sends = (tt, tt) }
+
+echoed_fits : (b allowed : Bool) (e : Endpoint) (words : List Word) (tag : ℕ) (cookie : List ℕ) → FitsEndpoint e → IsSendable (echo_emission tag cookie)
+    → TurnFits (cond b (cond allowed (sends e words [] (echo_emission tag cookie)) (quiet e words [])) (quiet e words []))
+echoed_fits true allowed e words tag cookie h good = packet_fits allowed e words [] (echo_emission tag cookie) h tt good
+echoed_fits false allowed e words tag cookie h good = record { after = h; sends = tt }
+
+accepted_fits : (e : Endpoint) (my : Pair) (theirs : Introduction) (cookie : Option (List ℕ)) (word : ℕ) → FitsEndpoint e → FitsPair my → Sendable (init_ack theirs cookie)
+    → TurnFits (accepts_init_ack e my theirs cookie word)
+accepted_fits e my theirs None word h own good = refused_fits (fits e (abort_emission theirs)) e theirs h (record { tag = good.said.tag; contents = (abort_sendable, tt) })
+accepted_fits e my theirs (Some cookie) word h own good =
+    let awaiting : Endpoint = awaits_cookie_ack e my theirs cookie word in
+    echoed_fits (fits awaiting (echo_emission theirs.pair.tag cookie)) (allows_packet awaiting.options.max_burst) awaiting (U64 word ∷ []) theirs.pair.tag cookie
+    (record { valid = h.valid; options = h.options; core = own }) (record { tag = good.said.0.tag; contents = (echo_sendable cookie good.said.1, tt) })
+
+init_ack_fits : (e : Endpoint) (theirs : Introduction) (cookie : Option (List ℕ)) (core : Core) (word : ℕ) → FitsEndpoint e → FitsCore core → Sendable (init_ack theirs cookie)
+    → TurnFits (init_ack_outcome e theirs cookie core word)
+init_ack_fits e theirs cookie closed word h own good = still_fits e h
+init_ack_fits e theirs cookie (cookie_wait my) word h own good = accepted_fits e my theirs cookie word h own good
+init_ack_fits e theirs cookie (cookie_echoed my held echoed) word h own good = still_fits e h
+init_ack_fits e theirs cookie (open_in phase my held) word h own good = still_fits e h
+
+-- ---- COOKIE ECHO
+
+-- a flush of one COOKIE ACK
+acknowledged_fits : (e : Endpoint) (words : List Word) (events : List (Event Emission)) (with_checksum : Bool) (tag : ℕ) → FitsEndpoint e → AllSent IsSendable events → tag < 2 ^ 32
+    → TurnFits (flushes e words events with_checksum tag (cookie_ack ∷ []))
+acknowledged_fits e words events with_checksum tag h before tag_fits =
+    packet_fits (allows_packet e.options.max_burst) e words events (record { with_checksum = with_checksum; packet = record { tag = tag; contents = cookie_ack ∷ [] } }) h before
+    (record { tag = tag_fits; contents = (ack_sendable, tt) })
+
+established_fits : (e : Endpoint) (cookie : Cookie) (queue : SendQueueState) (tie : ℕ) (events : List (Event Emission)) → FitsEndpoint e → ReadPairs cookie → AllSent IsSendable events
+    → TurnFits (establishes e cookie queue tie events)
+established_fits e cookie queue tie events h pairs before =
+    acknowledged_fits (established_by e cookie queue tie) (U64 tie ∷ []) events _ cookie.addressee.tag
+    (record { valid = h.valid; options = h.options; core = tt }) before pairs.addressee.tag
+
+restarted_fits : (e : Endpoint) (cookie : Cookie) (tie : ℕ) (core : Core) → FitsEndpoint e → FitsCore core → ReadPairs cookie → TurnFits (restarts_where e cookie tie core)
+restarted_fits e cookie tie closed h own pairs = established_fits e cookie (queue_anew e.below.queue (interleaves e cookie)) tie (connection_restarted ∷ connected ∷ []) h pairs (tt, (tt, tt))
+restarted_fits e cookie tie (cookie_wait my) h own pairs = established_fits e cookie (queue_anew e.below.queue (interleaves e cookie)) tie (connection_restarted ∷ connected ∷ []) h pairs (tt, (tt, tt))
+restarted_fits e cookie tie (cookie_echoed my held echoed) h own pairs = established_fits e cookie (queue_anew e.below.queue (interleaves e cookie)) tie (connection_restarted ∷ connected ∷ []) h pairs (tt, (tt, tt))
+restarted_fits e cookie tie (open_in established my held) h own pairs = established_fits e cookie (queue_anew e.below.queue (interleaves e cookie)) tie (connection_restarted ∷ connected ∷ []) h pairs (tt, (tt, tt))
+restarted_fits e cookie tie (open_in shutdown_pending my held) h own pairs = absurd own
+restarted_fits e cookie tie (open_in shutdown_sent my held) h own pairs = absurd own
+restarted_fits e cookie tie (open_in shutdown_received my held) h own pairs = absurd own
+restarted_fits e cookie tie (open_in shutdown_ack_sent my held) h own pairs = absurd own
+
+maintained_fits : (e : Endpoint) (cookie : Cookie) (core : Core) → FitsEndpoint e → ReadPairs cookie → TurnFits (maintains e cookie core)
+maintained_fits e cookie closed h pairs = still_fits e h
+maintained_fits e cookie (cookie_wait my) h pairs = still_fits e h
+maintained_fits e cookie (cookie_echoed my held echoed) h pairs =
+    acknowledged_fits (connected_after e my held) [] (connected ∷ []) _ cookie.addressee.tag (record { valid = h.valid; options = h.options; core = tt }) (tt, tt) pairs.addressee.tag
+maintained_fits e cookie (open_in phase my held) h pairs = acknowledged_fits e [] [] _ cookie.addressee.tag h tt pairs.addressee.tag
+
+resolved_fits : (e : Endpoint) (cookie : Cookie) (core : Core) (word : ℕ) (resolution : Resolution) → FitsEndpoint e → FitsCore core → ReadPairs cookie
+    → TurnFits (resolved_outcome e cookie core word resolution)
+resolved_fits e cookie core word establish_new h own pairs = established_fits e cookie (record e.below.queue { is_interleaved = interleaves e cookie }) word (connected ∷ []) h pairs (tt, tt)
+resolved_fits e cookie core word restart h own pairs = restarted_fits e cookie word core h own pairs
+resolved_fits e cookie core word simultaneous_init h own pairs = established_fits e cookie (queue_anew e.below.queue (interleaves e cookie)) word (connected ∷ []) h pairs (tt, tt)
+resolved_fits e cookie core word discard h own pairs = record { after = h; sends = tt }
+resolved_fits e cookie core word maintain_existing h own pairs = maintained_fits e cookie core h pairs
+resolved_fits e cookie core word invalid_tag h own pairs = record { after = h; sends = (tt, tt) }
+
+echo_fits : (e : Endpoint) (core : Core) (header : ℕ) (bytes : List ℕ) (found : Result Cookie (List ℕ)) (word : ℕ) → cookie_at bytes ≡ found → FitsEndpoint e → FitsCore core → FitsEcho bytes
+    → TurnFits (cookie_echo_outcome e core header found word)
+echo_fits e core header bytes (Err text) word is h own echo = record { after = h; sends = (tt, tt) }
+echo_fits e core header bytes (Ok cookie) word is h own echo = resolved_fits e cookie core word (resolve core e.tie header cookie) h own (read_pairs_fit bytes cookie echo.cookie_in_bytes is)
+
+-- ---- COOKIE ACK and ABORT
+
+cookie_ack_fits : (e : Endpoint) (core : Core) → FitsEndpoint e → TurnFits (cookie_ack_outcome e core)
+cookie_ack_fits e closed h = still_fits e h
+cookie_ack_fits e (cookie_wait my) h = still_fits e h
+cookie_ack_fits e (cookie_echoed my held cookie) h = record { after = record { valid = h.valid; options = h.options; core = tt }; sends = (tt, tt) }
+cookie_ack_fits e (open_in phase my held) h = still_fits e h
+
+abort_fits : (e : Endpoint) (causes : List Cause) (core : Core) → FitsEndpoint e → TurnFits (abort_outcome e causes core)
+abort_fits e causes closed h = still_fits e h
+abort_fits e causes (cookie_wait my) h = still_fits e h
+abort_fits e causes (cookie_echoed my held cookie) h = record { after = record { valid = h.valid; options = h.options; core = tt }; sends = (tt, tt) }
+abort_fits e causes (open_in phase my held) h = record { after = record { valid = h.valid; options = h.options; core = tt }; sends = (tt, tt) }
+
+-- ---- each chunk that is read of what a socket sent
+
+pub turn_fits : OfferReadsBack → (e : Endpoint) (tag : ℕ) (content : Content) (o : Outcome) → ContentTurn e tag content o → FitsEndpoint e → Sendable content → TurnFits o
+turn_fits law e tag (init theirs) o turn h good = subst TurnFits (sym turn.2) (init_fits law e theirs e.core turn.0 turn.1 h h.core good.said.0)
+turn_fits law e tag (init_ack theirs cookie) o turn h good = subst TurnFits (sym turn.1) (init_ack_fits e theirs cookie e.core turn.0 h h.core good)
+turn_fits law e tag (cookie_echo bytes) o turn h good = subst TurnFits (sym turn.1) (echo_fits e e.core tag bytes (cookie_at bytes) turn.0 refl h h.core good.fits)
+turn_fits law e tag cookie_ack o turn h good = subst TurnFits (sym turn) (cookie_ack_fits e e.core h)
+turn_fits law e tag (re_config parameters) o turn h good = absurd (cc)
+turn_fits law e tag (abort reflected causes) o turn h good = subst TurnFits (sym turn) (abort_fits e causes e.core h)
+turn_fits law e tag (shutdown cumulative_tsn) o turn h good = absurd (cc)
+turn_fits law e tag shutdown_ack o turn h good = absurd (cc)
+turn_fits law e tag (shutdown_complete reflected) o turn h good = absurd (cc)
+turn_fits law e tag (other chunk_type flags value) o turn h good = subst TurnFits (sym turn) (still_fits e h)

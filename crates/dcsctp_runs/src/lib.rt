@@ -1,0 +1,7 @@
+//! What holds of two sockets over every schedule of calls and deliveries, from the bytes of their packets on,
+//! each the contract of a function without a body.
+#![tactic(auto)]
+
+mod laws;
+
+pub use laws::{fitting_sockets_connect, sockets_agree};
