@@ -1,0 +1,150 @@
+-- What the calls of a world do, from what its parts do.
+use Rattle.std.proofs.Common.{◌≡◌, ℕ, ◌+◌, ◌<◌, take, get_or, length, Bool, true, false, Result, Ok, Err, OnErr, List, [], ◌∷◌, ◌++◌, map, refl, sym, ap, subst, ◌∙◌, append_assoc}
+use Rattle.std.proofs.lemmas.List.{append-nil, map-append, take_more}
+use Rattle.dcsctp_machine.specs.declared.options.Options.{Options}
+use Rattle.dcsctp_machine.specs.declared.schedule.Side.{Side}
+use Rattle.dcsctp_machine.specs.declared.schedule.Side.TheVariants as sides
+use Rattle.dcsctp_machine.specs.declared.schedule.Step.{Step}
+use Rattle.dcsctp_machine.specs.Event.{Event}
+use Rattle.dcsctp_machine.specs.Settings.{ports_of}
+use Rattle.dcsctp_machine.specs.Endpoint.{association_of}
+use Rattle.dcsctp_machine.specs.Outcome.{Outcome}
+use Rattle.dcsctp_machine.specs.CallTurns.{events_of, pairs_of}
+use Rattle.dcsctp_machine.specs.Sockets.{Both, of_side, of_other, side_of, StepTurns, packets_in}
+use Rattle.dcsctp_api.specs.Calls.{user_event}
+use Rattle.dcsctp_api.specs.declared.errors.SocketFault.{SocketFault}
+use Rattle.dcsctp_api.specs.declared.errors.SocketFault.TheVariants.{OutOfMemory, Failed}
+use Rattle.dcsctp_world.specs.declared.act.Act.{Act}
+use Rattle.dcsctp_world.specs.declared.act.Act.TheVariants as acts
+use Rattle.dcsctp_world.specs.declared.act.Reply.{Reply}
+use Rattle.dcsctp_world.specs.declared.end.End.{End}
+use Rattle.dcsctp_world.specs.Shown.{SideShown, WorldView, options_of}
+use Rattle.dcsctp_world.specs.Growth.{Extends, Grows, SideExtends, with_association}
+use Rattle.dcsctp_world.specs.Run.{IsRun}
+use Rattle.dcsctp_world.specs.Acts.{StepMoves, BothExtend, with_associations, Applied, WorldExtends, RanOut, StaysFailed, Applies, Ran, Runs}
+use Rattle.dcsctp_world.specs.Parts.{world_of}
+use Rattle.dcsctp_world.proofs.Keeping.{extends_itself, extends_by, extends_further}
+use Rattle.dcsctp_world.proofs.Running.{is_run_next}
+
+pub on_err : {A E P : Type 0} (result : Result A E) → P → OnErr result P
+on_err (Ok value) p = tt
+on_err (Err error) p = p
+
+-- ---- each list begins with what it held
+
+pub side_extends_itself : {R : Type 0} (side : SideShown R) → SideExtends side side
+side_extends_itself side =
+    record { events = extends_itself side.events; packets = extends_itself side.packets; pairs = extends_itself side.pairs; associations = extends_itself side.associations }
+
+pub side_extends_further : {R : Type 0} (a b c : SideShown R) → SideExtends a b → SideExtends b c → SideExtends a c
+side_extends_further a b c first second =
+    record {
+      events = extends_further a.events b.events c.events first.events second.events;
+      packets = extends_further a.packets b.packets c.packets first.packets second.packets;
+      pairs = extends_further a.pairs b.pairs c.pairs first.pairs second.pairs;
+      associations = extends_further a.associations b.associations c.associations first.associations second.associations;
+    }
+
+same_side_extends : {R : Type 0} (old new : SideShown R) → new ≡ old → SideExtends old new
+same_side_extends {R = R} old new same = subst (λ (s : SideShown R). SideExtends old s) (sym same) (side_extends_itself old)
+
+grows_extends : {R : Type 0} (Turns : List Outcome → Type 0) (old new : SideShown R) → Grows Turns old new → SideExtends old new
+grows_extends Turns old new grows =
+    let told : List (Event (List _)) = map (user_event (ports_of old.socket.view.endpoint.options)) (events_of grows.outcomes) in
+    record {
+      events = extends_by told grows.events;
+      packets = extends_by (packets_in told) grows.packets;
+      pairs = extends_by (pairs_of grows.outcomes) grows.pairs;
+      associations = extends_by [] (grows.associations ∙ sym (append-nil old.associations));
+    }
+
+moves_extend_at : {R : Type 0} (Turns : List Outcome → Type 0) (mover : Side) (old moved : Both (SideShown R))
+    → Grows Turns (of_side mover old) (of_side mover moved) → of_other mover moved ≡ of_other mover old → BothExtend old moved
+moves_extend_at Turns sides.A old moved grows stays = record { a = grows_extends Turns old.a moved.a grows; b = same_side_extends old.b moved.b stays }
+moves_extend_at Turns sides.B old moved grows stays = record { a = same_side_extends old.a moved.a stays; b = grows_extends Turns old.b moved.b grows }
+
+moves_extend : {R : Type 0} (step : Step) (reply : Reply) (old moved : Both (SideShown R)) → StepMoves step reply old moved → BothExtend old moved
+moves_extend step reply old moved moves =
+    moves_extend_at (StepTurns (of_side (side_of step) old).socket.view.endpoint (of_other (side_of step) old).packets step) (side_of step) old moved moves.grows moves.other_stays
+
+-- a step moved its side, and then both grew further
+pub moved_extend : {R : Type 0} (step : Step) (reply : Reply) (old moved new : Both (SideShown R)) → StepMoves step reply old moved
+    → SideExtends moved.a new.a → SideExtends moved.b new.b → BothExtend old new
+moved_extend step reply old moved new moves a b =
+    let first : BothExtend old moved = moves_extend step reply old moved moves in
+    record { a = side_extends_further old.a moved.a new.a first.a a; b = side_extends_further old.b moved.b new.b first.b b }
+
+world_extends_itself : {R : Type 0} (world : WorldView R) → WorldExtends world world
+world_extends_itself world =
+    record { sides = record { a = side_extends_itself world.sides.a; b = side_extends_itself world.sides.b }; acts = extends_itself world.acts }
+
+world_extends_further : {R : Type 0} (a b c : WorldView R) → WorldExtends a b → WorldExtends b c → WorldExtends a c
+world_extends_further a b c first second =
+    record {
+      sides = record {
+        a = side_extends_further a.sides.a b.sides.a c.sides.a first.sides.a second.sides.a;
+        b = side_extends_further a.sides.b b.sides.b c.sides.b first.sides.b second.sides.b;
+      };
+      acts = extends_further a.acts b.acts c.acts first.acts second.acts;
+    }
+
+-- the association is noted
+pub noted_side_extends : {R : Type 0} (side new : SideShown R) → new ≡ with_association side → SideExtends side new
+noted_side_extends {R = R} side new is =
+    subst (λ (s : SideShown R). SideExtends side s) (sym is)
+    (record {
+      events = extends_itself side.events;
+      packets = extends_itself side.packets;
+      pairs = extends_itself side.pairs;
+      associations = extends_by (association_of side.socket.view.endpoint.core ∷ []) refl;
+    })
+
+applied_extends : {R : Type 0} (step : Step) (reply : Reply) (old new : WorldView R) → Applied step reply old new → WorldExtends old new
+applied_extends {R = R} step reply old new applied =
+    record {
+      sides = moved_extend step reply old.sides applied.moved new.sides applied.moves
+          (noted_side_extends applied.moved.a new.sides.a (ap (λ (both : Both (SideShown R)). both.a) applied.sides))
+          (noted_side_extends applied.moved.b new.sides.b (ap (λ (both : Both (SideShown R)). both.b) applied.sides));
+      acts = extends_by (acts.Step step ∷ []) applied.acts;
+    }
+
+-- ---- a step
+
+pub both_noted : {R : Type 0} (moved new : Both (SideShown R)) → new.a ≡ (with_associations moved).a → new.b ≡ (with_associations moved).b → new ≡ with_associations moved
+both_noted {R = R} moved new a b =
+    ap (λ (s : SideShown R). let both : Both (SideShown R) = record { a = s; b = new.b } in both) a
+    ∙ ap (λ (s : SideShown R). let both : Both (SideShown R) = record { a = (with_associations moved).a; b = s } in both) b
+
+-- the world's own flag doesn't matter where it is not set
+pub applied_is_run : {R : Type 0} (step : Step) (reply : Reply) (a b new_a new_b : End R) (made new_made : List Act) (failed : Bool) → failed ≡ false
+    → (failed ≡ false → IsRun (options_of (world_of a b made failed)) (world_of a b made failed))
+    → Applied step reply (world_of a b made false) (world_of new_a new_b new_made false)
+    → IsRun (options_of (world_of a b made failed)) (world_of new_a new_b new_made failed)
+applied_is_run step reply a b new_a new_b made new_made true is invariant applied = absurd (cc)
+applied_is_run step reply a b new_a new_b made new_made false is invariant applied =
+    is_run_next (options_of (world_of a b made false)) step reply (world_of a b made false) (world_of new_a new_b new_made false) (invariant refl) applied
+
+-- ---- several steps
+
+pub ran_none : {R : Type 0} (world : WorldView R) → world.failed ≡ false → IsRun (options_of world) world → Ran [] world world
+ran_none world runs h =
+    record { runs = runs; goes_on = runs; acts = sym (append-nil world.acts); extends = world_extends_itself world; options = refl; is_run = h }
+
+ran_more : {R : Type 0} (steps : List Step) (step : Step) (reply : Reply) (old now new : WorldView R) → Ran steps old now → Applied step reply now new
+    → IsRun (options_of now) new → options_of new ≡ options_of now → Ran (steps ++ step ∷ []) old new
+ran_more {R = R} steps step reply old now new ran applied is_run options =
+    record {
+      runs = ran.runs;
+      goes_on = applied.goes_on;
+      acts = applied.acts ∙ ap (λ (l : List Act). l ++ acts.Step step ∷ []) ran.acts ∙ append_assoc old.acts (map acts.Step steps) (acts.Step step ∷ [])
+          ∙ ap (λ (l : List Act). old.acts ++ l) (sym (map-append acts.Step steps (step ∷ [])));
+      extends = world_extends_further old now new ran.extends (applied_extends step reply now new applied);
+      options = options ∙ ran.options;
+      is_run = subst (λ (o : Both Options). IsRun o new) ran.options is_run;
+    }
+
+-- as a loop over them goes
+pub ran_next : {R : Type 0} (steps : List Step) (i : ℕ) (default : Step) (reply : Reply) (old now new : WorldView R) → i < length steps → Ran (take i steps) old now
+    → Applied (get_or steps i default) reply now new → IsRun (options_of now) new → options_of new ≡ options_of now → Ran (take (i + 1) steps) old new
+ran_next steps i default reply old now new within ran applied is_run options =
+    subst (λ (l : List Step). Ran l old new) (sym (take_more steps i default within)) (ran_more (take i steps) (get_or steps i default) reply old now new ran applied is_run options)

@@ -1,0 +1,111 @@
+-- What is taken from a socket and kept.
+use Rattle.std.proofs.Common.{◌≡◌, ℕ, zero, suc, ◌<◌, ◌≤◌, Bool, true, false, ltb, Option, Some, None, is_some, IfSome, List, [], ◌∷◌, ◌++◌, map, length, get_or, refl, sym, ap, ◌∙◌, append_assoc, arith, Vec, Bor}
+use Rattle.std.proofs.lemmas.Bool.Decides.{nat_tests}
+use Rattle.std.proofs.lemmas.List.{append-nil, map-append}
+use Rattle.std.proofs.lemmas.Option.{slice_get-map, slice_get_read}
+use Rattle.std.specs.List.{slice_get}
+use Rattle.std.specs.Option.{option_map}
+use Rattle.std.specs.declared.alloc.Global.{Global}
+use Rattle.dcsctp_machine.specs.Event.{Event, sent}
+use Rattle.dcsctp_machine.specs.Sockets.{packets_in, numbered}
+use Rattle.dcsctp_api.specs.declared.events.SocketEvent.{SocketEvent}
+use Rattle.dcsctp_api.specs.declared.events.SocketEvent.TheVariants.{SendPacket}
+use Rattle.dcsctp_api.specs.Events.{event_content}
+use Rattle.dcsctp_api.specs.Calls.{UserView, PollsEvent}
+use Rattle.dcsctp_world.specs.Growth.{Extends, Kept, with_events, KeptExtends, Taken}
+use Rattle.dcsctp_world.specs.Parts.{packet_bytes, kept}
+
+-- ---- lists that grow
+
+pub extends_itself : {A : Type 0} (xs : List A) → Extends xs xs
+extends_itself xs = record { added = []; behind = sym (append-nil xs) }
+
+pub extends_by : {A : Type 0} {old new : List A} (added : List A) → new ≡ old ++ added → Extends old new
+extends_by added behind = record { added = added; behind = behind }
+
+pub extends_further : {A : Type 0} (xs ys zs : List A) → Extends xs ys → Extends ys zs → Extends xs zs
+extends_further xs ys zs first second =
+    record {
+      added = first.added ++ second.added;
+      behind = second.behind ∙ ap (λ l. l ++ second.added) first.behind ∙ append_assoc xs first.added second.added;
+    }
+
+-- ---- packets among events
+
+pub packets_in-append : {P : Type 0} (xs ys : List (Event P)) → packets_in (xs ++ ys) ≡ packets_in xs ++ packets_in ys
+packets_in-append [] ys = refl
+packets_in-append (sent packet ∷ xs) ys = ap (λ l. packet ∷ l) (packets_in-append xs ys)
+packets_in-append (event ∷ xs) ys = packets_in-append xs ys
+
+-- ---- events that are kept
+
+same_kept : (x y : Kept) → x.events ≡ y.events → x.packets ≡ y.packets → x ≡ y
+same_kept x y events packets =
+    ap (λ (l : List (Event (List ℕ))). let k : Kept = record { events = l; packets = x.packets } in k) events
+    ∙ ap (λ (l : List (List ℕ)). let k : Kept = record { events = y.events; packets = l } in k) packets
+
+with_events-append : (kept : Kept) (xs ys : List (Event (List ℕ))) → with_events ys (with_events xs kept) ≡ with_events (xs ++ ys) kept
+with_events-append kept xs ys =
+    same_kept (with_events ys (with_events xs kept)) (with_events (xs ++ ys) kept) (append_assoc kept.events xs ys)
+    (append_assoc kept.packets (packets_in xs) (packets_in ys) ∙ ap (λ (l : List (List ℕ)). kept.packets ++ l) (sym (packets_in-append xs ys)))
+
+with_no_events : (kept : Kept) → kept ≡ with_events [] kept
+with_no_events kept = same_kept kept (with_events [] kept) (sym (append-nil kept.events)) (sym (append-nil kept.packets))
+
+-- an event that is kept
+module _ (events events' : List SocketEvent) (packets packets' : List (Vec ℕ Global)) where
+  added_events : (event : SocketEvent) → events' ≡ events ++ event ∷ [] → map event_content events' ≡ map event_content events ++ event_content event ∷ []
+  added_events event is = ap (λ (l : List SocketEvent). map event_content l) is ∙ map-append event_content events (event ∷ [])
+
+  pub kept_packet : (event : SocketEvent) (packet copy : Vec ℕ Global) → event ≡ SendPacket packet → copy.items ≡ packet.items
+      → events' ≡ events ++ event ∷ [] → packets' ≡ packets ++ copy ∷ []
+      → kept events' packets' ≡ with_events (event_content event ∷ []) (kept events packets)
+  kept_packet event packet copy is_packet same is_events is_packets =
+      same_kept (kept events' packets') (with_events (event_content event ∷ []) (kept events packets)) (added_events event is_events)
+      (ap packet_bytes is_packets ∙ map-append (λ (p : Vec ℕ Global). p.items) packets (copy ∷ [])
+      ∙ ap (λ (l : List ℕ). packet_bytes packets ++ l ∷ []) same
+      ∙ ap (λ (e : SocketEvent). packet_bytes packets ++ packets_in (event_content e ∷ [])) (sym is_packet))
+
+  no_packet : (event : SocketEvent) → ((packet : Vec ℕ Global) → event ≡ SendPacket packet → ⊥) → packets_in (event_content event ∷ []) ≡ []
+  no_packet (SendPacket packet) none = absurd (none packet refl)
+  no_packet event none = refl
+
+  pub kept_other : (event : SocketEvent) → ((packet : Vec ℕ Global) → event ≡ SendPacket packet → ⊥) → events' ≡ events ++ event ∷ [] → packets' ≡ packets
+      → kept events' packets' ≡ with_events (event_content event ∷ []) (kept events packets)
+  kept_other event none is_events is_packets =
+      same_kept (kept events' packets') (with_events (event_content event ∷ []) (kept events packets)) (added_events event is_events)
+      (ap packet_bytes is_packets ∙ sym (append-nil (packet_bytes packets)) ∙ ap (λ (l : List (List ℕ)). packet_bytes packets ++ l) (sym (no_packet event none)))
+
+pub taken_more : (old now new : UserView) (kept_before kept_now kept_then : Kept) (event : SocketEvent)
+    → Taken old kept_before now kept_now → PollsEvent now (Some event) new → kept_then ≡ with_events (event_content event ∷ []) kept_now
+    → Taken old kept_before new kept_then
+taken_more old now new kept_before kept_now kept_then event so_far polled kept =
+    record {
+      taken = so_far.taken ++ event_content event ∷ [];
+      front = so_far.front ∙ ap (λ (l : List (Event (List ℕ))). so_far.taken ++ l) polled.0 ∙ sym (append_assoc so_far.taken (event_content event ∷ []) new.events);
+      kept = kept ∙ ap (λ (k : Kept). with_events (event_content event ∷ []) k) so_far.kept ∙ with_events-append kept_before so_far.taken (event_content event ∷ []);
+      rest = polled.1 ∙ ap (λ (v : UserView). let w : UserView = record v { events = new.events } in w) so_far.rest;
+    }
+
+-- ---- a packet by its number
+
+within : (k n : ℕ) → ltb k n ≡ true → k < n
+within k n tests = grind (arith, nat_tests)
+
+beyond : (k n : ℕ) → ltb k n ≡ false → n ≤ k
+beyond k n tests = grind (arith, nat_tests)
+
+slice_get_past : {A : Type 0} (xs : List A) (k : ℕ) → length xs ≤ k → slice_get xs k ≡ None
+slice_get_past [] k past = refl
+slice_get_past (x ∷ xs) zero past = absurd (omega arith)
+slice_get_past (x ∷ xs) (suc k) past = slice_get_past xs k (omega arith)
+
+pub numbered_found : (packets : List (Vec ℕ Global)) (number k : ℕ) (result : Option (Bor (Vec ℕ Global))) → number ≡ suc k
+    → is_some result ≡ ltb k (length packets) → IfSome result (λ x. x.now ≡ get_or packets k x.now)
+    → numbered number (packet_bytes packets) ≡ option_map (λ (x : Bor (Vec ℕ Global)). x.now.items) result
+numbered_found packets number k (Some x) is tests here =
+    ap (λ (n : ℕ). numbered n (packet_bytes packets)) is ∙ slice_get-map (λ (p : Vec ℕ Global). p.items) packets k
+    ∙ ap (option_map (λ (p : Vec ℕ Global). p.items)) (slice_get_read packets (length packets) k x.now refl (within k (length packets) (sym tests)) here)
+numbered_found packets number k None is tests here =
+    ap (λ (n : ℕ). numbered n (packet_bytes packets)) is ∙ slice_get-map (λ (p : Vec ℕ Global). p.items) packets k
+    ∙ ap (option_map (λ (p : Vec ℕ Global). p.items)) (slice_get_past packets k (beyond k (length packets) (sym tests)))

@@ -1,0 +1,4 @@
+mod Agreeing
+mod Applying
+mod Keeping
+mod Running

@@ -1,0 +1,181 @@
+-- What a world shows stays what a run shows, from its making on and step by step.
+use Rattle.std.proofs.Common.{◌≡◌, ℕ, false, Option, List, [], ◌∷◌, ◌++◌, map, reverse, refl, sym, ap, subst, ◌∙◌, append_assoc}
+use Rattle.std.proofs.lemmas.List.{map-append}
+use Rattle.std.proofs.lemmas.Grind.{reverse_onto}
+use Rattle.dcsctp_machine.specs.declared.association.Pair.{Pair}
+use Rattle.dcsctp_machine.specs.declared.association.Association.{Association}
+use Rattle.dcsctp_machine.specs.declared.options.Options.{Options}
+use Rattle.dcsctp_machine.specs.declared.schedule.Side.{Side}
+use Rattle.dcsctp_machine.specs.declared.schedule.Side.TheVariants as sides
+use Rattle.dcsctp_machine.specs.declared.schedule.Step.{Step}
+use Rattle.dcsctp_machine.specs.Event.{Event, event_map}
+use Rattle.dcsctp_machine.specs.Packet.{Emission, emission_bytes}
+use Rattle.dcsctp_machine.specs.Settings.{ports_of}
+use Rattle.dcsctp_machine.specs.Endpoint.{Endpoint, association_of, fresh_endpoint}
+use Rattle.dcsctp_machine.specs.Outcome.{Outcome}
+use Rattle.dcsctp_machine.specs.CallTurns.{after_all, events_of, pairs_of}
+use Rattle.dcsctp_machine.specs.Sockets.{Both, of_side, of_other, side_of, StepTurns, packets_in, NextTurns, Worked, SocketRun, turns_after, with_turns, endpoint_after, events_shown, packets_shown, schedule_of, associations_of}
+use Rattle.dcsctp_machine.proofs.TurnLemmas.{after_all-append, pairs_of-append, events_of-append}
+use Rattle.dcsctp_machine.proofs.SocketLemmas.{sockets_keep_options}
+use Rattle.dcsctp_api.specs.Calls.{user_event}
+use Rattle.dcsctp_world.specs.declared.act.Act.{Act}
+use Rattle.dcsctp_world.specs.declared.act.Act.TheVariants as acts
+use Rattle.dcsctp_world.specs.declared.act.Reply.{Reply}
+use Rattle.dcsctp_world.specs.declared.end.End.{End}
+use Rattle.dcsctp_world.specs.Shown.{SideShown, WorldView, fresh_side, fresh_world, options_of}
+use Rattle.dcsctp_world.specs.Growth.{Grows, with_association}
+use Rattle.dcsctp_runs.specs.Agreement.{IsUsable}
+use Rattle.dcsctp_world.specs.Run.{SideRuns, IsRun}
+use Rattle.dcsctp_world.specs.Acts.{StepMoves, with_associations, Applied}
+use Rattle.dcsctp_world.specs.Parts.{shown, world_of}
+use Rattle.dcsctp_world.proofs.Keeping.{packets_in-append}
+
+-- what holds of each side
+pub by_side : (P : Side → Type 0) → P sides.A → P sides.B → (side : Side) → P side
+by_side P a b sides.A = a
+by_side P a b sides.B = b
+
+reverse-cons : {A : Type 0} (x : A) (xs : List A) → reverse (x ∷ xs) ≡ reverse xs ++ x ∷ []
+reverse-cons x xs = reverse_onto xs x []
+
+-- ---- a world that was just made
+
+fresh_side_runs : {R : Type 0} (options : Options) (generator : R) → SideRuns options [] (fresh_side options generator)
+fresh_side_runs options generator = record { goes_on = refl; endpoint = refl; waiting = refl; events = refl; packets = refl; pairs = refl }
+
+fresh_world_runs : {R : Type 0} (options : Both Options) (generators : Both R) → IsUsable options.a → IsUsable options.b → IsRun options (fresh_world options generators)
+fresh_world_runs options generators a b =
+    record {
+      usable = by_side (λ (side : Side). IsUsable (of_side side options)) a b;
+      steps = [];
+      run = tt;
+      acts = refl;
+      sides = by_side (λ (side : Side). SideRuns (of_side side options) (of_side side (turns_after [])) (of_side side (fresh_world options generators).sides))
+          (fresh_side_runs options.a generators.a) (fresh_side_runs options.b generators.b);
+      associations = by_side (λ (side : Side). (of_side side (fresh_world options generators).sides).associations ≡ reverse (associations_of side options [])) refl refl;
+    }
+
+pub is_fresh : {R : Type 0} (a b : End R) (made : List Act) (options : Both Options) (generators : Both R)
+    → shown a ≡ fresh_side options.a generators.a → shown b ≡ fresh_side options.b generators.b → made ≡ []
+    → world_of a b made false ≡ fresh_world options generators
+is_fresh {R = R} a b made options generators is_a is_b is_made =
+    ap (λ (side : SideShown R). let w : WorldView R = record { sides = record { a = side; b = shown b }; acts = made; failed = false } in w) is_a
+    ∙ ap (λ (side : SideShown R). let w : WorldView R = record { sides = record { a = fresh_side options.a generators.a; b = side }; acts = made; failed = false } in w) is_b
+    ∙ ap (λ (l : List Act). let w : WorldView R = record (fresh_world options generators) { acts = l } in w) is_made
+
+pub fresh_is_run : {R : Type 0} (options : Both Options) (generators : Both R) (world : WorldView R) → world ≡ fresh_world options generators
+    → IsUsable options.a → IsUsable options.b → IsRun options world
+fresh_is_run {R = R} options generators world is a b = subst (λ (w : WorldView R). IsRun options w) (sym is) (fresh_world_runs options generators a b)
+
+-- ---- the options stay
+
+pub is_run_options : {R : Type 0} (options : Both Options) (world : WorldView R) → IsRun options world → options_of world ≡ options
+is_run_options {R = R} options world h =
+    let kept : (side : Side) → (of_side side world.sides).socket.view.endpoint.options ≡ of_side side options =
+    λ (side : Side). ap (λ (e : Endpoint). e.options) (h.sides side).endpoint ∙ sockets_keep_options.run options h.steps h.run side in
+    ap (λ (o : Options). let both : Both Options = record { a = o; b = world.sides.b.socket.view.endpoint.options } in both) (kept sides.A)
+    ∙ ap (λ (o : Options). let both : Both Options = record { a = options.a; b = o } in both) (kept sides.B)
+
+pub is_run_of_own : {R : Type 0} (options : Both Options) (world : WorldView R) → IsRun options world → IsRun (options_of world) world
+is_run_of_own options world h = subst (λ (o : Both Options). IsRun o world) (sym (is_run_options options world h)) h
+
+-- ---- a side that grows
+
+events_shown-append : (options : Options) (xs ys : List Outcome) → events_shown options (xs ++ ys) ≡ events_shown options xs ++ events_shown options ys
+events_shown-append options xs ys =
+    ap (λ (l : List (Event Emission)). map (event_map (emission_bytes (ports_of options))) l) (events_of-append xs ys)
+    ∙ map-append (event_map (emission_bytes (ports_of options))) (events_of xs) (events_of ys)
+
+side_grows : {R : Type 0} (options : Options) (turns : List Outcome) (Turns : List Outcome → Type 0) (old new : SideShown R) (grows : Grows Turns old new)
+    → (endpoint_after options turns).options ≡ options → SideRuns options turns old → SideRuns options (turns ++ grows.outcomes) new
+side_grows options turns Turns old new grows kept h =
+    let os = grows.outcomes in
+    let same : old.socket.view.endpoint.options ≡ options = ap (λ (e : Endpoint). e.options) h.endpoint ∙ kept in
+    let told : map (user_event (ports_of old.socket.view.endpoint.options)) (events_of os) ≡ events_shown options os = ap (λ (o : Options). map (user_event (ports_of o)) (events_of os)) same in
+    record {
+      goes_on = grows.failed ∙ h.goes_on;
+      endpoint = grows.endpoint ∙ ap (λ (e : Endpoint). after_all e os) h.endpoint ∙ sym (after_all-append (fresh_endpoint options) turns os);
+      waiting = grows.waiting;
+      events = grows.events ∙ ap (λ (l : List (Event (List ℕ))). l ++ map (user_event (ports_of old.socket.view.endpoint.options)) (events_of os)) h.events
+          ∙ ap (λ (l : List (Event (List ℕ))). events_shown options turns ++ l) told ∙ sym (events_shown-append options turns os);
+      packets = grows.packets ∙ ap (λ (l : List (List ℕ)). l ++ packets_in (map (user_event (ports_of old.socket.view.endpoint.options)) (events_of os))) h.packets
+          ∙ ap (λ (l : List (Event (List ℕ))). packets_shown options turns ++ packets_in l) told
+          ∙ sym (packets_in-append (events_shown options turns) (events_shown options os)) ∙ ap packets_in (sym (events_shown-append options turns os));
+      pairs = grows.pairs ∙ ap (λ (l : List Pair). l ++ pairs_of os) h.pairs ∙ sym (pairs_of-append turns os);
+    }
+
+-- ---- a step more
+
+abbrev SidesRun : {R : Type 0} → Both Options → Both (List Outcome) → Both (SideShown R) → Side → Type 0
+SidesRun options turns shown side = SideRuns (of_side side options) (of_side side turns) (of_side side shown)
+
+-- the side that moved, and the other
+sides_next : {R : Type 0} (options : Both Options) (turns : Both (List Outcome)) (old moved : Both (SideShown R)) (Turns : List Outcome → Type 0) (mover : Side)
+    (grows : Grows Turns (of_side mover old) (of_side mover moved)) → of_other mover moved ≡ of_other mover old
+    → (endpoint_after (of_side mover options) (of_side mover turns)).options ≡ of_side mover options
+    → ((side : Side) → SidesRun options turns old side) → (side : Side) → SidesRun options (with_turns mover grows.outcomes turns) moved side
+sides_next options turns old moved Turns sides.A grows stays kept before sides.A = side_grows options.a turns.a Turns old.a moved.a grows kept (before sides.A)
+sides_next {R = R} options turns old moved Turns sides.A grows stays kept before sides.B = subst (λ (s : SideShown R). SideRuns options.b turns.b s) (sym stays) (before sides.B)
+sides_next {R = R} options turns old moved Turns sides.B grows stays kept before sides.A = subst (λ (s : SideShown R). SideRuns options.a turns.a s) (sym stays) (before sides.A)
+sides_next options turns old moved Turns sides.B grows stays kept before sides.B = side_grows options.b turns.b Turns old.b moved.b grows kept (before sides.B)
+
+-- no association was noted yet
+same_associations : {R : Type 0} (old moved : Both (SideShown R)) (Turns : List Outcome → Type 0) (mover : Side)
+    → Grows Turns (of_side mover old) (of_side mover moved) → of_other mover moved ≡ of_other mover old
+    → (side : Side) → (of_side side moved).associations ≡ (of_side side old).associations
+same_associations old moved Turns sides.A grows stays sides.A = grows.associations
+same_associations {R = R} old moved Turns sides.A grows stays sides.B = ap (λ (s : SideShown R). s.associations) stays
+same_associations {R = R} old moved Turns sides.B grows stays sides.A = ap (λ (s : SideShown R). s.associations) stays
+same_associations old moved Turns sides.B grows stays sides.B = grows.associations
+
+-- then both are noted
+noted : {R : Type 0} (moved : Both (SideShown R)) (side : Side)
+    → (of_side side (with_associations moved)).associations ≡ (of_side side moved).associations ++ association_of (of_side side moved).socket.view.endpoint.core ∷ []
+noted moved sides.A = refl
+noted moved sides.B = refl
+
+noted_runs : {R : Type 0} (options : Both Options) (turns : Both (List Outcome)) (moved : Both (SideShown R)) (side : Side) → SidesRun options turns moved side
+    → SidesRun options turns (with_associations moved) side
+noted_runs options turns moved sides.A h = record { goes_on = h.goes_on; endpoint = h.endpoint; waiting = h.waiting; events = h.events; packets = h.packets; pairs = h.pairs }
+noted_runs options turns moved sides.B h = record { goes_on = h.goes_on; endpoint = h.endpoint; waiting = h.waiting; events = h.events; packets = h.packets; pairs = h.pairs }
+
+other_packets : {R : Type 0} (options : Both Options) (turns : Both (List Outcome)) (old : Both (SideShown R)) (mover : Side) → ((side : Side) → SidesRun options turns old side)
+    → (of_other mover old).packets ≡ packets_shown (of_other mover options) (of_other mover turns)
+other_packets options turns old sides.A runs = (runs sides.B).packets
+other_packets options turns old sides.B runs = (runs sides.A).packets
+
+-- the step's turns, from where the sides' turns had led
+turns_of : {R : Type 0} (options : Both Options) (turns : Both (List Outcome)) (old : Both (SideShown R)) (step : Step) (os : List Outcome)
+    → ((side : Side) → SidesRun options turns old side)
+    → StepTurns (of_side (side_of step) old).socket.view.endpoint (of_other (side_of step) old).packets step os → NextTurns options turns step os
+turns_of options turns old step os runs turned =
+    let mover : Side = side_of step in
+    subst (λ (packets : List (List ℕ)). StepTurns (endpoint_after (of_side mover options) (of_side mover turns)) packets step os) (other_packets options turns old mover runs)
+    (subst (λ (e : Endpoint). StepTurns e (of_other mover old).packets step os) (runs mover).endpoint turned)
+
+pub is_run_next : {R : Type 0} (options : Both Options) (step : Step) (reply : Reply) (old new : WorldView R) → IsRun options old → Applied step reply old new → IsRun options new
+is_run_next {R = R} options step reply old new h applied =
+    let mover : Side = side_of step in
+    let moved : Both (SideShown R) = applied.moved in
+    let os = applied.moves.grows.outcomes in
+    let before : Both (List Outcome) = turns_after h.steps in
+    let worked : Worked = record { step = step; outcomes = os } in
+    let now : Both (List Outcome) = with_turns mover os before in
+    let Turns : List Outcome → Type 0 = StepTurns (of_side mover old.sides).socket.view.endpoint (of_other mover old.sides).packets step in
+    let runs : (side : Side) → SidesRun options now moved side =
+    sides_next options before old.sides moved Turns mover applied.moves.grows applied.moves.other_stays (sockets_keep_options.run options h.steps h.run mover) h.sides in
+    let ends = turns_of options before old.sides step os h.sides applied.moves.grows.turns in
+    record {
+      usable = h.usable;
+      steps = worked ∷ h.steps;
+      run = (ends, h.run);
+      acts = applied.acts ∙ ap (λ (l : List Act). l ++ acts.Step step ∷ []) h.acts ∙ sym (map-append acts.Step (reverse (schedule_of h.steps)) (step ∷ []))
+          ∙ ap (λ (l : List Step). map acts.Step l) (sym (reverse-cons step (schedule_of h.steps)));
+      sides = λ (side : Side). subst (λ (both : Both (SideShown R)). SidesRun options now both side) (sym applied.sides) (noted_runs options now moved side (runs side));
+      associations = λ (side : Side).
+          ap (λ (both : Both (SideShown R)). (of_side side both).associations) applied.sides ∙ noted moved side
+          ∙ ap (λ (l : List (Option Association)). l ++ association_of (of_side side moved).socket.view.endpoint.core ∷ [])
+          (same_associations old.sides moved Turns mover applied.moves.grows applied.moves.other_stays side ∙ h.associations side)
+          ∙ ap (λ (e : Endpoint). reverse (associations_of side options h.steps) ++ association_of e.core ∷ []) (runs side).endpoint
+          ∙ sym (reverse-cons (association_of (endpoint_after (of_side side options) (of_side side now)).core) (associations_of side options h.steps));
+    }

@@ -1,0 +1,73 @@
+-- What the calls of a world do.
+use Rattle.std.specs.Prelude.{◌≡◌, true, false, Result, Ok, Err, List, [], ◌∷◌, ◌++◌, map}
+use Rattle.dcsctp_machine.specs.declared.schedule.Side.{Side}
+use Rattle.dcsctp_machine.specs.declared.schedule.Step.{Step}
+use Rattle.dcsctp_machine.specs.Endpoint.{association_of}
+use Rattle.dcsctp_machine.specs.Sockets.{Both, of_side, of_other, side_of, StepTurns}
+use Rattle.dcsctp_api.specs.declared.errors.SocketFault.{SocketFault}
+use Rattle.dcsctp_api.specs.declared.errors.SocketFault.TheVariants.{OutOfMemory, Failed}
+use Rattle.dcsctp_world.specs.declared.act.Act.TheVariants as acts
+use Rattle.dcsctp_world.specs.declared.act.Reply.{Reply}
+use Rattle.dcsctp_world.specs.Shown.{SideShown, WorldView, options_of}
+use Rattle.dcsctp_world.specs.Growth.{Extends, Grows, SideExtends, with_association, reply_of}
+use Rattle.dcsctp_world.specs.Run.{IsRun}
+
+-- A step moved its own side, and left the other; no association was noted yet.
+pub record StepMoves {R : Type 0} (step : Step) (answer : Reply) (old new : Both (SideShown R)) : Type 0 where
+  pub grows : Grows (StepTurns (of_side (side_of step) old).socket.view.endpoint (of_other (side_of step) old).packets step)
+      (of_side (side_of step) old) (of_side (side_of step) new)
+  pub other_stays : of_other (side_of step) new ≡ of_other (side_of step) old
+  pub reply : answer ≡ reply_of (of_other (side_of step) old).packets step
+
+-- both sides with their associations as they are now
+abbrev pub with_associations : {R : Type 0} → Both (SideShown R) → Both (SideShown R)
+with_associations sides = record { a = with_association sides.a; b = with_association sides.b }
+
+-- A step was applied: it moved its own side, both associations were noted, and the step was kept.
+pub record Applied {R : Type 0} (step : Step) (reply : Reply) (old new : WorldView R) : Type 0 where
+  pub runs : old.failed ≡ false
+  pub goes_on : new.failed ≡ false
+  pub moved : Both (SideShown R)
+  pub moves : StepMoves step reply old.sides moved
+  pub sides : new.sides ≡ with_associations moved
+  pub acts : new.acts ≡ old.acts ++ acts.Step step ∷ []
+
+-- Each list begins with what it held.
+pub record BothExtend {R : Type 0} (old new : Both (SideShown R)) : Type 0 where
+  pub a : SideExtends old.a new.a
+  pub b : SideExtends old.b new.b
+
+pub record WorldExtends {R : Type 0} (old new : WorldView R) : Type 0 where
+  pub sides : BothExtend old.sides new.sides
+  pub acts : Extends old.acts new.acts
+
+-- A growth was refused: the world has failed, and each list begins with what it held.
+pub record RanOut {R : Type 0} (old new : WorldView R) : Type 0 where
+  pub runs : old.failed ≡ false
+  pub fails : new.failed ≡ true
+  pub extends : WorldExtends old new
+
+-- The world had failed, and nothing changes.
+pub record StaysFailed {R : Type 0} (old new : WorldView R) : Type 0 where
+  pub had_failed : old.failed ≡ true
+  pub same : new ≡ old
+
+abbrev pub Applies : {R : Type 0} → Step → WorldView R → Result Reply SocketFault → WorldView R → Type 0
+Applies step old (Ok reply) new = Applied step reply old new
+Applies step old (Err OutOfMemory) new = RanOut old new
+Applies step old (Err Failed) new = StaysFailed old new
+
+-- These steps were applied, one after another: all that the world shows is what a run shows, of the steps from its
+-- making on.
+pub record Ran {R : Type 0} (steps : List Step) (old new : WorldView R) : Type 0 where
+  pub runs : old.failed ≡ false
+  pub goes_on : new.failed ≡ false
+  pub acts : new.acts ≡ old.acts ++ map acts.Step steps
+  pub extends : WorldExtends old new
+  pub options : options_of new ≡ options_of old
+  pub is_run : IsRun (options_of old) new
+
+abbrev pub Runs : {R : Type 0} → List Step → WorldView R → Result (Unit {0}) SocketFault → WorldView R → Type 0
+Runs steps old (Ok done) new = Ran steps old new
+Runs steps old (Err OutOfMemory) new = RanOut old new
+Runs steps old (Err Failed) new = StaysFailed old new

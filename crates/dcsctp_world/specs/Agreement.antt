@@ -1,0 +1,37 @@
+-- What the two sockets of a world agree on, along the run that it shows.
+use Rattle.std.specs.Prelude.{◌≡◌, List, []}
+use Rattle.dcsctp_machine.specs.declared.association.Pair.{Pair}
+use Rattle.dcsctp_machine.specs.declared.options.Options.{Options}
+use Rattle.dcsctp_machine.specs.declared.schedule.Side.{Side}
+use Rattle.dcsctp_machine.specs.declared.schedule.Step.{Step}
+use Rattle.dcsctp_machine.specs.Endpoint.{open_in, established}
+use Rattle.dcsctp_machine.specs.Offer.{offer_of, negotiated}
+use Rattle.dcsctp_machine.specs.control.Handshake.{new_held}
+use Rattle.dcsctp_machine.specs.Sockets.{Both}
+use Rattle.dcsctp_runs.specs.Agreement.{HasDistinctTags, AgreeThroughout}
+use Rattle.dcsctp_runs.specs.Handshake.{handshake, AreFitting, connections}
+use Rattle.dcsctp_world.specs.Shown.{SideShown, WorldView}
+use Rattle.dcsctp_world.specs.Run.{IsRun}
+
+-- All that the world shows is what a run shows; and where no side drew a verification tag twice, each OnConnected
+-- of the run, when it is told, finds that the other side holds, or held, the crossed association.
+pub record Agrees {R : Type 0} (options : Both Options) (world : WorldView R) : Type 0 where
+  pub is_run : IsRun options world
+  pub agree : HasDistinctTags world.sides.a.pairs → HasDistinctTags world.sides.b.pairs → AgreeThroughout options is_run.steps
+
+-- The side is Established with this pair and peer, and was told OnConnected once.
+pub record ShowsConnected {R : Type 0} (mine theirs : Options) (side : SideShown R) (my peer : Pair) : Type 0 where
+  pub core : side.socket.view.endpoint.core ≡ open_in established my (new_held my peer (negotiated (offer_of mine) (offer_of theirs)))
+  pub once : connections side.events ≡ 1
+
+-- Both are so, and crossed.
+pub record BothConnected {R : Type 0} (options : Both Options) (world : WorldView R) : Type 0 where
+  pub a_pair : Pair
+  pub b_pair : Pair
+  pub a : ShowsConnected options.a options.b world.sides.a a_pair b_pair
+  pub b : ShowsConnected options.b options.a world.sides.b b_pair a_pair
+
+-- The four packets of a handshake in turn, with no act before them, connect sockets that fit each other (RFC 9260,
+-- section 5.1).
+abbrev pub HandshakeConnects : {R : Type 0} → Both Options → List Step → WorldView R → WorldView R → Type 0
+HandshakeConnects options steps old new = old.acts ≡ [] → AreFitting options → (side : Side) → steps ≡ handshake side → BothConnected options new

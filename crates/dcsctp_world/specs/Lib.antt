@@ -1,0 +1,6 @@
+pub mod Acts
+pub mod Agreement
+pub mod Growth
+pub mod Parts
+pub mod Run
+pub mod Shown

@@ -1,0 +1,34 @@
+-- What the parts of a world show.
+use Rattle.std.specs.Prelude.{ℕ, Bool, List, map, Vec}
+use Rattle.std.specs.declared.alloc.Global.{Global}
+use Rattle.dcsctp_machine.specs.Sockets.{Both}
+use Rattle.dcsctp_api.specs.declared.events.SocketEvent.{SocketEvent}
+use Rattle.dcsctp_api.specs.Events.{event_content}
+use Rattle.dcsctp_world.specs.declared.act.Act.{Act}
+use Rattle.dcsctp_world.specs.declared.end.End.{End}
+use Rattle.dcsctp_world.specs.Growth.{Kept}
+use Rattle.dcsctp_world.specs.Shown.{SideShown, WorldView}
+
+-- the bytes of packets
+abbrev pub packet_bytes : List (Vec ℕ Global) → List (List ℕ)
+packet_bytes packets = map (λ (packet : Vec ℕ Global). packet.items) packets
+
+-- events and packets that are kept
+abbrev pub kept : List SocketEvent → List (Vec ℕ Global) → Kept
+kept events packets = record { events = map event_content events; packets = packet_bytes packets }
+
+abbrev pub shown : {R : Type 0} → End R → SideShown R
+shown end =
+    record {
+      socket = end.socket;
+      events = map event_content end.events.items;
+      packets = packet_bytes end.packets.items;
+      pairs = end.pairs.items;
+      associations = end.associations.items;
+    }
+
+abbrev pub both : {R : Type 0} → End R → End R → Both (SideShown R)
+both a b = record { a = shown a; b = shown b }
+
+abbrev pub world_of : {R : Type 0} → End R → End R → List Act → Bool → WorldView R
+world_of a b acts failed = record { sides = both a b; acts = acts; failed = failed }

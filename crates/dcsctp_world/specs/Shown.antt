@@ -1,0 +1,37 @@
+-- What a world shows of its two sockets.
+use Rattle.std.specs.Prelude.{ℕ, Bool, false, Option, None, List, [], ◌∷◌}
+use Rattle.dcsctp_machine.specs.declared.association.Pair.{Pair}
+use Rattle.dcsctp_machine.specs.declared.association.Association.{Association}
+use Rattle.dcsctp_machine.specs.declared.options.Options.{Options}
+use Rattle.dcsctp_machine.specs.Event.{Event}
+use Rattle.dcsctp_machine.specs.Sockets.{Both}
+use Rattle.dcsctp_socket.specs.SocketView.{SocketView, fresh_socket}
+use Rattle.dcsctp_world.specs.declared.act.Act.{Act}
+
+-- A socket, and all that it ever showed, oldest first: its events, the packets among them, the pairs that it
+-- drew, and its association at the start and after each act of either side.
+pub record SideShown (R : Type 0) : Type 0 where
+  pub socket : SocketView R
+  pub events : List (Event (List ℕ))
+  pub packets : List (List ℕ)
+  pub pairs : List Pair
+  pub associations : List (Option Association)
+
+-- two of these, what happened to them, oldest first, and whether a growth was refused
+pub record WorldView (R : Type 0) : Type 0 where
+  pub sides : Both (SideShown R)
+  pub acts : List Act
+  pub failed : Bool
+
+-- a side with a socket that was just made
+abbrev pub fresh_side : {R : Type 0} → Options → R → SideShown R
+fresh_side options generator = record { socket = fresh_socket options generator; events = []; packets = []; pairs = []; associations = None ∷ [] }
+
+-- a world that was just made
+abbrev pub fresh_world : {R : Type 0} → Both Options → Both R → WorldView R
+fresh_world options generators =
+    record { sides = record { a = fresh_side options.a generators.a; b = fresh_side options.b generators.b }; acts = []; failed = false }
+
+-- the options of its sockets
+abbrev pub options_of : {R : Type 0} → WorldView R → Both Options
+options_of world = record { a = world.sides.a.socket.view.endpoint.options; b = world.sides.b.socket.view.endpoint.options }

@@ -1,0 +1,173 @@
+//! One of the two sockets, with all that it ever showed.
+
+ghost use Rattle.std.specs.Prelude.{◌≡◌, [], ◌∷◌, IfOk, IsOkUnless, OnOk, OnErr};
+ghost use Rattle.std.specs.Option.{option_map};
+ghost use Rattle.dcsctp_machine.specs.Settings.{IsValid};
+ghost use Rattle.dcsctp_machine.specs.Sockets.{numbered, UserTurns, DeliveryTurns, StepTurns};
+ghost use Rattle.dcsctp_api.specs.Events.{event_content};
+ghost use Rattle.dcsctp_socket.specs.SocketView.{user_view_of};
+ghost use Rattle.dcsctp_world.specs.Shown.{fresh_side};
+ghost use Rattle.dcsctp_world.specs.Growth.{KeptExtends, Taken, with_events, Collects, Grows, SideExtends, with_association, reply_of, delivery_reply};
+ghost use Rattle.dcsctp_world.specs.Parts.{packet_bytes, kept, shown};
+
+use crate::act::Reply;
+use dcsctp_machine::{Call, Step};
+use dcsctp_socket::{Association, DcSctpSocket, Options, Pair, Socket, SocketEvent, SocketFault};
+use rand_core::Rng;
+use std::alloc::{AllocError, Global};
+
+/// A socket, and what it showed from its making on.
+#[derive(Drop)]
+pub struct End<R> {
+    /// The socket. Between two acts no event waits in it.
+    pub socket: Socket<R>,
+
+    /// Its events.
+    pub events: Vec<SocketEvent>,
+
+    /// The packets among them.
+    pub packets: Vec<Vec<u8>>,
+
+    /// The pairs that it drew.
+    pub pairs: Vec<Pair>,
+
+    /// Its association at the start and after each act of either side.
+    pub associations: Vec<Option<Association>>,
+}
+
+// Keeps an event, and its packet where it is one.
+fn keep_event(
+    events: &mut Vec<SocketEvent>,
+    packets: &mut Vec<Vec<u8>>,
+    event: SocketEvent,
+) -> Result<(), AllocError>
+    ensures ok { OnOk result (kept events.new.items packets.new.items
+        ≡ with_events (event_content event ∷ []) (kept events.old.items packets.old.items)) }
+    ensures err { OnErr result (KeptExtends (kept events.old.items packets.old.items)
+        (kept events.new.items packets.new.items)) }
+{
+    if let SocketEvent::SendPacket(packet) = &event {
+        packets.push(packet.clone()?)?;
+    }
+    events.push(event)?;
+    Ok(())
+}
+
+// Takes all events that wait in the socket.
+fn take_events<R: Rng + Drop>(
+    socket: &mut Socket<R>,
+    events: &mut Vec<SocketEvent>,
+    packets: &mut Vec<Vec<u8>>,
+) -> Result<(), AllocError>
+    ensures ok { OnOk result (Taken (user_view_of socket.old) (kept events.old.items
+        packets.old.items) (user_view_of socket.new) (kept events.new.items packets.new.items)) }
+    ensures all { OnOk result (socket.new.view.events ≡ []) }
+    ensures err { OnErr result (KeptExtends (kept events.old.items packets.old.items)
+        (kept events.new.items packets.new.items)) }
+{
+    while let Some(event) = socket.poll_event() {
+        keep_event(events, packets, event)?;
+    }
+    Ok(())
+}
+
+// The packet of this number, counted from 1.
+fn packet_numbered(packets: &[Vec<u8>], number: usize) -> Option<&Vec<u8>>
+    ensures { numbered number (packet_bytes packets.now) ≡ option_map (λ packet. packet.now.items)
+        result }
+{
+    if number == 0 {
+        return None;
+    }
+    packets.get(number - 1)
+}
+
+impl<R: Rng + Drop> End<R> {
+    /// A socket that was just made. The one error is `SocketFault::OutOfMemory`.
+    pub fn new(alloc: Global, name: &str, options: &Options, rng: R) -> Result<End<R>, SocketFault>
+        requires { IsValid options.now }
+        ensures fresh { IfOk result (λ end. shown end ≡ fresh_side options.now rng) }
+        ensures fault { IsOkUnless result SocketFault.OutOfMemory }
+    {
+        let socket = Socket::new(alloc, name, options, rng)?;
+        let mut associations = Vec::new(alloc);
+        associations.push(None)?;
+        Ok(End {
+            socket,
+            events: Vec::new(alloc),
+            packets: Vec::new(alloc),
+            pairs: Vec::new(alloc),
+            associations,
+        })
+    }
+
+    // Keeps what the last call brought: its events and the pairs that it drew.
+    fn keep_all(&mut self) -> Result<(), AllocError>
+        ensures ok { OnOk result (Collects (shown self.old) (shown self.new)) }
+        ensures err { OnErr result (SideExtends (shown self.old) (shown self.new)) }
+    {
+        take_events(&mut self.socket, &mut self.events, &mut self.packets)?;
+        self.pairs.extend_from_slice(self.socket.drawn_pairs())?;
+        Ok(())
+    }
+
+    // The user calls.
+    fn call(&mut self, call: Call) -> Result<(), SocketFault>
+        requires { self.old.socket.view.events ≡ [] }
+        ensures ok { OnOk result (Grows (UserTurns self.old.socket.view.endpoint call)
+            (shown self.old) (shown self.new)) }
+        ensures err { OnErr result (SideExtends (shown self.old) (shown self.new)) }
+    {
+        match call {
+            Call::Connect => self.socket.connect()?,
+        }
+        self.keep_all()?;
+        Ok(())
+    }
+
+    // Hands over the packet of this number, where there is one.
+    fn deliver(&mut self, packets: &[Vec<u8>], number: usize) -> Result<Reply, SocketFault>
+        requires { self.old.socket.view.events ≡ [] }
+        ensures ok { OnOk result (Grows (DeliveryTurns self.old.socket.view.endpoint
+            (numbered number (packet_bytes packets.now))) (shown self.old) (shown self.new)) }
+        ensures reply { IfOk result (λ reply. reply ≡ delivery_reply
+            (numbered number (packet_bytes packets.now))) }
+        ensures err { OnErr result (SideExtends (shown self.old) (shown self.new)) }
+    {
+        match packet_numbered(packets, number) {
+            None => Ok(Reply::NoCall),
+            Some(packet) => {
+                self.socket.handle_input(packet)?;
+                self.keep_all()?;
+                Ok(Reply::Done)
+            }
+        }
+    }
+
+    /// Works a step at this side, where the other has emitted these packets. An error is that a growth
+    /// was refused.
+    pub fn work(&mut self, packets: &[Vec<u8>], step: &Step) -> Result<Reply, SocketFault>
+        requires { self.old.socket.view.events ≡ [] }
+        ensures ok { OnOk result (Grows (StepTurns self.old.socket.view.endpoint
+            (packet_bytes packets.now) step.now) (shown self.old) (shown self.new)) }
+        ensures reply { IfOk result (λ reply. reply ≡ reply_of (packet_bytes packets.now) step.now) }
+        ensures err { OnErr result (SideExtends (shown self.old) (shown self.new)) }
+    {
+        match step {
+            Step::Call(_, call) => {
+                self.call(*call)?;
+                Ok(Reply::Done)
+            }
+            Step::Deliver(_, number) => self.deliver(packets, *number),
+        }
+    }
+
+    /// Keeps the association as it is now. The one error is that there is no memory for it.
+    pub fn keep_association(&mut self) -> Result<(), AllocError>
+        ensures ok { OnOk result (shown self.new ≡ with_association (shown self.old)) }
+        ensures err { OnErr result (SideExtends (shown self.old) (shown self.new)) }
+    {
+        self.associations.push(self.socket.association())?;
+        Ok(())
+    }
+}

@@ -1,0 +1,17 @@
+//! Two sockets in one place: what happens to them, and what they show.
+//!
+//! A `World` applies steps one after another. A step is a call of one socket's user, or the delivery of
+//! a packet that the other socket emitted: any of them, at any moment, as often as the schedule says. So
+//! a list of steps says what a network between two sockets may do: lose, repeat, delay and reorder.
+#![tactic(auto)]
+
+mod act;
+mod end;
+#[cfg(test)]
+mod tests;
+mod world;
+
+pub use act::{Act, Reply};
+pub use dcsctp_machine::{Call, Side, Step};
+pub use dcsctp_socket as socket;
+pub use world::World;

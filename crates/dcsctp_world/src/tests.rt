@@ -1,0 +1,153 @@
+//! Two sockets that find each other, whatever the schedule.
+
+use crate::{Act, Call, Reply, Side, Step, World};
+use dcsctp_socket::{DcSctpSocket, Options, SocketEvent, SocketState};
+use rand_core::utils::NextWord;
+use rand_core::{Rng, utils};
+use std::alloc::Global;
+use std::test::Fail;
+
+/// A generator that gives two words, and then zeros.
+#[derive(Drop)]
+struct TwoWords {
+    first: u64,
+    second: u64,
+}
+
+impl NextWord<u64> for TwoWords {
+    ghost step = { λ s. (s.first, record { first = s.second; second = 0 }) };
+
+    fn next_word(&mut self) -> u64 {
+        let word = self.first;
+        self.first = self.second;
+        self.second = 0;
+        word
+    }
+}
+
+impl Rng for TwoWords {
+    ghost use Rattle.rand_core.specs.Steps.{stream_of, steps_u64_low};
+
+    ghost stream = { stream_of (steps_u64_low (λ s. (s.first, record { first = s.second; second = 0 }))) };
+
+    fn next_u32(&mut self) -> u32 {
+        (self.next_word() % 0x1_0000_0000) as u32
+    }
+
+    fn next_u64(&mut self) -> u64 {
+        self.next_word()
+    }
+
+    fn fill_bytes(&mut self, dst: &mut [u8]) {
+        utils::fill_bytes_via_u64(self, dst)
+    }
+}
+
+// A connects, and four packets go back and forth.
+const HANDSHAKE: [Step; 5] = [
+    Step::Call(Side::A, Call::Connect),
+    Step::Deliver(Side::B, 1),
+    Step::Deliver(Side::A, 1),
+    Step::Deliver(Side::B, 2),
+    Step::Deliver(Side::A, 2),
+];
+
+// Two sockets, of which A draws tag 7 and first TSN 100, and B tag 9 and first TSN 200.
+fn new_world(alloc: Global) -> Result<World<TwoWords>, Fail> {
+    let options = Options::default();
+    if !options.is_valid() {
+        return Err(Fail::new("the options are not valid"));
+    }
+    let rng_a = TwoWords {
+        first: 100,
+        second: 6,
+    };
+    let rng_b = TwoWords {
+        first: 200,
+        second: 8,
+    };
+    Ok(World::new(alloc, &options, &options, rng_a, rng_b)?)
+}
+
+// Two sockets after these steps.
+fn world_after(alloc: Global, steps: &[Step]) -> Result<World<TwoWords>, Fail> {
+    let mut world = new_world(alloc)?;
+    world.run(steps)?;
+    Ok(world)
+}
+
+#[test]
+fn four_packets_connect_two_sockets(rt: HostRuntime) -> Result<(), Fail> {
+    let world = world_after(rt.alloc(), &HANDSHAKE)?;
+    for (name, side, tag, first_tsn) in [("A", Side::A, 7, 100), ("B", Side::B, 9, 200)] {
+        assert_eq!(rt;
+            world.socket(side).state(),
+            SocketState::Connected,
+            "{name}"
+        );
+        assert_eq!(rt; world.packets(side).len(), 2, "{name}");
+        assert_eq!(rt; world.events(side).len(), 3, "{name}");
+        assert_eq!(rt; world.associations(side).len(), 6, "{name}");
+        let [pair] = world.pairs(side) else {
+            return Err(Fail::new("not one pair was drawn"));
+        };
+        assert!(rt; pair.tag == tag && pair.first_tsn == first_tsn, "{name}");
+    }
+    assert_eq!(rt; world.acts().len(), 5);
+    assert_eq!(rt; world.acts()[1], Act::Step(Step::Deliver(Side::B, 1)));
+    assert!(rt; !world.has_failed());
+    Ok(())
+}
+
+#[test]
+fn steps_answer_whether_a_call_was_made(rt: HostRuntime) -> Result<(), Fail> {
+    let mut world = new_world(rt.alloc())?;
+    let rows = [
+        ("no packet yet", Step::Deliver(Side::B, 1), Reply::NoCall),
+        ("connect", Step::Call(Side::A, Call::Connect), Reply::Done),
+        ("number 0", Step::Deliver(Side::B, 0), Reply::NoCall),
+        ("one too far", Step::Deliver(Side::B, 2), Reply::NoCall),
+        ("of this side", Step::Deliver(Side::A, 1), Reply::NoCall),
+        ("the INIT", Step::Deliver(Side::B, 1), Reply::Done),
+        (
+            "connect again",
+            Step::Call(Side::A, Call::Connect),
+            Reply::Done,
+        ),
+    ];
+    for (name, step, expected) in rows {
+        assert_eq!(rt; world.apply(&step)?, expected, "{name}");
+    }
+    assert_eq!(rt; world.packets(Side::A).len(), 1);
+    assert_eq!(rt; world.packets(Side::B).len(), 1);
+    assert_eq!(rt; world.associations(Side::B).len(), 8);
+    Ok(())
+}
+
+#[test]
+fn a_repeated_packet_adds_what_it_brings(rt: HostRuntime) -> Result<(), Fail> {
+    let rows = [
+        ("INIT to B", Step::Deliver(Side::B, 1), 2, 3, 2),
+        ("INIT ACK to A", Step::Deliver(Side::A, 1), 2, 2, 1),
+        ("COOKIE ECHO to B", Step::Deliver(Side::B, 2), 2, 3, 1),
+        ("COOKIE ACK to A", Step::Deliver(Side::A, 2), 2, 2, 1),
+    ];
+    for (name, step, packets_of_a, packets_of_b, pairs_of_b) in rows {
+        let mut world = world_after(rt.alloc(), &HANDSHAKE)?;
+        world.apply(&step)?;
+        assert_eq!(rt; world.packets(Side::A).len(), packets_of_a, "{name}");
+        assert_eq!(rt; world.packets(Side::B).len(), packets_of_b, "{name}");
+        assert_eq!(rt; world.pairs(Side::B).len(), pairs_of_b, "{name}");
+        assert_eq!(rt;
+            world.socket(Side::A).state(),
+            SocketState::Connected,
+            "{name}"
+        );
+        assert_eq!(rt;
+            world.socket(Side::B).state(),
+            SocketState::Connected,
+            "{name}"
+        );
+    }
+    Ok(())
+}

@@ -1,0 +1,237 @@
+//! Two sockets, and what happens to them.
+
+use crate::act::{Act, Reply, side_of};
+use crate::end::End;
+use dcsctp_machine::{Side, Step, options_fit};
+use dcsctp_runs::{fitting_sockets_connect, sockets_agree};
+use dcsctp_socket::{Association, Options, Pair, Socket, SocketEvent, SocketFault};
+use rand_core::Rng;
+use std::alloc::Global;
+use std::marker::Model;
+
+/// Two sockets, with all that happened to them and all that they ever showed.
+///
+/// Each takes the other's packets only by a step that delivers one. Where memory runs out in a call the
+/// call answers `SocketFault::OutOfMemory`; the world has failed from here on, and each later call that
+/// applies something answers `SocketFault::Failed` and changes nothing. What the world shows begins
+/// then with what it showed before the call that failed.
+#[derive(Drop)]
+pub struct World<R> {
+    a: End<R>,
+    b: End<R>,
+    acts: Vec<Act>,
+    failed: bool,
+}
+
+impl<R> Model for World<R> {
+    ghost use Rattle.std.specs.Prelude.{◌≡◌, false};
+    ghost use Rattle.dcsctp_world.specs.Shown.{WorldView, options_of};
+
+    ghost Value = { WorldView R };
+
+    ghost use Rattle.dcsctp_world.specs.Parts.{world_of};
+    ghost use Rattle.dcsctp_world.specs.Run.{IsRun};
+
+    ghost view = { λ w. world_of w.a w.b w.acts.items w.failed };
+
+    ghost invariant = { λ w. w.failed ≡ false → IsRun
+        (options_of (world_of w.a w.b w.acts.items w.failed))
+        (world_of w.a w.b w.acts.items w.failed) };
+}
+
+ghost use Rattle.std.specs.Prelude.{◌≡◌, [], false, map, OnOk, OnErr, IfOk, IsOkUnless};
+ghost use Rattle.dcsctp_machine.specs.Settings.{IsValid};
+ghost use Rattle.dcsctp_machine.specs.Sockets.{of_side};
+ghost use Rattle.dcsctp_api.specs.Events.{event_content};
+ghost use Rattle.dcsctp_world.specs.Shown.{fresh_world, options_of};
+ghost use Rattle.dcsctp_world.specs.Run.{IsRun};
+ghost use Rattle.dcsctp_world.specs.Agreement.{Agrees, HandshakeConnects};
+ghost use Rattle.dcsctp_world.specs.Acts.{StepMoves, BothExtend, Applied, WorldExtends, Applies, Runs};
+ghost use Rattle.dcsctp_world.specs.Parts.{packet_bytes, shown, both, world_of};
+
+// Works a step at its side.
+fn move_side<R: Rng + Drop>(
+    a: &mut End<R>,
+    b: &mut End<R>,
+    step: &Step,
+) -> Result<Reply, SocketFault>
+    requires a { a.old.socket.view.events ≡ [] }
+    requires b { b.old.socket.view.events ≡ [] }
+    ensures ok { IfOk result (λ reply. StepMoves step.now reply (both a.old b.old)
+        (both a.new b.new)) }
+    ensures err { OnErr result (BothExtend (both a.old b.old) (both a.new b.new)) }
+{
+    match side_of(step) {
+        Side::A => {
+            let reply = a.work(&b.packets, step)?;
+            Ok(reply)
+        }
+        Side::B => {
+            let reply = b.work(&a.packets, step)?;
+            Ok(reply)
+        }
+    }
+}
+
+// Works a step, and keeps it and what comes of it.
+fn work<R: Rng + Drop>(
+    a: &mut End<R>,
+    b: &mut End<R>,
+    acts: &mut Vec<Act>,
+    step: &Step,
+) -> Result<Reply, SocketFault>
+    requires a { a.old.socket.view.events ≡ [] }
+    requires b { b.old.socket.view.events ≡ [] }
+    ensures ok { IfOk result (λ reply. Applied step.now reply
+        (world_of a.old b.old acts.old.items false) (world_of a.new b.new acts.new.items false)) }
+    ensures err { OnErr result (WorldExtends (world_of a.old b.old acts.old.items false)
+        (world_of a.new b.new acts.new.items false)) }
+{
+    let reply = move_side(a, b, step)?;
+    a.keep_association()?;
+    b.keep_association()?;
+    acts.push(Act::Step(*step))?;
+    Ok(reply)
+}
+
+impl<R: Rng + Drop> World<R> {
+    /// Makes two closed sockets with these options; random words come from a generator for each.
+    ///
+    /// The options have to be valid, which `Options::is_valid` tells. The one error is
+    /// `SocketFault::OutOfMemory`.
+    pub fn new(
+        alloc: Global,
+        a: &Options,
+        b: &Options,
+        rng_a: R,
+        rng_b: R,
+    ) -> Result<World<R>, SocketFault>
+        requires a { IsValid a.now }
+        requires b { IsValid b.now }
+        ensures fresh { IfOk result (λ world. world ≡ fresh_world (record { a = a.now; b = b.now })
+            (record { a = rng_a; b = rng_b })) }
+        ensures run { IfOk result (λ world. IsRun (record { a = a.now; b = b.now }) world) }
+        ensures fault { IsOkUnless result SocketFault.OutOfMemory }
+    {
+        options_fit(a);
+        options_fit(b);
+        let a = End::new(alloc, "a", a, rng_a)?;
+        let b = End::new(alloc, "b", b, rng_b)?;
+        Ok(World {
+            a,
+            b,
+            acts: Vec::new(alloc),
+            failed: false,
+        })
+    }
+
+    /// Applies a step: the call is made, or the packet is handed over; all events are taken from the
+    /// socket, and what they show is kept.
+    ///
+    /// It answers `Reply::NoCall` where the number of a delivery names no packet, which changes no
+    /// socket, and else `Reply::Done`. The errors are `SocketFault::OutOfMemory`, where a growth of a
+    /// socket or of the world was refused, and `SocketFault::Failed`, where one was before.
+    pub fn apply(&mut self, step: &Step) -> Result<Reply, SocketFault>
+        ensures call { Applies step.now self.old result self.new }
+        ensures run { OnOk result (IsRun (options_of self.old) self.new) }
+        ensures options { OnOk result (options_of self.new ≡ options_of self.old) }
+    {
+        // A world that has failed applies no step.
+        if self.failed {
+            return Err(SocketFault::Failed);
+        }
+        match work(&mut self.a, &mut self.b, &mut self.acts, step) {
+            Ok(reply) => Ok(reply),
+            Err(_) => {
+                self.failed = true;
+                Err(SocketFault::OutOfMemory)
+            }
+        }
+    }
+
+    /// Applies steps one after another, up to the first that fails. The errors are those of `apply`.
+    ///
+    /// Over every schedule that loses, repeats, delays and reorders packets the two sockets agree: where
+    /// no side drew a verification tag twice, which `pairs` shows, each OnConnected finds that the other
+    /// side holds, or held, the crossed association with what the two have in common. And the four packets
+    /// of a handshake, delivered in turn, connect two fresh sockets that fit each other (RFC 9260,
+    /// section 5.1).
+    pub fn run(&mut self, steps: &[Step]) -> Result<(), SocketFault>
+        ensures call { Runs steps.now self.old result self.new }
+        ensures agreement { OnOk result (Agrees (options_of self.old) self.new) }
+        ensures handshake { OnOk result (HandshakeConnects (options_of self.old) steps.now self.old
+            self.new) }
+    {
+        // Nor does it run no steps at all.
+        if self.failed {
+            return Err(SocketFault::Failed);
+        }
+        sockets_agree();
+        fitting_sockets_connect();
+        for step in steps {
+            self.apply(step)?;
+        }
+        Ok(())
+    }
+
+    // One of the two ends.
+    fn end(&self, side: Side) -> &End<R>
+        ensures { shown result.now ≡ of_side side self.now.sides }
+    {
+        match side {
+            Side::A => &self.a,
+            Side::B => &self.b,
+        }
+    }
+
+    /// All that was applied, in order. It takes no memory.
+    pub fn acts(&self) -> &[Act]
+        ensures { result.now ≡ self.now.acts }
+    {
+        &self.acts
+    }
+
+    /// The bytes of every packet that this side ever emitted, in order. It takes no memory.
+    pub fn packets(&self, side: Side) -> &[Vec<u8>]
+        ensures { packet_bytes result.now ≡ (of_side side self.now.sides).packets }
+    {
+        &self.end(side).packets
+    }
+
+    /// All events of this side, in order. It takes no memory.
+    pub fn events(&self, side: Side) -> &[SocketEvent]
+        ensures { map event_content result.now ≡ (of_side side self.now.sides).events }
+    {
+        &self.end(side).events
+    }
+
+    /// Every pair of a tag and a first TSN that this side drew, in order: own ones, and those of answers
+    /// to an INIT (RFC 9260, section 5.1). It takes no memory.
+    pub fn pairs(&self, side: Side) -> &[Pair]
+        ensures { result.now ≡ (of_side side self.now.sides).pairs }
+    {
+        &self.end(side).pairs
+    }
+
+    /// What this side's association was at the start and after each act of either side. It takes no
+    /// memory.
+    pub fn associations(&self, side: Side) -> &[Option<Association>]
+        ensures { result.now ≡ (of_side side self.now.sides).associations }
+    {
+        &self.end(side).associations
+    }
+
+    /// This side's socket. It takes no memory.
+    pub fn socket(&self, side: Side) -> &Socket<R>
+        ensures { result.now ≡ (of_side side self.now.sides).socket }
+    {
+        &self.end(side).socket
+    }
+
+    /// Was a growth refused in an earlier call? It takes no memory.
+    pub fn has_failed(&self) -> bool
+        ensures { result ≡ self.now.failed }
+    {
+        self.failed
+    }
+}
