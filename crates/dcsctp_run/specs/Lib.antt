@@ -1,0 +1,4 @@
+pub mod Ending
+pub mod Number
+pub mod Script
+pub mod Words

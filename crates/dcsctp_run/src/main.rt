@@ -1,0 +1,15 @@
+//! The program `dcsctp-run`: it reads a script from standard input, runs it on two sockets, and
+//! writes what comes of it to standard output. `program` says what a script is.
+#![tactic(auto)]
+
+mod program;
+
+use program::run_script;
+use std::io;
+use std::process::ExitCode;
+
+fn main(rt: HostRuntime) -> ExitCode {
+    let mut reader = rt.reader();
+    let mut writer = io::writer(&rt);
+    ExitCode::from(run_script(rt.alloc(), &mut reader, &mut writer).code())
+}

@@ -1,0 +1,72 @@
+//! Running a script: one command a line, on two sockets `A` and `B` that start closed.
+//!
+//! First come the lines that set options (`opt S name value`), then those that list random words
+//! (`words S w ..`), then the rest: `connect S`, `give S k`, `show S` and `state S`. After each
+//! command its events are printed, a line each. The first line that is none of these, or comes at
+//! the wrong place, ends the run.
+
+ghost use Rattle.std.specs.Prelude.{OnOk};
+ghost use Rattle.std.specs.Io.KnownBytes.{Appends};
+ghost use Rattle.dcsctp_run.specs.Ending.{last_line};
+
+mod failure;
+mod line;
+mod number;
+mod packet_text;
+mod printing;
+mod run;
+mod script;
+mod settings;
+mod setup;
+mod showing;
+#[cfg(test)]
+mod tests;
+mod words;
+
+use failure::Failure;
+pub use failure::Status;
+use run::run_lines;
+use script::Script;
+use std::alloc::Global;
+use std::io::{self, BufReader, BufWriter, Read, Write};
+
+/// Runs the script that the reader gives, and writes its lines to the writer.
+///
+/// What stood before a bad line has been run and printed, and then `line n: bad`; where memory is
+/// wanting, `out of memory`. What is written is passed on at the latest at the end.
+pub fn run_script<R: Read, W: Write>(alloc: Global, reader: &mut R, writer: &mut W) -> Status {
+    let outcome = run_buffered(alloc, reader, writer);
+    match outcome {
+        Ok(()) => Status::Done,
+        Err(failure) => match report(writer, &failure) {
+            Ok(()) => failure.status(),
+            Err(_) => Status::Broken,
+        },
+    }
+}
+
+// Runs the script, with a buffer at each end. What was printed goes out also where the run fails.
+fn run_buffered<R: Read, W: Write>(
+    alloc: Global,
+    reader: &mut R,
+    writer: &mut W,
+) -> Result<(), Failure> {
+    let mut script = Script::new(alloc, BufReader::new(alloc, reader)?);
+    let mut output = BufWriter::new(alloc, writer)?;
+    let outcome = run_lines(alloc, &mut script, &mut output);
+    output.flush()?;
+    outcome
+}
+
+// Writes the last line of a run that failed, if it has one.
+fn report<W: Write>(writer: &mut W, failure: &Failure) -> io::Result<()>
+    ensures { OnOk result (Appends (W.contents writer.old) (W.contents writer.new)
+        (last_line failure.now)) }
+{
+    match failure {
+        Failure::BadLine(number) => writeln!(writer, "line {number}: bad")?,
+        Failure::OutOfMemory => writeln!(writer, "out of memory")?,
+        Failure::Broken => {}
+    }
+    writer.flush()
+}

@@ -1,0 +1,47 @@
+//! Numbers in a line: decimal digits, leading zeros too, within a range.
+
+ghost use Rattle.std.specs.Prelude.{◌↔◌, IsTrue};
+ghost use Rattle.dcsctp_run.specs.Number.{HasPlus, ReadsNumber, ReadsSignedNumber, ReadsLimit};
+
+/// The number that the digits write, where it is at most `most`. No sign is read.
+pub fn number(text: &str, most: u64) -> Option<u64>
+    ensures { ReadsNumber text.now most result }
+{
+    if has_plus(text) {
+        return None;
+    }
+    match text.parse::<u64>() {
+        Ok(value) if value <= most => Some(value),
+        _ => None,
+    }
+}
+
+/// The same of a number that may begin with a minus.
+pub fn signed_number(text: &str) -> Option<i32>
+    ensures { ReadsSignedNumber text.now result }
+{
+    if has_plus(text) {
+        return None;
+    }
+    text.parse::<i32>().ok()
+}
+
+/// A number, or `none`.
+pub fn limit(text: &str, most: u64) -> Option<Option<u64>>
+    ensures { ReadsLimit text.now most result }
+{
+    if text == "none" {
+        return Some(None);
+    }
+    match number(text, most) {
+        Some(value) => Some(Some(value)),
+        None => None,
+    }
+}
+
+// Does a plus stand in front?
+fn has_plus(text: &str) -> bool
+    ensures { IsTrue result ↔ HasPlus text.now }
+{
+    text.as_bytes().first() == Some(&b'+')
+}
