@@ -1,9 +1,8 @@
 -- What a world shows is what a run shows: so its sockets agree.
-use Rattle.std.proofs.Common.{◌≡◌, ℕ, suc, List, [], ◌∷◌, ◌++◌, map, reverse, refl, sym, ap, subst, ◌∙◌}
+use Rattle.std.proofs.Common.{◌≡◌, ◌<◌, ℕ, zero, suc, arith, true, false, Result, Ok, Err, IsErrAnd, take, drop, get_or, length, List, [], ◌∷◌, ◌++◌, map, reverse, refl, sym, ap, subst, ◌∙◌}
 use Rattle.std.proofs.lemmas.List.{reverse-reverse}
 use Rattle.dcsctp_machine.specs.declared.association.Pair.{Pair}
 use Rattle.dcsctp_machine.specs.declared.options.Options.{Options}
-use Rattle.dcsctp_machine.specs.declared.schedule.Side.{Side}
 use Rattle.dcsctp_machine.specs.declared.schedule.Side.TheVariants as sides
 use Rattle.dcsctp_machine.specs.declared.schedule.Step.{Step}
 use Rattle.dcsctp_machine.specs.Event.{Event, event_map, sent, connected, closed, connection_restarted, aborted, error, buffered_amount_low, total_buffered_amount_low, streams_reset_failed, streams_reset_performed, incoming_stream_reset, lifecycle_message_fully_sent, lifecycle_message_maybe_expired, lifecycle_message_expired, lifecycle_message_delivered, lifecycle_end}
@@ -19,7 +18,9 @@ use Rattle.dcsctp_world.specs.declared.act.Act.{Act}
 use Rattle.dcsctp_world.specs.declared.act.Act.TheVariants as acts
 use Rattle.dcsctp_world.specs.Shown.{SideShown, WorldView, options_of}
 use Rattle.dcsctp_world.specs.Run.{SideRuns, IsRun}
-use Rattle.dcsctp_world.specs.Acts.{Ran}
+use Rattle.dcsctp_api.specs.declared.errors.SocketFault.{SocketFault}
+use Rattle.dcsctp_api.specs.declared.errors.SocketFault.TheVariants.{OutOfMemory, Failed}
+use Rattle.dcsctp_world.specs.Acts.{Applies, Ran, Runs}
 use Rattle.dcsctp_world.specs.Agreement.{Agrees, ShowsConnected, BothConnected, HandshakeConnects}
 
 pub world_agrees : {R : Type 0} → SocketsAgree → (options : Both Options) (world : WorldView R) → IsRun options world → Agrees options world
@@ -28,6 +29,39 @@ world_agrees law options world h =
       is_run = h;
       agree = λ a b. law options h.steps h.usable h.run (record { a = subst HasDistinctTags (h.sides sides.A).pairs a; b = subst HasDistinctTags (h.sides sides.B).pairs b });
     }
+
+-- ---- a growth that was refused among several steps
+
+split_at : (steps : List Step) (i : ℕ) (default : Step) → i < length steps → steps ≡ take i steps ++ get_or steps i default ∷ drop (suc i) steps
+split_at [] i default within = absurd (omega (arith, within))
+split_at (x ∷ xs) zero default within = refl
+split_at (x ∷ xs) (suc i) default within = ap (λ (l : List Step). x ∷ l) (split_at xs i default (omega (arith, within)))
+
+-- the steps before the one that was refused ran
+refused_at : {R : Type 0} → SocketsAgree → (steps : List Step) (i : ℕ) (default : Step) (fault : SocketFault) (old now new : WorldView R) → i < length steps
+    → Ran (take i steps) old now → Applies (get_or steps i default) now (Err fault) new → Runs steps old (Err fault) new
+refused_at law steps i default OutOfMemory old now new within ran out =
+    record {
+      done = take i steps;
+      refused = get_or steps i default;
+      rest = drop (suc i) steps;
+      all = split_at steps i default within;
+      before = now;
+      ran = ran;
+      agrees = world_agrees law (options_of old) now ran.is_run;
+      ran_out = out;
+    }
+refused_at law steps i default Failed old now new within ran out =
+    let goes_on : now.failed ≡ false = ran.goes_on in
+    let had_failed : now.failed ≡ true = out.had_failed in
+    absurd (cc)
+
+pub ran_out_among : {R : Type 0} → SocketsAgree → (steps : List Step) (i : ℕ) (default : Step) (fault : SocketFault) (old now new : WorldView R) → i < length steps
+    → Ran (take i steps) old now → Applies (get_or steps i default) now (Err fault) new
+    → (result : Result (Unit {0}) SocketFault) → IsErrAnd result (λ given. given ≡ fault) → Runs steps old result new
+ran_out_among law steps i default fault old now new within ran out (Ok done) is = absurd is
+ran_out_among law steps i default fault old now new within ran out (Err given) is =
+    subst (λ (f : SocketFault). Runs steps old (Err f) new) (sym is) (refused_at law steps i default fault old now new within ran out)
 
 -- ---- the handshake
 

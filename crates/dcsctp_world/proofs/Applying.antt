@@ -12,16 +12,14 @@ use Rattle.dcsctp_machine.specs.Outcome.{Outcome}
 use Rattle.dcsctp_machine.specs.CallTurns.{events_of, pairs_of}
 use Rattle.dcsctp_machine.specs.Sockets.{Both, of_side, of_other, side_of, StepTurns, packets_in}
 use Rattle.dcsctp_api.specs.Calls.{user_event}
-use Rattle.dcsctp_api.specs.declared.errors.SocketFault.{SocketFault}
-use Rattle.dcsctp_api.specs.declared.errors.SocketFault.TheVariants.{OutOfMemory, Failed}
 use Rattle.dcsctp_world.specs.declared.act.Act.{Act}
 use Rattle.dcsctp_world.specs.declared.act.Act.TheVariants as acts
 use Rattle.dcsctp_world.specs.declared.act.Reply.{Reply}
-use Rattle.dcsctp_world.specs.declared.end.End.{End}
+use Rattle.dcsctp_world.specs.declared.watched_socket.WatchedSocket.{WatchedSocket}
 use Rattle.dcsctp_world.specs.Shown.{SideShown, WorldView, options_of}
-use Rattle.dcsctp_world.specs.Growth.{Extends, Grows, SideExtends, with_association}
+use Rattle.dcsctp_world.specs.Growth.{Grows, SideExtends, with_association}
 use Rattle.dcsctp_world.specs.Run.{IsRun}
-use Rattle.dcsctp_world.specs.Acts.{StepMoves, BothExtend, with_associations, Applied, WorldExtends, RanOut, StaysFailed, Applies, Ran, Runs}
+use Rattle.dcsctp_world.specs.Acts.{StepMoves, BothExtend, with_associations, Applied, WorldExtends, Ran}
 use Rattle.dcsctp_world.specs.Parts.{world_of}
 use Rattle.dcsctp_world.proofs.Keeping.{extends_itself, extends_by, extends_further}
 use Rattle.dcsctp_world.proofs.Running.{is_run_next}
@@ -116,7 +114,7 @@ both_noted {R = R} moved new a b =
     ∙ ap (λ (s : SideShown R). let both : Both (SideShown R) = record { a = (with_associations moved).a; b = s } in both) b
 
 -- the world's own flag doesn't matter where it is not set
-pub applied_is_run : {R : Type 0} (step : Step) (reply : Reply) (a b new_a new_b : End R) (made new_made : List Act) (failed : Bool) → failed ≡ false
+pub applied_is_run : {R : Type 0} (step : Step) (reply : Reply) (a b new_a new_b : WatchedSocket R) (made new_made : List Act) (failed : Bool) → failed ≡ false
     → (failed ≡ false → IsRun (options_of (world_of a b made failed)) (world_of a b made failed))
     → Applied step reply (world_of a b made false) (world_of new_a new_b new_made false)
     → IsRun (options_of (world_of a b made failed)) (world_of new_a new_b new_made failed)

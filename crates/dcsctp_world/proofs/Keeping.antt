@@ -1,5 +1,5 @@
 -- What is taken from a socket and kept.
-use Rattle.std.proofs.Common.{◌≡◌, ℕ, zero, suc, ◌<◌, ◌≤◌, Bool, true, false, ltb, Option, Some, None, is_some, IfSome, List, [], ◌∷◌, ◌++◌, map, length, get_or, refl, sym, ap, ◌∙◌, append_assoc, arith, Vec, Bor}
+use Rattle.std.proofs.Common.{◌≡◌, ℕ, zero, suc, ◌<◌, ◌≤◌, true, false, ltb, Option, Some, None, is_some, IfSome, List, [], ◌∷◌, ◌++◌, map, length, get_or, refl, sym, ap, ◌∙◌, append_assoc, arith, Vec, Bor}
 use Rattle.std.proofs.lemmas.Bool.Decides.{nat_tests}
 use Rattle.std.proofs.lemmas.List.{append-nil, map-append}
 use Rattle.std.proofs.lemmas.Option.{slice_get-map, slice_get_read}
@@ -12,7 +12,7 @@ use Rattle.dcsctp_api.specs.declared.events.SocketEvent.{SocketEvent}
 use Rattle.dcsctp_api.specs.declared.events.SocketEvent.TheVariants.{SendPacket}
 use Rattle.dcsctp_api.specs.Events.{event_content}
 use Rattle.dcsctp_api.specs.Calls.{UserView, PollsEvent}
-use Rattle.dcsctp_world.specs.Growth.{Extends, Kept, with_events, KeptExtends, Taken}
+use Rattle.dcsctp_world.specs.Growth.{Extends, AddsFront, Kept, with_events, KeptFront, Taken}
 use Rattle.dcsctp_world.specs.Parts.{packet_bytes, kept}
 
 -- ---- lists that grow
@@ -28,6 +28,25 @@ extends_further xs ys zs first second =
     record {
       added = first.added ++ second.added;
       behind = second.behind ∙ ap (λ l. l ++ second.added) first.behind ∙ append_assoc xs first.added second.added;
+    }
+
+-- ---- a front part of a list
+
+pub front_same : {A : Type 0} {old new : List A} (all : List A) → new ≡ old → AddsFront all old new
+front_same {old = old} all same = record { added = []; rest = all; behind = same ∙ sym (append-nil old); front = refl }
+
+pub front_whole : {A : Type 0} {old new : List A} (all : List A) → new ≡ old ++ all → AddsFront all old new
+front_whole all behind = record { added = all; rest = []; behind = behind; front = sym (append-nil all) }
+
+-- the whole of what comes first, then a front part of what comes next
+front_behind : {A : Type 0} (whole first all rest old mid new : List A) → whole ≡ first ++ (all ++ rest) → mid ≡ old ++ first → AddsFront all mid new → AddsFront whole old new
+front_behind whole first all rest old mid new is before next =
+    record {
+      added = first ++ next.added;
+      rest = next.rest ++ rest;
+      behind = next.behind ∙ ap (λ l. l ++ next.added) before ∙ append_assoc old first next.added;
+      front = is ∙ ap (λ l. first ++ (l ++ rest)) next.front ∙ ap (λ l. first ++ l) (append_assoc next.added next.rest rest)
+          ∙ sym (append_assoc first next.added (next.rest ++ rest));
     }
 
 -- ---- packets among events
@@ -57,14 +76,36 @@ module _ (events events' : List SocketEvent) (packets packets' : List (Vec ℕ G
   added_events : (event : SocketEvent) → events' ≡ events ++ event ∷ [] → map event_content events' ≡ map event_content events ++ event_content event ∷ []
   added_events event is = ap (λ (l : List SocketEvent). map event_content l) is ∙ map-append event_content events (event ∷ [])
 
+  -- its packet too
+  added_packet : (event : SocketEvent) (packet copy : Vec ℕ Global) → event ≡ SendPacket packet → copy.items ≡ packet.items → packets' ≡ packets ++ copy ∷ []
+      → packet_bytes packets' ≡ packet_bytes packets ++ packets_in (event_content event ∷ [])
+  added_packet event packet copy is_packet same is =
+      ap packet_bytes is ∙ map-append (λ (p : Vec ℕ Global). p.items) packets (copy ∷ [])
+      ∙ ap (λ (l : List ℕ). packet_bytes packets ++ l ∷ []) same
+      ∙ ap (λ (e : SocketEvent). packet_bytes packets ++ packets_in (event_content e ∷ [])) (sym is_packet)
+
   pub kept_packet : (event : SocketEvent) (packet copy : Vec ℕ Global) → event ≡ SendPacket packet → copy.items ≡ packet.items
       → events' ≡ events ++ event ∷ [] → packets' ≡ packets ++ copy ∷ []
       → kept events' packets' ≡ with_events (event_content event ∷ []) (kept events packets)
   kept_packet event packet copy is_packet same is_events is_packets =
       same_kept (kept events' packets') (with_events (event_content event ∷ []) (kept events packets)) (added_events event is_events)
-      (ap packet_bytes is_packets ∙ map-append (λ (p : Vec ℕ Global). p.items) packets (copy ∷ [])
-      ∙ ap (λ (l : List ℕ). packet_bytes packets ++ l ∷ []) same
-      ∙ ap (λ (e : SocketEvent). packet_bytes packets ++ packets_in (event_content e ∷ [])) (sym is_packet))
+      (added_packet event packet copy is_packet same is_packets)
+
+  -- its packet alone: there was no memory for the event
+  pub kept_packet_alone : (event : SocketEvent) (packet copy : Vec ℕ Global) → event ≡ SendPacket packet → copy.items ≡ packet.items
+      → events' ≡ events → packets' ≡ packets ++ copy ∷ [] → KeptFront (event_content event ∷ []) (kept events packets) (kept events' packets')
+  kept_packet_alone event packet copy is_packet same is_events is_packets =
+      record {
+        events = front_same (event_content event ∷ []) (ap (λ (l : List SocketEvent). map event_content l) is_events);
+        packets = front_whole (packets_in (event_content event ∷ [])) (added_packet event packet copy is_packet same is_packets);
+      }
+
+  pub kept_nothing : (event : SocketEvent) → events' ≡ events → packets' ≡ packets → KeptFront (event_content event ∷ []) (kept events packets) (kept events' packets')
+  kept_nothing event is_events is_packets =
+      record {
+        events = front_same (event_content event ∷ []) (ap (λ (l : List SocketEvent). map event_content l) is_events);
+        packets = front_same (packets_in (event_content event ∷ [])) (ap packet_bytes is_packets);
+      }
 
   no_packet : (event : SocketEvent) → ((packet : Vec ℕ Global) → event ≡ SendPacket packet → ⊥) → packets_in (event_content event ∷ []) ≡ []
   no_packet (SendPacket packet) none = absurd (none packet refl)
@@ -85,6 +126,21 @@ taken_more old now new kept_before kept_now kept_then event so_far polled kept =
       front = so_far.front ∙ ap (λ (l : List (Event (List ℕ))). so_far.taken ++ l) polled.0 ∙ sym (append_assoc so_far.taken (event_content event ∷ []) new.events);
       kept = kept ∙ ap (λ (k : Kept). with_events (event_content event ∷ []) k) so_far.kept ∙ with_events-append kept_before so_far.taken (event_content event ∷ []);
       rest = polled.1 ∙ ap (λ (v : UserView). let w : UserView = record v { events = new.events } in w) so_far.rest;
+    }
+
+pub taken_in_part : (old now next : UserView) (kept_before kept_now kept_then : Kept) (event : SocketEvent)
+    → Taken old kept_before now kept_now → PollsEvent now (Some event) next → KeptFront (event_content event ∷ []) kept_now kept_then
+    → KeptFront old.events kept_before kept_then
+taken_in_part old now next kept_before kept_now kept_then event so_far polled part =
+    let one : List (Event (List ℕ)) = event_content event ∷ [] in
+    let whole : old.events ≡ so_far.taken ++ (one ++ next.events) = so_far.front ∙ ap (λ (l : List (Event (List ℕ))). so_far.taken ++ l) polled.0 in
+    let packets : packets_in old.events ≡ packets_in so_far.taken ++ (packets_in one ++ packets_in next.events) =
+    ap packets_in whole ∙ packets_in-append so_far.taken (one ++ next.events) ∙ ap (λ (l : List (List ℕ)). packets_in so_far.taken ++ l) (packets_in-append one next.events) in
+    record {
+      events = front_behind old.events so_far.taken one next.events kept_before.events kept_now.events kept_then.events
+          whole (ap (λ (k : Kept). k.events) so_far.kept) part.events;
+      packets = front_behind (packets_in old.events) (packets_in so_far.taken) (packets_in one) (packets_in next.events) kept_before.packets kept_now.packets kept_then.packets
+          packets (ap (λ (k : Kept). k.packets) so_far.kept) part.packets;
     }
 
 -- ---- a packet by its number

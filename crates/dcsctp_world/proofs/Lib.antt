@@ -2,3 +2,4 @@ mod Agreeing
 mod Applying
 mod Keeping
 mod Running
+mod Stopping

@@ -1,5 +1,5 @@
 -- What a world shows stays what a run shows, from its making on and step by step.
-use Rattle.std.proofs.Common.{◌≡◌, ℕ, false, Option, List, [], ◌∷◌, ◌++◌, map, reverse, refl, sym, ap, subst, ◌∙◌, append_assoc}
+use Rattle.std.proofs.Common.{◌≡◌, ℕ, false, Option, List, [], ◌∷◌, ◌++◌, map, reverse, refl, sym, ap, subst, ◌∙◌}
 use Rattle.std.proofs.lemmas.List.{map-append}
 use Rattle.std.proofs.lemmas.Grind.{reverse_onto}
 use Rattle.dcsctp_machine.specs.declared.association.Pair.{Pair}
@@ -14,19 +14,19 @@ use Rattle.dcsctp_machine.specs.Settings.{ports_of}
 use Rattle.dcsctp_machine.specs.Endpoint.{Endpoint, association_of, fresh_endpoint}
 use Rattle.dcsctp_machine.specs.Outcome.{Outcome}
 use Rattle.dcsctp_machine.specs.CallTurns.{after_all, events_of, pairs_of}
-use Rattle.dcsctp_machine.specs.Sockets.{Both, of_side, of_other, side_of, StepTurns, packets_in, NextTurns, Worked, SocketRun, turns_after, with_turns, endpoint_after, events_shown, packets_shown, schedule_of, associations_of}
+use Rattle.dcsctp_machine.specs.Sockets.{Both, of_side, of_other, side_of, StepTurns, packets_in, NextTurns, Worked, turns_after, with_turns, endpoint_after, events_shown, packets_shown, schedule_of, associations_of}
 use Rattle.dcsctp_machine.proofs.TurnLemmas.{after_all-append, pairs_of-append, events_of-append}
 use Rattle.dcsctp_machine.proofs.SocketLemmas.{sockets_keep_options}
 use Rattle.dcsctp_api.specs.Calls.{user_event}
 use Rattle.dcsctp_world.specs.declared.act.Act.{Act}
 use Rattle.dcsctp_world.specs.declared.act.Act.TheVariants as acts
 use Rattle.dcsctp_world.specs.declared.act.Reply.{Reply}
-use Rattle.dcsctp_world.specs.declared.end.End.{End}
+use Rattle.dcsctp_world.specs.declared.watched_socket.WatchedSocket.{WatchedSocket}
 use Rattle.dcsctp_world.specs.Shown.{SideShown, WorldView, fresh_side, fresh_world, options_of}
-use Rattle.dcsctp_world.specs.Growth.{Grows, with_association}
+use Rattle.dcsctp_world.specs.Growth.{Grows}
 use Rattle.dcsctp_runs.specs.Agreement.{IsUsable}
 use Rattle.dcsctp_world.specs.Run.{SideRuns, IsRun}
-use Rattle.dcsctp_world.specs.Acts.{StepMoves, with_associations, Applied}
+use Rattle.dcsctp_world.specs.Acts.{with_associations, Applied}
 use Rattle.dcsctp_world.specs.Parts.{shown, world_of}
 use Rattle.dcsctp_world.proofs.Keeping.{packets_in-append}
 
@@ -55,7 +55,7 @@ fresh_world_runs options generators a b =
       associations = by_side (λ (side : Side). (of_side side (fresh_world options generators).sides).associations ≡ reverse (associations_of side options [])) refl refl;
     }
 
-pub is_fresh : {R : Type 0} (a b : End R) (made : List Act) (options : Both Options) (generators : Both R)
+pub is_fresh : {R : Type 0} (a b : WatchedSocket R) (made : List Act) (options : Both Options) (generators : Both R)
     → shown a ≡ fresh_side options.a generators.a → shown b ≡ fresh_side options.b generators.b → made ≡ []
     → world_of a b made false ≡ fresh_world options generators
 is_fresh {R = R} a b made options generators is_a is_b is_made =

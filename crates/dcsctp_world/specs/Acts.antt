@@ -1,23 +1,24 @@
 -- What the calls of a world do.
 use Rattle.std.specs.Prelude.{◌≡◌, true, false, Result, Ok, Err, List, [], ◌∷◌, ◌++◌, map}
-use Rattle.dcsctp_machine.specs.declared.schedule.Side.{Side}
 use Rattle.dcsctp_machine.specs.declared.schedule.Step.{Step}
-use Rattle.dcsctp_machine.specs.Endpoint.{association_of}
 use Rattle.dcsctp_machine.specs.Sockets.{Both, of_side, of_other, side_of, StepTurns}
 use Rattle.dcsctp_api.specs.declared.errors.SocketFault.{SocketFault}
 use Rattle.dcsctp_api.specs.declared.errors.SocketFault.TheVariants.{OutOfMemory, Failed}
 use Rattle.dcsctp_world.specs.declared.act.Act.TheVariants as acts
 use Rattle.dcsctp_world.specs.declared.act.Reply.{Reply}
+use Rattle.dcsctp_world.specs.declared.act.Reply.TheVariants.{NoCall}
 use Rattle.dcsctp_world.specs.Shown.{SideShown, WorldView, options_of}
-use Rattle.dcsctp_world.specs.Growth.{Extends, Grows, SideExtends, with_association, reply_of}
+use Rattle.dcsctp_world.specs.Growth.{Extends, Grows, ShowsFront, Stops, SideExtends, with_association, reply_of}
 use Rattle.dcsctp_world.specs.Run.{IsRun}
+use Rattle.dcsctp_world.specs.Agreement.{Agrees}
 
--- A step moved its own side, and left the other; no association was noted yet.
+-- A step moved its own side, and left the other; where no call was made, it left both. No association was noted yet.
 pub record StepMoves {R : Type 0} (step : Step) (answer : Reply) (old new : Both (SideShown R)) : Type 0 where
   pub grows : Grows (StepTurns (of_side (side_of step) old).socket.view.endpoint (of_other (side_of step) old).packets step)
       (of_side (side_of step) old) (of_side (side_of step) new)
   pub other_stays : of_other (side_of step) new ≡ of_other (side_of step) old
   pub reply : answer ≡ reply_of (of_other (side_of step) old).packets step
+  pub idle : answer ≡ NoCall → new ≡ old
 
 -- both sides with their associations as they are now
 abbrev pub with_associations : {R : Type 0} → Both (SideShown R) → Both (SideShown R)
@@ -41,11 +42,19 @@ pub record WorldExtends {R : Type 0} (old new : WorldView R) : Type 0 where
   pub sides : BothExtend old.sides new.sides
   pub acts : Extends old.acts new.acts
 
--- A growth was refused: the world has failed, and each list begins with what it held.
-pub record RanOut {R : Type 0} (old new : WorldView R) : Type 0 where
+-- A growth was refused in a step. What its own side shows grew by a front part of what the step's turns bring, if it
+-- grew; the other has at most its association once more; the step isn't among the acts.
+pub record StepStops {R : Type 0} (step : Step) (old new : Both (SideShown R)) : Type 0 where
+  pub mover : Stops (StepTurns (of_side (side_of step) old).socket.view.endpoint (of_other (side_of step) old).packets step)
+      (of_side (side_of step) old) (of_side (side_of step) new)
+  pub other : ShowsFront [] (of_other (side_of step) old) (of_other (side_of step) new)
+
+-- A growth was refused in a step, and the world has failed.
+pub record RanOut {R : Type 0} (step : Step) (old new : WorldView R) : Type 0 where
   pub runs : old.failed ≡ false
   pub fails : new.failed ≡ true
-  pub extends : WorldExtends old new
+  pub stops : StepStops step old.sides new.sides
+  pub acts : new.acts ≡ old.acts
 
 -- The world had failed, and nothing changes.
 pub record StaysFailed {R : Type 0} (old new : WorldView R) : Type 0 where
@@ -54,7 +63,7 @@ pub record StaysFailed {R : Type 0} (old new : WorldView R) : Type 0 where
 
 abbrev pub Applies : {R : Type 0} → Step → WorldView R → Result Reply SocketFault → WorldView R → Type 0
 Applies step old (Ok reply) new = Applied step reply old new
-Applies step old (Err OutOfMemory) new = RanOut old new
+Applies step old (Err OutOfMemory) new = RanOut step old new
 Applies step old (Err Failed) new = StaysFailed old new
 
 -- These steps were applied, one after another: all that the world shows is what a run shows, of the steps from its
@@ -67,7 +76,19 @@ pub record Ran {R : Type 0} (steps : List Step) (old new : WorldView R) : Type 0
   pub options : options_of new ≡ options_of old
   pub is_run : IsRun (options_of old) new
 
+-- A growth was refused at one of these steps: those before it were applied, one after another, and the sockets agree
+-- along them; the world has failed at this one, and those behind it weren't tried.
+pub record RanOutAmong {R : Type 0} (steps : List Step) (old new : WorldView R) : Type 0 where
+  pub done : List Step
+  pub refused : Step
+  pub rest : List Step
+  pub all : steps ≡ done ++ refused ∷ rest
+  pub before : WorldView R
+  pub ran : Ran done old before
+  pub agrees : Agrees (options_of old) before
+  pub ran_out : RanOut refused before new
+
 abbrev pub Runs : {R : Type 0} → List Step → WorldView R → Result (Unit {0}) SocketFault → WorldView R → Type 0
 Runs steps old (Ok done) new = Ran steps old new
-Runs steps old (Err OutOfMemory) new = RanOut old new
+Runs steps old (Err OutOfMemory) new = RanOutAmong steps old new
 Runs steps old (Err Failed) new = StaysFailed old new

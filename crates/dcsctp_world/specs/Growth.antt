@@ -1,6 +1,5 @@
 -- How one side grows in an act.
-use Rattle.std.specs.Prelude.{◌≡◌, ℕ, Bool, false, Option, None, Some, List, [], ◌∷◌, ◌++◌, map}
-use Rattle.dcsctp_machine.specs.declared.association.Association.{Association}
+use Rattle.std.specs.Prelude.{◌≡◌, ℕ, Option, None, Some, List, [], ◌∷◌, ◌++◌, ◌⊎◌, map}
 use Rattle.dcsctp_machine.specs.declared.schedule.Step.{Step}
 use Rattle.dcsctp_machine.specs.declared.schedule.Step.TheVariants as steps
 use Rattle.dcsctp_machine.specs.Event.{Event}
@@ -19,6 +18,13 @@ pub record Extends {A : Type 0} (old new : List A) : Type 0 where
   pub added : List A
   pub behind : new ≡ old ++ added
 
+-- The new list is the old one with a front part of these behind it.
+pub record AddsFront {A : Type 0} (all old new : List A) : Type 0 where
+  pub added : List A
+  pub rest : List A
+  pub behind : new ≡ old ++ added
+  pub front : all ≡ added ++ rest
+
 -- ---- events and packets that are kept
 
 pub record Kept : Type 0 where
@@ -29,9 +35,10 @@ pub record Kept : Type 0 where
 abbrev pub with_events : List (Event (List ℕ)) → Kept → Kept
 with_events added kept = record { events = kept.events ++ added; packets = kept.packets ++ packets_in added }
 
-pub record KeptExtends (old new : Kept) : Type 0 where
-  pub events : Extends old.events new.events
-  pub packets : Extends old.packets new.packets
+-- A front part of these events was kept, with its packets or fewer.
+pub record KeptFront (all : List (Event (List ℕ))) (old new : Kept) : Type 0 where
+  pub events : AddsFront all old.events new.events
+  pub packets : AddsFront (packets_in all) old.packets new.packets
 
 -- Events were taken from a socket and kept, and nothing else of it changed.
 pub record Taken (old : UserView) (kept_before : Kept) (new : UserView) (kept_now : Kept) : Type 0 where
@@ -52,6 +59,17 @@ pub record Collects {R : Type 0} (old new : SideShown R) : Type 0 where
   pub pairs : new.pairs ≡ old.pairs ++ old.socket.view.pairs
   pub associations : new.associations ≡ old.associations
 
+-- A front part of what waits in the socket was taken and kept, or of the pairs of the last call.
+pub record CollectsFront {R : Type 0} (old new : SideShown R) : Type 0 where
+  pub events : AddsFront old.socket.view.events old.events new.events
+  pub packets : AddsFront (packets_in old.socket.view.events) old.packets new.packets
+  pub pairs : AddsFront old.socket.view.pairs old.pairs new.pairs
+  pub associations : new.associations ≡ old.associations
+
+-- these outcomes' events as the user of this side sees them
+abbrev pub told : {R : Type 0} → SideShown R → List Outcome → List (Event (List ℕ))
+told side outcomes = map (user_event (ports_of side.socket.view.endpoint.options)) (events_of outcomes)
+
 -- Outcomes of these turns move the socket, and each list grows by what they show; no event waits.
 pub record Grows {R : Type 0} (Turns : List Outcome → Type 0) (old new : SideShown R) : Type 0 where
   pub outcomes : List Outcome
@@ -59,10 +77,23 @@ pub record Grows {R : Type 0} (Turns : List Outcome → Type 0) (old new : SideS
   pub endpoint : new.socket.view.endpoint ≡ after_all old.socket.view.endpoint outcomes
   pub failed : new.socket.failed ≡ old.socket.failed
   pub waiting : new.socket.view.events ≡ []
-  pub events : new.events ≡ old.events ++ map (user_event (ports_of old.socket.view.endpoint.options)) (events_of outcomes)
-  pub packets : new.packets ≡ old.packets ++ packets_in (map (user_event (ports_of old.socket.view.endpoint.options)) (events_of outcomes))
+  pub events : new.events ≡ old.events ++ told old outcomes
+  pub packets : new.packets ≡ old.packets ++ packets_in (told old outcomes)
   pub pairs : new.pairs ≡ old.pairs ++ pairs_of outcomes
   pub associations : new.associations ≡ old.associations
+
+-- What a side shows grew by a front part of what these outcomes bring, and of its association after them.
+pub record ShowsFront {R : Type 0} (outcomes : List Outcome) (old new : SideShown R) : Type 0 where
+  pub events : AddsFront (told old outcomes) old.events new.events
+  pub packets : AddsFront (packets_in (told old outcomes)) old.packets new.packets
+  pub pairs : AddsFront (pairs_of outcomes) old.pairs new.pairs
+  pub associations : AddsFront (association_of (after_all old.socket.view.endpoint outcomes).core ∷ []) old.associations new.associations
+
+-- A growth was refused while outcomes of these turns were kept, or before.
+pub record Stops {R : Type 0} (Turns : List Outcome → Type 0) (old new : SideShown R) : Type 0 where
+  pub outcomes : List Outcome
+  pub turns : (outcomes ≡ []) ⊎ Turns outcomes
+  pub shows : ShowsFront outcomes old new
 
 -- Each list begins with what it held.
 pub record SideExtends {R : Type 0} (old new : SideShown R) : Type 0 where

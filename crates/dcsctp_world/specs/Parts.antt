@@ -5,7 +5,7 @@ use Rattle.dcsctp_machine.specs.Sockets.{Both}
 use Rattle.dcsctp_api.specs.declared.events.SocketEvent.{SocketEvent}
 use Rattle.dcsctp_api.specs.Events.{event_content}
 use Rattle.dcsctp_world.specs.declared.act.Act.{Act}
-use Rattle.dcsctp_world.specs.declared.end.End.{End}
+use Rattle.dcsctp_world.specs.declared.watched_socket.WatchedSocket.{WatchedSocket}
 use Rattle.dcsctp_world.specs.Growth.{Kept}
 use Rattle.dcsctp_world.specs.Shown.{SideShown, WorldView}
 
@@ -17,18 +17,18 @@ packet_bytes packets = map (λ (packet : Vec ℕ Global). packet.items) packets
 abbrev pub kept : List SocketEvent → List (Vec ℕ Global) → Kept
 kept events packets = record { events = map event_content events; packets = packet_bytes packets }
 
-abbrev pub shown : {R : Type 0} → End R → SideShown R
-shown end =
+abbrev pub shown : {R : Type 0} → WatchedSocket R → SideShown R
+shown watched =
     record {
-      socket = end.socket;
-      events = map event_content end.events.items;
-      packets = packet_bytes end.packets.items;
-      pairs = end.pairs.items;
-      associations = end.associations.items;
+      socket = watched.socket;
+      events = map event_content watched.events.items;
+      packets = packet_bytes watched.packets.items;
+      pairs = watched.pairs.items;
+      associations = watched.associations.items;
     }
 
-abbrev pub both : {R : Type 0} → End R → End R → Both (SideShown R)
+abbrev pub both : {R : Type 0} → WatchedSocket R → WatchedSocket R → Both (SideShown R)
 both a b = record { a = shown a; b = shown b }
 
-abbrev pub world_of : {R : Type 0} → End R → End R → List Act → Bool → WorldView R
+abbrev pub world_of : {R : Type 0} → WatchedSocket R → WatchedSocket R → List Act → Bool → WorldView R
 world_of a b acts failed = record { sides = both a b; acts = acts; failed = failed }

@@ -6,9 +6,9 @@
 #![tactic(auto)]
 
 mod act;
-mod end;
 #[cfg(test)]
 mod tests;
+mod watched_socket;
 mod world;
 
 pub use act::{Act, Reply};

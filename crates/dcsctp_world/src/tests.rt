@@ -85,9 +85,6 @@ fn four_packets_connect_two_sockets(rt: HostRuntime) -> Result<(), Fail> {
             SocketState::Connected,
             "{name}"
         );
-        assert_eq!(rt; world.packets(side).len(), 2, "{name}");
-        assert_eq!(rt; world.events(side).len(), 3, "{name}");
-        assert_eq!(rt; world.associations(side).len(), 6, "{name}");
         let [pair] = world.pairs(side) else {
             return Err(Fail::new("not one pair was drawn"));
         };
@@ -96,6 +93,55 @@ fn four_packets_connect_two_sockets(rt: HostRuntime) -> Result<(), Fail> {
     assert_eq!(rt; world.acts().len(), 5);
     assert_eq!(rt; world.acts()[1], Act::Step(Step::Deliver(Side::B, 1)));
     assert!(rt; !world.has_failed());
+    Ok(())
+}
+
+#[test]
+fn events_stand_in_order_and_packets_among_them(rt: HostRuntime) -> Result<(), Fail> {
+    let world = world_after(rt.alloc(), &HANDSHAKE)?;
+    let [
+        SocketEvent::SendPacket(init),
+        SocketEvent::SendPacket(cookie_echo),
+        SocketEvent::OnConnected(),
+    ] = world.events(Side::A)
+    else {
+        return Err(Fail::new("A: other events"));
+    };
+    let [
+        SocketEvent::SendPacket(init_ack),
+        SocketEvent::OnConnected(),
+        SocketEvent::SendPacket(cookie_ack),
+    ] = world.events(Side::B)
+    else {
+        return Err(Fail::new("B: other events"));
+    };
+    let rows = [
+        ("INIT", Side::A, 0, init),
+        ("COOKIE ECHO", Side::A, 1, cookie_echo),
+        ("INIT ACK", Side::B, 0, init_ack),
+        ("COOKIE ACK", Side::B, 1, cookie_ack),
+    ];
+    for (name, side, at, bytes) in rows {
+        assert!(rt; world.packets(side).get(at) == Some(bytes), "{name}");
+        assert_eq!(rt; world.packets(side).len(), 2, "{name}");
+    }
+    Ok(())
+}
+
+#[test]
+fn associations_are_noted_after_each_act(rt: HostRuntime) -> Result<(), Fail> {
+    let world = world_after(rt.alloc(), &HANDSHAKE)?;
+    let rows = [
+        ("A", Side::A, [false, true, true, true, true, true]),
+        ("B", Side::B, [false, false, false, false, true, true]),
+    ];
+    for (name, side, expected) in rows {
+        let found = world.associations(side);
+        assert_eq!(rt; found.len(), expected.len(), "{name}");
+        for (association, is_there) in found.iter().zip(expected) {
+            assert_eq!(rt; association.is_some(), is_there, "{name}");
+        }
+    }
     Ok(())
 }
 

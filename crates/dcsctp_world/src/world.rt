@@ -1,7 +1,7 @@
 //! Two sockets, and what happens to them.
 
 use crate::act::{Act, Reply, side_of};
-use crate::end::End;
+use crate::watched_socket::WatchedSocket;
 use dcsctp_machine::{Side, Step, options_fit};
 use dcsctp_runs::{fitting_sockets_connect, sockets_agree};
 use dcsctp_socket::{Association, Options, Pair, Socket, SocketEvent, SocketFault};
@@ -17,8 +17,8 @@ use std::marker::Model;
 /// then with what it showed before the call that failed.
 #[derive(Drop)]
 pub struct World<R> {
-    a: End<R>,
-    b: End<R>,
+    a: WatchedSocket<R>,
+    b: WatchedSocket<R>,
     acts: Vec<Act>,
     failed: bool,
 }
@@ -46,20 +46,20 @@ ghost use Rattle.dcsctp_api.specs.Events.{event_content};
 ghost use Rattle.dcsctp_world.specs.Shown.{fresh_world, options_of};
 ghost use Rattle.dcsctp_world.specs.Run.{IsRun};
 ghost use Rattle.dcsctp_world.specs.Agreement.{Agrees, HandshakeConnects};
-ghost use Rattle.dcsctp_world.specs.Acts.{StepMoves, BothExtend, Applied, WorldExtends, Applies, Runs};
+ghost use Rattle.dcsctp_world.specs.Acts.{StepMoves, StepStops, Applied, Applies, Runs};
 ghost use Rattle.dcsctp_world.specs.Parts.{packet_bytes, shown, both, world_of};
 
 // Works a step at its side.
 fn move_side<R: Rng + Drop>(
-    a: &mut End<R>,
-    b: &mut End<R>,
+    a: &mut WatchedSocket<R>,
+    b: &mut WatchedSocket<R>,
     step: &Step,
 ) -> Result<Reply, SocketFault>
     requires a { a.old.socket.view.events ≡ [] }
     requires b { b.old.socket.view.events ≡ [] }
     ensures ok { IfOk result (λ reply. StepMoves step.now reply (both a.old b.old)
         (both a.new b.new)) }
-    ensures err { OnErr result (BothExtend (both a.old b.old) (both a.new b.new)) }
+    ensures err { OnErr result (StepStops step.now (both a.old b.old) (both a.new b.new)) }
 {
     match side_of(step) {
         Side::A => {
@@ -75,8 +75,8 @@ fn move_side<R: Rng + Drop>(
 
 // Works a step, and keeps it and what comes of it.
 fn work<R: Rng + Drop>(
-    a: &mut End<R>,
-    b: &mut End<R>,
+    a: &mut WatchedSocket<R>,
+    b: &mut WatchedSocket<R>,
     acts: &mut Vec<Act>,
     step: &Step,
 ) -> Result<Reply, SocketFault>
@@ -84,8 +84,8 @@ fn work<R: Rng + Drop>(
     requires b { b.old.socket.view.events ≡ [] }
     ensures ok { IfOk result (λ reply. Applied step.now reply
         (world_of a.old b.old acts.old.items false) (world_of a.new b.new acts.new.items false)) }
-    ensures err { OnErr result (WorldExtends (world_of a.old b.old acts.old.items false)
-        (world_of a.new b.new acts.new.items false)) }
+    ensures err { OnErr result (StepStops step.now (both a.old b.old) (both a.new b.new)) }
+    ensures acts { OnErr result (acts.new.items ≡ acts.old.items) }
 {
     let reply = move_side(a, b, step)?;
     a.keep_association()?;
@@ -115,8 +115,8 @@ impl<R: Rng + Drop> World<R> {
     {
         options_fit(a);
         options_fit(b);
-        let a = End::new(alloc, "a", a, rng_a)?;
-        let b = End::new(alloc, "b", b, rng_b)?;
+        let a = WatchedSocket::new(alloc, "a", a, rng_a)?;
+        let b = WatchedSocket::new(alloc, "b", b, rng_b)?;
         Ok(World {
             a,
             b,
@@ -129,17 +129,19 @@ impl<R: Rng + Drop> World<R> {
     /// socket, and what they show is kept.
     ///
     /// It answers `Reply::NoCall` where the number of a delivery names no packet, which changes no
-    /// socket, and else `Reply::Done`. The errors are `SocketFault::OutOfMemory`, where a growth of a
-    /// socket or of the world was refused, and `SocketFault::Failed`, where one was before.
+    /// socket, and else `Reply::Done`. Over all that was applied so far the two sockets agree, as `run`
+    /// says. The errors are `SocketFault::OutOfMemory`, where a growth of a socket or of the world was
+    /// refused, and `SocketFault::Failed`, where one was before.
     pub fn apply(&mut self, step: &Step) -> Result<Reply, SocketFault>
         ensures call { Applies step.now self.old result self.new }
-        ensures run { OnOk result (IsRun (options_of self.old) self.new) }
+        ensures agreement { OnOk result (Agrees (options_of self.old) self.new) }
         ensures options { OnOk result (options_of self.new ≡ options_of self.old) }
     {
         // A world that has failed applies no step.
         if self.failed {
             return Err(SocketFault::Failed);
         }
+        sockets_agree();
         match work(&mut self.a, &mut self.b, &mut self.acts, step) {
             Ok(reply) => Ok(reply),
             Err(_) => {
@@ -149,7 +151,8 @@ impl<R: Rng + Drop> World<R> {
         }
     }
 
-    /// Applies steps one after another, up to the first that fails. The errors are those of `apply`.
+    /// Applies steps one after another, up to the first that fails. The errors are those of `apply`; where
+    /// a growth was refused, what follows holds of the steps before it.
     ///
     /// Over every schedule that loses, repeats, delays and reorders packets the two sockets agree: where
     /// no side drew a verification tag twice, which `pairs` shows, each OnConnected finds that the other
@@ -174,8 +177,8 @@ impl<R: Rng + Drop> World<R> {
         Ok(())
     }
 
-    // One of the two ends.
-    fn end(&self, side: Side) -> &End<R>
+    // One of the two sockets, with all that it showed.
+    fn watched(&self, side: Side) -> &WatchedSocket<R>
         ensures { shown result.now ≡ of_side side self.now.sides }
     {
         match side {
@@ -195,14 +198,14 @@ impl<R: Rng + Drop> World<R> {
     pub fn packets(&self, side: Side) -> &[Vec<u8>]
         ensures { packet_bytes result.now ≡ (of_side side self.now.sides).packets }
     {
-        &self.end(side).packets
+        &self.watched(side).packets
     }
 
     /// All events of this side, in order. It takes no memory.
     pub fn events(&self, side: Side) -> &[SocketEvent]
         ensures { map event_content result.now ≡ (of_side side self.now.sides).events }
     {
-        &self.end(side).events
+        &self.watched(side).events
     }
 
     /// Every pair of a tag and a first TSN that this side drew, in order: own ones, and those of answers
@@ -210,7 +213,7 @@ impl<R: Rng + Drop> World<R> {
     pub fn pairs(&self, side: Side) -> &[Pair]
         ensures { result.now ≡ (of_side side self.now.sides).pairs }
     {
-        &self.end(side).pairs
+        &self.watched(side).pairs
     }
 
     /// What this side's association was at the start and after each act of either side. It takes no
@@ -218,14 +221,14 @@ impl<R: Rng + Drop> World<R> {
     pub fn associations(&self, side: Side) -> &[Option<Association>]
         ensures { result.now ≡ (of_side side self.now.sides).associations }
     {
-        &self.end(side).associations
+        &self.watched(side).associations
     }
 
     /// This side's socket. It takes no memory.
     pub fn socket(&self, side: Side) -> &Socket<R>
         ensures { result.now ≡ (of_side side self.now.sides).socket }
     {
-        &self.end(side).socket
+        &self.watched(side).socket
     }
 
     /// Was a growth refused in an earlier call? It takes no memory.

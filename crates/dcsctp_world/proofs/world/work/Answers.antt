@@ -1,7 +1,7 @@
-use Rattle.std.proofs.Common.{refl}
+use Rattle.std.proofs.Common.{refl, inl, inr}
 use Rattle.dcsctp_world.specs.Parts.{both}
-use Rattle.dcsctp_world.proofs.Keeping.{extends_itself}
-use Rattle.dcsctp_world.proofs.Applying.{on_err, noted_side_extends, moved_extend, side_extends_itself, both_noted}
+use Rattle.dcsctp_world.proofs.Applying.{on_err, both_noted}
+use Rattle.dcsctp_world.proofs.Stopping.{moved_in_part}
 use Rattle.dcsctp_world.proofs.world.work.Goals as goal
 
 pub returns-in_err-keep_association-clause-err : goal.returns-in_err-keep_association-clause-err
@@ -10,7 +10,7 @@ returns-in_err-keep_association-clause-err g c =
     let moved = both c.move_side.new.a c.move_side.new.b in
     let new = both c.keep_association.new.self c.move_side.new.b in
     on_err c.from_residual-in_err-keep_association.result
-    (record { sides = moved_extend c.args.step.now c.in_ok-reply.reply old moved new c.in_ok-reply.ensures.ok c.in_err-keep_association.ensures.err (side_extends_itself moved.b); acts = extends_itself c.args.acts.now.items })
+    (moved_in_part c.args.step.now c.in_ok-reply.reply old moved new c.in_ok-reply.ensures.ok (inl c.in_err-keep_association.ensures.err) (inl refl))
 
 pub returns-in_err-keep_association-2-clause-err :
     goal.returns-in_err-keep_association-2-clause-err
@@ -19,7 +19,15 @@ returns-in_err-keep_association-2-clause-err g c =
     let moved = both c.move_side.new.a c.move_side.new.b in
     let new = both c.keep_association.new.self c.keep_association-2.new.self in
     on_err c.from_residual-in_err-keep_association-2.result
-    (record { sides = moved_extend c.args.step.now c.in_ok-reply.reply old moved new c.in_ok-reply.ensures.ok (noted_side_extends moved.a new.a c.in_ok-keep_association.ensures.ok) c.in_err-keep_association-2.ensures.err; acts = extends_itself c.args.acts.now.items })
+    (moved_in_part c.args.step.now c.in_ok-reply.reply old moved new c.in_ok-reply.ensures.ok (inr c.in_ok-keep_association.ensures.ok) (inl c.in_err-keep_association-2.ensures.err))
+
+pub returns-in_err-push-clause-err : goal.returns-in_err-push-clause-err
+returns-in_err-push-clause-err g c =
+    let old = both c.args.a.now c.args.b.now in
+    let moved = both c.move_side.new.a c.move_side.new.b in
+    let new = both c.keep_association.new.self c.keep_association-2.new.self in
+    on_err c.from_residual-in_err-push.result
+    (moved_in_part c.args.step.now c.in_ok-reply.reply old moved new c.in_ok-reply.ensures.ok (inr c.in_ok-keep_association.ensures.ok) (inr c.in_ok-keep_association-2.ensures.ok))
 
 pub returns-clause-ok : goal.returns-clause-ok
 returns-clause-ok g c =

@@ -5,6 +5,7 @@ use Rattle.dcsctp_world.specs.Run.{IsRun}
 use Rattle.dcsctp_world.specs.Parts.{world_of}
 use Rattle.dcsctp_world.proofs.Running.{is_run_options, is_run_of_own}
 use Rattle.dcsctp_world.proofs.Applying.{applied_is_run}
+use Rattle.dcsctp_world.proofs.Agreeing.{world_agrees}
 use Rattle.dcsctp_world.proofs.world.World.apply.Goals as goal
 
 pub work-requires-clause-a : goal.work-requires-clause-a
@@ -13,17 +14,18 @@ work-requires-clause-a g c = ((c.self.invariant c.if-self.false).sides sides.A).
 pub work-requires-clause-b : goal.work-requires-clause-b
 work-requires-clause-b g c = ((c.self.invariant c.if-self.false).sides sides.B).waiting
 
-pub returns-in-Ok-clause-run : goal.returns-in-Ok-clause-run
-returns-in-Ok-clause-run g c =
+pub returns-in-Ok-clause-agreement : goal.returns-in-Ok-clause-agreement
+returns-in-Ok-clause-agreement g c =
     let new = world_of c.work.new.a c.work.new.b c.work.new.acts.items c.self.inside.failed in
-    subst (λ (w : WorldView g.row.R.Denot). IsRun (options_of w) new) c.self.view_is
+    world_agrees c.sockets_agree.ensures (options_of c.args.self.now) new
+    (subst (λ (w : WorldView g.row.R.Denot). IsRun (options_of w) new) c.self.view_is
     (applied_is_run c.args.step.now c.in-Ok.reply c.self.inside.a c.self.inside.b c.work.new.a c.work.new.b c.self.inside.acts.items c.work.new.acts.items
-    c.self.inside.failed c.if-self.false c.self.invariant c.in-Ok.ensures.ok)
+    c.self.inside.failed c.if-self.false c.self.invariant c.in-Ok.ensures.ok))
 
 pub returns-in-Ok-clause-options : goal.returns-in-Ok-clause-options
 returns-in-Ok-clause-options g c =
-    is_run_options (options_of c.args.self.now) (world_of c.work.new.a c.work.new.b c.work.new.acts.items c.self.inside.failed) (returns-in-Ok-clause-run g c)
+    is_run_options (options_of c.args.self.now) (world_of c.work.new.a c.work.new.b c.work.new.acts.items c.self.inside.failed) (returns-in-Ok-clause-agreement g c).is_run
 
 pub invariant_of-self : goal.invariant_of-self
 invariant_of-self g c =
-    λ runs. is_run_of_own (options_of c.args.self.now) (world_of c.work.new.a c.work.new.b c.work.new.acts.items c.self.inside.failed) (returns-in-Ok-clause-run g c)
+    λ runs. is_run_of_own (options_of c.args.self.now) (world_of c.work.new.a c.work.new.b c.work.new.acts.items c.self.inside.failed) (returns-in-Ok-clause-agreement g c).is_run

@@ -1,13 +1,10 @@
-use Rattle.std.proofs.Common.{◌≡◌, false}
+use Rattle.std.proofs.Common.{false}
 use Rattle.dcsctp_machine.specs.declared.options.Options.{Options}
 use Rattle.dcsctp_machine.specs.Sockets.{Both}
-use Rattle.dcsctp_world.specs.Shown.{WorldView, fresh_world}
-use Rattle.dcsctp_world.specs.Run.{IsRun}
 use Rattle.dcsctp_world.specs.Parts.{world_of}
 use Rattle.dcsctp_world.proofs.Running.{is_fresh, fresh_is_run, is_run_of_own}
 use Rattle.dcsctp_world.proofs.world.World.new.Goals as goal
 use Rattle.dcsctp_world.proofs.world.World.new.Goals.{After-new-3}
-use Rattle.dcsctp_world.proofs.world.World.new.Given as given
 
 pub returns-clause-run : goal.returns-clause-run
 returns-clause-run g c =

@@ -1,16 +1,19 @@
 use Rattle.std.proofs.Common.{arith, ◌≡◌, List, take, subst}
 use Rattle.std.proofs.lemmas.List.{take_all}
+use Rattle.dcsctp_machine.specs.declared.schedule.Side.TheVariants as sides
+use Rattle.dcsctp_machine.specs.declared.schedule.Call.TheVariants as calls
 use Rattle.dcsctp_machine.specs.declared.schedule.Step.{Step}
+use Rattle.dcsctp_machine.specs.declared.schedule.Step.TheVariants as steps
 use Rattle.dcsctp_world.specs.Shown.{options_of}
 use Rattle.dcsctp_world.specs.Acts.{Ran}
-use Rattle.dcsctp_world.proofs.Agreeing.{world_agrees, handshake_connects}
+use Rattle.dcsctp_world.proofs.Agreeing.{world_agrees, ran_out_among, handshake_connects}
 use Rattle.dcsctp_world.proofs.Applying.{ran_next}
 use Rattle.dcsctp_world.proofs.world.World.run.Goals as goal
 
 pub loop-step-preserved : goal.loop-step-preserved
 loop-step-preserved g c =
     ran_next c.args.steps.now c.loop-step.step-index _ c.in_ok-apply.field-0 c.args.self.now c.loop-step.self c.apply.new.self
-    c.loop-step-test.true c.loop-step.invariant c.in_ok-apply.ensures.call c.in_ok-apply.ensures.run c.in_ok-apply.ensures.options
+    c.loop-step-test.true c.loop-step.invariant c.in_ok-apply.ensures.call c.in_ok-apply.ensures.agreement.is_run c.in_ok-apply.ensures.options
 
 pub returns-clause-agreement : goal.returns-clause-agreement
 returns-clause-agreement g c = world_agrees c.sockets_agree.ensures (options_of c.args.self.now) c.loop-step.self c.loop-step.invariant.is_run
@@ -20,3 +23,8 @@ returns-clause-handshake g c =
     let all : take c.loop-step.step-index c.args.steps.now ≡ c.args.steps.now = take_all c.loop-step.step-index c.args.steps.now (omega (arith, c.loop-step-test.false)) in
     handshake_connects c.fitting_sockets_connect.ensures c.args.steps.now c.args.self.now c.loop-step.self
     (subst (λ (steps : List Step). Ran steps c.args.self.now c.loop-step.self) all c.loop-step.invariant)
+
+pub returns-in_err-apply-clause-call : goal.returns-in_err-apply-clause-call
+returns-in_err-apply-clause-call g c =
+    ran_out_among c.sockets_agree.ensures c.args.steps.now c.loop-step.step-index (steps.Call sides.A calls.Connect) c.in_err-apply.field-0.0 c.args.self.now c.loop-step.self c.apply.new.self
+    c.loop-step-test.true c.loop-step.invariant c.in_err-apply.ensures.call c.from_residual.result c.from_residual.ensures.1

@@ -7,8 +7,9 @@ ghost use Rattle.dcsctp_machine.specs.Sockets.{numbered, UserTurns, DeliveryTurn
 ghost use Rattle.dcsctp_api.specs.Events.{event_content};
 ghost use Rattle.dcsctp_socket.specs.SocketView.{user_view_of};
 ghost use Rattle.dcsctp_world.specs.Shown.{fresh_side};
-ghost use Rattle.dcsctp_world.specs.Growth.{KeptExtends, Taken, with_events, Collects, Grows, SideExtends, with_association, reply_of, delivery_reply};
+ghost use Rattle.dcsctp_world.specs.Growth.{KeptFront, Taken, with_events, Collects, CollectsFront, Grows, Stops, with_association, reply_of, delivery_reply};
 ghost use Rattle.dcsctp_world.specs.Parts.{packet_bytes, kept, shown};
+ghost use Rattle.dcsctp_world.specs.declared.act.Reply.TheVariants.{NoCall};
 
 use crate::act::Reply;
 use dcsctp_machine::{Call, Step};
@@ -18,7 +19,7 @@ use std::alloc::{AllocError, Global};
 
 /// A socket, and what it showed from its making on.
 #[derive(Drop)]
-pub struct End<R> {
+pub struct WatchedSocket<R> {
     /// The socket. Between two acts no event waits in it.
     pub socket: Socket<R>,
 
@@ -43,8 +44,8 @@ fn keep_event(
 ) -> Result<(), AllocError>
     ensures ok { OnOk result (kept events.new.items packets.new.items
         ≡ with_events (event_content event ∷ []) (kept events.old.items packets.old.items)) }
-    ensures err { OnErr result (KeptExtends (kept events.old.items packets.old.items)
-        (kept events.new.items packets.new.items)) }
+    ensures err { OnErr result (KeptFront (event_content event ∷ []) (kept events.old.items
+        packets.old.items) (kept events.new.items packets.new.items)) }
 {
     if let SocketEvent::SendPacket(packet) = &event {
         packets.push(packet.clone()?)?;
@@ -62,8 +63,8 @@ fn take_events<R: Rng + Drop>(
     ensures ok { OnOk result (Taken (user_view_of socket.old) (kept events.old.items
         packets.old.items) (user_view_of socket.new) (kept events.new.items packets.new.items)) }
     ensures all { OnOk result (socket.new.view.events ≡ []) }
-    ensures err { OnErr result (KeptExtends (kept events.old.items packets.old.items)
-        (kept events.new.items packets.new.items)) }
+    ensures err { OnErr result (KeptFront socket.old.view.events (kept events.old.items
+        packets.old.items) (kept events.new.items packets.new.items)) }
 {
     while let Some(event) = socket.poll_event() {
         keep_event(events, packets, event)?;
@@ -82,17 +83,22 @@ fn packet_numbered(packets: &[Vec<u8>], number: usize) -> Option<&Vec<u8>>
     packets.get(number - 1)
 }
 
-impl<R: Rng + Drop> End<R> {
+impl<R: Rng + Drop> WatchedSocket<R> {
     /// A socket that was just made. The one error is `SocketFault::OutOfMemory`.
-    pub fn new(alloc: Global, name: &str, options: &Options, rng: R) -> Result<End<R>, SocketFault>
+    pub fn new(
+        alloc: Global,
+        name: &str,
+        options: &Options,
+        rng: R,
+    ) -> Result<WatchedSocket<R>, SocketFault>
         requires { IsValid options.now }
-        ensures fresh { IfOk result (λ end. shown end ≡ fresh_side options.now rng) }
+        ensures fresh { IfOk result (λ watched. shown watched ≡ fresh_side options.now rng) }
         ensures fault { IsOkUnless result SocketFault.OutOfMemory }
     {
         let socket = Socket::new(alloc, name, options, rng)?;
         let mut associations = Vec::new(alloc);
         associations.push(None)?;
-        Ok(End {
+        Ok(WatchedSocket {
             socket,
             events: Vec::new(alloc),
             packets: Vec::new(alloc),
@@ -104,7 +110,7 @@ impl<R: Rng + Drop> End<R> {
     // Keeps what the last call brought: its events and the pairs that it drew.
     fn keep_all(&mut self) -> Result<(), AllocError>
         ensures ok { OnOk result (Collects (shown self.old) (shown self.new)) }
-        ensures err { OnErr result (SideExtends (shown self.old) (shown self.new)) }
+        ensures err { OnErr result (CollectsFront (shown self.old) (shown self.new)) }
     {
         take_events(&mut self.socket, &mut self.events, &mut self.packets)?;
         self.pairs.extend_from_slice(self.socket.drawn_pairs())?;
@@ -116,7 +122,8 @@ impl<R: Rng + Drop> End<R> {
         requires { self.old.socket.view.events ≡ [] }
         ensures ok { OnOk result (Grows (UserTurns self.old.socket.view.endpoint call)
             (shown self.old) (shown self.new)) }
-        ensures err { OnErr result (SideExtends (shown self.old) (shown self.new)) }
+        ensures err { OnErr result (Stops (UserTurns self.old.socket.view.endpoint call)
+            (shown self.old) (shown self.new)) }
     {
         match call {
             Call::Connect => self.socket.connect()?,
@@ -132,7 +139,9 @@ impl<R: Rng + Drop> End<R> {
             (numbered number (packet_bytes packets.now))) (shown self.old) (shown self.new)) }
         ensures reply { IfOk result (λ reply. reply ≡ delivery_reply
             (numbered number (packet_bytes packets.now))) }
-        ensures err { OnErr result (SideExtends (shown self.old) (shown self.new)) }
+        ensures idle { IfOk result (λ reply. reply ≡ NoCall → shown self.new ≡ shown self.old) }
+        ensures err { OnErr result (Stops (DeliveryTurns self.old.socket.view.endpoint
+            (numbered number (packet_bytes packets.now))) (shown self.old) (shown self.new)) }
     {
         match packet_numbered(packets, number) {
             None => Ok(Reply::NoCall),
@@ -151,7 +160,9 @@ impl<R: Rng + Drop> End<R> {
         ensures ok { OnOk result (Grows (StepTurns self.old.socket.view.endpoint
             (packet_bytes packets.now) step.now) (shown self.old) (shown self.new)) }
         ensures reply { IfOk result (λ reply. reply ≡ reply_of (packet_bytes packets.now) step.now) }
-        ensures err { OnErr result (SideExtends (shown self.old) (shown self.new)) }
+        ensures idle { IfOk result (λ reply. reply ≡ NoCall → shown self.new ≡ shown self.old) }
+        ensures err { OnErr result (Stops (StepTurns self.old.socket.view.endpoint
+            (packet_bytes packets.now) step.now) (shown self.old) (shown self.new)) }
     {
         match step {
             Step::Call(_, call) => {
@@ -165,7 +176,7 @@ impl<R: Rng + Drop> End<R> {
     /// Keeps the association as it is now. The one error is that there is no memory for it.
     pub fn keep_association(&mut self) -> Result<(), AllocError>
         ensures ok { OnOk result (shown self.new ≡ with_association (shown self.old)) }
-        ensures err { OnErr result (SideExtends (shown self.old) (shown self.new)) }
+        ensures err { OnErr result (shown self.new ≡ shown self.old) }
     {
         self.associations.push(self.socket.association())?;
         Ok(())

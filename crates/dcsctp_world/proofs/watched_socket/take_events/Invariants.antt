@@ -2,7 +2,7 @@ use Rattle.std.proofs.Common.{length}
 use Rattle.dcsctp_socket.specs.SocketView.{user_view_of}
 use Rattle.dcsctp_world.specs.Growth.{Taken}
 use Rattle.dcsctp_world.specs.Parts.{kept}
-use Rattle.dcsctp_world.proofs.end.take_events.Given as goal
+use Rattle.dcsctp_world.proofs.watched_socket.take_events.Given as goal
 
 abbrev pub invariant-loop-event : goal.invariant-loop-event
 invariant-loop-event g l =

@@ -1,6 +1,6 @@
 use Rattle.std.proofs.Common.{◌≡◌, suc, ◌-◌, arith}
 use Rattle.dcsctp_world.proofs.Keeping.{numbered_found}
-use Rattle.dcsctp_world.proofs.end.packet_numbered.Goals as goal
+use Rattle.dcsctp_world.proofs.watched_socket.packet_numbered.Goals as goal
 
 pub returns : goal.returns
 returns c =

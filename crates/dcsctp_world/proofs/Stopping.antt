@@ -1,0 +1,118 @@
+-- What a side shows where a growth was refused while a step was worked.
+use Rattle.std.proofs.Common.{◌≡◌, ℕ, Option, List, [], ◌∷◌, ◌++◌, ◌⊎◌, inl, inr, refl, sym, ap, subst, ◌∙◌}
+use Rattle.dcsctp_machine.specs.declared.association.Pair.{Pair}
+use Rattle.dcsctp_machine.specs.declared.association.Association.{Association}
+use Rattle.dcsctp_machine.specs.declared.schedule.Side.{Side}
+use Rattle.dcsctp_machine.specs.declared.schedule.Side.TheVariants as sides
+use Rattle.dcsctp_machine.specs.declared.schedule.Step.{Step}
+use Rattle.dcsctp_machine.specs.Event.{Event}
+use Rattle.dcsctp_machine.specs.Endpoint.{Endpoint, association_of}
+use Rattle.dcsctp_machine.specs.Outcome.{Outcome}
+use Rattle.dcsctp_machine.specs.CallTurns.{after_all, pairs_of}
+use Rattle.dcsctp_machine.specs.Sockets.{Both, of_side, of_other, side_of, StepTurns, packets_in}
+use Rattle.dcsctp_api.specs.Calls.{Follows}
+use Rattle.dcsctp_socket.specs.SocketView.{SocketView, user_view_of}
+use Rattle.dcsctp_world.specs.declared.act.Reply.{Reply}
+use Rattle.dcsctp_world.specs.Shown.{SideShown}
+use Rattle.dcsctp_world.specs.Growth.{AddsFront, CollectsFront, told, Grows, ShowsFront, Stops, with_association}
+use Rattle.dcsctp_world.specs.Acts.{StepMoves, StepStops}
+use Rattle.dcsctp_world.proofs.Keeping.{front_same, front_whole}
+
+-- nothing was added yet
+pub shows_nothing : {R : Type 0} (outcomes : List Outcome) (old new : SideShown R) → new.events ≡ old.events → new.packets ≡ old.packets → new.pairs ≡ old.pairs
+    → new.associations ≡ old.associations → ShowsFront outcomes old new
+shows_nothing outcomes old new events packets pairs associations =
+    record {
+      events = front_same (told old outcomes) events;
+      packets = front_same (packets_in (told old outcomes)) packets;
+      pairs = front_same (pairs_of outcomes) pairs;
+      associations = front_same (association_of (after_all old.socket.view.endpoint outcomes).core ∷ []) associations;
+    }
+
+-- the socket itself was refused memory
+pub stops_before : {R : Type 0} (Turns : List Outcome → Type 0) (old : SideShown R) (socket : SocketView R) → Stops Turns old (record old { socket = socket })
+stops_before Turns old socket =
+    let new = record old { socket = socket } in
+    record { outcomes = []; turns = inl refl; shows = shows_nothing [] old new refl refl refl refl }
+
+-- the call's turns were worked, and then what they brought was taken in part
+pub stops_after : {R : Type 0} (Turns : List Outcome → Type 0) (old new : SideShown R) (socket : SocketView R) (outcomes : List Outcome) → Turns outcomes
+    → old.socket.view.events ≡ [] → Follows (user_view_of old.socket) outcomes (user_view_of socket) → CollectsFront (record old { socket = socket }) new
+    → Stops Turns old new
+stops_after Turns old new socket outcomes turned empty follows part =
+    let waiting : socket.view.events ≡ told old outcomes = follows.events ∙ ap (λ (l : List (Event (List ℕ))). l ++ told old outcomes) empty in
+    record {
+      outcomes = outcomes;
+      turns = inr turned;
+      shows = record {
+        events = subst (λ (l : List (Event (List ℕ))). AddsFront l old.events new.events) waiting part.events;
+        packets = subst (λ (l : List (Event (List ℕ))). AddsFront (packets_in l) old.packets new.packets) waiting part.packets;
+        pairs = subst (λ (l : List Pair). AddsFront l old.pairs new.pairs) follows.pairs part.pairs;
+        associations = front_same (association_of (after_all old.socket.view.endpoint outcomes).core ∷ []) part.associations;
+      };
+    }
+
+-- ---- associations
+
+-- its association was noted, or not
+abbrev pub MaybeNoted : {R : Type 0} → SideShown R → SideShown R → Type 0
+MaybeNoted side new = (new ≡ side) ⊎ (new ≡ with_association side)
+
+at_noted : {R : Type 0} (side new : SideShown R) → MaybeNoted side new → (P : SideShown R → Type 0) → P side → P (with_association side) → P new
+at_noted side new (inl same) P h noted = subst P (sym same) h
+at_noted side new (inr same) P h noted = subst P (sym same) noted
+
+grows_in_part : {R : Type 0} (Turns : List Outcome → Type 0) (old moved new : SideShown R) (grows : Grows Turns old moved) → MaybeNoted moved new → Stops Turns old new
+grows_in_part {R = R} Turns old moved new grows noted =
+    let os = grows.outcomes in
+    let now : List (Option Association) = association_of (after_all old.socket.view.endpoint os).core ∷ [] in
+    let shows : (l : List (Option Association)) → AddsFront now old.associations l → ShowsFront os old (record moved { associations = l }) =
+    λ l h. record {
+      events = front_whole (told old os) grows.events;
+      packets = front_whole (packets_in (told old os)) grows.packets;
+      pairs = front_whole (pairs_of os) grows.pairs;
+      associations = h;
+    } in
+    let behind : (with_association moved).associations ≡ old.associations ++ now =
+    ap (λ (l : List (Option Association)). l ++ association_of moved.socket.view.endpoint.core ∷ []) grows.associations
+    ∙ ap (λ (e : Endpoint). old.associations ++ association_of e.core ∷ []) grows.endpoint in
+    record {
+      outcomes = os;
+      turns = inr grows.turns;
+      shows = at_noted moved new noted (λ (side : SideShown R). ShowsFront os old side)
+          (shows moved.associations (front_same now grows.associations)) (shows (with_association moved).associations (front_whole now behind));
+    }
+
+other_in_part : {R : Type 0} (old moved new : SideShown R) → moved ≡ old → MaybeNoted moved new → ShowsFront [] old new
+other_in_part {R = R} old moved new stays noted =
+    let now : List (Option Association) = association_of old.socket.view.endpoint.core ∷ [] in
+    let same : MaybeNoted old new = subst (λ (side : SideShown R). MaybeNoted side new) stays noted in
+    at_noted old new same (λ (side : SideShown R). ShowsFront [] old side) (shows_nothing [] old old refl refl refl refl)
+    (record { events = front_same [] refl; packets = front_same [] refl; pairs = front_same [] refl; associations = front_whole now refl })
+
+-- ---- a step
+
+at_mover : {R : Type 0} (Turns : List Outcome → Type 0) (mover : Side) (old moved new : Both (SideShown R)) → Grows Turns (of_side mover old) (of_side mover moved)
+    → of_other mover moved ≡ of_other mover old → MaybeNoted moved.a new.a → MaybeNoted moved.b new.b
+    → Stops Turns (of_side mover old) (of_side mover new) × ShowsFront [] (of_other mover old) (of_other mover new)
+at_mover Turns sides.A old moved new grows stays a b = (grows_in_part Turns old.a moved.a new.a grows a, other_in_part old.b moved.b new.b stays b)
+at_mover Turns sides.B old moved new grows stays a b = (grows_in_part Turns old.b moved.b new.b grows b, other_in_part old.a moved.a new.a stays a)
+
+-- this side stopped, and the other is as it was
+pub stops_at : {R : Type 0} (step : Step) (mover : Side) (old new : Both (SideShown R)) → side_of step ≡ mover
+    → Stops (StepTurns (of_side mover old).socket.view.endpoint (of_other mover old).packets step) (of_side mover old) (of_side mover new)
+    → of_other mover new ≡ of_other mover old → StepStops step old new
+stops_at {R = R} step mover old new is stops stays =
+    let At : Side → Type 0 = λ side.
+    Stops (StepTurns (of_side side old).socket.view.endpoint (of_other side old).packets step) (of_side side old) (of_side side new)
+    × ShowsFront [] (of_other side old) (of_other side new) in
+    let both = subst At (sym is) (stops, other_in_part (of_other mover old) (of_other mover old) (of_other mover new) refl (inl stays)) in
+    record { mover = both.0; other = both.1 }
+
+-- a step moved its side, and then a growth was refused
+pub moved_in_part : {R : Type 0} (step : Step) (reply : Reply) (old moved new : Both (SideShown R)) → StepMoves step reply old moved
+    → MaybeNoted moved.a new.a → MaybeNoted moved.b new.b → StepStops step old new
+moved_in_part step reply old moved new moves a b =
+    let both = at_mover (StepTurns (of_side (side_of step) old).socket.view.endpoint (of_other (side_of step) old).packets step) (side_of step) old moved new
+    moves.grows moves.other_stays a b in
+    record { mover = both.0; other = both.1 }
