@@ -57,15 +57,7 @@ queue is_interleaved =
 -- and with the message before its first byte again
 abbrev pub queue_at_start : SendQueueState
 queue_at_start =
-    record {
-      is_interleaved = true;
-      total_buffered_amount = 42;
-      buffered_amounts = record { stream = 3; number = 42 } ∷ [];
-      thresholds = [];
-      priorities = [];
-      under_way = None;
-      ready_streams = [];
-    }
+    record (queue true) { total_buffered_amount = 42; buffered_amounts = record { stream = 3; number = 42 } ∷ []; under_way = None; ready_streams = [] }
 
 -- 5 seconds after it was made
 abbrev pub socket : Endpoint → ℕ → ℤ → Core → ℕ → Endpoint

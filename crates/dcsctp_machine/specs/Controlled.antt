@@ -1,6 +1,6 @@
 -- How a turn of an endpoint is one of its association: the association moves as the change says, it draws the
--- change's pairs, and the user sees its packets, its connections and ends and its resets in the change's order. The rest of the endpoint
--- (timers, counts, what lies below) is not said here.
+-- change's pairs, and the user sees its packets, its connections and ends and its resets in the change's order.
+-- The rest of the endpoint (timers, counts, what lies below) is not said here.
 use Rattle.std.specs.Prelude.{◌≡◌, ℕ, List, [], ◌∷◌}
 use Rattle.dcsctp_machine.specs.declared.association.Pair.{Pair}
 use Rattle.dcsctp_machine.specs.Packet.{Content, Packet, Emission}

@@ -48,7 +48,8 @@ own_tag (cookie_wait my) = my.tag
 own_tag (cookie_echoed my held cookie) = my.tag
 own_tag (open_in phase my held) = my.tag
 
--- A timer of this layer that runs (RFC 9260, sections 5.1, 8.3 and 9.2; RFC 6525, section 5.1). Moments and durations are nanoseconds.
+-- A timer of this layer that runs (RFC 9260, sections 5.1, 8.3 and 9.2; RFC 6525, section 5.1). Moments and
+-- durations are nanoseconds.
 pub record RunningTimer : Type 0 where
   -- when it expires next
   pub deadline : ℕ

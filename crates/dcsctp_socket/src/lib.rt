@@ -1,9 +1,9 @@
 //! An SCTP socket (RFC 9260) that makes no system call: packets go in, events come out.
 //!
 //! There are four kinds of call. Queries (`state`, `association`, `verification_tag`, `drawn_pairs`,
-//! `has_failed`) answer and change nothing. Inputs (`handle_input`) bring what the peer sent. Commands (`connect`)
-//! say what the user wants. Polls (`poll_event`) take what the socket has to tell. A user drives it by
-//! a loop, and takes the events of a command in the same way:
+//! `has_failed`) answer and change nothing. Inputs (`handle_input`) bring what the peer sent. Commands
+//! (`connect`) say what the user wants. Polls (`poll_event`) take what the socket has to tell. A user
+//! drives it by a loop, and takes the events of a command in the same way:
 //!
 //! ```text
 //! for each packet that comes from the peer:
