@@ -1,25 +1,20 @@
 -- What a flush does by its cases: nothing is held, or a packet goes out.
-use Rattle.std.proofs.Common.{◌≡◌, ◌≤◌, ℕ, ◌+◌, Bool, true, false, cond, List, [], ◌∷◌, ◌++◌, map, length, refl, sym, ap, subst, ◌∙◌}
+use Rattle.std.proofs.Common.{◌≡◌, ℕ, Bool, true, cond, List, [], ◌∷◌, ◌++◌, map, refl, sym, ap, ◌∙◌}
 use Rattle.std.proofs.lemmas.List.{append-nil}
-use Rattle.std.proofs.lemmas.Bool.{le-leb}
 use Rattle.std.specs.List.{flat_map}
 use Rattle.dcsctp_wire.specs.Content.{ChunkContent, init_chunk, init_ack_chunk, abort_chunk, cookie_echo_chunk, cookie_ack_chunk, other_chunk}
 use Rattle.dcsctp_wire.specs.Spelling.{chunk_bytes, init_bytes, abort_bytes, other_bytes, header_bytes, packet_bytes_of}
 use Rattle.dcsctp_wire.specs.Building.{Building}
 use Rattle.rand_core.specs.Stream.{Stream}
 use Rattle.dcsctp_machine.specs.declared.options.Options.{Options}
-use Rattle.dcsctp_machine.specs.Settings.{ports_of, packet_size_limit}
-use Rattle.dcsctp_machine.specs.declared.word.Word.{Word}
-use Rattle.dcsctp_machine.specs.declared.word.Word.TheVariants.{U64}
+use Rattle.dcsctp_machine.specs.Settings.{ports_of}
 use Rattle.dcsctp_machine.specs.Event.{sent}
-use Rattle.dcsctp_machine.specs.Packet.{Content, cookie_echo, Emission, chunk_out, emission_bytes}
+use Rattle.dcsctp_machine.specs.Packet.{Content, Emission, chunk_out, emission_bytes}
 use Rattle.dcsctp_machine.specs.Endpoint.{Endpoint}
-use Rattle.dcsctp_machine.specs.Outcome.{Outcome, quiet, counted, sends, contents_len, fits}
-use Rattle.dcsctp_machine.specs.turns.Handshake.{echo_emission, echoes_cookie}
+use Rattle.dcsctp_machine.specs.Outcome.{quiet, counted, sends}
 use Rattle.dcsctp_machine.specs.turns.Flush.{allows_packet, flushes}
 use Rattle.dcsctp_core.specs.View.{View, Moves}
 use Rattle.dcsctp_core.specs.Flushing.{packet_of}
-use Rattle.dcsctp_core.proofs.Composing.{behind, Draws, moves_behind, flush_behind}
 
 -- A chunk has bytes.
 chunk_is_not_empty : (chunk : ChunkContent) (rest : List ℕ) → chunk_bytes chunk ++ rest ≡ [] → ⊥
@@ -71,38 +66,3 @@ pub built_bytes : (options : Options) (builder : Building) (with_checksum : Bool
     → bytes ≡ emission_bytes (ports_of options) (record { with_checksum = with_checksum; packet = record { tag = tag; contents = contents } })
 built_bytes options builder with_checksum tag contents bytes is built =
     built ∙ ap (λ (b : Building). packet_bytes_of b.with_checksum (header_bytes b.source_port b.destination_port b.verification_tag) b.body) is
-
--- ---- COOKIE ECHO
-
-echo_where : (b : Bool) (e : Endpoint) (words : List Word) (tag : ℕ) (cookie : List ℕ) → b ≡ true
-    → cond b (flushes e words [] true tag (cookie_echo cookie ∷ [])) (quiet e words []) ≡ flushes e words [] true tag (cookie_echo cookie ∷ [])
-echo_where b e words tag cookie is = ap (λ (x : Bool). cond x (flushes e words [] true tag (cookie_echo cookie ∷ [])) (quiet e words [])) is
-
--- one that fits is in front of a flush
-pub echo_that_fits : (e : Endpoint) (words : List Word) (tag : ℕ) (cookie : List ℕ)
-    → 12 + length (chunk_bytes (cookie_echo_chunk cookie)) ≤ packet_size_limit e.options
-    → echoes_cookie e words tag cookie ≡ flushes e words [] true tag (cookie_echo cookie ∷ [])
-echo_that_fits e words tag cookie within =
-    echo_where (fits e (echo_emission tag cookie)) e words tag cookie
-    (le-leb (12 + contents_len (cookie_echo cookie ∷ [])) (packet_size_limit e.options)
-    (subst (λ (bytes : List ℕ). 12 + length bytes ≤ packet_size_limit e.options) (sym (append-nil (chunk_bytes (cookie_echo_chunk cookie)))) within))
-
-behind_where : (b : Bool) (e : Endpoint) (words more : List Word) (tag : ℕ) (cookie : List ℕ)
-    → behind words [] (cond b (flushes e more [] true tag (cookie_echo cookie ∷ [])) (quiet e more []))
-    ≡ cond b (flushes e (words ++ more) [] true tag (cookie_echo cookie ∷ [])) (quiet e (words ++ more) [])
-behind_where true e words more tag cookie = flush_behind e words more [] [] true tag (cookie_echo cookie ∷ [])
-behind_where false e words more tag cookie = refl
-
--- one behind the word of a new association
-pub echoes_behind : {R : Type 0} (stream : R → Stream) (old mid new : View R) (e : Endpoint) (tie tag : ℕ) (cookie : List ℕ)
-    → mid.endpoint ≡ e
-    → ports_of e.options ≡ ports_of old.endpoint.options
-    → mid.events ≡ old.events
-    → Draws stream old (U64 tie ∷ []) mid
-    → Moves stream mid (echoes_cookie mid.endpoint [] tag cookie) new
-    → Moves stream old (echoes_cookie e (U64 tie ∷ []) tag cookie) new
-echoes_behind stream old mid new e tie tag cookie here ports added drawn m =
-    subst (λ (o : Outcome). Moves stream old o new) (behind_where (fits e (echo_emission tag cookie)) e (U64 tie ∷ []) [] tag cookie)
-    (moves_behind stream old mid new (U64 tie ∷ []) [] (echoes_cookie e [] tag cookie)
-    (record { ports = ap (λ (x : Endpoint). ports_of x.options) here ∙ ports; events = added ∙ sym (append-nil old.events) }) drawn
-    (subst (λ (x : Endpoint). Moves stream mid (echoes_cookie x [] tag cookie) new) here m))

@@ -1,4 +1,3 @@
-pub mod Echoes
 pub mod Flushing
 pub mod Handling
 pub mod View

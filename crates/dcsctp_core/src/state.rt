@@ -81,7 +81,7 @@ impl State {
     }
 
     /// Establishes the association whose COOKIE ACK is awaited, which stops T1.
-    pub(crate) fn establish(&mut self)
+    pub fn establish(&mut self)
         requires { is_cookie_echoed self.old ≡ true }
         ensures { self.new ≡ established_from self.old }
     {

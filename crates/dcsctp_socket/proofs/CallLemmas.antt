@@ -15,7 +15,7 @@ use Rattle.dcsctp_machine.specs.CallTurns.{AdmittedTurns, HandleInput, unreadabl
 use Rattle.dcsctp_api.specs.Calls.{AddsFront, user_event}
 use Rattle.dcsctp_machine.proofs.TurnLemmas.{events_of-append}
 use Rattle.dcsctp_core.specs.View.{View, call_start, Moves, MovesAll, CutTurn, first_word, second_word}
-use Rattle.dcsctp_core.specs.Handling.{connect_turn}
+use Rattle.dcsctp_handshake.specs.Handshake.{connect_turn}
 use Rattle.dcsctp_wire.specs.declared.packet.WireOptions.{WireOptions}
 use Rattle.dcsctp_socket.specs.Parts.{PacketMoves, InputMoves, ConnectMoves, PacketCut, InputCut}
 use Rattle.dcsctp_core.proofs.Moving.{moves_one, moves_then}

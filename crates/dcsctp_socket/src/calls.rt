@@ -12,9 +12,9 @@ ghost use Rattle.dcsctp_socket.specs.Parts.{ChunkMoves, ChunksMove, PacketMoves,
 use crate::admission::{Admission, admit};
 use crate::texts::UNREADABLE;
 use dcsctp_api::{ErrorKind, Events, Options};
-use dcsctp_core::{
-    Context, Following, State, do_connect, handle_abort, handle_cookie_ack, handle_cookie_echo,
-    handle_init, handle_init_ack,
+use dcsctp_core::{Context, Following, State, handle_abort};
+use dcsctp_handshake::{
+    do_connect, handle_cookie_ack, handle_cookie_echo, handle_init, handle_init_ack,
 };
 use dcsctp_wire::{Chunk, PacketError, SctpPacket, WireOptions};
 use rand_core::Rng;

@@ -1,0 +1,2 @@
+mod EchoSteps
+mod InitAckSteps

@@ -1,0 +1,6 @@
+pub mod Echoes
+pub mod Handshake
+pub use Rattle.dcsctp_api.specs.Events
+pub use Rattle.dcsctp_core.specs.Handling
+pub use Rattle.dcsctp_core.specs.View
+pub use Rattle.dcsctp_machine.specs.Packet

@@ -1,0 +1,13 @@
+//! The handshake (RFC 9260, section 5): connect, and the handlers of INIT, INIT ACK, COOKIE ECHO and
+//! COOKIE ACK. They work on the parts that `dcsctp_core` shares; the calls of a socket are their callers.
+#![tactic(auto)]
+
+mod connect;
+mod cookie_echo;
+mod init;
+mod parameters;
+mod texts;
+
+pub use connect::{do_connect, handle_cookie_ack, handle_init_ack};
+pub use cookie_echo::handle_cookie_echo;
+pub use init::handle_init;
