@@ -12,8 +12,8 @@ use Rattle.dcsctp_machine.specs.Endpoint.{Endpoint}
 use Rattle.dcsctp_machine.specs.Outcome.{Outcome}
 use Rattle.dcsctp_machine.specs.CallTurns.{events_of}
 use Rattle.dcsctp_machine.specs.Sockets.{Both, turns_after, schedule_of}
-use Rattle.dcsctp_runs.specs.Agreement.{HasDistinctTags, SocketsAgree}
-use Rattle.dcsctp_runs.specs.Handshake.{handshake, connections, IsConnected, AreConnected, FittingSocketsConnect}
+use Rattle.dcsctp_refinement.specs.Agreement.{HasDistinctTags, SocketsAgree}
+use Rattle.dcsctp_refinement.specs.Handshake.{handshake, connections, IsConnected, AreConnected, FittingSocketsConnect}
 use Rattle.dcsctp_world.specs.declared.act.Act.{Act}
 use Rattle.dcsctp_world.specs.declared.act.Act.TheVariants as acts
 use Rattle.dcsctp_world.specs.Shown.{SideShown, WorldView, options_of}

@@ -8,8 +8,8 @@ use Rattle.dcsctp_machine.specs.Endpoint.{open_in, established}
 use Rattle.dcsctp_machine.specs.Offer.{offer_of, negotiated}
 use Rattle.dcsctp_machine.specs.control.Handshake.{new_held}
 use Rattle.dcsctp_machine.specs.Sockets.{Both}
-use Rattle.dcsctp_runs.specs.Agreement.{HasDistinctTags, AgreeThroughout}
-use Rattle.dcsctp_runs.specs.Handshake.{handshake, AreFitting, connections}
+use Rattle.dcsctp_refinement.specs.Agreement.{HasDistinctTags, AgreeThroughout}
+use Rattle.dcsctp_refinement.specs.Handshake.{handshake, AreFitting, connections}
 use Rattle.dcsctp_world.specs.Shown.{SideShown, WorldView}
 use Rattle.dcsctp_world.specs.Run.{IsRun}
 

@@ -3,7 +3,7 @@
 use crate::act::{Act, Reply, side_of};
 use crate::watched_socket::WatchedSocket;
 use dcsctp_machine::{Side, Step, options_fit};
-use dcsctp_runs::{fitting_sockets_connect, sockets_agree};
+use dcsctp_refinement::{fitting_sockets_connect, sockets_agree};
 use dcsctp_socket::{Association, Options, Pair, Socket, SocketEvent, SocketFault};
 use rand_core::Rng;
 use std::alloc::Global;

@@ -14,9 +14,9 @@ use Rattle.dcsctp_machine.specs.CallTurns.{AfterChunk, ChunkTurns}
 use Rattle.dcsctp_machine.specs.Admission.{shutdown_acks_in}
 use Rattle.dcsctp_machine.specs.Laws.{OfferReadsBack, FitsOwn, FitsContent, FitsTurns}
 use Rattle.dcsctp_machine.specs.Sockets.{packets_in}
-use Rattle.dcsctp_runs.proofs.Sendable.{Sendable, SendablePacket}
-use Rattle.dcsctp_runs.proofs.Sent.{AllSent}
-use Rattle.dcsctp_runs.proofs.TurnsFit.{FitsCore, FitsEndpoint, TurnFits, turn_fits}
+use Rattle.dcsctp_refinement.proofs.Sendable.{Sendable, SendablePacket}
+use Rattle.dcsctp_refinement.proofs.Sent.{AllSent}
+use Rattle.dcsctp_refinement.proofs.TurnsFit.{FitsCore, FitsEndpoint, TurnFits, turn_fits}
 
 -- ---- a packet in bytes
 

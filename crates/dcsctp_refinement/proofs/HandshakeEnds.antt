@@ -23,12 +23,12 @@ use Rattle.dcsctp_machine.specs.CallTurns.{Turns, HandleInput}
 use Rattle.dcsctp_machine.specs.Admission.{all_chunks, admits, admitted_where, admits_by, wrong_tag_text}
 use Rattle.dcsctp_machine.specs.Laws.{FitsPair}
 use Rattle.dcsctp_machine.specs.Sockets.{endpoint_after, packets_shown, numbered, DeliveryTurns}
-use Rattle.dcsctp_runs.specs.Handshake.{IsConnected}
-use Rattle.dcsctp_runs.proofs.Bytes.{length_of_cookie, in_cookie}
-use Rattle.dcsctp_runs.proofs.HandshakeReads.{IsTaken, Taken, taken}
-use Rattle.dcsctp_runs.proofs.HandshakeTurns.{HandshakeLaws, Good, same_tag, not_zero, method_checked, Begins, begins, connecting, counted_at, asked, Answers, answers, answering, waiting, made_cookie, answer_to, awaiting, Echoes, echoes, echoing}
-use Rattle.dcsctp_runs.proofs.Sendable.{echo_sendable, ack_sendable}
-use Rattle.dcsctp_runs.proofs.TurnsFit.{drawn_fits}
+use Rattle.dcsctp_refinement.specs.Handshake.{IsConnected}
+use Rattle.dcsctp_refinement.proofs.Bytes.{length_of_cookie, in_cookie}
+use Rattle.dcsctp_refinement.proofs.HandshakeReads.{IsTaken, Taken, taken}
+use Rattle.dcsctp_refinement.proofs.HandshakeTurns.{HandshakeLaws, Good, same_tag, not_zero, method_checked, Begins, begins, connecting, counted_at, asked, Answers, answers, answering, waiting, made_cookie, answer_to, awaiting, Echoes, echoes, echoing}
+use Rattle.dcsctp_refinement.proofs.Sendable.{echo_sendable, ack_sendable}
+use Rattle.dcsctp_refinement.proofs.TurnsFit.{drawn_fits}
 
 -- ---- COOKIE ECHO
 

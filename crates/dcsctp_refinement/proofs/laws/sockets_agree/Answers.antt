@@ -1,6 +1,6 @@
-use Rattle.dcsctp_runs.proofs.Moves.{Below}
-use Rattle.dcsctp_runs.proofs.SocketsAgree.{sockets_agree}
-use Rattle.dcsctp_runs.proofs.laws.sockets_agree.Goals as goal
+use Rattle.dcsctp_refinement.proofs.Moves.{Below}
+use Rattle.dcsctp_refinement.proofs.SocketsAgree.{sockets_agree}
+use Rattle.dcsctp_refinement.proofs.laws.sockets_agree.Goals as goal
 
 pub returns : goal.returns
 returns c =

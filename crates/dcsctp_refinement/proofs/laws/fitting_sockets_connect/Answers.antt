@@ -1,6 +1,6 @@
-use Rattle.dcsctp_runs.proofs.HandshakeTurns.{HandshakeLaws}
-use Rattle.dcsctp_runs.proofs.HandshakeRuns.{fitting_sockets_connect}
-use Rattle.dcsctp_runs.proofs.laws.fitting_sockets_connect.Goals as goal
+use Rattle.dcsctp_refinement.proofs.HandshakeTurns.{HandshakeLaws}
+use Rattle.dcsctp_refinement.proofs.HandshakeRuns.{fitting_sockets_connect}
+use Rattle.dcsctp_refinement.proofs.laws.fitting_sockets_connect.Goals as goal
 
 pub returns : goal.returns
 returns c =

@@ -7,8 +7,8 @@ use Rattle.dcsctp_machine.specs.Controlled.{Sign, packet_sent, has_connected, ha
 use Rattle.dcsctp_machine.specs.Past.{Has}
 use Rattle.dcsctp_machine.specs.World.{after_effects}
 use Rattle.dcsctp_agreement.proofs.Growth.{after_within}
-use Rattle.dcsctp_runs.specs.Agreement.{HasConnected}
-use Rattle.dcsctp_runs.proofs.Sent.{AllSent, all_sent_map}
+use Rattle.dcsctp_refinement.specs.Agreement.{HasConnected}
+use Rattle.dcsctp_refinement.proofs.Sent.{AllSent, all_sent_map}
 
 -- ---- effects and the past behind them
 

@@ -10,8 +10,8 @@ use Rattle.dcsctp_machine.specs.Outcome.{Outcome, Following, next_chunk, packet_
 use Rattle.dcsctp_machine.specs.Turn.{ContentTurn, arrival_outcome}
 use Rattle.dcsctp_machine.specs.CallTurns.{AfterChunk, ChunkTurns, AdmittedTurns, HandleInput, unreadable, readable}
 use Rattle.dcsctp_machine.specs.Admission.{Admission, all_chunks, admits}
-use Rattle.dcsctp_runs.proofs.Deliver.{built, fields_fit, reads_as_sent}
-use Rattle.dcsctp_runs.proofs.Sendable.{SendablePacket}
+use Rattle.dcsctp_refinement.proofs.Deliver.{built, fields_fit, reads_as_sent}
+use Rattle.dcsctp_refinement.proofs.Sendable.{SendablePacket}
 
 -- the laws of the wire
 pub record Wire : Type 0 where

@@ -15,7 +15,7 @@ use Rattle.dcsctp_machine.specs.CallTurns.{events_of}
 use Rattle.dcsctp_machine.specs.turns.Flush.{allows_packet}
 use Rattle.dcsctp_machine.specs.control.Handshake.{new_held}
 use Rattle.dcsctp_machine.specs.Sockets.{Worked, Both, endpoint_after, turns_after, SocketRun, schedule_of}
-use Rattle.dcsctp_runs.specs.Agreement.{AreUsable}
+use Rattle.dcsctp_refinement.specs.Agreement.{AreUsable}
 
 abbrev pub other_side : Side → Side
 other_side sides.A = sides.B

@@ -14,10 +14,10 @@ use Rattle.dcsctp_machine.specs.World.{SideState, fresh_side, at_a, at_b, world_
 use Rattle.dcsctp_machine.specs.Sockets.{Worked, Both, side_of, of_side, of_other, with_turns, turns_after, endpoint_after, packets_shown, StepTurns, SocketRun}
 use Rattle.dcsctp_machine.proofs.TurnLemmas.{pairs_of-append}
 use Rattle.dcsctp_agreement.specs.Agreement.{FindsCrossed, BothAgree, SidesAgree}
-use Rattle.dcsctp_runs.specs.Agreement.{HasDistinctTags, FindsHeld, Agree, AreUsable, AreFresh, SocketsAgree}
-use Rattle.dcsctp_runs.proofs.Follow.{Followed, each_connected_map}
-use Rattle.dcsctp_runs.proofs.Fresh.{distinct_front}
-use Rattle.dcsctp_runs.proofs.Moves.{Below, SideMove, rested, moved, step_moves}
+use Rattle.dcsctp_refinement.specs.Agreement.{HasDistinctTags, FindsHeld, Agree, AreUsable, AreFresh, SocketsAgree}
+use Rattle.dcsctp_refinement.proofs.Follow.{Followed, each_connected_map}
+use Rattle.dcsctp_refinement.proofs.Fresh.{distinct_front}
+use Rattle.dcsctp_refinement.proofs.Moves.{Below, SideMove, rested, moved, step_moves}
 
 -- The run of sockets is followed by a run of the machine.
 pub record Joined (options : Both Options) (turns : Both (List Outcome)) : Type 0 where

@@ -17,7 +17,7 @@ use Rattle.dcsctp_machine.specs.Endpoint.{Endpoint}
 use Rattle.dcsctp_machine.specs.Outcome.{contents_len, fits}
 use Rattle.dcsctp_machine.specs.turns.Handshake.{init_emission, init_ack_emission, cookie_for, echo_emission}
 use Rattle.dcsctp_machine.specs.control.Handshake.{introduction_of, answering_introduction}
-use Rattle.dcsctp_runs.proofs.Sendable.{parameters_by}
+use Rattle.dcsctp_refinement.proofs.Sendable.{parameters_by}
 
 -- the limit of such options
 limit : (options : Options) → 104 ≤ options.mtu → 104 ≤ packet_size_limit options

@@ -1,7 +1,7 @@
 //! Theorems on the runs of two sockets.
 
-ghost use Rattle.dcsctp_runs.specs.Agreement.{SocketsAgree};
-ghost use Rattle.dcsctp_runs.specs.Handshake.{FittingSocketsConnect};
+ghost use Rattle.dcsctp_refinement.specs.Agreement.{SocketsAgree};
+ghost use Rattle.dcsctp_refinement.specs.Handshake.{FittingSocketsConnect};
 
 use dcsctp_agreement::{effects_mean, sides_agree};
 use dcsctp_machine::{

@@ -6,7 +6,7 @@ use Rattle.dcsctp_machine.specs.control.Effect.{Effect, draws, sends, holds, con
 use Rattle.dcsctp_machine.specs.Controlled.{pairs_of_effects}
 use Rattle.dcsctp_machine.specs.Past.{Has, HasFreshTags}
 use Rattle.dcsctp_machine.specs.World.{after_effects}
-use Rattle.dcsctp_runs.specs.Agreement.{HasDistinctTags}
+use Rattle.dcsctp_refinement.specs.Agreement.{HasDistinctTags}
 
 abbrev pub IsPair : Pair → List Pair → Type 0
 IsPair pair [] = ⊥

@@ -20,9 +20,9 @@ use Rattle.dcsctp_machine.specs.turns.Handshake.{pair_from, renewed_pair, cookie
 use Rattle.dcsctp_machine.specs.turns.CookieEcho.{established_by, establishes, interleaves, restarts_where, maintains, resolved_outcome, cookie_echo_outcome}
 use Rattle.dcsctp_machine.specs.control.CookieEcho.{Resolution, establish_new, restart, simultaneous_init, discard, maintain_existing, invalid_tag, resolve}
 use Rattle.dcsctp_machine.specs.Laws.{FitsPair, OfferReadsBack}
-use Rattle.dcsctp_runs.proofs.Bytes.{ReadPairs, read_pairs_fit}
-use Rattle.dcsctp_runs.proofs.Sendable.{Sendable, SendablePacket, init_sendable, init_ack_sendable, echo_sendable, ack_sendable, abort_sendable}
-use Rattle.dcsctp_runs.proofs.Sent.{AllSent, all_sent_append}
+use Rattle.dcsctp_refinement.proofs.Bytes.{ReadPairs, read_pairs_fit}
+use Rattle.dcsctp_refinement.proofs.Sendable.{Sendable, SendablePacket, init_sendable, init_ack_sendable, echo_sendable, ack_sendable, abort_sendable}
+use Rattle.dcsctp_refinement.proofs.Sent.{AllSent, all_sent_append}
 
 -- The own pair fits its fields while the handshake is under way. No shutdown is under way: so far none begins.
 abbrev pub FitsCore : Core → Type 0

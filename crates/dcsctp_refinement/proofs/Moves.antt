@@ -26,10 +26,10 @@ use Rattle.dcsctp_machine.specs.World.{SideState, after_changes, acted, ChunkCha
 use Rattle.dcsctp_machine.specs.Sockets.{endpoint_after, packets_shown, DeliveryTurns, StepTurns}
 use Rattle.dcsctp_agreement.specs.OneSide.{EffectsMean}
 use Rattle.dcsctp_agreement.proofs.Alone.{packet_turns}
-use Rattle.dcsctp_runs.proofs.Deliver.{IsSent, sent_at, reads_as_sent, ChunksFit, chunk_turns_fit, acks_sendable}
-use Rattle.dcsctp_runs.proofs.Follow.{Went, Followed, after_last, follow_turns, follow_idle}
-use Rattle.dcsctp_runs.proofs.Sendable.{Sendable, SendablePacket}
-use Rattle.dcsctp_runs.proofs.TurnsFit.{TurnFits, connect_fits}
+use Rattle.dcsctp_refinement.proofs.Deliver.{IsSent, sent_at, reads_as_sent, ChunksFit, chunk_turns_fit, acks_sendable}
+use Rattle.dcsctp_refinement.proofs.Follow.{Went, Followed, after_last, follow_turns, follow_idle}
+use Rattle.dcsctp_refinement.proofs.Sendable.{Sendable, SendablePacket}
+use Rattle.dcsctp_refinement.proofs.TurnsFit.{TurnFits, connect_fits}
 
 -- the laws below that the runs of sockets rest on
 pub record Below : Type 0 where

@@ -9,9 +9,9 @@ use Rattle.dcsctp_machine.specs.declared.schedule.Step.{Step}
 use Rattle.dcsctp_machine.specs.declared.schedule.Step.TheVariants as steps
 use Rattle.dcsctp_machine.specs.Outcome.{Outcome}
 use Rattle.dcsctp_machine.specs.Sockets.{Worked, Both, turns_after, SocketRun, schedule_of}
-use Rattle.dcsctp_runs.specs.Handshake.{other_side, handshake, AreFitting, AreConnected, FittingSocketsConnect}
-use Rattle.dcsctp_runs.proofs.HandshakeTurns.{HandshakeLaws, Good}
-use Rattle.dcsctp_runs.proofs.HandshakeEnds.{Ended, in_turn}
+use Rattle.dcsctp_refinement.specs.Handshake.{other_side, handshake, AreFitting, AreConnected, FittingSocketsConnect}
+use Rattle.dcsctp_refinement.proofs.HandshakeTurns.{HandshakeLaws, Good}
+use Rattle.dcsctp_refinement.proofs.HandshakeEnds.{Ended, in_turn}
 
 -- the run of a handshake with these outcomes
 abbrev pub run_of : Side → List Outcome → List Outcome → List Outcome → List Outcome → List Outcome → List Worked

@@ -18,12 +18,12 @@ use Rattle.dcsctp_machine.specs.Sockets.{endpoint_after}
 use Rattle.dcsctp_machine.proofs.TurnLemmas.{after_all-append, pairs_of-append, events_of-append}
 use Rattle.dcsctp_agreement.specs.OneSide.{IsEstablished, Means, EffectsMean}
 use Rattle.dcsctp_agreement.proofs.Growth.{after_within}
-use Rattle.dcsctp_runs.specs.Agreement.{HasDistinctTags, WasHeld, HasConnected, Holds, EachConnected}
-use Rattle.dcsctp_runs.proofs.Fresh.{IsPair, in_front, at_end, drawn_pair, distinct_front, stays_fresh}
-use Rattle.dcsctp_runs.proofs.Sendable.{SendablePacket}
-use Rattle.dcsctp_runs.proofs.Sent.{OfSent, AllSent, all_sent_append, all_sent_map}
-use Rattle.dcsctp_runs.proofs.Signs.{in_after, among_after, WasSent, packets_are_effects, connected_connects}
-use Rattle.dcsctp_runs.proofs.TurnsFit.{FitsEndpoint, IsSendable, TurnFits}
+use Rattle.dcsctp_refinement.specs.Agreement.{HasDistinctTags, WasHeld, HasConnected, Holds, EachConnected}
+use Rattle.dcsctp_refinement.proofs.Fresh.{IsPair, in_front, at_end, drawn_pair, distinct_front, stays_fresh}
+use Rattle.dcsctp_refinement.proofs.Sendable.{SendablePacket}
+use Rattle.dcsctp_refinement.proofs.Sent.{OfSent, AllSent, all_sent_append, all_sent_map}
+use Rattle.dcsctp_refinement.proofs.Signs.{in_after, among_after, WasSent, packets_are_effects, connected_connects}
+use Rattle.dcsctp_refinement.proofs.TurnsFit.{FitsEndpoint, IsSendable, TurnFits}
 
 -- a packet that went out: the side sent it, and it is read as itself
 pub record Went (past : List Effect) (emission : Emission) : Type 0 where

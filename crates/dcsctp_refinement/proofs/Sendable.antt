@@ -15,7 +15,7 @@ use Rattle.dcsctp_machine.specs.Cookie.{Cookie, cookie_bytes}
 use Rattle.dcsctp_machine.specs.Packet.{Introduction, Content, init, init_ack, cookie_echo, cookie_ack, abort, Packet, cookie_in, content_in, chunk_out}
 use Rattle.dcsctp_machine.specs.control.Handshake.{introduction_of, answering_introduction}
 use Rattle.dcsctp_machine.specs.Laws.{FitsPair, FitsOffer, OfferReadsBack}
-use Rattle.dcsctp_runs.proofs.Bytes.{length_of_cookie, in_cookie}
+use Rattle.dcsctp_refinement.proofs.Bytes.{length_of_cookie, in_cookie}
 
 -- what a side that reads the chunk takes of it
 abbrev pub FitsSaid : Content → Type 0

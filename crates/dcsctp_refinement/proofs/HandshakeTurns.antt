@@ -20,10 +20,10 @@ use Rattle.dcsctp_machine.specs.control.Acts.{connect}
 use Rattle.dcsctp_machine.specs.CallTurns.{Turns, HandleInput}
 use Rattle.dcsctp_machine.specs.Admission.{all_chunks, admits, admitted_where, admits_by, wrong_tag_text}
 use Rattle.dcsctp_machine.specs.Laws.{FitsPair, AnswerKeepsAgreement, CookieReadsBack, OfferReadsBack}
-use Rattle.dcsctp_runs.specs.Handshake.{AllowHandshake}
-use Rattle.dcsctp_runs.proofs.HandshakeReads.{Wire, IsTaken, Taken, taken}
-use Rattle.dcsctp_runs.proofs.HandshakeSizes.{init_fits, init_ack_fits, echo_fits}
-use Rattle.dcsctp_runs.proofs.Sendable.{init_sendable, init_ack_sendable}
+use Rattle.dcsctp_refinement.specs.Handshake.{AllowHandshake}
+use Rattle.dcsctp_refinement.proofs.HandshakeReads.{Wire, IsTaken, Taken, taken}
+use Rattle.dcsctp_refinement.proofs.HandshakeSizes.{init_fits, init_ack_fits, echo_fits}
+use Rattle.dcsctp_refinement.proofs.Sendable.{init_sendable, init_ack_sendable}
 
 -- the laws below that the handshake rests on
 pub record HandshakeLaws : Type 0 where
