@@ -32,8 +32,14 @@ use std::io::{self, BufReader, BufWriter, Read, Write};
 
 /// Runs the script that the reader gives, and writes its lines to the writer.
 ///
-/// What stood before a bad line has been run and printed, and then `line n: bad`; where memory is
-/// wanting, `out of memory`. What is written is passed on at the latest at the end.
+/// The answer is `Done` where every line was run and all that it prints was written and flushed.
+/// `BadLine`: a line is no line of a script, or comes at the wrong place; the lines before it were
+/// run and printed, and then `line n: bad` with its number, counted from 1, empty lines too.
+/// `OutOfMemory`: a growth was refused; the commands before were run and printed, of the one that
+/// met it nothing is printed, and the last line is `out of memory`. A reader or a writer that fails
+/// with `io::ErrorKind::OutOfMemory` counts as a refused growth. `Broken`: the reader or the writer
+/// failed in another way, or the last line of one of the other two failures could not be written;
+/// no line says so. What a failed writer has taken may end within a line.
 pub fn run_script<R: Read, W: Write>(alloc: Global, reader: &mut R, writer: &mut W) -> Status {
     let outcome = run_buffered(alloc, reader, writer);
     match outcome {

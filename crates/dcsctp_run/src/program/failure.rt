@@ -12,21 +12,21 @@ use std::io;
 /// How a run ended.
 #[derive(Clone, Copy, Debug, PartialEq, Eq)]
 pub enum Status {
-    /// The script was run.
+    /// Every line of the script was run.
     Done,
 
     /// The input could not be read, or the output not be written.
     Broken,
 
-    /// A line was bad.
+    /// A line is no line of a script, or came at the wrong place.
     BadLine,
 
-    /// Memory was wanting.
+    /// A growth was refused.
     OutOfMemory,
 }
 
 impl Status {
-    /// The exit status of the program.
+    /// The exit status of the program: 0, 1, 2 or 3, in the order of the variants.
     pub fn code(self) -> u8
         ensures { result ≡ exit_code self }
     {

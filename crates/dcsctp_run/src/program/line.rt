@@ -34,7 +34,11 @@ pub enum Line<'a> {
     Command(Command),
 }
 
-/// The line that a text is, if it is one. Its second field always names a side.
+/// The line that a text is. Its second field always names a side.
+///
+/// None where the keyword or the side is unknown, a field is missing or one too many, or the
+/// number of a packet isn't one up to 2^64 - 1. The name and the value of an option and a list of
+/// words are not looked at here.
 pub fn parse_line(text: &str) -> Option<Line<'_>> {
     let (keyword, rest) = text.split_once(' ')?;
     match rest.split_once(' ') {

@@ -3,7 +3,8 @@
 ghost use Rattle.std.specs.Prelude.{◌↔◌, IsTrue};
 ghost use Rattle.dcsctp_run.specs.Number.{HasPlus, ReadsNumber, ReadsSignedNumber, ReadsLimit};
 
-/// The number that the digits write, where it is at most `most`. No sign is read.
+/// The number that the digits write. None where the text isn't digits alone, has none, or writes
+/// a number above `most`.
 pub fn number(text: &str, most: u64) -> Option<u64>
     ensures { ReadsNumber text.now most result }
 {
@@ -16,7 +17,8 @@ pub fn number(text: &str, most: u64) -> Option<u64>
     }
 }
 
-/// The same of a number that may begin with a minus.
+/// The number that the digits write, which may have a minus in front. None where the text is
+/// anything else, or the number isn't one of 32 bits.
 pub fn signed_number(text: &str) -> Option<i32>
     ensures { ReadsSignedNumber text.now result }
 {
@@ -26,7 +28,7 @@ pub fn signed_number(text: &str) -> Option<i32>
     text.parse::<i32>().ok()
 }
 
-/// A number, or `none`.
+/// A number up to `most`, or no limit where the text is `none`. None where it is neither.
 pub fn limit(text: &str, most: u64) -> Option<Option<u64>>
     ensures { ReadsLimit text.now most result }
 {

@@ -10,7 +10,10 @@ const COMMON_HEADER: usize = 12;
 
 const CHUNK_HEADER: usize = 4;
 
-/// Prints the packet of this number of a side.
+/// Prints the packet of this number of a side, on a line: its header tag in 8 hexadecimal digits
+/// and the names of its chunks; one too short for a header has neither.
+///
+/// The one error is the writer's, which may have taken a part of the line then.
 pub fn print_packet<W: Write>(
     side: &str,
     number: u64,

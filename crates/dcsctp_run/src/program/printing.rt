@@ -13,7 +13,9 @@ pub fn side_name(side: Side) -> &'static str {
     }
 }
 
-/// Prints an event of a side; a packet under this number.
+/// Prints an event of a side on a line; a packet under this number.
+///
+/// The one error is the writer's, which may have taken a part of the line then.
 pub fn print_event<W: Write>(
     side: Side,
     number: u64,

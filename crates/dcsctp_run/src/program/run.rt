@@ -14,6 +14,11 @@ use std::alloc::Global;
 use std::io::{self, BufRead, Write};
 
 /// Runs the lines of a script, and writes what comes of them.
+///
+/// `BadLine` says that a line is none, or that an option or words stand behind a command; the lines
+/// before it were run. `OutOfMemory` says that a growth was refused; of the command that met it
+/// nothing is written. `Broken` says that the reader or the writer failed. What a failed writer has
+/// taken may end within a line.
 pub fn run_lines<R: BufRead, W: Write>(
     alloc: Global,
     script: &mut Script<R>,

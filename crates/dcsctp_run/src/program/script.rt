@@ -28,8 +28,10 @@ impl<R: BufRead> Script<R> {
         }
     }
 
-    /// The next line that isn't empty, without its line feed; none at the end of the input. A line
-    /// with a byte outside 32 to 126 is bad.
+    /// The next line that isn't empty, without its line feed; none at the end of the input.
+    ///
+    /// `BadLine` says that the line has a byte outside 32 to 126, `OutOfMemory` that there is no
+    /// memory for it, and `Broken` that the reader failed.
     pub fn next_line(&mut self) -> Result<Option<&str>, Failure>
         ensures line { IfOk result (λ found. IfSome found (λ text. IsLine text.now)) }
     {
@@ -44,7 +46,7 @@ impl<R: BufRead> Script<R> {
         Ok(None)
     }
 
-    /// What the last line is that was read: bad.
+    /// The failure of a run whose last line read is bad: `BadLine`, with that line's number.
     pub fn bad_line(&self) -> Failure
         ensures { status_of result ≡ BadLine }
     {

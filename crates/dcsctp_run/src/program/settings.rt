@@ -10,7 +10,8 @@ use super::number::{limit, number, signed_number};
 use dcsctp_machine::{Options, ZeroChecksumAlternateErrorDetectionMethod};
 use std::time::Duration;
 
-/// Sets the option of this name to this value. Is there such an option, and may it have the value?
+/// Sets the option of this name to this value. False, and nothing is set, where there is no such
+/// option or the value isn't one of its type. Whether the options are valid then isn't looked at.
 pub fn set(options: &mut Options, name: &str, value: &str) -> bool
     ensures refused { OnFalse result (options.new ≡ options.old) }
 {

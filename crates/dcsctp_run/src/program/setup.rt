@@ -41,7 +41,7 @@ impl End {
         true
     }
 
-    // Appends the words of a list. False where one is no word.
+    // Appends the words of a list. False where one is no word; those before it are appended.
     fn append(&mut self, list: &str) -> Result<bool, AllocError> {
         for text in list.split(' ') {
             let Some(word) = number(text, u64::MAX) else {
@@ -72,6 +72,11 @@ impl Setup {
     }
 
     /// Reads on up to the first command; none where the script ends before.
+    ///
+    /// `BadLine` says that a line is no line of a script, that an option stands behind words, that
+    /// there is no such option or it may not have the value, or that a word is no number up to
+    /// 2^64 - 1. `OutOfMemory` says that there is no memory for a line or a word, and `Broken` that
+    /// the reader failed.
     pub fn read<R: BufRead>(&mut self, script: &mut Script<R>) -> Result<Option<Command>, Failure> {
         for _ in 0..u64::MAX {
             let Some(text) = script.next_line()? else {
@@ -90,7 +95,7 @@ impl Setup {
         Ok(None)
     }
 
-    /// The two sockets.
+    /// The two sockets. The one error is `OutOfMemory`.
     pub fn make_world(self, alloc: Global) -> Result<World<Words>, Failure> {
         let Setup { a, b, has_words: _ } = self;
         let (options_a, options_b) = (a.options, b.options);

@@ -8,7 +8,9 @@ use dcsctp_api::SocketState;
 use dcsctp_machine::{Association, Held, Phase, ReconfigurationResponseResult, Side};
 use std::io::{self, Write};
 
-/// Prints the state of a socket.
+/// Prints the state of a socket, on a line.
+///
+/// The one error is the writer's, which may have taken a part of the line then.
 pub fn print_state<W: Write>(side: Side, state: SocketState, output: &mut W) -> io::Result<()> {
     let name = side_name(side);
     let state = match state {
@@ -20,7 +22,10 @@ pub fn print_state<W: Write>(side: Side, state: SocketState, output: &mut W) -> 
     writeln!(output, "{name} {state}")
 }
 
-/// Prints an association: its phase, the own pair, and the rest where a peer is known.
+/// Prints an association on a line: its phase, the own pair, and the rest where a peer is known;
+/// none as `no association`.
+///
+/// The one error is the writer's, which may have taken a part of the line then.
 pub fn print_association<W: Write>(
     side: Side,
     association: Option<Association>,

@@ -3,6 +3,7 @@
 use super::{CONNECTED, HANDSHAKE, WORDS, prints};
 use crate::program::settings::set;
 use dcsctp_machine::Options;
+use std::alloc::Global;
 use std::test::Fail;
 use std::time::Duration;
 
@@ -33,104 +34,110 @@ fn options_are_set(rt: HostRuntime) -> Result<(), Fail> {
     Ok(())
 }
 
-#[test]
-fn every_option_has_a_name(rt: HostRuntime) -> Result<(), Fail> {
-    let numbers = [
-        ("local_port", "65535", "65536"),
-        ("remote_port", "65535", "65536"),
-        ("announced_maximum_incoming_streams", "0", "-1"),
-        ("announced_maximum_outgoing_streams", "65535", "65536"),
-        ("mtu", "32", "31"),
-        ("mtu", "65535", "65536"),
-        (
-            "max_message_size",
-            "18446744073709551615",
-            "18446744073709551616",
-        ),
-        ("default_stream_priority", "65535", "65536"),
-        (
-            "max_receiver_window_buffer_size",
-            "4294967295",
-            "4294967296",
-        ),
-        ("max_send_buffer_size", "4294967295", "4294967296"),
-        (
-            "per_stream_send_queue_limit",
-            "18446744073709551615",
-            "none",
-        ),
-        (
-            "total_buffered_amount_low_threshold",
-            "18446744073709551615",
-            "1.0",
-        ),
-        (
-            "default_stream_buffered_amount_low_threshold",
-            "18446744073709551615",
-            "+1",
-        ),
-        ("rtt_max", "18446744073709551615", "18446744073709551616"),
-        ("rto_initial", "0", "none"),
-        ("rto_max", "60000", "-60000"),
-        ("rto_min", "0400", "0x400"),
-        ("t1_init_timeout", "1000", "1000 "),
-        ("t1_cookie_timeout", "1000", " 1000"),
-        ("t2_shutdown_timeout", "1000", "1s"),
-        ("heartbeat_interval", "0", "true"),
-        ("delayed_ack_max_timeout", "200", "two"),
-        ("min_rtt_variance", "220", "2_2"),
-        (
-            "cwnd_mtus_initial",
-            "18446744073709551615",
-            "18446744073709551616",
-        ),
-    ];
-    for (name, good, bad) in numbers {
-        let line = ["opt A ", name, " ", good];
-        assert!(rt; prints(rt.alloc(), &line, &[], None)?, "{name} {good}");
-        let line = ["opt A ", name, " ", bad];
-        assert!(rt; prints(rt.alloc(), &line, &[], Some(1))?, "{name} {bad}");
+// The greatest number of 64 bits, and the one above it.
+const MOST: &str = "18446744073709551615";
+
+const ABOVE: &str = "18446744073709551616";
+
+// Options, a value that each may have, and one that it may not have. First those that are numbers.
+const NUMBERS: [(&str, &str, &str); 18] = [
+    ("local_port", "65535", "65536"),
+    ("remote_port", "65535", "65536"),
+    ("announced_maximum_incoming_streams", "0", "-1"),
+    ("announced_maximum_outgoing_streams", "65535", "65536"),
+    ("mtu", "32", "31"),
+    ("mtu", "65535", "65536"),
+    ("max_message_size", MOST, ABOVE),
+    ("default_stream_priority", "65535", "65536"),
+    (
+        "max_receiver_window_buffer_size",
+        "4294967295",
+        "4294967296",
+    ),
+    ("max_send_buffer_size", "4294967295", "4294967296"),
+    ("per_stream_send_queue_limit", MOST, "none"),
+    ("total_buffered_amount_low_threshold", MOST, "1.0"),
+    ("default_stream_buffered_amount_low_threshold", MOST, "+1"),
+    ("cwnd_mtus_initial", MOST, ABOVE),
+    ("cwnd_mtus_min", "0", "none"),
+    ("avoid_fragmentation_cwnd_mtus", "0", ""),
+    ("immediate_sack_under_cwnd_mtus", "0", "-0"),
+    (
+        "zero_checksum_alternate_error_detection_method",
+        "4294967295",
+        "4294967296",
+    ),
+];
+
+// Times, in milliseconds.
+const TIMES: [(&str, &str, &str); 12] = [
+    ("rtt_max", MOST, ABOVE),
+    ("rto_initial", "0", "none"),
+    ("rto_max", "60000", "-60000"),
+    ("rto_min", "0400", "0x400"),
+    ("t1_init_timeout", "1000", "1000 "),
+    ("t1_cookie_timeout", "1000", " 1000"),
+    ("t2_shutdown_timeout", "1000", "1s"),
+    ("heartbeat_interval", "0", "true"),
+    ("delayed_ack_max_timeout", "200", "two"),
+    ("min_rtt_variance", "220", "2_2"),
+    ("max_timer_backoff_duration", MOST, ABOVE),
+    ("max_timer_backoff_duration", "none", "no"),
+];
+
+// The burst, which may be negative; what may be without a limit; and what is true or false.
+const OTHERS: [(&str, &str, &str); 13] = [
+    ("max_burst", "2147483647", "2147483648"),
+    ("max_burst", "-2147483648", "-2147483649"),
+    ("max_burst", "-0", "--1"),
+    ("max_burst", "000", "+1"),
+    ("max_retransmissions", "4294967295", "4294967296"),
+    ("max_retransmissions", "none", "None"),
+    ("max_init_retransmits", "4294967295", "4294967296"),
+    ("max_init_retransmits", "none", "-1"),
+    ("enable_partial_reliability", "false", "0"),
+    ("enable_message_interleaving", "true", "1"),
+    ("heartbeat_interval_include_rtt", "true", "True"),
+    ("disable_checksum_verification", "true", "none"),
+    ("enable_handover_with_outstanding_data", "false", "falsee"),
+];
+
+// The first row whose good value isn't taken on this side, or whose bad one is no bad line.
+fn misread<'a>(
+    alloc: Global,
+    side: &str,
+    rows: &'a [(&'a str, &'a str, &'a str)],
+) -> Result<Option<&'a (&'a str, &'a str, &'a str)>, Fail> {
+    for row in rows {
+        if !is_read(alloc, side, row.0, row.1, row.2)? {
+            return Ok(Some(row));
+        }
     }
+    Ok(None)
+}
+
+// Is the good value taken on this side, and the bad one a bad line?
+fn is_read(alloc: Global, side: &str, name: &str, good: &str, bad: &str) -> Result<bool, Fail> {
+    let is_taken = prints(alloc, &["opt ", side, " ", name, " ", good], &[], None)?;
+    let is_refused = prints(alloc, &["opt ", side, " ", name, " ", bad], &[], Some(1))?;
+    Ok(is_taken && is_refused)
+}
+
+#[test]
+fn numbers_stay_within_their_types(rt: HostRuntime) -> Result<(), Fail> {
+    assert_eq!(rt; misread(rt.alloc(), "A", &NUMBERS)?, None);
     Ok(())
 }
 
 #[test]
-fn every_other_option_has_a_name(rt: HostRuntime) -> Result<(), Fail> {
-    let rows = [
-        ("cwnd_mtus_min", "0", "none"),
-        ("avoid_fragmentation_cwnd_mtus", "0", ""),
-        ("immediate_sack_under_cwnd_mtus", "0", "-0"),
-        ("max_burst", "2147483647", "2147483648"),
-        ("max_burst", "-2147483648", "-2147483649"),
-        ("max_burst", "-0", "--1"),
-        ("max_burst", "000", "+1"),
-        ("max_retransmissions", "4294967295", "4294967296"),
-        ("max_retransmissions", "none", "None"),
-        ("max_init_retransmits", "4294967295", "4294967296"),
-        ("max_init_retransmits", "none", "-1"),
-        (
-            "max_timer_backoff_duration",
-            "18446744073709551615",
-            "18446744073709551616",
-        ),
-        ("max_timer_backoff_duration", "none", "no"),
-        ("enable_partial_reliability", "false", "0"),
-        ("enable_message_interleaving", "true", "1"),
-        ("heartbeat_interval_include_rtt", "true", "True"),
-        (
-            "zero_checksum_alternate_error_detection_method",
-            "4294967295",
-            "4294967296",
-        ),
-        ("disable_checksum_verification", "true", "none"),
-        ("enable_handover_with_outstanding_data", "false", "falsee"),
-    ];
-    for (name, good, bad) in rows {
-        let line = ["opt B ", name, " ", good];
-        assert!(rt; prints(rt.alloc(), &line, &[], None)?, "{name} {good}");
-        let line = ["opt B ", name, " ", bad];
-        assert!(rt; prints(rt.alloc(), &line, &[], Some(1))?, "{name} {bad}");
-    }
+fn times_are_milliseconds(rt: HostRuntime) -> Result<(), Fail> {
+    assert_eq!(rt; misread(rt.alloc(), "B", &TIMES)?, None);
+    Ok(())
+}
+
+#[test]
+fn bursts_limits_and_flags_are_read(rt: HostRuntime) -> Result<(), Fail> {
+    assert_eq!(rt; misread(rt.alloc(), "B", &OTHERS)?, None);
     Ok(())
 }
 
