@@ -155,6 +155,7 @@ impl<R: Rng> Context<R> {
         ensures turn { OnOk result ((state : State) → Emits R.stream state self.old events.old
             write_checksum tag (chunk_content chunk.now) self.new events.new) }
         ensures err { OnErr result (events.new ≡ events.old) }
+        ensures kept { OnErr result (KeepsEndpoint self.old self.new) }
     {
         let alloc = self.alloc;
         let options = &self.options;
@@ -201,6 +202,7 @@ impl<R: Rng> Context<R> {
             → builder ≡ packet_of self.old.options with_checksum tag contents
             → WithinLimits self.old.options events.old events.new) }
         ensures err { OnErr result (events.new ≡ events.old) }
+        ensures kept { OnErr result (KeepsEndpoint self.old self.new) }
     {
         if !allows_packet(&self.options) {
             return Ok(());
@@ -224,6 +226,7 @@ impl<R: Rng> Context<R> {
         ensures turn { OnOk result (Moves R.stream (view_of state.now self.old events.old)
             (still (endpoint_of state.now self.old)) (view_of state.now self.new events.new)) }
         ensures err { OnErr result (events.new ≡ events.old) }
+        ensures kept { OnErr result (KeepsEndpoint self.old self.new) }
     {
         match state.tcb() {
             None => {}
@@ -254,7 +257,8 @@ impl<R: Rng> Context<R> {
     /// Ends the association: with OnClosed where the error is `NoError`, else with OnAborted and this
     /// text. A closed socket stays as it is.
     ///
-    /// The one error is that there is no memory for the event. No event is added then.
+    /// The one error is that there is no memory for the event. No event is added then, and the
+    /// association stays.
     pub fn internal_close(
         &mut self,
         state: &mut State,
@@ -265,6 +269,8 @@ impl<R: Rng> Context<R> {
         ensures turn { OnOk result (Closes R.stream (view_of state.old self.old events.old)
             (end_event error (string_bytes message)) (view_of state.new self.new events.new)) }
         ensures err { OnErr result (events.new ≡ events.old) }
+        ensures kept { OnErr result (endpoint_of state.new self.new ≡ endpoint_of state.old
+            self.old) }
     {
         if state.is_closed() {
             return Ok(());
@@ -301,6 +307,7 @@ impl<R: Rng> Context<R> {
         ensures turn { OnOk result (ReportsError R.stream self.old events.old kind
             (string_bytes text) self.new events.new) }
         ensures err { OnErr result (events.new ≡ events.old) }
+        ensures kept { OnErr result (KeepsEndpoint self.old self.new) }
     {
         events.add(SocketEvent::OnError(kind, text))?;
         Ok(())

@@ -45,7 +45,8 @@ pub struct CookieEchoState {
 /// Closed --connect--> CookieWait --INIT ACK--> CookieEchoed --COOKIE ACK--> Established
 ///    |                    |                         |                           |
 ///    +------------------- COOKIE ECHO, from each, also anew --------------------+
-/// each --ABORT, or an INIT ACK without a cookie--> Closed
+/// CookieWait --INIT ACK without a cookie--> Closed
+/// CookieEchoed, Established --ABORT--> Closed
 /// ```
 #[derive(Debug, Drop)]
 pub enum State {
