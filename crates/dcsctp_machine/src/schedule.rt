@@ -24,6 +24,6 @@ pub enum Step {
     Call(Side, Call),
 
     /// This socket is handed the other's packet of this number, counted from 1 over all that the other
-    /// ever emitted. A number that names none changes nothing.
+    /// ever emitted. A number that names none changes no socket.
     Deliver(Side, usize),
 }

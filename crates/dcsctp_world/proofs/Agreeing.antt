@@ -14,7 +14,6 @@ use Rattle.dcsctp_machine.specs.CallTurns.{events_of}
 use Rattle.dcsctp_machine.specs.Sockets.{Both, turns_after, schedule_of}
 use Rattle.dcsctp_refinement.specs.Agreement.{HasDistinctTags, SocketsAgree}
 use Rattle.dcsctp_refinement.specs.Handshake.{handshake, connections, IsConnected, AreConnected, FittingSocketsConnect}
-use Rattle.dcsctp_world.specs.declared.act.Act.{Act}
 use Rattle.dcsctp_world.specs.declared.act.Act.TheVariants as acts
 use Rattle.dcsctp_world.specs.Shown.{SideShown, WorldView, options_of}
 use Rattle.dcsctp_world.specs.Run.{SideRuns, IsRun}
@@ -110,10 +109,8 @@ both_connected options world h is =
       b = shows_connected options.b options.a (turns_after h.steps).b world.sides.b is.b_pair is.a_pair (h.sides sides.B) is.b;
     }
 
-pub handshake_connects : {R : Type 0} → FittingSocketsConnect → (steps : List Step) (old new : WorldView R) → Ran steps old new → HandshakeConnects (options_of old) steps old new
-handshake_connects law steps old new h fresh fit side is =
-    let run : IsRun (options_of old) new = h.is_run in
-    let acts_are : map acts.Step (reverse (schedule_of run.steps)) ≡ map acts.Step steps = sym run.acts ∙ h.acts ∙ ap (λ (l : List Act). l ++ map acts.Step steps) fresh in
-    let schedule : reverse (schedule_of run.steps) ≡ handshake side = same_steps (reverse (schedule_of run.steps)) steps acts_are ∙ is in
-    both_connected (options_of old) new run
-    (law (options_of old) side run.steps run.usable fit run.run (sym (reverse-reverse (schedule_of run.steps)) ∙ ap (λ (l : List Step). reverse l) schedule))
+pub handshake_connects : {R : Type 0} → FittingSocketsConnect → (options : Both Options) (world : WorldView R) → IsRun options world → HandshakeConnects options world
+handshake_connects law options world run side acts_are fit =
+    let schedule : reverse (schedule_of run.steps) ≡ handshake side = same_steps (reverse (schedule_of run.steps)) (handshake side) (sym run.acts ∙ acts_are) in
+    both_connected options world run
+    (law options side run.steps run.usable fit run.run (sym (reverse-reverse (schedule_of run.steps)) ∙ ap (λ (l : List Step). reverse l) schedule))

@@ -46,7 +46,7 @@ side_extends_further a b c first second =
 same_side_extends : {R : Type 0} (old new : SideShown R) → new ≡ old → SideExtends old new
 same_side_extends {R = R} old new same = subst (λ (s : SideShown R). SideExtends old s) (sym same) (side_extends_itself old)
 
-grows_extends : {R : Type 0} (Turns : List Outcome → Type 0) (old new : SideShown R) → Grows Turns old new → SideExtends old new
+grows_extends : {R : Type 0} {answer : Reply} (Turns : List Outcome → Type 0) (old new : SideShown R) → Grows Turns answer old new → SideExtends old new
 grows_extends Turns old new grows =
     let told : List (Event (List _)) = map (user_event (ports_of old.socket.view.endpoint.options)) (events_of grows.outcomes) in
     record {
@@ -56,8 +56,8 @@ grows_extends Turns old new grows =
       associations = extends_by [] (grows.associations ∙ sym (append-nil old.associations));
     }
 
-moves_extend_at : {R : Type 0} (Turns : List Outcome → Type 0) (mover : Side) (old moved : Both (SideShown R))
-    → Grows Turns (of_side mover old) (of_side mover moved) → of_other mover moved ≡ of_other mover old → BothExtend old moved
+moves_extend_at : {R : Type 0} {answer : Reply} (Turns : List Outcome → Type 0) (mover : Side) (old moved : Both (SideShown R))
+    → Grows Turns answer (of_side mover old) (of_side mover moved) → of_other mover moved ≡ of_other mover old → BothExtend old moved
 moves_extend_at Turns sides.A old moved grows stays = record { a = grows_extends Turns old.a moved.a grows; b = same_side_extends old.b moved.b stays }
 moves_extend_at Turns sides.B old moved grows stays = record { a = same_side_extends old.a moved.a stays; b = grows_extends Turns old.b moved.b grows }
 

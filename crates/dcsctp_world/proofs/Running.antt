@@ -86,7 +86,7 @@ events_shown-append options xs ys =
     ap (λ (l : List (Event Emission)). map (event_map (emission_bytes (ports_of options))) l) (events_of-append xs ys)
     ∙ map-append (event_map (emission_bytes (ports_of options))) (events_of xs) (events_of ys)
 
-side_grows : {R : Type 0} (options : Options) (turns : List Outcome) (Turns : List Outcome → Type 0) (old new : SideShown R) (grows : Grows Turns old new)
+side_grows : {R : Type 0} {answer : Reply} (options : Options) (turns : List Outcome) (Turns : List Outcome → Type 0) (old new : SideShown R) (grows : Grows Turns answer old new)
     → (endpoint_after options turns).options ≡ options → SideRuns options turns old → SideRuns options (turns ++ grows.outcomes) new
 side_grows options turns Turns old new grows kept h =
     let os = grows.outcomes in
@@ -110,8 +110,8 @@ abbrev SidesRun : {R : Type 0} → Both Options → Both (List Outcome) → Both
 SidesRun options turns shown side = SideRuns (of_side side options) (of_side side turns) (of_side side shown)
 
 -- the side that moved, and the other
-sides_next : {R : Type 0} (options : Both Options) (turns : Both (List Outcome)) (old moved : Both (SideShown R)) (Turns : List Outcome → Type 0) (mover : Side)
-    (grows : Grows Turns (of_side mover old) (of_side mover moved)) → of_other mover moved ≡ of_other mover old
+sides_next : {R : Type 0} {answer : Reply} (options : Both Options) (turns : Both (List Outcome)) (old moved : Both (SideShown R)) (Turns : List Outcome → Type 0) (mover : Side)
+    (grows : Grows Turns answer (of_side mover old) (of_side mover moved)) → of_other mover moved ≡ of_other mover old
     → (endpoint_after (of_side mover options) (of_side mover turns)).options ≡ of_side mover options
     → ((side : Side) → SidesRun options turns old side) → (side : Side) → SidesRun options (with_turns mover grows.outcomes turns) moved side
 sides_next options turns old moved Turns sides.A grows stays kept before sides.A = side_grows options.a turns.a Turns old.a moved.a grows kept (before sides.A)
@@ -120,8 +120,8 @@ sides_next {R = R} options turns old moved Turns sides.B grows stays kept before
 sides_next options turns old moved Turns sides.B grows stays kept before sides.B = side_grows options.b turns.b Turns old.b moved.b grows kept (before sides.B)
 
 -- no association was noted yet
-same_associations : {R : Type 0} (old moved : Both (SideShown R)) (Turns : List Outcome → Type 0) (mover : Side)
-    → Grows Turns (of_side mover old) (of_side mover moved) → of_other mover moved ≡ of_other mover old
+same_associations : {R : Type 0} {answer : Reply} (old moved : Both (SideShown R)) (Turns : List Outcome → Type 0) (mover : Side)
+    → Grows Turns answer (of_side mover old) (of_side mover moved) → of_other mover moved ≡ of_other mover old
     → (side : Side) → (of_side side moved).associations ≡ (of_side side old).associations
 same_associations old moved Turns sides.A grows stays sides.A = grows.associations
 same_associations {R = R} old moved Turns sides.A grows stays sides.B = ap (λ (s : SideShown R). s.associations) stays

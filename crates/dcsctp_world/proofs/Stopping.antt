@@ -1,5 +1,6 @@
--- What a side shows where a growth was refused while a step was worked.
+-- What a side shows where no call was made, and where a growth was refused while a step was worked.
 use Rattle.std.proofs.Common.{◌≡◌, ℕ, Option, List, [], ◌∷◌, ◌++◌, ◌⊎◌, inl, inr, refl, sym, ap, subst, ◌∙◌}
+use Rattle.std.proofs.lemmas.List.{append-nil}
 use Rattle.dcsctp_machine.specs.declared.association.Pair.{Pair}
 use Rattle.dcsctp_machine.specs.declared.association.Association.{Association}
 use Rattle.dcsctp_machine.specs.declared.schedule.Side.{Side}
@@ -13,10 +14,35 @@ use Rattle.dcsctp_machine.specs.Sockets.{Both, of_side, of_other, side_of, StepT
 use Rattle.dcsctp_api.specs.Calls.{Follows}
 use Rattle.dcsctp_socket.specs.SocketView.{SocketView, user_view_of}
 use Rattle.dcsctp_world.specs.declared.act.Reply.{Reply}
+use Rattle.dcsctp_world.specs.declared.act.Reply.TheVariants.{NoCall, Done}
 use Rattle.dcsctp_world.specs.Shown.{SideShown}
 use Rattle.dcsctp_world.specs.Growth.{AddsFront, CollectsFront, told, Grows, ShowsFront, Stops, with_association}
 use Rattle.dcsctp_world.specs.Acts.{StepMoves, StepStops}
 use Rattle.dcsctp_world.proofs.Keeping.{front_same, front_whole}
+
+-- ---- no call was made
+
+no_call_was_done : {P : Type 0} → NoCall ≡ Done → P
+no_call_was_done is = absurd (cc)
+
+pub grows_by_nothing : {R : Type 0} (Turns : List Outcome → Type 0) (side : SideShown R) → Turns [] → side.socket.view.events ≡ [] → Grows Turns NoCall side side
+grows_by_nothing Turns side turned empty =
+    record {
+      outcomes = [];
+      turns = turned;
+      endpoint = refl;
+      failed = refl;
+      waiting = empty;
+      events = sym (append-nil side.events);
+      packets = sym (append-nil side.packets);
+      pairs = sym (append-nil side.pairs);
+      associations = refl;
+      last_words = λ is. no_call_was_done is;
+      last_pairs = λ is. no_call_was_done is;
+      idle = λ is. refl;
+    }
+
+-- ---- a growth was refused
 
 -- nothing was added yet
 pub shows_nothing : {R : Type 0} (outcomes : List Outcome) (old new : SideShown R) → new.events ≡ old.events → new.packets ≡ old.packets → new.pairs ≡ old.pairs
@@ -62,7 +88,7 @@ at_noted : {R : Type 0} (side new : SideShown R) → MaybeNoted side new → (P 
 at_noted side new (inl same) P h noted = subst P (sym same) h
 at_noted side new (inr same) P h noted = subst P (sym same) noted
 
-grows_in_part : {R : Type 0} (Turns : List Outcome → Type 0) (old moved new : SideShown R) (grows : Grows Turns old moved) → MaybeNoted moved new → Stops Turns old new
+grows_in_part : {R : Type 0} {answer : Reply} (Turns : List Outcome → Type 0) (old moved new : SideShown R) (grows : Grows Turns answer old moved) → MaybeNoted moved new → Stops Turns old new
 grows_in_part {R = R} Turns old moved new grows noted =
     let os = grows.outcomes in
     let now : List (Option Association) = association_of (after_all old.socket.view.endpoint os).core ∷ [] in
@@ -92,11 +118,19 @@ other_in_part {R = R} old moved new stays noted =
 
 -- ---- a step
 
-at_mover : {R : Type 0} (Turns : List Outcome → Type 0) (mover : Side) (old moved new : Both (SideShown R)) → Grows Turns (of_side mover old) (of_side mover moved)
+same_socket : {R : Type 0} (old moved new : SideShown R) → moved ≡ old → MaybeNoted moved new → new.socket ≡ old.socket
+same_socket {R = R} old moved new stays noted =
+    let same : MaybeNoted old new = subst (λ (side : SideShown R). MaybeNoted side new) stays noted in
+    at_noted old new same (λ (side : SideShown R). side.socket ≡ old.socket) refl refl
+
+at_mover : {R : Type 0} {answer : Reply} (Turns : List Outcome → Type 0) (mover : Side) (old moved new : Both (SideShown R)) → Grows Turns answer (of_side mover old) (of_side mover moved)
     → of_other mover moved ≡ of_other mover old → MaybeNoted moved.a new.a → MaybeNoted moved.b new.b
     → Stops Turns (of_side mover old) (of_side mover new) × ShowsFront [] (of_other mover old) (of_other mover new)
-at_mover Turns sides.A old moved new grows stays a b = (grows_in_part Turns old.a moved.a new.a grows a, other_in_part old.b moved.b new.b stays b)
-at_mover Turns sides.B old moved new grows stays a b = (grows_in_part Turns old.b moved.b new.b grows b, other_in_part old.a moved.a new.a stays a)
+    × ((of_other mover new).socket ≡ (of_other mover old).socket)
+at_mover Turns sides.A old moved new grows stays a b =
+    (grows_in_part Turns old.a moved.a new.a grows a, other_in_part old.b moved.b new.b stays b, same_socket old.b moved.b new.b stays b)
+at_mover Turns sides.B old moved new grows stays a b =
+    (grows_in_part Turns old.b moved.b new.b grows b, other_in_part old.a moved.a new.a stays a, same_socket old.a moved.a new.a stays a)
 
 -- this side stopped, and the other is as it was
 pub stops_at : {R : Type 0} (step : Step) (mover : Side) (old new : Both (SideShown R)) → side_of step ≡ mover
@@ -105,9 +139,11 @@ pub stops_at : {R : Type 0} (step : Step) (mover : Side) (old new : Both (SideSh
 stops_at {R = R} step mover old new is stops stays =
     let At : Side → Type 0 = λ side.
     Stops (StepTurns (of_side side old).socket.view.endpoint (of_other side old).packets step) (of_side side old) (of_side side new)
-    × ShowsFront [] (of_other side old) (of_other side new) in
-    let both = subst At (sym is) (stops, other_in_part (of_other mover old) (of_other mover old) (of_other mover new) refl (inl stays)) in
-    record { mover = both.0; other = both.1 }
+    × ShowsFront [] (of_other side old) (of_other side new)
+    × ((of_other side new).socket ≡ (of_other side old).socket) in
+    let both = subst At (sym is)
+    (stops, other_in_part (of_other mover old) (of_other mover old) (of_other mover new) refl (inl stays), ap (λ (side : SideShown R). side.socket) stays) in
+    record { mover = both.0; other = both.1; other_socket = both.2 }
 
 -- a step moved its side, and then a growth was refused
 pub moved_in_part : {R : Type 0} (step : Step) (reply : Reply) (old moved new : Both (SideShown R)) → StepMoves step reply old moved
@@ -115,4 +151,4 @@ pub moved_in_part : {R : Type 0} (step : Step) (reply : Reply) (old moved new : 
 moved_in_part step reply old moved new moves a b =
     let both = at_mover (StepTurns (of_side (side_of step) old).socket.view.endpoint (of_other (side_of step) old).packets step) (side_of step) old moved new
     moves.grows moves.other_stays a b in
-    record { mover = both.0; other = both.1 }
+    record { mover = both.0; other = both.1; other_socket = both.2 }

@@ -6,19 +6,17 @@ use Rattle.dcsctp_api.specs.declared.errors.SocketFault.{SocketFault}
 use Rattle.dcsctp_api.specs.declared.errors.SocketFault.TheVariants.{OutOfMemory, Failed}
 use Rattle.dcsctp_world.specs.declared.act.Act.TheVariants as acts
 use Rattle.dcsctp_world.specs.declared.act.Reply.{Reply}
-use Rattle.dcsctp_world.specs.declared.act.Reply.TheVariants.{NoCall}
 use Rattle.dcsctp_world.specs.Shown.{SideShown, WorldView, options_of}
 use Rattle.dcsctp_world.specs.Growth.{Extends, Grows, ShowsFront, Stops, SideExtends, with_association, reply_of}
 use Rattle.dcsctp_world.specs.Run.{IsRun}
 use Rattle.dcsctp_world.specs.Agreement.{Agrees}
 
--- A step moved its own side, and left the other; where no call was made, it left both. No association was noted yet.
+-- A step moved its own side, and left the other. No association was noted yet.
 pub record StepMoves {R : Type 0} (step : Step) (answer : Reply) (old new : Both (SideShown R)) : Type 0 where
-  pub grows : Grows (StepTurns (of_side (side_of step) old).socket.view.endpoint (of_other (side_of step) old).packets step)
+  pub grows : Grows (StepTurns (of_side (side_of step) old).socket.view.endpoint (of_other (side_of step) old).packets step) answer
       (of_side (side_of step) old) (of_side (side_of step) new)
   pub other_stays : of_other (side_of step) new ≡ of_other (side_of step) old
   pub reply : answer ≡ reply_of (of_other (side_of step) old).packets step
-  pub idle : answer ≡ NoCall → new ≡ old
 
 -- both sides with their associations as they are now
 abbrev pub with_associations : {R : Type 0} → Both (SideShown R) → Both (SideShown R)
@@ -43,13 +41,14 @@ pub record WorldExtends {R : Type 0} (old new : WorldView R) : Type 0 where
   pub acts : Extends old.acts new.acts
 
 -- A growth was refused in a step. What its own side shows grew by a front part of what the step's turns bring, if it
--- grew; the other has at most its association once more; the step isn't among the acts.
+-- grew; the other has its socket as it was, and at most its association once more.
 pub record StepStops {R : Type 0} (step : Step) (old new : Both (SideShown R)) : Type 0 where
   pub mover : Stops (StepTurns (of_side (side_of step) old).socket.view.endpoint (of_other (side_of step) old).packets step)
       (of_side (side_of step) old) (of_side (side_of step) new)
   pub other : ShowsFront [] (of_other (side_of step) old) (of_other (side_of step) new)
+  pub other_socket : (of_other (side_of step) new).socket ≡ (of_other (side_of step) old).socket
 
--- A growth was refused in a step, and the world has failed.
+-- A growth was refused in a step, and the world has failed. The step isn't among its acts.
 pub record RanOut {R : Type 0} (step : Step) (old new : WorldView R) : Type 0 where
   pub runs : old.failed ≡ false
   pub fails : new.failed ≡ true

@@ -1,15 +1,15 @@
 -- What the two sockets of a world agree on, along the run that it shows.
-use Rattle.std.specs.Prelude.{◌≡◌, List, []}
+use Rattle.std.specs.Prelude.{◌≡◌, map}
 use Rattle.dcsctp_machine.specs.declared.association.Pair.{Pair}
 use Rattle.dcsctp_machine.specs.declared.options.Options.{Options}
 use Rattle.dcsctp_machine.specs.declared.schedule.Side.{Side}
-use Rattle.dcsctp_machine.specs.declared.schedule.Step.{Step}
 use Rattle.dcsctp_machine.specs.Endpoint.{open_in, established}
 use Rattle.dcsctp_machine.specs.Offer.{offer_of, negotiated}
 use Rattle.dcsctp_machine.specs.control.Handshake.{new_held}
 use Rattle.dcsctp_machine.specs.Sockets.{Both}
 use Rattle.dcsctp_refinement.specs.Agreement.{HasDistinctTags, AgreeThroughout}
 use Rattle.dcsctp_refinement.specs.Handshake.{handshake, AreFitting, connections}
+use Rattle.dcsctp_world.specs.declared.act.Act.TheVariants as acts
 use Rattle.dcsctp_world.specs.Shown.{SideShown, WorldView}
 use Rattle.dcsctp_world.specs.Run.{IsRun}
 
@@ -31,7 +31,7 @@ pub record BothConnected {R : Type 0} (options : Both Options) (world : WorldVie
   pub a : ShowsConnected options.a options.b world.sides.a a_pair b_pair
   pub b : ShowsConnected options.b options.a world.sides.b b_pair a_pair
 
--- The four packets of a handshake in turn, with no act before them, connect sockets that fit each other (RFC 9260,
--- section 5.1).
-abbrev pub HandshakeConnects : {R : Type 0} → Both Options → List Step → WorldView R → WorldView R → Type 0
-HandshakeConnects options steps old new = old.acts ≡ [] → AreFitting options → (side : Side) → steps ≡ handshake side → BothConnected options new
+-- Where the acts are connect at one side and the four packets of the handshake in turn, sockets that fit each other are
+-- connected (RFC 9260, section 5.1).
+abbrev pub HandshakeConnects : {R : Type 0} → Both Options → WorldView R → Type 0
+HandshakeConnects options world = (side : Side) → world.acts ≡ map acts.Step (handshake side) → AreFitting options → BothConnected options world

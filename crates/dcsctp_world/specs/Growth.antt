@@ -6,7 +6,7 @@ use Rattle.dcsctp_machine.specs.Event.{Event}
 use Rattle.dcsctp_machine.specs.Endpoint.{association_of}
 use Rattle.dcsctp_machine.specs.Settings.{ports_of}
 use Rattle.dcsctp_machine.specs.Outcome.{Outcome}
-use Rattle.dcsctp_machine.specs.CallTurns.{after_all, events_of, pairs_of}
+use Rattle.dcsctp_machine.specs.CallTurns.{after_all, words_of, events_of, pairs_of}
 use Rattle.dcsctp_machine.specs.Sockets.{packets_in, numbered}
 use Rattle.dcsctp_api.specs.Calls.{UserView, user_event}
 use Rattle.dcsctp_world.specs.declared.act.Reply.{Reply}
@@ -58,6 +58,8 @@ pub record Collects {R : Type 0} (old new : SideShown R) : Type 0 where
   pub packets : new.packets ≡ old.packets ++ packets_in old.socket.view.events
   pub pairs : new.pairs ≡ old.pairs ++ old.socket.view.pairs
   pub associations : new.associations ≡ old.associations
+  pub last_words : new.socket.view.words ≡ old.socket.view.words
+  pub last_pairs : new.socket.view.pairs ≡ old.socket.view.pairs
 
 -- A front part of what waits in the socket was taken and kept, or of the pairs of the last call.
 pub record CollectsFront {R : Type 0} (old new : SideShown R) : Type 0 where
@@ -70,8 +72,9 @@ pub record CollectsFront {R : Type 0} (old new : SideShown R) : Type 0 where
 abbrev pub told : {R : Type 0} → SideShown R → List Outcome → List (Event (List ℕ))
 told side outcomes = map (user_event (ports_of side.socket.view.endpoint.options)) (events_of outcomes)
 
--- Outcomes of these turns move the socket, and each list grows by what they show; no event waits.
-pub record Grows {R : Type 0} (Turns : List Outcome → Type 0) (old new : SideShown R) : Type 0 where
+-- Outcomes of these turns move the socket, and each list grows by what they show; no event waits. Where a call was made,
+-- its words and pairs are theirs; where none was, nothing changed.
+pub record Grows {R : Type 0} (Turns : List Outcome → Type 0) (answer : Reply) (old new : SideShown R) : Type 0 where
   pub outcomes : List Outcome
   pub turns : Turns outcomes
   pub endpoint : new.socket.view.endpoint ≡ after_all old.socket.view.endpoint outcomes
@@ -81,6 +84,9 @@ pub record Grows {R : Type 0} (Turns : List Outcome → Type 0) (old new : SideS
   pub packets : new.packets ≡ old.packets ++ packets_in (told old outcomes)
   pub pairs : new.pairs ≡ old.pairs ++ pairs_of outcomes
   pub associations : new.associations ≡ old.associations
+  pub last_words : answer ≡ Done → new.socket.view.words ≡ words_of outcomes
+  pub last_pairs : answer ≡ Done → new.socket.view.pairs ≡ pairs_of outcomes
+  pub idle : answer ≡ NoCall → new ≡ old
 
 -- What a side shows grew by a front part of what these outcomes bring, and of its association after them.
 pub record ShowsFront {R : Type 0} (outcomes : List Outcome) (old new : SideShown R) : Type 0 where

@@ -52,9 +52,11 @@ const HANDSHAKE: [Step; 5] = [
     Step::Deliver(Side::A, 2),
 ];
 
-// Two sockets, of which A draws tag 7 and first TSN 100, and B tag 9 and first TSN 200.
-fn new_world(alloc: Global) -> Result<World<TwoWords>, Fail> {
-    let options = Options::default();
+// Two sockets, of which A draws tag 7 and first TSN 100, and B tag 9 and first TSN 200; each offers to
+// take packets without a checksum where the method isn't 0.
+fn new_world(alloc: Global, method: u32) -> Result<World<TwoWords>, Fail> {
+    let mut options = Options::default();
+    options.zero_checksum_alternate_error_detection_method.0 = method;
     if !options.is_valid() {
         return Err(Fail::new("the options are not valid"));
     }
@@ -71,7 +73,7 @@ fn new_world(alloc: Global) -> Result<World<TwoWords>, Fail> {
 
 // Two sockets after these steps.
 fn world_after(alloc: Global, steps: &[Step]) -> Result<World<TwoWords>, Fail> {
-    let mut world = new_world(alloc)?;
+    let mut world = new_world(alloc, 0)?;
     world.run(steps)?;
     Ok(world)
 }
@@ -147,7 +149,7 @@ fn associations_are_noted_after_each_act(rt: HostRuntime) -> Result<(), Fail> {
 
 #[test]
 fn steps_answer_whether_a_call_was_made(rt: HostRuntime) -> Result<(), Fail> {
-    let mut world = new_world(rt.alloc())?;
+    let mut world = new_world(rt.alloc(), 0)?;
     let rows = [
         ("no packet yet", Step::Deliver(Side::B, 1), Reply::NoCall),
         ("connect", Step::Call(Side::A, Call::Connect), Reply::Done),
@@ -192,6 +194,34 @@ fn a_repeated_packet_adds_what_it_brings(rt: HostRuntime) -> Result<(), Fail> {
         assert_eq!(rt;
             world.socket(Side::B).state(),
             SocketState::Connected,
+            "{name}"
+        );
+    }
+    Ok(())
+}
+
+// Is the checksum of this packet of the side written as 0? It stands in bytes 8 to 11.
+fn has_no_checksum(world: &World<TwoWords>, side: Side, at: usize) -> bool {
+    let Some(packet) = world.packets(side).get(at) else {
+        return false;
+    };
+    packet.len() >= 12 && packet.iter().skip(8).take(4).all(|byte| *byte == 0)
+}
+
+#[test]
+fn init_and_cookie_echo_always_have_a_checksum(rt: HostRuntime) -> Result<(), Fail> {
+    let rows = [
+        ("INIT", Side::A, 0, false),
+        ("COOKIE ECHO", Side::A, 1, false),
+        ("INIT ACK", Side::B, 0, true),
+        ("COOKIE ACK", Side::B, 1, true),
+    ];
+    let mut world = new_world(rt.alloc(), 1)?;
+    world.run(&HANDSHAKE)?;
+    for (name, side, at, without_checksum) in rows {
+        assert_eq!(rt;
+            has_no_checksum(&world, side, at),
+            without_checksum,
             "{name}"
         );
     }

@@ -9,7 +9,7 @@ ghost use Rattle.dcsctp_socket.specs.SocketView.{user_view_of};
 ghost use Rattle.dcsctp_world.specs.Shown.{fresh_side};
 ghost use Rattle.dcsctp_world.specs.Growth.{KeptFront, Taken, with_events, Collects, CollectsFront, Grows, Stops, with_association, reply_of, delivery_reply};
 ghost use Rattle.dcsctp_world.specs.Parts.{packet_bytes, kept, shown};
-ghost use Rattle.dcsctp_world.specs.declared.act.Reply.TheVariants.{NoCall};
+ghost use Rattle.dcsctp_world.specs.declared.act.Reply.TheVariants.{Done};
 
 use crate::act::Reply;
 use dcsctp_machine::{Call, Step};
@@ -36,7 +36,8 @@ pub struct WatchedSocket<R> {
     pub associations: Vec<Option<Association>>,
 }
 
-// Keeps an event, and its packet where it is one.
+// Keeps an event, and its packet where it is one. The one error is want of memory; the packet alone may
+// have been kept then.
 fn keep_event(
     events: &mut Vec<SocketEvent>,
     packets: &mut Vec<Vec<u8>>,
@@ -54,7 +55,8 @@ fn keep_event(
     Ok(())
 }
 
-// Takes all events that wait in the socket.
+// Takes all events that wait in the socket, and keeps them. The one error is want of memory; a front
+// part of them has been kept then.
 fn take_events<R: Rng + Drop>(
     socket: &mut Socket<R>,
     events: &mut Vec<SocketEvent>,
@@ -107,7 +109,8 @@ impl<R: Rng + Drop> WatchedSocket<R> {
         })
     }
 
-    // Keeps what the last call brought: its events and the pairs that it drew.
+    // Keeps what the last call brought: its events and the pairs that it drew. The one error is want of
+    // memory; a front part of them has been kept then.
     fn keep_all(&mut self) -> Result<(), AllocError>
         ensures ok { OnOk result (Collects (shown self.old) (shown self.new)) }
         ensures err { OnErr result (CollectsFront (shown self.old) (shown self.new)) }
@@ -117,10 +120,11 @@ impl<R: Rng + Drop> WatchedSocket<R> {
         Ok(())
     }
 
-    // The user calls.
+    // The user calls. The errors are those of the call, and `SocketFault::OutOfMemory` where what it
+    // brought finds no room.
     fn call(&mut self, call: Call) -> Result<(), SocketFault>
         requires { self.old.socket.view.events ≡ [] }
-        ensures ok { OnOk result (Grows (UserTurns self.old.socket.view.endpoint call)
+        ensures ok { OnOk result (Grows (UserTurns self.old.socket.view.endpoint call) Done
             (shown self.old) (shown self.new)) }
         ensures err { OnErr result (Stops (UserTurns self.old.socket.view.endpoint call)
             (shown self.old) (shown self.new)) }
@@ -132,14 +136,14 @@ impl<R: Rng + Drop> WatchedSocket<R> {
         Ok(())
     }
 
-    // Hands over the packet of this number, where there is one.
+    // Hands over the packet of this number, where there is one. The errors are as those of `call`.
     fn deliver(&mut self, packets: &[Vec<u8>], number: usize) -> Result<Reply, SocketFault>
         requires { self.old.socket.view.events ≡ [] }
-        ensures ok { OnOk result (Grows (DeliveryTurns self.old.socket.view.endpoint
-            (numbered number (packet_bytes packets.now))) (shown self.old) (shown self.new)) }
+        ensures ok { IfOk result (λ reply. Grows (DeliveryTurns self.old.socket.view.endpoint
+            (numbered number (packet_bytes packets.now))) reply (shown self.old)
+            (shown self.new)) }
         ensures reply { IfOk result (λ reply. reply ≡ delivery_reply
             (numbered number (packet_bytes packets.now))) }
-        ensures idle { IfOk result (λ reply. reply ≡ NoCall → shown self.new ≡ shown self.old) }
         ensures err { OnErr result (Stops (DeliveryTurns self.old.socket.view.endpoint
             (numbered number (packet_bytes packets.now))) (shown self.old) (shown self.new)) }
     {
@@ -153,14 +157,14 @@ impl<R: Rng + Drop> WatchedSocket<R> {
         }
     }
 
-    /// Works a step at this side, where the other has emitted these packets. An error is that a growth
-    /// was refused.
+    /// Grows a step at this side, where the other has emitted these packets. An error is that a growth
+    /// was refused, in the socket or here, or that the socket has failed; a front part of what the step
+    /// brings may have been kept then.
     pub fn work(&mut self, packets: &[Vec<u8>], step: &Step) -> Result<Reply, SocketFault>
         requires { self.old.socket.view.events ≡ [] }
-        ensures ok { OnOk result (Grows (StepTurns self.old.socket.view.endpoint
-            (packet_bytes packets.now) step.now) (shown self.old) (shown self.new)) }
+        ensures ok { IfOk result (λ reply. Grows (StepTurns self.old.socket.view.endpoint
+            (packet_bytes packets.now) step.now) reply (shown self.old) (shown self.new)) }
         ensures reply { IfOk result (λ reply. reply ≡ reply_of (packet_bytes packets.now) step.now) }
-        ensures idle { IfOk result (λ reply. reply ≡ NoCall → shown self.new ≡ shown self.old) }
         ensures err { OnErr result (Stops (StepTurns self.old.socket.view.endpoint
             (packet_bytes packets.now) step.now) (shown self.old) (shown self.new)) }
     {
@@ -173,7 +177,7 @@ impl<R: Rng + Drop> WatchedSocket<R> {
         }
     }
 
-    /// Keeps the association as it is now. The one error is that there is no memory for it.
+    /// Keeps the association as it is now. The one error is want of memory; nothing was kept then.
     pub fn keep_association(&mut self) -> Result<(), AllocError>
         ensures ok { OnOk result (shown self.new ≡ with_association (shown self.old)) }
         ensures err { OnErr result (shown self.new ≡ shown self.old) }

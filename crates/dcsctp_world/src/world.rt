@@ -49,7 +49,7 @@ ghost use Rattle.dcsctp_world.specs.Agreement.{Agrees, HandshakeConnects};
 ghost use Rattle.dcsctp_world.specs.Acts.{StepMoves, StepStops, Applied, Applies, Runs};
 ghost use Rattle.dcsctp_world.specs.Parts.{packet_bytes, shown, both, world_of};
 
-// Works a step at its side.
+// Works a step at its side. The errors are those of `WatchedSocket::work`; the other side stays.
 fn move_side<R: Rng + Drop>(
     a: &mut WatchedSocket<R>,
     b: &mut WatchedSocket<R>,
@@ -73,7 +73,8 @@ fn move_side<R: Rng + Drop>(
     }
 }
 
-// Works a step, and keeps it and what comes of it.
+// Works a step, and keeps it and what comes of it. The errors are those of `move_side`, and want of
+// memory for an association or the act, which isn't kept then.
 fn work<R: Rng + Drop>(
     a: &mut WatchedSocket<R>,
     b: &mut WatchedSocket<R>,
@@ -135,6 +136,7 @@ impl<R: Rng + Drop> World<R> {
     pub fn apply(&mut self, step: &Step) -> Result<Reply, SocketFault>
         ensures call { Applies step.now self.old result self.new }
         ensures agreement { OnOk result (Agrees (options_of self.old) self.new) }
+        ensures handshake { OnOk result (HandshakeConnects (options_of self.old) self.new) }
         ensures options { OnOk result (options_of self.new ≡ options_of self.old) }
     {
         // A world that has failed applies no step.
@@ -142,6 +144,7 @@ impl<R: Rng + Drop> World<R> {
             return Err(SocketFault::Failed);
         }
         sockets_agree();
+        fitting_sockets_connect();
         match work(&mut self.a, &mut self.b, &mut self.acts, step) {
             Ok(reply) => Ok(reply),
             Err(_) => {
@@ -151,19 +154,18 @@ impl<R: Rng + Drop> World<R> {
         }
     }
 
-    /// Applies steps one after another, up to the first that fails. The errors are those of `apply`; where
-    /// a growth was refused, what follows holds of the steps before it.
+    /// Applies steps one after another, up to the first that fails. The errors are those of `apply`;
+    /// where a growth was refused, what follows holds of the steps before it.
     ///
-    /// Over every schedule that loses, repeats, delays and reorders packets the two sockets agree: where
-    /// no side drew a verification tag twice, which `pairs` shows, each OnConnected finds that the other
-    /// side holds, or held, the crossed association with what the two have in common. And the four packets
-    /// of a handshake, delivered in turn, connect two fresh sockets that fit each other (RFC 9260,
-    /// section 5.1).
+    /// Over every schedule that loses, repeats, delays and reorders packets the two sockets agree:
+    /// where no side drew a verification tag twice, which `pairs` shows, each OnConnected finds that
+    /// the other side holds, or held, the crossed association with what the two have in common. And the
+    /// four packets of a handshake, delivered in turn, connect two fresh sockets that fit each other
+    /// (RFC 9260, section 5.1).
     pub fn run(&mut self, steps: &[Step]) -> Result<(), SocketFault>
         ensures call { Runs steps.now self.old result self.new }
         ensures agreement { OnOk result (Agrees (options_of self.old) self.new) }
-        ensures handshake { OnOk result (HandshakeConnects (options_of self.old) steps.now self.old
-            self.new) }
+        ensures handshake { OnOk result (HandshakeConnects (options_of self.old) self.new) }
     {
         // Nor does it run no steps at all.
         if self.failed {
@@ -208,8 +210,8 @@ impl<R: Rng + Drop> World<R> {
         &self.watched(side).events
     }
 
-    /// Every pair of a tag and a first TSN that this side drew, in order: own ones, and those of answers
-    /// to an INIT (RFC 9260, section 5.1). It takes no memory.
+    /// Every pair of a tag and a first TSN that this side drew, in order: own ones, and those of
+    /// answers to an INIT (RFC 9260, section 5.1). It takes no memory.
     pub fn pairs(&self, side: Side) -> &[Pair]
         ensures { result.now ≡ (of_side side self.now.sides).pairs }
     {

@@ -1,11 +1,17 @@
-use Rattle.std.proofs.Common.{ℕ, Option, List, sym, subst}
+use Rattle.std.proofs.Common.{ℕ, Option, List, [], refl, sym, subst}
 use Rattle.dcsctp_machine.specs.Outcome.{Outcome}
 use Rattle.dcsctp_machine.specs.CallTurns.{HandleInput}
 use Rattle.dcsctp_machine.specs.Sockets.{numbered, DeliveryTurns}
 use Rattle.dcsctp_world.specs.Parts.{packet_bytes, shown}
 use Rattle.dcsctp_world.proofs.Applying.{on_err}
-use Rattle.dcsctp_world.proofs.Stopping.{stops_before, stops_after}
+use Rattle.dcsctp_world.proofs.Stopping.{grows_by_nothing, stops_before, stops_after}
 use Rattle.dcsctp_world.proofs.watched_socket.WatchedSocket.deliver.Goals as goal
+
+pub returns-in-None-clause-ok : goal.returns-in-None-clause-ok
+returns-in-None-clause-ok g c =
+    let Turns : List Outcome → Type 0 = DeliveryTurns c.args.self.now.socket.view.endpoint (numbered c.args.number (packet_bytes c.args.packets.now)) in
+    grows_by_nothing Turns (shown c.args.self.now)
+    (subst (λ (bytes : Option (List ℕ)). DeliveryTurns c.args.self.now.socket.view.endpoint bytes []) (sym c.in-None.ensures) refl) c.requires
 
 pub returns-in_err-handle_input-in-Some-clause-err :
     goal.returns-in_err-handle_input-in-Some-clause-err

@@ -5,7 +5,7 @@ use Rattle.dcsctp_world.specs.Run.{IsRun}
 use Rattle.dcsctp_world.specs.Parts.{world_of}
 use Rattle.dcsctp_world.proofs.Running.{is_run_options, is_run_of_own}
 use Rattle.dcsctp_world.proofs.Applying.{applied_is_run}
-use Rattle.dcsctp_world.proofs.Agreeing.{world_agrees}
+use Rattle.dcsctp_world.proofs.Agreeing.{world_agrees, handshake_connects}
 use Rattle.dcsctp_world.proofs.world.World.apply.Goals as goal
 
 pub work-requires-clause-a : goal.work-requires-clause-a
@@ -21,6 +21,11 @@ returns-in-Ok-clause-agreement g c =
     (subst (λ (w : WorldView g.row.R.Denot). IsRun (options_of w) new) c.self.view_is
     (applied_is_run c.args.step.now c.in-Ok.reply c.self.inside.a c.self.inside.b c.work.new.a c.work.new.b c.self.inside.acts.items c.work.new.acts.items
     c.self.inside.failed c.if-self.false c.self.invariant c.in-Ok.ensures.ok))
+
+pub returns-in-Ok-clause-handshake : goal.returns-in-Ok-clause-handshake
+returns-in-Ok-clause-handshake g c =
+    handshake_connects c.fitting_sockets_connect.ensures (options_of c.args.self.now) (world_of c.work.new.a c.work.new.b c.work.new.acts.items c.self.inside.failed)
+    (returns-in-Ok-clause-agreement g c).is_run
 
 pub returns-in-Ok-clause-options : goal.returns-in-Ok-clause-options
 returns-in-Ok-clause-options g c =

@@ -1,11 +1,7 @@
-use Rattle.std.proofs.Common.{arith, ◌≡◌, List, take, subst}
-use Rattle.std.proofs.lemmas.List.{take_all}
 use Rattle.dcsctp_machine.specs.declared.schedule.Side.TheVariants as sides
 use Rattle.dcsctp_machine.specs.declared.schedule.Call.TheVariants as calls
-use Rattle.dcsctp_machine.specs.declared.schedule.Step.{Step}
 use Rattle.dcsctp_machine.specs.declared.schedule.Step.TheVariants as steps
 use Rattle.dcsctp_world.specs.Shown.{options_of}
-use Rattle.dcsctp_world.specs.Acts.{Ran}
 use Rattle.dcsctp_world.proofs.Agreeing.{world_agrees, ran_out_among, handshake_connects}
 use Rattle.dcsctp_world.proofs.Applying.{ran_next}
 use Rattle.dcsctp_world.proofs.world.World.run.Goals as goal
@@ -20,9 +16,7 @@ returns-clause-agreement g c = world_agrees c.sockets_agree.ensures (options_of 
 
 pub returns-clause-handshake : goal.returns-clause-handshake
 returns-clause-handshake g c =
-    let all : take c.loop-step.step-index c.args.steps.now ≡ c.args.steps.now = take_all c.loop-step.step-index c.args.steps.now (omega (arith, c.loop-step-test.false)) in
-    handshake_connects c.fitting_sockets_connect.ensures c.args.steps.now c.args.self.now c.loop-step.self
-    (subst (λ (steps : List Step). Ran steps c.args.self.now c.loop-step.self) all c.loop-step.invariant)
+    handshake_connects c.fitting_sockets_connect.ensures (options_of c.args.self.now) c.loop-step.self c.loop-step.invariant.is_run
 
 pub returns-in_err-apply-clause-call : goal.returns-in_err-apply-clause-call
 returns-in_err-apply-clause-call g c =
