@@ -23,8 +23,8 @@ mod showing;
 mod tests;
 mod words;
 
-use failure::Failure;
 pub use failure::Status;
+use failure::{Failure, written};
 use run::run_lines;
 use script::Script;
 use std::alloc::Global;
@@ -32,14 +32,16 @@ use std::io::{self, BufReader, BufWriter, Read, Write};
 
 /// Runs the script that the reader gives, and writes its lines to the writer.
 ///
-/// The answer is `Done` where every line was run and all that it prints was written and flushed.
-/// `BadLine`: a line is no line of a script, or comes at the wrong place; the lines before it were
-/// run and printed, and then `line n: bad` with its number, counted from 1, empty lines too.
-/// `OutOfMemory`: a growth was refused; the commands before were run and printed, of the one that
-/// met it nothing is printed, and the last line is `out of memory`. A reader or a writer that fails
-/// with `io::ErrorKind::OutOfMemory` counts as a refused growth. `Broken`: the reader or the writer
-/// failed in another way, or the last line of one of the other two failures could not be written;
-/// no line says so. What a failed writer has taken may end within a line.
+/// The answer says how the run ended:
+/// - `Done`: every line was run, and all that it prints was written and flushed.
+/// - `BadLine`: a line is no line of a script, or comes at the wrong place. The lines before it were
+///   run and printed, and then `line n: bad` with its number, counted from 1, empty lines too.
+/// - `OutOfMemory`: a growth was refused, or the reader failed with `io::ErrorKind::OutOfMemory`. The
+///   commands before were run and printed; of the one that met it nothing is printed, and the last
+///   line is `out of memory`.
+/// - `Broken`: the reader failed in another way, and the commands before were run and printed; or the
+///   writer failed in any way, also at the last line of the two failures above, and has taken a front
+///   part of the lines, which may end within one. No line says so.
 pub fn run_script<R: Read, W: Write>(alloc: Global, reader: &mut R, writer: &mut W) -> Status {
     let outcome = run_buffered(alloc, reader, writer);
     match outcome {
@@ -60,7 +62,7 @@ fn run_buffered<R: Read, W: Write>(
     let mut script = Script::new(alloc, BufReader::new(alloc, reader)?);
     let mut output = BufWriter::new(alloc, writer)?;
     let outcome = run_lines(alloc, &mut script, &mut output);
-    output.flush()?;
+    written(output.flush())?;
     outcome
 }
 

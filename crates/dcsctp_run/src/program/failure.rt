@@ -1,9 +1,9 @@
 //! How a run ends.
 
-ghost use Rattle.std.specs.Prelude.{◌≡◌};
+ghost use Rattle.std.specs.Prelude.{◌≡◌, ◌↔◌, IsOk, IfErr};
 ghost use Rattle.std.specs.IoError.{error_kind};
 ghost use Rattle.dcsctp_run.specs.Ending.{exit_code, failure_of, status_of};
-ghost use Rattle.dcsctp_run.specs.declared.program.failure.Failure.TheVariants.{OutOfMemory};
+ghost use Rattle.dcsctp_run.specs.declared.program.failure.Failure.TheVariants.{Broken, OutOfMemory};
 
 use dcsctp_api::SocketFault;
 use std::alloc::{AllocError, AllocFailed};
@@ -90,6 +90,7 @@ impl From<SocketFault> for Failure {
     }
 }
 
+// An error of the reader, or of a buffer that isn't made. Those of the writer are for `written`.
 impl From<io::Error> for Failure {
     ghost from_gives = { λ error failure. failure ≡ failure_of (error_kind error) };
 
@@ -99,4 +100,12 @@ impl From<io::Error> for Failure {
             _ => Failure::Broken,
         }
     }
+}
+
+/// What comes of writing, for the run: an error of the writer, of whatever kind, is `Broken`.
+pub fn written(outcome: io::Result<()>) -> Result<(), Failure>
+    ensures ok { IsOk result ↔ IsOk outcome }
+    ensures err { IfErr result (λ failure. failure ≡ Broken) }
+{
+    outcome.map_err(|_| Failure::Broken)
 }

@@ -1,6 +1,6 @@
 //! The commands of a script, run on two sockets.
 
-use super::failure::Failure;
+use super::failure::{Failure, written};
 use super::line::{Command, Line, parse_line};
 use super::printing::print_event;
 use super::script::Script;
@@ -16,9 +16,9 @@ use std::io::{self, BufRead, Write};
 /// Runs the lines of a script, and writes what comes of them.
 ///
 /// `BadLine` says that a line is none, or that an option or words stand behind a command; the lines
-/// before it were run. `OutOfMemory` says that a growth was refused; of the command that met it
-/// nothing is written. `Broken` says that the reader or the writer failed. What a failed writer has
-/// taken may end within a line.
+/// before it were run. `OutOfMemory` says that a growth was refused, the reader's own among them; of
+/// the command that met it nothing is written. `Broken` says that the reader failed in another way,
+/// or the writer in any. What a failed writer has taken may end within a line.
 pub fn run_lines<R: BufRead, W: Write>(
     alloc: Global,
     script: &mut Script<R>,
@@ -76,7 +76,7 @@ impl Printed {
         events: &[SocketEvent],
         output: &mut W,
     ) -> io::Result<()> {
-        for event in events.iter().skip(self.events) {
+        for event in events.get(self.events..).unwrap_or(&[]) {
             if let SocketEvent::SendPacket(_) = event {
                 self.packets = self.packets.saturating_add(1);
             }
@@ -96,11 +96,20 @@ struct Run {
 }
 
 impl Run {
-    // Does what a command says, and prints its events.
+    // Does what a command says, and prints what comes of it.
     fn obey<W: Write>(&mut self, command: Command, output: &mut W) -> Result<(), Failure> {
         match command {
             Command::Connect(side) => self.apply(Step::Call(side, Call::Connect))?,
             Command::Give(side, number) => self.apply(Step::Deliver(side, number))?,
+            Command::Show(_) | Command::State(_) => {}
+        }
+        written(self.print(command, output))
+    }
+
+    // Prints what a command shows, and the new events.
+    fn print<W: Write>(&mut self, command: Command, output: &mut W) -> io::Result<()> {
+        match command {
+            Command::Connect(_) | Command::Give(..) => {}
             Command::Show(side) => {
                 let association = self.world.socket(side).association();
                 print_association(side, association, output)?;
@@ -108,8 +117,7 @@ impl Run {
             Command::State(side) => print_state(side, self.world.socket(side).state(), output)?,
         }
         self.a.print(Side::A, self.world.events(Side::A), output)?;
-        self.b.print(Side::B, self.world.events(Side::B), output)?;
-        Ok(())
+        self.b.print(Side::B, self.world.events(Side::B), output)
     }
 
     // Takes a step.

@@ -16,16 +16,16 @@ use std::io::BufRead;
 
 /// What one socket is made from.
 #[derive(Drop)]
-struct End {
+struct SocketSetup {
     options: Options,
     words: Words,
     ghost valid: { IsValid options },
 }
 
-impl End {
+impl SocketSetup {
     // The default options, and no words.
-    fn new(alloc: Global) -> End {
-        End {
+    fn new(alloc: Global) -> SocketSetup {
+        SocketSetup {
             options: Options::default(),
             words: Words::new(alloc),
         }
@@ -56,8 +56,8 @@ impl End {
 /// What the two sockets are made from.
 #[derive(Drop)]
 pub struct Setup {
-    a: End,
-    b: End,
+    a: SocketSetup,
+    b: SocketSetup,
     has_words: bool,
 }
 
@@ -65,8 +65,8 @@ impl Setup {
     /// Two sockets with default options, and no words.
     pub fn new(alloc: Global) -> Setup {
         Setup {
-            a: End::new(alloc),
-            b: End::new(alloc),
+            a: SocketSetup::new(alloc),
+            b: SocketSetup::new(alloc),
             has_words: false,
         }
     }

@@ -4,15 +4,14 @@ use super::run_script;
 use std::io::{self, Read, Write};
 use std::test::Fail;
 
-// A reader that gives two lines and the front of a third, and then fails so; and a writer that
-// takes one byte, and then fails so.
+// A reader that gives two lines and the front of a third, and then fails so.
 #[derive(Drop)]
-struct Failing {
+struct FailingReader {
     kind: io::ErrorKind,
     is_used: bool,
 }
 
-impl Read for Failing {
+impl Read for FailingReader {
     fn read(&mut self, buf: &mut [u8]) -> io::Result<usize> {
         if self.is_used || buf.len() < 21 {
             return Err(io::Error::from(self.kind));
@@ -23,13 +22,24 @@ impl Read for Failing {
     }
 }
 
-impl Write for Failing {
+// A writer that takes one byte, then fails so this many times, and then takes all.
+#[derive(Drop)]
+struct FailingWriter {
+    taken: Vec<u8>,
+    kind: io::ErrorKind,
+    failures: u32,
+}
+
+impl Write for FailingWriter {
     fn write(&mut self, buf: &[u8]) -> io::Result<usize> {
-        if self.is_used {
+        if self.taken.is_empty() {
+            return self.taken.write(&buf[..buf.len().min(1)]);
+        }
+        if self.failures != 0 {
+            self.failures -= 1;
             return Err(io::Error::from(self.kind));
         }
-        self.is_used = true;
-        Ok(buf.len().min(1))
+        self.taken.write(buf)
     }
 
     fn flush(&mut self) -> io::Result<()> {
@@ -52,7 +62,7 @@ fn a_failed_read_ends_the_run(rt: HostRuntime) -> Result<(), Fail> {
         ),
     ];
     for (kind, lines, code) in rows {
-        let mut reader = Failing {
+        let mut reader = FailingReader {
             kind,
             is_used: false,
         };
@@ -64,20 +74,40 @@ fn a_failed_read_ends_the_run(rt: HostRuntime) -> Result<(), Fail> {
     Ok(())
 }
 
+// A row is a line and what answers it, how many of them there are, and how a write fails and how
+// often. What was taken is a front part of the answers.
 #[test]
 fn a_failed_write_ends_the_run(rt: HostRuntime) -> Result<(), Fail> {
     let rows = [
-        ("state A\n", io::ErrorKind::Other),
-        ("state", io::ErrorKind::Other),
-        ("state B\n", io::ErrorKind::OutOfMemory),
+        ("state A\n", "A Closed\n", 1, io::ErrorKind::Other, u32::MAX),
+        ("state", "line 1: bad\n", 1, io::ErrorKind::Other, u32::MAX),
+        (
+            "state B\n",
+            "B Closed\n",
+            1,
+            io::ErrorKind::OutOfMemory,
+            u32::MAX,
+        ),
+        ("state A\n", "A Closed\n", 1, io::ErrorKind::OutOfMemory, 1),
+        (
+            "state B\n",
+            "B Closed\n",
+            2000,
+            io::ErrorKind::OutOfMemory,
+            1,
+        ),
     ];
-    for (script, kind) in rows {
-        let mut writer = Failing {
+    for (line, answer, times, kind, failures) in rows {
+        let script = line.repeat(rt.alloc(), times)?;
+        let answers = answer.repeat(rt.alloc(), times)?;
+        let mut writer = FailingWriter {
+            taken: Vec::new(rt.alloc()),
             kind,
-            is_used: false,
+            failures,
         };
         let status = run_script(rt.alloc(), &mut script.as_bytes(), &mut writer);
-        assert_eq!(rt; status.code(), 1, "{script}");
+        assert_eq!(rt; status.code(), 1, "{line}");
+        assert!(rt; answers.as_bytes().starts_with(&writer.taken), "{line}");
     }
     Ok(())
 }
