@@ -29,39 +29,6 @@ world_agrees law options world h =
       agree = λ a b. law options h.steps h.usable h.run (record { a = subst HasDistinctTags (h.sides sides.A).pairs a; b = subst HasDistinctTags (h.sides sides.B).pairs b });
     }
 
--- ---- a growth that was refused among several steps
-
-split_at : (steps : List Step) (i : ℕ) (default : Step) → i < length steps → steps ≡ take i steps ++ get_or steps i default ∷ drop (suc i) steps
-split_at [] i default within = absurd (omega (arith, within))
-split_at (x ∷ xs) zero default within = refl
-split_at (x ∷ xs) (suc i) default within = ap (λ (l : List Step). x ∷ l) (split_at xs i default (omega (arith, within)))
-
--- the steps before the one that was refused ran
-refused_at : {R : Type 0} → SocketsAgree → (steps : List Step) (i : ℕ) (default : Step) (fault : SocketFault) (old now new : WorldView R) → i < length steps
-    → Ran (take i steps) old now → Applies (get_or steps i default) now (Err fault) new → Runs steps old (Err fault) new
-refused_at law steps i default OutOfMemory old now new within ran out =
-    record {
-      done = take i steps;
-      refused = get_or steps i default;
-      rest = drop (suc i) steps;
-      all = split_at steps i default within;
-      before = now;
-      ran = ran;
-      agrees = world_agrees law (options_of old) now ran.is_run;
-      ran_out = out;
-    }
-refused_at law steps i default Failed old now new within ran out =
-    let goes_on : now.failed ≡ false = ran.goes_on in
-    let had_failed : now.failed ≡ true = out.had_failed in
-    absurd (cc)
-
-pub ran_out_among : {R : Type 0} → SocketsAgree → (steps : List Step) (i : ℕ) (default : Step) (fault : SocketFault) (old now new : WorldView R) → i < length steps
-    → Ran (take i steps) old now → Applies (get_or steps i default) now (Err fault) new
-    → (result : Result (Unit {0}) SocketFault) → IsErrAnd result (λ given. given ≡ fault) → Runs steps old result new
-ran_out_among law steps i default fault old now new within ran out (Ok done) is = absurd is
-ran_out_among law steps i default fault old now new within ran out (Err given) is =
-    subst (λ (f : SocketFault). Runs steps old (Err f) new) (sym is) (refused_at law steps i default fault old now new within ran out)
-
 -- ---- the handshake
 
 connections_shown : (f : Emission → List ℕ) (events : List (Event Emission)) → connections (map (event_map f) events) ≡ connections events
@@ -114,3 +81,37 @@ handshake_connects law options world run side acts_are fit =
     let schedule : reverse (schedule_of run.steps) ≡ handshake side = same_steps (reverse (schedule_of run.steps)) (handshake side) (sym run.acts ∙ acts_are) in
     both_connected options world run
     (law options side run.steps run.usable fit run.run (sym (reverse-reverse (schedule_of run.steps)) ∙ ap (λ (l : List Step). reverse l) schedule))
+
+-- ---- a growth that was refused among several steps
+
+split_at : (steps : List Step) (i : ℕ) (default : Step) → i < length steps → steps ≡ take i steps ++ get_or steps i default ∷ drop (suc i) steps
+split_at [] i default within = absurd (omega (arith, within))
+split_at (x ∷ xs) zero default within = refl
+split_at (x ∷ xs) (suc i) default within = ap (λ (l : List Step). x ∷ l) (split_at xs i default (omega (arith, within)))
+
+-- the steps before the one that was refused ran
+refused_at : {R : Type 0} → SocketsAgree → FittingSocketsConnect → (steps : List Step) (i : ℕ) (default : Step) (fault : SocketFault) (old now new : WorldView R) → i < length steps
+    → Ran (take i steps) old now → Applies (get_or steps i default) now (Err fault) new → Runs steps old (Err fault) new
+refused_at law connects steps i default OutOfMemory old now new within ran out =
+    record {
+      done = take i steps;
+      refused = get_or steps i default;
+      rest = drop (suc i) steps;
+      all = split_at steps i default within;
+      before = now;
+      ran = ran;
+      agrees = world_agrees law (options_of old) now ran.is_run;
+      connects = handshake_connects connects (options_of old) now ran.is_run;
+      ran_out = out;
+    }
+refused_at law connects steps i default Failed old now new within ran out =
+    let goes_on : now.failed ≡ false = ran.goes_on in
+    let had_failed : now.failed ≡ true = out.had_failed in
+    absurd (cc)
+
+pub ran_out_among : {R : Type 0} → SocketsAgree → FittingSocketsConnect → (steps : List Step) (i : ℕ) (default : Step) (fault : SocketFault) (old now new : WorldView R) → i < length steps
+    → Ran (take i steps) old now → Applies (get_or steps i default) now (Err fault) new
+    → (result : Result (Unit {0}) SocketFault) → IsErrAnd result (λ given. given ≡ fault) → Runs steps old result new
+ran_out_among law connects steps i default fault old now new within ran out (Ok done) is = absurd is
+ran_out_among law connects steps i default fault old now new within ran out (Err given) is =
+    subst (λ (f : SocketFault). Runs steps old (Err f) new) (sym is) (refused_at law connects steps i default fault old now new within ran out)

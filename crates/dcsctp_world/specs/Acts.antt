@@ -9,7 +9,7 @@ use Rattle.dcsctp_world.specs.declared.act.Reply.{Reply}
 use Rattle.dcsctp_world.specs.Shown.{SideShown, WorldView, options_of}
 use Rattle.dcsctp_world.specs.Growth.{Extends, Grows, ShowsFront, Stops, SideExtends, with_association, reply_of}
 use Rattle.dcsctp_world.specs.Run.{IsRun}
-use Rattle.dcsctp_world.specs.Agreement.{Agrees}
+use Rattle.dcsctp_world.specs.Agreement.{Agrees, HandshakeConnects}
 
 -- A step moved its own side, and left the other. No association was noted yet.
 pub record StepMoves {R : Type 0} (step : Step) (answer : Reply) (old new : Both (SideShown R)) : Type 0 where
@@ -75,8 +75,8 @@ pub record Ran {R : Type 0} (steps : List Step) (old new : WorldView R) : Type 0
   pub options : options_of new ≡ options_of old
   pub is_run : IsRun (options_of old) new
 
--- A growth was refused at one of these steps: those before it were applied, one after another, and the sockets agree
--- along them; the world has failed at this one, and those behind it weren't tried.
+-- A growth was refused at one of these steps: those before it were applied, one after another, and what is promised of
+-- steps that were applied holds of them; the world has failed at this one, and those behind it weren't tried.
 pub record RanOutAmong {R : Type 0} (steps : List Step) (old new : WorldView R) : Type 0 where
   pub done : List Step
   pub refused : Step
@@ -85,6 +85,7 @@ pub record RanOutAmong {R : Type 0} (steps : List Step) (old new : WorldView R) 
   pub before : WorldView R
   pub ran : Ran done old before
   pub agrees : Agrees (options_of old) before
+  pub connects : HandshakeConnects (options_of old) before
   pub ran_out : RanOut refused before new
 
 abbrev pub Runs : {R : Type 0} → List Step → WorldView R → Result (Unit {0}) SocketFault → WorldView R → Type 0

@@ -61,7 +61,7 @@ pub record Collects {R : Type 0} (old new : SideShown R) : Type 0 where
   pub last_words : new.socket.view.words ≡ old.socket.view.words
   pub last_pairs : new.socket.view.pairs ≡ old.socket.view.pairs
 
--- A front part of what waits in the socket was taken and kept, or of the pairs of the last call.
+-- Front parts of what waits in the socket and of the pairs of the last call were kept.
 pub record CollectsFront {R : Type 0} (old new : SideShown R) : Type 0 where
   pub events : AddsFront old.socket.view.events old.events new.events
   pub packets : AddsFront (packets_in old.socket.view.events) old.packets new.packets

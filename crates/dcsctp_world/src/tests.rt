@@ -201,11 +201,14 @@ fn a_repeated_packet_adds_what_it_brings(rt: HostRuntime) -> Result<(), Fail> {
 }
 
 // Is the checksum of this packet of the side written as 0? It stands in bytes 8 to 11.
-fn has_no_checksum(world: &World<TwoWords>, side: Side, at: usize) -> bool {
+fn has_no_checksum(world: &World<TwoWords>, side: Side, at: usize) -> Result<bool, Fail> {
     let Some(packet) = world.packets(side).get(at) else {
-        return false;
+        return Err(Fail::new("there is no such packet"));
     };
-    packet.len() >= 12 && packet.iter().skip(8).take(4).all(|byte| *byte == 0)
+    let Some(field) = packet.get(8..12) else {
+        return Err(Fail::new("the packet has no whole header"));
+    };
+    Ok(field.iter().all(|byte| *byte == 0))
 }
 
 #[test]
@@ -220,7 +223,7 @@ fn init_and_cookie_echo_always_have_a_checksum(rt: HostRuntime) -> Result<(), Fa
     world.run(&HANDSHAKE)?;
     for (name, side, at, without_checksum) in rows {
         assert_eq!(rt;
-            has_no_checksum(&world, side, at),
+            has_no_checksum(&world, side, at)?,
             without_checksum,
             "{name}"
         );

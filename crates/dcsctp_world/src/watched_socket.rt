@@ -157,7 +157,7 @@ impl<R: Rng + Drop> WatchedSocket<R> {
         }
     }
 
-    /// Grows a step at this side, where the other has emitted these packets. An error is that a growth
+    /// Works a step at this side, where the other has emitted these packets. An error is that a growth
     /// was refused, in the socket or here, or that the socket has failed; a front part of what the step
     /// brings may have been kept then.
     pub fn work(&mut self, packets: &[Vec<u8>], step: &Step) -> Result<Reply, SocketFault>

@@ -20,5 +20,5 @@ returns-clause-handshake g c =
 
 pub returns-in_err-apply-clause-call : goal.returns-in_err-apply-clause-call
 returns-in_err-apply-clause-call g c =
-    ran_out_among c.sockets_agree.ensures c.args.steps.now c.loop-step.step-index (steps.Call sides.A calls.Connect) c.in_err-apply.field-0.0 c.args.self.now c.loop-step.self c.apply.new.self
+    ran_out_among c.sockets_agree.ensures c.fitting_sockets_connect.ensures c.args.steps.now c.loop-step.step-index (steps.Call sides.A calls.Connect) c.in_err-apply.field-0.0 c.args.self.now c.loop-step.self c.apply.new.self
     c.loop-step-test.true c.loop-step.invariant c.in_err-apply.ensures.call c.from_residual.result c.from_residual.ensures.1
