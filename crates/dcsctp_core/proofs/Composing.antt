@@ -1,5 +1,5 @@
 -- One step of a handler after another: what the steps before a turn had drawn and added.
-use Rattle.std.proofs.Common.{◌≡◌, ℕ, Bool, true, false, cond, suc, Result, Ok, Err, OnErr, List, [], ◌∷◌, ◌++◌, map, take, refl, sym, ap, subst, ◌∙◌, append_assoc}
+use Rattle.std.proofs.Common.{◌≡◌, ℕ, Bool, true, false, cond, suc, List, [], ◌∷◌, ◌++◌, map, take, refl, sym, ap, subst, ◌∙◌, append_assoc}
 use Rattle.std.proofs.lemmas.List.{append-nil, map-append}
 use Rattle.rand_core.specs.Stream.{Stream}
 use Rattle.dcsctp_machine.specs.Settings.{Ports, ports_of}
@@ -11,6 +11,8 @@ use Rattle.dcsctp_machine.specs.Endpoint.{Endpoint}
 use Rattle.dcsctp_machine.specs.Outcome.{Outcome, next_chunk, quiet, sends}
 use Rattle.dcsctp_machine.specs.turns.Flush.{allows_packet, flushes}
 use Rattle.dcsctp_api.specs.Calls.{user_event}
+use Rattle.dcsctp_api.specs.Events.{event_content}
+use Rattle.dcsctp_api.specs.declared.events.SocketEvent.{SocketEvent}
 use Rattle.dcsctp_core.specs.View.{View, Drawn, Moves, CutTurn}
 use Rattle.dcsctp_core.proofs.Moving.{Drawn-append}
 
@@ -75,11 +77,6 @@ moves_as stream a b o p is m = subst (λ (x : Outcome). Moves stream a x b) (sym
 
 -- ---- a turn that was cut
 
--- what holds anyway holds of an error
-pub on_err : {A E P : Type 0} (result : Result A E) → P → OnErr result P
-on_err (Ok value) p = tt
-on_err (Err error) p = p
-
 -- so many more than these
 count_behind : {A : Type 0} → List A → ℕ → ℕ
 count_behind [] n = n
@@ -117,3 +114,16 @@ cut_after old o events front rest is added =
     let cut : CutTurn old (behind [] front later) events = cut_behind old (record old { events = events }) [] front later events (record { ports = refl; events = added })
     (cut_first (record old { events = events }) later events refl) in
     record { count = cut.count; added = cut.added ∙ ap (λ (es : List (Event Emission)). old.events ++ take cut.count (map (user_event (ports_of old.endpoint.options)) es)) (sym is) }
+
+-- one event, as it is seen
+pub added_one : (old new : List SocketEvent) (event : SocketEvent) → new ≡ old ++ event ∷ [] → map event_content new ≡ map event_content old ++ event_content event ∷ []
+added_one old new event is = ap (map event_content) is ∙ map-append event_content old (event ∷ [])
+
+-- A flush was cut behind these events.
+pub flush_cut : {R : Type 0} (old : View R) (e : Endpoint) (words : List Word) (events : List (Event Emission)) (with_checksum : Bool) (tag : ℕ) (contents : List Content) (es : List (Event (List ℕ)))
+    → es ≡ old.events ++ map (user_event (ports_of old.endpoint.options)) events → CutTurn old (flushes e words events with_checksum tag contents) es
+flush_cut old e words events with_checksum tag contents es is =
+    subst (λ (o : Outcome). CutTurn old o es)
+    (flush_behind e [] words events [] with_checksum tag contents ∙ ap (λ (before : List (Event Emission)). flushes e words before with_checksum tag contents) (append-nil events))
+    (cut_behind old (record old { events = es }) [] events (flushes e words [] with_checksum tag contents) es (record { ports = refl; events = is })
+    (cut_first (record old { events = es }) (flushes e words [] with_checksum tag contents) es refl))

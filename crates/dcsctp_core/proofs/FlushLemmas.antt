@@ -1,5 +1,5 @@
 -- What a flush does by its cases: nothing is held, or a packet goes out.
-use Rattle.std.proofs.Common.{◌≡◌, ℕ, Bool, true, cond, List, [], ◌∷◌, ◌++◌, map, refl, sym, ap, ◌∙◌}
+use Rattle.std.proofs.Common.{◌≡◌, ◌≤◌, ℕ, ℤ, pos, negsuc, zero, suc, Bool, true, cond, List, [], ◌∷◌, ◌++◌, length, map, refl, sym, ap, ◌∙◌, arith}
 use Rattle.std.proofs.lemmas.List.{append-nil}
 use Rattle.std.specs.List.{flat_map}
 use Rattle.dcsctp_wire.specs.Content.{ChunkContent, init_chunk, init_ack_chunk, abort_chunk, cookie_echo_chunk, cookie_ack_chunk, other_chunk}
@@ -13,8 +13,11 @@ use Rattle.dcsctp_machine.specs.Packet.{Content, Emission, chunk_out, emission_b
 use Rattle.dcsctp_machine.specs.Endpoint.{Endpoint}
 use Rattle.dcsctp_machine.specs.Outcome.{quiet, counted, sends}
 use Rattle.dcsctp_machine.specs.turns.Flush.{allows_packet, flushes}
-use Rattle.dcsctp_core.specs.View.{View, Moves}
-use Rattle.dcsctp_core.specs.Flushing.{packet_of}
+use Rattle.dcsctp_core.specs.declared.context.Context.{Context}
+use Rattle.dcsctp_core.specs.View.{View, endpoint_of, view_of, Moves}
+use Rattle.dcsctp_core.specs.Flushing.{packet_of, burst_limit, Flushed}
+use Rattle.dcsctp_core.proofs.Moving.{moves_still}
+use Rattle.dcsctp_core.proofs.Composing.{moves_as}
 
 -- A chunk has bytes.
 chunk_is_not_empty : (chunk : ChunkContent) (rest : List ℕ) → chunk_bytes chunk ++ rest ≡ [] → ⊥
@@ -42,27 +45,64 @@ flush_of_packet e with_checksum tag (content ∷ contents) some not_empty =
 
 -- ---- a packet that goes out
 
-pub sent_moves : {R : Type 0} (stream : R → Stream) (a b : View R) (emission : Emission) (bytes : List ℕ)
-    → b.endpoint ≡ counted a.endpoint
-    → b.events ≡ a.events ++ sent bytes ∷ []
+sent_moves : {R : Type 0} (stream : R → Stream) (a b : View R) (emission : Emission) (bytes : List ℕ)
+    → b ≡ record a { endpoint = counted a.endpoint; events = a.events ++ sent bytes ∷ [] }
     → bytes ≡ emission_bytes (ports_of a.endpoint.options) emission
-    → b.words ≡ a.words
-    → b.pairs ≡ a.pairs
-    → b.generator ≡ a.generator
     → Moves stream a (sends a.endpoint [] [] emission) b
-sent_moves {R = R} stream a b emission bytes endpoint events is words pairs generator =
+sent_moves {R = R} stream a b emission bytes here is =
     record {
-      endpoint = endpoint;
-      events = events ∙ ap (λ (bs : List ℕ). a.events ++ sent bs ∷ []) is;
-      words = words ∙ sym (append-nil a.words);
-      pairs = pairs ∙ sym (append-nil a.pairs);
-      drawn = ap stream generator;
+      endpoint = ap (λ (v : View R). v.endpoint) here;
+      events = ap (λ (v : View R). v.events) here ∙ ap (λ (bs : List ℕ). a.events ++ sent bs ∷ []) is;
+      words = ap (λ (v : View R). v.words) here ∙ sym (append-nil a.words);
+      pairs = ap (λ (v : View R). v.pairs) here ∙ sym (append-nil a.pairs);
+      drawn = ap (λ (v : View R). stream v.generator) here;
     }
 
 -- the bytes of a packet that was built
-pub built_bytes : (options : Options) (builder : Building) (with_checksum : Bool) (tag : ℕ) (contents : List Content) (bytes : List ℕ)
+built_bytes : (options : Options) (builder : Building) (with_checksum : Bool) (tag : ℕ) (contents : List Content) (bytes : List ℕ)
     → builder ≡ packet_of options with_checksum tag contents
     → bytes ≡ packet_bytes_of builder.with_checksum (header_bytes builder.source_port builder.destination_port builder.verification_tag) builder.body
     → bytes ≡ emission_bytes (ports_of options) (record { with_checksum = with_checksum; packet = record { tag = tag; contents = contents } })
 built_bytes options builder with_checksum tag contents bytes is built =
     built ∙ ap (λ (b : Building). packet_bytes_of b.with_checksum (header_bytes b.source_port b.destination_port b.verification_tag) b.body) is
+
+-- ---- its limits
+
+burst_allows : (burst : ℤ) → allows_packet burst ≡ true → 1 ≤ burst_limit burst
+burst_allows (pos zero) allowed = absurd (cc allowed)
+burst_allows (pos (suc more)) allowed = omega arith
+burst_allows (negsuc below) allowed = absurd (cc allowed)
+
+-- A flush that sends nothing.
+pub flushed_nothing : {R : Type 0} (stream : R → Stream) (context : Context R) (packet : Building) (with_checksum : Bool) (tag : ℕ) (contents : List Content)
+    → packet ≡ packet_of context.options with_checksum tag contents → packet.body ≡ [] → Flushed stream context with_checksum tag contents context
+flushed_nothing stream context packet with_checksum tag contents is empty =
+    let v = view_of context in
+    record {
+      moves =
+          moves_as stream v v _ _ (flush_of_nothing (endpoint_of context) with_checksum tag contents (sym (ap (λ (b : Building). b.body) is) ∙ empty)) (moves_still stream v);
+      limits = record { packets = []; behind = sym (append-nil v.events); burst = omega arith; sizes = tt };
+    }
+
+-- A flush that sends its packet.
+pub flushed_packet : {R : Type 0} (stream : R → Stream) (old new : Context R) (packet : Building) (bytes : List ℕ)
+    → allows_packet old.options.max_burst ≡ true → (packet.body ≡ [] → ⊥)
+    → bytes ≡ packet_bytes_of packet.with_checksum (header_bytes packet.source_port packet.destination_port packet.verification_tag) packet.body
+    → length bytes ≤ packet.size
+    → view_of new ≡ record (view_of old) { endpoint = counted (endpoint_of old); events = (view_of old).events ++ sent bytes ∷ [] }
+    → (with_checksum : Bool) (tag : ℕ) (contents : List Content) → packet ≡ packet_of old.options with_checksum tag contents
+    → Flushed stream old with_checksum tag contents new
+flushed_packet {R = R} stream old new packet bytes allowed not_empty built within here with_checksum tag contents is =
+    record {
+      moves =
+          moves_as stream (view_of old) (view_of new) _ _
+          (flush_of_packet (endpoint_of old) with_checksum tag contents allowed (λ none. not_empty (ap (λ (b : Building). b.body) is ∙ none)))
+          (sent_moves stream (view_of old) (view_of new) (record { with_checksum = with_checksum; packet = record { tag = tag; contents = contents } }) bytes here
+          (built_bytes old.options packet with_checksum tag contents bytes is built));
+      limits = record {
+        packets = sent bytes ∷ [];
+        behind = ap (λ (v : View R). v.events) here;
+        burst = burst_allows old.options.max_burst allowed;
+        sizes = (omega (arith, within, ap (λ (b : Building). b.size) is), tt);
+      };
+    }

@@ -1,5 +1,5 @@
 -- What goes out in a flush.
-use Rattle.std.specs.Prelude.{◌≡◌, ◌≤◌, ℕ, ℤ, pos, negsuc, Bool, List, [], ◌++◌, length, map}
+use Rattle.std.specs.Prelude.{◌≡◌, ◌≤◌, ℕ, ℤ, pos, negsuc, Bool, Result, Ok, Err, List, [], ◌++◌, length, map}
 use Rattle.std.specs.List.{flat_map, AllByRecursion}
 use Rattle.rand_core.specs.Stream.{Stream}
 use Rattle.dcsctp_wire.specs.Building.{Building}
@@ -8,9 +8,7 @@ use Rattle.dcsctp_machine.specs.declared.options.Options.{Options}
 use Rattle.dcsctp_machine.specs.Settings.{packet_size_limit}
 use Rattle.dcsctp_machine.specs.Packet.{Content, chunk_out}
 use Rattle.dcsctp_machine.specs.turns.Flush.{flushes}
-use Rattle.dcsctp_api.specs.declared.events.SocketEvent.{SocketEvent}
-use Rattle.dcsctp_api.specs.declared.events.SocketEvent.TheVariants.{SendPacket}
-use Rattle.dcsctp_core.specs.declared.state.State.{State}
+use Rattle.dcsctp_machine.specs.Event.{Event, sent}
 use Rattle.dcsctp_core.specs.declared.context.Context.{Context}
 use Rattle.dcsctp_core.specs.View.{endpoint_of, view_of, Moves}
 
@@ -29,12 +27,6 @@ packet_of options with_checksum tag contents =
 abbrev pub empty_packet : Options → Bool → ℕ → Building
 empty_packet options with_checksum tag = packet_of options with_checksum tag []
 
--- A flush, whatever the machine calls the chunks that the packet holds.
-abbrev pub Flushes : {R : Type 0} → (R → Stream) → Context R → List SocketEvent → Building → Context R → List SocketEvent → Type 0
-Flushes stream old old_events packet new new_events =
-    (state : State) (with_checksum : Bool) (tag : ℕ) (contents : List Content) → packet ≡ packet_of old.options with_checksum tag contents
-    → Moves stream (view_of state old old_events) (flushes (endpoint_of state old) [] [] with_checksum tag contents) (view_of state new new_events)
-
 -- ---- its limits
 
 -- how many packets `max_burst` allows
@@ -43,13 +35,26 @@ burst_limit (pos n) = n
 burst_limit (negsuc n) = 0
 
 -- a packet of so many bytes at most
-abbrev pub IsPacketWithin : ℕ → SocketEvent → Type 0
-IsPacketWithin size (SendPacket bytes) = length bytes.items ≤ size
+abbrev pub IsPacketWithin : ℕ → Event (List ℕ) → Type 0
+IsPacketWithin size (sent bytes) = length bytes ≤ size
 IsPacketWithin size event = ⊥
 
 -- What was added is packets, none of them longer than `mtu`, and no more of them than `max_burst` (RFC 9260, section 6.1).
-pub record WithinLimits (options : Options) (old new : List SocketEvent) : Type 0 where
-  pub packets : List SocketEvent
+pub record WithinLimits (options : Options) (old new : List (Event (List ℕ))) : Type 0 where
+  pub packets : List (Event (List ℕ))
   pub behind : new ≡ old ++ packets
   pub burst : length packets ≤ burst_limit options.max_burst
   pub sizes : AllByRecursion (IsPacketWithin options.mtu) packets
+
+-- ---- a flush of a packet that is begun
+
+-- It is a turn, whatever the machine calls the chunks that the packet holds, and keeps its limits.
+pub record Flushed {R : Type 0} (stream : R → Stream) (old : Context R) (with_checksum : Bool) (tag : ℕ) (contents : List Content) (new : Context R) : Type 0 where
+  pub moves : Moves stream (view_of old) (flushes (endpoint_of old) [] [] with_checksum tag contents) (view_of new)
+  pub limits : WithinLimits old.options (view_of old).events (view_of new).events
+
+-- The flush took place; or a growth was refused, and nothing has changed.
+abbrev pub Flushes : {R E : Type 0} → (R → Stream) → Building → Context R → Result (Unit {0}) E → Context R → Type 0
+Flushes stream packet old (Ok done) new =
+    (with_checksum : Bool) (tag : ℕ) (contents : List Content) → packet ≡ packet_of old.options with_checksum tag contents → Flushed stream old with_checksum tag contents new
+Flushes stream packet old (Err error) new = view_of new ≡ view_of old

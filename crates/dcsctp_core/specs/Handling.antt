@@ -1,41 +1,46 @@
--- What all handlers have in common, by the parts of a socket.
-use Rattle.std.specs.Prelude.{◌≡◌, ℕ, Bool, List, [], ◌∷◌}
+-- What all handlers have in common: how a turn stands in a contract, and the turns of the doors.
+use Rattle.std.specs.Prelude.{◌≡◌, ℕ, ◌+◌, Bool, Result, Ok, Err, List, [], ◌∷◌, ◌++◌, length, nat_le, if◌then◌else◌}
 use Rattle.rand_core.specs.Stream.{Stream}
 use Rattle.dcsctp_wire.specs.Content.{ChunkContent}
+use Rattle.dcsctp_wire.specs.Spelling.{chunk_bytes, header_bytes, packet_bytes_of}
 use Rattle.dcsctp_machine.specs.declared.kinds.ErrorKind.{ErrorKind}
 use Rattle.dcsctp_machine.specs.declared.kinds.ErrorKind.TheVariants.{NoError}
+use Rattle.dcsctp_machine.specs.Settings.{packet_size_limit}
 use Rattle.dcsctp_machine.specs.Packet.{Content, chunk_out, Emission}
-use Rattle.dcsctp_machine.specs.Event.{Event, aborted}
+use Rattle.dcsctp_machine.specs.Cause.{Cause}
+use Rattle.dcsctp_machine.specs.Event.{Event, sent, aborted}
 use Rattle.dcsctp_machine.specs.Event as events
-use Rattle.dcsctp_machine.specs.Outcome.{Outcome, next_chunk, dropped_rest, emits, reports}
+use Rattle.dcsctp_machine.specs.Outcome.{Outcome, next_chunk, dropped_rest, still, counted, emits, reports}
 use Rattle.dcsctp_machine.specs.Outcome as machine
 use Rattle.dcsctp_machine.specs.Turn.{arrival_outcome}
-use Rattle.dcsctp_machine.specs.turns.Ends.{close_outcome}
-use Rattle.dcsctp_api.specs.declared.events.SocketEvent.{SocketEvent}
+use Rattle.dcsctp_machine.specs.turns.Ends.{close_outcome, abort_outcome}
 use Rattle.dcsctp_core.specs.declared.following.Following.{Following}
 use Rattle.dcsctp_core.specs.declared.following.Following.TheVariants.{NextChunk, DroppedRest}
-use Rattle.dcsctp_core.specs.declared.state.State.{State}
 use Rattle.dcsctp_core.specs.declared.context.Context.{Context}
-use Rattle.dcsctp_core.specs.View.{View, endpoint_of, view_of, Moves}
+use Rattle.dcsctp_core.specs.View.{View, view_of, Moves, CutTurn}
 
--- A packet of one chunk goes out, whatever the machine calls the chunk.
-abbrev pub Emits : {R : Type 0} → (R → Stream) → State → Context R → List SocketEvent → Bool → ℕ → ChunkContent → Context R → List SocketEvent → Type 0
-Emits stream state old old_events with_checksum tag chunk new new_events =
-    (content : Content) → chunk_out content ≡ chunk → Moves stream (view_of state old old_events)
-    (emits (endpoint_of state old) [] (record { with_checksum = with_checksum; packet = record { tag = tag; contents = content ∷ [] } }))
-    (view_of state new new_events)
+-- ---- a turn, or a growth that was refused
 
--- One packet more was counted.
-abbrev pub CountsPacket : {R : Type 0} → (R → Stream) → Context R → Context R → Type 0
-CountsPacket stream old new =
-    (state : State) (events : List SocketEvent) → Moves stream (view_of state old events) (arrival_outcome (endpoint_of state old)) (view_of state new events)
+-- Words may have been drawn, with pairs made of them, and nothing else has changed.
+abbrev pub OnlyDrew : {R : Type 0} → View R → View R → Type 0
+OnlyDrew old new = new ≡ record old { words = new.words; pairs = new.pairs; generator = new.generator }
 
--- One error was reported.
-abbrev pub ReportsError : {R : Type 0} → (R → Stream) → Context R → List SocketEvent → ErrorKind → List ℕ → Context R → List SocketEvent → Type 0
-ReportsError stream old old_events kind text new new_events =
-    (state : State) → Moves stream (view_of state old old_events) (reports (endpoint_of state old) kind text) (view_of state new new_events)
+-- The turn took place; or a growth was refused, and nothing has changed.
+abbrev pub Tries : {R E : Type 0} → (R → Stream) → (View R → Outcome) → Context R → Result (Unit {0}) E → Context R → Type 0
+Tries stream turn old (Ok done) new = Moves stream (view_of old) (turn (view_of old)) (view_of new)
+Tries stream turn old (Err error) new = view_of new ≡ view_of old
 
--- ---- what follows in the packet
+-- The turn took place; or a growth was refused, and nothing has changed but what words were drawn.
+abbrev pub TriesDrawing : {R E : Type 0} → (R → Stream) → (View R → Outcome) → Context R → Result (Unit {0}) E → Context R → Type 0
+TriesDrawing stream turn old (Ok done) new = Moves stream (view_of old) (turn (view_of old)) (view_of new)
+TriesDrawing stream turn old (Err error) new = OnlyDrew (view_of old) (view_of new)
+
+-- The turn took place; or a growth was refused, and the first of its events may stand.
+abbrev pub Takes : {R E : Type 0} → (R → Stream) → (View R → Outcome) → Context R → Result (Unit {0}) E → Context R → Type 0
+Takes stream turn old (Ok done) new = Moves stream (view_of old) (turn (view_of old)) (view_of new)
+Takes stream turn old (Err error) new = CutTurn (view_of old) (turn (view_of old)) (view_of new).events
+
+-- ---- a chunk's turn, with what follows in its packet
 
 abbrev pub following_of : Following → machine.Following
 following_of NextChunk = next_chunk
@@ -46,13 +51,62 @@ pub record Handles {R : Type 0} (stream : R → Stream) (old : View R) (outcome 
   pub moves : Moves stream old outcome new
   pub following : outcome.following ≡ following_of next
 
--- ---- an end
+-- The turn took place; or a growth was refused, and the first of its events may stand.
+abbrev pub Works : {R E : Type 0} → (R → Stream) → (View R → Outcome) → Context R → Result Following E → Context R → Type 0
+Works stream turn old (Ok next) new = Handles stream (view_of old) (turn (view_of old)) next (view_of new)
+Works stream turn old (Err error) new = CutTurn (view_of old) (turn (view_of old)) (view_of new).events
+
+-- The turn took place; or a growth was refused, and nothing has changed.
+abbrev pub WorksWhole : {R E : Type 0} → (R → Stream) → (View R → Outcome) → Context R → Result Following E → Context R → Type 0
+WorksWhole stream turn old (Ok next) new = Handles stream (view_of old) (turn (view_of old)) next (view_of new)
+WorksWhole stream turn old (Err error) new = view_of new ≡ view_of old
+
+-- ---- the turns of the doors
+
+-- Nothing happens.
+abbrev pub still_turn : {R : Type 0} → View R → Outcome
+still_turn view = still view.endpoint
+
+-- One packet more was counted.
+abbrev pub arrival_turn : {R : Type 0} → View R → Outcome
+arrival_turn view = arrival_outcome view.endpoint
+
+abbrev pub report_turn : {R : Type 0} → ErrorKind → List ℕ → View R → Outcome
+report_turn kind text view = reports view.endpoint kind text
 
 -- the event that ends an association, with this error
 abbrev pub end_event : ErrorKind → List ℕ → Event Emission
 end_event NoError text = events.closed
 end_event kind text = aborted kind text
 
--- An association ended with this event; where there was none, nothing happened.
-abbrev pub Closes : {R : Type 0} → (R → Stream) → View R → Event Emission → View R → Type 0
-Closes stream old event new = Moves stream old (close_outcome old.endpoint old.endpoint.core event) new
+-- An association ends with this event; where there is none, nothing happens.
+abbrev pub close_turn : {R : Type 0} → Event Emission → View R → Outcome
+close_turn event view = close_outcome view.endpoint view.endpoint.core event
+
+-- An ABORT with these causes came.
+abbrev pub abort_turn : {R : Type 0} → List Cause → View R → Outcome
+abort_turn causes view = abort_outcome view.endpoint causes view.endpoint.core
+
+-- a packet of one chunk, whatever the machine calls it
+abbrev pub emission_of : Bool → ℕ → Content → Emission
+emission_of with_checksum tag content = record { with_checksum = with_checksum; packet = record { tag = tag; contents = content ∷ [] } }
+
+-- The packet goes out, where it fits.
+abbrev pub emit_turn : {R : Type 0} → Emission → View R → Outcome
+emit_turn emission view = emits view.endpoint [] emission
+
+-- Its bytes are one event more, and it is counted: what a chunk brings that fits in `mtu`.
+abbrev pub emitted : {R : Type 0} → Bool → ℕ → ChunkContent → View R → View R
+emitted with_checksum tag chunk view =
+    let options = view.endpoint.options in
+    if nat_le (12 + length (chunk_bytes chunk)) (packet_size_limit options)
+    then record view {
+      endpoint = counted view.endpoint;
+      events = view.events ++ sent (packet_bytes_of with_checksum (header_bytes options.local_port options.remote_port tag) (chunk_bytes chunk)) ∷ [];
+    }
+    else view
+
+-- A packet of this chunk went out, where it fits; or a growth was refused, and nothing has changed.
+abbrev pub Emits : {R E : Type 0} → Bool → ℕ → ChunkContent → Context R → Result (Unit {0}) E → Context R → Type 0
+Emits with_checksum tag chunk old (Ok done) new = view_of new ≡ emitted with_checksum tag chunk (view_of old)
+Emits with_checksum tag chunk old (Err error) new = view_of new ≡ view_of old

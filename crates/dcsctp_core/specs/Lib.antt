@@ -1,3 +1,4 @@
+pub mod Drawing
 pub mod Flushing
 pub mod Handling
 pub mod View

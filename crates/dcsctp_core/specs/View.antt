@@ -7,16 +7,18 @@ use Rattle.dcsctp_machine.specs.declared.word.Word.{Word}
 use Rattle.dcsctp_machine.specs.declared.word.Word.TheVariants.{U32, U64}
 use Rattle.dcsctp_machine.specs.Event.{Event}
 use Rattle.dcsctp_machine.specs.declared.association.Held.{Held}
-use Rattle.dcsctp_machine.specs.Transfer.{Transfer}
+use Rattle.dcsctp_machine.specs.Transfer.{Transfer, new_transfer}
 use Rattle.dcsctp_machine.specs.Endpoint.{Endpoint, Core, closed, cookie_wait, cookie_echoed, open_in, established, RunningTimer, stopped_timers, fresh_endpoint}
 use Rattle.dcsctp_machine.specs.Outcome.{Outcome, next_chunk}
+use Rattle.dcsctp_machine.specs.control.Handshake.{new_held}
+use Rattle.dcsctp_machine.specs.turns.Handshake.{heartbeats_begun}
 use Rattle.dcsctp_machine.specs.CallTurns.{after_all, words_of, pairs_of, events_of}
 use Rattle.dcsctp_machine.specs.Settings.{ports_of}
-use Rattle.dcsctp_api.specs.declared.events.SocketEvent.{SocketEvent}
 use Rattle.dcsctp_api.specs.Events.{event_content}
 use Rattle.dcsctp_api.specs.Calls.{user_event}
 use Rattle.dcsctp_core.specs.declared.state.State.{State}
 use Rattle.dcsctp_core.specs.declared.state.State.TheVariants.{Closed, CookieWait, CookieEchoed, Established}
+use Rattle.dcsctp_core.specs.declared.transmission_control_block.Peer.{Peer}
 use Rattle.dcsctp_core.specs.declared.transmission_control_block.TransmissionControlBlock.{TransmissionControlBlock}
 use Rattle.dcsctp_core.specs.declared.context.Context.{Context}
 
@@ -54,12 +56,6 @@ tcb_of (CookieWait wait) = None
 tcb_of (CookieEchoed echoed) = Some echoed.tcb
 tcb_of (Established tcb) = Some tcb
 
-abbrev pub is_cookie_echoed : State → Bool
-is_cookie_echoed Closed = false
-is_cookie_echoed (CookieWait wait) = false
-is_cookie_echoed (CookieEchoed echoed) = true
-is_cookie_echoed (Established tcb) = false
-
 -- the state once its COOKIE ACK has come
 abbrev pub established_from : State → State
 established_from Closed = Closed
@@ -83,6 +79,13 @@ t1_of (Established tcb) = None
 abbrev pub transfer_in : TransmissionControlBlock → Transfer
 transfer_in tcb = record { retransmission = tcb.retransmission_queue; timeout = tcb.rto; tracker = tcb.data_tracker; reassembly = tcb.reassembly_queue }
 
+-- An association that was just made, with this peer and this tie tag.
+pub record IsNew (options : Options) (own : Pair) (peer : Peer) (tie : ℕ) (tcb : TransmissionControlBlock) : Type 0 where
+  pub my : tcb.my ≡ own
+  pub held : held_of tcb ≡ new_held own peer.pair peer.capabilities
+  pub tie_tag : tcb.tie_tag ≡ tie
+  pub transfer : transfer_in tcb ≡ new_transfer options own.first_tsn peer.pair.first_tsn peer.a_rwnd
+
 abbrev pub transfer_of : State → Option Transfer
 transfer_of Closed = None
 transfer_of (CookieWait wait) = None
@@ -90,39 +93,32 @@ transfer_of (CookieEchoed echoed) = Some (transfer_in echoed.tcb)
 transfer_of (Established tcb) = Some (transfer_in tcb)
 
 -- What has no place in the parts is as in a socket that was just made.
-abbrev pub endpoint_of : {R : Type 0} → State → Context R → Endpoint
-endpoint_of state context =
+abbrev pub endpoint_of : {R : Type 0} → Context R → Endpoint
+endpoint_of context =
     record (fresh_endpoint context.options) {
-      moment = context.now;
-      core = core_of state;
-      tie = tie_of state;
-      timers = record stopped_timers { t1 = t1_of state; heartbeat_interval = context.heartbeat_interval.running };
+      moment = context.moment;
+      core = core_of context.state;
+      tie = tie_of context.state;
+      timers = record stopped_timers { t1 = t1_of context.state; heartbeat_interval = context.heartbeat_interval.running };
       counts = record { packets_received = context.rx_packets_count; packets_sent = context.tx_packets_count; messages_queued = 0 };
       peer_implementation = context.peer_implementation;
-      below = record { queue = context.send_queue; transfer = transfer_of state };
+      below = record { queue = context.send_queue; transfer = transfer_of context.state };
     }
 
--- Words may be drawn and pairs kept, and nothing else changes.
-abbrev pub KeepsEndpoint : {R : Type 0} → Context R → Context R → Type 0
-KeepsEndpoint old new = (state : State) → endpoint_of state new ≡ endpoint_of state old
-
 -- the parts of a socket, seen together
-abbrev pub view_of : {R : Type 0} → State → Context R → List SocketEvent → View R
-view_of state context events =
+abbrev pub view_of : {R : Type 0} → Context R → View R
+view_of context =
     record {
-      endpoint = endpoint_of state context;
-      events = map event_content events;
+      endpoint = endpoint_of context;
+      events = map event_content context.events;
       words = context.words.items;
       pairs = context.pairs.items;
       generator = context.generator;
     }
 
--- the next word, and the one after it
-abbrev pub first_word : Stream → ℕ
-first_word stream = (next_u32 stream).0
-
-abbrev pub second_word : Stream → ℕ
-second_word stream = (next_u32 (next_u32 stream).1).0
+-- the endpoint with its heartbeat interval begun anew
+abbrev pub begun_heartbeats : Endpoint → Endpoint
+begun_heartbeats e = record e { timers = heartbeats_begun e e.timers }
 
 -- The words are what the generator gives next, and this is left of it.
 abbrev pub Drawn : Stream → List Word → Stream → Type 0
@@ -131,8 +127,8 @@ Drawn old (U32 word ∷ words) new = (word ≡ (next_u32 old).0) × Drawn (next_
 Drawn old (U64 word ∷ words) new = (word ≡ (next_u64 old).0) × Drawn (next_u64 old).1 words new
 
 -- the parts of a socket that was just made
-abbrev pub fresh_view : {R : Type 0} → Options → R → List SocketEvent → View R
-fresh_view options generator events = record { endpoint = fresh_endpoint options; events = map event_content events; words = []; pairs = []; generator = generator }
+abbrev pub fresh_view : {R : Type 0} → Options → R → View R
+fresh_view options generator = record { endpoint = fresh_endpoint options; events = []; words = []; pairs = []; generator = generator }
 
 -- A turn with this outcome, or several, leads from one view to the other.
 pub record Moves {R : Type 0} (stream : R → Stream) (old : View R) (outcome : Outcome) (new : View R) : Type 0 where

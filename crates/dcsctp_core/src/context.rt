@@ -1,7 +1,7 @@
-//! What the handlers share: options, generator and counters, with one door for each effect.
+//! The parts of a socket in one value, with one door for each effect.
 
 ghost use Rattle.std.specs.Prelude.{◌≡◌};
-ghost use Rattle.std.specs.Duration.{as_nanos};
+ghost use Rattle.dcsctp_machine.specs.Endpoint.{heartbeat_settings};
 ghost use Rattle.dcsctp_machine.specs.Settings.{IsValid};
 
 use crate::ending::end_event;
@@ -15,83 +15,87 @@ use dcsctp_wire::{Chunk, SctpPacketBuilder};
 use rand_core::Rng;
 use std::alloc::{AllocError, Global};
 
-/// What a socket has beside its state and its events.
+/// What a socket is made of. Handlers change the state, the events, the queue and the peer's
+/// implementation in place, and all else by the doors below.
 #[derive(Drop)]
 pub struct Context<R> {
     /// Where memory comes from.
     pub alloc: Global,
 
     /// The present moment.
-    pub now: SocketTime,
+    pub moment: SocketTime,
 
     /// What the user set.
     pub options: Options,
 
-    /// Where random words come from.
-    pub generator: R,
+    /// The state.
+    pub state: State,
 
-    /// The words that the present call drew, in order.
-    pub words: Vec<Word>,
-
-    /// The pairs that it made of them, in order.
-    pub pairs: Vec<Pair>,
+    /// The events that wait for the user, oldest first.
+    pub events: Events,
 
     /// What waits to be sent.
     pub send_queue: SendQueue,
 
-    /// When a HEARTBEAT goes out (RFC 9260, section 8.3).
-    pub heartbeat_interval: Timer,
-
     /// What the peer is, by its state cookie.
     pub peer_implementation: SctpImplementation,
 
-    /// How many packets were handed in.
-    pub rx_packets_count: usize,
+    // Where random words come from.
+    generator: R,
 
-    /// How many packets were emitted.
-    pub tx_packets_count: usize,
+    // The words that the present call drew, in order.
+    words: Vec<Word>,
+
+    // The pairs that it made of them, in order.
+    pairs: Vec<Pair>,
+
+    // When a HEARTBEAT goes out (RFC 9260, section 8.3).
+    heartbeat_interval: Timer,
+
+    // How many packets were handed in.
+    rx_packets_count: usize,
+
+    // How many packets were emitted.
+    tx_packets_count: usize,
 
     ghost valid: { IsValid options },
 
-    ghost interval: { heartbeat_interval.duration ≡ as_nanos options.heartbeat_interval },
+    ghost interval: { heartbeat_interval.settings ≡ heartbeat_settings options },
 }
 
 impl<R: Rng> Context<R> {
-    ghost use Rattle.std.specs.Prelude.{◌≡◌, Bool, ℕ, [], ◌∷◌, ◌++◌, List, string_bytes, IfOk, OnOk, OnErr};
+    ghost use Rattle.std.specs.Prelude.{◌≡◌, Bool, ℕ, List, string_bytes};
     ghost use Rattle.rand_core.specs.Stream.{next_u32, next_u64};
     ghost use Rattle.dcsctp_machine.specs.declared.word.Word.TheVariants.{U32, U64};
-    ghost use Rattle.dcsctp_machine.specs.Packet.{Content};
-    ghost use Rattle.dcsctp_machine.specs.Outcome.{counted, still};
-    ghost use Rattle.dcsctp_machine.specs.turns.Handshake.{heartbeats_begun};
+    ghost use Rattle.dcsctp_machine.specs.Outcome.{counted};
     ghost use Rattle.dcsctp_wire.specs.Content.{chunk_content};
-    ghost use Rattle.dcsctp_core.specs.declared.state.State.{State};
-    ghost use Rattle.dcsctp_core.specs.declared.state.State.TheVariants.{Closed};
-    ghost use Rattle.dcsctp_core.specs.View.{KeepsEndpoint, Moves, view_of, endpoint_of, fresh_view, call_start};
-    ghost use Rattle.dcsctp_core.specs.Flushing.{packet_of, Flushes, WithinLimits};
-    ghost use Rattle.dcsctp_core.specs.Handling.{CountsPacket, ReportsError, Emits, Closes, end_event};
-    ghost use Rattle.dcsctp_api.specs.declared.events.SocketEvent.{SocketEvent};
+    ghost use Rattle.dcsctp_core.specs.View.{Moves, view_of, endpoint_of, begun_heartbeats, fresh_view, call_start};
+    ghost use Rattle.dcsctp_core.specs.Drawing.{Draws, Keeps};
+    ghost use Rattle.dcsctp_core.specs.Flushing.{Flushes};
+    ghost use Rattle.dcsctp_core.specs.Handling.{Tries, Emits, arrival_turn, report_turn, close_turn, end_event, still_turn};
 
-    /// With these options, at moment zero, with no words drawn and nothing counted.
+    /// A closed socket with these options, at moment zero.
     pub fn new(alloc: Global, options: Options, generator: R) -> Context<R>
         requires { IsValid options }
-        ensures view { (events : List SocketEvent) → view_of Closed result events
-            ≡ fresh_view options generator events }
+        ensures { view_of result ≡ fresh_view options generator }
     {
         Context {
             alloc,
-            now: SocketTime::zero(),
+            moment: SocketTime::zero(),
             options,
+            state: State::Closed,
+            events: Events::new(alloc),
+            send_queue: SendQueue::new(),
+            peer_implementation: SctpImplementation::Unknown,
             generator,
             words: Vec::new(alloc),
             pairs: Vec::new(alloc),
-            send_queue: SendQueue::new(),
             heartbeat_interval: Timer::new(
                 options.heartbeat_interval,
                 BackoffAlgorithm::Fixed,
                 None,
                 None,
             ),
-            peer_implementation: SctpImplementation::Unknown,
             rx_packets_count: 0,
             tx_packets_count: 0,
         }
@@ -100,13 +104,7 @@ impl<R: Rng> Context<R> {
     /// Draws a word, and keeps it among those of the present call. The one error is want of memory: the
     /// list of these words can't grow.
     pub fn draw_u32(&mut self) -> Result<u32, AllocError>
-        ensures word { IfOk result (λ word. word ≡ (next_u32 (R.stream self.old.generator)).0) }
-        ensures kept { IfOk result (λ word. self.new.words.items ≡ self.old.words.items ++ U32 word
-            ∷ []) }
-        ensures left { OnOk result (R.stream self.new.generator ≡ (next_u32
-            (R.stream self.old.generator)).1) }
-        ensures pairs { self.new.pairs ≡ self.old.pairs }
-        ensures endpoint { KeepsEndpoint self.old self.new }
+        ensures { Draws R.stream next_u32 U32 self.old result self.new }
     {
         let word = self.generator.next_u32();
         self.words.push(Word::U32(word))?;
@@ -115,13 +113,7 @@ impl<R: Rng> Context<R> {
 
     /// Draws a word of 64 bits, as `draw_u32` does one of 32.
     pub fn draw_u64(&mut self) -> Result<u64, AllocError>
-        ensures word { IfOk result (λ word. word ≡ (next_u64 (R.stream self.old.generator)).0) }
-        ensures kept { IfOk result (λ word. self.new.words.items ≡ self.old.words.items ++ U64 word
-            ∷ []) }
-        ensures left { OnOk result (R.stream self.new.generator ≡ (next_u64
-            (R.stream self.old.generator)).1) }
-        ensures pairs { self.new.pairs ≡ self.old.pairs }
-        ensures endpoint { KeepsEndpoint self.old self.new }
+        ensures { Draws R.stream next_u64 U64 self.old result self.new }
     {
         let word = self.generator.next_u64();
         self.words.push(Word::U64(word))?;
@@ -131,31 +123,31 @@ impl<R: Rng> Context<R> {
     /// Keeps a pair that was made of words among those of the present call. The one error is want of
     /// memory: the list of these pairs can't grow.
     pub fn keep_pair(&mut self, pair: Pair) -> Result<(), AllocError>
-        ensures kept { OnOk result (self.new.pairs.items ≡ self.old.pairs.items ++ pair ∷ []) }
-        ensures words { self.new.words ≡ self.old.words }
-        ensures generator { self.new.generator ≡ self.old.generator }
-        ensures endpoint { KeepsEndpoint self.old self.new }
+        ensures { Keeps self.old pair result self.new }
     {
         self.pairs.push(pair)?;
         Ok(())
+    }
+
+    /// The pairs of the present call, or of the last one. It takes no memory.
+    pub fn drawn_pairs(&self) -> &[Pair]
+        ensures { result.now ≡ (view_of self.now).pairs }
+    {
+        &self.pairs
     }
 
     /// Emits a packet of one chunk, and counts it (up to the greatest number). Where it doesn't fit
     /// `mtu`, nothing is emitted or counted.
     ///
     /// The one error is want of memory: for the packet, also where the chunk doesn't fit, or for its
-    /// place among the events. Nothing is emitted or counted then.
+    /// place among the events. Nothing has changed then.
     pub fn emit(
         &mut self,
-        events: &mut Events,
         tag: u32,
         write_checksum: bool,
         chunk: &Chunk<'_>,
     ) -> Result<(), AllocError>
-        ensures turn { OnOk result ((state : State) → Emits R.stream state self.old events.old
-            write_checksum tag (chunk_content chunk.now) self.new events.new) }
-        ensures err { OnErr result (events.new ≡ events.old) }
-        ensures kept { OnErr result (KeepsEndpoint self.old self.new) }
+        ensures { Emits write_checksum tag (chunk_content chunk.now) self.old result self.new }
     {
         let alloc = self.alloc;
         let options = &self.options;
@@ -171,18 +163,17 @@ impl<R: Rng> Context<R> {
             return Ok(());
         }
         builder.add(chunk);
-        events.add(SocketEvent::SendPacket(builder.build()))?;
+        self.events.add(SocketEvent::SendPacket(builder.build()))?;
         self.count_emitted();
         Ok(())
     }
 
-    /// Counts a packet that was emitted, up to the greatest number.
+    // Counts a packet that was emitted, up to the greatest number.
     fn count_emitted(&mut self)
-        ensures endpoint { (state : State) → endpoint_of state self.new ≡ counted (endpoint_of state
-            self.old) }
-        ensures words { self.new.words ≡ self.old.words }
-        ensures pairs { self.new.pairs ≡ self.old.pairs }
-        ensures generator { self.new.generator ≡ self.old.generator }
+        ensures { view_of self.new ≡ record (view_of self.old) {
+          endpoint = counted
+              (endpoint_of self.old);
+        } }
     {
         self.tx_packets_count = self.tx_packets_count.saturating_add(1);
     }
@@ -190,19 +181,12 @@ impl<R: Rng> Context<R> {
     /// A flush whose first packet is this one, with the chunks that it holds (RFC 9260, section 6.1). So
     /// far nothing else waits to be sent. At most `max_burst` packets go out.
     ///
-    /// The one error is that there is no memory for the event. Nothing is emitted or counted then.
+    /// The one error is that there is no memory for the event. Nothing has changed then.
     pub fn send_buffered_packets_with(
         &mut self,
-        events: &mut Events,
         builder: SctpPacketBuilder,
     ) -> Result<(), AllocError>
-        ensures turn { OnOk result (Flushes R.stream self.old events.old builder self.new
-            events.new) }
-        ensures limits { OnOk result ((with_checksum : Bool) (tag : ℕ) (contents : List Content)
-            → builder ≡ packet_of self.old.options with_checksum tag contents
-            → WithinLimits self.old.options events.old events.new) }
-        ensures err { OnErr result (events.new ≡ events.old) }
-        ensures kept { OnErr result (KeepsEndpoint self.old self.new) }
+        ensures { Flushes R.stream builder self.old result self.new }
     {
         if !allows_packet(&self.options) {
             return Ok(());
@@ -210,29 +194,22 @@ impl<R: Rng> Context<R> {
         if builder.is_empty() {
             return Ok(());
         }
-        events.add(SocketEvent::SendPacket(builder.build()))?;
+        self.events.add(SocketEvent::SendPacket(builder.build()))?;
         self.count_emitted();
         Ok(())
     }
 
     /// A flush: what waits to be sent goes out under the peer's tag. So far nothing waits.
     ///
-    /// The one error is that there is no memory for a packet. Nothing is emitted or counted then.
-    pub fn send_buffered_packets(
-        &mut self,
-        state: &State,
-        events: &mut Events,
-    ) -> Result<(), AllocError>
-        ensures turn { OnOk result (Moves R.stream (view_of state.now self.old events.old)
-            (still (endpoint_of state.now self.old)) (view_of state.now self.new events.new)) }
-        ensures err { OnErr result (events.new ≡ events.old) }
-        ensures kept { OnErr result (KeepsEndpoint self.old self.new) }
+    /// The one error is that there is no memory for a packet. Nothing has changed then.
+    pub fn send_buffered_packets(&mut self) -> Result<(), AllocError>
+        ensures { Tries R.stream still_turn self.old result self.new }
     {
-        match state.tcb() {
+        match self.state.tcb() {
             None => {}
             Some(tcb) => {
                 let packet = tcb.new_packet(self.alloc, &self.options)?;
-                self.send_buffered_packets_with(events, packet)?;
+                self.send_buffered_packets_with(packet)?;
             }
         }
         Ok(())
@@ -240,51 +217,36 @@ impl<R: Rng> Context<R> {
 
     /// Starts the heartbeat interval anew, unless it is zero, which switches heartbeats off.
     pub fn start_heartbeat_interval(&mut self)
-        ensures endpoint { (state : State) → endpoint_of state self.new ≡ record (endpoint_of state
-            self.old) {
-              timers = heartbeats_begun (endpoint_of state self.old) (endpoint_of state
-                  self.old).timers;
-            } }
-        ensures words { self.new.words ≡ self.old.words }
-        ensures pairs { self.new.pairs ≡ self.old.pairs }
-        ensures generator { self.new.generator ≡ self.old.generator }
+        ensures { view_of self.new ≡ record (view_of self.old) {
+          endpoint = begun_heartbeats
+              (endpoint_of self.old);
+        } }
     {
         if !self.options.heartbeat_interval.is_zero() {
-            self.heartbeat_interval.start(self.now);
+            self.heartbeat_interval.start(self.moment);
         }
     }
 
     /// Ends the association: with OnClosed where the error is `NoError`, else with OnAborted and this
     /// text. A closed socket stays as it is.
     ///
-    /// The one error is that there is no memory for the event. No event is added then, and the
-    /// association stays.
-    pub fn internal_close(
-        &mut self,
-        state: &mut State,
-        events: &mut Events,
-        error: ErrorKind,
-        message: String,
-    ) -> Result<(), AllocError>
-        ensures turn { OnOk result (Closes R.stream (view_of state.old self.old events.old)
-            (end_event error (string_bytes message)) (view_of state.new self.new events.new)) }
-        ensures err { OnErr result (events.new ≡ events.old) }
-        ensures kept { OnErr result (endpoint_of state.new self.new ≡ endpoint_of state.old
-            self.old) }
+    /// The one error is that there is no memory for the event. Nothing has changed then.
+    pub fn internal_close(&mut self, error: ErrorKind, message: String) -> Result<(), AllocError>
+        ensures { Tries R.stream (close_turn (end_event error (string_bytes message))) self.old
+            result self.new }
     {
-        if state.is_closed() {
+        if self.state.is_closed() {
             return Ok(());
         }
-        events.add(end_event(error, message))?;
+        self.events.add(end_event(error, message))?;
         self.heartbeat_interval.stop();
-        *state = State::Closed;
+        self.state = State::Closed;
         Ok(())
     }
 
     /// Begins a call: no word and no pair was drawn in it yet.
     pub fn begin_call(&mut self)
-        ensures view { (state : State) (events : List SocketEvent) → view_of state self.new events
-            ≡ call_start (view_of state self.old events) }
+        ensures { view_of self.new ≡ call_start (view_of self.old) }
     {
         self.words.clear();
         self.pairs.clear();
@@ -292,24 +254,17 @@ impl<R: Rng> Context<R> {
 
     /// Counts a packet that was handed in, up to the greatest number.
     pub fn count_packet(&mut self)
-        ensures turn { CountsPacket R.stream self.old self.new }
+        ensures { Moves R.stream (view_of self.old) (arrival_turn (view_of self.old)) (view_of self.new) }
     {
         self.rx_packets_count = self.rx_packets_count.saturating_add(1);
     }
 
-    /// Reports an error. The one error of this call is that a growth was refused.
-    pub fn report(
-        &mut self,
-        events: &mut Events,
-        kind: ErrorKind,
-        text: String,
-    ) -> Result<(), AllocError>
-        ensures turn { OnOk result (ReportsError R.stream self.old events.old kind
-            (string_bytes text) self.new events.new) }
-        ensures err { OnErr result (events.new ≡ events.old) }
-        ensures kept { OnErr result (KeepsEndpoint self.old self.new) }
+    /// Reports an error. The one error of this call is that a growth was refused. Nothing has changed
+    /// then.
+    pub fn report(&mut self, kind: ErrorKind, text: String) -> Result<(), AllocError>
+        ensures { Tries R.stream (report_turn kind (string_bytes text)) self.old result self.new }
     {
-        events.add(SocketEvent::OnError(kind, text))?;
+        self.events.add(SocketEvent::OnError(kind, text))?;
         Ok(())
     }
 }

@@ -4,18 +4,6 @@ use crate::transmission_control_block::TransmissionControlBlock;
 use dcsctp_api::{Association, Pair, Phase, SocketState};
 use dcsctp_send::Timer;
 
-/// Moves a state of one variant to another, with the data of the variant. The state has to be of the
-/// variant that is named first.
-#[macro_export]
-macro_rules! transition_between {
-    ($state:expr, $from:pat => $to:expr) => {
-        $state = match std::mem::replace(&mut $state, State::Closed) {
-            $from => $to,
-            _ => unreachable!(),
-        };
-    };
-}
-
 /// An INIT ACK is awaited.
 #[derive(Debug, Drop)]
 pub struct CookieWaitState {
@@ -64,11 +52,11 @@ pub enum State {
 }
 
 impl State {
-    ghost use Rattle.std.specs.Prelude.{◌≡◌, true};
+    ghost use Rattle.std.specs.Prelude.{◌≡◌};
     ghost use Rattle.dcsctp_machine.specs.Endpoint.{own_tag, association_of};
     ghost use Rattle.dcsctp_api.specs.Calls.{socket_state_of, is_closed};
     ghost use Rattle.std.specs.Option.{option_map};
-    ghost use Rattle.dcsctp_core.specs.View.{core_of, tcb_of, is_cookie_echoed, established_from};
+    ghost use Rattle.dcsctp_core.specs.View.{core_of, tcb_of, established_from};
 
     /// The association with a peer, where one is held. It takes no memory.
     pub fn tcb(&self) -> Option<&TransmissionControlBlock>
@@ -81,12 +69,16 @@ impl State {
         }
     }
 
-    /// Establishes the association whose COOKIE ACK is awaited, which stops T1.
+    /// Establishes the association whose COOKIE ACK is awaited, which stops T1. Any other state stays.
     pub fn establish(&mut self)
-        requires { is_cookie_echoed self.old ≡ true }
         ensures { self.new ≡ established_from self.old }
     {
-        transition_between!(*self, State::CookieEchoed(echoed) => State::Established(echoed.tcb));
+        *self = match std::mem::replace(self, State::Closed) {
+            State::CookieEchoed(echoed) => State::Established(echoed.tcb),
+            State::Closed => State::Closed,
+            State::CookieWait(wait) => State::CookieWait(wait),
+            State::Established(tcb) => State::Established(tcb),
+        };
     }
 
     /// Is there no association? It takes no memory.

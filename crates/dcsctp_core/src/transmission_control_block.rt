@@ -2,9 +2,7 @@
 
 ghost use Rattle.std.specs.Prelude.{◌≡◌, ◌==◌, Some, IfOk};
 ghost use Rattle.dcsctp_machine.specs.Settings.{IsValid};
-ghost use Rattle.dcsctp_machine.specs.Transfer.{new_transfer};
-ghost use Rattle.dcsctp_machine.specs.control.Handshake.{new_held};
-ghost use Rattle.dcsctp_core.specs.View.{held_of, transfer_in};
+ghost use Rattle.dcsctp_core.specs.View.{held_of, IsNew};
 ghost use Rattle.dcsctp_core.specs.Flushing.{empty_packet};
 
 use dcsctp_api::{
@@ -68,11 +66,7 @@ pub struct TransmissionControlBlock {
 impl TransmissionControlBlock {
     /// An association with this peer, with nothing sent and nothing received.
     pub fn new(options: &Options, my: Pair, peer: &Peer, tie_tag: u64) -> TransmissionControlBlock
-        ensures my { result.my ≡ my }
-        ensures held { held_of result ≡ new_held my peer.now.pair peer.now.capabilities }
-        ensures tie { result.tie_tag ≡ tie_tag }
-        ensures transfer { transfer_in result ≡ new_transfer options.now my.first_tsn
-            peer.now.pair.first_tsn peer.now.a_rwnd }
+        ensures { IsNew options.now my peer.now tie_tag result }
     {
         TransmissionControlBlock {
             my,

@@ -1,95 +1,97 @@
--- What the handlers of the handshake do, by the parts of a socket.
-use Rattle.std.specs.Prelude.{◌≡◌, ℕ, Option, Some, List, [], ◌∷◌, ◌++◌}
-use Rattle.rand_core.specs.Stream.{Stream, next_u32, next_u64}
+-- What the handlers of the handshake do, as turns of a socket's view.
+use Rattle.std.specs.Prelude.{◌≡◌, ℕ, Option, Some, Result, Ok, Err, List, [], ◌∷◌, ◌++◌, map}
+use Rattle.rand_core.specs.Stream.{Stream, next_u32}
 use Rattle.dcsctp_machine.specs.declared.association.Pair.{Pair}
+use Rattle.dcsctp_machine.specs.declared.options.Options.{Options}
 use Rattle.dcsctp_machine.specs.declared.word.Word.TheVariants.{U32}
+use Rattle.dcsctp_machine.specs.Offer.{offer_of, negotiated}
 use Rattle.dcsctp_machine.specs.Cookie.{cookie_at}
 use Rattle.dcsctp_machine.specs.Packet.{Introduction}
 use Rattle.dcsctp_machine.specs.Endpoint.{Endpoint, Core, closed, cookie_wait, cookie_echoed, open_in}
 use Rattle.dcsctp_machine.specs.Outcome.{Outcome, still, emits}
 use Rattle.dcsctp_machine.specs.turns.Handshake.{tag_from, pair_from, init_outcome, answers_init, connect_outcome, init_emission, init_ack_outcome, echoes_cookie, accepts_init_ack, abort_emission, refuses_init_ack, cookie_ack_outcome}
 use Rattle.dcsctp_machine.specs.turns.CookieEcho.{cookie_echo_outcome}
-use Rattle.dcsctp_api.specs.declared.events.SocketEvent.{SocketEvent}
-use Rattle.dcsctp_core.specs.declared.state.State.{State}
 use Rattle.dcsctp_core.specs.declared.context.Context.{Context}
-use Rattle.dcsctp_core.specs.View.{View, core_of, endpoint_of, view_of, Moves, KeepsEndpoint, first_word, second_word}
+use Rattle.dcsctp_core.specs.declared.transmission_control_block.Peer.{Peer}
+use Rattle.dcsctp_core.specs.View.{View, view_of}
+use Rattle.dcsctp_core.specs.Drawing.{first_word, second_word, long_word, OnlyDraws}
 
--- ---- words
+-- ---- pairs
 
--- the next word of 64 bits
-abbrev pub next_word : Stream → ℕ
-next_word stream = (next_u64 stream).0
+-- These words were drawn, and then the pair was kept. Nothing else changes.
+pub record MakesPair {R : Type 0} (stream : R → Stream) (old : Context R) (pair : Pair) (drawn : List ℕ) (left : Stream) (new : Context R) : Type 0 where
+  pub words : (view_of new).words ≡ (view_of old).words ++ map U32 drawn
+  pub pairs : (view_of new).pairs ≡ (view_of old).pairs ++ pair ∷ []
+  pub goes_on : stream (view_of new).generator ≡ left
+  pub only : OnlyDraws old new
 
--- The pair is made of the next two words, its first TSN and then its tag, and kept once. Nothing else changes.
-pub record DrawsPair {R : Type 0} (stream : R → Stream) (old : Context R) (pair : Pair) (new : Context R) : Type 0 where
-  pub from_words : pair ≡ pair_from (first_word (stream old.generator)) (second_word (stream old.generator))
-  pub words : new.words.items ≡ old.words.items ++ U32 (first_word (stream old.generator)) ∷ U32 (second_word (stream old.generator)) ∷ []
-  pub pairs : new.pairs.items ≡ old.pairs.items ++ pair ∷ []
-  pub left : stream new.generator ≡ (next_u32 (next_u32 (stream old.generator)).1).1
-  pub endpoint : KeepsEndpoint old new
+-- The tag is made of the next word; or a growth was refused.
+abbrev pub DrawsTag : {R E : Type 0} → (R → Stream) → ℕ → Context R → Result Pair E → Context R → Type 0
+DrawsTag stream first_tsn old (Ok pair) new =
+    let next = stream (view_of old).generator in
+    (pair ≡ record { tag = tag_from (first_word next); first_tsn = first_tsn }) × MakesPair stream old pair (first_word next ∷ []) (next_u32 next).1 new
+DrawsTag stream first_tsn old (Err error) new = OnlyDraws old new
 
--- The tag is made of the next word. Nothing else changes.
-pub record DrawsTag {R : Type 0} (stream : R → Stream) (old : Context R) (tag : ℕ) (new : Context R) : Type 0 where
-  pub from_word : tag ≡ tag_from (first_word (stream old.generator))
-  pub words : new.words.items ≡ old.words.items ++ U32 (first_word (stream old.generator)) ∷ []
-  pub pairs : new.pairs ≡ old.pairs
-  pub left : stream new.generator ≡ (next_u32 (stream old.generator)).1
-  pub endpoint : KeepsEndpoint old new
+-- The pair is made of the next two words, its first TSN and then its tag; or a growth was refused.
+abbrev pub DrawsPair : {R E : Type 0} → (R → Stream) → Context R → Result Pair E → Context R → Type 0
+DrawsPair stream old (Ok pair) new =
+    let next = stream (view_of old).generator in
+    (pair ≡ pair_from (first_word next) (second_word next)) × MakesPair stream old pair (first_word next ∷ second_word next ∷ []) (next_u32 (next_u32 next).1).1 new
+DrawsPair stream old (Err error) new = OnlyDraws old new
 
 -- ---- INIT
 
--- An INIT was answered with this pair and tie tag.
-abbrev pub AnswersInit : {R : Type 0} → (R → Stream) → Context R → List SocketEvent → Introduction → Pair → ℕ → Context R → List SocketEvent → Type 0
-AnswersInit stream old old_events theirs mine tie new new_events =
-    (state : State) → Moves stream (view_of state old old_events) (answers_init (endpoint_of state old) theirs [] mine tie) (view_of state new new_events)
+-- An INIT is answered with this pair and tie tag.
+abbrev pub answer_turn : {R : Type 0} → Introduction → Pair → ℕ → View R → Outcome
+answer_turn theirs mine tie view = answers_init view.endpoint theirs [] mine tie
 
--- An INIT was worked, with the words that the generator gives next.
-abbrev pub InitMoves : {R : Type 0} → (R → Stream) → View R → Introduction → View R → Type 0
-InitMoves stream old theirs new =
-    Moves stream old (init_outcome old.endpoint theirs old.endpoint.core (first_word (stream old.generator)) (second_word (stream old.generator))) new
+-- with the words that the generator gives next
+abbrev pub init_turn : {R : Type 0} → (R → Stream) → Introduction → View R → Outcome
+init_turn stream theirs view = init_outcome view.endpoint theirs view.endpoint.core (first_word (stream view.generator)) (second_word (stream view.generator))
 
--- ---- the other turns
+-- ---- connect
+
+abbrev pub send_init_turn : {R : Type 0} → Pair → View R → Outcome
+send_init_turn mine view = emits view.endpoint [] (init_emission view.endpoint mine)
 
 abbrev pub connect_turn : {R : Type 0} → (R → Stream) → View R → Outcome
 connect_turn stream view = connect_outcome view.endpoint view.endpoint.core (first_word (stream view.generator)) (second_word (stream view.generator))
 
-abbrev pub init_ack_turn : {R : Type 0} → (R → Stream) → View R → Introduction → Option (List ℕ) → Outcome
-init_ack_turn stream view theirs cookie = init_ack_outcome view.endpoint theirs cookie view.endpoint.core (next_word (stream view.generator))
+-- ---- INIT ACK
 
-abbrev pub cookie_ack_turn : {R : Type 0} → View R → Outcome
-cookie_ack_turn view = cookie_ack_outcome view.endpoint view.endpoint.core
+-- ABORT goes out under this tag, where it fits.
+abbrev pub missing_cookie_turn : {R : Type 0} → ℕ → View R → Outcome
+missing_cookie_turn tag view = emits view.endpoint [] (abort_emission tag)
 
-abbrev pub cookie_echo_turn : {R : Type 0} → (R → Stream) → View R → ℕ → List ℕ → Outcome
-cookie_echo_turn stream view header bytes = cookie_echo_outcome view.endpoint view.endpoint.core header (cookie_at bytes) (next_word (stream view.generator))
+-- An INIT ACK of this tag has no cookie.
+abbrev pub refusal_turn : {R : Type 0} → ℕ → View R → Outcome
+refusal_turn tag view = refuses_init_ack view.endpoint tag
 
--- ---- their steps
-
--- An INIT with this pair went out, where it fits.
-abbrev pub SendsInit : {R : Type 0} → (R → Stream) → Context R → List SocketEvent → Pair → Context R → List SocketEvent → Type 0
-SendsInit stream old old_events mine new new_events =
-    (state : State) → Moves stream (view_of state old old_events) (emits (endpoint_of state old) [] (init_emission (endpoint_of state old) mine)) (view_of state new new_events)
-
--- The ABORT that answers an INIT ACK of this tag without a cookie went out, where it fits.
-abbrev pub ReportsMissingCookie : {R : Type 0} → (R → Stream) → Context R → List SocketEvent → ℕ → Context R → List SocketEvent → Type 0
-ReportsMissingCookie stream old old_events tag new new_events =
-    (state : State) (theirs : Introduction) → theirs.pair.tag ≡ tag → Moves stream (view_of state old old_events) (emits (endpoint_of state old) [] (abort_emission theirs)) (view_of state new new_events)
-
--- The cookie that is echoed, where one is, went out.
+-- The cookie that is echoed, where one is, goes out.
 abbrev pub echo_outcome : Endpoint → Core → Outcome
 echo_outcome e closed = still e
 echo_outcome e (cookie_wait mine) = still e
 echo_outcome e (cookie_echoed mine held cookie) = echoes_cookie e [] held.peer.tag cookie
 echo_outcome e (open_in phase mine held) = still e
 
-abbrev pub EchoesCookie : {R : Type 0} → (R → Stream) → State → Context R → List SocketEvent → Context R → List SocketEvent → Type 0
-EchoesCookie stream state old old_events new new_events =
-    Moves stream (view_of state old old_events) (echo_outcome (endpoint_of state old) (core_of state)) (view_of state new new_events)
+abbrev pub echo_turn : {R : Type 0} → View R → Outcome
+echo_turn view = echo_outcome view.endpoint view.endpoint.core
 
--- An INIT ACK of this peer showed the association, and its cookie was echoed.
-abbrev pub EchoesAnew : {R : Type 0} → (R → Stream) → View R → Pair → Introduction → List ℕ → View R → Type 0
-EchoesAnew stream old mine theirs cookie new =
-    old.endpoint.core ≡ cookie_wait mine → Moves stream old (accepts_init_ack old.endpoint mine theirs (Some cookie) (next_word (stream old.generator))) new
+-- the peer that an INIT ACK shows
+abbrev pub peer_by_init_ack : Options → Introduction → Peer
+peer_by_init_ack options theirs = record { pair = theirs.pair; a_rwnd = theirs.window; capabilities = negotiated (offer_of options) theirs.offer }
 
--- An INIT ACK without a cookie ended the association.
-abbrev pub RefusesInitAck : {R : Type 0} → (R → Stream) → View R → Introduction → View R → Type 0
-RefusesInitAck stream old theirs new = Moves stream old (refuses_init_ack old.endpoint theirs) new
+-- An INIT ACK of this peer shows the association, and its cookie is echoed.
+abbrev pub acceptance_turn : {R : Type 0} → (R → Stream) → Pair → Introduction → List ℕ → View R → Outcome
+acceptance_turn stream mine theirs cookie view = accepts_init_ack view.endpoint mine theirs (Some cookie) (long_word (stream view.generator))
+
+abbrev pub init_ack_turn : {R : Type 0} → (R → Stream) → Introduction → Option (List ℕ) → View R → Outcome
+init_ack_turn stream theirs cookie view = init_ack_outcome view.endpoint theirs cookie view.endpoint.core (long_word (stream view.generator))
+
+-- ---- COOKIE ACK and COOKIE ECHO
+
+abbrev pub cookie_ack_turn : {R : Type 0} → View R → Outcome
+cookie_ack_turn view = cookie_ack_outcome view.endpoint view.endpoint.core
+
+abbrev pub cookie_echo_turn : {R : Type 0} → (R → Stream) → ℕ → List ℕ → View R → Outcome
+cookie_echo_turn stream header bytes view = cookie_echo_outcome view.endpoint view.endpoint.core header (cookie_at bytes) (long_word (stream view.generator))

@@ -1,20 +1,22 @@
 //! The handshake of the side that connects: connect, INIT ACK and COOKIE ACK (RFC 9260, section 5.1).
 
-ghost use Rattle.std.specs.Prelude.{◌≡◌, ◌≢◌, ℕ, false, map, IfOk, OnOk, OnErr, IsOk};
+ghost use Rattle.std.specs.Prelude.{◌≡◌, false, IsOk};
+ghost use Rattle.std.specs.Duration.{as_nanos};
 ghost use Rattle.dcsctp_wire.specs.Content.{init_content};
-ghost use Rattle.dcsctp_machine.specs.Offer.{offer_of, negotiated};
-ghost use Rattle.dcsctp_machine.specs.Packet.{Introduction, introduction_in, cookie_in};
-ghost use Rattle.dcsctp_machine.specs.turns.Handshake.{implementation_of, refuses_init_ack};
+ghost use Rattle.dcsctp_machine.specs.Endpoint.{started, t1_settings};
+ghost use Rattle.dcsctp_machine.specs.Packet.{introduction_in, cookie_in};
+ghost use Rattle.dcsctp_machine.specs.turns.Handshake.{implementation_of};
 ghost use Rattle.dcsctp_api.specs.Calls.{is_closed};
-ghost use Rattle.dcsctp_api.specs.Events.{event_content};
-ghost use Rattle.dcsctp_core.specs.View.{core_of, endpoint_of, view_of, Moves, CutTurn};
-ghost use Rattle.dcsctp_core.specs.Handling.{Handles};
-ghost use Rattle.dcsctp_handshake.specs.Handshake.{SendsInit, ReportsMissingCookie, EchoesCookie, EchoesAnew, RefusesInitAck, connect_turn, init_ack_turn, cookie_ack_turn};
+ghost use Rattle.dcsctp_core.specs.View.{core_of};
+ghost use Rattle.dcsctp_core.specs.Handling.{Tries, TriesDrawing, Takes, Works};
+ghost use Rattle.dcsctp_handshake.specs.Handshake.{send_init_turn, connect_turn, missing_cookie_turn, refusal_turn, echo_turn, acceptance_turn, init_ack_turn, cookie_ack_turn, peer_by_init_ack};
 
 use crate::init::draw_pair;
 use crate::parameters::{introduction, state_cookie};
 use crate::texts::NO_COOKIE;
-use dcsctp_api::{Capabilities, ErrorKind, Events, Options, Pair, SctpImplementation, SocketEvent};
+use dcsctp_api::{
+    Capabilities, ErrorKind, Options, Pair, SctpImplementation, SocketEvent, SocketTime,
+};
 use dcsctp_core::{
     Context, CookieEchoState, CookieWaitState, Following, Peer, State, TransmissionControlBlock,
 };
@@ -22,53 +24,53 @@ use dcsctp_send::{BackoffAlgorithm, Timer};
 use dcsctp_wire::{AbortChunk, Chunk, CookieEchoChunk, ErrorCause, InitChunk, parameter_type};
 use rand_core::Rng;
 use std::alloc::AllocError;
+use std::time::Duration;
+
+/// T1-init or T1-cookie, started now.
+fn started_t1(options: &Options, now: SocketTime, duration: Duration) -> Timer
+    ensures { result ≡ record {
+      running = started now (t1_settings options.now (as_nanos duration));
+      settings = t1_settings options.now (as_nanos duration);
+    } }
+{
+    let mut timer = Timer::new(
+        duration,
+        BackoffAlgorithm::Exponential,
+        options.max_init_retransmits,
+        None,
+    );
+    timer.start(now);
+    timer
+}
 
 /// Sends an INIT with this pair, under tag 0, where it fits `mtu`.
 ///
-/// The one error is that a growth was refused; no event is added then.
-fn send_init<R: Rng>(
-    context: &mut Context<R>,
-    events: &mut Events,
-    my: Pair,
-) -> Result<(), AllocError>
-    ensures turn { OnOk result (SendsInit R.stream context.old events.old my context.new
-        events.new) }
-    ensures err { OnErr result (events.new ≡ events.old) }
+/// The one error is that a growth was refused. Nothing has changed then.
+fn send_init<R: Rng>(context: &mut Context<R>, my: Pair) -> Result<(), AllocError>
+    ensures { Tries R.stream (send_init_turn my) context.old result context.new }
 {
     let options = &context.options;
     let method = options.zero_checksum_alternate_error_detection_method.0;
     let init = introduction(context.alloc, options, my, method, None)?;
-    context.emit(events, 0, true, &Chunk::Init(init))?;
+    context.emit(0, true, &Chunk::Init(init))?;
     Ok(())
 }
 
-/// Begins an association where there is none: draws a pair, starts T1-init and sends an INIT. A socket
-/// that isn't closed stays as it is, and no memory is taken.
+/// Begins an association where there is none: draws a pair, sends an INIT and starts T1-init. A socket
+/// that isn't closed stays as it is, and want of memory is never the answer.
 ///
-/// The one error is that a growth was refused; no event is added then.
-pub fn do_connect<R: Rng>(
-    state: &mut State,
-    context: &mut Context<R>,
-    events: &mut Events,
-) -> Result<(), AllocError>
-    ensures turn { OnOk result (Moves R.stream (view_of state.old context.old events.old)
-        (connect_turn R.stream (view_of state.old context.old events.old))
-        (view_of state.new context.new events.new)) }
-    ensures err { OnErr result (events.new ≡ events.old) }
-    ensures open { is_closed (core_of state.old) ≡ false → IsOk result }
+/// The one error is that a growth was refused. Nothing has changed then but what words were drawn.
+pub fn do_connect<R: Rng>(context: &mut Context<R>) -> Result<(), AllocError>
+    ensures turn { TriesDrawing R.stream (connect_turn R.stream) context.old result context.new }
+    ensures open { is_closed (core_of context.old.state) ≡ false → IsOk result }
 {
-    match state {
+    match context.state {
         State::Closed => {
             let my = draw_pair(context)?;
-            let mut t1_init = Timer::new(
-                context.options.t1_init_timeout,
-                BackoffAlgorithm::Exponential,
-                context.options.max_init_retransmits,
-                None,
-            );
-            t1_init.start(context.now);
-            *state = State::CookieWait(CookieWaitState { t1_init, my });
-            send_init(context, events, my)?;
+            send_init(context, my)?;
+            let duration = context.options.t1_init_timeout;
+            let t1_init = started_t1(&context.options, context.moment, duration);
+            context.state = State::CookieWait(CookieWaitState { t1_init, my });
         }
         State::CookieWait(_) => {}
         State::CookieEchoed(_) => {}
@@ -79,15 +81,9 @@ pub fn do_connect<R: Rng>(
 
 /// Sends an ABORT under this tag, since the INIT ACK under it has no cookie.
 ///
-/// The one error is that a growth was refused; no event is added then.
-fn send_missing_cookie<R: Rng>(
-    context: &mut Context<R>,
-    events: &mut Events,
-    tag: u32,
-) -> Result<(), AllocError>
-    ensures turn { OnOk result (ReportsMissingCookie R.stream context.old events.old tag context.new
-        events.new) }
-    ensures err { OnErr result (events.new ≡ events.old) }
+/// The one error is that a growth was refused. Nothing has changed then.
+fn send_missing_cookie<R: Rng>(context: &mut Context<R>, tag: u32) -> Result<(), AllocError>
+    ensures { Tries R.stream (missing_cookie_turn tag) context.old result context.new }
 {
     let types = parameter_type::STATE_COOKIE.to_be_bytes();
     let mut error_causes = Vec::with_capacity(context.alloc, 1)?;
@@ -96,30 +92,20 @@ fn send_missing_cookie<R: Rng>(
         tag_reflected: false,
         error_causes,
     };
-    context.emit(events, tag, true, &Chunk::Abort(abort))?;
+    context.emit(tag, true, &Chunk::Abort(abort))?;
     Ok(())
 }
 
 /// Ends the association, since an INIT ACK of this tag has no cookie: ABORT goes out under that tag.
 ///
 /// The one error is that a growth was refused. The first events of the turn may stand then.
-fn refuse_init_ack<R: Rng>(
-    state: &mut State,
-    context: &mut Context<R>,
-    events: &mut Events,
-    tag: u32,
-) -> Result<(), AllocError>
-    requires open { is_closed (core_of state.old) ≡ false }
-    ensures turn { OnOk result ((theirs : Introduction) → theirs.pair.tag ≡ tag → RefusesInitAck
-        R.stream (view_of state.old context.old events.old) theirs
-        (view_of state.new context.new events.new)) }
-    ensures err { OnErr result ((theirs : Introduction) → theirs.pair.tag ≡ tag → CutTurn
-        (view_of state.old context.old events.old) (refuses_init_ack (endpoint_of state.old
-        context.old) theirs) (map event_content events.new)) }
+fn refuse_init_ack<R: Rng>(context: &mut Context<R>, tag: u32) -> Result<(), AllocError>
+    requires { is_closed (core_of context.old.state) ≡ false }
+    ensures { Takes R.stream (refusal_turn tag) context.old result context.new }
 {
     let message = String::from_str(context.alloc, NO_COOKIE)?;
-    send_missing_cookie(context, events, tag)?;
-    context.internal_close(state, events, ErrorKind::ProtocolViolation, message)?;
+    send_missing_cookie(context, tag)?;
+    context.internal_close(ErrorKind::ProtocolViolation, message)?;
     Ok(())
 }
 
@@ -143,17 +129,11 @@ fn implementation_of(cookie: &[u8]) -> SctpImplementation
 /// Sends the cookie that is echoed, where it fits `mtu`: it is in front of a flush. In another state
 /// nothing is sent.
 ///
-/// The one error is that a growth was refused; no event is added then.
-fn send_cookie_echo<R: Rng>(
-    state: &State,
-    context: &mut Context<R>,
-    events: &mut Events,
-) -> Result<(), AllocError>
-    ensures turn { OnOk result (EchoesCookie R.stream state.now context.old events.old context.new
-        events.new) }
-    ensures err { OnErr result (events.new ≡ events.old) }
+/// The one error is that a growth was refused. Nothing has changed then.
+fn send_cookie_echo<R: Rng>(context: &mut Context<R>) -> Result<(), AllocError>
+    ensures { Tries R.stream echo_turn context.old result context.new }
 {
-    let State::CookieEchoed(echoed) = state else {
+    let State::CookieEchoed(echoed) = &context.state else {
         return Ok(());
     };
     let packet = echoed.tcb.new_packet(context.alloc, &context.options)?;
@@ -164,16 +144,14 @@ fn send_cookie_echo<R: Rng>(
         return Ok(());
     }
     packet.add(&chunk);
-    context.send_buffered_packets_with(events, packet)?;
+    drop(chunk);
+    context.send_buffered_packets_with(packet)?;
     Ok(())
 }
 
 /// The peer that an INIT ACK shows.
-fn peer_in_init_ack(options: &Options, init_ack: &InitChunk<'_>) -> Peer
-    ensures pair { result.pair ≡ (introduction_in (init_content init_ack.now)).pair }
-    ensures capabilities { result.capabilities ≡ negotiated (offer_of options.now)
-        (introduction_in (init_content init_ack.now)).offer }
-    ensures window { result.a_rwnd ≡ (introduction_in (init_content init_ack.now)).window }
+fn peer_by_init_ack(options: &Options, init_ack: &InitChunk<'_>) -> Peer
+    ensures { result ≡ peer_by_init_ack options.now (introduction_in (init_content init_ack.now)) }
 {
     let offered = Capabilities::from_parameters(
         init_ack.nbr_outbound_streams,
@@ -192,41 +170,31 @@ fn peer_in_init_ack(options: &Options, init_ack: &InitChunk<'_>) -> Peer
 
 /// Holds the association that an INIT ACK with this cookie shows, and echoes the cookie.
 ///
-/// The one error is that a growth was refused; no event is added then.
+/// The one error is that a growth was refused. The first events of the turn may stand then.
 fn echo_cookie<R: Rng>(
-    state: &mut State,
     context: &mut Context<R>,
-    events: &mut Events,
     my: Pair,
     init_ack: &InitChunk<'_>,
     cookie: &[u8],
 ) -> Result<(), AllocError>
-    ensures turn { OnOk result (EchoesAnew R.stream (view_of state.old context.old events.old) my
-        (introduction_in (init_content init_ack.now)) cookie.now
-        (view_of state.new context.new events.new)) }
-    ensures err { OnErr result (events.new ≡ events.old) }
+    ensures { Takes R.stream (acceptance_turn R.stream my (introduction_in
+        (init_content init_ack.now)) cookie.now) context.old result context.new }
 {
-    let peer = peer_in_init_ack(&context.options, init_ack);
+    let peer = peer_by_init_ack(&context.options, init_ack);
     let mut echoed = Vec::with_capacity(context.alloc, cookie.len())?;
     echoed.extend_from_slice(cookie)?;
     let tie_tag = context.draw_u64()?;
-    let mut t1_cookie = Timer::new(
-        context.options.t1_cookie_timeout,
-        BackoffAlgorithm::Exponential,
-        context.options.max_init_retransmits,
-        None,
-    );
-    t1_cookie.start(context.now);
     context.peer_implementation = implementation_of(cookie);
     let interleaving = peer.capabilities.message_interleaving;
     context.send_queue.enable_message_interleaving(interleaving);
     context.send_queue.reset();
-    *state = State::CookieEchoed(CookieEchoState {
-        t1_cookie,
+    let duration = context.options.t1_cookie_timeout;
+    context.state = State::CookieEchoed(CookieEchoState {
+        t1_cookie: started_t1(&context.options, context.moment, duration),
         cookie: echoed,
         tcb: TransmissionControlBlock::new(&context.options, my, &peer, tie_tag),
     });
-    send_cookie_echo(state, context, events)?;
+    send_cookie_echo(context)?;
     Ok(())
 }
 
@@ -236,23 +204,13 @@ fn echo_cookie<R: Rng>(
 ///
 /// The one error is that a growth was refused. The first events of the turn may stand then.
 pub fn handle_init_ack<R: Rng>(
-    state: &mut State,
     context: &mut Context<R>,
-    events: &mut Events,
     init_ack: &InitChunk<'_>,
 ) -> Result<Following, AllocError>
-    ensures turn { IfOk result (λ following. Handles R.stream
-        (view_of state.old context.old events.old)
-        (init_ack_turn R.stream (view_of state.old context.old events.old)
-        (introduction_in (init_content init_ack.now))
-        (cookie_in (init_content init_ack.now).parameters)) following
-        (view_of state.new context.new events.new)) }
-    ensures err { OnErr result (CutTurn (view_of state.old context.old events.old)
-        (init_ack_turn R.stream (view_of state.old context.old events.old)
-        (introduction_in (init_content init_ack.now))
-        (cookie_in (init_content init_ack.now).parameters)) (map event_content events.new)) }
+    ensures { Works R.stream (init_ack_turn R.stream (introduction_in (init_content init_ack.now))
+        (cookie_in (init_content init_ack.now).parameters)) context.old result context.new }
 {
-    let my = match state {
+    let my = match &context.state {
         State::CookieWait(wait) => wait.my,
         State::Closed | State::CookieEchoed(_) | State::Established(_) => {
             return Ok(Following::NextChunk);
@@ -260,11 +218,11 @@ pub fn handle_init_ack<R: Rng>(
     };
     match state_cookie(&init_ack.parameters) {
         None => {
-            refuse_init_ack(state, context, events, init_ack.initiate_tag)?;
+            refuse_init_ack(context, init_ack.initiate_tag)?;
             Ok(Following::DroppedRest)
         }
         Some(cookie) => {
-            echo_cookie(state, context, events, my, init_ack, cookie)?;
+            echo_cookie(context, my, init_ack, cookie)?;
             Ok(Following::NextChunk)
         }
     }
@@ -274,23 +232,15 @@ pub fn handle_init_ack<R: Rng>(
 /// is established, and a flush follows.
 ///
 /// The one error is that a growth was refused. The first events of the turn may stand then.
-pub fn handle_cookie_ack<R: Rng>(
-    state: &mut State,
-    context: &mut Context<R>,
-    events: &mut Events,
-) -> Result<(), AllocError>
-    ensures turn { OnOk result (Moves R.stream (view_of state.old context.old events.old)
-        (cookie_ack_turn (view_of state.old context.old events.old))
-        (view_of state.new context.new events.new)) }
-    ensures err { OnErr result (CutTurn (view_of state.old context.old events.old)
-        (cookie_ack_turn (view_of state.old context.old events.old)) (map event_content events.new)) }
+pub fn handle_cookie_ack<R: Rng>(context: &mut Context<R>) -> Result<(), AllocError>
+    ensures { Takes R.stream cookie_ack_turn context.old result context.new }
 {
-    match state {
+    match context.state {
         State::CookieEchoed(_) => {
-            events.add(SocketEvent::OnConnected())?;
-            state.establish();
+            context.events.add(SocketEvent::OnConnected())?;
+            context.state.establish();
             context.start_heartbeat_interval();
-            context.send_buffered_packets(state, events)?;
+            context.send_buffered_packets()?;
         }
         State::Closed => {}
         State::CookieWait(_) => {}

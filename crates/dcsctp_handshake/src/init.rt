@@ -1,13 +1,12 @@
 //! INIT (RFC 9260, sections 5.1 and 5.2).
 
-ghost use Rattle.std.specs.Prelude.{◌≡◌, IfOk, OnOk, OnErr};
 ghost use Rattle.dcsctp_wire.specs.Content.{init_content};
 ghost use Rattle.dcsctp_machine.specs.Packet.{introduction_in};
-ghost use Rattle.dcsctp_core.specs.View.{view_of};
-ghost use Rattle.dcsctp_handshake.specs.Handshake.{AnswersInit, InitMoves, DrawsPair, DrawsTag};
+ghost use Rattle.dcsctp_core.specs.Handling.{Tries, TriesDrawing};
+ghost use Rattle.dcsctp_handshake.specs.Handshake.{DrawsTag, DrawsPair, answer_turn, init_turn};
 
 use crate::parameters::introduction;
-use dcsctp_api::{Capabilities, Events, Pair, StateCookie};
+use dcsctp_api::{Capabilities, Pair, StateCookie};
 use dcsctp_core::{Context, State};
 use dcsctp_wire::{Chunk, InitChunk};
 use rand_core::Rng;
@@ -16,39 +15,39 @@ use std::alloc::AllocError;
 /// How far a new first TSN is from those in use.
 const TSN_GAP: u32 = 1_000_000;
 
-/// Draws a tag, which is never 0. The one error is that a growth was refused.
-fn draw_tag<R: Rng>(context: &mut Context<R>) -> Result<u32, AllocError>
-    ensures tag { IfOk result (λ tag. DrawsTag R.stream context.old tag context.new) }
+/// Draws a tag, which is never 0, to go with this first TSN. The pair is kept. The one error is that a
+/// growth was refused.
+fn draw_tag<R: Rng>(context: &mut Context<R>, first_tsn: u32) -> Result<Pair, AllocError>
+    ensures { DrawsTag R.stream first_tsn context.old result context.new }
 {
-    Ok(1 + context.draw_u32()? % (u32::MAX - 1))
+    let tag = 1 + context.draw_u32()? % (u32::MAX - 1);
+    let pair = Pair { tag, first_tsn };
+    context.keep_pair(pair)?;
+    Ok(pair)
 }
 
 /// Draws a first TSN, and then the tag that goes with it. The pair is kept. The one error is that a
 /// growth was refused.
 pub(crate) fn draw_pair<R: Rng>(context: &mut Context<R>) -> Result<Pair, AllocError>
-    ensures pair { IfOk result (λ pair. DrawsPair R.stream context.old pair context.new) }
+    ensures { DrawsPair R.stream context.old result context.new }
 {
     let first_tsn = context.draw_u32()? % u32::MAX;
-    let tag = draw_tag(context)?;
-    let pair = Pair { tag, first_tsn };
-    context.keep_pair(pair)?;
+    let pair = draw_tag(context, first_tsn)?;
     Ok(pair)
 }
 
 /// Answers an INIT with this pair: an INIT ACK with a state cookie under the INIT's initiate tag,
 /// without a checksum where zero checksum is negotiated (RFC 9653, section 5.2).
 ///
-/// The one error is that a growth was refused; no event is added then.
+/// The one error is that a growth was refused. Nothing has changed then.
 fn send_init_ack<R: Rng>(
     context: &mut Context<R>,
-    events: &mut Events,
     init: &InitChunk<'_>,
     pair: Pair,
     tie_tag: u64,
 ) -> Result<(), AllocError>
-    ensures turn { OnOk result (AnswersInit R.stream context.old events.old (introduction_in
-        (init_content init.now)) pair tie_tag context.new events.new) }
-    ensures err { OnErr result (events.new ≡ events.old) }
+    ensures { Tries R.stream (answer_turn (introduction_in (init_content init.now)) pair tie_tag)
+        context.old result context.new }
 {
     let peer_capabilities = Capabilities::from_parameters(
         init.nbr_outbound_streams,
@@ -69,39 +68,36 @@ fn send_init_ack<R: Rng>(
     let method = capabilities.zero_checksum_method.0;
     let init_ack = introduction(context.alloc, &context.options, pair, method, Some(&cookie))?;
     let chunk = Chunk::InitAck(init_ack);
-    context.emit(events, init.initiate_tag, method == 0, &chunk)?;
+    context.emit(init.initiate_tag, method == 0, &chunk)?;
     Ok(())
 }
 
 /// Works an INIT, which leaves the association as it is: while a handshake is under way the answer bears
 /// the own pair, else one that is drawn for it, and the tie tag where an association is open.
 ///
-/// The one error is that a growth was refused; no event is added then.
-pub fn handle_init<R: Rng>(
-    state: &State,
-    context: &mut Context<R>,
-    events: &mut Events,
-    init: &InitChunk<'_>,
-) -> Result<(), AllocError>
-    ensures turn { OnOk result (InitMoves R.stream (view_of state.now context.old events.old)
-        (introduction_in (init_content init.now)) (view_of state.now context.new events.new)) }
-    ensures err { OnErr result (events.new ≡ events.old) }
+/// The one error is that a growth was refused. Nothing has changed then but what words were drawn.
+pub fn handle_init<R: Rng>(context: &mut Context<R>, init: &InitChunk<'_>) -> Result<(), AllocError>
+    ensures { TriesDrawing R.stream (init_turn R.stream (introduction_in (init_content init.now)))
+        context.old result context.new }
 {
-    match state {
+    match &context.state {
         State::Closed => {
             let pair = draw_pair(context)?;
-            send_init_ack(context, events, init, pair, 0)?;
+            send_init_ack(context, init, pair, 0)?;
         }
-        State::CookieWait(wait) => send_init_ack(context, events, init, wait.my, 0)?,
-        State::CookieEchoed(echoed) => send_init_ack(context, events, init, echoed.tcb.my, 0)?,
+        State::CookieWait(wait) => {
+            let my = wait.my;
+            send_init_ack(context, init, my, 0)?;
+        }
+        State::CookieEchoed(echoed) => {
+            let my = echoed.tcb.my;
+            send_init_ack(context, init, my, 0)?;
+        }
         State::Established(tcb) => {
             let first_tsn = tcb.retransmission_queue.next_tsn().wrapping_add(TSN_GAP);
-            let renewed = Pair {
-                tag: draw_tag(context)?,
-                first_tsn,
-            };
-            context.keep_pair(renewed)?;
-            send_init_ack(context, events, init, renewed, tcb.tie_tag)?;
+            let tie_tag = tcb.tie_tag;
+            let renewed = draw_tag(context, first_tsn)?;
+            send_init_ack(context, init, renewed, tie_tag)?;
         }
     }
     Ok(())

@@ -109,7 +109,7 @@ connect_controlled e o turn = subst (ControlledAct e connect) (sym turn.2) (conn
 
 -- Without a cookie the peer is told where that fits, and the association ends.
 refused_where : (b : Bool) (e : Endpoint) (mine : Pair) (theirs : Introduction)
-    → IsControlled e (ends_with (if b then sends e [] [] (abort_emission theirs) else quiet e [] []) (aborted ProtocolViolation no_cookie_text))
+    → IsControlled e (ends_with (if b then sends e [] [] (abort_emission theirs.pair.tag) else quiet e [] []) (aborted ProtocolViolation no_cookie_text))
     (init_ack_change e.options (cookie_wait mine) theirs None (no_choices e b))
 refused_where true e mine theirs = record { core = refl; options = refl; signs = refl; drawn = refl; following = refl }
 refused_where false e mine theirs = record { core = refl; options = refl; signs = refl; drawn = refl; following = refl }
@@ -126,7 +126,7 @@ init_ack_at : (e : Endpoint) (core : Core) (tag : ℕ) (theirs : Introduction) (
     → ControlledAt e core tag (init_ack theirs cookie) (init_ack_outcome e theirs cookie core word)
 init_ack_at e closed tag theirs cookie word is = (_, (no_choices e true, tt, refl), still_controlled e closed is)
 init_ack_at e (cookie_wait mine) tag theirs None word is =
-    let b = fits e (abort_emission theirs) in
+    let b = fits e (abort_emission theirs.pair.tag) in
     (_, (no_choices e b, tt, refl), refused_where b e mine theirs)
 init_ack_at e (cookie_wait mine) tag theirs (Some cookie) word is =
     let b = fits (awaits_cookie_ack e mine theirs cookie word) (echo_emission theirs.pair.tag cookie) in

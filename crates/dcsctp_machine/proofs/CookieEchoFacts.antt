@@ -14,7 +14,7 @@ use Rattle.dcsctp_machine.specs.Transfer.{SendQueueState}
 use Rattle.dcsctp_machine.specs.Endpoint.{Endpoint, closed, cookie_echoed, open_in, established, shutdown_received, shutdown_ack_sent, stopped_timers}
 use Rattle.dcsctp_machine.specs.Outcome.{next_chunk, dropped_rest}
 use Rattle.dcsctp_machine.specs.turns.CookieEcho.{window_by_cookie, cookie_echo_outcome}
-use Rattle.dcsctp_machine.proofs.HandshakeTurnFacts.{configured, queue, queue_at_start, socket, due, mine, held, transfer_begun, packet_of}
+use Rattle.dcsctp_machine.proofs.HandshakeTurnFacts.{configured, queue, queue_at_start, socket, heartbeats_due, mine, held, transfer_begun, packet_of}
 
 -- made by this socket under tag 7 for the INIT of a peer under tag 9, with this tie tag
 abbrev own_cookie : ℕ → List ℕ
@@ -28,7 +28,7 @@ made e waiting packets_sent =
     record (socket e 1191 (pos 4) (open_in established mine held) packets_sent) {
       tie = 55;
       outstanding = None;
-      timers = record stopped_timers { heartbeat_interval = due 35_000_000_000 30_000_000_000; heartbeat_timeout = e.timers.heartbeat_timeout };
+      timers = record stopped_timers { heartbeat_interval = heartbeats_due 35_000_000_000 30_000_000_000; heartbeat_timeout = e.timers.heartbeat_timeout };
       below = record { queue = waiting; transfer = transfer_begun 11910 };
     }
 
@@ -103,7 +103,7 @@ echo_in_cookie_echoed : (e : Endpoint) → cookie_echo_outcome (socket e 1191 (p
     ≡ record {
       words = [];
       drawn = [];
-      after = record (socket e 1191 (pos 4) (open_in established mine held) 5) { timers = record e.timers { t1 = None; heartbeat_interval = due 35_000_000_000 30_000_000_000 } };
+      after = record (socket e 1191 (pos 4) (open_in established mine held) 5) { timers = record e.timers { t1 = None; heartbeat_interval = heartbeats_due 35_000_000_000 30_000_000_000 } };
       events = connected ∷ packet_of false 9 (cookie_ack ∷ []) ∷ [];
       following = next_chunk;
     }

@@ -6,6 +6,7 @@ use Rattle.dcsctp_wire.specs.declared.reconfiguration.ReconfigurationResponseRes
 use Rattle.dcsctp_wire.specs.Spelling.{parameter_bytes, parameters_len, init_fields, init_bytes, abort_bytes, other_bytes}
 use Rattle.dcsctp_machine.specs.declared.association.Pair.{Pair}
 use Rattle.dcsctp_machine.specs.declared.association.Held.{Held}
+use Rattle.dcsctp_machine.specs.declared.kinds.BackoffAlgorithm.TheVariants.{Fixed, Exponential}
 use Rattle.dcsctp_machine.specs.declared.kinds.ErrorKind.TheVariants.{ProtocolViolation}
 use Rattle.dcsctp_machine.specs.declared.kinds.SctpImplementation.TheVariants.{Unknown, DcsctpRs, DcsctpCc, UsrSctp}
 use Rattle.dcsctp_machine.specs.declared.options.Options.{Options}
@@ -34,6 +35,7 @@ configured options mtu max_burst =
       t1_init_timeout = record { secs = 1; nanos = 0 };
       t1_cookie_timeout = record { secs = 2; nanos = 0 };
       heartbeat_interval = record { secs = 30; nanos = 0 };
+      max_init_retransmits = Some 8;
       cwnd_mtus_initial = 10;
       max_burst = max_burst;
       enable_partial_reliability = true;
@@ -71,9 +73,13 @@ socket e mtu max_burst core packets_sent =
       below = record { queue = queue false; transfer = None };
     }
 
--- a timer that was just started
-abbrev pub due : ℕ → ℕ → Option RunningTimer
-due deadline duration = Some (record { deadline = deadline; duration = duration; expiries = 0 })
+-- T1, just started: it is doubled each time, and goes on eight times
+abbrev t1_due : ℕ → ℕ → Option RunningTimer
+t1_due deadline duration = Some (record { deadline = deadline; expiries = 0; settings = record { duration = duration; backoff = Exponential; max_restarts = Some 8; max_backoff = None } })
+
+-- the heartbeat interval, just started
+abbrev pub heartbeats_due : ℕ → ℕ → Option RunningTimer
+heartbeats_due deadline duration = Some (record { deadline = deadline; expiries = 0; settings = record { duration = duration; backoff = Fixed; max_restarts = None; max_backoff = None } })
 
 abbrev pub mine : Pair
 mine = record { tag = 7; first_tsn = 100 }
@@ -122,7 +128,7 @@ packet_of with_checksum tag contents = sent (record { with_checksum = with_check
 
 -- T1 is due a second later.
 abbrev connecting : Endpoint → ℕ → ℕ → Endpoint
-connecting e mtu packets_sent = record (socket e mtu (pos 4) (cookie_wait mine) packets_sent) { timers = record e.timers { t1 = due 6_000_000_000 1_000_000_000 } }
+connecting e mtu packets_sent = record (socket e mtu (pos 4) (cookie_wait mine) packets_sent) { timers = record e.timers { t1 = t1_due 6_000_000_000 1_000_000_000 } }
 
 -- The first TSN is 100 from the first word, the tag 7 from the second.
 connect_sends_init : (e : Endpoint) → connect_outcome (socket e 52 (pos 4) closed 4) closed 100 6
@@ -160,7 +166,7 @@ abbrev echoing : Endpoint → ℕ → ℤ → ℕ → ℕ → Endpoint
 echoing e mtu max_burst cwnd packets_sent =
     record (socket e mtu max_burst (cookie_echoed mine held foreign_cookie) packets_sent) {
       tie = 55;
-      timers = record e.timers { t1 = due 7_000_000_000 2_000_000_000 };
+      timers = record e.timers { t1 = t1_due 7_000_000_000 2_000_000_000 };
       peer_implementation = DcsctpCc;
       below = record { queue = queue_at_start; transfer = transfer_begun cwnd };
     }
@@ -229,7 +235,7 @@ cookie_ack_connects : (e : Endpoint) → cookie_ack_outcome (socket e 1191 (pos 
     ≡ record {
       words = [];
       drawn = [];
-      after = record (socket e 1191 (pos 4) (open_in established mine held) 4) { timers = record e.timers { t1 = None; heartbeat_interval = due 35_000_000_000 30_000_000_000 } };
+      after = record (socket e 1191 (pos 4) (open_in established mine held) 4) { timers = record e.timers { t1 = None; heartbeat_interval = heartbeats_due 35_000_000_000 30_000_000_000 } };
       events = connected ∷ [];
       following = next_chunk;
     }

@@ -1,12 +1,14 @@
 -- What a socket is between two turns (RFC 9260, sections 4 and 5).
 use Rattle.std.specs.Prelude.{ℕ, ◌+◌, min, Bool, Option, None, Some, List}
-use Rattle.std.specs.Duration.{max_nanos}
+use Rattle.std.specs.Duration.{max_nanos, as_nanos}
 use Rattle.dcsctp_machine.specs.Transfer.{Below, nothing_below}
 use Rattle.dcsctp_machine.specs.declared.association.Pair.{Pair}
 use Rattle.dcsctp_machine.specs.declared.association.Held.{Held}
 use Rattle.dcsctp_machine.specs.declared.association.Association.{Association}
 use Rattle.dcsctp_machine.specs.declared.association.Phase.{Phase}
 use Rattle.dcsctp_machine.specs.declared.association.Phase.TheVariants as phases
+use Rattle.dcsctp_machine.specs.declared.kinds.BackoffAlgorithm.{BackoffAlgorithm}
+use Rattle.dcsctp_machine.specs.declared.kinds.BackoffAlgorithm.TheVariants.{Fixed, Exponential}
 use Rattle.dcsctp_machine.specs.declared.kinds.SctpImplementation.{SctpImplementation}
 use Rattle.dcsctp_machine.specs.declared.kinds.SctpImplementation.TheVariants.{Unknown}
 use Rattle.dcsctp_machine.specs.declared.options.Options.{Options}
@@ -48,14 +50,22 @@ own_tag (cookie_wait my) = my.tag
 own_tag (cookie_echoed my held cookie) = my.tag
 own_tag (open_in phase my held) = my.tag
 
--- A timer of this layer that runs (RFC 9260, sections 5.1, 8.3 and 9.2; RFC 6525, section 5.1). Moments and
--- durations are nanoseconds.
-pub record RunningTimer : Type 0 where
-  -- when it expires next
-  pub deadline : ℕ
-  -- how long it ran before it expired first
+-- How a timer runs, once it is started (RFC 9260, section 6.3). Durations are nanoseconds.
+pub record TimerSettings : Type 0 where
+  -- how long before it expires first
   pub duration : ℕ
+  pub backoff : BackoffAlgorithm
+  -- how often it goes on after it has expired; None: no limit
+  pub max_restarts : Option ℕ
+  -- the longest that it runs after it has expired; None: no bound
+  pub max_backoff : Option ℕ
+
+-- A timer of this layer that runs (RFC 9260, sections 5.1, 8.3 and 9.2; RFC 6525, section 5.1).
+pub record RunningTimer : Type 0 where
+  -- the moment at which it expires next, in nanoseconds
+  pub deadline : ℕ
   pub expiries : ℕ
+  pub settings : TimerSettings
 
 -- A timer that belongs to a phase doesn't run outside it.
 pub record Timers : Type 0 where
@@ -73,8 +83,17 @@ abbrev pub moment_after : ℕ → ℕ → ℕ
 moment_after moment duration = min (moment + duration) max_nanos
 
 -- a timer that is started at this moment
-abbrev pub started : ℕ → ℕ → Option RunningTimer
-started moment duration = Some (record { deadline = moment_after moment duration; duration = duration; expiries = 0 })
+abbrev pub started : ℕ → TimerSettings → Option RunningTimer
+started moment settings = Some (record { deadline = moment_after moment settings.duration; expiries = 0; settings = settings })
+
+-- T1-init and T1-cookie: each wait is twice the last one, and the options say how often a packet is sent again
+-- (RFC 9260, section 5.1).
+abbrev pub t1_settings : Options → ℕ → TimerSettings
+t1_settings options duration = record { duration = duration; backoff = Exponential; max_restarts = options.max_init_retransmits; max_backoff = None }
+
+-- the heartbeat interval: it goes on for good (RFC 9260, section 8.3)
+abbrev pub heartbeat_settings : Options → TimerSettings
+heartbeat_settings options = record { duration = as_nanos options.heartbeat_interval; backoff = Fixed; max_restarts = None; max_backoff = None }
 
 -- the own request to reset streams that is under way (RFC 6525, section 4.1)
 pub record OutstandingRequest : Type 0 where

@@ -1,4 +1,4 @@
-//! Kinds of errors, of implementations and of checksums.
+//! Kinds of errors, of implementations, of checksums and of timers.
 
 /// How an SCTP packet may be protected without its checksum (RFC 9653, section 3), by number.
 #[derive(Clone, Copy, Debug, PartialEq, Eq)]
@@ -60,4 +60,14 @@ pub enum ErrorKind {
 
     /// The operation is not supported.
     UnsupportedOperation,
+}
+
+/// How long a timer runs after it has expired.
+#[derive(Clone, Copy, Debug, PartialEq, Eq)]
+pub enum BackoffAlgorithm {
+    /// As long as before it expired first.
+    Fixed,
+
+    /// Twice as long as the last time (RFC 9260, section 6.3.3).
+    Exponential,
 }

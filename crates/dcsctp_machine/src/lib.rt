@@ -15,7 +15,8 @@ pub use association::{Association, Held, Pair, Phase};
 pub use capabilities::Capabilities;
 pub use dcsctp_wire::ReconfigurationResponseResult;
 pub use kinds::{
-    ErrorKind, SctpImplementation, ZERO_CHECKSUM_ALTERNATE_ERROR_DETECTION_METHOD_LOWER_LAYER_DTLS,
+    BackoffAlgorithm, ErrorKind, SctpImplementation,
+    ZERO_CHECKSUM_ALTERNATE_ERROR_DETECTION_METHOD_LOWER_LAYER_DTLS,
     ZERO_CHECKSUM_ALTERNATE_ERROR_DETECTION_METHOD_NONE, ZeroChecksumAlternateErrorDetectionMethod,
 };
 pub use laws::{

@@ -104,10 +104,10 @@ connect_fits law e (open_in phase my held) word next h = still_fits e h
 
 -- ---- INIT ACK
 
-refused_fits : (b : Bool) (e : Endpoint) (theirs : Introduction) → FitsEndpoint e → IsSendable (abort_emission theirs)
-    → TurnFits (ends_with (cond b (sends e [] [] (abort_emission theirs)) (quiet e [] [])) (aborted ProtocolViolation no_cookie_text))
-refused_fits true e theirs h good = record { after = record { valid = h.valid; options = h.options; core = tt }; sends = (good, (tt, tt)) }
-refused_fits false e theirs h good = record { after = record { valid = h.valid; options = h.options; core = tt }; sends = (tt, tt) }
+refused_fits : (b : Bool) (e : Endpoint) (tag : ℕ) → FitsEndpoint e → IsSendable (abort_emission tag)
+    → TurnFits (ends_with (cond b (sends e [] [] (abort_emission tag)) (quiet e [] [])) (aborted ProtocolViolation no_cookie_text))
+refused_fits true e tag h good = record { after = record { valid = h.valid; options = h.options; core = tt }; sends = (good, (tt, tt)) }
+refused_fits false e tag h good = record { after = record { valid = h.valid; options = h.options; core = tt }; sends = (tt, tt) }
 
 echoed_fits : (b allowed : Bool) (e : Endpoint) (words : List Word) (tag : ℕ) (cookie : List ℕ) → FitsEndpoint e → IsSendable (echo_emission tag cookie)
     → TurnFits (cond b (cond allowed (sends e words [] (echo_emission tag cookie)) (quiet e words [])) (quiet e words []))
@@ -116,7 +116,7 @@ echoed_fits false allowed e words tag cookie h good = record { after = h; sends 
 
 accepted_fits : (e : Endpoint) (my : Pair) (theirs : Introduction) (cookie : Option (List ℕ)) (word : ℕ) → FitsEndpoint e → FitsPair my → Sendable (init_ack theirs cookie)
     → TurnFits (accepts_init_ack e my theirs cookie word)
-accepted_fits e my theirs None word h own good = refused_fits (fits e (abort_emission theirs)) e theirs h (record { tag = good.said.tag; contents = (abort_sendable, tt) })
+accepted_fits e my theirs None word h own good = refused_fits (fits e (abort_emission theirs.pair.tag)) e theirs.pair.tag h (record { tag = good.said.tag; contents = (abort_sendable, tt) })
 accepted_fits e my theirs (Some cookie) word h own good =
     let awaiting : Endpoint = awaits_cookie_ack e my theirs cookie word in
     echoed_fits (fits awaiting (echo_emission theirs.pair.tag cookie)) (allows_packet awaiting.options.max_burst) awaiting (U64 word ∷ []) theirs.pair.tag cookie

@@ -9,7 +9,8 @@ mod send_queue;
 mod tests;
 mod timer;
 
+pub use dcsctp_machine::BackoffAlgorithm;
 pub use retransmission_queue::RetransmissionQueue;
 pub use retransmission_timeout::RetransmissionTimeout;
 pub use send_queue::SendQueue;
-pub use timer::{BackoffAlgorithm, Timer};
+pub use timer::Timer;

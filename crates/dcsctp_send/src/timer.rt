@@ -1,19 +1,9 @@
 //! A timer that is started, stopped and asked for its deadline. It doesn't read a clock: the caller hands
 //! in the moment.
 
-use dcsctp_machine::SocketTime;
+use dcsctp_machine::{BackoffAlgorithm, SocketTime};
 use std::marker::Model;
 use std::time::Duration;
-
-/// How long a timer runs after it has expired.
-#[derive(Clone, Copy, Debug, PartialEq, Eq)]
-pub enum BackoffAlgorithm {
-    /// As long as before it expired first.
-    Fixed,
-
-    /// Twice as long as the last time (RFC 9260, section 6.3.3).
-    Exponential,
-}
 
 // A timer that runs.
 #[derive(Clone, Copy, Debug)]
@@ -48,13 +38,20 @@ impl Model for Timer {
     ghost view = { λ timer. record {
       running = option_map (λ running. record {
         deadline = running.deadline;
-        duration = as_nanos running.duration;
         expiries = running.expiries;
+        settings = record {
+          duration = as_nanos running.duration;
+          backoff = timer.backoff;
+          max_restarts = timer.max_restarts;
+          max_backoff = option_map as_nanos timer.max_backoff;
+        };
       }) timer.running;
-      duration = as_nanos timer.duration;
-      backoff = timer.backoff;
-      max_restarts = timer.max_restarts;
-      max_backoff = option_map as_nanos timer.max_backoff;
+      settings = record {
+        duration = as_nanos timer.duration;
+        backoff = timer.backoff;
+        max_restarts = timer.max_restarts;
+        max_backoff = option_map as_nanos timer.max_backoff;
+      };
     } };
 }
 
@@ -77,10 +74,12 @@ impl Timer {
     ) -> Timer
         ensures { result ≡ record {
           running = None;
-          duration = as_nanos duration;
-          backoff = backoff;
-          max_restarts = max_restarts;
-          max_backoff = option_map as_nanos max_backoff;
+          settings = record {
+            duration = as_nanos duration;
+            backoff = backoff;
+            max_restarts = max_restarts;
+            max_backoff = option_map as_nanos max_backoff;
+          };
         } }
     {
         Timer {
@@ -95,7 +94,7 @@ impl Timer {
     /// Starts the timer at the moment `now`, whether it runs or not. It expires a duration later, or at
     /// the last moment if that is earlier, and has not expired yet.
     pub fn start(&mut self, now: SocketTime)
-        ensures { self.new ≡ record self.old { running = started now self.old.duration } }
+        ensures { self.new ≡ record self.old { running = started now self.old.settings } }
     {
         self.running = Some(Running {
             deadline: now + self.duration,

@@ -1,5 +1,5 @@
 -- The turns of a call from those of its parts.
-use Rattle.std.proofs.Common.{◌≡◌, ℕ, List, [], ◌∷◌, ◌++◌, map, take, drop, refl, sym, ap, subst, ◌∙◌, append_assoc, Result, Ok, Err, OnOk, OnErr}
+use Rattle.std.proofs.Common.{◌≡◌, ℕ, List, [], ◌∷◌, ◌++◌, map, take, drop, refl, sym, ap, subst, ◌∙◌, append_assoc}
 use Rattle.std.proofs.lemmas.List.{append-nil, map-append, take-append-drop}
 use Rattle.rand_core.specs.Stream.{Stream}
 use Rattle.dcsctp_wire.specs.Content.{PacketContent}
@@ -14,10 +14,9 @@ use Rattle.dcsctp_machine.specs.Turn.{Turn, refusal, arrival_outcome, refusal_ou
 use Rattle.dcsctp_machine.specs.CallTurns.{AdmittedTurns, HandleInput, unreadable, readable, FirstAdmitted, CutInput, unread, read, events_of}
 use Rattle.dcsctp_api.specs.Calls.{AddsFront, user_event}
 use Rattle.dcsctp_machine.proofs.TurnLemmas.{events_of-append}
-use Rattle.dcsctp_core.specs.View.{View, call_start, Moves, MovesAll, CutTurn, first_word, second_word}
-use Rattle.dcsctp_handshake.specs.Handshake.{connect_turn}
+use Rattle.dcsctp_core.specs.View.{View, call_start, Moves, MovesAll, CutTurn}
 use Rattle.dcsctp_wire.specs.declared.packet.WireOptions.{WireOptions}
-use Rattle.dcsctp_socket.specs.Parts.{PacketMoves, InputMoves, ConnectMoves, PacketCut, InputCut}
+use Rattle.dcsctp_socket.specs.Parts.{PacketMoves, InputMoves, PacketCut, InputCut}
 use Rattle.dcsctp_core.proofs.Moving.{moves_one, moves_then}
 
 -- A packet that isn't admitted has one turn.
@@ -98,29 +97,7 @@ unreadable_input {R = R} stream old a b c bytes options text begins counted is n
     let here : (packet : PacketContent) → IsPacket (wire_options a.endpoint.options) packet bytes → ⊥ = λ packet found. none packet (subst (λ (o : WireOptions). IsPacket o packet bytes) (sym (options_of stream a b options counted is)) found) in
     called_input stream bytes old c (subst (λ (v : View R). Called stream bytes v c) begins (unreadable_call stream a b c bytes here counted (subst (λ (t : List ℕ). Moves stream b (refusal_outcome b.endpoint t) c) says moves)))
 
--- ---- connect
-
--- the turn, from the view as the call begins
-connected_from : {R : Type 0} (stream : R → Stream) (old start new : View R) → start ≡ call_start old → Moves stream start (connect_turn stream start) new
-    → Moves stream (call_start old) (connect_turn stream (call_start old)) new
-connected_from {R = R} stream old start new begins moves = subst (λ (v : View R). Moves stream v (connect_turn stream v) new) begins moves
-
-pub connect_moves : {R T E : Type 0} (stream : R → Stream) (old start new : View R) (result : Result T E) → start ≡ call_start old
-    → OnOk result (Moves stream start (connect_turn stream start) new) → OnOk result (ConnectMoves stream old new)
-connect_moves stream old start new (Ok value) begins moves =
-    let turn = connect_turn stream (call_start old) in
-    record {
-      outcomes = turn ∷ [];
-      turns = ((first_word (stream old.generator), second_word (stream old.generator), refl), tt);
-      moves = moves_one stream (call_start old) new turn (connected_from stream old start new begins moves);
-    }
-connect_moves stream old start new (Err error) begins moves = tt
-
 -- ---- where a growth was refused
-
-pub on_err : {A E P : Type 0} (result : Result A E) → P → OnErr result P
-on_err (Ok value) p = tt
-on_err (Err error) p = p
 
 -- no turn was finished
 adds_none : (ports : Ports) (events : List (Event (List ℕ))) → AddsFront ports [] events events
@@ -148,8 +125,13 @@ adds_cut stream a b outcomes outcome events same moves cut =
           ∙ ap (λ (es : List (Event Emission)). map (user_event ports) es) (sym (events_of-append outcomes (outcome ∷ [])));
     }
 
-pub unread_cut : {R : Type 0} (view : View R) (bytes : List ℕ) → InputCut bytes view view.events
-unread_cut view bytes = record { outcomes = []; turns = unread; adds = adds_none (ports_of view.endpoint.options) view.events }
+pub unread_cut : {R : Type 0} (view : View R) (bytes : List ℕ) (events : List (Event (List ℕ))) → events ≡ view.events → InputCut bytes view events
+unread_cut view bytes events same =
+    record { outcomes = []; turns = unread; adds = subst (λ (es : List (Event (List ℕ))). AddsFront (ports_of view.endpoint.options) [] view.events es) (sym same) (adds_none (ports_of view.endpoint.options) view.events) }
+
+-- Counting a packet adds no event.
+pub counted_events : {R : Type 0} (stream : R → Stream) (old a b : View R) → a ≡ call_start old → Moves stream a (arrival_outcome a.endpoint) b → b.events ≡ old.events
+counted_events {R = R} stream old a b begins counted = counted.events ∙ append-nil a.events ∙ ap (λ (v : View R). v.events) begins
 
 -- a call that was cut, with the turns that it had
 abbrev Cut : {R : Type 0} → List ℕ → View R → List (Event (List ℕ)) → Type 0

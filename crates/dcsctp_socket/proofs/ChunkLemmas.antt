@@ -1,22 +1,24 @@
--- Turns of chunks: one without a handler, and one that was cut before it added an event.
-use Rattle.std.proofs.Common.{◌≡◌, ℕ, Bool, List, map, refl, sym, ap, ◌∙◌, Result, Ok, Err, OnErr}
+-- Turns of chunks and of connect, from what their handlers say.
+use Rattle.std.proofs.Common.{◌≡◌, ℕ, Bool, false, List, [], ◌∷◌, refl, sym, ap, subst, ◌∙◌, Result, Ok, Err}
 use Rattle.std.proofs.lemmas.List.{append-nil}
 use Rattle.rand_core.specs.Stream.{Stream}
-use Rattle.dcsctp_machine.specs.Cause.{Cause}
 use Rattle.dcsctp_machine.specs.Event.{Event}
-use Rattle.dcsctp_machine.specs.Packet.{Introduction, Content, init, abort, other}
+use Rattle.dcsctp_machine.specs.Packet.{Introduction, Content, init, other}
 use Rattle.dcsctp_machine.specs.Outcome.{Outcome, still}
 use Rattle.dcsctp_machine.specs.Turn.{ContentTurn}
 use Rattle.dcsctp_machine.specs.turns.Handshake.{init_outcome}
-use Rattle.dcsctp_machine.specs.turns.Ends.{abort_outcome}
-use Rattle.dcsctp_api.specs.declared.events.SocketEvent.{SocketEvent}
-use Rattle.dcsctp_api.specs.Events.{event_content}
+use Rattle.dcsctp_api.specs.declared.errors.SocketFault.{SocketFault}
+use Rattle.dcsctp_api.specs.Calls.{Connects, Follows, RanOut}
 use Rattle.dcsctp_core.specs.declared.following.Following.TheVariants.{NextChunk}
-use Rattle.dcsctp_core.specs.declared.state.State.{State}
 use Rattle.dcsctp_core.specs.declared.context.Context.{Context}
-use Rattle.dcsctp_core.specs.View.{View, endpoint_of, view_of}
-use Rattle.dcsctp_core.proofs.Moving.{moves_still}
-use Rattle.dcsctp_socket.specs.Parts.{ChunkMoves, ChunkCut}
+use Rattle.dcsctp_core.specs.declared.following.Following.{Following}
+use Rattle.dcsctp_core.specs.View.{View, endpoint_of, view_of, call_start, Moves}
+use Rattle.dcsctp_core.specs.Drawing.{first_word, second_word}
+use Rattle.dcsctp_core.specs.Handling.{OnlyDrew, Works, WorksWhole}
+use Rattle.dcsctp_core.proofs.Moving.{moves_one, moves_still}
+use Rattle.dcsctp_handshake.specs.Handshake.{connect_turn}
+use Rattle.dcsctp_socket.specs.Parts.{ChunkMoves, ChunkCut, ConnectMoves, WorksChunk, WorksConnect}
+use Rattle.dcsctp_socket.specs.SocketView.{Settles, user_view_of}
 
 -- ---- a chunk of another kind
 
@@ -31,7 +33,12 @@ other_worked stream view tag chunk_type flags value =
       moves = moves_still stream view;
     }
 
--- ---- where a growth was refused
+-- ---- a chunk's turn by what its handler says
+
+pub works_chunk : {R E : Type 0} (stream : R → Stream) (tag : ℕ) (content : Content) (turn : View R → Outcome) (old : Context R) (result : Result Following E) (new : Context R)
+    → ContentTurn (endpoint_of old) tag content (turn (view_of old)) → Works stream turn old result new → WorksChunk stream tag content old result new
+works_chunk stream tag content turn old (Ok next) new is worked = record { outcome = turn (view_of old); turn = is; following = worked.following; moves = worked.moves }
+works_chunk stream tag content turn old (Err error) new is cut = record { outcome = turn (view_of old); turn = is; cut = cut }
 
 -- No event of the turn was added.
 cut_before : {R : Type 0} (old : View R) (tag : ℕ) (content : Content) (outcome : Outcome) (events : List (Event (List ℕ)))
@@ -39,15 +46,51 @@ cut_before : {R : Type 0} (old : View R) (tag : ℕ) (content : Content) (outcom
 cut_before old tag content outcome events turn same =
     record { outcome = outcome; turn = turn; cut = record { count = 0; added = same ∙ sym (append-nil old.events) } }
 
-pub init_cut : {R : Type 0} (state : State) (context : Context R) (old new : List SocketEvent) (tag : ℕ) (theirs : Introduction)
-    → new ≡ old → ChunkCut tag (init theirs) (view_of state context old) (map event_content new)
-init_cut state context old new tag theirs same =
-    let e = endpoint_of state context in
-    cut_before (view_of state context old) tag (init theirs) (init_outcome e theirs e.core 0 0) (map event_content new) (0, 0, refl) (ap (λ (events : List SocketEvent). map event_content events) same)
+pub works_whole : {R E : Type 0} (stream : R → Stream) (tag : ℕ) (content : Content) (turn : View R → Outcome) (old : Context R) (result : Result Following E) (new : Context R)
+    → ContentTurn (endpoint_of old) tag content (turn (view_of old)) → WorksWhole stream turn old result new → WorksChunk stream tag content old result new
+works_whole stream tag content turn old (Ok next) new is worked = record { outcome = turn (view_of old); turn = is; following = worked.following; moves = worked.moves }
+works_whole {R = R} stream tag content turn old (Err error) new is same = cut_before (view_of old) tag content (turn (view_of old)) (view_of new).events is (ap (λ (v : View R). v.events) same)
 
-pub abort_cut : {R T E : Type 0} (state : State) (context : Context R) (old new : List SocketEvent) (tag : ℕ) (reflected : Bool) (causes : List Cause) (result : Result T E)
-    → OnErr result (new ≡ old) → OnErr result (ChunkCut tag (abort reflected causes) (view_of state context old) (map event_content new))
-abort_cut state context old new tag reflected causes (Ok value) same = tt
-abort_cut state context old new tag reflected causes (Err error) same =
-    let e = endpoint_of state context in
-    cut_before (view_of state context old) tag (abort reflected causes) (abort_outcome e causes e.core) (map event_content new) refl (ap (λ (events : List SocketEvent). map event_content events) same)
+pub init_cut : {R : Type 0} (old new : View R) (tag : ℕ) (theirs : Introduction) → OnlyDrew old new → ChunkCut tag (init theirs) old new.events
+init_cut {R = R} old new tag theirs same =
+    cut_before old tag (init theirs) (init_outcome old.endpoint theirs old.endpoint.core 0 0) new.events (0, 0, refl) (ap (λ (v : View R). v.events) same)
+
+-- ---- connect
+
+pub connect_moves : {R : Type 0} (stream : R → Stream) (old start new : View R) → start ≡ call_start old
+    → Moves stream start (connect_turn stream start) new → ConnectMoves stream old new
+connect_moves {R = R} stream old start new begins moves =
+    let turn = connect_turn stream (call_start old) in
+    record {
+      outcomes = turn ∷ [];
+      turns = ((first_word (stream old.generator), second_word (stream old.generator), refl), tt);
+      moves = moves_one stream (call_start old) new turn (subst (λ (v : View R). Moves stream v (connect_turn stream v) new) begins moves);
+    }
+
+-- the call, by what its socket answers
+pub connects : {R E : Type 0} (stream : R → Stream) (old new : Context R) (failed fails : Bool) (result : Result (Unit {0}) E) (answer : Result (Unit {0}) SocketFault)
+    → failed ≡ false → WorksConnect stream old result new → Settles failed result answer fails
+    → Connects (user_view_of (record { view = view_of old; failed = failed })) answer (user_view_of (record { view = view_of new; failed = fails }))
+connects stream old new failed fails (Ok done) answer runs worked settled =
+    let then : Follows (user_view_of (record { view = view_of old; failed = failed })) worked.outcomes (user_view_of (record { view = view_of new; failed = fails })) =
+    record {
+      runs = runs;
+      goes_on = settled.1 ∙ runs;
+      endpoint = worked.moves.endpoint;
+      events = worked.moves.events;
+      words = worked.moves.words;
+      pairs = worked.moves.pairs;
+    } in
+    subst (λ (a : Result (Unit {0}) SocketFault). Connects (user_view_of (record { view = view_of old; failed = failed })) a (user_view_of (record { view = view_of new; failed = fails })))
+    (sym settled.0) (worked.outcomes, worked.turns, then)
+connects stream old new failed fails (Err error) answer runs same settled =
+    let out : RanOut (user_view_of (record { view = view_of old; failed = failed })) (λ outcomes. outcomes ≡ []) (user_view_of (record { view = view_of new; failed = fails })) =
+    record {
+      runs = runs;
+      fails = settled.1;
+      outcomes = [];
+      turns = refl;
+      events = record { added = []; rest = []; behind = same ∙ sym (append-nil (view_of old).events); front = refl };
+    } in
+    subst (λ (a : Result (Unit {0}) SocketFault). Connects (user_view_of (record { view = view_of old; failed = failed })) a (user_view_of (record { view = view_of new; failed = fails })))
+    (sym settled.0) out

@@ -1,5 +1,5 @@
 -- What the calls of a socket do, by its parts.
-use Rattle.std.specs.Prelude.{◌≡◌, ℕ, List, [], ◌∷◌}
+use Rattle.std.specs.Prelude.{◌≡◌, ℕ, Result, Ok, Err, List, [], ◌∷◌}
 use Rattle.rand_core.specs.Stream.{Stream}
 use Rattle.dcsctp_wire.specs.Content.{PacketContent}
 use Rattle.dcsctp_machine.specs.Admission.{admits}
@@ -11,7 +11,8 @@ use Rattle.dcsctp_machine.specs.Turn.{ContentTurn, act_input}
 use Rattle.dcsctp_machine.specs.control.Acts.{connect}
 use Rattle.dcsctp_machine.specs.CallTurns.{Turns, ChunkTurns, AdmittedTurns, HandleInput, FirstTurns, FirstAdmitted, CutInput}
 use Rattle.dcsctp_api.specs.Calls.{AddsFront}
-use Rattle.dcsctp_core.specs.View.{View, Moves, MovesAll, CallMoves, CutTurn}
+use Rattle.dcsctp_core.specs.declared.context.Context.{Context}
+use Rattle.dcsctp_core.specs.View.{View, view_of, Moves, MovesAll, CallMoves, CutTurn}
 use Rattle.dcsctp_core.specs.declared.following.Following.{Following}
 use Rattle.dcsctp_core.specs.Handling.{following_of}
 
@@ -71,3 +72,26 @@ pub record InputCut {R : Type 0} (bytes : List ℕ) (old : View R) (events : Lis
   pub outcomes : List Outcome
   pub turns : CutInput old.endpoint bytes outcomes
   pub adds : AddsFront (ports_of old.endpoint.options) outcomes old.events events
+
+-- ---- by the result of a function
+
+abbrev pub WorksChunk : {R E : Type 0} → (R → Stream) → ℕ → Content → Context R → Result Following E → Context R → Type 0
+WorksChunk stream tag content old (Ok next) new = ChunkMoves stream tag content (view_of old) next (view_of new)
+WorksChunk stream tag content old (Err error) new = ChunkCut tag content (view_of old) (view_of new).events
+
+abbrev pub WorksChunks : {R E : Type 0} → (R → Stream) → PacketContent → Context R → Result (Unit {0}) E → Context R → Type 0
+WorksChunks stream packet old (Ok done) new = ChunksMove stream packet (view_of old) (view_of new)
+WorksChunks stream packet old (Err error) new = ChunksCut packet (view_of old) (view_of new).events
+
+abbrev pub WorksPacket : {R E : Type 0} → (R → Stream) → PacketContent → Context R → Result (Unit {0}) E → Context R → Type 0
+WorksPacket stream packet old (Ok done) new = PacketMoves stream packet (view_of old) (view_of new)
+WorksPacket stream packet old (Err error) new = PacketCut packet (view_of old) (view_of new).events
+
+abbrev pub WorksInput : {R E : Type 0} → (R → Stream) → List ℕ → Context R → Result (Unit {0}) E → Context R → Type 0
+WorksInput stream bytes old (Ok done) new = InputMoves stream bytes (view_of old) (view_of new)
+WorksInput stream bytes old (Err error) new = InputCut bytes (view_of old) (view_of new).events
+
+-- Where a growth was refused, no event was added.
+abbrev pub WorksConnect : {R E : Type 0} → (R → Stream) → Context R → Result (Unit {0}) E → Context R → Type 0
+WorksConnect stream old (Ok done) new = ConnectMoves stream (view_of old) (view_of new)
+WorksConnect stream old (Err error) new = (view_of new).events ≡ (view_of old).events

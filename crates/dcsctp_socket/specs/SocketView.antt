@@ -1,7 +1,9 @@
 -- What a socket is: its view in the machine, and whether a growth was refused.
-use Rattle.std.specs.Prelude.{Bool, false, []}
+use Rattle.std.specs.Prelude.{◌≡◌, Bool, true, false, Result, Ok, Err, []}
 use Rattle.dcsctp_machine.specs.declared.options.Options.{Options}
 use Rattle.dcsctp_machine.specs.Endpoint.{fresh_endpoint}
+use Rattle.dcsctp_api.specs.declared.errors.SocketFault.{SocketFault}
+use Rattle.dcsctp_api.specs.declared.errors.SocketFault.TheVariants.{OutOfMemory}
 use Rattle.dcsctp_api.specs.Calls.{UserView}
 use Rattle.dcsctp_core.specs.View.{View}
 
@@ -17,3 +19,8 @@ user_view_of socket = record { endpoint = socket.view.endpoint; events = socket.
 abbrev pub fresh_socket : {R : Type 0} → Options → R → SocketView R
 fresh_socket options generator =
     record { view = record { endpoint = fresh_endpoint options; events = []; words = []; pairs = []; generator = generator }; failed = false }
+
+-- The answer to a call, and whether the socket has failed after it.
+abbrev pub Settles : {E : Type 0} → Bool → Result (Unit {0}) E → Result (Unit {0}) SocketFault → Bool → Type 0
+Settles failed (Ok done) answer fails = (answer ≡ Ok tt) × (fails ≡ failed)
+Settles failed (Err error) answer fails = (answer ≡ Err OutOfMemory) × (fails ≡ true)

@@ -1,18 +1,17 @@
 //! The calls of a socket, over its parts: each is a list of turns.
 
-ghost use Rattle.std.specs.Prelude.{◌≡◌, false, IfOk, IsOk, OnOk, OnErr, map};
+ghost use Rattle.std.specs.Prelude.{◌≡◌, false, IsOk};
 ghost use Rattle.dcsctp_wire.specs.Content.{chunk_content, packet_content};
 ghost use Rattle.dcsctp_machine.specs.Packet.{content_in};
 ghost use Rattle.dcsctp_machine.specs.Settings.{wire_options};
-ghost use Rattle.dcsctp_api.specs.Events.{event_content};
 ghost use Rattle.dcsctp_api.specs.Calls.{is_closed};
-ghost use Rattle.dcsctp_core.specs.View.{core_of, view_of};
-ghost use Rattle.dcsctp_socket.specs.Parts.{ChunkMoves, ChunksMove, PacketMoves, InputMoves, ConnectMoves, ChunkCut, ChunksCut, PacketCut, InputCut};
+ghost use Rattle.dcsctp_core.specs.View.{core_of};
+ghost use Rattle.dcsctp_socket.specs.Parts.{WorksChunk, WorksChunks, WorksPacket, WorksInput, WorksConnect};
 
 use crate::admission::{Admission, admit};
 use crate::texts::UNREADABLE;
-use dcsctp_api::{ErrorKind, Events, Options};
-use dcsctp_core::{Context, Following, State, handle_abort};
+use dcsctp_api::{ErrorKind, Options};
+use dcsctp_core::{Context, Following, handle_abort};
 use dcsctp_handshake::{
     do_connect, handle_cookie_ack, handle_cookie_echo, handle_init, handle_init_ack,
 };
@@ -22,28 +21,23 @@ use std::alloc::AllocError;
 
 // Works a chunk of an admitted packet with this header tag, and says what follows it.
 fn handle_chunk<R: Rng>(
-    state: &mut State,
     context: &mut Context<R>,
-    events: &mut Events,
     header_tag: u32,
     chunk: &Chunk<'_>,
 ) -> Result<Following, AllocError>
-    ensures turn { IfOk result (λ following. ChunkMoves R.stream header_tag
-        (content_in (chunk_content chunk.now)) (view_of state.old context.old events.old) following
-        (view_of state.new context.new events.new)) }
-    ensures err { OnErr result (ChunkCut header_tag (content_in (chunk_content chunk.now))
-        (view_of state.old context.old events.old) (map event_content events.new)) }
+    ensures { WorksChunk R.stream header_tag (content_in (chunk_content chunk.now)) context.old
+        result context.new }
 {
     match chunk {
         Chunk::Init(init) => {
-            handle_init(state, context, events, init)?;
+            handle_init(context, init)?;
             Ok(Following::NextChunk)
         }
-        Chunk::InitAck(init_ack) => handle_init_ack(state, context, events, init_ack),
-        Chunk::Abort(abort) => handle_abort(state, context, events, abort),
-        Chunk::CookieEcho(echo) => handle_cookie_echo(state, context, events, header_tag, echo),
+        Chunk::InitAck(init_ack) => handle_init_ack(context, init_ack),
+        Chunk::Abort(abort) => handle_abort(context, abort),
+        Chunk::CookieEcho(echo) => handle_cookie_echo(context, header_tag, echo),
         Chunk::CookieAck => {
-            handle_cookie_ack(state, context, events)?;
+            handle_cookie_ack(context)?;
             Ok(Following::NextChunk)
         }
         Chunk::Other(_) => Ok(Following::NextChunk),
@@ -52,19 +46,14 @@ fn handle_chunk<R: Rng>(
 
 // Works the chunks of an admitted packet one after another, until one says that the rest is dropped.
 fn handle_chunks<R: Rng>(
-    state: &mut State,
     context: &mut Context<R>,
-    events: &mut Events,
     packet: &SctpPacket<'_>,
 ) -> Result<(), AllocError>
-    ensures turns { OnOk result (ChunksMove R.stream (packet_content packet.now)
-        (view_of state.old context.old events.old) (view_of state.new context.new events.new)) }
-    ensures err { OnErr result (ChunksCut (packet_content packet.now)
-        (view_of state.old context.old events.old) (map event_content events.new)) }
+    ensures { WorksChunks R.stream (packet_content packet.now) context.old result context.new }
 {
     let header_tag = packet.common_header.verification_tag;
     for chunk in &packet.chunks {
-        match handle_chunk(state, context, events, header_tag, chunk)? {
+        match handle_chunk(context, header_tag, chunk)? {
             Following::NextChunk => {}
             Following::DroppedRest => return Ok(()),
         }
@@ -74,21 +63,16 @@ fn handle_chunks<R: Rng>(
 
 // Works a packet that was read: as admission says.
 fn handle_packet<R: Rng>(
-    state: &mut State,
     context: &mut Context<R>,
-    events: &mut Events,
     packet: &SctpPacket<'_>,
 ) -> Result<(), AllocError>
-    ensures turns { OnOk result (PacketMoves R.stream (packet_content packet.now)
-        (view_of state.old context.old events.old) (view_of state.new context.new events.new)) }
-    ensures err { OnErr result (PacketCut (packet_content packet.now)
-        (view_of state.old context.old events.old) (map event_content events.new)) }
+    ensures { WorksPacket R.stream (packet_content packet.now) context.old result context.new }
 {
-    match admit(state, packet) {
-        Admission::AllChunks => handle_chunks(state, context, events, packet)?,
+    match admit(&context.state, packet) {
+        Admission::AllChunks => handle_chunks(context, packet)?,
         Admission::Refused(refusal) => {
             let text = refusal.text(context.alloc)?;
-            context.report(events, ErrorKind::ParseFailed, text)?;
+            context.report(ErrorKind::ParseFailed, text)?;
         }
     }
     Ok(())
@@ -97,24 +81,19 @@ fn handle_packet<R: Rng>(
 /// Works a packet (RFC 9260, section 8.5): it is counted, read, admitted or refused, and each chunk
 /// has its turn. The one error is that a growth was refused.
 pub(crate) fn handle_input<R: Rng>(
-    state: &mut State,
     context: &mut Context<R>,
-    events: &mut Events,
     packet: &[u8],
 ) -> Result<(), AllocError>
-    ensures turns { OnOk result (InputMoves R.stream packet.now
-        (view_of state.old context.old events.old) (view_of state.new context.new events.new)) }
-    ensures err { OnErr result (InputCut packet.now (view_of state.old context.old events.old)
-        (map event_content events.new)) }
+    ensures { WorksInput R.stream packet.now context.old result context.new }
 {
     context.begin_call();
     context.count_packet();
     let options = wire_options(&context.options);
     match SctpPacket::from_bytes(context.alloc, packet, &options) {
-        Ok(packet) => handle_packet(state, context, events, &packet)?,
+        Ok(packet) => handle_packet(context, &packet)?,
         Err(PacketError::Malformed) => {
             let text = String::from_str(context.alloc, UNREADABLE)?;
-            context.report(events, ErrorKind::ParseFailed, text)?;
+            context.report(ErrorKind::ParseFailed, text)?;
         }
         Err(PacketError::OutOfMemory) => return Err(AllocError),
     }
@@ -123,18 +102,13 @@ pub(crate) fn handle_input<R: Rng>(
 
 /// Begins an association where there is none (RFC 9260, section 5.1). The one error is that a growth was
 /// refused; no event is added then.
-pub(crate) fn connect<R: Rng>(
-    state: &mut State,
-    context: &mut Context<R>,
-    events: &mut Events,
-) -> Result<(), AllocError>
-    ensures turn { OnOk result (ConnectMoves R.stream (view_of state.old context.old events.old)
-        (view_of state.new context.new events.new)) }
-    ensures err { OnErr result (events.new ≡ events.old) }
-    ensures open { is_closed (core_of state.old) ≡ false → IsOk result }
+pub(crate) fn connect<R: Rng>(context: &mut Context<R>) -> Result<(), AllocError>
+    ensures turn { WorksConnect R.stream context.old result context.new }
+    ensures open { is_closed (core_of context.old.state) ≡ false → IsOk result }
 {
     context.begin_call();
-    do_connect(state, context, events)
+    do_connect(context)?;
+    Ok(())
 }
 
 // What the reader of packets needs of the options.

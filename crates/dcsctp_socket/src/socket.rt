@@ -1,21 +1,19 @@
 //! The socket.
 
+ghost use Rattle.dcsctp_socket.specs.SocketView.{Settles};
+
 use crate::calls;
-use dcsctp_api::{
-    Association, DcSctpSocket, Events, Options, Pair, SocketEvent, SocketFault, SocketState,
-};
-use dcsctp_core::{Context, State};
+use dcsctp_api::{Association, DcSctpSocket, Options, Pair, SocketEvent, SocketFault, SocketState};
+use dcsctp_core::Context;
 use rand_core::Rng;
-use std::alloc::Global;
+use std::alloc::{AllocError, Global};
 use std::marker::Model;
 
 /// One end of an SCTP association.
 #[derive(Drop)]
 pub struct Socket<R> {
     name: String,
-    state: State,
     context: Context<R>,
-    events: Events,
     failed: bool,
 }
 
@@ -25,7 +23,20 @@ impl<R> Model for Socket<R> {
 
     ghost Value = { SocketView R };
 
-    ghost view = { λ s. record { view = view_of s.state s.context s.events; failed = s.failed } };
+    ghost view = { λ s. record { view = view_of s.context; failed = s.failed } };
+}
+
+// The answer to a call. A socket that was refused a growth has failed from then on.
+fn settled(failed: &mut bool, outcome: Result<(), AllocError>) -> Result<(), SocketFault>
+    ensures { Settles failed.old outcome result failed.new }
+{
+    match outcome {
+        Ok(()) => Ok(()),
+        Err(_) => {
+            *failed = true;
+            Err(SocketFault::OutOfMemory)
+        }
+    }
 }
 
 impl<R: Rng + Drop> Socket<R> {
@@ -51,9 +62,7 @@ impl<R: Rng + Drop> Socket<R> {
         let name = String::from_str(alloc, name)?;
         Ok(Socket {
             name,
-            state: State::Closed,
             context: Context::new(alloc, *options, rng),
-            events: Events::new(alloc),
             failed: false,
         })
     }
@@ -62,7 +71,7 @@ impl<R: Rng + Drop> Socket<R> {
     pub fn association(&self) -> Option<Association>
         ensures { result ≡ association_of self.now.view.endpoint.core }
     {
-        self.state.association()
+        self.context.state.association()
     }
 
     /// The own verification tag, which packets to this socket bear (RFC 9260, section 8.5); 0 in the
@@ -70,7 +79,7 @@ impl<R: Rng + Drop> Socket<R> {
     pub fn verification_tag(&self) -> u32
         ensures { result ≡ own_tag self.now.view.endpoint.core }
     {
-        self.state.verification_tag()
+        self.context.state.verification_tag()
     }
 
     /// The pairs of a tag and a first TSN that the last call of this socket drew, in order: own ones,
@@ -78,7 +87,7 @@ impl<R: Rng + Drop> Socket<R> {
     pub fn drawn_pairs(&self) -> &[Pair]
         ensures { result.now ≡ self.now.view.pairs }
     {
-        &self.context.pairs
+        self.context.drawn_pairs()
     }
 
     /// Was a growth refused in an earlier call? It takes no memory.
@@ -101,7 +110,7 @@ impl<R: Rng + Drop> DcSctpSocket for Socket<R> {
         ensures call { PollsEvent (user_view_of self.old) result (user_view_of self.new) }
         ensures generator { self.new.view.generator ≡ self.old.view.generator }
     {
-        self.events.next_event()
+        self.context.events.next_event()
     }
 
     fn handle_input(&mut self, packet: &[u8]) -> Result<(), SocketFault>
@@ -116,13 +125,8 @@ impl<R: Rng + Drop> DcSctpSocket for Socket<R> {
         if self.failed {
             return Err(SocketFault::Failed);
         }
-        match calls::handle_input(&mut self.state, &mut self.context, &mut self.events, packet) {
-            Ok(()) => Ok(()),
-            Err(_) => {
-                self.failed = true;
-                Err(SocketFault::OutOfMemory)
-            }
-        }
+        let outcome = calls::handle_input(&mut self.context, packet);
+        settled(&mut self.failed, outcome)
     }
 
     fn connect(&mut self) -> Result<(), SocketFault>
@@ -138,16 +142,11 @@ impl<R: Rng + Drop> DcSctpSocket for Socket<R> {
         if self.failed {
             return Err(SocketFault::Failed);
         }
-        match calls::connect(&mut self.state, &mut self.context, &mut self.events) {
-            Ok(()) => Ok(()),
-            Err(_) => {
-                self.failed = true;
-                Err(SocketFault::OutOfMemory)
-            }
-        }
+        let outcome = calls::connect(&mut self.context);
+        settled(&mut self.failed, outcome)
     }
 
     fn state(&self) -> SocketState {
-        self.state.socket_state()
+        self.context.state.socket_state()
     }
 }

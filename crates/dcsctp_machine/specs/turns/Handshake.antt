@@ -16,7 +16,7 @@ use Rattle.dcsctp_machine.specs.Cause.{missing_mandatory_parameter}
 use Rattle.dcsctp_machine.specs.Event.{aborted, connected}
 use Rattle.dcsctp_machine.specs.Packet.{Introduction, Content, init, init_ack, cookie_echo, abort, shutdown_ack, Emission}
 use Rattle.dcsctp_machine.specs.Transfer.{SendQueueState, queue_after_reset, new_transfer, next_tsn_of}
-use Rattle.dcsctp_machine.specs.Endpoint.{Endpoint, Core, closed, cookie_wait, cookie_echoed, open_in, OpenPhase, established, shutdown_pending, shutdown_sent, shutdown_received, shutdown_ack_sent, Timers, started}
+use Rattle.dcsctp_machine.specs.Endpoint.{Endpoint, Core, closed, cookie_wait, cookie_echoed, open_in, OpenPhase, established, shutdown_pending, shutdown_sent, shutdown_received, shutdown_ack_sent, Timers, started, t1_settings, heartbeat_settings}
 use Rattle.dcsctp_machine.specs.Outcome.{Outcome, still, quiet, fits, emits, drawing}
 use Rattle.dcsctp_machine.specs.control.Handshake.{introduction_of, held_by_init_ack}
 use Rattle.dcsctp_machine.specs.turns.Flush.{flushes}
@@ -111,7 +111,7 @@ init_emission e mine = record { with_checksum = true; packet = record { tag = 0;
 -- an INIT ACK is awaited
 abbrev pub awaits_init_ack : Endpoint → Pair → Endpoint
 awaits_init_ack e mine =
-    record e { core = cookie_wait mine; timers = record e.timers { t1 = started e.moment (as_nanos e.options.t1_init_timeout) } }
+    record e { core = cookie_wait mine; timers = record e.timers { t1 = started e.moment (t1_settings e.options (as_nanos e.options.t1_init_timeout)) } }
 
 -- A closed socket draws a pair and begins an association. The words are those that come next, drawn or not.
 abbrev pub connect_outcome : Endpoint → Core → ℕ → ℕ → Outcome
@@ -130,16 +130,16 @@ ConnectTurn e o = (word next : ℕ) × (o ≡ connect_outcome e e.core word next
 abbrev pub no_cookie_text : List ℕ
 no_cookie_text = codes "InitAck chunk doesn't contain a cookie"
 
--- ABORT with the cause Missing Mandatory Parameter (RFC 9260, section 3.3.10.2), under the tag of the INIT ACK
-abbrev pub abort_emission : Introduction → Emission
-abort_emission theirs =
+-- ABORT with the cause Missing Mandatory Parameter (RFC 9260, section 3.3.10.2), under the INIT ACK's initiate tag
+abbrev pub abort_emission : ℕ → Emission
+abort_emission tag =
     record {
       with_checksum = true;
-      packet = record { tag = theirs.pair.tag; contents = abort false (missing_mandatory_parameter (state_cookie_type ∷ []) ∷ []) ∷ [] };
+      packet = record { tag = tag; contents = abort false (missing_mandatory_parameter (state_cookie_type ∷ []) ∷ []) ∷ [] };
     }
 
-abbrev pub refuses_init_ack : Endpoint → Introduction → Outcome
-refuses_init_ack e theirs = ends_with (emits e [] (abort_emission theirs)) (aborted ProtocolViolation no_cookie_text)
+abbrev pub refuses_init_ack : Endpoint → ℕ → Outcome
+refuses_init_ack e tag = ends_with (emits e [] (abort_emission tag)) (aborted ProtocolViolation no_cookie_text)
 
 -- The peer's implementation, by its cookie.
 abbrev pub implementation_of : List ℕ → SctpImplementation
@@ -161,7 +161,7 @@ awaits_cookie_ack e mine theirs cookie tie =
     record e {
       core = cookie_echoed mine held cookie;
       tie = tie;
-      timers = record e.timers { t1 = started e.moment (as_nanos e.options.t1_cookie_timeout) };
+      timers = record e.timers { t1 = started e.moment (t1_settings e.options (as_nanos e.options.t1_cookie_timeout)) };
       peer_implementation = implementation_of cookie;
       below = record {
         queue = queue_anew e.below.queue held.capabilities.message_interleaving;
@@ -177,7 +177,7 @@ abbrev pub echoes_cookie : Endpoint → List Word → ℕ → List ℕ → Outco
 echoes_cookie e words tag cookie = if fits e (echo_emission tag cookie) then flushes e words [] (echo_emission tag cookie).with_checksum tag (echo_emission tag cookie).packet.contents else quiet e words []
 
 abbrev pub accepts_init_ack : Endpoint → Pair → Introduction → Option (List ℕ) → ℕ → Outcome
-accepts_init_ack e mine theirs None tie = refuses_init_ack e theirs
+accepts_init_ack e mine theirs None tie = refuses_init_ack e theirs.pair.tag
 accepts_init_ack e mine theirs (Some cookie) tie = echoes_cookie (awaits_cookie_ack e mine theirs cookie tie) (U64 tie ∷ []) theirs.pair.tag cookie
 
 -- INIT ACK counts in CookieWait alone (RFC 9260, section 5.2.3). The word is the one that comes next, drawn or not.
@@ -197,7 +197,7 @@ InitAckTurn e theirs cookie o = (word : ℕ) × (o ≡ init_ack_outcome e theirs
 abbrev pub heartbeats_begun : Endpoint → Timers → Timers
 heartbeats_begun e timers =
     if as_nanos e.options.heartbeat_interval == 0 then timers
-    else record timers { heartbeat_interval = started e.moment (as_nanos e.options.heartbeat_interval) }
+    else record timers { heartbeat_interval = started e.moment (heartbeat_settings e.options) }
 
 -- The association is established. T1 is stopped, and the heartbeat interval begins anew.
 abbrev pub connected_after : Endpoint → Pair → Held → Endpoint

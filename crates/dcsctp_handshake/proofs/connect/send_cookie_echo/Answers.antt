@@ -13,13 +13,14 @@ use Rattle.dcsctp_core.proofs.Composing.{moves_as}
 use Rattle.dcsctp_handshake.proofs.InitAckSteps.{echo_that_fits}
 use Rattle.dcsctp_handshake.proofs.connect.send_cookie_echo.Goals as goal
 
-pub returns-clause-turn : goal.returns-clause-turn
-returns-clause-turn g c =
-    let e = endpoint_of c.args.state.now c.args.context.now in
+pub returns : goal.returns
+returns g c =
+    let old = c.args.context.now in
+    let e = endpoint_of old in
     let echoed = c.in-CookieEchoed.echoed in
-    let made : c.write_checksum-packet.result ≡ empty_packet c.args.context.now.options true echoed.tcb.peer.tag = c.write_checksum-packet.ensures ∙ ap (λ (b : Building). record b { with_checksum = true }) c.in_ok-packet.ensures in
+    let made : c.write_checksum-packet.result ≡ empty_packet old.options true echoed.tcb.peer.tag = c.write_checksum-packet.ensures ∙ ap (λ (b : Building). record b { with_checksum = true }) c.in_ok-packet.ensures in
     let bytes = chunk_bytes (cookie_echo_chunk echoed.cookie.items) in
-    let within : 12 + length bytes ≤ packet_size_limit c.args.context.now.options =
+    let within : 12 + length bytes ≤ packet_size_limit old.options =
     omega (
       arith,
       ap (λ (b : Building). b.size) made,
@@ -30,11 +31,11 @@ returns-clause-turn g c =
       ap (λ (cookie : List ℕ). length (chunk_bytes (cookie_echo_chunk cookie))) c.deref.ensures.value,
       c.if-bytes_remaining-serialized_size.false,
     ) in
-    let built : c.add.new.self ≡ packet_of c.args.context.now.options true echoed.tcb.peer.tag (cookie_echo echoed.cookie.items ∷ []) =
+    let built : c.add.new.self ≡ packet_of old.options true echoed.tcb.peer.tag (cookie_echo echoed.cookie.items ∷ []) =
     c.add.ensures
     ∙ ap (λ (cookie : List ℕ). record c.write_checksum-packet.result { body = c.write_checksum-packet.result.body ++ chunk_bytes (cookie_echo_chunk cookie) }) c.deref.ensures.value
     ∙ ap (λ (b : Building). record b { body = b.body ++ bytes }) made
-    ∙ ap (λ (body : List ℕ). record (empty_packet c.args.context.now.options true echoed.tcb.peer.tag) { body = body }) (sym (append-nil bytes)) in
-    moves_as g.R.Rng.stream (view_of c.args.state.now c.args.context.now c.args.events.now) _ _ _
+    ∙ ap (λ (body : List ℕ). record (empty_packet old.options true echoed.tcb.peer.tag) { body = body }) (sym (append-nil bytes)) in
+    moves_as g.R.Rng.stream (view_of old) _ _ _
     (ap (λ (s : State). echo_outcome e (core_of s)) c.in-CookieEchoed.is ∙ echo_that_fits e [] echoed.tcb.peer.tag echoed.cookie.items within)
-    (c.in_ok-send_buffered_packets_with.ensures.turn c.args.state.now true echoed.tcb.peer.tag (cookie_echo echoed.cookie.items ∷ []) built)
+    (c.in_ok-send_buffered_packets_with.ensures true echoed.tcb.peer.tag (cookie_echo echoed.cookie.items ∷ []) built).moves

@@ -1,20 +1,17 @@
-use Rattle.dcsctp_core.specs.declared.state.State.TheVariants.{Established}
-use Rattle.dcsctp_core.proofs.Composing.{on_err}
-use Rattle.dcsctp_handshake.proofs.EchoSteps.{connected_turn, connected_cut}
+use Rattle.std.proofs.lemmas.Result.{err_from_is_err_and}
+use Rattle.std.proofs.Common.{ap, ◌∙◌}
+use Rattle.dcsctp_api.specs.declared.events.SocketEvent.TheVariants.{OnConnected}
+use Rattle.dcsctp_core.specs.View.{View, view_of}
+use Rattle.dcsctp_core.proofs.Composing.{added_one}
+use Rattle.dcsctp_handshake.specs.Echoes.{maintain_turn}
+use Rattle.dcsctp_handshake.proofs.EchoSteps.{maintain_cut}
 use Rattle.dcsctp_handshake.proofs.cookie_echo.maintain.Goals as goal
 
-pub returns-in_err-send_cookie_ack-in-CookieEchoed-clause-err :
-    goal.returns-in_err-send_cookie_ack-in-CookieEchoed-clause-err
-returns-in_err-send_cookie_ack-in-CookieEchoed-clause-err g c =
-    on_err c.from_residual-in_err-send_cookie_ack-in-CookieEchoed.result
-    (λ cookie holds. connected_cut c.args.state.now c.in-CookieEchoed.field-0 c.args.context.now c.args.events.now c.add.new.self c.send_cookie_ack.new.events cookie
-    c.in-CookieEchoed.is c.in_ok-add-in-CookieEchoed.ensures.ok c.in_err-send_cookie_ack-in-CookieEchoed.ensures.err)
-
-pub returns-in_ok-send_cookie_ack-in-CookieEchoed-clause-turn :
-    goal.returns-in_ok-send_cookie_ack-in-CookieEchoed-clause-turn
-returns-in_ok-send_cookie_ack-in-CookieEchoed-clause-turn g c = λ cookie holds.
-    let echoed = c.in-CookieEchoed.field-0 in
-    connected_turn g.R.Rng.stream c.args.state.now c.establish.new.self echoed c.args.context.now c.start_heartbeat_interval.new.self c.send_cookie_ack.new.context
-    c.args.events.now c.add.new.self c.send_cookie_ack.new.events cookie
-    c.in-CookieEchoed.is c.establish.ensures (c.start_heartbeat_interval.ensures.endpoint (Established echoed.tcb))
-    c.start_heartbeat_interval.ensures.words c.start_heartbeat_interval.ensures.pairs c.start_heartbeat_interval.ensures.generator c.in_ok-add-in-CookieEchoed.ensures.ok c.in_ok-send_cookie_ack-in-CookieEchoed.ensures.turn holds
+pub returns-in_err-send_cookie_ack-in-CookieEchoed :
+    goal.returns-in_err-send_cookie_ack-in-CookieEchoed
+returns-in_err-send_cookie_ack-in-CookieEchoed g c =
+    let old = c.args.context.now in
+    rw (err_from_is_err_and c.from_residual-in_err-send_cookie_ack-in-CookieEchoed.result c.from_residual-in_err-send_cookie_ack-in-CookieEchoed.ensures.1).1
+    (maintain_cut (view_of old) old.state c.in-CookieEchoed.field-0 _ c.in-CookieEchoed.is
+    (ap (λ (v : View g.row.R.Denot). v.events) (c.in_err-send_cookie_ack-in-CookieEchoed.ensures ∙ c.start_heartbeat_interval.ensures)
+    ∙ added_one old.events c.add.new.self OnConnected c.in_ok-add-in-CookieEchoed.ensures.ok))

@@ -1,20 +1,33 @@
-use Rattle.std.proofs.Common.{ap, map}
-use Rattle.rand_core.specs.Stream.{next_u64}
+use Rattle.std.proofs.lemmas.Result.{err_from_is_err_and}
+use Rattle.std.proofs.Common.{List, ℕ, [], ◌∷◌, ◌++◌, ap, map}
+use Rattle.dcsctp_machine.specs.Event.{Event, connection_restarted}
 use Rattle.dcsctp_api.specs.Cookie.{cookie_of}
 use Rattle.dcsctp_api.specs.Events.{event_content}
-use Rattle.dcsctp_core.proofs.Composing.{on_err, cut_first}
+use Rattle.dcsctp_api.specs.declared.events.SocketEvent.TheVariants.{OnConnectionRestarted}
+use Rattle.dcsctp_core.specs.View.{View, view_of}
+use Rattle.dcsctp_core.specs.Drawing.{long_word}
+use Rattle.dcsctp_core.proofs.Composing.{added_one, cut_first}
+use Rattle.dcsctp_handshake.specs.Echoes.{restart_turn}
 use Rattle.dcsctp_handshake.proofs.EchoSteps.{restarts_behind, restart_cut}
 use Rattle.dcsctp_handshake.proofs.cookie_echo.restart.Goals as goal
 
-pub returns-in_err-add-clause-err : goal.returns-in_err-add-clause-err
-returns-in_err-add-clause-err g c = on_err _ (cut_first _ _ _ (ap (map event_content) c.in_err-add.ensures.err))
+pub returns-in_err-add : goal.returns-in_err-add
+returns-in_err-add g c =
+    rw (err_from_is_err_and c.from_residual.result c.from_residual.ensures.1).1
+    (cut_first _ _ _ (ap (map event_content) c.in_err-add.ensures.err))
 
-pub returns-in_err-replace-clause-err : goal.returns-in_err-replace-clause-err
-returns-in_err-replace-clause-err g c =
-    let tie = (next_u64 (g.R.Rng.stream c.args.context.now.generator)).0 in
-    on_err _ (restart_cut c.args.state.now c.args.context.now c.args.events.now c.add.new.self (cookie_of c.args.cookie.now) tie _ c.in_ok-add.ensures.ok c.in_err-replace.ensures.err)
+pub returns-in_err-replace : goal.returns-in_err-replace
+returns-in_err-replace g c =
+    let old = view_of c.args.context.now in
+    let cookie = cookie_of c.args.cookie.now in
+    rw (err_from_is_err_and c.from_residual-in_err-replace.result c.from_residual-in_err-replace.ensures.1).1
+    (restart_cut old _ cookie (long_word (g.R.Rng.stream old.generator)) _
+    (ap (λ (es : List (Event (List ℕ))). record old { events = es }) (added_one c.args.context.now.events c.add.new.self OnConnectionRestarted c.in_ok-add.ensures.ok))
+    c.in_err-replace.ensures)
 
-pub returns-clause-turn : goal.returns-clause-turn
-returns-clause-turn g c =
-    let tie = (next_u64 (g.R.Rng.stream c.args.context.now.generator)).0 in
-    restarts_behind g.R.Rng.stream c.args.state.now c.args.context.now c.args.events.now c.add.new.self _ (cookie_of c.args.cookie.now) tie c.in_ok-add.ensures.ok c.in_ok-replace.ensures.turn
+pub returns : goal.returns
+returns g c =
+    let old = view_of c.args.context.now in
+    restarts_behind g.R.Rng.stream old _ _ (cookie_of c.args.cookie.now) (long_word (g.R.Rng.stream old.generator))
+    (ap (λ (es : List (Event (List ℕ))). record old { events = es }) (added_one c.args.context.now.events c.add.new.self OnConnectionRestarted c.in_ok-add.ensures.ok))
+    c.in_ok-replace.ensures

@@ -11,6 +11,6 @@ abbrev pub invariant-loop-chunk : goal.invariant-loop-chunk
 invariant-loop-chunk g l = record {
   outcomes : List Outcome;
   goes_on : GoOn outcomes;
-  turns : ChunkTurns (endpoint_of l.fn.state l.fn.context) l.packet.common_header.verification_tag (contents_of (take l.chunk-index l.chunk-items)) outcomes;
-  moves : MovesAll g.R.Rng.stream (view_of l.fn.state l.fn.context l.fn.events) outcomes (view_of l.state l.context l.events);
+  turns : ChunkTurns (endpoint_of l.fn.context) l.packet.common_header.verification_tag (contents_of (take l.chunk-index l.chunk-items)) outcomes;
+  moves : MovesAll g.R.Rng.stream (view_of l.fn.context) outcomes (view_of l.context);
 }

@@ -13,18 +13,18 @@ use Rattle.dcsctp_core.proofs.Composing.{moves_as}
 use Rattle.dcsctp_core.proofs.EndLemmas.{close_where_open}
 use Rattle.dcsctp_core.proofs.context.Context.internal_close.Goals as goal
 
-pub returns-clause-turn : goal.returns-clause-turn
-returns-clause-turn g c =
-    let e = endpoint_of c.args.state.now c.args.self.now in
-    let a = view_of c.args.state.now c.args.self.now c.args.events.now in
-    moves_as g.R.Rng.stream a _ _ _ (close_where_open e (core_of c.args.state.now) (end_event c.args.error (string_bytes c.args.message)) (sym c.is_closed.ensures ∙ c.if-is_closed.false))
+pub returns : goal.returns
+returns g c =
+    let old = c.args.self.now in
+    let e = endpoint_of old in
+    moves_as g.R.Rng.stream (view_of old) _ _ _ (close_where_open e (core_of old.state) (end_event c.args.error (string_bytes c.args.message)) (sym c.is_closed.ensures ∙ c.if-is_closed.false))
     (record {
       endpoint = ap (λ (t : TimerModel). record (closed_after e) { timers = record stopped_timers { heartbeat_interval = t.running } }) c.stop.ensures;
       events =
           ap (λ (es : List SocketEvent). map event_content es) c.in_ok-add.ensures.ok
-          ∙ map-append event_content c.args.events.now (c.end_event.result ∷ [])
-          ∙ ap (λ (event : Event (List ℕ)). map event_content c.args.events.now ++ event ∷ []) (c.end_event.ensures (ports_of c.args.self.now.options));
-      words = sym (append-nil c.args.self.now.words.items);
-      pairs = sym (append-nil c.args.self.now.pairs.items);
+          ∙ map-append event_content old.events (c.end_event.result ∷ [])
+          ∙ ap (λ (event : Event (List ℕ)). map event_content old.events ++ event ∷ []) (c.end_event.ensures (ports_of old.options));
+      words = sym (append-nil old.words.items);
+      pairs = sym (append-nil old.pairs.items);
       drawn = refl;
     })

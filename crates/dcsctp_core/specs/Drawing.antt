@@ -1,0 +1,45 @@
+-- Random words of a call, and the pairs that are made of them.
+use Rattle.std.specs.Prelude.{◌≡◌, ℕ, Result, Ok, Err, [], ◌∷◌, ◌++◌}
+use Rattle.rand_core.specs.Stream.{Stream, next_u32, next_u64}
+use Rattle.dcsctp_machine.specs.declared.association.Pair.{Pair}
+use Rattle.dcsctp_machine.specs.declared.word.Word.{Word}
+use Rattle.dcsctp_core.specs.declared.context.Context.{Context}
+
+-- the next word, the one after it, and the next word of 64 bits
+abbrev pub first_word : Stream → ℕ
+first_word stream = (next_u32 stream).0
+
+abbrev pub second_word : Stream → ℕ
+second_word stream = (next_u32 (next_u32 stream).1).0
+
+abbrev pub long_word : Stream → ℕ
+long_word stream = (next_u64 stream).0
+
+-- Words may have been drawn and pairs kept, and nothing else has changed.
+abbrev pub OnlyDraws : {R : Type 0} → Context R → Context R → Type 0
+OnlyDraws old new = new ≡ record old { generator = new.generator; words = new.words; pairs = new.pairs }
+
+-- The word is the next one of its kind, and the last that is kept. Nothing else changes.
+pub record DrawsNext {R : Type 0} (stream : R → Stream) (next : Stream → ℕ × Stream) (kind : ℕ → Word) (old : Context R) (word : ℕ) (new : Context R) : Type 0 where
+  pub from_stream : word ≡ (next (stream old.generator)).0
+  pub kept : new.words.items ≡ old.words.items ++ kind word ∷ []
+  pub left : stream new.generator ≡ (next (stream old.generator)).1
+  pub pairs : new.pairs ≡ old.pairs
+  pub only : OnlyDraws old new
+
+-- A word was drawn, or it found no room.
+abbrev pub Draws : {R E : Type 0} → (R → Stream) → (Stream → ℕ × Stream) → (ℕ → Word) → Context R → Result ℕ E → Context R → Type 0
+Draws stream next kind old (Ok word) new = DrawsNext stream next kind old word new
+Draws stream next kind old (Err error) new = OnlyDraws old new
+
+-- The pair is the last that is kept. Nothing else changes.
+pub record KeepsLast {R : Type 0} (old : Context R) (pair : Pair) (new : Context R) : Type 0 where
+  pub kept : new.pairs.items ≡ old.pairs.items ++ pair ∷ []
+  pub words : new.words ≡ old.words
+  pub generator : new.generator ≡ old.generator
+  pub only : OnlyDraws old new
+
+-- A pair was kept, or it found no room.
+abbrev pub Keeps : {R E : Type 0} → Context R → Pair → Result (Unit {0}) E → Context R → Type 0
+Keeps old pair (Ok done) new = KeepsLast old pair new
+Keeps old pair (Err error) new = OnlyDraws old new
