@@ -66,19 +66,23 @@ abbrev pub connecting : Options → Options → Handshake → Change
 connecting options_a options_b handshake = act_change options_a closed connect (choices_for handshake handshake.a)
 
 abbrev pub init_worked : Options → Options → Handshake → Change
-init_worked options_a options_b handshake = works options_b closed (sent_first (connecting options_a options_b handshake).effects) (choices_for handshake handshake.b)
+init_worked options_a options_b handshake =
+    works options_b closed (sent_first (connecting options_a options_b handshake).effects) (choices_for handshake handshake.b)
 
 abbrev pub init_ack_worked : Options → Options → Handshake → Change
 init_ack_worked options_a options_b handshake =
-    works options_a (connecting options_a options_b handshake).core (sent_first (init_worked options_a options_b handshake).effects) (choices_for handshake handshake.a)
+    works options_a (connecting options_a options_b handshake).core (sent_first (init_worked options_a options_b handshake).effects)
+    (choices_for handshake handshake.a)
 
 abbrev pub cookie_echo_worked : Options → Options → Handshake → Change
 cookie_echo_worked options_a options_b handshake =
-    works options_b (init_worked options_a options_b handshake).core (sent_first (init_ack_worked options_a options_b handshake).effects) (choices_for handshake handshake.b)
+    works options_b (init_worked options_a options_b handshake).core (sent_first (init_ack_worked options_a options_b handshake).effects)
+    (choices_for handshake handshake.b)
 
 abbrev pub cookie_ack_worked : Options → Options → Handshake → Change
 cookie_ack_worked options_a options_b handshake =
-    works options_a (init_ack_worked options_a options_b handshake).core (sent_first (cookie_echo_worked options_a options_b handshake).effects) (choices_for handshake handshake.a)
+    works options_a (init_ack_worked options_a options_b handshake).core (sent_first (cookie_echo_worked options_a options_b handshake).effects)
+    (choices_for handshake handshake.a)
 
 abbrev pub delivered : Which → Change → Change → Step
 delivered side sent change = record { side = side; move = receives (sent_first sent.effects); changes = change ∷ [] }

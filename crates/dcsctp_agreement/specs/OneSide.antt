@@ -68,7 +68,8 @@ pub record Means (core : Core) (change : Change) : Type 0 where
   pub begun : (number : ℕ) → Has (begins number) change.effects → outstanding_in change.core ≡ Some number
   -- Resets are performed and completed in the association that is held.
   pub completed : (my : Pair) (number : ℕ) → Has (completes my number) change.effects → (link : Link) × (link_in change.core ≡ Some link) × (link.my ≡ my)
-  pub performed : (peer : Pair) (number : ℕ) → Has (performs peer number) change.effects → (link : Link) × (link_in change.core ≡ Some link) × (link.peer ≡ peer)
+  pub performed : (peer : Pair) (number : ℕ) → Has (performs peer number) change.effects → (link : Link) × (link_in change.core ≡ Some link)
+      × (link.peer ≡ peer)
 
 abbrev pub EffectsMean : Type 0
 EffectsMean = (options : Options) (core : Core) (change : Change) → ControlTurn options core change → Means core change
@@ -124,5 +125,7 @@ pub record AnswersEndRequests : Type 0 where
       → Has (completes my number) (chunk_change options core header content choices).effects → HasResponse IsSuccess number (parameters_in content)
   pub failed : (options : Options) (core : Core) (header : ℕ) (content : Content) (choices : Choices) (number : ℕ)
       → Has (fails number) (chunk_change options core header content choices).effects → HasResponse IsRefusal number (parameters_in content)
-  pub none_completed : (options : Options) (core : Core) (act : Act) (choices : Choices) (my : Pair) (number : ℕ) → Has (completes my number) (act_change options core act choices).effects → ⊥
-  pub none_failed : (options : Options) (core : Core) (act : Act) (choices : Choices) (number : ℕ) → Has (fails number) (act_change options core act choices).effects → ⊥
+  pub none_completed : (options : Options) (core : Core) (act : Act) (choices : Choices) (my : Pair) (number : ℕ)
+      → Has (completes my number) (act_change options core act choices).effects → ⊥
+  pub none_failed : (options : Options) (core : Core) (act : Act) (choices : Choices) (number : ℕ)
+      → Has (fails number) (act_change options core act choices).effects → ⊥

@@ -20,7 +20,8 @@ abbrev pub OnlyDraws : {R : Type 0} → Context R → Context R → Type 0
 OnlyDraws old new = new ≡ record old { generator = new.generator; words = new.words; pairs = new.pairs }
 
 -- The word is the next one of its kind, and the last that is kept. Nothing else changes.
-pub record DrawsNext {R : Type 0} (stream : R → Stream) (next : Stream → ℕ × Stream) (kind : ℕ → Word) (old : Context R) (word : ℕ) (new : Context R) : Type 0 where
+pub record DrawsNext {R : Type 0} (stream : R → Stream) (next : Stream → ℕ × Stream) (kind : ℕ → Word) (old : Context R) (word : ℕ)
+    (new : Context R) : Type 0 where
   pub from_stream : word ≡ (next (stream old.generator)).0
   pub kept : new.words.items ≡ old.words.items ++ kind word ∷ []
   pub left : stream new.generator ≡ (next (stream old.generator)).1

@@ -49,12 +49,14 @@ pub record WithinLimits (options : Options) (old new : List (Event (List ℕ))) 
 -- ---- a flush of a packet that is begun
 
 -- It is a turn, whatever the machine calls the chunks that the packet holds, and keeps its limits.
-pub record Flushed {R : Type 0} (stream : R → Stream) (old : Context R) (with_checksum : Bool) (tag : ℕ) (contents : List Content) (new : Context R) : Type 0 where
+pub record Flushed {R : Type 0} (stream : R → Stream) (old : Context R) (with_checksum : Bool) (tag : ℕ) (contents : List Content)
+    (new : Context R) : Type 0 where
   pub moves : Moves stream (view_of old) (flushes (endpoint_of old) [] [] with_checksum tag contents) (view_of new)
   pub limits : WithinLimits old.options (view_of old).events (view_of new).events
 
 -- The flush took place; or a growth was refused, and nothing has changed.
 abbrev pub Flushes : {R E : Type 0} → (R → Stream) → Building → Context R → Result (Unit {0}) E → Context R → Type 0
 Flushes stream packet old (Ok done) new =
-    (with_checksum : Bool) (tag : ℕ) (contents : List Content) → packet ≡ packet_of old.options with_checksum tag contents → Flushed stream old with_checksum tag contents new
+    (with_checksum : Bool) (tag : ℕ) (contents : List Content) → packet ≡ packet_of old.options with_checksum tag contents
+    → Flushed stream old with_checksum tag contents new
 Flushes stream packet old (Err error) new = view_of new ≡ view_of old

@@ -141,7 +141,13 @@ pub record Moves {R : Type 0} (stream : R → Stream) (old : View R) (outcome : 
 -- several turns, one after another
 abbrev pub MovesAll : {R : Type 0} → (R → Stream) → View R → List Outcome → View R → Type 0
 MovesAll stream old outcomes new =
-    Moves stream old (record { words = words_of outcomes; drawn = pairs_of outcomes; after = after_all old.endpoint outcomes; events = events_of outcomes; following = next_chunk }) new
+    Moves stream old (record {
+      words = words_of outcomes;
+      drawn = pairs_of outcomes;
+      after = after_all old.endpoint outcomes;
+      events = events_of outcomes;
+      following = next_chunk;
+    }) new
 
 -- the view as a call begins: no word and no pair was drawn in it yet
 abbrev pub call_start : {R : Type 0} → View R → View R

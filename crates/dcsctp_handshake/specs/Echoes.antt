@@ -47,7 +47,8 @@ acknowledgement_turn view = acknowledged view.endpoint view.endpoint.core
 
 -- the peer that it shows
 abbrev pub peer_by_cookie : Options → Cookie → Peer
-peer_by_cookie options cookie = record { pair = cookie.addressee; a_rwnd = window_by_cookie options cookie; capabilities = negotiated (offer_of options) cookie.offer }
+peer_by_cookie options cookie =
+    record { pair = cookie.addressee; a_rwnd = window_by_cookie options cookie; capabilities = negotiated (offer_of options) cookie.offer }
 
 -- What waits to be sent stays.
 abbrev pub establish_turn : {R : Type 0} → (R → Stream) → Cookie → View R → Outcome

@@ -36,7 +36,8 @@ DrawsTag stream first_tsn old (Err error) new = OnlyDraws old new
 abbrev pub DrawsPair : {R E : Type 0} → (R → Stream) → Context R → Result Pair E → Context R → Type 0
 DrawsPair stream old (Ok pair) new =
     let next = stream (view_of old).generator in
-    (pair ≡ pair_from (first_word next) (second_word next)) × MakesPair stream old pair (first_word next ∷ second_word next ∷ []) (next_u32 (next_u32 next).1).1 new
+    (pair ≡ pair_from (first_word next) (second_word next))
+    × MakesPair stream old pair (first_word next ∷ second_word next ∷ []) (next_u32 (next_u32 next).1).1 new
 DrawsPair stream old (Err error) new = OnlyDraws old new
 
 -- ---- INIT

@@ -116,7 +116,8 @@ pub record RefusedPacketAddsOneError : Type 0 where
 -- 8.5.1).
 pub record AdmittedPacketsMayBeWorked : Type 0 where
   pub whole : (core : Core) (packet : Packet) → admits core packet ≡ all_chunks → MayBeWorked core packet
-  pub cut : (core : Core) (packet : Packet) → admits core packet ≡ shutdown_acks_alone → MayBeWorked core (record packet { contents = shutdown_acks_in packet.contents })
+  pub cut : (core : Core) (packet : Packet) → admits core packet ≡ shutdown_acks_alone
+      → MayBeWorked core (record packet { contents = shutdown_acks_in packet.contents })
   pub answered : (options : Options) (core : Core) (packet : Packet) (choices : Choices) → admits core packet ≡ shutdown_acks_alone
       → chunk_change options core packet.tag shutdown_ack choices ≡ reflects core packet.tag
 
@@ -143,7 +144,8 @@ FitsContent e content = Unit {0}
 
 -- Each turn of a chunk is a turn of the association, of which every run is proved (RFC 9260, section 5).
 abbrev pub ChunksAreControlled : Type 0
-ChunksAreControlled = (e : Endpoint) (tag : ℕ) (content : Content) (o : Outcome) → ContentTurn e tag content o → FitsContent e content → ControlledChunk e tag content o
+ChunksAreControlled =
+    (e : Endpoint) (tag : ℕ) (content : Content) (o : Outcome) → ContentTurn e tag content o → FitsContent e content → ControlledChunk e tag content o
 
 -- Each turn that the user or a timer brings is one of the association too.
 abbrev pub ActsAreControlled : Type 0
@@ -182,6 +184,7 @@ DeliveriesAreControlled =
 
 -- The options of a socket stay for good, whatever the user calls and whatever is delivered.
 pub record SocketsKeepOptions : Type 0 where
-  pub step : (e : Endpoint) (packets : List (List ℕ)) (step : Step) (outcomes : List Outcome) → StepTurns e packets step outcomes → (after_all e outcomes).options ≡ e.options
+  pub step : (e : Endpoint) (packets : List (List ℕ)) (step : Step) (outcomes : List Outcome) → StepTurns e packets step outcomes
+      → (after_all e outcomes).options ≡ e.options
   pub run : (options : Both Options) (steps : List Worked) → SocketRun options steps
       → (side : Side) → (endpoint_after (of_side side options) (of_side side (turns_after steps))).options ≡ of_side side options

@@ -92,7 +92,8 @@ offer_in capabilities =
 
 abbrev pub announced_extensions : Offer → List ℕ
 announced_extensions offer =
-    re_config_type ∷ ((if offer.partial_reliability then forward_tsn_type ∷ [] else []) ++ (if offer.message_interleaving then i_data_type ∷ i_forward_tsn_type ∷ [] else []))
+    re_config_type ∷ ((if offer.partial_reliability then forward_tsn_type ∷ [] else [])
+    ++ (if offer.message_interleaving then i_data_type ∷ i_forward_tsn_type ∷ [] else []))
 
 -- the parameters that announce an offer, in their order
 abbrev pub offer_parameters : Offer → List ParameterContent

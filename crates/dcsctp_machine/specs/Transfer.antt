@@ -44,7 +44,11 @@ with_more more (first ∷ numbers) =
 abbrev pub begun_again : SendQueueState → Option StreamNumber → SendQueueState
 begun_again queue None = queue
 begun_again queue (Some message) =
-    record queue { total_buffered_amount = queue.total_buffered_amount + message.number; buffered_amounts = with_more message queue.buffered_amounts; under_way = None }
+    record queue {
+      total_buffered_amount = queue.total_buffered_amount + message.number;
+      buffered_amounts = with_more message queue.buffered_amounts;
+      under_way = None;
+    }
 
 -- The message under way begins again, and no stream waits for a reset.
 abbrev pub queue_after_reset : SendQueueState → SendQueueState

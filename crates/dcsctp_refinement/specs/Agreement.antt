@@ -75,4 +75,5 @@ AgreeThroughout options [] = Agree options (turns_after [])
 AgreeThroughout options (worked ∷ earlier) = Agree options (turns_after (worked ∷ earlier)) × AgreeThroughout options earlier
 
 abbrev pub SocketsAgree : Type 0
-SocketsAgree = (options : Both Options) (run : List Worked) → AreUsable options → SocketRun options run → AreFresh (turns_after run) → AgreeThroughout options run
+SocketsAgree =
+    (options : Both Options) (run : List Worked) → AreUsable options → SocketRun options run → AreFresh (turns_after run) → AgreeThroughout options run

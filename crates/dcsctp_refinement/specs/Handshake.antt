@@ -66,5 +66,6 @@ pub record AreConnected (options : Both Options) (turns : Both (List Outcome)) :
 
 abbrev pub FittingSocketsConnect : Type 0
 FittingSocketsConnect =
-    (options : Both Options) (side : Side) (run : List Worked) → AreUsable options → AreFitting options → SocketRun options run → schedule_of run ≡ reverse (handshake side)
+    (options : Both Options) (side : Side) (run : List Worked) → AreUsable options → AreFitting options → SocketRun options run
+    → schedule_of run ≡ reverse (handshake side)
     → AreConnected options (turns_after run)

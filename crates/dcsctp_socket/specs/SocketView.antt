@@ -13,7 +13,8 @@ pub record SocketView (R : Type 0) : Type 0 where
 
 -- without the generator
 abbrev pub user_view_of : {R : Type 0} → SocketView R → UserView
-user_view_of socket = record { endpoint = socket.view.endpoint; events = socket.view.events; words = socket.view.words; pairs = socket.view.pairs; failed = socket.failed }
+user_view_of socket =
+    record { endpoint = socket.view.endpoint; events = socket.view.events; words = socket.view.words; pairs = socket.view.pairs; failed = socket.failed }
 
 -- a socket that was just made
 abbrev pub fresh_socket : {R : Type 0} → Options → R → SocketView R

@@ -32,7 +32,8 @@ parameter_len parameter = 4 + length (parameter_value parameter)
 -- a parameter with its padding
 unfoldable pub parameter_bytes : ParameterContent → List ℕ
 parameter_bytes parameter =
-    to_be_bytes w16 (parameter_type parameter) ++ to_be_bytes w16 (parameter_len parameter) ++ parameter_value parameter ++ zeros (padding_of (parameter_len parameter))
+    to_be_bytes w16 (parameter_type parameter) ++ to_be_bytes w16 (parameter_len parameter) ++ parameter_value parameter
+    ++ zeros (padding_of (parameter_len parameter))
 
 -- The length of parameters after one another: each but the last has its padding.
 unfoldable pub parameters_len : List ParameterContent → ℕ
@@ -41,7 +42,8 @@ parameters_len parameters = fold (λ len parameter. len + padding_of len + param
 -- the fixed part of INIT and INIT ACK (RFC 9260, sections 3.3.2 and 3.3.3)
 unfoldable pub init_fields : InitContent → List ℕ
 init_fields init =
-    to_be_bytes w32 init.initiate_tag ++ to_be_bytes w32 init.a_rwnd ++ to_be_bytes w16 init.outbound_streams ++ to_be_bytes w16 init.inbound_streams ++ to_be_bytes w32 init.initial_tsn
+    to_be_bytes w32 init.initiate_tag ++ to_be_bytes w32 init.a_rwnd ++ to_be_bytes w16 init.outbound_streams ++ to_be_bytes w16 init.inbound_streams
+    ++ to_be_bytes w32 init.initial_tsn
 
 -- The length of an INIT or INIT ACK leaves out the padding of its last parameter.
 unfoldable pub init_bytes : ℕ → InitContent → List ℕ

@@ -111,7 +111,7 @@ impl<'a> SctpPacket<'a> {
             return Err(PacketError::Malformed);
         }
         let chunks = read_chunks(alloc, &bytes[12..])?;
-        if !is_echo_in_front(&chunks) {
+        if !has_no_late_echo(&chunks) {
             return Err(PacketError::Malformed);
         }
         Ok(SctpPacket {
@@ -148,7 +148,7 @@ fn is_cookie_echo(chunk: &Chunk) -> bool
 }
 
 /// Does no COOKIE ECHO stand behind another chunk (RFC 9260, section 5.1)?
-fn is_echo_in_front(chunks: &[Chunk]) -> bool
+fn has_no_late_echo(chunks: &[Chunk]) -> bool
     ensures { result
         ≡ not (list_any (λ chunk. is_cookie_echo (chunk_content chunk)) (drop 1 chunks.now)) }
 {

@@ -40,7 +40,13 @@ shutting_down_emission held =
 
 abbrev pub refuses_restart : Endpoint → Held → Outcome
 refuses_restart e held =
-    record { words = []; drawn = []; after = counted e; events = sent (shutting_down_emission held) ∷ error WrongSequence shutting_down_text ∷ []; following = dropped_rest }
+    record {
+      words = [];
+      drawn = [];
+      after = counted e;
+      events = sent (shutting_down_emission held) ∷ error WrongSequence shutting_down_text ∷ [];
+      following = dropped_rest;
+    }
 
 -- ---- one that makes an association
 

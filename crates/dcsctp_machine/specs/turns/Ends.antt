@@ -14,7 +14,8 @@ closed_after e = record e { core = closed; tie = 0; outstanding = None; timers =
 
 -- After this outcome the association ends with this event, and the rest of the packet is dropped.
 abbrev pub ends_with : Outcome → Event Emission → Outcome
-ends_with before event = record { words = before.words; drawn = []; after = closed_after before.after; events = before.events ++ event ∷ []; following = dropped_rest }
+ends_with before event =
+    record { words = before.words; drawn = []; after = closed_after before.after; events = before.events ++ event ∷ []; following = dropped_rest }
 
 -- The association ends with this event; where there is none, nothing happens.
 abbrev pub close_outcome : Endpoint → Core → Event Emission → Outcome

@@ -174,7 +174,8 @@ abbrev pub echo_emission : ℕ → List ℕ → Emission
 echo_emission tag cookie = record { with_checksum = true; packet = record { tag = tag; contents = cookie_echo cookie ∷ [] } }
 
 abbrev pub echoes_cookie : Endpoint → List Word → ℕ → List ℕ → Outcome
-echoes_cookie e words tag cookie = if fits e (echo_emission tag cookie) then flushes e words [] (echo_emission tag cookie).with_checksum tag (echo_emission tag cookie).packet.contents else quiet e words []
+echoes_cookie e words tag cookie = if fits e (echo_emission tag cookie)
+    then flushes e words [] (echo_emission tag cookie).with_checksum tag (echo_emission tag cookie).packet.contents else quiet e words []
 
 abbrev pub accepts_init_ack : Endpoint → Pair → Introduction → Option (List ℕ) → ℕ → Outcome
 accepts_init_ack e mine theirs None tie = refuses_init_ack e theirs.pair.tag
@@ -207,5 +208,6 @@ connected_after e mine held = record e { core = open_in established mine held; t
 abbrev pub cookie_ack_outcome : Endpoint → Core → Outcome
 cookie_ack_outcome e closed = still e
 cookie_ack_outcome e (cookie_wait mine) = still e
-cookie_ack_outcome e (cookie_echoed mine held cookie) = flushes (connected_after e mine held) [] (connected ∷ []) (held.capabilities.zero_checksum_method.0 == 0) held.peer.tag []
+cookie_ack_outcome e (cookie_echoed mine held cookie) =
+    flushes (connected_after e mine held) [] (connected ∷ []) (held.capabilities.zero_checksum_method.0 == 0) held.peer.tag []
 cookie_ack_outcome e (open_in phase mine held) = still e

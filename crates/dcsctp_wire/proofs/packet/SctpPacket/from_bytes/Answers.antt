@@ -14,17 +14,17 @@ returns-in_err-chunks-clause-malformed c = λ is packet h.
     let returned = err_from_is_err_and c.from_residual.result c.from_residual.ensures.1 in
     c.in_err-chunks.ensures.malformed (cc (returned.1, returned.2, is)) packet.chunks (rw (take_rest c.args.bytes.now 12) h.chunks)
 
-pub returns-then-not-is_echo_in_front-clause-malformed : goal.returns-then-not-is_echo_in_front-clause-malformed
-returns-then-not-is_echo_in_front-clause-malformed c = λ _ packet h.
+pub returns-then-not-has_no_late_echo-clause-malformed : goal.returns-then-not-has_no_late_echo-clause-malformed
+returns-then-not-has_no_late_echo-clause-malformed c = λ _ packet h.
     let chunks = c.in_ok-chunks.chunks.items in
     let same : packet.chunks ≡ map chunk_content chunks = same_items IsReadByHeader one_chunk packet.chunks (map chunk_content chunks) (drop 12 c.args.bytes.now) h.chunks (rw (take_rest c.args.bytes.now 12) at c.in_ok-chunks.ensures.found) in
     let none = found_in_front chunks packet.chunks same h.echo_in_front in
-    cc (c.is_echo_in_front.ensures, c.if-not-is_echo_in_front.true, none)
+    cc (c.has_no_late_echo.ensures, c.if-not-has_no_late_echo.true, none)
 
 pub returns-clause-found : goal.returns-clause-found
 returns-clause-found c =
     let chunks = c.in_ok-chunks.chunks.items in
-    let in_front : not (list_any is_echo (drop 1 chunks)) ≡ true = cc (c.is_echo_in_front.ensures, c.if-not-is_echo_in_front.false) in
+    let in_front : not (list_any is_echo (drop 1 chunks)) ≡ true = cc (c.has_no_late_echo.ensures, c.if-not-has_no_late_echo.false) in
     record {
       long_enough = omega arith;
       source_port = c.u16_at.ensures;

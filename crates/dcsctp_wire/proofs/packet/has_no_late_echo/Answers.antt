@@ -5,7 +5,7 @@ use Rattle.std.proofs.lemmas.Iterator.Search.{any_from_yields_List}
 use Rattle.dcsctp_wire.specs.declared.chunk.Chunk.{Chunk}
 use Rattle.dcsctp_wire.specs.Content.{chunk_content}
 use Rattle.dcsctp_wire.specs.Format.{is_cookie_echo}
-use Rattle.dcsctp_wire.proofs.packet.is_echo_in_front.Goals as goal
+use Rattle.dcsctp_wire.proofs.packet.has_no_late_echo.Goals as goal
 
 pub returns : goal.returns
 returns c =
