@@ -1,0 +1,140 @@
+#!/usr/bin/env bash
+# Tries the attacks of the crates that are named: edits that the prover has to refuse, too many for each run of
+# `rt ci`. They stand in attacks/CRATE, and those on the definitions that agreement rests on in
+# attacks/definitions. With no name: those of each crate that has changed since the commit in attacks/passed.
+# Works on a copy of HEAD, prints each attack that isn't refused, and fails where there is one.
+set -eu
+cd "$(dirname "$0")/.."
+top=$PWD
+machine=dcsctp_machine
+agreement=dcsctp_agreement
+
+# ---- which
+
+head=$(git rev-parse --short HEAD)
+names=("$@")
+if [ $# -eq 0 ]; then
+    passed=$(cat attacks/passed 2>/dev/null || true)
+    if ! git cat-file -e "$passed^{commit}" 2>/dev/null; then
+        echo "attack: attacks/passed names no commit of this repository, so every crate counts as changed"
+        passed=
+    fi
+    changed() { [ -z "$passed" ] || ! git diff --quiet "$passed" HEAD -- "$@"; }
+    for folder in attacks/*/; do
+        name=$(basename "$folder")
+        if [ "$name" = definitions ]; then
+            changed attacks/definitions crates/$machine/specs crates/$agreement || continue
+        else
+            changed "attacks/$name" "crates/$name/src" "crates/$name/specs" "crates/$name/proofs" || continue
+        fi
+        names+=("$name")
+    done
+    if [ ${#names[@]} -eq 0 ]; then
+        echo "attack: nothing has changed since $passed"
+        exit 0
+    fi
+fi
+for name in "${names[@]}"; do
+    [ -d "attacks/$name" ] || { echo "attack: there is no folder attacks/$name"; exit 1; }
+    [ "$name" = definitions ] || [ -d "crates/$name" ] || { echo "attack: there is no crate $name"; exit 1; }
+done
+[ -z "$(git status --porcelain -- crates attacks)" ] || echo "attack: what isn't committed is not tried"
+
+# ---- the copy, with the work that earlier checks kept
+
+room=$(mktemp -d)
+trap 'rm -rf "$room"' EXIT
+git clone -q "$top" "$room/copy"
+for out in crates/*/out; do
+    [ ! -d "$out" ] || cp -a "$out" "$room/copy/$out"
+done
+
+# ---- the attacks of crates
+
+failed=0
+of_crate() {
+    local name=$1 log="$room/log" edits="$room/copy/crates/$1/must-fail" all refused
+    rm -rf "$edits"
+    mkdir "$edits"
+    cp "attacks/$name/"*.edit "$edits/"
+    all=$(find "$edits" -name '*.edit' | wc -l)
+    (cd "$room/copy" && rt must-fail "$name") > "$log" 2>&1 || failed=1
+    refused=$(grep -c '^rt: must-fail .*: refused, as it must be' "$log" || true)
+    grep '^rt: must-fail' "$log" | grep -v ': refused, as it must be' || true
+    grep -q '^rt: must-fail' "$log" || tail -20 "$log"
+    [ "$refused" = "$all" ] || failed=1
+    echo "attack: $name: $refused of $all refused"
+}
+
+# ---- the attacks on definitions
+
+# Applies an edit to the copy: each `old:` text has to stand in its file exactly once.
+apply() {
+    local line path='' old='' new='' text rest pairs=0
+    while IFS= read -r line || [ -n "$line" ]; do
+        case $line in
+            'file: '*) path=${line#file: } ;;
+            'old: '*) old=${line#old: } ;;
+            'new:'*)
+                new=${line#new:}
+                new=${new# }
+                [ -f "$room/copy/$path" ] || { echo "there is no file $path"; return 1; }
+                text=$(cat "$room/copy/$path"; echo .)
+                rest=${text#*"$old"}
+                [ "$rest" != "$text" ] || { echo "an 'old:' text isn't in $path"; return 1; }
+                [ "${rest#*"$old"}" = "$rest" ] || { echo "an 'old:' text is in $path more than once"; return 1; }
+                text=${text%%"$old"*}$new$rest
+                printf '%s' "${text%.}" > "$room/copy/$path"
+                pairs=$((pairs + 1))
+                ;;
+        esac
+    done < "$1"
+    [ $pairs -gt 0 ] || { echo "it has no 'old:' and 'new:' pair"; return 1; }
+}
+
+# Checks a crate of the copy. Says 'proved', 'refused: ' with the laws that fall and the first error, or 'BAD EDIT: '
+# and why: an error in a definition says that the edit can't be read.
+judge() {
+    local log="$room/log" end bad laws first
+    (cd "$room/copy/crates/$1" && rt check) > "$log" 2>&1 || true
+    end=$(grep '^logic=' "$log" | tail -1)
+    bad=$(grep -E '^(\./)?specs/[^ ]*: error|^(\./)?src/[^ ]*: error: [^`]|: error: .*(is not in scope|has no field|is no name)' "$log" | head -1)
+    laws=$(grep -oE '^\./proofs/laws/[a-z_]+' "$log" | sort -u | sed 's,.*/,,' | paste -sd ' ')
+    first=$(grep -E '^\./proofs/[^ ]*: error' "$log" | head -1 | cut -c1-140)
+    case $end in
+        'logic=proved '*) echo proved ;;
+        'logic=not-proved'*) if [ -n "$bad" ]; then echo "BAD EDIT: $bad"; else echo "refused: ${laws:-no law}; first $first"; fi ;;
+        *) echo "BAD EDIT: ${bad:-$(tail -1 "$log")}" ;;
+    esac
+}
+
+of_definitions() {
+    local edit name crate said
+    for edit in attacks/definitions/*.edit; do
+        name=$(basename "$edit" .edit)
+        crate=$machine
+        if said=$(apply "$edit"); then
+            said=$(judge $machine)
+            if [ "$said" = proved ]; then
+                crate=$agreement
+                said=$(judge $agreement)
+            fi
+        else
+            said="BAD EDIT: $said"
+        fi
+        case $said in
+            refused:*) echo "attack: definitions/$name: refused in $crate: ${said#refused: }" ;;
+            proved) echo "attack: definitions/$name: NOT REFUSED"; failed=1 ;;
+            *) echo "attack: definitions/$name: $said"; failed=1 ;;
+        esac
+        git -C "$room/copy" checkout -q -- crates
+    done
+}
+
+for name in "${names[@]}"; do
+    if [ "$name" = definitions ]; then of_definitions; else of_crate "$name"; fi
+done
+
+[ $failed -eq 0 ] || { echo "attack: not every attack was refused"; exit 1; }
+echo "attack: every attack was refused: ${names[*]}"
+[ $# -gt 0 ] || echo "attack: write $head into attacks/passed"
