@@ -1,0 +1,6 @@
+use Rattle.std.proofs.Common.{length}
+use Rattle.dcsctp_example.proofs.drain.Given as goal
+
+-- the events that wait
+abbrev pub decreases-loop-event : goal.decreases-loop-event
+decreases-loop-event g l = length (g.S.DcSctpSocket.user_view l.socket).events
