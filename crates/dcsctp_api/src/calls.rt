@@ -23,12 +23,13 @@ pub trait DcSctpSocket {
     /// Works a packet from the peer (RFC 9260, sections 5 and 8).
     ///
     /// Each packet is counted. One that can't be read, or whose verification tag isn't right, adds one
-    /// `SocketEvent::OnError` and changes nothing else.
+    /// `SocketEvent::OnError` and changes nothing else; no word is drawn in such a call.
     fn handle_input(&mut self, packet: &[u8]) -> Result<(), SocketFault>
         ensures { HandlesInput (user_view self.old) packet.now result (user_view self.new) };
 
     /// Begins an association (RFC 9260, section 5.1): a tag and a first TSN are drawn, and an INIT goes
-    /// out where it fits `mtu`. On a socket that isn't closed it changes nothing and takes no memory.
+    /// out where it fits `mtu`. On a socket that isn't closed it answers `Ok` and changes nothing; no
+    /// word is drawn in that call.
     fn connect(&mut self) -> Result<(), SocketFault>
         ensures call { Connects (user_view self.old) result (user_view self.new) }
         ensures open { (user_view self.old).failed ≡ false

@@ -1,4 +1,4 @@
-//! INIT (RFC 9260, sections 5.1 and 5.2).
+//! INIT (RFC 9260, sections 5.1, 5.2.1 and 5.2.2).
 
 ghost use Rattle.dcsctp_wire.specs.Content.{init_content};
 ghost use Rattle.dcsctp_machine.specs.Packet.{introduction_in};
@@ -73,7 +73,8 @@ fn send_init_ack<R: Rng>(
 }
 
 /// Works an INIT, which leaves the association as it is: while a handshake is under way the answer bears
-/// the own pair, else one that is drawn for it, and the tie tag where an association is open.
+/// the own pair (RFC 9260, section 5.2.1), else one that is drawn for it, and the tie tag
+/// where an association is open (RFC 9260, section 5.2.2).
 ///
 /// The one error is that a growth was refused. Nothing has changed then but what words were drawn.
 pub fn handle_init<R: Rng>(context: &mut Context<R>, init: &InitChunk<'_>) -> Result<(), AllocError>

@@ -3,17 +3,28 @@
 //! There are four kinds of call. Queries (`state`, `association`, `verification_tag`, `drawn_pairs`,
 //! `has_failed`) answer and change nothing. Inputs (`handle_input`) bring what the peer sent. Commands
 //! (`connect`) say what the user wants. Polls (`poll_event`) take what the socket has to tell. A user
-//! drives it by a loop, and takes the events of a command in the same way:
+//! drives it by a loop, and takes all that waits after each call (the crate `dcsctp_example` has it
+//! whole, with its contract):
 //!
 //! ```text
-//! for each packet that comes from the peer:
-//!     socket.handle_input(packet)?
-//!     while let Some(event) = socket.poll_event():
-//!         SendPacket(bytes): send them to the peer
-//!         any other: tell the application
+//! socket.connect()?;
+//! drain(socket, told)?;
+//! for packet in incoming {
+//!     socket.handle_input(packet)?;
+//!     drain(socket, told)?;
+//! }
+//!
+//! // drain:
+//! while let Some(event) = socket.poll_event() {
+//!     match event {
+//!         SocketEvent::SendPacket(packet) => told.packets.push(packet)?,
+//!         other => told.events.push(other)?,
+//!     }
+//! }
 //! ```
 //!
-//! Events come in the order in which they happened. A later call invalidates none of them.
+//! Packets go to the peer, other events to the application. Events come in the order in which they
+//! happened. A later call invalidates none of them.
 #![tactic(auto)]
 
 mod admission;
