@@ -1,5 +1,5 @@
 -- What the calls of a world do, from what its parts do.
-use Rattle.std.proofs.Common.{◌≡◌, ℕ, ◌+◌, ◌<◌, take, get_or, length, Bool, true, false, Result, Ok, Err, OnErr, List, [], ◌∷◌, ◌++◌, map, refl, sym, ap, subst, ◌∙◌, append_assoc}
+use Rattle.std.proofs.Common.{◌≡◌, ℕ, ◌+◌, ◌<◌, take, get_or, length, Bool, true, false, Err, List, [], ◌∷◌, ◌++◌, map, refl, sym, ap, subst, ◌∙◌, append_assoc}
 use Rattle.std.proofs.lemmas.List.{append-nil, map-append, take_more}
 use Rattle.dcsctp_machine.specs.declared.options.Options.{Options}
 use Rattle.dcsctp_machine.specs.declared.schedule.Side.{Side}
@@ -11,6 +11,8 @@ use Rattle.dcsctp_machine.specs.Endpoint.{association_of}
 use Rattle.dcsctp_machine.specs.Outcome.{Outcome}
 use Rattle.dcsctp_machine.specs.CallTurns.{events_of, pairs_of}
 use Rattle.dcsctp_machine.specs.Sockets.{Both, of_side, of_other, side_of, StepTurns, packets_in}
+use Rattle.dcsctp_api.specs.declared.errors.SocketFault.{SocketFault}
+use Rattle.dcsctp_api.specs.declared.errors.SocketFault.TheVariants.{OutOfMemory, Failed}
 use Rattle.dcsctp_api.specs.Calls.{user_event}
 use Rattle.dcsctp_world.specs.declared.act.Act.{Act}
 use Rattle.dcsctp_world.specs.declared.act.Act.TheVariants as acts
@@ -19,14 +21,10 @@ use Rattle.dcsctp_world.specs.declared.watched_socket.WatchedSocket.{WatchedSock
 use Rattle.dcsctp_world.specs.Shown.{SideShown, WorldView, options_of}
 use Rattle.dcsctp_world.specs.Growth.{Grows, SideExtends, with_association}
 use Rattle.dcsctp_world.specs.Run.{IsRun}
-use Rattle.dcsctp_world.specs.Acts.{StepMoves, BothExtend, with_associations, Applied, WorldExtends, Ran}
+use Rattle.dcsctp_world.specs.Acts.{StepMoves, BothExtend, with_associations, Applied, WorksStep, WorldExtends, RanOut, Ran}
 use Rattle.dcsctp_world.specs.Parts.{world_of}
 use Rattle.dcsctp_world.proofs.Keeping.{extends_itself, extends_by, extends_further}
 use Rattle.dcsctp_world.proofs.Running.{is_run_next}
-
-pub on_err : {A E P : Type 0} (result : Result A E) → P → OnErr result P
-on_err (Ok value) p = tt
-on_err (Err error) p = p
 
 -- ---- each list begins with what it held
 
@@ -121,6 +119,17 @@ pub applied_is_run : {R : Type 0} (step : Step) (reply : Reply) (a b new_a new_b
 applied_is_run step reply a b new_a new_b made new_made true is invariant applied = absurd (cc)
 applied_is_run step reply a b new_a new_b made new_made false is invariant applied =
     is_run_next (options_of (world_of a b made false)) step reply (world_of a b made false) (world_of new_a new_b new_made false) (invariant refl) applied
+
+-- a step that failed: no socket of the world had failed before, so a growth was refused
+pub ran_out_in : {R : Type 0} (step : Step) (fault : SocketFault) (a b new_a new_b : WatchedSocket R) (made new_made : List Act) (failed : Bool) → failed ≡ false
+    → (failed ≡ false → IsRun (options_of (world_of a b made failed)) (world_of a b made failed))
+    → WorksStep step (world_of a b made false) (Err fault) (world_of new_a new_b new_made false)
+    → RanOut step (world_of a b made failed) (world_of new_a new_b new_made true)
+ran_out_in step OutOfMemory a b new_a new_b made new_made failed is invariant stops = record { runs = is; fails = refl; stops = stops.0; acts = stops.1 }
+ran_out_in step Failed a b new_a new_b made new_made failed is invariant stays =
+    let goes_on : (of_side (side_of step) (world_of a b made failed).sides).socket.failed ≡ false = ((invariant is).sides (side_of step)).goes_on in
+    let had_failed : (of_side (side_of step) (world_of a b made failed).sides).socket.failed ≡ true = stays.0 in
+    absurd (cc)
 
 -- ---- several steps
 

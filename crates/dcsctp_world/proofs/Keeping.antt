@@ -12,7 +12,7 @@ use Rattle.dcsctp_api.specs.declared.events.SocketEvent.{SocketEvent}
 use Rattle.dcsctp_api.specs.declared.events.SocketEvent.TheVariants.{SendPacket}
 use Rattle.dcsctp_api.specs.Events.{event_content}
 use Rattle.dcsctp_api.specs.Calls.{UserView, PollsEvent}
-use Rattle.dcsctp_world.specs.Growth.{Extends, AddsFront, Kept, with_events, KeptFront, Taken}
+use Rattle.dcsctp_world.specs.Growth.{Extends, AddsFront, Kept, with_events, KeptFront}
 use Rattle.dcsctp_world.specs.Parts.{packet_bytes, kept}
 
 -- ---- lists that grow
@@ -116,6 +116,13 @@ module _ (events events' : List SocketEvent) (packets packets' : List (Vec ℕ G
   kept_other event none is_events is_packets =
       same_kept (kept events' packets') (with_events (event_content event ∷ []) (kept events packets)) (added_events event is_events)
       (ap packet_bytes is_packets ∙ sym (append-nil (packet_bytes packets)) ∙ ap (λ (l : List (List ℕ)). packet_bytes packets ++ l) (sym (no_packet event none)))
+
+-- Events were taken from a socket and kept, and nothing else of it changed.
+pub record Taken (old : UserView) (kept_before : Kept) (new : UserView) (kept_now : Kept) : Type 0 where
+  pub taken : List (Event (List ℕ))
+  pub front : old.events ≡ taken ++ new.events
+  pub kept : kept_now ≡ with_events taken kept_before
+  pub rest : new ≡ record old { events = new.events }
 
 pub taken_more : (old now new : UserView) (kept_before kept_now kept_then : Kept) (event : SocketEvent)
     → Taken old kept_before now kept_now → PollsEvent now (Some event) new → kept_then ≡ with_events (event_content event ∷ []) kept_now

@@ -1,5 +1,5 @@
 -- What a side shows where no call was made, and where a growth was refused while a step was worked.
-use Rattle.std.proofs.Common.{◌≡◌, ℕ, Option, List, [], ◌∷◌, ◌++◌, ◌⊎◌, inl, inr, refl, sym, ap, subst, ◌∙◌}
+use Rattle.std.proofs.Common.{◌≡◌, ℕ, true, false, Option, Err, List, [], ◌∷◌, ◌++◌, ◌⊎◌, inl, inr, refl, sym, ap, subst, ◌∙◌}
 use Rattle.std.proofs.lemmas.List.{append-nil}
 use Rattle.dcsctp_machine.specs.declared.association.Pair.{Pair}
 use Rattle.dcsctp_machine.specs.declared.association.Association.{Association}
@@ -11,13 +11,18 @@ use Rattle.dcsctp_machine.specs.Endpoint.{Endpoint, association_of}
 use Rattle.dcsctp_machine.specs.Outcome.{Outcome}
 use Rattle.dcsctp_machine.specs.CallTurns.{after_all, pairs_of}
 use Rattle.dcsctp_machine.specs.Sockets.{Both, of_side, of_other, side_of, StepTurns, packets_in}
-use Rattle.dcsctp_api.specs.Calls.{Follows}
+use Rattle.dcsctp_api.specs.declared.errors.SocketFault.{SocketFault}
+use Rattle.dcsctp_api.specs.declared.errors.SocketFault.TheVariants.{OutOfMemory, Failed}
+use Rattle.dcsctp_api.specs.Calls.{Follows, Connects, HandlesInput}
 use Rattle.dcsctp_socket.specs.SocketView.{SocketView, user_view_of}
+use Rattle.dcsctp_world.specs.declared.act.Act.{Act}
 use Rattle.dcsctp_world.specs.declared.act.Reply.{Reply}
 use Rattle.dcsctp_world.specs.declared.act.Reply.TheVariants.{NoCall, Done}
-use Rattle.dcsctp_world.specs.Shown.{SideShown}
-use Rattle.dcsctp_world.specs.Growth.{AddsFront, CollectsFront, told, Grows, ShowsFront, Stops, with_association}
-use Rattle.dcsctp_world.specs.Acts.{StepMoves, StepStops}
+use Rattle.dcsctp_world.specs.declared.watched_socket.WatchedSocket.{WatchedSocket}
+use Rattle.dcsctp_world.specs.Shown.{SideShown, WorldView}
+use Rattle.dcsctp_world.specs.Growth.{AddsFront, CollectsFront, told, Grows, ShowsFront, Stops, Fails, with_association}
+use Rattle.dcsctp_world.specs.Acts.{StepMoves, StepStops, MovesSide, WorksStep}
+use Rattle.dcsctp_world.specs.Parts.{both, world_of}
 use Rattle.dcsctp_world.proofs.Keeping.{front_same, front_whole}
 
 -- ---- no call was made
@@ -56,7 +61,7 @@ shows_nothing outcomes old new events packets pairs associations =
     }
 
 -- the socket itself was refused memory
-pub stops_before : {R : Type 0} (Turns : List Outcome → Type 0) (old : SideShown R) (socket : SocketView R) → Stops Turns old (record old { socket = socket })
+stops_before : {R : Type 0} (Turns : List Outcome → Type 0) (old : SideShown R) (socket : SocketView R) → Stops Turns old (record old { socket = socket })
 stops_before Turns old socket =
     let new = record old { socket = socket } in
     record { outcomes = []; turns = inl refl; shows = shows_nothing [] old new refl refl refl refl }
@@ -77,6 +82,22 @@ stops_after Turns old new socket outcomes turned empty follows part =
         associations = front_same (association_of (after_all old.socket.view.endpoint outcomes).core ∷ []) part.associations;
       };
     }
+
+-- ---- a call that failed in the socket, by its fault
+
+module _ {R : Type 0} (Turns : List Outcome → Type 0) (old : SideShown R) (socket : SocketView R) where
+  stays_failed : old.socket.failed ≡ true → socket ≡ old.socket → Fails Turns old Failed (record old { socket = socket })
+  stays_failed had_failed same = (had_failed, ap (λ (s : SocketView R). let side : SideShown R = record old { socket = s } in side) same)
+
+  pub connect_fails : (fault : SocketFault) → Connects (user_view_of old.socket) (Err fault) (user_view_of socket)
+      → (fault ≡ Failed → socket ≡ old.socket) → Fails Turns old fault (record old { socket = socket })
+  connect_fails OutOfMemory out same = (out.runs, stops_before Turns old socket)
+  connect_fails Failed stays same = stays_failed stays.had_failed (same refl)
+
+  pub input_fails : (bytes : List ℕ) (fault : SocketFault) → HandlesInput (user_view_of old.socket) bytes (Err fault) (user_view_of socket)
+      → (fault ≡ Failed → socket ≡ old.socket) → Fails Turns old fault (record old { socket = socket })
+  input_fails bytes OutOfMemory out same = (out.runs, stops_before Turns old socket)
+  input_fails bytes Failed stays same = stays_failed stays.had_failed (same refl)
 
 -- ---- associations
 
@@ -132,18 +153,43 @@ at_mover Turns sides.A old moved new grows stays a b =
 at_mover Turns sides.B old moved new grows stays a b =
     (grows_in_part Turns old.b moved.b new.b grows b, other_in_part old.a moved.a new.a stays a, same_socket old.a moved.a new.a stays a)
 
--- this side stopped, and the other is as it was
-pub stops_at : {R : Type 0} (step : Step) (mover : Side) (old new : Both (SideShown R)) → side_of step ≡ mover
-    → Stops (StepTurns (of_side mover old).socket.view.endpoint (of_other mover old).packets step) (of_side mover old) (of_side mover new)
-    → of_other mover new ≡ of_other mover old → StepStops step old new
-stops_at {R = R} step mover old new is stops stays =
+-- the step failed at this side, and the other is as it was
+pub fails_at : {R : Type 0} (step : Step) (mover : Side) (fault : SocketFault) (old new : Both (SideShown R)) → side_of step ≡ mover
+    → Fails (StepTurns (of_side mover old).socket.view.endpoint (of_other mover old).packets step) (of_side mover old) fault (of_side mover new)
+    → of_other mover new ≡ of_other mover old → MovesSide step old (Err fault) new
+fails_at {R = R} step mover fault old new is fails stays =
     let At : Side → Type 0 = λ side.
-    Stops (StepTurns (of_side side old).socket.view.endpoint (of_other side old).packets step) (of_side side old) (of_side side new)
-    × ShowsFront [] (of_other side old) (of_other side new)
-    × ((of_other side new).socket ≡ (of_other side old).socket) in
-    let both = subst At (sym is)
-    (stops, other_in_part (of_other mover old) (of_other mover old) (of_other mover new) refl (inl stays), ap (λ (side : SideShown R). side.socket) stays) in
-    record { mover = both.0; other = both.1; other_socket = both.2 }
+    Fails (StepTurns (of_side side old).socket.view.endpoint (of_other side old).packets step) (of_side side old) fault (of_side side new)
+    × (of_other side new ≡ of_other side old) in
+    subst At (sym is) (fails, stays)
+
+same_both : {R : Type 0} (mover : Side) (old new : Both (SideShown R)) → of_side mover new ≡ of_side mover old → of_other mover new ≡ of_other mover old → new ≡ old
+same_both {R = R} sides.A old new mine other =
+    ap (λ (s : SideShown R). let both : Both (SideShown R) = record { a = s; b = new.b } in both) mine
+    ∙ ap (λ (s : SideShown R). let both : Both (SideShown R) = record { a = old.a; b = s } in both) other
+same_both {R = R} sides.B old new mine other =
+    ap (λ (s : SideShown R). let both : Both (SideShown R) = record { a = new.a; b = s } in both) mine
+    ∙ ap (λ (s : SideShown R). let both : Both (SideShown R) = record { a = s; b = old.b } in both) other
+
+-- then the step is not among the acts
+pub step_fails : {R : Type 0} (step : Step) (fault : SocketFault) (a b new_a new_b : WatchedSocket R) (made : List Act) → MovesSide step (both a b) (Err fault) (both new_a new_b)
+    → WorksStep step (world_of a b made false) (Err fault) (world_of new_a new_b made false)
+step_fails step OutOfMemory a b new_a new_b made fails =
+    let old = both a b in
+    let new = both new_a new_b in
+    let mover : Side = side_of step in (
+      record {
+        mover = fails.0.1;
+        other = other_in_part (of_other mover old) (of_other mover old) (of_other mover new) refl (inl fails.1);
+        other_socket = ap (λ (side : SideShown _). side.socket) fails.1;
+      },
+      refl,
+    )
+step_fails {R = R} step Failed a b new_a new_b made fails = (
+  fails.0.0,
+  ap (λ (sides : Both (SideShown R)). let world : WorldView R = record { sides = sides; acts = made; failed = false } in world)
+      (same_both (side_of step) (both a b) (both new_a new_b) fails.0.1 fails.1),
+)
 
 -- a step moved its side, and then a growth was refused
 pub moved_in_part : {R : Type 0} (step : Step) (reply : Reply) (old moved new : Both (SideShown R)) → StepMoves step reply old moved

@@ -7,7 +7,7 @@ use Rattle.dcsctp_api.specs.declared.errors.SocketFault.TheVariants.{OutOfMemory
 use Rattle.dcsctp_world.specs.declared.act.Act.TheVariants as acts
 use Rattle.dcsctp_world.specs.declared.act.Reply.{Reply}
 use Rattle.dcsctp_world.specs.Shown.{SideShown, WorldView, options_of}
-use Rattle.dcsctp_world.specs.Growth.{Extends, Grows, ShowsFront, Stops, SideExtends, with_association, reply_of}
+use Rattle.dcsctp_world.specs.Growth.{Extends, Fails, Grows, ShowsFront, Stops, SideExtends, with_association, reply_of}
 use Rattle.dcsctp_world.specs.Run.{IsRun}
 use Rattle.dcsctp_world.specs.Agreement.{Agrees, HandshakeConnects}
 
@@ -17,6 +17,14 @@ pub record StepMoves {R : Type 0} (step : Step) (answer : Reply) (old new : Both
       (of_side (side_of step) old) (of_side (side_of step) new)
   pub other_stays : of_other (side_of step) new ≡ of_other (side_of step) old
   pub reply : answer ≡ reply_of (of_other (side_of step) old).packets step
+
+-- A step was worked at its side; or it failed there. The other is as it was.
+abbrev pub MovesSide : {R : Type 0} → Step → Both (SideShown R) → Result Reply SocketFault → Both (SideShown R) → Type 0
+MovesSide step old (Ok reply) new = StepMoves step reply old new
+MovesSide step old (Err fault) new =
+    Fails (StepTurns (of_side (side_of step) old).socket.view.endpoint (of_other (side_of step) old).packets step)
+    (of_side (side_of step) old) fault (of_side (side_of step) new)
+    × (of_other (side_of step) new ≡ of_other (side_of step) old)
 
 -- both sides with their associations as they are now
 abbrev pub with_associations : {R : Type 0} → Both (SideShown R) → Both (SideShown R)
@@ -47,6 +55,13 @@ pub record StepStops {R : Type 0} (step : Step) (old new : Both (SideShown R)) :
       (of_side (side_of step) old) (of_side (side_of step) new)
   pub other : ShowsFront [] (of_other (side_of step) old) (of_other (side_of step) new)
   pub other_socket : (of_other (side_of step) new).socket ≡ (of_other (side_of step) old).socket
+
+-- A step was applied; or a growth was refused in it, and it isn't among the acts; or the socket at its side had failed, and
+-- nothing has changed.
+abbrev pub WorksStep : {R : Type 0} → Step → WorldView R → Result Reply SocketFault → WorldView R → Type 0
+WorksStep step old (Ok reply) new = Applied step reply old new
+WorksStep step old (Err OutOfMemory) new = StepStops step old.sides new.sides × (new.acts ≡ old.acts)
+WorksStep step old (Err Failed) new = ((of_side (side_of step) old.sides).socket.failed ≡ true) × (new ≡ old)
 
 -- A growth was refused in a step, and the world has failed. The step isn't among its acts.
 pub record RanOut {R : Type 0} (step : Step) (old new : WorldView R) : Type 0 where

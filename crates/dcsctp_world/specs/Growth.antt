@@ -1,5 +1,5 @@
 -- How one side grows in an act.
-use Rattle.std.specs.Prelude.{◌≡◌, ℕ, Option, None, Some, List, [], ◌∷◌, ◌++◌, ◌⊎◌, map}
+use Rattle.std.specs.Prelude.{◌≡◌, ℕ, true, false, Option, None, Some, Result, Ok, Err, List, [], ◌∷◌, ◌++◌, ◌⊎◌, map}
 use Rattle.dcsctp_machine.specs.declared.schedule.Step.{Step}
 use Rattle.dcsctp_machine.specs.declared.schedule.Step.TheVariants as steps
 use Rattle.dcsctp_machine.specs.Event.{Event}
@@ -8,6 +8,8 @@ use Rattle.dcsctp_machine.specs.Settings.{ports_of}
 use Rattle.dcsctp_machine.specs.Outcome.{Outcome}
 use Rattle.dcsctp_machine.specs.CallTurns.{after_all, words_of, events_of, pairs_of}
 use Rattle.dcsctp_machine.specs.Sockets.{packets_in, numbered}
+use Rattle.dcsctp_api.specs.declared.errors.SocketFault.{SocketFault}
+use Rattle.dcsctp_api.specs.declared.errors.SocketFault.TheVariants.{OutOfMemory, Failed}
 use Rattle.dcsctp_api.specs.Calls.{UserView, user_event}
 use Rattle.dcsctp_world.specs.declared.act.Reply.{Reply}
 use Rattle.dcsctp_world.specs.declared.act.Reply.TheVariants.{NoCall, Done}
@@ -35,17 +37,22 @@ pub record Kept : Type 0 where
 abbrev pub with_events : List (Event (List ℕ)) → Kept → Kept
 with_events added kept = record { events = kept.events ++ added; packets = kept.packets ++ packets_in added }
 
--- A front part of these events was kept, with its packets or fewer.
+-- Front parts of these events and of their packets were kept. A packet is kept before its event, so it may also stand
+-- here where its event found no room.
 pub record KeptFront (all : List (Event (List ℕ))) (old new : Kept) : Type 0 where
   pub events : AddsFront all old.events new.events
   pub packets : AddsFront (packets_in all) old.packets new.packets
 
--- Events were taken from a socket and kept, and nothing else of it changed.
-pub record Taken (old : UserView) (kept_before : Kept) (new : UserView) (kept_now : Kept) : Type 0 where
-  pub taken : List (Event (List ℕ))
-  pub front : old.events ≡ taken ++ new.events
-  pub kept : kept_now ≡ with_events taken kept_before
-  pub rest : new ≡ record old { events = new.events }
+-- These events were kept, with their packets; or a growth was refused, and they were kept in part.
+abbrev pub Keeps : {E : Type 0} → List (Event (List ℕ)) → Kept → Result (Unit {0}) E → Kept → Type 0
+Keeps added old (Ok done) new = new ≡ with_events added old
+Keeps added old (Err error) new = KeptFront added old new
+
+-- All events that wait in a socket were taken and kept, and nothing else of it changed; or a growth was refused, and they
+-- were kept in part.
+abbrev pub TakesAll : {E : Type 0} → UserView → Kept → Result (Unit {0}) E → UserView → Kept → Type 0
+TakesAll old kept_before (Ok done) new kept_now = (new ≡ record old { events = [] }) × (kept_now ≡ with_events old.events kept_before)
+TakesAll old kept_before (Err error) new kept_now = KeptFront old.events kept_before kept_now
 
 -- ---- a side
 
@@ -67,6 +74,11 @@ pub record CollectsFront {R : Type 0} (old new : SideShown R) : Type 0 where
   pub packets : AddsFront (packets_in old.socket.view.events) old.packets new.packets
   pub pairs : AddsFront old.socket.view.pairs old.pairs new.pairs
   pub associations : new.associations ≡ old.associations
+
+-- What waited was collected; or a growth was refused, and it was collected in part.
+abbrev pub CollectsAll : {R E : Type 0} → SideShown R → Result (Unit {0}) E → SideShown R → Type 0
+CollectsAll old (Ok done) new = Collects old new
+CollectsAll old (Err error) new = CollectsFront old new
 
 -- these outcomes' events as the user of this side sees them
 abbrev pub told : {R : Type 0} → SideShown R → List Outcome → List (Event (List ℕ))
@@ -101,6 +113,22 @@ pub record Stops {R : Type 0} (Turns : List Outcome → Type 0) (old new : SideS
   pub turns : (outcomes ≡ []) ⊎ Turns outcomes
   pub shows : ShowsFront outcomes old new
 
+-- Turns failed at a side: a growth was refused, in its socket or in what it shows; or the socket had failed, and nothing
+-- has changed.
+abbrev pub Fails : {R : Type 0} → (List Outcome → Type 0) → SideShown R → SocketFault → SideShown R → Type 0
+Fails Turns old OutOfMemory new = (old.socket.failed ≡ false) × Stops Turns old new
+Fails Turns old Failed new = (old.socket.failed ≡ true) × (new ≡ old)
+
+-- A call of the user was made at a side; or it failed.
+abbrev pub Calls : {R : Type 0} → (List Outcome → Type 0) → SideShown R → Result (Unit {0}) SocketFault → SideShown R → Type 0
+Calls Turns old (Ok done) new = Grows Turns Done old new
+Calls Turns old (Err fault) new = Fails Turns old fault new
+
+-- A step was worked at its side, with this reply; or it failed.
+abbrev pub Works : {R : Type 0} → (List Outcome → Type 0) → Reply → SideShown R → Result Reply SocketFault → SideShown R → Type 0
+Works Turns reply old (Ok answer) new = (answer ≡ reply) × Grows Turns answer old new
+Works Turns reply old (Err fault) new = Fails Turns old fault new
+
 -- Each list begins with what it held.
 pub record SideExtends {R : Type 0} (old new : SideShown R) : Type 0 where
   pub events : Extends old.events new.events
@@ -111,6 +139,11 @@ pub record SideExtends {R : Type 0} (old new : SideShown R) : Type 0 where
 -- the side with its association as it is now
 abbrev pub with_association : {R : Type 0} → SideShown R → SideShown R
 with_association side = record side { associations = side.associations ++ association_of side.socket.view.endpoint.core ∷ [] }
+
+-- The association was noted; or a growth was refused, and nothing has changed.
+abbrev pub Notes : {R E : Type 0} → SideShown R → Result (Unit {0}) E → SideShown R → Type 0
+Notes old (Ok done) new = new ≡ with_association old
+Notes old (Err error) new = new ≡ old
 
 -- ---- replies
 

@@ -1,15 +1,14 @@
 //! One of the two sockets, with all that it ever showed.
 
-ghost use Rattle.std.specs.Prelude.{◌≡◌, [], ◌∷◌, IfOk, IsOkUnless, OnOk, OnErr};
+ghost use Rattle.std.specs.Prelude.{◌≡◌, [], ◌∷◌, IfOk, IsOkUnless};
 ghost use Rattle.std.specs.Option.{option_map};
 ghost use Rattle.dcsctp_machine.specs.Settings.{IsValid};
 ghost use Rattle.dcsctp_machine.specs.Sockets.{numbered, UserTurns, DeliveryTurns, StepTurns};
 ghost use Rattle.dcsctp_api.specs.Events.{event_content};
 ghost use Rattle.dcsctp_socket.specs.SocketView.{user_view_of};
 ghost use Rattle.dcsctp_world.specs.Shown.{fresh_side};
-ghost use Rattle.dcsctp_world.specs.Growth.{KeptFront, Taken, with_events, Collects, CollectsFront, Grows, Stops, with_association, reply_of, delivery_reply};
+ghost use Rattle.dcsctp_world.specs.Growth.{Keeps, TakesAll, CollectsAll, Calls, Works, Notes, reply_of, delivery_reply};
 ghost use Rattle.dcsctp_world.specs.Parts.{packet_bytes, kept, shown};
-ghost use Rattle.dcsctp_world.specs.declared.act.Reply.TheVariants.{Done};
 
 use crate::act::Reply;
 use dcsctp_machine::{Call, Step};
@@ -43,10 +42,8 @@ fn keep_event(
     packets: &mut Vec<Vec<u8>>,
     event: SocketEvent,
 ) -> Result<(), AllocError>
-    ensures ok { OnOk result (kept events.new.items packets.new.items
-        ≡ with_events (event_content event ∷ []) (kept events.old.items packets.old.items)) }
-    ensures err { OnErr result (KeptFront (event_content event ∷ []) (kept events.old.items
-        packets.old.items) (kept events.new.items packets.new.items)) }
+    ensures { Keeps (event_content event ∷ []) (kept events.old.items packets.old.items) result
+        (kept events.new.items packets.new.items) }
 {
     if let SocketEvent::SendPacket(packet) = &event {
         packets.push(packet.clone()?)?;
@@ -62,11 +59,8 @@ fn take_events<R: Rng + Drop>(
     events: &mut Vec<SocketEvent>,
     packets: &mut Vec<Vec<u8>>,
 ) -> Result<(), AllocError>
-    ensures ok { OnOk result (Taken (user_view_of socket.old) (kept events.old.items
-        packets.old.items) (user_view_of socket.new) (kept events.new.items packets.new.items)) }
-    ensures all { OnOk result (socket.new.view.events ≡ []) }
-    ensures err { OnErr result (KeptFront socket.old.view.events (kept events.old.items
-        packets.old.items) (kept events.new.items packets.new.items)) }
+    ensures { TakesAll (user_view_of socket.old) (kept events.old.items packets.old.items) result
+        (user_view_of socket.new) (kept events.new.items packets.new.items) }
 {
     while let Some(event) = socket.poll_event() {
         keep_event(events, packets, event)?;
@@ -112,8 +106,7 @@ impl<R: Rng + Drop> WatchedSocket<R> {
     // Keeps what the last call brought: its events and the pairs that it drew. The one error is want of
     // memory; a front part of them has been kept then.
     fn keep_all(&mut self) -> Result<(), AllocError>
-        ensures ok { OnOk result (Collects (shown self.old) (shown self.new)) }
-        ensures err { OnErr result (CollectsFront (shown self.old) (shown self.new)) }
+        ensures { CollectsAll (shown self.old) result (shown self.new) }
     {
         take_events(&mut self.socket, &mut self.events, &mut self.packets)?;
         self.pairs.extend_from_slice(self.socket.drawn_pairs())?;
@@ -124,10 +117,8 @@ impl<R: Rng + Drop> WatchedSocket<R> {
     // brought finds no room.
     fn call(&mut self, call: Call) -> Result<(), SocketFault>
         requires { self.old.socket.view.events ≡ [] }
-        ensures ok { OnOk result (Grows (UserTurns self.old.socket.view.endpoint call) Done
-            (shown self.old) (shown self.new)) }
-        ensures err { OnErr result (Stops (UserTurns self.old.socket.view.endpoint call)
-            (shown self.old) (shown self.new)) }
+        ensures { Calls (UserTurns self.old.socket.view.endpoint call) (shown self.old) result
+            (shown self.new) }
     {
         match call {
             Call::Connect => self.socket.connect()?,
@@ -139,13 +130,9 @@ impl<R: Rng + Drop> WatchedSocket<R> {
     // Hands over the packet of this number, where there is one. The errors are as those of `call`.
     fn deliver(&mut self, packets: &[Vec<u8>], number: usize) -> Result<Reply, SocketFault>
         requires { self.old.socket.view.events ≡ [] }
-        ensures ok { IfOk result (λ reply. Grows (DeliveryTurns self.old.socket.view.endpoint
-            (numbered number (packet_bytes packets.now))) reply (shown self.old)
-            (shown self.new)) }
-        ensures reply { IfOk result (λ reply. reply ≡ delivery_reply
-            (numbered number (packet_bytes packets.now))) }
-        ensures err { OnErr result (Stops (DeliveryTurns self.old.socket.view.endpoint
-            (numbered number (packet_bytes packets.now))) (shown self.old) (shown self.new)) }
+        ensures { Works (DeliveryTurns self.old.socket.view.endpoint (numbered number
+            (packet_bytes packets.now))) (delivery_reply (numbered number (packet_bytes packets.now)))
+            (shown self.old) result (shown self.new) }
     {
         match packet_numbered(packets, number) {
             None => Ok(Reply::NoCall),
@@ -157,16 +144,13 @@ impl<R: Rng + Drop> WatchedSocket<R> {
         }
     }
 
-    /// Works a step at this side, where the other has emitted these packets. An error is that a growth
-    /// was refused, in the socket or here, or that the socket has failed; a front part of what the step
-    /// brings may have been kept then.
+    /// Works a step at this side, where the other has emitted these packets. `SocketFault::OutOfMemory`
+    /// says that a growth was refused, in the socket or here; a front part of what the step brings may
+    /// have been kept then. `SocketFault::Failed` says that the socket had failed; nothing changes then.
     pub fn work(&mut self, packets: &[Vec<u8>], step: &Step) -> Result<Reply, SocketFault>
         requires { self.old.socket.view.events ≡ [] }
-        ensures ok { IfOk result (λ reply. Grows (StepTurns self.old.socket.view.endpoint
-            (packet_bytes packets.now) step.now) reply (shown self.old) (shown self.new)) }
-        ensures reply { IfOk result (λ reply. reply ≡ reply_of (packet_bytes packets.now) step.now) }
-        ensures err { OnErr result (Stops (StepTurns self.old.socket.view.endpoint
-            (packet_bytes packets.now) step.now) (shown self.old) (shown self.new)) }
+        ensures { Works (StepTurns self.old.socket.view.endpoint (packet_bytes packets.now) step.now)
+            (reply_of (packet_bytes packets.now) step.now) (shown self.old) result (shown self.new) }
     {
         match step {
             Step::Call(_, call) => {
@@ -179,8 +163,7 @@ impl<R: Rng + Drop> WatchedSocket<R> {
 
     /// Keeps the association as it is now. The one error is want of memory; nothing was kept then.
     pub fn keep_association(&mut self) -> Result<(), AllocError>
-        ensures ok { OnOk result (shown self.new ≡ with_association (shown self.old)) }
-        ensures err { OnErr result (shown self.new ≡ shown self.old) }
+        ensures { Notes (shown self.old) result (shown self.new) }
     {
         self.associations.push(self.socket.association())?;
         Ok(())

@@ -39,14 +39,14 @@ impl<R> Model for World<R> {
         (world_of w.a w.b w.acts.items w.failed) };
 }
 
-ghost use Rattle.std.specs.Prelude.{◌≡◌, [], false, map, OnOk, OnErr, IfOk, IsOkUnless};
+ghost use Rattle.std.specs.Prelude.{◌≡◌, [], false, map, OnOk, IfOk, IsOkUnless};
 ghost use Rattle.dcsctp_machine.specs.Settings.{IsValid};
 ghost use Rattle.dcsctp_machine.specs.Sockets.{of_side};
 ghost use Rattle.dcsctp_api.specs.Events.{event_content};
 ghost use Rattle.dcsctp_world.specs.Shown.{fresh_world, options_of};
 ghost use Rattle.dcsctp_world.specs.Run.{IsRun};
 ghost use Rattle.dcsctp_world.specs.Agreement.{Agrees, HandshakeConnects};
-ghost use Rattle.dcsctp_world.specs.Acts.{StepMoves, StepStops, Applied, Applies, Runs};
+ghost use Rattle.dcsctp_world.specs.Acts.{MovesSide, WorksStep, Applies, Runs};
 ghost use Rattle.dcsctp_world.specs.Parts.{packet_bytes, shown, both, world_of};
 
 // Works a step at its side. The errors are those of `WatchedSocket::work`; the other side stays.
@@ -57,9 +57,7 @@ fn move_side<R: Rng + Drop>(
 ) -> Result<Reply, SocketFault>
     requires a { a.old.socket.view.events ≡ [] }
     requires b { b.old.socket.view.events ≡ [] }
-    ensures ok { IfOk result (λ reply. StepMoves step.now reply (both a.old b.old)
-        (both a.new b.new)) }
-    ensures err { OnErr result (StepStops step.now (both a.old b.old) (both a.new b.new)) }
+    ensures { MovesSide step.now (both a.old b.old) result (both a.new b.new) }
 {
     match side_of(step) {
         Side::A => {
@@ -83,10 +81,8 @@ fn work<R: Rng + Drop>(
 ) -> Result<Reply, SocketFault>
     requires a { a.old.socket.view.events ≡ [] }
     requires b { b.old.socket.view.events ≡ [] }
-    ensures ok { IfOk result (λ reply. Applied step.now reply
-        (world_of a.old b.old acts.old.items false) (world_of a.new b.new acts.new.items false)) }
-    ensures err { OnErr result (StepStops step.now (both a.old b.old) (both a.new b.new)) }
-    ensures acts { OnErr result (acts.new.items ≡ acts.old.items) }
+    ensures { WorksStep step.now (world_of a.old b.old acts.old.items false) result
+        (world_of a.new b.new acts.new.items false) }
 {
     let reply = move_side(a, b, step)?;
     a.keep_association()?;

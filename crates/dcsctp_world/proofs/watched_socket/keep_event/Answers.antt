@@ -1,13 +1,13 @@
 use Rattle.std.proofs.Common.{ℕ, Vec, ap, ◌∙◌}
 use Rattle.std.specs.declared.alloc.Global.{Global}
+use Rattle.std.proofs.lemmas.Result.{err_from_is_err_and}
 use Rattle.std.proofs.lemmas.List.Elements.{same_from_all_zip}
 use Rattle.dcsctp_world.proofs.Keeping.{kept_packet, kept_other, kept_packet_alone, kept_nothing}
-use Rattle.dcsctp_world.proofs.Applying.{on_err}
 use Rattle.dcsctp_world.proofs.watched_socket.keep_event.Goals as goal
 use Rattle.dcsctp_world.proofs.watched_socket.keep_event.Goals.{in-SendPacket+in_ok-clone+in_ok-push, in_default}
 
-pub returns-clause-ok : goal.returns-clause-ok
-returns-clause-ok c =
+pub returns : goal.returns
+returns c =
     let old = c.args.events.now.items in
     let new = c.push-2.new.self.items in
     let packets = c.args.packets.now.items in
@@ -22,13 +22,13 @@ returns-clause-ok c =
           (ap (λ (v : Vec (Vec ℕ Global) Global). v.items) w.packets-is)
     ]
 
-pub returns-in_err-push-2-clause-err : goal.returns-in_err-push-2-clause-err
-returns-in_err-push-2-clause-err c =
+pub returns-in_err-push-2 : goal.returns-in_err-push-2
+returns-in_err-push-2 c =
     let old = c.args.events.now.items in
     let new = c.push-2.new.self.items in
     let packets = c.args.packets.now.items in
     let packets_now = c.match-event.packets.items in
-    on_err c.from_residual-in_err-push-2.result
+    rw (err_from_is_err_and c.from_residual-in_err-push-2.result c.from_residual-in_err-push-2.ensures.1).1
     (elim c.match-event.branch [
       | in-SendPacket+in_ok-clone+in_ok-push w ↦
           kept_packet_alone old new packets packets_now c.args.event w.in-SendPacket.packet w.in_ok-clone.field-0 w.in-SendPacket.is

@@ -1,7 +1,7 @@
+use Rattle.std.proofs.lemmas.Result.{err_from_is_err_and}
 use Rattle.dcsctp_socket.specs.SocketView.{user_view_of}
 use Rattle.dcsctp_world.specs.Parts.{kept}
 use Rattle.dcsctp_world.proofs.Keeping.{taken_more, taken_in_part}
-use Rattle.dcsctp_world.proofs.Applying.{on_err}
 use Rattle.dcsctp_world.proofs.watched_socket.take_events.Goals as goal
 
 pub loop-event-preserved : goal.loop-event-preserved
@@ -9,12 +9,12 @@ loop-event-preserved g c =
     taken_more (user_view_of c.args.socket.now) (user_view_of c.loop-event.socket) (user_view_of c.poll_event.new.self)
     (kept c.args.events.now.items c.args.packets.now.items) (kept c.loop-event.events.items c.loop-event.packets.items)
     (kept c.keep_event.new.events.items c.keep_event.new.packets.items) c.in-Some.event
-    c.loop-event.invariant c.in-Some.ensures.call c.in_ok-keep_event.ensures.ok
+    c.loop-event.invariant c.in-Some.ensures.call c.in_ok-keep_event.ensures
 
-pub returns-in_err-keep_event-clause-err : goal.returns-in_err-keep_event-clause-err
-returns-in_err-keep_event-clause-err g c =
-    on_err c.from_residual.result
+pub returns-in_err-keep_event : goal.returns-in_err-keep_event
+returns-in_err-keep_event g c =
+    rw (err_from_is_err_and c.from_residual.result c.from_residual.ensures.1).1
     (taken_in_part (user_view_of c.args.socket.now) (user_view_of c.loop-event.socket) (user_view_of c.poll_event.new.self)
     (kept c.args.events.now.items c.args.packets.now.items) (kept c.loop-event.events.items c.loop-event.packets.items)
     (kept c.keep_event.new.events.items c.keep_event.new.packets.items) c.in-Some.event
-    c.loop-event.invariant c.in-Some.ensures.call c.in_err-keep_event.ensures.err)
+    c.loop-event.invariant c.in-Some.ensures.call c.in_err-keep_event.ensures)

@@ -1,7 +1,7 @@
 use Rattle.std.proofs.Common.{length}
 use Rattle.dcsctp_socket.specs.SocketView.{user_view_of}
-use Rattle.dcsctp_world.specs.Growth.{Taken}
 use Rattle.dcsctp_world.specs.Parts.{kept}
+use Rattle.dcsctp_world.proofs.Keeping.{Taken}
 use Rattle.dcsctp_world.proofs.watched_socket.take_events.Given as goal
 
 abbrev pub invariant-loop-event : goal.invariant-loop-event

@@ -1,10 +1,11 @@
 use Rattle.dcsctp_machine.specs.declared.schedule.Side.TheVariants as sides
-use Rattle.std.proofs.Common.{subst}
+use Rattle.std.proofs.Common.{true, subst}
 use Rattle.dcsctp_world.specs.Shown.{WorldView, options_of}
 use Rattle.dcsctp_world.specs.Run.{IsRun}
+use Rattle.dcsctp_world.specs.Acts.{RanOut}
 use Rattle.dcsctp_world.specs.Parts.{world_of}
 use Rattle.dcsctp_world.proofs.Running.{is_run_options, is_run_of_own}
-use Rattle.dcsctp_world.proofs.Applying.{applied_is_run}
+use Rattle.dcsctp_world.proofs.Applying.{applied_is_run, ran_out_in}
 use Rattle.dcsctp_world.proofs.Agreeing.{world_agrees, handshake_connects}
 use Rattle.dcsctp_world.proofs.world.World.apply.Goals as goal
 
@@ -20,7 +21,7 @@ returns-in-Ok-clause-agreement g c =
     world_agrees c.sockets_agree.ensures (options_of c.args.self.now) new
     (subst (λ (w : WorldView g.row.R.Denot). IsRun (options_of w) new) c.self.view_is
     (applied_is_run c.args.step.now c.in-Ok.reply c.self.inside.a c.self.inside.b c.work.new.a c.work.new.b c.self.inside.acts.items c.work.new.acts.items
-    c.self.inside.failed c.if-self.false c.self.invariant c.in-Ok.ensures.ok))
+    c.self.inside.failed c.if-self.false c.self.invariant c.in-Ok.ensures))
 
 pub returns-in-Ok-clause-handshake : goal.returns-in-Ok-clause-handshake
 returns-in-Ok-clause-handshake g c =
@@ -30,6 +31,13 @@ returns-in-Ok-clause-handshake g c =
 pub returns-in-Ok-clause-options : goal.returns-in-Ok-clause-options
 returns-in-Ok-clause-options g c =
     is_run_options (options_of c.args.self.now) (world_of c.work.new.a c.work.new.b c.work.new.acts.items c.self.inside.failed) (returns-in-Ok-clause-agreement g c).is_run
+
+pub returns-in-Err-clause-call : goal.returns-in-Err-clause-call
+returns-in-Err-clause-call g c =
+    let new = world_of c.work.new.a c.work.new.b c.work.new.acts.items true in
+    subst (λ (w : WorldView g.row.R.Denot). RanOut c.args.step.now w new) c.self.view_is
+    (ran_out_in c.args.step.now _ c.self.inside.a c.self.inside.b c.work.new.a c.work.new.b c.self.inside.acts.items c.work.new.acts.items
+    c.self.inside.failed c.if-self.false c.self.invariant c.in-Err.ensures)
 
 pub invariant_of-self : goal.invariant_of-self
 invariant_of-self g c =
