@@ -30,8 +30,6 @@
 mod admission;
 mod calls;
 mod socket;
-#[cfg(test)]
-mod tests;
 mod texts;
 
 pub use dcsctp_api as api;

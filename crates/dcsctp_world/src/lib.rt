@@ -6,8 +6,6 @@
 #![tactic(auto)]
 
 mod act;
-#[cfg(test)]
-mod tests;
 mod watched_socket;
 mod world;
 

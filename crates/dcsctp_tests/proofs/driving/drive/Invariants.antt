@@ -1,5 +1,5 @@
 use Rattle.std.proofs.Common.{length}
-use Rattle.dcsctp_socket.proofs.tests.drive.Given as goal
+use Rattle.dcsctp_tests.proofs.driving.drive.Given as goal
 
 -- the events that wait
 abbrev pub decreases-loop-event : goal.decreases-loop-event
