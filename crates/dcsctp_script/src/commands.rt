@@ -1,0 +1,127 @@
+//! The commands of a script, run on two sockets.
+
+use crate::failure::{Failure, written};
+use crate::line::{Command, Line, parse_line};
+use crate::printing::print_event;
+use crate::script::Script;
+use crate::showing::{print_association, print_state};
+use crate::words::Words;
+use dcsctp_api::{DcSctpSocket, SocketEvent};
+use dcsctp_machine::{Call, Side, Step};
+use dcsctp_world::World;
+use std::io::{self, BufRead, Write};
+
+// The next command; none at the end of the script. No other line may come.
+fn next_command<R: BufRead>(script: &mut Script<R>) -> Result<Option<Command>, Failure> {
+    let Some(text) = script.next_line()? else {
+        return Ok(None);
+    };
+    match parse_line(text) {
+        Some(Line::Command(command)) => Ok(Some(command)),
+        Some(Line::Setting(..)) | Some(Line::Words(..)) | None => Err(script.bad_line()),
+    }
+}
+
+// What was printed of a side.
+#[derive(Clone, Copy)]
+struct Printed {
+    events: usize,
+    packets: u64,
+}
+
+impl Printed {
+    fn new() -> Printed {
+        Printed {
+            events: 0,
+            packets: 0,
+        }
+    }
+
+    // Prints the events that are new. Packets are numbered from 1.
+    fn print<W: Write>(
+        &mut self,
+        side: Side,
+        events: &[SocketEvent],
+        output: &mut W,
+    ) -> io::Result<()> {
+        for event in events.get(self.events..).unwrap_or(&[]) {
+            if let SocketEvent::SendPacket(_) = event {
+                self.packets = self.packets.saturating_add(1);
+            }
+            print_event(side, self.packets, event, output)?;
+        }
+        self.events = events.len();
+        Ok(())
+    }
+}
+
+/// Two sockets, and what was printed of each.
+#[derive(Drop)]
+pub struct Run {
+    world: World<Words>,
+    a: Printed,
+    b: Printed,
+}
+
+impl Run {
+    /// The two sockets of a world of which nothing was printed yet.
+    pub fn new(world: World<Words>) -> Run {
+        Run {
+            world,
+            a: Printed::new(),
+            b: Printed::new(),
+        }
+    }
+
+    /// Does what this command says and those that follow in the script, and prints what comes of
+    /// each.
+    ///
+    /// `BadLine` says that a line is no command; the lines before it were run. `OutOfMemory` says that
+    /// a growth was refused, the reader's own among them, and `Broken` that the reader failed in
+    /// another way, or the writer in any.
+    pub fn obey_all<R: BufRead, W: Write>(
+        &mut self,
+        first: Command,
+        script: &mut Script<R>,
+        output: &mut W,
+    ) -> Result<(), Failure> {
+        self.obey(first, output)?;
+        for _ in 0..u64::MAX {
+            let Some(command) = next_command(script)? else {
+                break;
+            };
+            self.obey(command, output)?;
+        }
+        Ok(())
+    }
+
+    // Does what a command says, and prints what comes of it.
+    fn obey<W: Write>(&mut self, command: Command, output: &mut W) -> Result<(), Failure> {
+        match command {
+            Command::Connect(side) => self.apply(Step::Call(side, Call::Connect))?,
+            Command::Give(side, number) => self.apply(Step::Deliver(side, number))?,
+            Command::Show(_) | Command::State(_) => {}
+        }
+        written(self.print(command, output))
+    }
+
+    // Prints what a command shows, and the new events.
+    fn print<W: Write>(&mut self, command: Command, output: &mut W) -> io::Result<()> {
+        match command {
+            Command::Connect(_) | Command::Give(..) => {}
+            Command::Show(side) => {
+                let association = self.world.socket(side).association();
+                print_association(side, association, output)?;
+            }
+            Command::State(side) => print_state(side, self.world.socket(side).state(), output)?,
+        }
+        self.a.print(Side::A, self.world.events(Side::A), output)?;
+        self.b.print(Side::B, self.world.events(Side::B), output)
+    }
+
+    // Takes a step.
+    fn apply(&mut self, step: Step) -> Result<(), Failure> {
+        let _reply = self.world.apply(&step)?;
+        Ok(())
+    }
+}

@@ -1,0 +1,25 @@
+//! Scripts: one command a line, on two sockets `A` and `B` that start closed.
+//!
+//! First come the lines that set options (`opt S name value`), then those that list random words
+//! (`words S w ..`), then the rest: `connect S`, `give S k`, `show S` and `state S`. After each
+//! command its events are printed, a line each. The first line that is none of these, or comes at
+//! the wrong place, ends the run.
+#![tactic(auto)]
+
+mod commands;
+mod failure;
+mod line;
+mod number;
+mod packet_text;
+mod printing;
+mod run;
+mod script;
+mod settings;
+mod setup;
+mod showing;
+#[cfg(test)]
+mod tests;
+mod words;
+
+pub use failure::Status;
+pub use run::run_script;

@@ -1,0 +1,159 @@
+//! The options that a script can set, by name and value.
+//!
+//! A value is a number within the range of its field, `true` or `false`, or `none` where a field
+//! may have no value; a time is a number of milliseconds.
+
+ghost use Rattle.std.specs.Prelude.{◌≡◌};
+ghost use Rattle.std.specs.Bool.{OnFalse};
+
+use crate::number::{limit, number, signed_number};
+use dcsctp_machine::{Options, ZeroChecksumAlternateErrorDetectionMethod};
+use std::time::Duration;
+
+/// Sets the option of this name to this value. False, and nothing is set, where there is no such
+/// option or the value isn't one of its type. Whether the options are valid then isn't looked at.
+pub fn set(options: &mut Options, name: &str, value: &str) -> bool
+    ensures refused { OnFalse result (options.new ≡ options.old) }
+{
+    set_count(options, name, value)
+        || set_size(options, name, value)
+        || set_time(options, name, value)
+        || set_limit(options, name, value)
+        || set_flag(options, name, value)
+}
+
+// Ports, counts of streams, the priority and the method.
+fn set_count(options: &mut Options, name: &str, value: &str) -> bool
+    ensures refused { OnFalse result (options.new ≡ options.old) }
+{
+    if name == "zero_checksum_alternate_error_detection_method" {
+        return set_method(options, value);
+    }
+    let Some(count) = number(value, 0xffff) else {
+        return false;
+    };
+    let count = count as u16;
+    match name {
+        "local_port" => options.local_port = count,
+        "remote_port" => options.remote_port = count,
+        "announced_maximum_incoming_streams" => options.announced_maximum_incoming_streams = count,
+        "announced_maximum_outgoing_streams" => options.announced_maximum_outgoing_streams = count,
+        "default_stream_priority" => options.default_stream_priority = count,
+        _ => return false,
+    }
+    true
+}
+
+// The alternate error detection method.
+fn set_method(options: &mut Options, value: &str) -> bool
+    ensures refused { OnFalse result (options.new ≡ options.old) }
+{
+    let Some(method) = number(value, 0xffff_ffff) else {
+        return false;
+    };
+    options.zero_checksum_alternate_error_detection_method =
+        ZeroChecksumAlternateErrorDetectionMethod(method as u32);
+    true
+}
+
+// Sizes, thresholds and congestion windows.
+fn set_size(options: &mut Options, name: &str, value: &str) -> bool
+    ensures refused { OnFalse result (options.new ≡ options.old) }
+{
+    let Some(size) = number(value, u64::MAX) else {
+        return false;
+    };
+    let size = size as usize;
+    match name {
+        "mtu" => options.mtu = size,
+        "max_message_size" => options.max_message_size = size,
+        "max_receiver_window_buffer_size" => options.max_receiver_window_buffer_size = size,
+        "max_send_buffer_size" => options.max_send_buffer_size = size,
+        "per_stream_send_queue_limit" => options.per_stream_send_queue_limit = size,
+        "total_buffered_amount_low_threshold" => options.total_buffered_amount_low_threshold = size,
+        "default_stream_buffered_amount_low_threshold" =>
+            options.default_stream_buffered_amount_low_threshold = size,
+        "cwnd_mtus_initial" => options.cwnd_mtus_initial = size,
+        "cwnd_mtus_min" => options.cwnd_mtus_min = size,
+        "avoid_fragmentation_cwnd_mtus" => options.avoid_fragmentation_cwnd_mtus = size,
+        "immediate_sack_under_cwnd_mtus" => options.immediate_sack_under_cwnd_mtus = size,
+        _ => return false,
+    }
+    true
+}
+
+// Times that are always there.
+fn set_time(options: &mut Options, name: &str, value: &str) -> bool
+    ensures refused { OnFalse result (options.new ≡ options.old) }
+{
+    let Some(millis) = number(value, u64::MAX) else {
+        return false;
+    };
+    let time = Duration::from_millis(millis);
+    match name {
+        "rtt_max" => options.rtt_max = time,
+        "rto_initial" => options.rto_initial = time,
+        "rto_max" => options.rto_max = time,
+        "rto_min" => options.rto_min = time,
+        "t1_init_timeout" => options.t1_init_timeout = time,
+        "t1_cookie_timeout" => options.t1_cookie_timeout = time,
+        "t2_shutdown_timeout" => options.t2_shutdown_timeout = time,
+        "heartbeat_interval" => options.heartbeat_interval = time,
+        "delayed_ack_max_timeout" => options.delayed_ack_max_timeout = time,
+        "min_rtt_variance" => options.min_rtt_variance = time,
+        _ => return false,
+    }
+    true
+}
+
+// What may be without a limit, and the burst, which may be negative.
+fn set_limit(options: &mut Options, name: &str, value: &str) -> bool
+    ensures refused { OnFalse result (options.new ≡ options.old) }
+{
+    match name {
+        "max_burst" => match signed_number(value) {
+            Some(burst) => options.max_burst = burst,
+            None => return false,
+        },
+        "max_timer_backoff_duration" => match limit(value, u64::MAX) {
+            Some(Some(millis)) => options.max_timer_backoff_duration = Some(Duration::from_millis(
+                millis,
+            )),
+            Some(None) => options.max_timer_backoff_duration = None,
+            None => return false,
+        },
+        "max_retransmissions" => match limit(value, 0xffff_ffff) {
+            Some(Some(count)) => options.max_retransmissions = Some(count as u32),
+            Some(None) => options.max_retransmissions = None,
+            None => return false,
+        },
+        "max_init_retransmits" => match limit(value, 0xffff_ffff) {
+            Some(Some(count)) => options.max_init_retransmits = Some(count as u32),
+            Some(None) => options.max_init_retransmits = None,
+            None => return false,
+        },
+        _ => return false,
+    }
+    true
+}
+
+// What is true or false.
+fn set_flag(options: &mut Options, name: &str, value: &str) -> bool
+    ensures refused { OnFalse result (options.new ≡ options.old) }
+{
+    let flag = match value {
+        "true" => true,
+        "false" => false,
+        _ => return false,
+    };
+    match name {
+        "enable_partial_reliability" => options.enable_partial_reliability = flag,
+        "enable_message_interleaving" => options.enable_message_interleaving = flag,
+        "heartbeat_interval_include_rtt" => options.heartbeat_interval_include_rtt = flag,
+        "disable_checksum_verification" => options.disable_checksum_verification = flag,
+        "enable_handover_with_outstanding_data" => options.enable_handover_with_outstanding_data =
+            flag,
+        _ => return false,
+    }
+    true
+}
