@@ -11,8 +11,6 @@ mod laws;
 mod message;
 mod state;
 mod state_cookie;
-#[cfg(test)]
-mod tests;
 
 pub use calls::DcSctpSocket;
 pub use dcsctp_machine::{

@@ -3,8 +3,6 @@
 
 mod data_tracker;
 mod reassembly_queue;
-#[cfg(test)]
-mod tests;
 
 pub use data_tracker::DataTracker;
 pub use reassembly_queue::ReassemblyQueue;

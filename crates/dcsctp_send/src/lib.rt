@@ -5,8 +5,6 @@
 mod retransmission_queue;
 mod retransmission_timeout;
 mod send_queue;
-#[cfg(test)]
-mod tests;
 mod timer;
 
 pub use dcsctp_machine::BackoffAlgorithm;

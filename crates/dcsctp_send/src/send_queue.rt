@@ -57,19 +57,3 @@ impl SendQueue {
         self.is_interleaved = enabled;
     }
 }
-
-#[cfg(test)]
-mod tests {
-    use super::*;
-
-    #[test]
-    fn a_reset_leaves_interleaving_as_it_is(rt: HostRuntime) {
-        let mut queue = SendQueue::new();
-        assert!(rt; !queue.is_interleaved);
-        for enabled in [true, false] {
-            queue.enable_message_interleaving(enabled);
-            queue.reset();
-            assert_eq!(rt; queue.is_interleaved, enabled);
-        }
-    }
-}

@@ -1,6 +1,6 @@
 //! State cookies, with the bytes of two worked examples.
 
-use crate::{Capabilities, StateCookie, ZeroChecksumAlternateErrorDetectionMethod};
+use dcsctp_api::{Capabilities, StateCookie, ZeroChecksumAlternateErrorDetectionMethod};
 use std::test::Fail;
 
 // A cookie whose fields all differ.

@@ -1,6 +1,6 @@
-//! Tests: values worked out by hand, and each public call once.
+//! What came in: the last TSN that is acknowledged, and the window.
 
-use crate::{DataTracker, ReassemblyQueue};
+use dcsctp_receive::{DataTracker, ReassemblyQueue};
 
 #[test]
 fn the_tsn_before_the_first_is_acknowledged(rt: HostRuntime) {

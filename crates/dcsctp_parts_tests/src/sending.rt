@@ -1,7 +1,8 @@
-//! Tests: values worked out by hand.
+//! Timers, the retransmission timeout, windows, and the send queue.
 
-use crate::{BackoffAlgorithm, RetransmissionQueue, RetransmissionTimeout, Timer};
 use dcsctp_machine::{Options, SocketTime};
+use dcsctp_send::{BackoffAlgorithm, RetransmissionQueue, RetransmissionTimeout, SendQueue, Timer};
+use std::test::Fail;
 use std::time::Duration;
 
 #[test]
@@ -54,4 +55,23 @@ fn windows_begin_as_options_and_peer_say(rt: HostRuntime) {
         assert_eq!(rt; queue.next_tsn(), 0xffff_ffff, "{name}");
         assert_eq!(rt; queue.rwnd(), 131_072, "{name}");
     }
+}
+
+// The text of a queue, as `Debug` writes it, is all that shows whether it numbers for interleaving.
+#[test]
+fn a_reset_leaves_interleaving_as_it_is(rt: HostRuntime) -> Result<(), Fail> {
+    let rows = [
+        ("on", true, "SendQueue { is_interleaved: true }"),
+        ("off", false, "SendQueue { is_interleaved: false }"),
+    ];
+    let mut queue = SendQueue::new();
+    let shown = format!(in rt.alloc(); "{queue:?}")?;
+    assert_eq!(rt; shown.as_str(), rows[1].2, "new");
+    for (name, enabled, expected) in rows {
+        queue.enable_message_interleaving(enabled);
+        queue.reset();
+        let shown = format!(in rt.alloc(); "{queue:?}")?;
+        assert_eq!(rt; shown.as_str(), expected, "{name}");
+    }
+    Ok(())
 }

@@ -1,6 +1,9 @@
 //! Options and what is negotiated from them.
 
-use crate::{Capabilities, Options, ZeroChecksumAlternateErrorDetectionMethod};
+use dcsctp_api::{
+    Capabilities, Options, ZERO_CHECKSUM_ALTERNATE_ERROR_DETECTION_METHOD_LOWER_LAYER_DTLS,
+    ZERO_CHECKSUM_ALTERNATE_ERROR_DETECTION_METHOD_NONE, ZeroChecksumAlternateErrorDetectionMethod,
+};
 use dcsctp_wire::Parameter;
 use std::time::Duration;
 
@@ -180,4 +183,24 @@ fn the_first_parameter_of_a_kind_counts(rt: HostRuntime) {
     assert!(rt; peer.zero_checksum_enabled());
     assert_eq!(rt; peer.negotiated_maximum_incoming_streams, 1);
     assert_eq!(rt; peer.negotiated_maximum_outgoing_streams, 2);
+}
+
+// The identifiers of RFC 9653.
+#[test]
+fn methods_have_their_published_numbers(rt: HostRuntime) {
+    let rows = [
+        (
+            "none",
+            ZERO_CHECKSUM_ALTERNATE_ERROR_DETECTION_METHOD_NONE,
+            0,
+        ),
+        (
+            "DTLS below",
+            ZERO_CHECKSUM_ALTERNATE_ERROR_DETECTION_METHOD_LOWER_LAYER_DTLS,
+            1,
+        ),
+    ];
+    for (name, method, expected) in rows {
+        assert_eq!(rt; method.0, expected, "{name}");
+    }
 }
