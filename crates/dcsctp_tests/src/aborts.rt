@@ -2,13 +2,13 @@
 
 use crate::TwoWords;
 use crate::packets::{INIT, unchecked_packet};
-use crate::sockets::{only_aborted, only_parse_error, opens, socket_of_seven};
+use crate::sockets::{ends, is_in_state, opens, reports, socket_of_seven};
 use dcsctp_socket::{DcSctpSocket, ErrorKind, Socket, SocketState};
 use std::process::Abort;
 use std::test::Fail;
 
 // Opens an association and hands this packet in: it has to end it.
-fn ends(
+fn opens_and_ends(
     rt: &impl Abort,
     socket: &mut Socket<TwoWords>,
     name: &str,
@@ -17,11 +17,7 @@ fn ends(
 ) -> Result<(), Fail> {
     opens(rt, socket)?;
     socket.handle_input(packet)?;
-    let (kind, text) = only_aborted(socket)?;
-    assert_eq!(rt; kind, ErrorKind::PeerReported, "{name}");
-    assert_eq!(rt; text.as_str(), expected, "{name}");
-    assert_eq!(rt; socket.state(), SocketState::Closed, "{name}");
-    Ok(())
+    ends(rt, socket, name, (ErrorKind::PeerReported, expected))
 }
 
 #[test]
@@ -35,7 +31,7 @@ fn an_abort_under_its_tag_ends_the_association(rt: HostRuntime) -> Result<(), Fa
         // The INIT behind it isn't worked.
         let packet = unchecked_packet(rt.alloc(), tag, &[&abort, &INIT[12..]])?;
         let mut socket = socket_of_seven(rt.alloc())?;
-        ends(&rt, &mut socket, name, &packet, "")?;
+        opens_and_ends(&rt, &mut socket, name, &packet, "")?;
     }
     Ok(())
 }
@@ -49,10 +45,8 @@ fn refuses(
 ) -> Result<(), Fail> {
     opens(rt, socket)?;
     socket.handle_input(packet)?;
-    let text = only_parse_error(socket)?;
-    let expected = "ABORT chunk verification tag was wrong";
-    assert_eq!(rt; text.as_str(), expected, "{name}");
-    assert_eq!(rt; socket.state(), SocketState::Connected, "{name}");
+    reports(rt, socket, name, "ABORT chunk verification tag was wrong")?;
+    is_in_state(rt, socket, name, SocketState::Connected);
     Ok(())
 }
 
@@ -90,5 +84,5 @@ fn an_abort_of_a_thousand_causes_ends_the_association(rt: HostRuntime) -> Result
     }
     let packet = unchecked_packet(rt.alloc(), 7, &[&abort])?;
     let mut socket = socket_of_seven(rt.alloc())?;
-    ends(&rt, &mut socket, "a thousand causes", &packet, &expected)
+    opens_and_ends(&rt, &mut socket, "a thousand causes", &packet, &expected)
 }

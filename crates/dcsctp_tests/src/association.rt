@@ -3,8 +3,8 @@
 use crate::TwoWords;
 use crate::packets::{COOKIE_ACK, COOKIE_ECHO, INIT, INIT_ACK, unchecked_packet};
 use crate::sockets::{
-    answers, begins, connects, next_packet, only_aborted, only_packet, only_parse_error,
-    socket_of_seven, socket_with, tells_nothing, unchecked,
+    answers, begins, connects, ends, is_in_state, next_packet, reports, sends, socket_of_seven,
+    socket_with, tells_nothing, unchecked,
 };
 use dcsctp_socket::{DcSctpSocket, ErrorKind, Options, Socket, SocketState};
 use std::process::Abort;
@@ -31,17 +31,15 @@ fn shake_hands(
     begins(rt, a)?;
     answers(rt, b, &INIT, &INIT_ACK)?;
     answers(rt, a, &INIT_ACK, &COOKIE_ECHO)?;
-    assert_eq!(rt; a.state(), SocketState::Connecting);
+    is_in_state(rt, a, "A", SocketState::Connecting);
     connects(b, &COOKIE_ECHO)?;
-    let cookie_ack = only_packet(b)?;
-    assert_eq!(rt; cookie_ack.as_slice(), COOKIE_ACK.as_slice());
+    sends(rt, b, "COOKIE ACK", &COOKIE_ACK)?;
     connects(a, &COOKIE_ACK)?;
     // Who is connected isn't connected again.
     connects_no_more(a)?;
-    assert_eq!(rt; a.state(), SocketState::Connected);
-    assert_eq!(rt; b.state(), SocketState::Connected);
-    assert_eq!(rt; a.verification_tag(), 7);
-    assert_eq!(rt; b.verification_tag(), 9);
+    is_in_state(rt, a, "A", SocketState::Connected);
+    is_in_state(rt, b, "B", SocketState::Connected);
+    assert_eq!(rt; [a.verification_tag(), b.verification_tag()], [7, 9]);
     Ok(())
 }
 
@@ -60,9 +58,8 @@ fn refuses_echo(
     packet: &[u8],
 ) -> Result<(), Fail> {
     socket.handle_input(packet)?;
-    let text = only_parse_error(socket)?;
-    assert_eq!(rt; text.as_str(), "Invalid state cookie size", "{name}");
-    assert_eq!(rt; socket.state(), SocketState::Closed, "{name}");
+    reports(rt, socket, name, "Invalid state cookie size")?;
+    is_in_state(rt, socket, name, SocketState::Closed);
     Ok(())
 }
 
@@ -93,11 +90,13 @@ fn ends_without_cookie(
     socket.handle_input(packet)?;
     let answer = next_packet(socket)?;
     assert_eq!(rt; answer.as_slice(), ABORT.as_slice());
-    let (kind, text) = only_aborted(socket)?;
-    assert_eq!(rt; kind, ErrorKind::ProtocolViolation);
-    assert_eq!(rt; text.as_str(), "InitAck chunk doesn't contain a cookie");
-    assert_eq!(rt; socket.state(), SocketState::Closed);
-    Ok(())
+    let text = "InitAck chunk doesn't contain a cookie";
+    ends(
+        rt,
+        socket,
+        "no cookie",
+        (ErrorKind::ProtocolViolation, text),
+    )
 }
 
 #[test]

@@ -5,7 +5,7 @@
 use crate::TwoWords;
 use crate::packets::{COOKIE_ACK, COOKIE_ECHO};
 use crate::sockets::{
-    connects, only_packet, only_parse_error, socket_that_draws, tells_nothing, unchecked,
+    connects, is_in_state, reports, sends, socket_that_draws, tells_nothing, unchecked,
 };
 use dcsctp_socket::{DcSctpSocket, Pair, Socket, SocketEvent, SocketState};
 use std::alloc::Global;
@@ -48,9 +48,7 @@ fn closed_socket(alloc: Global) -> Result<Socket<TwoWords>, Fail> {
 // A closed socket takes the association of tags 9 and 7.
 fn opens(rt: &impl Abort, socket: &mut Socket<TwoWords>) -> Result<(), Fail> {
     connects(socket, &COOKIE_ECHO)?;
-    let cookie_ack = only_packet(socket)?;
-    assert_eq!(rt; cookie_ack.as_slice(), COOKIE_ACK.as_slice());
-    Ok(())
+    sends(rt, socket, "COOKIE ACK", &COOKIE_ACK)
 }
 
 // The socket has to be connected with these tags, and with the first TSNs of the cookie.
@@ -61,7 +59,7 @@ fn is_connected(
     own: u32,
     peer: u32,
 ) -> Result<(), Fail> {
-    assert_eq!(rt; socket.state(), SocketState::Connected, "{name}");
+    is_in_state(rt, socket, name, SocketState::Connected);
     let association = socket.association().ok_or("no association")?;
     let held = association.held.ok_or("no peer")?;
     let own = Pair {
@@ -72,8 +70,7 @@ fn is_connected(
         tag: peer,
         first_tsn: 100,
     };
-    assert_eq!(rt; association.my, own, "{name}");
-    assert_eq!(rt; held.peer, peer, "{name}");
+    assert_eq!(rt; [association.my, held.peer], [own, peer], "{name}");
     Ok(())
 }
 
@@ -93,8 +90,7 @@ fn restarts(rt: &impl Abort, socket: &mut Socket<TwoWords>) -> Result<(), Fail> 
     let Some(SocketEvent::OnConnected()) = socket.poll_event() else {
         return Err(Fail::new("it isn't connected anew"));
     };
-    let answer = only_packet(socket)?;
-    assert_eq!(rt; answer.as_slice(), COOKIE_ACK_TO_TEN.as_slice());
+    sends(rt, socket, "COOKIE ACK", &COOKIE_ACK_TO_TEN)?;
     is_connected(rt, socket, "restarted", 11, 10)
 }
 
@@ -132,10 +128,12 @@ fn refuses(
     packet: &[u8],
 ) -> Result<(), Fail> {
     socket.handle_input(packet)?;
-    let text = only_parse_error(socket)?;
-    let expected = "Received CookieEcho with invalid verification tag";
-    assert_eq!(rt; text.as_str(), expected, "{name}");
-    Ok(())
+    reports(
+        rt,
+        socket,
+        name,
+        "Received CookieEcho with invalid verification tag",
+    )
 }
 
 // Opens the association and has a cookie refused: the association stays.
@@ -195,8 +193,7 @@ fn takes_another_peer(rt: &impl Abort, socket: &mut Socket<TwoWords>) -> Result<
         tie: 0,
     });
     connects(socket, &packet)?;
-    let answer = only_packet(socket)?;
-    assert_eq!(rt; answer.as_slice(), COOKIE_ACK_TO_TEN.as_slice());
+    sends(rt, socket, "COOKIE ACK", &COOKIE_ACK_TO_TEN)?;
     is_connected(rt, socket, "another peer", 9, 10)
 }
 
@@ -210,8 +207,7 @@ fn a_cookie_of_simultaneous_inits_connects_to_its_peer(rt: HostRuntime) -> Resul
 fn acknowledges_again(rt: &impl Abort, socket: &mut Socket<TwoWords>) -> Result<(), Fail> {
     opens(rt, socket)?;
     socket.handle_input(&COOKIE_ECHO)?;
-    let answer = only_packet(socket)?;
-    assert_eq!(rt; answer.as_slice(), COOKIE_ACK.as_slice());
+    sends(rt, socket, "COOKIE ACK", &COOKIE_ACK)?;
     is_connected(rt, socket, "again", 9, 7)
 }
 

@@ -2,7 +2,7 @@
 
 use crate::TwoWords;
 use crate::packets::INIT;
-use crate::sockets::{only_packet, only_parse_error, socket_with, unchecked};
+use crate::sockets::{only_packet, reports, socket_with, unchecked};
 use dcsctp_socket::{DcSctpSocket, Options, Socket};
 use std::alloc::Global;
 use std::process::Abort;
@@ -83,14 +83,11 @@ fn judges(
     match judgement {
         None => {
             let answer = only_packet(socket)?;
-            assert_eq!(rt; answer.len(), 96, "{name}");
+            assert_eq!(rt; answer.len(), 96, "{name}: {packet:?}");
+            Ok(())
         }
-        Some(expected) => {
-            let text = only_parse_error(socket)?;
-            assert_eq!(rt; text.as_str(), expected, "{name}");
-        }
+        Some(expected) => reports(rt, socket, name, expected),
     }
-    Ok(())
 }
 
 // The INIT with this byte at a place.

@@ -2,7 +2,7 @@
 
 use crate::TwoWords;
 use crate::packets::{INIT, INIT_ACK};
-use crate::sockets::{only_packet, only_parse_error, socket_with, unchecked};
+use crate::sockets::{is_in_state, only_packet, reports, sends, socket_with, unchecked};
 use dcsctp_socket::{DcSctpSocket, Options, Socket, SocketState};
 use dcsctp_wire::{Chunk, InitChunk, Parameter, SctpPacketBuilder};
 use std::alloc::Global;
@@ -12,9 +12,8 @@ use std::test::Fail;
 // Hands the INIT to a closed socket of tag 9.
 fn answers_and_keeps_nothing(rt: &impl Abort, socket: &mut Socket<TwoWords>) -> Result<(), Fail> {
     socket.handle_input(&INIT)?;
-    let packet = only_packet(socket)?;
-    assert_eq!(rt; packet.as_slice(), INIT_ACK.as_slice());
-    assert_eq!(rt; socket.state(), SocketState::Closed);
+    sends(rt, socket, "INIT ACK", &INIT_ACK)?;
+    is_in_state(rt, socket, "INIT ACK", SocketState::Closed);
     assert_eq!(rt; socket.verification_tag(), 0);
     assert!(rt; socket.association().is_none());
     assert!(rt; !socket.has_failed());
@@ -36,9 +35,8 @@ fn refuses(
     expected: &str,
 ) -> Result<(), Fail> {
     socket.handle_input(packet)?;
-    let text = only_parse_error(socket)?;
-    assert_eq!(rt; text.as_str(), expected, "{name}");
-    assert_eq!(rt; socket.state(), SocketState::Closed, "{name}");
+    reports(rt, socket, name, expected)?;
+    is_in_state(rt, socket, name, SocketState::Closed);
     Ok(())
 }
 
@@ -137,7 +135,7 @@ fn answers_where_it_fits(
 ) -> Result<(), Fail> {
     socket.handle_input(&INIT)?;
     assert_eq!(rt; socket.poll_event().is_some(), fits, "mtu {mtu}");
-    assert_eq!(rt; socket.state(), SocketState::Closed, "mtu {mtu}");
+    is_in_state(rt, socket, "an MTU", SocketState::Closed);
     Ok(())
 }
 

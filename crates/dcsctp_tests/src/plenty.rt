@@ -2,9 +2,7 @@
 
 use crate::TwoWords;
 use crate::packets::INIT;
-use crate::sockets::{
-    next_packet, only_packet, only_parse_error, socket_with, tells_nothing, unchecked,
-};
+use crate::sockets::{next_packet, only_packet, reports, socket_with, tells_nothing, unchecked};
 use dcsctp_socket::{DcSctpSocket, Options, Socket};
 use std::alloc::Global;
 use std::process::Abort;
@@ -56,13 +54,10 @@ fn takes(
         None => {
             let answer = only_packet(socket)?;
             assert_eq!(rt; answer.len(), 96, "{name}");
+            Ok(())
         }
-        Some(expected) => {
-            let text = only_parse_error(socket)?;
-            assert_eq!(rt; text.as_str(), expected, "{name}");
-        }
+        Some(expected) => reports(rt, socket, name, expected),
     }
-    Ok(())
 }
 
 #[test]

@@ -2,7 +2,7 @@
 
 use crate::TwoWords;
 use crate::packets::{COOKIE_ACK, COOKIE_ECHO, INIT, INIT_ACK};
-use dcsctp_socket::{DcSctpSocket, ErrorKind, Options, Socket, SocketEvent};
+use dcsctp_socket::{DcSctpSocket, ErrorKind, Options, Socket, SocketEvent, SocketState};
 use std::alloc::Global;
 use std::process::Abort;
 use std::test::Fail;
@@ -60,25 +60,55 @@ pub fn only_packet(socket: &mut Socket<TwoWords>) -> Result<Vec<u8>, Fail> {
     Ok(packet)
 }
 
-// The next event has to be a parse error, and no event may follow.
-pub fn only_parse_error(socket: &mut Socket<TwoWords>) -> Result<String, Fail> {
+// The next event has to be this packet, and no event may follow.
+pub fn sends(
+    rt: &impl Abort,
+    socket: &mut Socket<TwoWords>,
+    name: &str,
+    packet: &[u8],
+) -> Result<(), Fail> {
+    let sent = only_packet(socket)?;
+    assert_eq!(rt; sent.as_slice(), packet, "{name}");
+    Ok(())
+}
+
+// The next event has to be a parse error of this text, and no event may follow.
+pub fn reports(
+    rt: &impl Abort,
+    socket: &mut Socket<TwoWords>,
+    name: &str,
+    expected: &str,
+) -> Result<(), Fail> {
     let Some(SocketEvent::OnError(kind, text)) = socket.poll_event() else {
         return Err(Fail::new("no error was reported"));
     };
-    if kind != ErrorKind::ParseFailed {
-        return Err(Fail::new("an error of another kind was reported"));
-    }
-    tells_nothing(socket)?;
-    Ok(text)
+    assert_eq!(rt;
+        (kind, text.as_str()),
+        (ErrorKind::ParseFailed, expected),
+        "{name}"
+    );
+    tells_nothing(socket)
 }
 
-// The next event has to end the association, and no event may follow.
-pub fn only_aborted(socket: &mut Socket<TwoWords>) -> Result<(ErrorKind, String), Fail> {
+// The next event has to end the association so, and no event may follow. The socket is closed then.
+pub fn ends(
+    rt: &impl Abort,
+    socket: &mut Socket<TwoWords>,
+    name: &str,
+    expected: (ErrorKind, &str),
+) -> Result<(), Fail> {
     let Some(SocketEvent::OnAborted(kind, text)) = socket.poll_event() else {
         return Err(Fail::new("the association has not ended"));
     };
+    assert_eq!(rt; (kind, text.as_str()), expected, "{name}");
     tells_nothing(socket)?;
-    Ok((kind, text))
+    is_in_state(rt, socket, name, SocketState::Closed);
+    Ok(())
+}
+
+// The socket has to be in this state.
+pub fn is_in_state(rt: &impl Abort, socket: &Socket<TwoWords>, name: &str, state: SocketState) {
+    assert_eq!(rt; socket.state(), state, "{name}");
 }
 
 // Hands a packet in: this answer has to come, and no event may follow.
@@ -89,9 +119,7 @@ pub fn answers(
     answer: &[u8],
 ) -> Result<(), Fail> {
     socket.handle_input(packet)?;
-    let sent = only_packet(socket)?;
-    assert_eq!(rt; sent.as_slice(), answer);
-    Ok(())
+    sends(rt, socket, "the answer", answer)
 }
 
 // Hands a packet in: it has to connect the socket.
@@ -106,9 +134,7 @@ pub fn connects(socket: &mut Socket<TwoWords>, packet: &[u8]) -> Result<(), Fail
 // A socket of tag 7 begins an association: its INIT has to go out.
 pub fn begins(rt: &impl Abort, socket: &mut Socket<TwoWords>) -> Result<(), Fail> {
     socket.connect()?;
-    let init = only_packet(socket)?;
-    assert_eq!(rt; init.as_slice(), INIT.as_slice());
-    Ok(())
+    sends(rt, socket, "INIT", &INIT)
 }
 
 // A socket of tag 7 is connected to one of tag 9.

@@ -1,6 +1,7 @@
 //! Two sockets that find each other, whatever the schedule.
 
 use crate::TwoWords;
+use crate::sockets::is_in_state;
 use dcsctp_socket::{DcSctpSocket, Options, SocketEvent, SocketState};
 use dcsctp_world::{Act, Call, Reply, Side, Step, World};
 use std::alloc::Global;
@@ -43,11 +44,7 @@ fn is_connected(
     tag: u32,
     first_tsn: u32,
 ) -> Result<(), Fail> {
-    assert_eq!(rt;
-        world.socket(side).state(),
-        SocketState::Connected,
-        "tag {tag}"
-    );
+    is_in_state(rt, world.socket(side), "a side", SocketState::Connected);
     let [pair] = world.pairs(side) else {
         return Err(Fail::new("not one pair was drawn"));
     };
@@ -134,6 +131,15 @@ fn associations_are_noted_after_each_act(rt: HostRuntime) -> Result<(), Fail> {
     notes_associations(&rt, &mut world)
 }
 
+// How many packets A and B have sent, and how many pairs B has drawn.
+fn counts(world: &World<TwoWords>) -> [usize; 3] {
+    [
+        world.packets(Side::A).len(),
+        world.packets(Side::B).len(),
+        world.pairs(Side::B).len(),
+    ]
+}
+
 // Applies steps: each has to answer as its row says.
 fn replies(rt: &impl Abort, world: &mut World<TwoWords>) -> Result<(), Fail> {
     let connect = Step::Call(Side::A, Call::Connect);
@@ -149,8 +155,7 @@ fn replies(rt: &impl Abort, world: &mut World<TwoWords>) -> Result<(), Fail> {
     for (name, step, expected) in rows {
         assert_eq!(rt; world.apply(&step)?, expected, "{name}");
     }
-    assert_eq!(rt; world.packets(Side::A).len(), 1);
-    assert_eq!(rt; world.packets(Side::B).len(), 1);
+    assert_eq!(rt; counts(world), [1, 1, 1]);
     assert_eq!(rt; world.associations(Side::B).len(), 8);
     Ok(())
 }
@@ -161,61 +166,33 @@ fn steps_answer_whether_a_call_was_made(rt: HostRuntime) -> Result<(), Fail> {
     replies(&rt, &mut world)
 }
 
-// How many packets each side has sent, and how many pairs B has drawn.
-#[derive(Clone, Copy)]
-struct Counts {
-    packets_of_a: usize,
-    packets_of_b: usize,
-    pairs_of_b: usize,
-}
-
 // Runs the handshake and a step behind it: the sides have to stay connected.
 fn counts_after(
     rt: &impl Abort,
     world: &mut World<TwoWords>,
     name: &str,
     step: Step,
-    expected: Counts,
+    expected: [usize; 3],
 ) -> Result<(), Fail> {
     world.run(&HANDSHAKE)?;
     world.apply(&step)?;
-    assert_eq!(rt;
-        world.packets(Side::A).len(),
-        expected.packets_of_a,
-        "{name}"
-    );
-    assert_eq!(rt;
-        world.packets(Side::B).len(),
-        expected.packets_of_b,
-        "{name}"
-    );
-    assert_eq!(rt; world.pairs(Side::B).len(), expected.pairs_of_b, "{name}");
-    for side in [Side::A, Side::B] {
-        assert_eq!(rt;
-            world.socket(side).state(),
-            SocketState::Connected,
-            "{name}"
-        );
-    }
+    assert_eq!(rt; counts(world), expected, "{name}");
+    is_in_state(rt, world.socket(Side::A), name, SocketState::Connected);
+    is_in_state(rt, world.socket(Side::B), name, SocketState::Connected);
     Ok(())
 }
 
 #[test]
 fn a_repeated_packet_adds_what_it_brings(rt: HostRuntime) -> Result<(), Fail> {
     let rows = [
-        ("INIT to B", Step::Deliver(Side::B, 1), 2, 3, 2),
-        ("INIT ACK to A", Step::Deliver(Side::A, 1), 2, 2, 1),
-        ("COOKIE ECHO to B", Step::Deliver(Side::B, 2), 2, 3, 1),
-        ("COOKIE ACK to A", Step::Deliver(Side::A, 2), 2, 2, 1),
+        ("INIT to B", Step::Deliver(Side::B, 1), [2, 3, 2]),
+        ("INIT ACK to A", Step::Deliver(Side::A, 1), [2, 2, 1]),
+        ("COOKIE ECHO to B", Step::Deliver(Side::B, 2), [2, 3, 1]),
+        ("COOKIE ACK to A", Step::Deliver(Side::A, 2), [2, 2, 1]),
     ];
-    for (name, step, packets_of_a, packets_of_b, pairs_of_b) in rows {
-        let counts = Counts {
-            packets_of_a,
-            packets_of_b,
-            pairs_of_b,
-        };
+    for (name, step, expected) in rows {
         let mut world = new_world(rt.alloc(), 0)?;
-        counts_after(&rt, &mut world, name, step, counts)?;
+        counts_after(&rt, &mut world, name, step, expected)?;
     }
     Ok(())
 }
