@@ -2,8 +2,6 @@
 
 mod chunks;
 mod lengths;
-#[cfg(test)]
-mod tests;
 
 ghost use Rattle.std.specs.Prelude.{◌≡◌, ◌≤◌, ◌↔◌, ℕ, ◌+◌, ◌-◌, ◌%◌, List, [], ◌++◌, length, take, drop, true, IfOk, IsTrue};
 ghost use Rattle.std.specs.Vec.{vec_len};

@@ -176,6 +176,3 @@ pub fn built_packet_reads_back()
 pub fn built_packet_reads_as_itself()
     ensures { BuiltPacketReadsAsItself }
 {}
-
-#[cfg(test)]
-mod tests;

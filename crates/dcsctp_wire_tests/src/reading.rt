@@ -2,9 +2,10 @@
 
 ghost use Rattle.std.specs.Prelude.{◌≤◌};
 
-use super::*;
-use crate::cause::ErrorCause;
-use crate::parameter::Parameter;
+use dcsctp_wire::{
+    Chunk, CommonHeader, ErrorCause, PacketError, Parameter, SctpPacket, WireOptions,
+};
+use std::alloc::Global;
 use std::process::Abort;
 use std::test::Fail;
 

@@ -4,11 +4,13 @@ ghost use Rattle.std.specs.Prelude.{◌≡◌, ◌≤◌, ◌+◌, true, [], ◌
 ghost use Rattle.dcsctp_wire.specs.Content.{chunk_content};
 ghost use Rattle.dcsctp_wire.specs.Spelling.{chunk_bytes, packet_bytes};
 
-use super::*;
-use crate::cause::ErrorCause;
-use crate::chunk::{AbortChunk, CookieEchoChunk, InitChunk, OtherChunk};
-use crate::parameter::Parameter;
-use std::test::*;
+use dcsctp_wire::{
+    AbortChunk, Chunk, CookieEchoChunk, ErrorCause, InitChunk, OtherChunk, Parameter,
+    SctpPacketBuilder,
+};
+use std::alloc::{AllocError, Global};
+use std::process::Abort;
+use std::test::Fail;
 
 const COOKIE: [u8; 48] = [0xcc; 48];
 
@@ -74,6 +76,12 @@ fn init<'a>(alloc: Global, parameters: &[Parameter<'a>]) -> Result<InitChunk<'a>
     })
 }
 
+// Adds a chunk, for which there has to be room.
+fn adds(rt: &impl Abort, builder: &mut SctpPacketBuilder, chunk: &Chunk<'_>) {
+    assert!(rt; chunk.serialized_size() <= builder.bytes_remaining());
+    builder.add(chunk);
+}
+
 #[test]
 fn writes_an_init(rt: HostRuntime) -> Result<(), Fail> {
     let parameters = [
@@ -90,8 +98,7 @@ fn writes_an_init(rt: HostRuntime) -> Result<(), Fail> {
     );
     assert!(rt; builder.is_empty());
     assert_eq!(rt; builder.bytes_remaining(), 1176);
-    assert!(rt; chunk.serialized_size() <= builder.bytes_remaining());
-    builder.add(&chunk);
+    adds(&rt, &mut builder, &chunk);
     assert!(rt; !builder.is_empty());
     assert_eq!(rt; builder.bytes_remaining(), 1136);
     assert_eq!(rt; builder.build().as_slice(), INIT.as_slice());
@@ -116,8 +123,7 @@ fn writes_an_init_ack(rt: HostRuntime) -> Result<(), Fail> {
         5001,
         104,
     )?.write_checksum(false);
-    assert!(rt; chunk.serialized_size() <= builder.bytes_remaining());
-    builder.add(&chunk);
+    adds(&rt, &mut builder, &chunk);
     assert_eq!(rt; builder.bytes_remaining(), 0);
     assert_eq!(rt; builder.build().as_slice(), INIT_ACK.as_slice());
     Ok(())
@@ -135,12 +141,9 @@ fn writes_chunks_of_one_value_or_none(rt: HostRuntime) -> Result<(), Fail> {
         value: &[],
     });
     let mut builder = SctpPacketBuilder::new(rt.alloc(), 9, 5000, 5001, 32)?.write_checksum(false);
-    assert!(rt; echo.serialized_size() <= builder.bytes_remaining());
-    builder.add(&echo);
-    assert!(rt; ack.serialized_size() <= builder.bytes_remaining());
-    builder.add(&ack);
-    assert!(rt; complete.serialized_size() <= builder.bytes_remaining());
-    builder.add(&complete);
+    adds(&rt, &mut builder, &echo);
+    adds(&rt, &mut builder, &ack);
+    adds(&rt, &mut builder, &complete);
     assert_eq!(rt; builder.build().as_slice(), OTHERS.as_slice());
     assert!(rt; echo.serialized_size() <= 12);
     assert!(rt; complete.serialized_size() <= 4);
@@ -163,8 +166,7 @@ fn writes_an_abort(rt: HostRuntime) -> Result<(), Fail> {
     });
     assert_eq!(rt; chunk.serialized_size(), 24);
     let mut builder = SctpPacketBuilder::new(rt.alloc(), 9, 5000, 5001, 36)?.write_checksum(false);
-    assert!(rt; chunk.serialized_size() <= builder.bytes_remaining());
-    builder.add(&chunk);
+    adds(&rt, &mut builder, &chunk);
     assert_eq!(rt; builder.build().as_slice(), ABORT.as_slice());
     Ok(())
 }

@@ -1,0 +1,14 @@
+//! Tests of `dcsctp_wire` by its public calls: what is read of packets that were put together by hand,
+//! what a builder writes, the texts of causes, checksums, and the published numbers.
+#![tactic(auto)]
+
+#[cfg(test)]
+mod causes;
+#[cfg(test)]
+mod checksums;
+#[cfg(test)]
+mod numbers;
+#[cfg(test)]
+mod reading;
+#[cfg(test)]
+mod writing;
