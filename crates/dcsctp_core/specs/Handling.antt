@@ -6,7 +6,7 @@ use Rattle.dcsctp_wire.specs.Spelling.{chunk_bytes, header_bytes, packet_bytes_o
 use Rattle.dcsctp_machine.specs.declared.kinds.ErrorKind.{ErrorKind}
 use Rattle.dcsctp_machine.specs.declared.kinds.ErrorKind.TheVariants.{NoError}
 use Rattle.dcsctp_machine.specs.Settings.{packet_size_limit}
-use Rattle.dcsctp_machine.specs.Packet.{Content, chunk_out, Emission}
+use Rattle.dcsctp_machine.specs.Packet.{Content, Emission}
 use Rattle.dcsctp_machine.specs.Cause.{Cause}
 use Rattle.dcsctp_machine.specs.Event.{Event, sent, aborted}
 use Rattle.dcsctp_machine.specs.Event as events

@@ -1,5 +1,5 @@
 -- What a socket's parts are in the machine, and how a turn moves them.
-use Rattle.std.specs.Prelude.{◌≡◌, ℕ, Bool, true, false, Option, None, Some, List, [], ◌∷◌, ◌++◌, map, take}
+use Rattle.std.specs.Prelude.{◌≡◌, ℕ, Option, None, Some, List, [], ◌∷◌, ◌++◌, map, take}
 use Rattle.rand_core.specs.Stream.{Stream, next_u32, next_u64}
 use Rattle.dcsctp_machine.specs.declared.options.Options.{Options}
 use Rattle.dcsctp_machine.specs.declared.association.Pair.{Pair}

@@ -1,5 +1,5 @@
 -- The steps of a COOKIE ECHO's turns.
-use Rattle.std.proofs.Common.{◌≡◌, ◌==◌, ◌≤◌, ℕ, Bool, Some, List, [], ◌∷◌, ◌++◌, map, length, refl, sym, ap, subst, ◌∙◌, arith}
+use Rattle.std.proofs.Common.{◌≡◌, ◌==◌, ◌≤◌, ℕ, Bool, Some, List, [], ◌∷◌, ◌++◌, length, refl, sym, ap, subst, ◌∙◌, arith}
 use Rattle.std.proofs.lemmas.List.{append-nil}
 use Rattle.rand_core.specs.Stream.{Stream}
 use Rattle.dcsctp_wire.specs.Content.{cookie_ack_chunk}
@@ -21,10 +21,9 @@ use Rattle.dcsctp_machine.specs.turns.CookieEcho.{established_by, interleaves, r
 use Rattle.dcsctp_core.specs.declared.state.State.{State}
 use Rattle.dcsctp_core.specs.declared.state.CookieEchoState.{CookieEchoState}
 use Rattle.dcsctp_core.specs.declared.state.State.TheVariants.{Closed, CookieWait, CookieEchoed, Established}
-use Rattle.dcsctp_core.specs.declared.context.Context.{Context}
 use Rattle.dcsctp_core.specs.declared.transmission_control_block.TransmissionControlBlock.{TransmissionControlBlock}
-use Rattle.dcsctp_core.specs.View.{View, endpoint_of, core_of, tcb_of, held_of, view_of, Moves, CutTurn}
-use Rattle.dcsctp_core.specs.Flushing.{Flushed, packet_of, empty_packet}
+use Rattle.dcsctp_core.specs.View.{View, core_of, tcb_of, held_of, Moves, CutTurn}
+use Rattle.dcsctp_core.specs.Flushing.{packet_of, empty_packet}
 use Rattle.dcsctp_core.proofs.Composing.{behind, moves_behind, cut_behind, flush_behind, flush_cut}
 use Rattle.dcsctp_handshake.specs.Echoes.{acknowledged, acknowledges_peer, maintained}
 

@@ -7,7 +7,6 @@ use Rattle.dcsctp_core.specs.declared.context.Context.{Context}
 use Rattle.dcsctp_core.specs.View.{View, view_of}
 use Rattle.dcsctp_core.specs.Drawing.{long_word}
 use Rattle.dcsctp_core.proofs.Composing.{added_one, cut_first}
-use Rattle.dcsctp_handshake.specs.Echoes.{establish_turn}
 use Rattle.dcsctp_handshake.proofs.EchoSteps.{establish_cut}
 use Rattle.dcsctp_handshake.proofs.cookie_echo.establish.Goals as goal
 

@@ -3,7 +3,6 @@ use Rattle.std.proofs.Common.{ap, ◌∙◌}
 use Rattle.dcsctp_api.specs.declared.events.SocketEvent.TheVariants.{OnConnected}
 use Rattle.dcsctp_core.specs.View.{View, view_of}
 use Rattle.dcsctp_core.proofs.Composing.{added_one}
-use Rattle.dcsctp_handshake.specs.Echoes.{maintain_turn}
 use Rattle.dcsctp_handshake.proofs.EchoSteps.{maintain_cut}
 use Rattle.dcsctp_handshake.proofs.cookie_echo.maintain.Goals as goal
 

@@ -1,13 +1,12 @@
 use Rattle.std.proofs.lemmas.Result.{err_from_is_err_and}
-use Rattle.std.proofs.Common.{List, ℕ, [], ◌∷◌, ◌++◌, ap, map}
-use Rattle.dcsctp_machine.specs.Event.{Event, connection_restarted}
+use Rattle.std.proofs.Common.{List, ℕ, ap, map}
+use Rattle.dcsctp_machine.specs.Event.{Event}
 use Rattle.dcsctp_api.specs.Cookie.{cookie_of}
 use Rattle.dcsctp_api.specs.Events.{event_content}
 use Rattle.dcsctp_api.specs.declared.events.SocketEvent.TheVariants.{OnConnectionRestarted}
-use Rattle.dcsctp_core.specs.View.{View, view_of}
+use Rattle.dcsctp_core.specs.View.{view_of}
 use Rattle.dcsctp_core.specs.Drawing.{long_word}
 use Rattle.dcsctp_core.proofs.Composing.{added_one, cut_first}
-use Rattle.dcsctp_handshake.specs.Echoes.{restart_turn}
 use Rattle.dcsctp_handshake.proofs.EchoSteps.{restarts_behind, restart_cut}
 use Rattle.dcsctp_handshake.proofs.cookie_echo.restart.Goals as goal
 
