@@ -65,10 +65,15 @@ HandlesInput old packet (Ok done) new = (outcomes : List Outcome) × HandleInput
 HandlesInput old packet (Err OutOfMemory) new = RanOut old (CutInput old.endpoint packet) new
 HandlesInput old packet (Err Failed) new = StaysFailed old new
 
--- The call is one turn. Where a growth was refused, it added none of its events.
+-- A growth was refused, and the socket has failed. Nothing else has changed but what words were drawn.
+pub record FailsWhole (old new : UserView) : Type 0 where
+  pub runs : old.failed ≡ false
+  pub only : new ≡ record old { words = new.words; pairs = new.pairs; failed = true }
+
+-- The call is one turn, or it changes nothing.
 abbrev pub Connects : UserView → Result (Unit {0}) SocketFault → UserView → Type 0
 Connects old (Ok done) new = (outcomes : List Outcome) × Turns old.endpoint (act_input connect ∷ []) outcomes × Follows old outcomes new
-Connects old (Err OutOfMemory) new = RanOut old (λ outcomes. outcomes ≡ []) new
+Connects old (Err OutOfMemory) new = FailsWhole old new
 Connects old (Err Failed) new = StaysFailed old new
 
 -- The event that was added first is taken, and nothing else changes.

@@ -29,7 +29,8 @@ pub trait DcSctpSocket {
 
     /// Begins an association (RFC 9260, section 5.1): a tag and a first TSN are drawn, and an INIT goes
     /// out where it fits `mtu`. On a socket that isn't closed it answers `Ok` and changes nothing; no
-    /// word is drawn in that call.
+    /// word is drawn in that call. Where memory runs out nothing has changed but what words were drawn,
+    /// and that the socket has failed.
     fn connect(&mut self) -> Result<(), SocketFault>
         ensures call { Connects (user_view self.old) result (user_view self.new) }
         ensures open { (user_view self.old).failed ≡ false

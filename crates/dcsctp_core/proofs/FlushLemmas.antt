@@ -1,5 +1,5 @@
 -- What a flush does by its cases: nothing is held, or a packet goes out.
-use Rattle.std.proofs.Common.{◌≡◌, ◌≤◌, ℕ, ℤ, pos, negsuc, zero, suc, Bool, true, cond, List, [], ◌∷◌, ◌++◌, length, map, refl, sym, ap, ◌∙◌, arith}
+use Rattle.std.proofs.Common.{◌≡◌, ◌≤◌, ℕ, ℤ, pos, negsuc, zero, suc, Bool, true, false, cond, List, [], ◌∷◌, ◌++◌, length, map, refl, sym, ap, ◌∙◌, arith}
 use Rattle.std.proofs.lemmas.List.{append-nil}
 use Rattle.std.specs.List.{flat_map}
 use Rattle.dcsctp_wire.specs.Content.{ChunkContent, init_chunk, init_ack_chunk, abort_chunk, cookie_echo_chunk, cookie_ack_chunk, other_chunk}
@@ -15,7 +15,7 @@ use Rattle.dcsctp_machine.specs.Outcome.{quiet, counted, sends}
 use Rattle.dcsctp_machine.specs.turns.Flush.{allows_packet, flushes}
 use Rattle.dcsctp_core.specs.declared.context.Context.{Context}
 use Rattle.dcsctp_core.specs.View.{View, endpoint_of, view_of, Moves}
-use Rattle.dcsctp_core.specs.Flushing.{packet_of, burst_limit, Flushed}
+use Rattle.dcsctp_core.specs.Flushing.{packet_of, burst_limit, sent_as_built, flushed, Flushed}
 use Rattle.dcsctp_core.proofs.Moving.{moves_still}
 use Rattle.dcsctp_core.proofs.Composing.{moves_as}
 
@@ -42,6 +42,13 @@ pub flush_of_packet : (e : Endpoint) (with_checksum : Bool) (tag : ℕ) (content
 flush_of_packet e with_checksum tag [] some not_empty = absurd (not_empty refl)
 flush_of_packet e with_checksum tag (content ∷ contents) some not_empty =
     ap (λ (b : Bool). cond b (sends e [] [] (record { with_checksum = with_checksum; packet = record { tag = tag; contents = content ∷ contents } })) (quiet e [] [])) some
+
+-- and where no packet is allowed
+flush_unallowed : (e : Endpoint) (with_checksum : Bool) (tag : ℕ) (contents : List Content) → allows_packet e.options.max_burst ≡ false
+    → flushes e [] [] with_checksum tag contents ≡ quiet e [] []
+flush_unallowed e with_checksum tag [] none = refl
+flush_unallowed e with_checksum tag (content ∷ contents) none =
+    ap (λ (b : Bool). cond b (sends e [] [] (record { with_checksum = with_checksum; packet = record { tag = tag; contents = content ∷ contents } })) (quiet e [] [])) none
 
 -- ---- a packet that goes out
 
@@ -73,26 +80,57 @@ burst_allows (pos zero) allowed = absurd (cc allowed)
 burst_allows (pos (suc more)) allowed = omega arith
 burst_allows (negsuc below) allowed = absurd (cc allowed)
 
+-- ---- what goes out, by the bytes of the chunks
+
+none_allowed : {R : Type 0} (packet : Building) (body : List ℕ) (view : View R) → allows_packet view.endpoint.options.max_burst ≡ false → view ≡ flushed packet body view
+none_allowed packet [] view none = refl
+none_allowed packet (byte ∷ bytes) view none = ap (λ (b : Bool). cond b (sent_as_built packet view) view) (sym none)
+
+none_held : {R : Type 0} (packet : Building) (body : List ℕ) (view : View R) → body ≡ [] → view ≡ flushed packet body view
+none_held packet [] view empty = refl
+none_held packet (byte ∷ bytes) view empty = absurd (cc empty)
+
+one_sent : {R : Type 0} (packet : Building) (body : List ℕ) (view : View R) → allows_packet view.endpoint.options.max_burst ≡ true → (body ≡ [] → ⊥)
+    → sent_as_built packet view ≡ flushed packet body view
+one_sent packet [] view allowed not_empty = absurd (not_empty refl)
+one_sent packet (byte ∷ bytes) view allowed not_empty = ap (λ (b : Bool). cond b (sent_as_built packet view) view) (sym allowed)
+
+-- No packet is allowed.
+pub flushed_unallowed : {R : Type 0} (stream : R → Stream) (context : Context R) (packet : Building) → allows_packet context.options.max_burst ≡ false
+    → (view_of context ≡ flushed packet packet.body (view_of context))
+    × ((with_checksum : Bool) (tag : ℕ) (contents : List Content) → packet ≡ packet_of context.options with_checksum tag contents → Flushed stream context with_checksum tag contents context)
+flushed_unallowed stream context packet none =
+    let v = view_of context in (
+      none_allowed packet packet.body v none,
+      λ with_checksum tag contents is. record {
+        moves = moves_as stream v v _ _ (flush_unallowed (endpoint_of context) with_checksum tag contents none) (moves_still stream v);
+        limits = record { packets = []; behind = sym (append-nil v.events); burst = omega arith; sizes = tt };
+      },
+    )
+
 -- A flush that sends nothing.
-pub flushed_nothing : {R : Type 0} (stream : R → Stream) (context : Context R) (packet : Building) (with_checksum : Bool) (tag : ℕ) (contents : List Content)
-    → packet ≡ packet_of context.options with_checksum tag contents → packet.body ≡ [] → Flushed stream context with_checksum tag contents context
-flushed_nothing stream context packet with_checksum tag contents is empty =
-    let v = view_of context in
-    record {
-      moves =
-          moves_as stream v v _ _ (flush_of_nothing (endpoint_of context) with_checksum tag contents (sym (ap (λ (b : Building). b.body) is) ∙ empty)) (moves_still stream v);
-      limits = record { packets = []; behind = sym (append-nil v.events); burst = omega arith; sizes = tt };
-    }
+pub flushed_nothing : {R : Type 0} (stream : R → Stream) (context : Context R) (packet : Building) → packet.body ≡ []
+    → (view_of context ≡ flushed packet packet.body (view_of context))
+    × ((with_checksum : Bool) (tag : ℕ) (contents : List Content) → packet ≡ packet_of context.options with_checksum tag contents → Flushed stream context with_checksum tag contents context)
+flushed_nothing stream context packet empty =
+    let v = view_of context in (
+      none_held packet packet.body v empty,
+      λ with_checksum tag contents is. record {
+        moves =
+            moves_as stream v v _ _ (flush_of_nothing (endpoint_of context) with_checksum tag contents (sym (ap (λ (b : Building). b.body) is) ∙ empty)) (moves_still stream v);
+        limits = record { packets = []; behind = sym (append-nil v.events); burst = omega arith; sizes = tt };
+      },
+    )
 
 -- A flush that sends its packet.
-pub flushed_packet : {R : Type 0} (stream : R → Stream) (old new : Context R) (packet : Building) (bytes : List ℕ)
+sent_within : {R : Type 0} (stream : R → Stream) (old new : Context R) (packet : Building) (bytes : List ℕ)
     → allows_packet old.options.max_burst ≡ true → (packet.body ≡ [] → ⊥)
     → bytes ≡ packet_bytes_of packet.with_checksum (header_bytes packet.source_port packet.destination_port packet.verification_tag) packet.body
     → length bytes ≤ packet.size
     → view_of new ≡ record (view_of old) { endpoint = counted (endpoint_of old); events = (view_of old).events ++ sent bytes ∷ [] }
     → (with_checksum : Bool) (tag : ℕ) (contents : List Content) → packet ≡ packet_of old.options with_checksum tag contents
     → Flushed stream old with_checksum tag contents new
-flushed_packet {R = R} stream old new packet bytes allowed not_empty built within here with_checksum tag contents is =
+sent_within {R = R} stream old new packet bytes allowed not_empty built within here with_checksum tag contents is =
     record {
       moves =
           moves_as stream (view_of old) (view_of new) _ _
@@ -106,3 +144,17 @@ flushed_packet {R = R} stream old new packet bytes allowed not_empty built withi
         sizes = (omega (arith, within, ap (λ (b : Building). b.size) is), tt);
       };
     }
+
+pub flushed_packet : {R : Type 0} (stream : R → Stream) (old new : Context R) (packet : Building) (bytes : List ℕ)
+    → allows_packet old.options.max_burst ≡ true → (packet.body ≡ [] → ⊥)
+    → bytes ≡ packet_bytes_of packet.with_checksum (header_bytes packet.source_port packet.destination_port packet.verification_tag) packet.body
+    → length bytes ≤ packet.size
+    → view_of new ≡ record (view_of old) { endpoint = counted (endpoint_of old); events = (view_of old).events ++ sent bytes ∷ [] }
+    → (view_of new ≡ flushed packet packet.body (view_of old))
+    × ((with_checksum : Bool) (tag : ℕ) (contents : List Content) → packet ≡ packet_of old.options with_checksum tag contents → Flushed stream old with_checksum tag contents new)
+flushed_packet {R = R} stream old new packet bytes allowed not_empty built within here = (
+  here
+      ∙ ap (λ (bs : List ℕ). record (view_of old) { endpoint = counted (endpoint_of old); events = (view_of old).events ++ sent bs ∷ [] }) built
+      ∙ one_sent packet packet.body (view_of old) allowed not_empty,
+  sent_within stream old new packet bytes allowed not_empty built within here,
+)

@@ -1,5 +1,5 @@
 -- Turns of chunks and of connect, from what their handlers say.
-use Rattle.std.proofs.Common.{◌≡◌, ℕ, Bool, false, List, [], ◌∷◌, refl, sym, ap, subst, ◌∙◌, Result, Ok, Err}
+use Rattle.std.proofs.Common.{◌≡◌, ℕ, Bool, true, false, List, [], ◌∷◌, refl, sym, ap, subst, ◌∙◌, Result, Ok, Err}
 use Rattle.std.proofs.lemmas.List.{append-nil}
 use Rattle.rand_core.specs.Stream.{Stream}
 use Rattle.dcsctp_machine.specs.Event.{Event}
@@ -8,7 +8,7 @@ use Rattle.dcsctp_machine.specs.Outcome.{Outcome, still}
 use Rattle.dcsctp_machine.specs.Turn.{ContentTurn}
 use Rattle.dcsctp_machine.specs.turns.Handshake.{init_outcome}
 use Rattle.dcsctp_api.specs.declared.errors.SocketFault.{SocketFault}
-use Rattle.dcsctp_api.specs.Calls.{Connects, Follows, RanOut}
+use Rattle.dcsctp_api.specs.Calls.{UserView, Connects, Follows, FailsWhole}
 use Rattle.dcsctp_core.specs.declared.following.Following.TheVariants.{NextChunk}
 use Rattle.dcsctp_core.specs.declared.context.Context.{Context}
 use Rattle.dcsctp_core.specs.declared.following.Following.{Following}
@@ -83,14 +83,11 @@ connects stream old new failed fails (Ok done) answer runs worked settled =
     } in
     subst (λ (a : Result (Unit {0}) SocketFault). Connects (user_view_of (record { view = view_of old; failed = failed })) a (user_view_of (record { view = view_of new; failed = fails })))
     (sym settled.0) (worked.outcomes, worked.turns, then)
-connects stream old new failed fails (Err error) answer runs same settled =
-    let out : RanOut (user_view_of (record { view = view_of old; failed = failed })) (λ outcomes. outcomes ≡ []) (user_view_of (record { view = view_of new; failed = fails })) =
-    record {
-      runs = runs;
-      fails = settled.1;
-      outcomes = [];
-      turns = refl;
-      events = record { added = []; rest = []; behind = same ∙ sym (append-nil (view_of old).events); front = refl };
-    } in
-    subst (λ (a : Result (Unit {0}) SocketFault). Connects (user_view_of (record { view = view_of old; failed = failed })) a (user_view_of (record { view = view_of new; failed = fails })))
-    (sym settled.0) out
+connects {R = R} stream old new failed fails (Err error) answer runs same settled =
+    let was : UserView = user_view_of (record { view = view_of old; failed = failed }) in
+    let now : UserView = user_view_of (record { view = view_of new; failed = fails }) in
+    let only : now ≡ record was { words = now.words; pairs = now.pairs; failed = true } =
+    ap (λ (v : View R). user_view_of (record { view = v; failed = fails })) same
+    ∙ ap (λ (f : Bool). let u : UserView = record was { words = now.words; pairs = now.pairs; failed = f } in u) settled.1 in
+    let out : FailsWhole was now = record { runs = runs; only = only } in
+    subst (λ (a : Result (Unit {0}) SocketFault). Connects was a now) (sym settled.0) out

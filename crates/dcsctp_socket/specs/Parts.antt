@@ -12,9 +12,9 @@ use Rattle.dcsctp_machine.specs.control.Acts.{connect}
 use Rattle.dcsctp_machine.specs.CallTurns.{Turns, ChunkTurns, AdmittedTurns, HandleInput, FirstTurns, FirstAdmitted, CutInput}
 use Rattle.dcsctp_api.specs.Calls.{AddsFront}
 use Rattle.dcsctp_core.specs.declared.context.Context.{Context}
-use Rattle.dcsctp_core.specs.View.{View, view_of, Moves, MovesAll, CallMoves, CutTurn}
+use Rattle.dcsctp_core.specs.View.{View, view_of, call_start, Moves, MovesAll, CallMoves, CutTurn}
 use Rattle.dcsctp_core.specs.declared.following.Following.{Following}
-use Rattle.dcsctp_core.specs.Handling.{following_of}
+use Rattle.dcsctp_core.specs.Handling.{following_of, OnlyDrew}
 
 -- A chunk had its turn, and this follows it.
 pub record ChunkMoves {R : Type 0} (stream : R → Stream) (tag : ℕ) (content : Content) (old : View R) (next : Following) (new : View R) : Type 0 where
@@ -91,7 +91,7 @@ abbrev pub WorksInput : {R E : Type 0} → (R → Stream) → List ℕ → Conte
 WorksInput stream bytes old (Ok done) new = InputMoves stream bytes (view_of old) (view_of new)
 WorksInput stream bytes old (Err error) new = InputCut bytes (view_of old) (view_of new).events
 
--- Where a growth was refused, no event was added.
+-- Where a growth was refused, nothing has changed but what words were drawn.
 abbrev pub WorksConnect : {R E : Type 0} → (R → Stream) → Context R → Result (Unit {0}) E → Context R → Type 0
 WorksConnect stream old (Ok done) new = ConnectMoves stream (view_of old) (view_of new)
-WorksConnect stream old (Err error) new = (view_of new).events ≡ (view_of old).events
+WorksConnect stream old (Err error) new = OnlyDrew (call_start (view_of old)) (view_of new)

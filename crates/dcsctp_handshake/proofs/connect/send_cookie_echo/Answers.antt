@@ -38,4 +38,4 @@ returns g c =
     ∙ ap (λ (body : List ℕ). record (empty_packet old.options true echoed.tcb.peer.tag) { body = body }) (sym (append-nil bytes)) in
     moves_as g.R.Rng.stream (view_of old) _ _ _
     (ap (λ (s : State). echo_outcome e (core_of s)) c.in-CookieEchoed.is ∙ echo_that_fits e [] echoed.tcb.peer.tag echoed.cookie.items within)
-    (c.in_ok-send_buffered_packets_with.ensures true echoed.tcb.peer.tag (cookie_echo echoed.cookie.items ∷ []) built).moves
+    (c.in_ok-send_buffered_packets_with.ensures.1 true echoed.tcb.peer.tag (cookie_echo echoed.cookie.items ∷ []) built).moves

@@ -13,5 +13,5 @@ returns g c =
     let old = c.args.context.now in
     let tcb = c.in-Some.tcb.now in
     moves_as g.R.Rng.stream (view_of old) _ _ _ (acknowledged_is (endpoint_of old) old.state tcb c.in-Some.ensures)
-    (c.in_ok-send_buffered_packets_with.ensures (tcb.capabilities.zero_checksum_method.0 == 0) tcb.peer.tag (cookie_ack ∷ [])
+    (c.in_ok-send_buffered_packets_with.ensures.1 (tcb.capabilities.zero_checksum_method.0 == 0) tcb.peer.tag (cookie_ack ∷ [])
     (ack_packet old.options tcb c.in_ok-packet.packet c.add.new.self c.in_ok-packet.ensures c.add.ensures)).moves

@@ -5,11 +5,14 @@ use Rattle.dcsctp_api.specs.Events.{event_content}
 use Rattle.dcsctp_api.specs.declared.events.SocketEvent.{SocketEvent}
 use Rattle.dcsctp_api.specs.declared.events.SocketEvent.TheVariants.{SendPacket}
 use Rattle.dcsctp_core.specs.View.{view_of, endpoint_of}
-use Rattle.dcsctp_core.proofs.FlushLemmas.{flushed_nothing, flushed_packet}
+use Rattle.dcsctp_core.proofs.FlushLemmas.{flushed_unallowed, flushed_nothing, flushed_packet}
 use Rattle.dcsctp_core.proofs.context.Context.send_buffered_packets_with.Goals as goal
 
 pub returns-then-is_empty : goal.returns-then-is_empty
-returns-then-is_empty g c = λ with_checksum tag contents is. flushed_nothing g.R.Rng.stream c.args.self.now c.args.builder with_checksum tag contents is (c.if-is_empty.ensures.0 refl)
+returns-then-is_empty g c = flushed_nothing g.R.Rng.stream c.args.self.now c.args.builder (c.if-is_empty.ensures.0 refl)
+
+pub returns-then-not-allows_packet : goal.returns-then-not-allows_packet
+returns-then-not-allows_packet g c = flushed_unallowed g.R.Rng.stream c.args.self.now c.args.builder (sym c.if-not-allows_packet.ensures)
 
 pub returns : goal.returns
 returns g c =
