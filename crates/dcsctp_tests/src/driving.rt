@@ -22,6 +22,11 @@ fn a_client_is_driven_by_a_loop(rt: HostRuntime) -> Result<(), Fail> {
     assert_eq!(rt; told.packets[0].as_slice(), INIT.as_slice());
     assert_eq!(rt; told.packets[1].as_slice(), COOKIE_ECHO.as_slice());
     assert_eq!(rt; told.events.len(), 1);
-    assert!(rt; matches!(&told.events[0], SocketEvent::OnError(ErrorKind::ParseFailed, _)));
+    assert!(rt;
+        matches!(
+            &told.events[0],
+            SocketEvent::OnError(ErrorKind::ParseFailed, _)
+        )
+    );
     Ok(())
 }
