@@ -17,9 +17,9 @@ mod script;
 mod settings;
 mod setup;
 mod showing;
-#[cfg(test)]
-mod tests;
 mod words;
 
 pub use failure::Status;
+pub use printing::print_event;
 pub use run::run_script;
+pub use settings::set_option;

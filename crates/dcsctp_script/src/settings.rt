@@ -12,7 +12,7 @@ use std::time::Duration;
 
 /// Sets the option of this name to this value. False, and nothing is set, where there is no such
 /// option or the value isn't one of its type. Whether the options are valid then isn't looked at.
-pub fn set(options: &mut Options, name: &str, value: &str) -> bool
+pub fn set_option(options: &mut Options, name: &str, value: &str) -> bool
     ensures refused { OnFalse result (options.new ≡ options.old) }
 {
     set_count(options, name, value)

@@ -7,7 +7,7 @@ use crate::failure::Failure;
 use crate::line::{Command, Line, parse_line};
 use crate::number::number;
 use crate::script::Script;
-use crate::settings::set;
+use crate::settings::set_option;
 use crate::words::Words;
 use dcsctp_machine::{Options, Side};
 use dcsctp_world::World;
@@ -34,7 +34,7 @@ impl SocketSetup {
     // Sets an option. False where that can't be, as the options would not be valid.
     fn set(&mut self, name: &str, value: &str) -> bool {
         let mut options = self.options;
-        if !set(&mut options, name, value) || !options.is_valid() {
+        if !set_option(&mut options, name, value) || !options.is_valid() {
             return false;
         }
         self.options = options;

@@ -1,4 +1,5 @@
-//! Tests of `dcsctp_script` by its public calls: whole scripts, whose lines were worked out by hand.
+//! Tests of `dcsctp_script` by its public calls: whole scripts, whose lines were worked out by hand, and
+//! what no script shows (events that none brings about, options that nothing printed depends on).
 #![tactic(auto)]
 
 #[cfg(test)]
@@ -8,6 +9,10 @@ mod faults;
 #[cfg(test)]
 mod options;
 #[cfg(test)]
+mod printing;
+#[cfg(test)]
 mod scripts;
+#[cfg(test)]
+mod settings;
 #[cfg(test)]
 mod whole_scripts;

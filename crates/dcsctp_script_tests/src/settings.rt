@@ -1,7 +1,7 @@
 //! The fields of the options that each name sets; few of them show in what a script prints.
 
-use crate::settings::set;
 use dcsctp_machine::Options;
+use dcsctp_script::set_option;
 use std::test::Fail;
 use std::time::Duration;
 
@@ -9,7 +9,7 @@ use std::time::Duration;
 fn options_with(settings: &[(&str, &str)]) -> Result<Options, Fail> {
     let mut options = Options::default();
     for (name, value) in settings {
-        if !set(&mut options, name, value) {
+        if !set_option(&mut options, name, value) {
             return Err(Fail::new("an option was refused"));
         }
     }
@@ -121,7 +121,7 @@ fn flags_are_set_by_their_names(rt: HostRuntime) -> Result<(), Fail> {
     ];
     for (name, _) in settings {
         let mut options = options_with(&settings)?;
-        assert!(rt; set(&mut options, name, "false"));
+        assert!(rt; set_option(&mut options, name, "false"));
         assert_eq!(rt; !options.enable_partial_reliability, name == settings[0].0);
         assert_eq!(rt; !options.enable_message_interleaving, name == settings[1].0);
         assert_eq!(rt;

@@ -1,8 +1,8 @@
 //! Events and packets that no script brings about.
 
-use crate::printing::print_event;
 use dcsctp_api::{LifecycleId, SocketEvent, StreamId};
 use dcsctp_machine::{ErrorKind, Side};
+use dcsctp_script::print_event;
 use std::alloc::Global;
 use std::test::Fail;
 
