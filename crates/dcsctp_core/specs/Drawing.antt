@@ -28,10 +28,10 @@ pub record DrawsNext {R : Type 0} (stream : R → Stream) (next : Stream → ℕ
   pub pairs : new.pairs ≡ old.pairs
   pub only : OnlyDraws old new
 
--- A word was drawn, or it found no room.
+-- A word was drawn; or it found no room among those that are kept, and nothing has changed but the generator.
 abbrev pub Draws : {R E : Type 0} → (R → Stream) → (Stream → ℕ × Stream) → (ℕ → Word) → Context R → Result ℕ E → Context R → Type 0
 Draws stream next kind old (Ok word) new = DrawsNext stream next kind old word new
-Draws stream next kind old (Err error) new = OnlyDraws old new
+Draws stream next kind old (Err error) new = OnlyDraws old new × (new.words.items ≡ old.words.items) × (new.pairs ≡ old.pairs)
 
 -- The pair is the last that is kept. Nothing else changes.
 pub record KeepsLast {R : Type 0} (old : Context R) (pair : Pair) (new : Context R) : Type 0 where
@@ -40,7 +40,8 @@ pub record KeepsLast {R : Type 0} (old : Context R) (pair : Pair) (new : Context
   pub generator : new.generator ≡ old.generator
   pub only : OnlyDraws old new
 
--- A pair was kept, or it found no room.
+-- A pair was kept; or it found no room, and nothing has changed.
 abbrev pub Keeps : {R E : Type 0} → Context R → Pair → Result (Unit {0}) E → Context R → Type 0
 Keeps old pair (Ok done) new = KeepsLast old pair new
-Keeps old pair (Err error) new = OnlyDraws old new
+Keeps old pair (Err error) new =
+  OnlyDraws old new × (new.pairs.items ≡ old.pairs.items) × (new.words ≡ old.words) × (new.generator ≡ old.generator)

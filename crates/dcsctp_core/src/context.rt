@@ -102,7 +102,7 @@ impl<R: Rng> Context<R> {
     }
 
     /// Draws a word, and keeps it among those of the present call. The one error is want of memory: the
-    /// list of these words can't grow.
+    /// list of these words can't grow; then nothing has changed but the generator.
     pub fn draw_u32(&mut self) -> Result<u32, AllocError>
         ensures { Draws R.stream next_u32 U32 self.old result self.new }
     {
@@ -121,7 +121,7 @@ impl<R: Rng> Context<R> {
     }
 
     /// Keeps a pair that was made of words among those of the present call. The one error is want of
-    /// memory: the list of these pairs can't grow.
+    /// memory: the list of these pairs can't grow; then nothing has changed.
     pub fn keep_pair(&mut self, pair: Pair) -> Result<(), AllocError>
         ensures { Keeps self.old pair result self.new }
     {

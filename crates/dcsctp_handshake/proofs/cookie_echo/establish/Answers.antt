@@ -13,7 +13,7 @@ use Rattle.dcsctp_handshake.proofs.cookie_echo.establish.Goals as goal
 pub returns-in_err-tie_tag : goal.returns-in_err-tie_tag
 returns-in_err-tie_tag g c =
     rw (err_from_is_err_and c.from_residual.result c.from_residual.ensures.1).1
-    (cut_first _ _ _ (ap (λ (x : Context g.row.R.Denot). (view_of x).events) c.in_err-tie_tag.ensures))
+    (cut_first _ _ _ (ap (λ (x : Context g.row.R.Denot). (view_of x).events) c.in_err-tie_tag.ensures.0))
 
 pub returns-in_err-add : goal.returns-in_err-add
 returns-in_err-add g c =
