@@ -1,6 +1,6 @@
 //! An ABORT that comes to an open association (RFC 9260, sections 3.3.7 and 8.5.1).
 
-use crate::TwoWords;
+use dcsctp_testing::TwoWords;
 use crate::packets::{INIT, unchecked_packet};
 use crate::sockets::{ends, is_in_state, opens, reports, socket_of_seven};
 use dcsctp_socket::{DcSctpSocket, ErrorKind, Socket, SocketState};

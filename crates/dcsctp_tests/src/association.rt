@@ -1,6 +1,6 @@
 //! An association that is made, and what it does with the rest of a packet.
 
-use crate::TwoWords;
+use dcsctp_testing::TwoWords;
 use crate::packets::{COOKIE_ACK, COOKIE_ECHO, INIT, INIT_ACK, unchecked_packet};
 use crate::sockets::{
     answers, begins, connects, ends, is_in_state, next_packet, reports, sends, socket_of_seven,

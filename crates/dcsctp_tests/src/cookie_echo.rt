@@ -2,7 +2,7 @@
 //!
 //! The socket has tag 9 and first TSN 200, its peer tag 7 and first TSN 100, and its tie tag is `TIE_TAG`.
 
-use crate::TwoWords;
+use dcsctp_testing::TwoWords;
 use crate::packets::{COOKIE_ACK, COOKIE_ECHO};
 use crate::sockets::{
     connects, is_in_state, reports, sends, socket_that_draws, tells_nothing, unchecked,

@@ -1,6 +1,6 @@
 //! An INIT that was damaged on its way (RFC 9260, sections 3.1 to 3.3.2).
 
-use crate::TwoWords;
+use dcsctp_testing::TwoWords;
 use crate::packets::INIT;
 use crate::sockets::{only_packet, reports, socket_with, unchecked};
 use dcsctp_socket::{DcSctpSocket, Options, Socket};

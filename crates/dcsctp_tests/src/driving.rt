@@ -1,6 +1,6 @@
 //! The loop that README shows.
 
-use crate::TwoWords;
+use dcsctp_testing::TwoWords;
 use crate::packets::{COOKIE_ECHO, INIT, INIT_ACK};
 use dcsctp_example::{Told, client};
 use dcsctp_socket::{ErrorKind, SocketEvent};

@@ -1,6 +1,6 @@
 //! An INIT that comes to a closed socket, and packets that are refused.
 
-use crate::TwoWords;
+use dcsctp_testing::TwoWords;
 use crate::packets::{INIT, INIT_ACK};
 use crate::sockets::{is_in_state, only_packet, reports, sends, socket_with, unchecked};
 use dcsctp_socket::{DcSctpSocket, Options, Socket, SocketState};

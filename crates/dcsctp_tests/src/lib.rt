@@ -25,8 +25,6 @@ mod pairs;
 mod plenty;
 #[cfg(test)]
 mod sockets;
-mod two_words;
 #[cfg(test)]
 mod worlds;
 
-pub use two_words::TwoWords;

@@ -1,6 +1,6 @@
 //! The pairs of a tag and a first TSN that a call draws (RFC 9260, section 5.1).
 
-use crate::TwoWords;
+use dcsctp_testing::TwoWords;
 use crate::packets::INIT;
 use crate::sockets::{begins, opens, socket_of_seven, socket_that_draws};
 use dcsctp_socket::{DcSctpSocket, Options, Pair, Socket};

@@ -1,6 +1,6 @@
 //! Much of everything: no call is refused for the number or the length of what it is handed.
 
-use crate::TwoWords;
+use dcsctp_testing::TwoWords;
 use crate::packets::INIT;
 use crate::sockets::{next_packet, only_packet, reports, socket_with, tells_nothing, unchecked};
 use dcsctp_socket::{DcSctpSocket, Options, Socket};

@@ -1,6 +1,6 @@
 //! What the tests of sockets share: sockets that draw known words, and what they tell next.
 
-use crate::TwoWords;
+use dcsctp_testing::TwoWords;
 use crate::packets::{COOKIE_ACK, COOKIE_ECHO, INIT, INIT_ACK};
 use dcsctp_socket::{DcSctpSocket, ErrorKind, Options, Socket, SocketEvent, SocketState};
 use std::alloc::Global;

@@ -1,6 +1,6 @@
 //! Two sockets that find each other, whatever the schedule.
 
-use crate::TwoWords;
+use dcsctp_testing::TwoWords;
 use crate::sockets::is_in_state;
 use dcsctp_socket::{DcSctpSocket, Options, SocketEvent, SocketState};
 use dcsctp_world::{Act, Call, Reply, Side, Step, World};
