@@ -2,6 +2,7 @@
 
 use crate::identifiers::greater;
 use dcsctp_api::{SocketTime, socket_time_order};
+use dcsctp_testing::{all_same, holds, same};
 use std::time::Duration;
 
 const LAST_NANOS: u128 = 18_446_744_073_709_551_615_999_999_999;
@@ -11,21 +12,37 @@ fn moments_stop_at_both_ends(rt: HostRuntime) {
     let second = Duration::from_secs(1);
     let zero = SocketTime::zero();
     let last = SocketTime::infinite_future();
-    assert_eq!(rt; last.as_nanos(), LAST_NANOS);
-    assert_eq!(rt; last + second, last);
-    assert_eq!(rt; zero - second, zero);
-    assert_eq!(rt; zero - last, Duration::ZERO);
-    assert_eq!(rt; last - zero, Duration::MAX);
+    same(&rt, "the last in nanoseconds", last.as_nanos(), LAST_NANOS);
+    all_same(
+        &rt,
+        &[
+            ("the last and a second", last + second, last),
+            ("the first less a second", zero - second, zero),
+        ],
+    );
+    all_same(
+        &rt,
+        &[
+            ("from the last to the first", zero - last, Duration::ZERO),
+            ("from the first to the last", last - zero, Duration::MAX),
+        ],
+    );
 }
 
 #[test]
 fn moments_are_counted_in_nanoseconds(rt: HostRuntime) {
     let early = SocketTime::zero() + Duration::from_millis(1500);
     let late = early + Duration::from_nanos(1);
-    assert_eq!(rt; early.as_nanos(), 1_500_000_000);
-    assert_eq!(rt; (late - Duration::from_secs(1)).as_nanos(), 500_000_001);
-    assert_eq!(rt; late - early, Duration::from_nanos(1));
-    assert!(rt; early < late);
-    assert_eq!(rt; greater(late, early), late);
+    let before = late - Duration::from_secs(1);
+    all_same(
+        &rt,
+        &[
+            ("early", early.as_nanos(), 1_500_000_000),
+            ("late less a second", before.as_nanos(), 500_000_001),
+        ],
+    );
+    same(&rt, "between", late - early, Duration::from_nanos(1));
+    holds(&rt, "early is before late", early < late);
+    same(&rt, "greater", greater(late, early), late);
     socket_time_order();
 }

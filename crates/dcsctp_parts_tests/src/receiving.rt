@@ -1,25 +1,41 @@
 //! What came in: the last TSN that is acknowledged, and the window.
 
 use dcsctp_receive::{DataTracker, ReassemblyQueue};
+use dcsctp_testing::all_same;
+
+/// The last TSN that is acknowledged where this is the first that may come.
+fn acknowledged_before(first: u32) -> u32 {
+    DataTracker::new(first).last_cumulative_acked_tsn()
+}
 
 #[test]
 fn the_tsn_before_the_first_is_acknowledged(rt: HostRuntime) {
-    let rows = [
-        ("one", 1, 0),
-        ("zero", 0, 0xffff_ffff),
-        ("the greatest", 0xffff_ffff, 0xffff_fffe),
-    ];
-    for (name, first, expected) in rows {
-        let tracker = DataTracker::new(first);
-        assert_eq!(rt; tracker.last_cumulative_acked_tsn(), expected, "{name}");
-    }
+    all_same(
+        &rt,
+        &[
+            ("one", acknowledged_before(1), 0),
+            ("zero", acknowledged_before(0), 0xffff_ffff),
+            (
+                "the greatest",
+                acknowledged_before(0xffff_ffff),
+                0xffff_fffe,
+            ),
+        ],
+    );
+}
+
+/// How much of a new window is open.
+fn open_at_first(window: usize) -> usize {
+    ReassemblyQueue::new(window).remaining_bytes()
 }
 
 #[test]
 fn the_whole_window_is_open_at_first(rt: HostRuntime) {
-    assert_eq!(rt;
-        ReassemblyQueue::new(5_242_880).remaining_bytes(),
-        5_242_880
+    all_same(
+        &rt,
+        &[
+            ("default", open_at_first(5_242_880), 5_242_880),
+            ("none", open_at_first(0), 0),
+        ],
     );
-    assert_eq!(rt; ReassemblyQueue::new(0).remaining_bytes(), 0);
 }

@@ -2,76 +2,89 @@
 
 use dcsctp_machine::{Options, SocketTime};
 use dcsctp_send::{BackoffAlgorithm, RetransmissionQueue, RetransmissionTimeout, SendQueue, Timer};
-use std::test::Fail;
+use dcsctp_testing::{holds, same, shows};
+use std::alloc::Global;
+use std::process::Abort;
 use std::time::Duration;
+
+/// Asserts that the timer runs once it is started at this moment, and when it expires.
+fn runs(rt: &impl Abort, timer: &mut Timer, name: &str, now: SocketTime, expected: u128) {
+    timer.start(now);
+    holds(rt, name, timer.is_running());
+    let expiry = timer.next_expiry().map(|moment| moment.as_nanos());
+    same(rt, name, expiry, Some(expected));
+}
+
+/// Asserts that the timer doesn't run.
+fn stands(rt: &impl Abort, timer: &Timer, name: &str) {
+    holds(rt, name, !timer.is_running());
+    same(rt, name, timer.next_expiry(), None);
+}
 
 #[test]
 fn a_timer_runs_from_its_start_to_its_stop(rt: HostRuntime) {
     let second = Duration::from_secs(1);
     let mut timer = Timer::new(second, BackoffAlgorithm::Exponential, Some(8), None);
-    assert!(rt; !timer.is_running());
-    assert!(rt; timer.next_expiry().is_none());
-    let rows = [
-        ("the first moment", SocketTime::zero(), 1_000_000_000),
-        ("later", SocketTime::zero() + second + second, 3_000_000_000),
-        (
-            "the last moment",
-            SocketTime::infinite_future(),
-            18_446_744_073_709_551_615_999_999_999,
-        ),
-    ];
-    for (name, now, expected) in rows {
-        timer.start(now);
-        assert!(rt; timer.is_running(), "{name}");
-        let expiry = timer.next_expiry().map(|moment| moment.as_nanos());
-        assert_eq!(rt; expiry, Some(expected), "{name}");
-    }
+    stands(&rt, &timer, "new");
+    let first = SocketTime::zero();
+    let later = first + second + second;
+    let last = SocketTime::infinite_future();
+    runs(&rt, &mut timer, "the first moment", first, 1_000_000_000);
+    runs(&rt, &mut timer, "later", later, 3_000_000_000);
+    runs(
+        &rt,
+        &mut timer,
+        "the last moment",
+        last,
+        18_446_744_073_709_551_615_999_999_999,
+    );
     timer.stop();
-    assert!(rt; !timer.is_running());
-    assert!(rt; timer.next_expiry().is_none());
+    stands(&rt, &timer, "stopped");
 }
 
 #[test]
 fn the_timeout_is_half_a_second_at_first(rt: HostRuntime) {
     let timeout = RetransmissionTimeout::new(&Options::default());
-    assert_eq!(rt; timeout.rto(), Duration::from_millis(500));
-    assert_eq!(rt; timeout.srtt(), Duration::from_millis(500));
+    let half = Duration::from_millis(500);
+    same(&rt, "timeout", timeout.rto(), half);
+    same(&rt, "round trip", timeout.srtt(), half);
+}
+
+/// Asserts with which windows and TSN a queue begins whose congestion window is these packets at first.
+fn begins(rt: &impl Abort, name: &str, mtus: usize, expected: usize) {
+    let options = Options {
+        cwnd_mtus_initial: mtus,
+        ..Options::default()
+    };
+    let queue = RetransmissionQueue::new(&options, 0xffff_ffff, 131_072);
+    same(rt, name, queue.cwnd(), expected);
+    same(rt, name, queue.next_tsn(), 0xffff_ffff);
+    same(rt, name, queue.rwnd(), 131_072);
 }
 
 #[test]
 fn windows_begin_as_options_and_peer_say(rt: HostRuntime) {
-    let rows = [
-        ("default", 10, 11_910),
-        ("none", 0, 0),
-        ("greatest", usize::MAX, usize::MAX),
-    ];
-    for (name, mtus, expected) in rows {
-        let options = Options {
-            cwnd_mtus_initial: mtus,
-            ..Options::default()
-        };
-        let queue = RetransmissionQueue::new(&options, 0xffff_ffff, 131_072);
-        assert_eq!(rt; queue.cwnd(), expected, "{name}");
-        assert_eq!(rt; queue.next_tsn(), 0xffff_ffff, "{name}");
-        assert_eq!(rt; queue.rwnd(), 131_072, "{name}");
-    }
+    begins(&rt, "default", 10, 11_910);
+    begins(&rt, "none", 0, 0);
+    begins(&rt, "greatest", usize::MAX, usize::MAX);
 }
 
 // The text of a queue, as `Debug` writes it, is all that shows whether it numbers for interleaving.
+const ON: &str = "SendQueue { is_interleaved: true }";
+
+const OFF: &str = "SendQueue { is_interleaved: false }";
+
+/// Asserts that the queue has this text once interleaving is on or off and the queue is reset.
+fn keeps(rt: &impl Abort, alloc: Global, queue: &mut SendQueue, enabled: bool, expected: &str) {
+    queue.enable_message_interleaving(enabled);
+    queue.reset();
+    shows(rt, alloc, "reset", queue, expected);
+}
+
 #[test]
-fn a_reset_leaves_interleaving_as_it_is(rt: HostRuntime) -> Result<(), Fail> {
-    let rows = [
-        ("on", true, "SendQueue { is_interleaved: true }"),
-        ("off", false, "SendQueue { is_interleaved: false }"),
-    ];
+fn a_reset_leaves_interleaving_as_it_is(rt: HostRuntime) {
     let mut queue = SendQueue::new();
-    let shown = format!(in rt.alloc(); "{queue:?}")?;
-    assert_eq!(rt; shown.as_str(), rows[1].2, "new");
-    for (name, enabled, expected) in rows {
-        queue.enable_message_interleaving(enabled);
-        queue.reset();
-        let shown = format!(in rt.alloc(); "{queue:?}")?;
-        assert_eq!(rt; shown.as_str(), expected, "{name}");
-    }
-    Ok(())
+    shows(&rt, rt.alloc(), "new", &queue, OFF);
+    keeps(&rt, rt.alloc(), &mut queue, true, ON);
+    keeps(&rt, rt.alloc(), &mut queue, false, OFF);
 }

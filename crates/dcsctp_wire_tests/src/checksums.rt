@@ -1,37 +1,58 @@
 //! Checksums, with the values that others publish (RFC 9260, appendix A).
 
+use dcsctp_testing::{holds, same};
 use dcsctp_wire::crc32c::{crc32c, packet_checksum};
+use std::process::Abort;
+
+#[rattlefmt::skip]
+const ASCENDING: [u8; 32] = [
+    0, 1, 2, 3, 4, 5, 6, 7, 8, 9, 10, 11, 12, 13, 14, 15,
+    16, 17, 18, 19, 20, 21, 22, 23, 24, 25, 26, 27, 28, 29, 30, 31,
+];
+
+#[rattlefmt::skip]
+const DESCENDING: [u8; 32] = [
+    31, 30, 29, 28, 27, 26, 25, 24, 23, 22, 21, 20, 19, 18, 17, 16,
+    15, 14, 13, 12, 11, 10, 9, 8, 7, 6, 5, 4, 3, 2, 1, 0,
+];
 
 // The check value of CRC32c, and the vectors that iSCSI publishes for it.
+static EXAMPLES: [(&str, &[u8], u32); 6] = [
+    ("nothing", b"", 0),
+    ("nine digits", b"123456789", 0xE306_9283),
+    ("zeros", &[0; 32], 0x8A91_36AA),
+    ("ones", &[0xFF; 32], 0x62A8_AB43),
+    ("ascending", &ASCENDING, 0x46DD_794E),
+    ("descending", &DESCENDING, 0x113F_DB5C),
+];
+
+/// Asserts that the bytes of each named row have its checksum.
+fn have_their_checksums(rt: &impl Abort, rows: &[(&str, &[u8], u32)]) {
+    for (name, bytes, expected) in rows {
+        same(rt, name, crc32c(bytes), *expected);
+    }
+}
+
 #[test]
 fn outside_examples_have_their_checksums(rt: HostRuntime) {
-    let mut ascending = [0; 32];
-    let mut descending = [0; 32];
-    for i in 0..32u8 {
-        ascending[i as usize] = i;
-        descending[i as usize] = 31 - i;
-    }
-    let rows = [
-        ("nothing", b"".as_slice(), 0),
-        ("nine digits", b"123456789".as_slice(), 0xE306_9283),
-        ("zeros", [0; 32].as_slice(), 0x8A91_36AA),
-        ("ones", [0xFF; 32].as_slice(), 0x62A8_AB43),
-        ("ascending", ascending.as_slice(), 0x46DD_794E),
-        ("descending", descending.as_slice(), 0x113F_DB5C),
-    ];
-    for (name, bytes, expected) in rows {
-        assert_eq!(rt; crc32c(bytes), expected, "{name}");
-    }
+    have_their_checksums(&rt, &EXAMPLES);
 }
 
 // The field's bytes are not read, so the checksum is that of 32 zeros.
 #[test]
 fn checksum_field_counts_as_zeros(rt: HostRuntime) {
     let mut packet = [0; 32];
-    for i in 8..12 {
-        packet[i] = 0xA5;
-    }
-    assert_eq!(rt; packet_checksum(&packet), 0x8A91_36AA);
+    packet[8..12].copy_from_slice(&[0xA5; 4]);
+    same(
+        &rt,
+        "the field differs",
+        packet_checksum(&packet),
+        0x8A91_36AA,
+    );
     packet[12] = 1;
-    assert_ne!(rt; packet_checksum(&packet), 0x8A91_36AA);
+    holds(
+        &rt,
+        "the byte behind it counts",
+        packet_checksum(&packet) != 0x8A91_36AA,
+    );
 }

@@ -1,76 +1,77 @@
 //! The published numbers, as the standards list them.
 
+use dcsctp_testing::all_same;
 use dcsctp_wire::{cause_code, chunk_type, parameter_type};
 
 // RFC 9260, section 3.2; RFC 8260, sections 2.1 and 2.3.1; RFC 6525, section 3.1; RFC 3758, section 3.2.
 #[test]
 fn chunk_types_are_the_published_ones(rt: HostRuntime) {
-    let rows = [
-        ("INIT", chunk_type::INIT, 1),
-        ("INIT ACK", chunk_type::INIT_ACK, 2),
-        ("ABORT", chunk_type::ABORT, 6),
-        ("COOKIE ECHO", chunk_type::COOKIE_ECHO, 10),
-        ("COOKIE ACK", chunk_type::COOKIE_ACK, 11),
-        ("I-DATA", chunk_type::I_DATA, 64),
-        ("RE-CONFIG", chunk_type::RE_CONFIG, 130),
-        ("FORWARD-TSN", chunk_type::FORWARD_TSN, 192),
-        ("I-FORWARD-TSN", chunk_type::I_FORWARD_TSN, 194),
-    ];
-    for (name, number, expected) in rows {
-        assert_eq!(rt; number, expected, "{name}");
-    }
+    all_same(
+        &rt,
+        &[
+            ("INIT", chunk_type::INIT, 1),
+            ("INIT ACK", chunk_type::INIT_ACK, 2),
+            ("ABORT", chunk_type::ABORT, 6),
+            ("COOKIE ECHO", chunk_type::COOKIE_ECHO, 10),
+            ("COOKIE ACK", chunk_type::COOKIE_ACK, 11),
+            ("I-DATA", chunk_type::I_DATA, 64),
+            ("RE-CONFIG", chunk_type::RE_CONFIG, 130),
+            ("FORWARD-TSN", chunk_type::FORWARD_TSN, 192),
+            ("I-FORWARD-TSN", chunk_type::I_FORWARD_TSN, 194),
+        ],
+    );
 }
 
 // RFC 9260, section 3.3.3.1; RFC 9653, section 4; RFC 3758, section 3.1.
 #[test]
 fn parameter_types_are_the_published_ones(rt: HostRuntime) {
-    let rows = [
-        ("State Cookie", parameter_type::STATE_COOKIE, 7),
-        (
-            "Zero Checksum Acceptable",
-            parameter_type::ZERO_CHECKSUM_ACCEPTABLE,
-            0x8001,
-        ),
-        (
-            "Supported Extensions",
-            parameter_type::SUPPORTED_EXTENSIONS,
-            0x8008,
-        ),
-        (
-            "Forward-TSN-Supported",
-            parameter_type::FORWARD_TSN_SUPPORTED,
-            0xc000,
-        ),
-    ];
-    for (name, number, expected) in rows {
-        assert_eq!(rt; number, expected, "{name}");
-    }
+    all_same(
+        &rt,
+        &[
+            ("State Cookie", parameter_type::STATE_COOKIE, 7),
+            (
+                "Zero Checksum Acceptable",
+                parameter_type::ZERO_CHECKSUM_ACCEPTABLE,
+                0x8001,
+            ),
+            (
+                "Supported Extensions",
+                parameter_type::SUPPORTED_EXTENSIONS,
+                0x8008,
+            ),
+            (
+                "Forward-TSN-Supported",
+                parameter_type::FORWARD_TSN_SUPPORTED,
+                0xc000,
+            ),
+        ],
+    );
 }
 
 // RFC 9260, section 3.3.10.
 #[test]
 fn cause_codes_are_the_published_ones(rt: HostRuntime) {
-    let rows = [
-        (
-            "Missing Mandatory Parameter",
-            cause_code::MISSING_MANDATORY_PARAMETER,
-            2,
-        ),
-        (
-            "Unrecognized Chunk Type",
-            cause_code::UNRECOGNIZED_CHUNK_TYPE,
-            6,
-        ),
-        ("No User Data", cause_code::NO_USER_DATA, 9),
-        (
-            "Cookie Received While Shutting Down",
-            cause_code::COOKIE_RECEIVED_WHILE_SHUTTING_DOWN,
-            10,
-        ),
-        ("User-Initiated Abort", cause_code::USER_INITIATED_ABORT, 12),
-        ("Protocol Violation", cause_code::PROTOCOL_VIOLATION, 13),
-    ];
-    for (name, number, expected) in rows {
-        assert_eq!(rt; number, expected, "{name}");
-    }
+    all_same(
+        &rt,
+        &[
+            (
+                "Missing Mandatory Parameter",
+                cause_code::MISSING_MANDATORY_PARAMETER,
+                2,
+            ),
+            (
+                "Unrecognized Chunk Type",
+                cause_code::UNRECOGNIZED_CHUNK_TYPE,
+                6,
+            ),
+            ("No User Data", cause_code::NO_USER_DATA, 9),
+            (
+                "Cookie Received While Shutting Down",
+                cause_code::COOKIE_RECEIVED_WHILE_SHUTTING_DOWN,
+                10,
+            ),
+            ("User-Initiated Abort", cause_code::USER_INITIATED_ABORT, 12),
+            ("Protocol Violation", cause_code::PROTOCOL_VIOLATION, 13),
+        ],
+    );
 }

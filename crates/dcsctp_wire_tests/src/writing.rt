@@ -4,13 +4,13 @@ ghost use Rattle.std.specs.Prelude.{◌≡◌, ◌≤◌, ◌+◌, true, [], ◌
 ghost use Rattle.dcsctp_wire.specs.Content.{chunk_content};
 ghost use Rattle.dcsctp_wire.specs.Spelling.{chunk_bytes, packet_bytes};
 
+use dcsctp_testing::{holds, same};
 use dcsctp_wire::{
     AbortChunk, Chunk, CookieEchoChunk, ErrorCause, InitChunk, OtherChunk, Parameter,
     SctpPacketBuilder,
 };
 use std::alloc::{AllocError, Global};
 use std::process::Abort;
-use std::test::Fail;
 
 const COOKIE: [u8; 48] = [0xcc; 48];
 
@@ -65,110 +65,138 @@ const OTHERS: [u8; 32] = [
     14, 1, 0, 4,
 ];
 
-fn init<'a>(alloc: Global, parameters: &[Parameter<'a>]) -> Result<InitChunk<'a>, AllocError> {
-    Ok(InitChunk {
+/// What the INIT and the INIT ACK say, with these parameters.
+fn init<'a>(rt: &impl Abort, alloc: Global, parameters: &[Parameter<'a>]) -> InitChunk<'a> {
+    InitChunk {
         initiate_tag: 0x0102_0304,
         a_rwnd: 0x0002_0000,
         nbr_outbound_streams: 0xffff,
         nbr_inbound_streams: 0x0800,
         initial_tsn: 0xdead_beef,
-        parameters: Vec::from_slice(alloc, parameters)?,
-    })
+        parameters: Vec::from_slice(alloc, parameters).expect(rt, "memory for parameters"),
+    }
 }
 
-// Adds a chunk, for which there has to be room.
-fn adds(rt: &impl Abort, builder: &mut SctpPacketBuilder, chunk: &Chunk<'_>) {
-    assert!(rt; chunk.serialized_size() <= builder.bytes_remaining());
-    builder.add(chunk);
+/// Adds the chunks, for which there has to be room.
+fn add(rt: &impl Abort, builder: &mut SctpPacketBuilder, chunks: &[Chunk<'_>]) {
+    for chunk in chunks {
+        assert!(rt; chunk.serialized_size() <= builder.bytes_remaining());
+        builder.add(chunk);
+    }
 }
 
-#[test]
-fn writes_an_init(rt: HostRuntime) -> Result<(), Fail> {
-    let parameters = [
-        Parameter::ZeroChecksumAcceptable { method: 1 },
-        Parameter::ForwardTsnSupported,
-        Parameter::SupportedExtensions {
-            chunk_types: &[0x82, 0xc0],
-        },
-    ];
-    let chunk = Chunk::Init(init(rt.alloc(), &parameters)?);
-    assert_eq!(rt; chunk.serialized_size(), 40);
-    let mut builder = SctpPacketBuilder::new(rt.alloc(), 0, 5000, 5001, 1191)?.write_checksum(
-        false,
+/// Asserts that these chunks are written as these bytes, with this tag, where the packet may have `size`
+/// bytes; and how many bytes remain before the chunks are added, and behind them.
+fn are_written_as(
+    rt: &impl Abort,
+    alloc: Global,
+    tag: u32,
+    size: usize,
+    remaining: [usize; 2],
+    chunks: &[Chunk<'_>],
+    expected: &[u8],
+)
+    requires low { 12 ≤ size }
+    requires high { size ≤ 65535 }
+{
+    let mut builder = SctpPacketBuilder::new(alloc, tag, 5000, 5001, size)
+        .expect(rt, "memory for a packet")
+        .write_checksum(false);
+    holds(rt, "is empty before", builder.is_empty());
+    let before = builder.bytes_remaining();
+    add(rt, &mut builder, chunks);
+    holds(rt, "is not empty behind", !builder.is_empty());
+    same(
+        rt,
+        "remaining",
+        [before, builder.bytes_remaining()],
+        remaining,
     );
-    assert!(rt; builder.is_empty());
-    assert_eq!(rt; builder.bytes_remaining(), 1176);
-    adds(&rt, &mut builder, &chunk);
-    assert!(rt; !builder.is_empty());
-    assert_eq!(rt; builder.bytes_remaining(), 1136);
-    assert_eq!(rt; builder.build().as_slice(), INIT.as_slice());
-    Ok(())
+    same(rt, "packet", builder.build().as_slice(), expected);
+}
+
+/// Asserts the same of this chunk alone.
+fn is_written_as(
+    rt: &impl Abort,
+    alloc: Global,
+    tag: u32,
+    size: usize,
+    remaining: [usize; 2],
+    chunk: Chunk<'_>,
+    expected: &[u8],
+)
+    requires low { 12 ≤ size }
+    requires high { size ≤ 65535 }
+{
+    are_written_as(rt, alloc, tag, size, remaining, &[chunk], expected);
+}
+
+static PARAMETERS: [Parameter<'static>; 4] = [
+    Parameter::ZeroChecksumAcceptable { method: 1 },
+    Parameter::ForwardTsnSupported,
+    Parameter::SupportedExtensions {
+        chunk_types: &[0x82, 0xc0],
+    },
+    Parameter::StateCookie { cookie: &COOKIE },
+];
+
+#[test]
+fn writes_an_init(rt: HostRuntime) {
+    let chunk = Chunk::Init(init(&rt, rt.alloc(), &PARAMETERS[..3]));
+    same(&rt, "size", chunk.serialized_size(), 40);
+    is_written_as(&rt, rt.alloc(), 0, 1191, [1176, 1136], chunk, &INIT);
 }
 
 #[test]
-fn writes_an_init_ack(rt: HostRuntime) -> Result<(), Fail> {
-    let parameters = [
-        Parameter::ZeroChecksumAcceptable { method: 1 },
-        Parameter::ForwardTsnSupported,
-        Parameter::SupportedExtensions {
-            chunk_types: &[0x82, 0xc0],
-        },
-        Parameter::StateCookie { cookie: &COOKIE },
-    ];
-    let chunk = Chunk::InitAck(init(rt.alloc(), &parameters)?);
-    let mut builder = SctpPacketBuilder::new(
-        rt.alloc(),
-        0x0a0b_0c0d,
-        5000,
-        5001,
-        104,
-    )?.write_checksum(false);
-    adds(&rt, &mut builder, &chunk);
-    assert_eq!(rt; builder.bytes_remaining(), 0);
-    assert_eq!(rt; builder.build().as_slice(), INIT_ACK.as_slice());
-    Ok(())
+fn writes_an_init_ack(rt: HostRuntime) {
+    let chunk = Chunk::InitAck(init(&rt, rt.alloc(), &PARAMETERS));
+    is_written_as(&rt, rt.alloc(), 0x0a0b_0c0d, 104, [92, 0], chunk, &INIT_ACK);
 }
 
-#[test]
-fn writes_chunks_of_one_value_or_none(rt: HostRuntime) -> Result<(), Fail> {
-    let echo = Chunk::CookieEcho(CookieEchoChunk {
+const OTHER_CHUNKS: [Chunk<'static>; 3] = [
+    Chunk::CookieEcho(CookieEchoChunk {
         cookie: &[1, 2, 3, 4, 5],
-    });
-    let ack = Chunk::CookieAck;
-    let complete = Chunk::Other(OtherChunk {
+    }),
+    Chunk::CookieAck,
+    Chunk::Other(OtherChunk {
         chunk_type: 14,
         flags: 1,
         value: &[],
-    });
-    let mut builder = SctpPacketBuilder::new(rt.alloc(), 9, 5000, 5001, 32)?.write_checksum(false);
-    adds(&rt, &mut builder, &echo);
-    adds(&rt, &mut builder, &ack);
-    adds(&rt, &mut builder, &complete);
-    assert_eq!(rt; builder.build().as_slice(), OTHERS.as_slice());
-    assert!(rt; echo.serialized_size() <= 12);
-    assert!(rt; complete.serialized_size() <= 4);
-    assert_eq!(rt; packet_of_two(rt.alloc(), 9, &echo, &complete)?.len(), 28);
-    Ok(())
-}
+    }),
+];
 
 #[test]
-fn writes_an_abort(rt: HostRuntime) -> Result<(), Fail> {
-    let causes = [
-        ErrorCause::Unknown {
-            code: 13,
-            value: &[0x68, 0x69],
-        },
-        ErrorCause::MissingMandatoryParameter { types: &[0, 7] },
-    ];
+fn writes_chunks_of_one_value_or_none(rt: HostRuntime) {
+    let chunks = OTHER_CHUNKS;
+    are_written_as(&rt, rt.alloc(), 9, 32, [20, 0], &chunks, &OTHERS);
+    let length = length_of_two(&rt, rt.alloc(), &chunks[0], &chunks[2]);
+    same(&rt, "length of two", length, 28);
+}
+
+static CAUSES: [ErrorCause<'static>; 2] = [
+    ErrorCause::Unknown {
+        code: 13,
+        value: &[0x68, 0x69],
+    },
+    ErrorCause::MissingMandatoryParameter { types: &[0, 7] },
+];
+
+#[test]
+fn writes_an_abort(rt: HostRuntime) {
     let chunk = Chunk::Abort(AbortChunk {
         tag_reflected: true,
-        error_causes: Vec::from_slice(rt.alloc(), &causes)?,
+        error_causes: Vec::from_slice(rt.alloc(), &CAUSES).expect(&rt, "memory for causes"),
     });
-    assert_eq!(rt; chunk.serialized_size(), 24);
-    let mut builder = SctpPacketBuilder::new(rt.alloc(), 9, 5000, 5001, 36)?.write_checksum(false);
-    adds(&rt, &mut builder, &chunk);
-    assert_eq!(rt; builder.build().as_slice(), ABORT.as_slice());
-    Ok(())
+    same(&rt, "size", chunk.serialized_size(), 24);
+    is_written_as(&rt, rt.alloc(), 9, 36, [24, 0], chunk, &ABORT);
+}
+
+/// The length of the packet of two chunks, of at most 12 and 4 bytes.
+fn length_of_two(rt: &impl Abort, alloc: Global, first: &Chunk<'_>, second: &Chunk<'_>) -> usize {
+    assert!(rt; first.serialized_size() <= 12 && second.serialized_size() <= 4);
+    packet_of_two(alloc, 9, first, second)
+        .expect(rt, "memory for two chunks")
+        .len()
 }
 
 // What a caller knows of two chunks, by contracts alone.
