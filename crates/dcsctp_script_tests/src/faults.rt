@@ -1,8 +1,10 @@
 //! A reader and a writer that fail, also for want of memory.
 
 use dcsctp_script::run_script;
+use dcsctp_testing::{holds, same};
+use std::alloc::Global;
 use std::io::{self, Read, Write};
-use std::test::Fail;
+use std::process::Abort;
 
 // A reader that gives two lines and the front of a third, and then fails so.
 #[derive(Drop)]
@@ -47,67 +49,58 @@ impl Write for FailingWriter {
     }
 }
 
-#[test]
-fn a_failed_read_ends_the_run(rt: HostRuntime) -> Result<(), Fail> {
-    let rows = [
-        (
-            io::ErrorKind::Other,
-            "A packet 1 00000000 INIT\nA Connecting\n",
-            1,
-        ),
-        (
-            io::ErrorKind::OutOfMemory,
-            "A packet 1 00000000 INIT\nA Connecting\nout of memory\n",
-            3,
-        ),
-    ];
-    for (kind, lines, code) in rows {
-        let mut reader = FailingReader {
-            kind,
-            is_used: false,
-        };
-        let mut printed = Vec::new(rt.alloc());
-        let status = run_script(rt.alloc(), &mut reader, &mut printed);
-        assert_eq!(rt; status.code(), code, "{lines}");
-        assert_eq!(rt; printed.as_slice(), lines.as_bytes(), "{lines}");
-    }
-    Ok(())
+// Runs a script whose reading fails so: these lines have to be printed, and this to be the status.
+fn breaks_reading(rt: &impl Abort, alloc: Global, kind: io::ErrorKind, lines: &str, code: u8) {
+    let mut reader = FailingReader {
+        kind,
+        is_used: false,
+    };
+    let mut printed = Vec::new(alloc);
+    let status = run_script(alloc, &mut reader, &mut printed);
+    same(rt, lines, status.code(), code);
+    same(rt, lines, printed.as_slice(), lines.as_bytes());
 }
 
-// A row is a line and what answers it, how many of them there are, and how a write fails and how
-// often. What was taken is a front part of the answers.
 #[test]
-fn a_failed_write_ends_the_run(rt: HostRuntime) -> Result<(), Fail> {
-    let rows = [
-        ("state A\n", "A Closed\n", 1, io::ErrorKind::Other, u32::MAX),
-        ("state", "line 1: bad\n", 1, io::ErrorKind::Other, u32::MAX),
-        (
-            "state B\n",
-            "B Closed\n",
-            1,
-            io::ErrorKind::OutOfMemory,
-            u32::MAX,
-        ),
-        ("state A\n", "A Closed\n", 1, io::ErrorKind::OutOfMemory, 1),
-        (
-            "state B\n",
-            "B Closed\n",
-            2000,
-            io::ErrorKind::OutOfMemory,
-            1,
-        ),
-    ];
-    for (line, answer, times, kind, failures) in rows {
-        let script = line.repeat(rt.alloc(), times)?;
-        let answers = answer.repeat(rt.alloc(), times)?;
-        let mut writer = FailingWriter {
-            taken: Vec::new(rt.alloc()),
-            kind,
-            failures,
-        };
-        let status = run_script(rt.alloc(), &mut script.as_bytes(), &mut writer);
-        assert_eq!(rt; status.code(), 1, "{line}");
-        assert!(rt; answers.as_bytes().starts_with(&writer.taken), "{line}");
-    }
-    Ok(())
+fn a_failed_read_ends_the_run(rt: HostRuntime) {
+    let lines = "A packet 1 00000000 INIT\nA Connecting\n";
+    breaks_reading(&rt, rt.alloc(), io::ErrorKind::Other, lines, 1);
+    let lines = "A packet 1 00000000 INIT\nA Connecting\nout of memory\n";
+    breaks_reading(&rt, rt.alloc(), io::ErrorKind::OutOfMemory, lines, 3);
+}
+
+// Runs a script of this line so often, and has writes fail so and so often: the run has to end, and what
+// was taken to be a front part of as many answers.
+fn breaks_writing(
+    rt: &impl Abort,
+    alloc: Global,
+    (line, answer): (&str, &str),
+    times: usize,
+    (kind, failures): (io::ErrorKind, u32),
+) {
+    let script = line.repeat(alloc, times).expect(rt, "no script");
+    let answers = answer.repeat(alloc, times).expect(rt, "no answers");
+    let mut writer = FailingWriter {
+        taken: Vec::new(alloc),
+        kind,
+        failures,
+    };
+    let status = run_script(alloc, &mut script.as_bytes(), &mut writer);
+    same(rt, line, status.code(), 1);
+    let is_front = answers.as_bytes().starts_with(&writer.taken);
+    holds(rt, line, is_front);
+}
+
+#[test]
+fn a_failed_write_ends_the_run(rt: HostRuntime) {
+    let alloc = rt.alloc();
+    let (a, b) = (("state A\n", "A Closed\n"), ("state B\n", "B Closed\n"));
+    let always = (io::ErrorKind::Other, u32::MAX);
+    breaks_writing(&rt, alloc, a, 1, always);
+    breaks_writing(&rt, alloc, ("state", "line 1: bad\n"), 1, always);
+    let always = (io::ErrorKind::OutOfMemory, u32::MAX);
+    breaks_writing(&rt, alloc, b, 1, always);
+    let once = (io::ErrorKind::OutOfMemory, 1);
+    breaks_writing(&rt, alloc, a, 1, once);
+    breaks_writing(&rt, alloc, b, 2000, once);
 }

@@ -1,10 +1,10 @@
 //! What the tests share: a script is run, and its lines are compared.
 
 use dcsctp_script::{Status, run_script};
+use dcsctp_testing::same;
 use std::alloc::Global;
 use std::process::Abort;
 use std::str;
-use std::test::Fail;
 
 // The words of most scripts, and the handshake behind them.
 pub const WORDS: &str = "words A 100 6 11\nwords B 200 8 12\n";
@@ -20,54 +20,37 @@ pub const CONNECTED: &str = "A packet 1 00000000 INIT\n\
     A connected\n";
 
 // The parts behind one another.
-fn joined(alloc: Global, parts: &[&str]) -> Result<String, Fail> {
+fn joined(rt: &impl Abort, alloc: Global, parts: &[&str]) -> String {
     let mut text = String::new(alloc);
     for part in parts {
-        text.push_str(part)?;
+        text.push_str(part).expect(rt, "no part");
     }
-    Ok(text)
+    text
 }
 
-// Runs a script: it has to print this text, and to end so.
-fn prints_text(
+// Runs the script of these parts: it has to print these lines, and to end so.
+fn runs(
     rt: &impl Abort,
     alloc: Global,
     name: &str,
-    script: &str,
-    expected: (&str, Status),
-) -> Result<(), Fail> {
+    (parts, lines): (&[&str], &[&str]),
+    status: Status,
+) {
+    let script = joined(rt, alloc, parts);
+    let expected = joined(rt, alloc, lines);
     let mut printed = Vec::new(alloc);
-    let status = run_script(alloc, &mut script.as_bytes(), &mut printed);
-    let printed = str::from_utf8(&printed)?;
-    assert_eq!(rt; printed, expected.0, "{name}: {script}");
-    assert_eq!(rt; status, expected.1, "{name}: {script}");
-    Ok(())
+    let ended = run_script(alloc, &mut script.as_bytes(), &mut printed);
+    let printed = str::from_utf8(&printed).expect(rt, "no text was printed");
+    same(rt, name, printed, expected.as_str());
+    same(rt, name, ended, status);
 }
 
 // Runs the script of these parts: it has to print these lines, and no line may be bad.
-pub fn prints(
-    rt: &impl Abort,
-    alloc: Global,
-    name: &str,
-    parts: &[&str],
-    lines: &[&str],
-) -> Result<(), Fail> {
-    let script = joined(alloc, parts)?;
-    let expected = joined(alloc, lines)?;
-    prints_text(rt, alloc, name, &script, (&expected, Status::Done))
+pub fn prints(rt: &impl Abort, alloc: Global, name: &str, parts: &[&str], lines: &[&str]) {
+    runs(rt, alloc, name, (parts, lines), Status::Done);
 }
 
-// Runs the script of these parts: it has to print these lines, and that the line of this number is
-// bad.
-pub fn stops(
-    rt: &impl Abort,
-    alloc: Global,
-    name: &str,
-    parts: &[&str],
-    (lines, number): (&[&str], u64),
-) -> Result<(), Fail> {
-    let script = joined(alloc, parts)?;
-    let mut expected = joined(alloc, lines)?;
-    write!(expected, "line {number}: bad\n")?;
-    prints_text(rt, alloc, name, &script, (&expected, Status::BadLine))
+// Runs the script of these parts: it has to print these lines, the last of which says which line is bad.
+pub fn stops(rt: &impl Abort, alloc: Global, name: &str, parts: &[&str], lines: &[&str]) {
+    runs(rt, alloc, name, (parts, lines), Status::BadLine);
 }

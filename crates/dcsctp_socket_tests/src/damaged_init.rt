@@ -1,12 +1,12 @@
 //! An INIT that was damaged on its way (RFC 9260, sections 3.1 to 3.3.2).
 
-use dcsctp_testing::TwoWords;
 use crate::packets::INIT;
-use crate::sockets::{only_packet, reports, socket_with, unchecked};
-use dcsctp_socket::{DcSctpSocket, Options, Socket};
+use crate::sockets::{answers_or_reports, socket_with, takes, unchecked};
+use dcsctp_socket::Options;
+use dcsctp_testing::same;
 use std::alloc::Global;
+use std::ops::Range;
 use std::process::Abort;
-use std::test::Fail;
 
 // The text of the error that has to come; none where the packet is an INIT and is answered.
 type Judgement = Option<&'static str>;
@@ -32,7 +32,7 @@ const TAG_4: Judgement = Some("Packet has invalid verification tag: 000000ff, ex
 // The fields of the INIT in their order: the name, the place behind it, and the judgement where a byte
 // of it is 0 and where it is 255. Its lengths are 30, 4 and 6, the window is 0x500000, the initiate tag
 // 7, and the numbers of streams 65535. Unknown parameters, flags and padding aren't looked at.
-const FIELDS: [(&str, usize, Judgement, Judgement); 25] = [
+static FIELDS: [(&str, usize, Judgement, Judgement); 25] = [
     ("source port", 2, ANSWERED, ANSWERED),
     ("destination port", 4, UNREADABLE, UNREADABLE),
     ("byte 1 of the verification tag", 5, ANSWERED, TAG_1),
@@ -70,24 +70,19 @@ const FIELDS: [(&str, usize, Judgement, Judgement); 25] = [
     ("value of parameter 2, and padding", 44, ANSWERED, ANSWERED),
 ];
 
-// Hands a packet to a closed socket: one event has to come, an answer or an error, as the judgement
-// says.
+// Hands a packet to a closed socket of these options: one event has to come, an answer or an error, as
+// the judgement says.
 fn judges(
     rt: &impl Abort,
-    socket: &mut Socket<TwoWords>,
-    name: &str,
-    packet: &[u8],
+    alloc: Global,
+    options: &Options,
+    (name, packet): (&str, &[u8]),
     judgement: Judgement,
-) -> Result<(), Fail> {
-    socket.handle_input(packet)?;
-    match judgement {
-        None => {
-            let answer = only_packet(socket)?;
-            assert_eq!(rt; answer.len(), 96, "{name}: {packet:?}");
-            Ok(())
-        }
-        Some(expected) => reports(rt, socket, name, expected),
-    }
+) {
+    let mut socket = socket_with(rt, alloc, options);
+    takes(rt, &mut socket, packet);
+    answers_or_reports(rt, &mut socket, name, judgement);
+    drop(socket);
 }
 
 // The INIT with this byte at a place.
@@ -99,57 +94,69 @@ fn damaged(place: usize, byte: u8) -> [u8; 44] {
     packet
 }
 
-// Sets the byte at a place to 0 and to 255, each for a socket that looks at no checksum.
-fn judges_byte(
+// Sets each byte of a field to 0 and to 255, each for a socket that looks at no checksum.
+fn judges_field(
     rt: &impl Abort,
     alloc: Global,
     name: &str,
-    place: usize,
+    places: Range<usize>,
     judgements: [Judgement; 2],
-) -> Result<(), Fail> {
-    for (byte, judgement) in [0, 255].into_iter().zip(judgements) {
-        let packet = damaged(place, byte);
-        let mut socket = socket_with(alloc, &unchecked())?;
-        judges(rt, &mut socket, name, &packet, judgement)?;
+) {
+    let options = unchecked();
+    for place in places {
+        judges(
+            rt,
+            alloc,
+            &options,
+            (name, &damaged(place, 0)),
+            judgements[0],
+        );
+        judges(
+            rt,
+            alloc,
+            &options,
+            (name, &damaged(place, 255)),
+            judgements[1],
+        );
     }
-    Ok(())
 }
 
 #[test]
-fn a_damaged_byte_of_an_init_counts_as_its_field_says(rt: HostRuntime) -> Result<(), Fail> {
+fn a_damaged_byte_of_an_init_counts_as_its_field_says(rt: HostRuntime) {
     let mut place = 0;
-    for (name, end, with_zero, with_ones) in FIELDS {
-        for place in place..end {
-            judges_byte(&rt, rt.alloc(), name, place, [with_zero, with_ones])?;
-        }
-        place = end;
+    for (name, end, with_zero, with_ones) in &FIELDS {
+        judges_field(&rt, rt.alloc(), name, place..*end, [*with_zero, *with_ones]);
+        place = *end;
     }
-    assert_eq!(rt; place, INIT.len());
-    Ok(())
+    same(&rt, "the end of the last field", place, INIT.len());
 }
 
 #[test]
-fn an_init_may_lack_its_padding_and_no_more(rt: HostRuntime) -> Result<(), Fail> {
+fn an_init_may_lack_its_padding_and_no_more(rt: HostRuntime) {
+    let options = unchecked();
     for (len, _) in INIT.iter().enumerate() {
         let judgement = match len {
             12 => NO_INIT,
             42 | 43 => ANSWERED,
             _ => UNREADABLE,
         };
-        let mut socket = socket_with(rt.alloc(), &unchecked())?;
-        judges(&rt, &mut socket, "cut off", &INIT[..len], judgement)?;
+        let packet = &INIT[..len];
+        judges(&rt, rt.alloc(), &options, ("cut off", packet), judgement);
     }
-    Ok(())
+}
+
+// Turns each bit of this byte of the INIT, each for a socket that looks at the checksum.
+fn refuses_bits(rt: &impl Abort, alloc: Global, place: usize, byte: u8) {
+    let options = Options::default();
+    for bit in [1, 2, 4, 8, 16, 32, 64, 128] {
+        let packet = damaged(place, byte ^ bit);
+        judges(rt, alloc, &options, ("a damaged bit", &packet), UNREADABLE);
+    }
 }
 
 #[test]
-fn a_checksum_finds_every_damaged_bit_of_an_init(rt: HostRuntime) -> Result<(), Fail> {
+fn a_checksum_finds_every_damaged_bit_of_an_init(rt: HostRuntime) {
     for (place, byte) in INIT.iter().enumerate() {
-        for bit in [1, 2, 4, 8, 16, 32, 64, 128] {
-            let packet = damaged(place, *byte ^ bit);
-            let mut socket = socket_with(rt.alloc(), &Options::default())?;
-            judges(&rt, &mut socket, "a damaged bit", &packet, UNREADABLE)?;
-        }
+        refuses_bits(&rt, rt.alloc(), place, *byte);
     }
-    Ok(())
 }

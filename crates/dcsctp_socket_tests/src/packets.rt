@@ -1,7 +1,7 @@
 //! Packets that were put together by hand, with checksums that another program worked out.
 
 use std::alloc::Global;
-use std::test::Fail;
+use std::process::Abort;
 
 // An INIT of tag 7 and first TSN 100 as default options announce it, under tag 0.
 pub const INIT: [u8; 44] = [
@@ -29,17 +29,12 @@ pub const COOKIE_ACK: [u8; 16] = [
     0x13, 0x88, 0x13, 0x88, 0, 0, 0, 7, 0x9a, 0xe1, 0x96, 0xfe, 11, 0, 0, 4,
 ];
 
-// The ABORT under tag 9 that answers an INIT ACK without a cookie.
-pub const ABORT: [u8; 28] = [
-    0x13, 0x88, 0x13, 0x88, 0, 0, 0, 9, 0x8a, 0xe3, 0x6f, 0xa0, 6, 0, 0, 14, 0, 2, 0, 10, 0, 0, 0,
-    1, 0, 7, 0, 0,
-];
-
 // A packet of these chunks under this tag, without a checksum.
-pub fn unchecked_packet(alloc: Global, tag: u8, chunks: &[&[u8]]) -> Result<Vec<u8>, Fail> {
-    let mut packet = vec![in alloc; 0x13, 0x88, 0x13, 0x88, 0, 0, 0, tag, 0, 0, 0, 0]?;
+pub fn unchecked_packet(rt: &impl Abort, alloc: Global, tag: u8, chunks: &[&[u8]]) -> Vec<u8> {
+    let header = [0x13, 0x88, 0x13, 0x88, 0, 0, 0, tag, 0, 0, 0, 0];
+    let mut packet = Vec::from_array(alloc, header).expect(rt, "no packet");
     for chunk in chunks {
-        packet.extend_from_slice(chunk)?;
+        packet.extend_from_slice(chunk).expect(rt, "no chunk");
     }
-    Ok(packet)
+    packet
 }

@@ -1,0 +1,27 @@
+//! Tests of `dcsctp_socket` by its public calls: packets that were put together by hand, and what comes
+//! of them.
+//!
+//! A helper asserts and returns no error, and a socket is dropped by a call: each early end of a function
+//! that owns a socket, and each end of a block, is proved to give all of it back.
+#![tactic(auto)]
+
+#[cfg(test)]
+mod aborts;
+#[cfg(test)]
+mod association;
+#[cfg(test)]
+mod cookie_echo;
+#[cfg(test)]
+mod damaged_init;
+#[cfg(test)]
+mod driving;
+#[cfg(test)]
+mod init;
+#[cfg(test)]
+mod packets;
+#[cfg(test)]
+mod pairs;
+#[cfg(test)]
+mod plenty;
+#[cfg(test)]
+mod sockets;
