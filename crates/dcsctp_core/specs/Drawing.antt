@@ -44,4 +44,4 @@ pub record KeepsLast {R : Type 0} (old : Context R) (pair : Pair) (new : Context
 abbrev pub Keeps : {R E : Type 0} → Context R → Pair → Result (Unit {0}) E → Context R → Type 0
 Keeps old pair (Ok done) new = KeepsLast old pair new
 Keeps old pair (Err error) new =
-  OnlyDraws old new × (new.pairs.items ≡ old.pairs.items) × (new.words ≡ old.words) × (new.generator ≡ old.generator)
+    OnlyDraws old new × (new.pairs.items ≡ old.pairs.items) × (new.words ≡ old.words) × (new.generator ≡ old.generator)

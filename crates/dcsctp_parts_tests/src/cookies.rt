@@ -2,8 +2,8 @@
 
 ghost use Rattle.std.specs.Prelude.{◌≤◌};
 
+use crate::checks::{all_same, same};
 use dcsctp_api::{Capabilities, StateCookie, ZeroChecksumAlternateErrorDetectionMethod};
-use dcsctp_testing::{all_same, same};
 use std::alloc::Global;
 use std::process::Abort;
 

@@ -1,11 +1,11 @@
 //! Events, messages and faults.
 
+use crate::checks::{all_same, holds, shows};
 use crate::identifiers::is_displayed_as;
 use dcsctp_api::{
     Events, LifecycleId, Message, PpId, SendOptions, SocketEvent, SocketFault, SocketState,
     StreamId, send_options_default,
 };
-use dcsctp_testing::{all_same, holds, shows};
 use std::alloc::{AllocError, AllocFailed, Global};
 use std::process::Abort;
 use std::test::Fail;

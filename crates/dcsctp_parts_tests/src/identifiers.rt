@@ -1,10 +1,10 @@
 //! The numbers by which messages, streams and protocols are named.
 
+use crate::checks::{all_same, holds, same, shows};
 use dcsctp_api::{
     LifecycleId, PpId, StreamId, lifecycle_id_hash, lifecycle_id_order, pp_id_hash, stream_id_hash,
     stream_id_order,
 };
-use dcsctp_testing::{all_same, holds, same, shows};
 use std::alloc::Global;
 use std::fmt::Display;
 use std::hash::{DefaultHasher, Hash, Hasher};

@@ -1,8 +1,8 @@
 //! Moments, and the durations between them.
 
+use crate::checks::{all_same, holds, same};
 use crate::identifiers::greater;
 use dcsctp_api::{SocketTime, socket_time_order};
-use dcsctp_testing::{all_same, holds, same};
 use std::time::Duration;
 
 const LAST_NANOS: u128 = 18_446_744_073_709_551_615_999_999_999;

@@ -1,10 +1,10 @@
 //! Options and what is negotiated from them.
 
+use crate::checks::{all_same, holds, same, shows};
 use dcsctp_api::{
     Capabilities, Options, ZERO_CHECKSUM_ALTERNATE_ERROR_DETECTION_METHOD_LOWER_LAYER_DTLS,
     ZERO_CHECKSUM_ALTERNATE_ERROR_DETECTION_METHOD_NONE,
 };
-use dcsctp_testing::{all_same, holds, same, shows};
 use dcsctp_wire::Parameter;
 use std::process::Abort;
 use std::time::Duration;

@@ -1,7 +1,7 @@
 //! What came in: the last TSN that is acknowledged, and the window.
 
+use crate::checks::all_same;
 use dcsctp_receive::{DataTracker, ReassemblyQueue};
-use dcsctp_testing::all_same;
 
 /// The last TSN that is acknowledged where this is the first that may come.
 fn acknowledged_before(first: u32) -> u32 {

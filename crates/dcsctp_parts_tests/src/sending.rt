@@ -1,8 +1,8 @@
 //! Timers, the retransmission timeout, windows, and the send queue.
 
+use crate::checks::{holds, same, shows};
 use dcsctp_machine::{Options, SocketTime};
 use dcsctp_send::{BackoffAlgorithm, RetransmissionQueue, RetransmissionTimeout, SendQueue, Timer};
-use dcsctp_testing::{holds, same, shows};
 use std::alloc::Global;
 use std::process::Abort;
 use std::time::Duration;

@@ -1,7 +1,7 @@
 //! A reader and a writer that fail, also for want of memory.
 
+use crate::checks::{holds, same};
 use dcsctp_script::run_script;
-use dcsctp_testing::{holds, same};
 use std::alloc::Global;
 use std::io::{self, Read, Write};
 use std::process::Abort;

@@ -5,6 +5,8 @@
 #[cfg(test)]
 mod bad_lines;
 #[cfg(test)]
+mod checks;
+#[cfg(test)]
 mod faults;
 #[cfg(test)]
 mod options;

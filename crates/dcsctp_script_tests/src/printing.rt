@@ -1,9 +1,9 @@
 //! Events and packets that no script brings about.
 
+use crate::checks::same;
 use dcsctp_api::{LifecycleId, SocketEvent, StreamId};
 use dcsctp_machine::{ErrorKind, Side};
 use dcsctp_script::print_event;
-use dcsctp_testing::same;
 use std::alloc::Global;
 use std::process::Abort;
 

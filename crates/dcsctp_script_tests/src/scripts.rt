@@ -1,7 +1,7 @@
 //! What the tests share: a script is run, and its lines are compared.
 
+use crate::checks::same;
 use dcsctp_script::{Status, run_script};
-use dcsctp_testing::same;
 use std::alloc::Global;
 use std::process::Abort;
 use std::str;

@@ -1,8 +1,8 @@
 //! The fields of the options that each name sets; few of them show in what a script prints.
 
+use crate::checks::{holds, same};
 use dcsctp_machine::Options;
 use dcsctp_script::set_option;
-use dcsctp_testing::{holds, same};
 use std::process::Abort;
 use std::time::Duration;
 

@@ -1,12 +1,13 @@
 //! An association that is made, and what it does with the rest of a packet.
 
+use crate::checks::same;
 use crate::packets::{COOKIE_ACK, COOKIE_ECHO, INIT, INIT_ACK, unchecked_packet};
 use crate::sockets::{
     answers, begins, connects, ends, is_in_state, next_packet, reports, sends, socket_of_seven,
     socket_with, takes, tells_nothing, unchecked,
 };
 use dcsctp_socket::{DcSctpSocket, ErrorKind, Options, Socket, SocketState};
-use dcsctp_testing::{TwoWords, same};
+use dcsctp_testing::TwoWords;
 use std::alloc::Global;
 use std::process::Abort;
 

@@ -2,13 +2,14 @@
 //!
 //! The socket has tag 9 and first TSN 200, its peer tag 7 and first TSN 100, and its tie tag is `TIE_TAG`.
 
+use crate::checks::{holds, same};
 use crate::packets::{COOKIE_ACK, COOKIE_ECHO};
 use crate::sockets::{
     connects, is_in_state, reports, sends, socket_that_draws, takes, tells_connected,
     tells_nothing, unchecked,
 };
 use dcsctp_socket::{DcSctpSocket, Pair, Socket, SocketEvent, SocketState};
-use dcsctp_testing::{TwoWords, holds, same};
+use dcsctp_testing::TwoWords;
 use std::alloc::Global;
 use std::process::Abort;
 

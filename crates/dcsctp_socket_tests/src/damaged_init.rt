@@ -1,9 +1,9 @@
 //! An INIT that was damaged on its way (RFC 9260, sections 3.1 to 3.3.2).
 
+use crate::checks::same;
 use crate::packets::INIT;
 use crate::sockets::{answers_or_reports, socket_with, takes, unchecked};
 use dcsctp_socket::Options;
-use dcsctp_testing::same;
 use std::alloc::Global;
 use std::ops::Range;
 use std::process::Abort;

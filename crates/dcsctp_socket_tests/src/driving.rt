@@ -1,9 +1,10 @@
 //! The loop that README shows.
 
+use crate::checks::same;
 use crate::packets::{COOKIE_ECHO, INIT, INIT_ACK};
 use dcsctp_example::{Told, client};
 use dcsctp_socket::{ErrorKind, SocketEvent};
-use dcsctp_testing::{TwoWords, same};
+use dcsctp_testing::TwoWords;
 use std::alloc::Global;
 use std::process::Abort;
 

@@ -1,9 +1,9 @@
 //! An INIT that comes to a closed socket, and packets that are refused.
 
+use crate::checks::{holds, same};
 use crate::packets::{INIT, INIT_ACK};
 use crate::sockets::{is_in_state, only_packet, reports, sends, socket_with, takes, unchecked};
 use dcsctp_socket::{DcSctpSocket, Options, SocketState};
-use dcsctp_testing::{holds, same};
 use dcsctp_wire::{Chunk, InitChunk, Parameter, SctpPacketBuilder};
 use std::alloc::Global;
 use std::process::Abort;

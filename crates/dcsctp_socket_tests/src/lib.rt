@@ -10,6 +10,8 @@ mod aborts;
 #[cfg(test)]
 mod association;
 #[cfg(test)]
+mod checks;
+#[cfg(test)]
 mod cookie_echo;
 #[cfg(test)]
 mod damaged_init;

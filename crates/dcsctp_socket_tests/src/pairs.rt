@@ -1,9 +1,10 @@
 //! The pairs of a tag and a first TSN that a call draws (RFC 9260, section 5.1).
 
+use crate::checks::{holds, same};
 use crate::packets::INIT;
 use crate::sockets::{begins, opens, socket_of_seven, socket_that_draws, takes};
 use dcsctp_socket::{DcSctpSocket, Options, Pair, Socket};
-use dcsctp_testing::{TwoWords, holds, same};
+use dcsctp_testing::TwoWords;
 use std::alloc::Global;
 use std::process::Abort;
 

@@ -1,11 +1,12 @@
 //! Much of everything: no call is refused for the number or the length of what it is handed.
 
+use crate::checks::same;
 use crate::packets::INIT;
 use crate::sockets::{
     answers_or_reports, next_packet, socket_with, takes, tells_nothing, unchecked,
 };
 use dcsctp_socket::{Options, Socket};
-use dcsctp_testing::{TwoWords, same};
+use dcsctp_testing::TwoWords;
 use std::alloc::Global;
 use std::process::Abort;
 

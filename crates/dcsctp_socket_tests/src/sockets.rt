@@ -1,8 +1,9 @@
 //! What the tests share: sockets that draw known words, and what they tell next.
 
+use crate::checks::{holds, same};
 use crate::packets::{COOKIE_ACK, COOKIE_ECHO, INIT, INIT_ACK};
 use dcsctp_socket::{DcSctpSocket, ErrorKind, Options, Socket, SocketEvent, SocketState};
-use dcsctp_testing::{TwoWords, holds, same};
+use dcsctp_testing::TwoWords;
 use std::alloc::Global;
 use std::process::Abort;
 

@@ -1,6 +1,6 @@
 //! The texts of error causes (RFC 9260, section 3.3.10).
 
-use dcsctp_testing::same;
+use crate::checks::same;
 use dcsctp_wire::{ErrorCause, cause_code, causes_text};
 use std::alloc::Global;
 use std::process::Abort;

@@ -1,6 +1,6 @@
 //! Checksums, with the values that others publish (RFC 9260, appendix A).
 
-use dcsctp_testing::{holds, same};
+use crate::checks::{holds, same};
 use dcsctp_wire::crc32c::{crc32c, packet_checksum};
 use std::process::Abort;
 

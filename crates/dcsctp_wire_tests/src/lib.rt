@@ -5,6 +5,8 @@
 #[cfg(test)]
 mod causes;
 #[cfg(test)]
+mod checks;
+#[cfg(test)]
 mod checksums;
 #[cfg(test)]
 mod numbers;

@@ -1,6 +1,6 @@
 //! The published numbers, as the standards list them.
 
-use dcsctp_testing::all_same;
+use crate::checks::all_same;
 use dcsctp_wire::{cause_code, chunk_type, parameter_type};
 
 // RFC 9260, section 3.2; RFC 8260, sections 2.1 and 2.3.1; RFC 6525, section 3.1; RFC 3758, section 3.2.

@@ -1,6 +1,6 @@
 //! Packets that were put together by hand, and what is read from them.
 
-use dcsctp_testing::{same, shows};
+use crate::checks::{same, shows};
 use dcsctp_wire::{PacketError, SctpPacket, WireOptions};
 use std::alloc::Global;
 use std::process::Abort;

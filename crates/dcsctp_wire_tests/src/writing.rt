@@ -4,7 +4,7 @@ ghost use Rattle.std.specs.Prelude.{◌≡◌, ◌≤◌, ◌+◌, true, [], ◌
 ghost use Rattle.dcsctp_wire.specs.Content.{chunk_content};
 ghost use Rattle.dcsctp_wire.specs.Spelling.{chunk_bytes, packet_bytes};
 
-use dcsctp_testing::{holds, same};
+use crate::checks::{holds, same};
 use dcsctp_wire::{
     AbortChunk, Chunk, CookieEchoChunk, ErrorCause, InitChunk, OtherChunk, Parameter,
     SctpPacketBuilder,
