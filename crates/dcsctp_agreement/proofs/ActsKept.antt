@@ -6,11 +6,11 @@ use Rattle.dcsctp_machine.specs.declared.options.Options.{Options}
 use Rattle.dcsctp_machine.specs.Offer.{Offer, offer_of}
 use Rattle.dcsctp_machine.specs.Reconfiguration.{RequestedReset}
 use Rattle.dcsctp_machine.specs.Endpoint.{Core, closed, cookie_wait, cookie_echoed, open_in, OpenPhase, established, shutdown_pending, shutdown_sent, shutdown_received, shutdown_ack_sent}
-use Rattle.dcsctp_machine.specs.Outcome.{next_chunk}
+use Rattle.dcsctp_machine.specs.Following.{next_chunk}
 use Rattle.dcsctp_machine.specs.control.Effect.{Effect}
 use Rattle.dcsctp_machine.specs.control.Choices.{Choices}
-use Rattle.dcsctp_machine.specs.control.Flush.{further_packets, flush, reset_request}
-use Rattle.dcsctp_machine.specs.control.Acts.{Act, connect, t1_expires, shut_down, step_of_shutdown, shutdown_repeats, abort_with, flushes, request_again, hands_over, sent_by, hand_over_in, hand_over_change, flush_change, request_sent, request_again_change, act_change}
+use Rattle.dcsctp_machine.specs.control.FlushChanges.{further_packets, flush, reset_request}
+use Rattle.dcsctp_machine.specs.control.Acts.{Act, connect, t1_expires, shut_down, step_of_shutdown, shutdown_repeats, abort_with, flushes, request_again, hands_over, sent_by, hand_over_change_in, hand_over_change, flush_change, request_sent, request_again_change, act_change}
 use Rattle.dcsctp_machine.specs.Past.{HasFreshTags}
 use Rattle.dcsctp_machine.specs.World.{after_effects}
 use Rattle.dcsctp_agreement.proofs.Facts.{TrueEffects, TruePast, PeerFacts, TrueCore}
@@ -52,7 +52,7 @@ flush_kept my_offer their_offer mine theirs (open_in phase my held) choices h =
     (flush_peer my_offer their_offer mine theirs my held.peer.tag held [] choices.filling h) (sent_true my_offer their_offer mine theirs held choices)
 
 hand_over_in_kept : (my_offer their_offer : Offer) (mine theirs : List Effect) (phase : OpenPhase) (my : Pair) (held : Held)
-    → PeerFacts my_offer their_offer mine theirs my held → Kept my_offer their_offer mine theirs (hand_over_in phase my held)
+    → PeerFacts my_offer their_offer mine theirs my held → Kept my_offer their_offer mine theirs (hand_over_change_in phase my held)
 hand_over_in_kept my_offer their_offer mine theirs established my held h = ended_kept my_offer their_offer mine theirs [] tt
 hand_over_in_kept my_offer their_offer mine theirs shutdown_pending my held h = unchanged_kept my_offer their_offer mine theirs (open_in shutdown_pending my held) h
 hand_over_in_kept my_offer their_offer mine theirs shutdown_sent my held h = unchanged_kept my_offer their_offer mine theirs (open_in shutdown_sent my held) h

@@ -5,9 +5,9 @@ use Rattle.dcsctp_machine.specs.declared.options.Options.{Options}
 use Rattle.dcsctp_machine.specs.Offer.{Offer, offer_of}
 use Rattle.dcsctp_machine.specs.Laws.{AnswerKeepsAgreement}
 use Rattle.dcsctp_machine.specs.control.Effect.{Effect, draws, sends, holds, connects, ends, begins, completes, fails, accepts, performs, Change}
-use Rattle.dcsctp_machine.specs.control.Flush.{next_number}
+use Rattle.dcsctp_machine.specs.control.FlushChanges.{next_number}
 use Rattle.dcsctp_machine.specs.Past.{Has, Each, HasFreshTags, InPlace, current, my_of, outstanding, number_to_begin, requests_begun}
-use Rattle.dcsctp_machine.specs.World.{SideState, after_changes, after_change, Which, at_a, at_b, Move, MoveTurns, Step, World, step_after, world_after, StepTurns, Run, steps_of}
+use Rattle.dcsctp_machine.specs.World.{SideState, after_changes, after_change, Which, at_a, at_b, Move, MoveChanges, Step, World, step_after, world_after, StepChanges, Run, steps_of}
 use Rattle.dcsctp_agreement.specs.Agreement.{ConnectsCrossed, FindsPerformed, Agrees, SidesAgree, RunsAlone, SidesRunAlone}
 use Rattle.dcsctp_agreement.specs.OneSide.{EffectsInPlace}
 use Rattle.dcsctp_agreement.proofs.Facts.{number_before, agreed_link, Found, TruePast}
@@ -35,7 +35,7 @@ fresh_before_step world at_b changes fresh = record { a = fresh.a; b = fresh_bef
 -- one step of the one side, beside the other
 true_step : AnswerKeepsAgreement → (one other : SideState) (move : Move) (changes : List Change)
     → TrueSide (offer_of other.options) one other.past → TrueSide (offer_of one.options) other one.past
-    → HasFreshTags (after_changes one changes).past → HasFreshTags other.past → MoveTurns one other.past move changes
+    → HasFreshTags (after_changes one changes).past → HasFreshTags other.past → MoveChanges one other.past move changes
     → TrueSide (offer_of other.options) (after_changes one changes) other.past × TrueSide (offer_of (after_changes one changes).options) other (after_changes one changes).past
 true_step law one other move changes h k fresh their_fresh turns = (
   move_true_after law (offer_of other.options) one other.past move changes h k.past fresh their_fresh turns,
@@ -43,7 +43,7 @@ true_step law one other move changes h k fresh their_fresh turns = (
 )
 
 true_after_step : AnswerKeepsAgreement → (world : World) (which : Which) (move : Move) (changes : List Change)
-    → TrueWorld world → FreshWorld (step_after world which changes) → StepTurns world which move changes → TrueWorld (step_after world which changes)
+    → TrueWorld world → FreshWorld (step_after world which changes) → StepChanges world which move changes → TrueWorld (step_after world which changes)
 true_after_step law world at_a move changes h fresh turns =
     let both : TrueSide (offer_of world.b.options) (after_changes world.a changes) world.b.past × TrueSide (offer_of (after_changes world.a changes).options) world.b (after_changes world.a changes).past =
     true_step law world.a world.b move changes h.a h.b fresh.a fresh.b turns in

@@ -5,7 +5,7 @@ use Rattle.dcsctp_machine.specs.Packet.{Content, Packet}
 use Rattle.dcsctp_machine.specs.Admission.{shutdown_acks_in}
 use Rattle.dcsctp_machine.specs.Endpoint.{Core}
 use Rattle.dcsctp_machine.specs.control.Effect.{Effect, Change}
-use Rattle.dcsctp_machine.specs.World.{SideState, after_change, after_changes, acted, worked, ControlTurns, SideRun, side_after, ChunkChanges, PacketTurns, worked_whole, worked_acks, Move, does, receives, MoveTurns, Which, at_a, at_b, World, step_after, world_after, Step, StepTurns, Run, steps_with, steps_of}
+use Rattle.dcsctp_machine.specs.World.{SideState, after_change, after_changes, acted, worked, ControlTurns, SideRun, side_after, ChunkChanges, PacketChanges, worked_whole, worked_acks, Move, does, receives, MoveChanges, Which, at_a, at_b, World, step_after, world_after, Step, StepChanges, Run, steps_with, steps_of}
 use Rattle.dcsctp_agreement.specs.Agreement.{SidesRunAlone}
 
 chunk_turns : (options : Options) (core : Core) (header : ℕ) (contents : List Content) (changes : List Change)
@@ -15,11 +15,11 @@ chunk_turns options core header [] (change ∷ changes) turns = absurd turns
 chunk_turns options core header (content ∷ contents) (change ∷ changes) turns =
     (worked header content turns.0.0 turns.0.2, chunk_turns options change.core header contents changes turns.1)
 
-pub packet_turns : (options : Options) (core : Core) (packet : Packet) (changes : List Change) → PacketTurns options core packet changes → ControlTurns options core changes
+pub packet_turns : (options : Options) (core : Core) (packet : Packet) (changes : List Change) → PacketChanges options core packet changes → ControlTurns options core changes
 packet_turns options core packet changes (worked_whole may turns) = chunk_turns options core packet.tag packet.contents changes turns
 packet_turns options core packet changes (worked_acks turns) = chunk_turns options core packet.tag (shutdown_acks_in packet.contents) changes turns
 
-pub move_turns : (side : SideState) (sent : List Effect) (move : Move) (changes : List Change) → MoveTurns side sent move changes → ControlTurns side.options side.core changes
+pub move_turns : (side : SideState) (sent : List Effect) (move : Move) (changes : List Change) → MoveChanges side sent move changes → ControlTurns side.options side.core changes
 move_turns side sent (does act) changes turns =
     subst (ControlTurns side.options side.core) (sym turns.1) (acted act turns.0 refl, tt)
 move_turns side sent (receives packet) changes turns = packet_turns side.options side.core packet changes turns.1
@@ -38,7 +38,7 @@ pub record Alone (options : Options) (steps : List (List Change)) (side : SideSt
   pub is : side ≡ side_after options steps
 
 one_more : (options : Options) (steps : List (List Change)) (side : SideState) (sent : List Effect) (move : Move) (changes : List Change)
-    → Alone options steps side → MoveTurns side sent move changes → Alone options (changes ∷ steps) (after_changes side changes)
+    → Alone options steps side → MoveChanges side sent move changes → Alone options (changes ∷ steps) (after_changes side changes)
 one_more options steps side sent move changes h turns =
     let own : ControlTurns (side_after options steps).options (side_after options steps).core changes =
     subst (λ (s : SideState). ControlTurns s.options s.core changes) h.is (move_turns side sent move changes turns) in
@@ -48,12 +48,12 @@ one_more options steps side sent move changes h turns =
     }
 
 a_alone : (options : Options) (steps : List (List Change)) (world : World) (which : Which) (move : Move) (changes : List Change)
-    → Alone options steps world.a → StepTurns world which move changes → Alone options (steps_with at_a which changes steps) (step_after world which changes).a
+    → Alone options steps world.a → StepChanges world which move changes → Alone options (steps_with at_a which changes steps) (step_after world which changes).a
 a_alone options steps world at_a move changes h turns = one_more options steps world.a world.b.past move changes h turns
 a_alone options steps world at_b move changes h turns = h
 
 b_alone : (options : Options) (steps : List (List Change)) (world : World) (which : Which) (move : Move) (changes : List Change)
-    → Alone options steps world.b → StepTurns world which move changes → Alone options (steps_with at_b which changes steps) (step_after world which changes).b
+    → Alone options steps world.b → StepChanges world which move changes → Alone options (steps_with at_b which changes steps) (step_after world which changes).b
 b_alone options steps world at_a move changes h turns = h
 b_alone options steps world at_b move changes h turns = one_more options steps world.b world.a.past move changes h turns
 

@@ -5,11 +5,11 @@ use Rattle.dcsctp_machine.specs.declared.association.Held.{Held}
 use Rattle.dcsctp_wire.specs.declared.reconfiguration.ReconfigurationResponseResult.{ReconfigurationResponseResult}
 use Rattle.dcsctp_wire.specs.declared.reconfiguration.ReconfigurationResponseResult.TheVariants.{SuccessNothingToDo, SuccessPerformed, Denied, ErrorWrongSSN, ErrorRequestAlreadyInProgress, ErrorBadSequenceNumber, InProgress}
 use Rattle.dcsctp_machine.specs.Reconfiguration.{RequestedReset, ResetParameter, outgoing_reset_request, incoming_reset_request, reconfiguration_response, other_reset_parameter}
-use Rattle.dcsctp_machine.specs.Packet.{Content, re_config}
+use Rattle.dcsctp_machine.specs.Packet.{Plain, Content, re_config}
 use Rattle.dcsctp_machine.specs.control.Effect.{Effect, ends, completes, fails, emitted, emitted_alone}
-use Rattle.dcsctp_machine.specs.control.Choices.{Plain, plain_contents, Filling, Choices}
-use Rattle.dcsctp_machine.specs.control.Flush.{reset_to_begin, further_packets, chunks_behind, flush_packets, flushed_with, flush_where, flush}
-use Rattle.dcsctp_machine.specs.control.Resets.{Place, again, next, astray, place_of, Answered, worked, repeated, outgoing_by, incoming_by, Informed, informed_where, is_outstanding, Worked, work_parameters, work_chunk, answers_emitted, reset_sent, reset_worked}
+use Rattle.dcsctp_machine.specs.control.Choices.{plain_contents, Filling, Choices}
+use Rattle.dcsctp_machine.specs.control.FlushChanges.{reset_to_begin, further_packets, chunks_behind, flush_packets, flushed_with, flush_where, flush}
+use Rattle.dcsctp_machine.specs.control.ResetChanges.{Place, again, next, astray, place_of, Answered, worked, repeated, outgoing_by, incoming_by, Informed, informed_where, is_outstanding, WorkedParameters, work_parameters, work_chunk, answers_emitted, reset_sent, reset_worked}
 use Rattle.dcsctp_machine.specs.Past.{Has}
 use Rattle.dcsctp_agreement.specs.OneSide.{IsSuccess, IsRefusal, HasResponse}
 
@@ -169,6 +169,6 @@ module _ (my : Pair) where
 
   pub reset_answers : (held : Held) (parameters : List ResetParameter) (choices : Choices) → AllAnswer parameters (reset_worked my held parameters choices).effects
   reset_answers held parameters choices =
-      let first : Worked = work_chunk my choices.is_reached held parameters in
+      let first : WorkedParameters = work_chunk my choices.is_reached held parameters in
       all_answer-append parameters first.effects (reset_sent first.is_refused first.held first.answers choices).effects
       (chunk_answers choices.is_reached held parameters) (sent_answers parameters first.is_refused first.held first.answers choices)

@@ -7,16 +7,16 @@ use Rattle.dcsctp_wire.specs.Numbers.{state_cookie_type}
 use Rattle.dcsctp_machine.specs.Cookie.{Cookie, cookie_at}
 use Rattle.dcsctp_machine.specs.Cause.{Cause, missing_mandatory_parameter}
 use Rattle.dcsctp_machine.specs.Reconfiguration.{ResetParameter, RequestedReset}
-use Rattle.dcsctp_machine.specs.Packet.{Introduction, Content, init, init_ack, cookie_echo, cookie_ack, re_config, abort, shutdown, shutdown_ack, shutdown_complete, other}
+use Rattle.dcsctp_machine.specs.Packet.{Introduction, Content, init, init_ack, cookie_echo, cookie_ack, re_config, abort, shutdown, shutdown_ack, shutdown_complete, plain}
 use Rattle.dcsctp_machine.specs.Endpoint.{Core, closed, cookie_wait, cookie_echoed, open_in, OpenPhase, established, shutdown_pending, shutdown_sent, shutdown_received, shutdown_ack_sent}
 use Rattle.dcsctp_machine.specs.control.Effect.{Effect, completes, fails, Change}
 use Rattle.dcsctp_machine.specs.control.Choices.{Filling, Choices}
-use Rattle.dcsctp_machine.specs.control.Flush.{further_packets, reset_request, flush}
-use Rattle.dcsctp_machine.specs.control.Handshake.{introduction_of, connect_change, init_change, echoes, held_by_init_ack, init_ack_change, cookie_ack_change, t1_again, t1_gives_up}
-use Rattle.dcsctp_machine.specs.control.CookieEcho.{Resolution, establish_new, restart, simultaneous_init, discard, maintain_existing, invalid_tag, resolve, held_by_cookie, new_association, restarts, maintains, resolved, echo_read}
-use Rattle.dcsctp_machine.specs.control.Resets.{re_config_change}
-use Rattle.dcsctp_machine.specs.control.Shutdown.{shutdown_step_in, shutdown_step, shutdown_call, aborts, shutdown_again, abort_change, shutdown_change, shutdown_ack_change, shutdown_complete_change}
-use Rattle.dcsctp_machine.specs.control.Acts.{Act, connect, t1_expires, shut_down, step_of_shutdown, shutdown_repeats, abort_with, hands_over, flushes, request_again, sent_by, flush_change, hand_over_change, request_sent, request_again_change, act_change, violation_change, other_change, chunk_change}
+use Rattle.dcsctp_machine.specs.control.FlushChanges.{further_packets, reset_request, flush}
+use Rattle.dcsctp_machine.specs.control.HandshakeChanges.{introduction_of, connect_change, init_change, echo_change, held_by_init_ack, init_ack_change, cookie_ack_change, t1_again_change, t1_gives_up_change}
+use Rattle.dcsctp_machine.specs.control.CookieEchoChanges.{Resolution, establish_new, restart, simultaneous_init, discard, maintain_existing, invalid_tag, resolve, held_by_cookie, new_association_change, restart_change, maintain_change, resolved_change, read_echo_change}
+use Rattle.dcsctp_machine.specs.control.ResetChanges.{re_config_change}
+use Rattle.dcsctp_machine.specs.control.ShutdownChanges.{shutdown_step_change_in, shutdown_step_change, shutdown_call_change, abort_call_change, shutdown_again_change, abort_change, shutdown_change, shutdown_ack_change, shutdown_complete_change}
+use Rattle.dcsctp_machine.specs.control.Acts.{Act, connect, t1_expires, shut_down, step_of_shutdown, shutdown_repeats, abort_with, hands_over, flushes, request_again, sent_by, flush_change, hand_over_change, request_sent, request_again_change, act_change, violation_change, plain_change, chunk_change}
 use Rattle.dcsctp_agreement.specs.OneSide.{parameters_in, AnswersEndRequests}
 use Rattle.dcsctp_agreement.proofs.AnswerEnds.{AllAnswer, answer_of, all_answer-append, alone_answers, end_answers-alone, further_answer, flush_answers, reset_answers}
 
@@ -36,7 +36,7 @@ init_ends options (cookie_echoed my held cookie) theirs choices = alone_answers 
 init_ends options (open_in shutdown_ack_sent my held) theirs choices = (tt, tt)
 init_ends options core theirs choices = (tt, alone_answers [] choices.fits _ _)
 
-echoes_end : (my : Pair) (held : Held) (cookie : List ℕ) (fits : Bool) (filling : Filling) → EndsNone (echoes my held cookie fits filling).effects
+echoes_end : (my : Pair) (held : Held) (cookie : List ℕ) (fits : Bool) (filling : Filling) → EndsNone (echo_change my held cookie fits filling).effects
 echoes_end my held cookie false filling = tt
 echoes_end my held cookie true filling = flush_answers [] held.peer.tag held (cookie_echo cookie ∷ []) filling
 
@@ -50,31 +50,31 @@ cookie_ack_ends : (core : Core) (choices : Choices) → EndsNone (cookie_ack_cha
 cookie_ack_ends (cookie_echoed my held cookie) choices = (tt, flush_answers [] held.peer.tag held [] choices.filling)
 cookie_ack_ends core choices = tt
 
-t1_again_ends : (options : Options) (core : Core) (choices : Choices) → EndsNone (t1_again options core choices).effects
+t1_again_ends : (options : Options) (core : Core) (choices : Choices) → EndsNone (t1_again_change options core choices).effects
 t1_again_ends options (cookie_wait my) choices = alone_answers [] choices.fits 0 (init (introduction_of options my))
 t1_again_ends options (cookie_echoed my held cookie) choices = echoes_end my held cookie choices.fits choices.filling
 t1_again_ends options core choices = tt
 
-t1_gives_up_ends : (core : Core) → EndsNone (t1_gives_up core).effects
+t1_gives_up_ends : (core : Core) → EndsNone (t1_gives_up_change core).effects
 t1_gives_up_ends (cookie_wait my) = (tt, tt)
 t1_gives_up_ends (cookie_echoed my held cookie) = (tt, tt)
 t1_gives_up_ends core = tt
 
 -- ---- COOKIE ECHO
 
-new_ends : (options : Options) (cookie : Cookie) (choices : Choices) → EndsNone (new_association options cookie choices).effects
+new_ends : (options : Options) (cookie : Cookie) (choices : Choices) → EndsNone (new_association_change options cookie choices).effects
 new_ends options cookie choices = (tt, (tt, flush_answers [] cookie.addressee.tag (held_by_cookie options cookie) (cookie_ack ∷ []) choices.filling))
 
-restarts_ends : (options : Options) (core : Core) (cookie : Cookie) (choices : Choices) → EndsNone (restarts options core cookie choices).effects
+restarts_ends : (options : Options) (core : Core) (cookie : Cookie) (choices : Choices) → EndsNone (restart_change options core cookie choices).effects
 restarts_ends options (open_in shutdown_ack_sent my held) cookie choices = (tt, tt)
 restarts_ends options core cookie choices = new_ends options cookie choices
 
-maintains_ends : (core : Core) (cookie : Cookie) (choices : Choices) → EndsNone (maintains core cookie choices).effects
+maintains_ends : (core : Core) (cookie : Cookie) (choices : Choices) → EndsNone (maintain_change core cookie choices).effects
 maintains_ends (cookie_echoed my held echoed) cookie choices = (tt, flush_answers [] cookie.addressee.tag held (cookie_ack ∷ []) choices.filling)
 maintains_ends (open_in phase my held) cookie choices = flush_answers [] cookie.addressee.tag held (cookie_ack ∷ []) choices.filling
 maintains_ends core cookie choices = tt
 
-resolved_ends : (options : Options) (core : Core) (cookie : Cookie) (choices : Choices) (resolution : Resolution) → EndsNone (resolved options core cookie choices resolution).effects
+resolved_ends : (options : Options) (core : Core) (cookie : Cookie) (choices : Choices) (resolution : Resolution) → EndsNone (resolved_change options core cookie choices resolution).effects
 resolved_ends options core cookie choices establish_new = new_ends options cookie choices
 resolved_ends options core cookie choices restart = restarts_ends options core cookie choices
 resolved_ends options core cookie choices simultaneous_init = new_ends options cookie choices
@@ -82,7 +82,7 @@ resolved_ends options core cookie choices discard = tt
 resolved_ends options core cookie choices maintain_existing = maintains_ends core cookie choices
 resolved_ends options core cookie choices invalid_tag = tt
 
-echo_ends : (options : Options) (core : Core) (header : ℕ) (read : Result Cookie (List ℕ)) (choices : Choices) → EndsNone (echo_read options core header read choices).effects
+echo_ends : (options : Options) (core : Core) (header : ℕ) (read : Result Cookie (List ℕ)) (choices : Choices) → EndsNone (read_echo_change options core header read choices).effects
 echo_ends options core header (Err text) choices = tt
 echo_ends options core header (Ok cookie) choices = resolved_ends options core cookie choices (resolve core choices.tie header cookie)
 
@@ -114,30 +114,30 @@ request_again_ends core reset fits = tt
 
 -- ---- shutdown
 
-step_ends_in : (phase : OpenPhase) (my : Pair) (held : Held) (tsn : ℕ) (is_acknowledged : Bool) → EndsNone (shutdown_step_in phase my held tsn is_acknowledged).effects
+step_ends_in : (phase : OpenPhase) (my : Pair) (held : Held) (tsn : ℕ) (is_acknowledged : Bool) → EndsNone (shutdown_step_change_in phase my held tsn is_acknowledged).effects
 step_ends_in shutdown_pending my held tsn false = tt
 step_ends_in shutdown_pending my held tsn true = (tt, tt)
 step_ends_in shutdown_received my held tsn false = tt
 step_ends_in shutdown_received my held tsn true = (tt, tt)
 step_ends_in phase my held tsn is_acknowledged = tt
 
-step_ends : (core : Core) (tsn : ℕ) (is_acknowledged : Bool) → EndsNone (shutdown_step core tsn is_acknowledged).effects
+step_ends : (core : Core) (tsn : ℕ) (is_acknowledged : Bool) → EndsNone (shutdown_step_change core tsn is_acknowledged).effects
 step_ends (open_in phase my held) tsn is_acknowledged = step_ends_in phase my held tsn is_acknowledged
 step_ends core tsn is_acknowledged = tt
 
-call_ends : (core : Core) (tsn : ℕ) (is_acknowledged : Bool) → EndsNone (shutdown_call core tsn is_acknowledged).effects
+call_ends : (core : Core) (tsn : ℕ) (is_acknowledged : Bool) → EndsNone (shutdown_call_change core tsn is_acknowledged).effects
 call_ends (cookie_wait my) tsn is_acknowledged = (tt, tt)
 call_ends (cookie_echoed my held cookie) tsn is_acknowledged = step_ends_in shutdown_pending my held tsn is_acknowledged
 call_ends (open_in established my held) tsn is_acknowledged = step_ends_in shutdown_pending my held tsn is_acknowledged
 call_ends core tsn is_acknowledged = tt
 
-aborts_end : (core : Core) (causes : List Cause) (fits : Bool) → EndsNone (aborts core causes fits).effects
+aborts_end : (core : Core) (causes : List Cause) (fits : Bool) → EndsNone (abort_call_change core causes fits).effects
 aborts_end (cookie_wait my) causes fits = (tt, tt)
 aborts_end (cookie_echoed my held cookie) causes fits = end_answers-alone [] fits held.peer.tag (abort false causes)
 aborts_end (open_in phase my held) causes fits = end_answers-alone [] fits held.peer.tag (abort false causes)
 aborts_end core causes fits = tt
 
-again_ends : (core : Core) (tsn : ℕ) → EndsNone (shutdown_again core tsn).effects
+again_ends : (core : Core) (tsn : ℕ) → EndsNone (shutdown_again_change core tsn).effects
 again_ends (open_in shutdown_sent my held) tsn = (tt, tt)
 again_ends (open_in shutdown_ack_sent my held) tsn = (tt, tt)
 again_ends core tsn = tt
@@ -186,10 +186,10 @@ violation_ends (cookie_echoed my held cookie) choices = aborts_end (cookie_echoe
 violation_ends (open_in phase my held) choices = aborts_end (open_in phase my held) choices.causes choices.fits
 violation_ends core choices = tt
 
-other_ends : (core : Core) (is_violation : Bool) (choices : Choices) → EndsNone (other_change core is_violation choices).effects
+other_ends : (core : Core) (is_violation : Bool) (choices : Choices) → EndsNone (plain_change core is_violation choices).effects
 other_ends core true choices = violation_ends core choices
 other_ends core false choices =
-    let stepped : Change = shutdown_step core choices.tsn choices.is_acknowledged in
+    let stepped : Change = shutdown_step_change core choices.tsn choices.is_acknowledged in
     all_answer-append [] stepped.effects (flush_change stepped.core choices).effects (step_ends core choices.tsn choices.is_acknowledged) (flush_ends stepped.core choices)
 
 chunk_answers : (options : Options) (core : Core) (header : ℕ) (content : Content) (choices : Choices)
@@ -203,7 +203,7 @@ chunk_answers options core header (abort reflected causes) choices = abort_ends 
 chunk_answers options core header (shutdown cumulative_tsn) choices = shutdown_ends core choices.tsn choices.is_acknowledged
 chunk_answers options core header shutdown_ack choices = shutdown_ack_ends core header
 chunk_answers options core header (shutdown_complete reflected) choices = shutdown_complete_ends core
-chunk_answers options core header (other chunk_type flags value) choices = other_ends core choices.is_violation choices
+chunk_answers options core header (plain chunk) choices = other_ends core choices.is_violation choices
 
 pub answers_end_requests : AnswersEndRequests
 answers_end_requests = record {

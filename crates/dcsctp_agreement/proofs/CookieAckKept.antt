@@ -6,11 +6,11 @@ use Rattle.dcsctp_machine.specs.Offer.{Offer}
 use Rattle.dcsctp_machine.specs.Cookie.{Cookie, cookie_at}
 use Rattle.dcsctp_machine.specs.Packet.{Content}
 use Rattle.dcsctp_machine.specs.Endpoint.{Core, closed, cookie_wait, cookie_echoed, open_in, established, own_tag}
-use Rattle.dcsctp_machine.specs.Outcome.{next_chunk}
+use Rattle.dcsctp_machine.specs.Following.{next_chunk}
 use Rattle.dcsctp_machine.specs.control.Effect.{Effect, holds, connects, link_of}
 use Rattle.dcsctp_machine.specs.control.Choices.{Filling, Choices}
-use Rattle.dcsctp_machine.specs.control.Flush.{flush}
-use Rattle.dcsctp_machine.specs.control.Handshake.{cookie_ack_change}
+use Rattle.dcsctp_machine.specs.control.FlushChanges.{flush}
+use Rattle.dcsctp_machine.specs.control.HandshakeChanges.{cookie_ack_change}
 use Rattle.dcsctp_machine.specs.Past.{Has}
 use Rattle.dcsctp_agreement.proofs.Facts.{agreed_link, TrueAck, TrueEffects, PeerFacts, OneEcho, EchoedCookie, TrueCore}
 use Rattle.dcsctp_agreement.proofs.Growth.{one_more, effects_grow}

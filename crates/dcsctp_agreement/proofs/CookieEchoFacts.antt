@@ -5,11 +5,11 @@ use Rattle.std.specs.Prelude.{codes, replicate}
 use Rattle.dcsctp_wire.specs.Spelling.{parameter_bytes}
 use Rattle.dcsctp_machine.specs.declared.options.Options.{Options}
 use Rattle.dcsctp_machine.specs.Cookie.{Cookie, cookie_bytes, cookie_at}
-use Rattle.dcsctp_machine.specs.Packet.{cookie_ack, shutdown_ack, other}
+use Rattle.dcsctp_machine.specs.Packet.{cookie_ack, shutdown_ack, plain, written}
 use Rattle.dcsctp_machine.specs.Endpoint.{Core, closed, cookie_wait, cookie_echoed, established, shutdown_sent, shutdown_ack_sent, open_in}
-use Rattle.dcsctp_machine.specs.Outcome.{next_chunk, dropped_rest}
+use Rattle.dcsctp_machine.specs.Following.{next_chunk, dropped_rest}
 use Rattle.dcsctp_machine.specs.control.Effect.{sends, holds, connects, Change}
-use Rattle.dcsctp_machine.specs.control.CookieEcho.{establish_new, restart, simultaneous_init, discard, maintain_existing, invalid_tag, resolve, cookie_echo_change}
+use Rattle.dcsctp_machine.specs.control.CookieEchoChanges.{establish_new, restart, simultaneous_init, discard, maintain_existing, invalid_tag, resolve, cookie_echo_change}
 use Rattle.dcsctp_agreement.proofs.Schedules.{link, new, packet, cookie, configured, with_tie}
 use Rattle.dcsctp_agreement.proofs.ScheduleFacts.{one, two, new_one, new_two}
 
@@ -134,7 +134,7 @@ no_maker_tag a core = refl
 restart_where_ending : (a : Options) → echo a (open_in shutdown_ack_sent two (new one 200 99)) 19 (cookie new_two new_one 12)
     ≡ record {
       core = open_in shutdown_ack_sent two (new one 200 99);
-      effects = sends (record { tag = 7; contents = shutdown_ack ∷ other 9 0 (0 ∷ 10 ∷ 0 ∷ 4 ∷ []) ∷ [] }) ∷ [];
+      effects = sends (record { tag = 7; contents = shutdown_ack ∷ plain (written 9 0 (0 ∷ 10 ∷ 0 ∷ 4 ∷ [])) ∷ [] }) ∷ [];
       following = dropped_rest;
     }
 unfolding cookie_bytes cookie_at parameter_bytes

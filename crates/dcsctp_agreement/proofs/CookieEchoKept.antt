@@ -8,11 +8,11 @@ use Rattle.dcsctp_machine.specs.Offer.{Offer, offer_of, negotiated}
 use Rattle.dcsctp_machine.specs.Cookie.{Cookie}
 use Rattle.dcsctp_machine.specs.Packet.{Content, cookie_echo, cookie_ack}
 use Rattle.dcsctp_machine.specs.Endpoint.{Core, closed, cookie_wait, cookie_echoed, open_in, established, shutdown_pending, shutdown_sent, shutdown_received, shutdown_ack_sent}
-use Rattle.dcsctp_machine.specs.Outcome.{next_chunk, dropped_rest}
+use Rattle.dcsctp_machine.specs.Following.{next_chunk, dropped_rest}
 use Rattle.dcsctp_machine.specs.control.Effect.{Link, Effect, sends, holds, connects, link_of}
 use Rattle.dcsctp_machine.specs.control.Choices.{Choices}
-use Rattle.dcsctp_machine.specs.control.Flush.{flush}
-use Rattle.dcsctp_machine.specs.control.CookieEcho.{Resolution, establish_new, restart, simultaneous_init, discard, maintain_existing, invalid_tag, case_by, case_without_peer, case_with_peer, resolve, held_by_cookie, new_association, restarts, maintains, resolved, echo_read, cookie_echo_change}
+use Rattle.dcsctp_machine.specs.control.FlushChanges.{flush}
+use Rattle.dcsctp_machine.specs.control.CookieEchoChanges.{Resolution, establish_new, restart, simultaneous_init, discard, maintain_existing, invalid_tag, case_by, case_without_peer, case_with_peer, resolve, held_by_cookie, new_association_change, restart_change, maintain_change, resolved_change, read_echo_change, cookie_echo_change}
 use Rattle.dcsctp_machine.specs.Past.{Has}
 use Rattle.dcsctp_agreement.proofs.Facts.{agreed_link, TrueEcho, TrueAck, PeerFacts, TrueCore}
 use Rattle.dcsctp_agreement.proofs.Flushes.{flush_true, flush_peer}
@@ -30,7 +30,7 @@ new_link options their_offer cookie e = ap (λ (o : Offer). agreed_link (offer_o
 pub new_kept : (options : Options) (their_offer : Offer) (mine theirs : List Effect) (header : ℕ) (bytes : List ℕ) (behind : List Content) (choices : Choices)
     → (echo : TrueEcho their_offer (offer_of options) theirs mine header bytes)
     → Has (sends (record { tag = header; contents = cookie_echo bytes ∷ behind })) theirs
-    → Kept (offer_of options) their_offer mine theirs (new_association options echo.cookie choices)
+    → Kept (offer_of options) their_offer mine theirs (new_association_change options echo.cookie choices)
 new_kept options their_offer mine theirs header bytes behind choices echo delivered =
     let held : Held = held_by_cookie options echo.cookie in
     let link : Link = link_of echo.cookie.maker held in
@@ -124,7 +124,7 @@ maintained_ack my_offer their_offer mine theirs my held header bytes behind h ec
 maintains_kept : (my_offer their_offer : Offer) (mine theirs : List Effect) (core : Core) (header : ℕ) (bytes : List ℕ) (behind : List Content) (choices : Choices)
     → SameTag mine → SameTag theirs → TrueCore my_offer their_offer mine theirs core → (echo : TrueEcho their_offer my_offer theirs mine header bytes)
     → Has (sends (record { tag = header; contents = cookie_echo bytes ∷ behind })) theirs → MaintainedIn core header echo.cookie
-    → Kept my_offer their_offer mine theirs (maintains core echo.cookie choices)
+    → Kept my_offer their_offer mine theirs (maintain_change core echo.cookie choices)
 maintains_kept my_offer their_offer mine theirs closed header bytes behind choices my_tags their_tags h echo delivered is = absurd is
 maintains_kept my_offer their_offer mine theirs (cookie_wait my) header bytes behind choices my_tags their_tags h echo delivered is = absurd is
 maintains_kept my_offer their_offer mine theirs (cookie_echoed my held echoed) header bytes behind choices my_tags their_tags h echo delivered is =
@@ -146,7 +146,7 @@ maintains_kept my_offer their_offer mine theirs (open_in phase my held) header b
 restarts_kept : (options : Options) (their_offer : Offer) (mine theirs : List Effect) (core : Core) (header : ℕ) (bytes : List ℕ) (behind : List Content) (choices : Choices)
     → TrueCore (offer_of options) their_offer mine theirs core → (echo : TrueEcho their_offer (offer_of options) theirs mine header bytes)
     → Has (sends (record { tag = header; contents = cookie_echo bytes ∷ behind })) theirs
-    → Kept (offer_of options) their_offer mine theirs (restarts options core echo.cookie choices)
+    → Kept (offer_of options) their_offer mine theirs (restart_change options core echo.cookie choices)
 restarts_kept options their_offer mine theirs closed header bytes behind choices h echo delivered = new_kept options their_offer mine theirs header bytes behind choices echo delivered
 restarts_kept options their_offer mine theirs (cookie_wait my) header bytes behind choices h echo delivered = new_kept options their_offer mine theirs header bytes behind choices echo delivered
 restarts_kept options their_offer mine theirs (cookie_echoed my held echoed) header bytes behind choices h echo delivered = new_kept options their_offer mine theirs header bytes behind choices echo delivered
@@ -160,7 +160,7 @@ restarts_kept options their_offer mine theirs (open_in shutdown_ack_sent my held
 resolved_kept : (options : Options) (their_offer : Offer) (mine theirs : List Effect) (core : Core) (header : ℕ) (bytes : List ℕ) (behind : List Content) (choices : Choices) (resolution : Resolution)
     → SameTag mine → SameTag theirs → TrueCore (offer_of options) their_offer mine theirs core → (echo : TrueEcho their_offer (offer_of options) theirs mine header bytes)
     → Has (sends (record { tag = header; contents = cookie_echo bytes ∷ behind })) theirs → (resolution ≡ maintain_existing → MaintainedIn core header echo.cookie)
-    → Kept (offer_of options) their_offer mine theirs (resolved options core echo.cookie choices resolution)
+    → Kept (offer_of options) their_offer mine theirs (resolved_change options core echo.cookie choices resolution)
 resolved_kept options their_offer mine theirs core header bytes behind choices establish_new my_tags their_tags h echo delivered is =
     new_kept options their_offer mine theirs header bytes behind choices echo delivered
 resolved_kept options their_offer mine theirs core header bytes behind choices restart my_tags their_tags h echo delivered is =
@@ -179,5 +179,5 @@ pub cookie_echo_kept : (options : Options) (their_offer : Offer) (mine theirs : 
     → Has (sends (record { tag = header; contents = cookie_echo bytes ∷ behind })) theirs
     → Kept (offer_of options) their_offer mine theirs (cookie_echo_change options core header bytes choices)
 cookie_echo_kept options their_offer mine theirs core header bytes behind choices my_tags their_tags h echo delivered =
-    subst (λ (r : Result Cookie (List ℕ)). Kept (offer_of options) their_offer mine theirs (echo_read options core header r choices)) (sym echo.reads)
+    subst (λ (r : Result Cookie (List ℕ)). Kept (offer_of options) their_offer mine theirs (read_echo_change options core header r choices)) (sym echo.reads)
     (resolved_kept options their_offer mine theirs core header bytes behind choices (resolve core choices.tie header echo.cookie) my_tags their_tags h echo delivered (maintained_in core choices.tie header echo.cookie))

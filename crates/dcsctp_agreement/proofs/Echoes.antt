@@ -2,7 +2,7 @@
 -- long as no other cookie is echoed.
 use Rattle.std.proofs.Common.{◌≡◌, ℕ, List, [], ◌∷◌, ◌++◌, inl, inr, sym, subst}
 use Rattle.dcsctp_machine.specs.Offer.{Offer}
-use Rattle.dcsctp_machine.specs.Packet.{Content, init, init_ack, cookie_echo, cookie_ack, re_config, abort, shutdown, shutdown_ack, shutdown_complete, other}
+use Rattle.dcsctp_machine.specs.Packet.{Content, init, init_ack, cookie_echo, cookie_ack, re_config, abort, shutdown, shutdown_ack, shutdown_complete, plain}
 use Rattle.dcsctp_machine.specs.Endpoint.{Core, closed, cookie_wait, cookie_echoed, open_in}
 use Rattle.dcsctp_machine.specs.control.Effect.{Effect, draws, sends, holds, connects, ends, begins, completes, fails, accepts, performs}
 use Rattle.dcsctp_machine.specs.World.{after_effects}
@@ -56,7 +56,7 @@ front_only echoed (abort reflected causes ∷ contents) h = tt
 front_only echoed (shutdown tsn ∷ contents) h = tt
 front_only echoed (shutdown_ack ∷ contents) h = tt
 front_only echoed (shutdown_complete reflected ∷ contents) h = tt
-front_only echoed (other chunk_type flags value ∷ contents) h = tt
+front_only echoed (plain chunk ∷ contents) h = tt
 
 effect_only : (echoed : List ℕ) (effect : Effect) → EchoFree effect → EchoesOnly echoed effect
 effect_only echoed (draws pair) h = tt
@@ -86,7 +86,7 @@ behind_is_free (abort reflected causes ∷ contents) h = tt
 behind_is_free (shutdown tsn ∷ contents) h = tt
 behind_is_free (shutdown_ack ∷ contents) h = tt
 behind_is_free (shutdown_complete reflected ∷ contents) h = tt
-behind_is_free (other chunk_type flags value ∷ contents) h = tt
+behind_is_free (plain chunk ∷ contents) h = tt
 
 -- ---- echoes so far
 

@@ -8,7 +8,7 @@ use Rattle.dcsctp_machine.specs.declared.association.Held.{Held}
 use Rattle.dcsctp_machine.specs.Offer.{Offer, negotiated}
 use Rattle.dcsctp_machine.specs.Cookie.{Cookie, cookie_at}
 use Rattle.dcsctp_machine.specs.Reconfiguration.{ResetParameter, outgoing_reset_request, incoming_reset_request, reconfiguration_response, other_reset_parameter}
-use Rattle.dcsctp_machine.specs.Packet.{Introduction, Content, init, init_ack, cookie_echo, cookie_ack, re_config, other}
+use Rattle.dcsctp_machine.specs.Packet.{Introduction, Content, init, init_ack, cookie_echo, cookie_ack, re_config, plain}
 use Rattle.dcsctp_machine.specs.Endpoint.{Core, closed, cookie_wait, cookie_echoed, open_in}
 use Rattle.dcsctp_machine.specs.control.Effect.{Link, Effect, draws, sends, holds, connects, completes, performs}
 use Rattle.dcsctp_machine.specs.Past.{Has}
@@ -106,7 +106,7 @@ Requests (parameter ∷ parameters) = ⊥
 
 -- Behind the first chunk stand those that speak of no association, and reset requests.
 abbrev pub Behind : Content → Type 0
-Behind (other chunk_type flags value) = Unit {0}
+Behind (plain chunk) = Unit {0}
 Behind (re_config parameters) = Requests parameters
 Behind content = ⊥
 

@@ -4,10 +4,10 @@ use Rattle.dcsctp_machine.specs.declared.association.Pair.{Pair}
 use Rattle.dcsctp_machine.specs.declared.association.Held.{Held}
 use Rattle.dcsctp_machine.specs.Offer.{Offer}
 use Rattle.dcsctp_machine.specs.Reconfiguration.{RequestedReset, ResetParameter, outgoing_reset_request, incoming_reset_request, reconfiguration_response, other_reset_parameter}
-use Rattle.dcsctp_machine.specs.Packet.{Content, init, init_ack, cookie_echo, cookie_ack, re_config, abort, shutdown, shutdown_ack, shutdown_complete, other}
+use Rattle.dcsctp_machine.specs.Packet.{Plain, Content, init, init_ack, cookie_echo, cookie_ack, re_config, abort, shutdown, shutdown_ack, shutdown_complete, plain}
 use Rattle.dcsctp_machine.specs.control.Effect.{Effect, begins, emitted, emitted_alone}
-use Rattle.dcsctp_machine.specs.control.Choices.{Plain, plain_contents, Filling}
-use Rattle.dcsctp_machine.specs.control.Flush.{reset_request, reset_to_begin, chunks_behind, further_packets, flushed_with, flush_where, flush}
+use Rattle.dcsctp_machine.specs.control.Choices.{plain_contents, Filling}
+use Rattle.dcsctp_machine.specs.control.FlushChanges.{reset_request, reset_to_begin, chunks_behind, further_packets, flushed_with, flush_where, flush}
 use Rattle.dcsctp_agreement.proofs.Facts.{TrueParameters, Requests, TrueFront, Behind, AllBehind, TrueContents, TrueEffects, PeerFacts}
 use Rattle.dcsctp_agreement.proofs.Growth.{one_more, effects-append, effects_grow}
 use Rattle.dcsctp_agreement.proofs.Echoes.{NoEchoFront, AllEchoFree, AllEchoOnly, free_append, free_is_only, behind_is_free}
@@ -31,7 +31,7 @@ behind_true my_offer their_offer mine theirs tag (abort reflected causes) h = tt
 behind_true my_offer their_offer mine theirs tag (shutdown tsn) h = tt
 behind_true my_offer their_offer mine theirs tag shutdown_ack h = tt
 behind_true my_offer their_offer mine theirs tag (shutdown_complete reflected) h = tt
-behind_true my_offer their_offer mine theirs tag (other chunk_type flags value) h = tt
+behind_true my_offer their_offer mine theirs tag (plain chunk) h = tt
 
 pub plain_behind : (chunks : List Plain) → AllBehind (plain_contents chunks)
 plain_behind [] = tt
@@ -61,7 +61,7 @@ no_echo_front (abort reflected causes ∷ contents) behind h k = tt
 no_echo_front (shutdown tsn ∷ contents) behind h k = tt
 no_echo_front (shutdown_ack ∷ contents) behind h k = tt
 no_echo_front (shutdown_complete reflected ∷ contents) behind h k = tt
-no_echo_front (other chunk_type flags value ∷ contents) behind h k = tt
+no_echo_front (plain chunk ∷ contents) behind h k = tt
 
 pub emitted_true : (my_offer their_offer : Offer) (mine theirs : List Effect) (tag : ℕ) (contents : List Content)
     → TrueContents my_offer their_offer mine theirs tag contents → TrueEffects my_offer their_offer mine theirs (emitted tag contents)

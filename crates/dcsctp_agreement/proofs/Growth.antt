@@ -6,7 +6,7 @@ use Rattle.dcsctp_machine.specs.declared.association.Pair.{Pair}
 use Rattle.dcsctp_machine.specs.declared.association.Held.{Held}
 use Rattle.dcsctp_machine.specs.Offer.{Offer}
 use Rattle.dcsctp_machine.specs.Reconfiguration.{ResetParameter, outgoing_reset_request, incoming_reset_request, reconfiguration_response, other_reset_parameter}
-use Rattle.dcsctp_machine.specs.Packet.{Content, init, init_ack, cookie_echo, cookie_ack, re_config, abort, shutdown, shutdown_ack, shutdown_complete, other}
+use Rattle.dcsctp_machine.specs.Packet.{Content, init, init_ack, cookie_echo, cookie_ack, re_config, abort, shutdown, shutdown_ack, shutdown_complete, plain}
 use Rattle.dcsctp_machine.specs.control.Effect.{Effect, draws, sends, holds, connects, ends, begins, completes, fails, accepts, performs}
 use Rattle.dcsctp_machine.specs.Past.{Has}
 use Rattle.dcsctp_machine.specs.World.{after_effects}
@@ -77,7 +77,7 @@ front_grows my_offer their_offer mine theirs mine' theirs' tag (abort reflected 
 front_grows my_offer their_offer mine theirs mine' theirs' tag (shutdown tsn) v w h = tt
 front_grows my_offer their_offer mine theirs mine' theirs' tag shutdown_ack v w h = tt
 front_grows my_offer their_offer mine theirs mine' theirs' tag (shutdown_complete reflected) v w h = tt
-front_grows my_offer their_offer mine theirs mine' theirs' tag (other chunk_type flags value) v w h = tt
+front_grows my_offer their_offer mine theirs mine' theirs' tag (plain chunk) v w h = tt
 
 contents_grow : (my_offer their_offer : Offer) (mine theirs mine' theirs' : List Effect) (tag : ℕ) (contents : List Content) → Within mine mine' → Within theirs theirs'
     → TrueContents my_offer their_offer mine theirs tag contents → TrueContents my_offer their_offer mine' theirs' tag contents

@@ -9,11 +9,11 @@ use Rattle.dcsctp_machine.specs.Laws.{AnswerKeepsAgreement}
 use Rattle.dcsctp_machine.specs.Cookie.{Cookie, cookie_at}
 use Rattle.dcsctp_machine.specs.Packet.{Introduction, Content, init, init_ack, cookie_echo}
 use Rattle.dcsctp_machine.specs.Endpoint.{Core, closed, cookie_wait, cookie_echoed, open_in, established, shutdown_pending, shutdown_sent, shutdown_received, shutdown_ack_sent, own_tag}
-use Rattle.dcsctp_machine.specs.Outcome.{next_chunk}
+use Rattle.dcsctp_machine.specs.Following.{next_chunk}
 use Rattle.dcsctp_machine.specs.control.Effect.{Effect, draws, sends, holds, link_of, emitted_alone}
 use Rattle.dcsctp_machine.specs.control.Choices.{Filling, Choices}
-use Rattle.dcsctp_machine.specs.control.Flush.{flush}
-use Rattle.dcsctp_machine.specs.control.Handshake.{introduction_of, answering_introduction, new_held, sends_init, connect_change, answering_pair, IsCookieOf, sends_init_ack, draws_and_answers, init_change, echoes, held_by_init_ack, init_ack_change, t1_again, t1_gives_up}
+use Rattle.dcsctp_machine.specs.control.FlushChanges.{flush}
+use Rattle.dcsctp_machine.specs.control.HandshakeChanges.{introduction_of, answering_introduction, new_held, sends_init, connect_change, answering_pair, IsCookieOf, sends_init_ack, drawn_answer_change, init_change, echo_change, held_by_init_ack, init_ack_change, t1_again_change, t1_gives_up_change}
 use Rattle.dcsctp_machine.specs.Past.{Has, HasFreshTags}
 use Rattle.dcsctp_machine.specs.World.{after_effects}
 use Rattle.dcsctp_agreement.proofs.Facts.{agreed_link, TrueInitAck, TrueEcho, TrueFront, TruePast, PeerFacts, NoEcho, OneEcho, EchoedCookie, TrueCore}
@@ -90,7 +90,7 @@ answer_kept law options their_offer mine theirs core introduction pair choices h
 draws_and_answers_kept : AnswerKeepsAgreement → (options : Options) (their_offer : Offer) (mine theirs : List Effect) (core : Core) (introduction : Introduction) (choices : Choices)
     → TrueCore (offer_of options) their_offer mine theirs core → Has (draws introduction.pair) theirs → introduction.offer ≡ their_offer
     → IsCookieOf introduction choices.drawn choices.cookie
-    → Kept (offer_of options) their_offer mine theirs (draws_and_answers options core introduction choices)
+    → Kept (offer_of options) their_offer mine theirs (drawn_answer_change options core introduction choices)
 draws_and_answers_kept law options their_offer mine theirs core introduction choices h theirs_drawn offer is =
     let content : Content = init_ack (answering_introduction options introduction choices.drawn) (Some choices.cookie) in
     stays_kept (offer_of options) their_offer mine theirs core (draws choices.drawn ∷ sends_init_ack options introduction choices.drawn choices) next_chunk h (
@@ -139,7 +139,7 @@ true_echo my_offer their_offer mine theirs my held bytes h echo =
 
 pub echoes_kept : (my_offer their_offer : Offer) (mine theirs : List Effect) (my : Pair) (held : Held) (bytes : List ℕ) (fits : Bool) (filling : Filling)
     → PeerFacts my_offer their_offer mine theirs my held → OneEcho my.tag bytes mine → EchoedCookie my_offer my held bytes
-    → Kept my_offer their_offer mine theirs (echoes my held bytes fits filling)
+    → Kept my_offer their_offer mine theirs (echo_change my held bytes fits filling)
 echoes_kept my_offer their_offer mine theirs my held bytes false filling h one echo = record { effects = tt; core = (h, one, echo) }
 echoes_kept my_offer their_offer mine theirs my held bytes true filling h one echo =
     let front : List Content = cookie_echo bytes ∷ [] in
@@ -182,7 +182,7 @@ init_ack_in_wait options their_offer mine theirs my introduction bytes choices h
     (inr drawn) (subst (λ (p : Pair). Has (draws p) theirs) ack.pair ack.maker) ack.announced shown in
     let echo : EchoedCookie (offer_of options) my held bytes = record { cookie = ack.cookie; reads = ack.reads; maker = ack.pair; addressee = my_pair; offer = ack.offer } in
     let one : OneEcho my.tag bytes (holds (link_of my held) ∷ mine) = one_echo_more my.tag bytes (holds (link_of my held)) mine tt (none_is_one my.tag bytes mine none) in
-    let echoed : Kept (offer_of options) their_offer (holds (link_of my held) ∷ mine) theirs (echoes my held bytes choices.fits choices.filling) =
+    let echoed : Kept (offer_of options) their_offer (holds (link_of my held) ∷ mine) theirs (echo_change my held bytes choices.fits choices.filling) =
     echoes_kept (offer_of options) their_offer (holds (link_of my held) ∷ mine) theirs my held bytes choices.fits choices.filling facts one echo in
     record { effects = (tt, echoed.effects); core = echoed.core }
 
@@ -201,7 +201,7 @@ init_ack_kept options their_offer mine theirs (open_in phase my held) introducti
 -- ---- T1
 
 pub t1_again_kept : (options : Options) (their_offer : Offer) (mine theirs : List Effect) (core : Core) (choices : Choices)
-    → TrueCore (offer_of options) their_offer mine theirs core → Kept (offer_of options) their_offer mine theirs (t1_again options core choices)
+    → TrueCore (offer_of options) their_offer mine theirs core → Kept (offer_of options) their_offer mine theirs (t1_again_change options core choices)
 t1_again_kept options their_offer mine theirs closed choices h = unchanged_kept (offer_of options) their_offer mine theirs closed h
 t1_again_kept options their_offer mine theirs (cookie_wait my) choices h =
     stays_kept (offer_of options) their_offer mine theirs (cookie_wait my) (sends_init options my choices.fits) next_chunk h
@@ -211,7 +211,7 @@ t1_again_kept options their_offer mine theirs (cookie_echoed my held bytes) choi
 t1_again_kept options their_offer mine theirs (open_in phase my held) choices h = unchanged_kept (offer_of options) their_offer mine theirs (open_in phase my held) h
 
 pub t1_gives_up_kept : (my_offer their_offer : Offer) (mine theirs : List Effect) (core : Core)
-    → TrueCore my_offer their_offer mine theirs core → Kept my_offer their_offer mine theirs (t1_gives_up core)
+    → TrueCore my_offer their_offer mine theirs core → Kept my_offer their_offer mine theirs (t1_gives_up_change core)
 t1_gives_up_kept my_offer their_offer mine theirs closed h = unchanged_kept my_offer their_offer mine theirs closed h
 t1_gives_up_kept my_offer their_offer mine theirs (cookie_wait my) h = ended_kept my_offer their_offer mine theirs [] tt
 t1_gives_up_kept my_offer their_offer mine theirs (cookie_echoed my held bytes) h = ended_kept my_offer their_offer mine theirs [] tt

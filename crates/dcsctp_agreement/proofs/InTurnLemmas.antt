@@ -7,11 +7,11 @@ use Rattle.dcsctp_machine.specs.Offer.{offer_of}
 use Rattle.dcsctp_machine.specs.Laws.{AnswerKeepsAgreement}
 use Rattle.dcsctp_machine.specs.Cookie.{Cookie}
 use Rattle.dcsctp_machine.specs.Endpoint.{closed, open_in, established}
-use Rattle.dcsctp_machine.specs.turns.Handshake.{cookie_for}
+use Rattle.dcsctp_machine.specs.turns.HandshakeOutcomes.{cookie_for}
 use Rattle.dcsctp_machine.specs.control.Effect.{Change}
-use Rattle.dcsctp_machine.specs.control.Handshake.{introduction_of, new_held, IsCookieOf}
+use Rattle.dcsctp_machine.specs.control.HandshakeChanges.{introduction_of, new_held, IsCookieOf}
 use Rattle.dcsctp_machine.specs.control.Acts.{connect}
-use Rattle.dcsctp_machine.specs.control.CookieEcho.{case_without_peer, resolved, echo_read, new_association}
+use Rattle.dcsctp_machine.specs.control.CookieEchoChanges.{case_without_peer, resolved_change, read_echo_change, new_association_change}
 use Rattle.dcsctp_machine.specs.World.{own_tag_borne, echo_in_front, init_alone, worked_whole, does, at_a, at_b, Step, world_after, Run}
 use Rattle.dcsctp_agreement.specs.InTurn.{Handshake, choices_for, CookieReads, connecting, init_worked, init_ack_worked, cookie_echo_worked, delivered, Connected, HandshakeConnects, sent_first, works}
 
@@ -24,10 +24,10 @@ made options_a handshake = cookie_for (introduction_of options_a handshake.a) ha
 
 -- COOKIE ECHO makes the association
 establishes : (options_a options_b : Options) (handshake : Handshake) → CookieReads options_a handshake
-    → cookie_echo_worked options_a options_b handshake ≡ new_association options_b (made options_a handshake) (choices_for handshake handshake.b)
+    → cookie_echo_worked options_a options_b handshake ≡ new_association_change options_b (made options_a handshake) (choices_for handshake handshake.b)
 establishes options_a options_b handshake reads =
-    ap (λ (r : Result Cookie (List ℕ)). echo_read options_b closed handshake.b.tag r (choices_for handshake handshake.b)) reads
-    ∙ ap (λ (b : Bool). resolved options_b closed (made options_a handshake) (choices_for handshake handshake.b) (case_without_peer b)) (same_number handshake.b.tag)
+    ap (λ (r : Result Cookie (List ℕ)). read_echo_change options_b closed handshake.b.tag r (choices_for handshake handshake.b)) reads
+    ∙ ap (λ (b : Bool). resolved_change options_b closed (made options_a handshake) (choices_for handshake handshake.b) (case_without_peer b)) (same_number handshake.b.tag)
 
 -- the steps, by what the COOKIE ECHO brings
 abbrev steps_from : Options → Options → Handshake → Change → List Step
@@ -48,7 +48,7 @@ is_cookie : (options_a : Options) (handshake : Handshake) → CookieReads option
 is_cookie options_a handshake reads = (made options_a handshake, reads, refl, refl, refl)
 
 leads : AnswerKeepsAgreement → (options_a options_b : Options) (handshake : Handshake) → CookieReads options_a handshake
-    → Leads options_a options_b handshake (new_association options_b (made options_a handshake) (choices_for handshake handshake.b))
+    → Leads options_a options_b handshake (new_association_change options_b (made options_a handshake) (choices_for handshake handshake.b))
 leads law options_a options_b handshake reads =
     record {
       run = (

@@ -2,13 +2,13 @@
 use Rattle.std.proofs.Common.{◌≡◌, ℕ, Bool, true, false, Option, None, Some, List, [], ◌∷◌, ◌++◌, ◌⊎◌, inl, inr, refl, sym, subst, ◌∙◌}
 use Rattle.dcsctp_machine.specs.declared.association.Pair.{Pair}
 use Rattle.dcsctp_machine.specs.declared.association.Held.{Held}
-use Rattle.dcsctp_machine.specs.Packet.{Content}
+use Rattle.dcsctp_machine.specs.Packet.{Plain, Content}
 use Rattle.dcsctp_machine.specs.Reconfiguration.{RequestedReset}
 use Rattle.dcsctp_machine.specs.Endpoint.{Core, closed, open_in, established}
-use Rattle.dcsctp_machine.specs.Outcome.{Following}
+use Rattle.dcsctp_machine.specs.Following.{Following}
 use Rattle.dcsctp_machine.specs.control.Effect.{Link, Effect, draws, holds, connects, ends, begins, completes, performs, Change, emitted, emitted_alone, link_of, link_in}
-use Rattle.dcsctp_machine.specs.control.Choices.{Plain, plain_contents, Filling, Choices}
-use Rattle.dcsctp_machine.specs.control.Flush.{reset_to_begin, further_packets, chunks_behind, flushed_with, flush_where, flush}
+use Rattle.dcsctp_machine.specs.control.Choices.{plain_contents, Filling, Choices}
+use Rattle.dcsctp_machine.specs.control.FlushChanges.{reset_to_begin, further_packets, chunks_behind, flushed_with, flush_where, flush}
 use Rattle.dcsctp_machine.specs.control.Acts.{sent_by}
 use Rattle.dcsctp_machine.specs.Past.{Has}
 use Rattle.dcsctp_agreement.specs.OneSide.{IsEstablished, outstanding_in, MayDraw, Means}

@@ -9,8 +9,8 @@ use Rattle.dcsctp_machine.specs.Packet.{re_config}
 use Rattle.dcsctp_machine.specs.Endpoint.{Core}
 use Rattle.dcsctp_machine.specs.control.Effect.{Link, link_of, link_in}
 use Rattle.dcsctp_machine.specs.control.Choices.{Choices}
-use Rattle.dcsctp_machine.specs.control.Flush.{flush}
-use Rattle.dcsctp_machine.specs.control.Resets.{Place, again, next, astray, place_of, Answered, worked, repeated, outgoing_by, incoming_by, Informed, informed_where, is_outstanding, Worked, work_parameters, work_chunk, answers_emitted, reset_sent, reset_worked}
+use Rattle.dcsctp_machine.specs.control.FlushChanges.{flush}
+use Rattle.dcsctp_machine.specs.control.ResetChanges.{Place, again, next, astray, place_of, Answered, worked, repeated, outgoing_by, incoming_by, Informed, informed_where, is_outstanding, WorkedParameters, work_parameters, work_chunk, answers_emitted, reset_sent, reset_worked}
 use Rattle.dcsctp_agreement.specs.OneSide.{outstanding_in}
 use Rattle.dcsctp_agreement.proofs.Meaning.{AllSay, all_say-append, alone_says, flush_link, flush_says}
 
@@ -64,7 +64,7 @@ module _ (my : Pair) where
 
   pub reset_link : (held : Held) (parameters : List ResetParameter) (choices : Choices) → link_of my (reset_worked my held parameters choices).held ≡ link_of my held
   reset_link held parameters choices =
-      let first : Worked = work_chunk my choices.is_reached held parameters in
+      let first : WorkedParameters = work_chunk my choices.is_reached held parameters in
       sent_link first.is_refused first.held first.answers choices ∙ chunk_link choices.is_reached held parameters
 
 -- ---- the effects
@@ -143,7 +143,7 @@ module _ (core : Core) (my : Pair) where
       → outstanding_in core ≡ (reset_worked my held parameters choices).held.own_outstanding
       → AllSay core (reset_worked my held parameters choices).effects
   reset_says held parameters choices h e =
-      let first : Worked = work_chunk my choices.is_reached held parameters in
+      let first : WorkedParameters = work_chunk my choices.is_reached held parameters in
       all_say-append core first.effects (reset_sent first.is_refused first.held first.answers choices).effects
       (chunk_says choices.is_reached held parameters
       (holds_same (reset_worked my held parameters choices).held held h (sym (reset_link my held parameters choices))))

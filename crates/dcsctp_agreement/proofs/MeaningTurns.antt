@@ -7,17 +7,17 @@ use Rattle.dcsctp_wire.specs.Numbers.{state_cookie_type}
 use Rattle.dcsctp_machine.specs.Cookie.{Cookie, cookie_at}
 use Rattle.dcsctp_machine.specs.Cause.{missing_mandatory_parameter}
 use Rattle.dcsctp_machine.specs.Reconfiguration.{ResetParameter, RequestedReset}
-use Rattle.dcsctp_machine.specs.Packet.{Introduction, Content, init, init_ack, cookie_echo, cookie_ack, re_config, abort, shutdown, shutdown_ack, shutdown_complete, other}
+use Rattle.dcsctp_machine.specs.Packet.{Introduction, Content, init, init_ack, cookie_echo, cookie_ack, re_config, abort, shutdown, shutdown_ack, shutdown_complete, plain}
 use Rattle.dcsctp_machine.specs.Endpoint.{Core, closed, cookie_wait, cookie_echoed, open_in, OpenPhase, established, shutdown_ack_sent}
-use Rattle.dcsctp_machine.specs.Outcome.{next_chunk}
+use Rattle.dcsctp_machine.specs.Following.{next_chunk}
 use Rattle.dcsctp_machine.specs.control.Effect.{Link, holds, connects, Change, link_of, link_in}
 use Rattle.dcsctp_machine.specs.control.Choices.{Filling, Choices}
-use Rattle.dcsctp_machine.specs.control.Flush.{reset_request, Flushed, flush}
-use Rattle.dcsctp_machine.specs.control.Handshake.{introduction_of, connect_change, init_change, echoes, held_by_init_ack, init_ack_change, cookie_ack_change, t1_again, t1_gives_up}
-use Rattle.dcsctp_machine.specs.control.CookieEcho.{Resolution, establish_new, restart, simultaneous_init, discard, maintain_existing, invalid_tag, resolve, held_by_cookie, new_association, restarts, maintains, resolved, echo_read}
-use Rattle.dcsctp_machine.specs.control.Resets.{re_config_change, reset_worked}
-use Rattle.dcsctp_machine.specs.control.Shutdown.{shutdown_step}
-use Rattle.dcsctp_machine.specs.control.Acts.{Act, connect, t1_expires, shut_down, step_of_shutdown, shutdown_repeats, abort_with, hands_over, flushes, request_again, sent_by, flush_change, request_sent, request_again_change, act_change, violation_change, other_change, chunk_change}
+use Rattle.dcsctp_machine.specs.control.FlushChanges.{reset_request, Flushed, flush}
+use Rattle.dcsctp_machine.specs.control.HandshakeChanges.{introduction_of, connect_change, init_change, echo_change, held_by_init_ack, init_ack_change, cookie_ack_change, t1_again_change, t1_gives_up_change}
+use Rattle.dcsctp_machine.specs.control.CookieEchoChanges.{Resolution, establish_new, restart, simultaneous_init, discard, maintain_existing, invalid_tag, resolve, held_by_cookie, new_association_change, restart_change, maintain_change, resolved_change, read_echo_change}
+use Rattle.dcsctp_machine.specs.control.ResetChanges.{re_config_change, reset_worked}
+use Rattle.dcsctp_machine.specs.control.ShutdownChanges.{shutdown_step_change}
+use Rattle.dcsctp_machine.specs.control.Acts.{Act, connect, t1_expires, shut_down, step_of_shutdown, shutdown_repeats, abort_with, hands_over, flushes, request_again, sent_by, flush_change, request_sent, request_again_change, act_change, violation_change, plain_change, chunk_change}
 use Rattle.dcsctp_machine.specs.World.{acted, worked}
 use Rattle.dcsctp_agreement.specs.OneSide.{EffectsMean}
 use Rattle.dcsctp_agreement.proofs.Meaning.{AllSay, all_say-append, Meant, means_by, same_meant, drawn_meant, ended_meant, alone_says, end_says-alone, flush_link, flush_says, sent_says, connects_says}
@@ -53,12 +53,12 @@ init_meant options (open_in shutdown_ack_sent my held) theirs choices = same_mea
 init_meant options closed theirs choices = drawn_meant tt refl (alone_says closed choices.fits _ _)
 init_meant options (open_in phase my held) theirs choices = drawn_meant tt refl (alone_says (open_in phase my held) choices.fits _ _)
 
-echoes_link : (my : Pair) (held : Held) (cookie : List ℕ) (fits : Bool) (filling : Filling) → link_in (echoes my held cookie fits filling).core ≡ Some (link_of my held)
+echoes_link : (my : Pair) (held : Held) (cookie : List ℕ) (fits : Bool) (filling : Filling) → link_in (echo_change my held cookie fits filling).core ≡ Some (link_of my held)
 echoes_link my held cookie false filling = refl
 echoes_link my held cookie true filling = some_link (flush_link my held.peer.tag held (cookie_echo cookie ∷ []) filling)
 
 echoes_say : (my : Pair) (held : Held) (cookie : List ℕ) (fits : Bool) (filling : Filling)
-    → AllSay (echoes my held cookie fits filling).core (echoes my held cookie fits filling).effects
+    → AllSay (echo_change my held cookie fits filling).core (echo_change my held cookie fits filling).effects
 echoes_say my held cookie false filling = tt
 echoes_say my held cookie true filling =
     let after : Flushed = flush held.peer.tag held (cookie_echo cookie ∷ []) filling in
@@ -69,7 +69,7 @@ init_ack_meant options (cookie_wait my) theirs None choices =
     ended_meant (end_says-alone choices.fits theirs.pair.tag (abort false (missing_mandatory_parameter (state_cookie_type ∷ []) ∷ [])))
 init_ack_meant options (cookie_wait my) theirs (Some cookie) choices =
     let held : Held = held_by_init_ack options my theirs in
-    shown_meant (cookie_wait my) my held (echoes my held cookie choices.fits choices.filling) (echoes_link my held cookie choices.fits choices.filling)
+    shown_meant (cookie_wait my) my held (echo_change my held cookie choices.fits choices.filling) (echoes_link my held cookie choices.fits choices.filling)
     (echoes_say my held cookie choices.fits choices.filling)
 init_ack_meant options core theirs cookie choices = same_meant refl tt
 
@@ -78,20 +78,20 @@ cookie_ack_meant (cookie_echoed my held cookie) choices =
     same_meant (some_link (flush_link my held.peer.tag held [] choices.filling)) (connects_says my held.peer.tag held [] choices.filling)
 cookie_ack_meant core choices = same_meant refl tt
 
-t1_again_meant : (options : Options) (core : Core) (choices : Choices) → Meant core (t1_again options core choices)
+t1_again_meant : (options : Options) (core : Core) (choices : Choices) → Meant core (t1_again_change options core choices)
 t1_again_meant options (cookie_wait my) choices = same_meant refl (alone_says (cookie_wait my) choices.fits 0 (init (introduction_of options my)))
 t1_again_meant options (cookie_echoed my held cookie) choices =
     same_meant (echoes_link my held cookie choices.fits choices.filling) (echoes_say my held cookie choices.fits choices.filling)
 t1_again_meant options core choices = same_meant refl tt
 
-t1_gives_up_meant : (core : Core) → Meant core (t1_gives_up core)
+t1_gives_up_meant : (core : Core) → Meant core (t1_gives_up_change core)
 t1_gives_up_meant (cookie_wait my) = ended_meant (refl, tt)
 t1_gives_up_meant (cookie_echoed my held cookie) = ended_meant (refl, tt)
 t1_gives_up_meant core = same_meant refl tt
 
 -- ---- COOKIE ECHO
 
-new_meant : (options : Options) (core : Core) (cookie : Cookie) (choices : Choices) → Meant core (new_association options cookie choices)
+new_meant : (options : Options) (core : Core) (cookie : Cookie) (choices : Choices) → Meant core (new_association_change options cookie choices)
 new_meant options core cookie choices =
     let my : Pair = cookie.maker in
     let tag : ℕ = cookie.addressee.tag in
@@ -102,17 +102,17 @@ new_meant options core cookie choices =
     (some_link (flush_link my tag held (cookie_ack ∷ []) choices.filling))
     (connects_says my tag held (cookie_ack ∷ []) choices.filling)
 
-restarts_meant : (options : Options) (core : Core) (cookie : Cookie) (choices : Choices) → Meant core (restarts options core cookie choices)
+restarts_meant : (options : Options) (core : Core) (cookie : Cookie) (choices : Choices) → Meant core (restart_change options core cookie choices)
 restarts_meant options (open_in shutdown_ack_sent my held) cookie choices = same_meant refl (tt, tt)
 restarts_meant options core cookie choices = new_meant options core cookie choices
 
-maintains_meant : (core : Core) (cookie : Cookie) (choices : Choices) → Meant core (maintains core cookie choices)
+maintains_meant : (core : Core) (cookie : Cookie) (choices : Choices) → Meant core (maintain_change core cookie choices)
 maintains_meant (cookie_echoed my held echoed) cookie choices =
     same_meant (some_link (flush_link my cookie.addressee.tag held (cookie_ack ∷ []) choices.filling)) (connects_says my cookie.addressee.tag held (cookie_ack ∷ []) choices.filling)
 maintains_meant (open_in phase my held) cookie choices = flushed_open_meant phase my cookie.addressee.tag held (cookie_ack ∷ []) choices.filling
 maintains_meant core cookie choices = same_meant refl tt
 
-resolved_meant : (options : Options) (core : Core) (cookie : Cookie) (choices : Choices) (resolution : Resolution) → Meant core (resolved options core cookie choices resolution)
+resolved_meant : (options : Options) (core : Core) (cookie : Cookie) (choices : Choices) (resolution : Resolution) → Meant core (resolved_change options core cookie choices resolution)
 resolved_meant options core cookie choices establish_new = new_meant options core cookie choices
 resolved_meant options core cookie choices restart = restarts_meant options core cookie choices
 resolved_meant options core cookie choices simultaneous_init = new_meant options core cookie choices
@@ -120,7 +120,7 @@ resolved_meant options core cookie choices discard = same_meant refl tt
 resolved_meant options core cookie choices maintain_existing = maintains_meant core cookie choices
 resolved_meant options core cookie choices invalid_tag = same_meant refl tt
 
-echo_meant : (options : Options) (core : Core) (header : ℕ) (read : Result Cookie (List ℕ)) (choices : Choices) → Meant core (echo_read options core header read choices)
+echo_meant : (options : Options) (core : Core) (header : ℕ) (read : Result Cookie (List ℕ)) (choices : Choices) → Meant core (read_echo_change options core header read choices)
 echo_meant options core header (Err text) choices = same_meant refl tt
 echo_meant options core header (Ok cookie) choices = resolved_meant options core cookie choices (resolve core choices.tie header cookie)
 
@@ -176,10 +176,10 @@ violation_meant (cookie_echoed my held cookie) choices = aborts_meant (cookie_ec
 violation_meant (open_in phase my held) choices = aborts_meant (open_in phase my held) choices.causes choices.fits
 violation_meant core choices = same_meant refl tt
 
-other_meant : (core : Core) (is_violation : Bool) (choices : Choices) → Meant core (other_change core is_violation choices)
+other_meant : (core : Core) (is_violation : Bool) (choices : Choices) → Meant core (plain_change core is_violation choices)
 other_meant core true choices = violation_meant core choices
 other_meant core false choices =
-    let stepped : Change = shutdown_step core choices.tsn choices.is_acknowledged in
+    let stepped : Change = shutdown_step_change core choices.tsn choices.is_acknowledged in
     let after : Change = flush_change stepped.core choices in
     same_meant (flush_change_link stepped.core choices ∙ step_link core choices.tsn choices.is_acknowledged)
     (all_say-append after.core stepped.effects after.effects (step_says after.core core choices.tsn choices.is_acknowledged) (flush_change_says stepped.core choices))
@@ -194,7 +194,7 @@ chunk_meant options core header (abort reflected causes) choices = abort_meant c
 chunk_meant options core header (shutdown cumulative_tsn) choices = shutdown_meant core choices.tsn choices.is_acknowledged
 chunk_meant options core header shutdown_ack choices = shutdown_ack_meant core header
 chunk_meant options core header (shutdown_complete reflected) choices = shutdown_complete_meant core
-chunk_meant options core header (other chunk_type flags value) choices = other_meant core choices.is_violation choices
+chunk_meant options core header (plain chunk) choices = other_meant core choices.is_violation choices
 
 pub effects_mean : EffectsMean
 effects_mean options core change (acted act choices is) = means_by core change (subst (Meant core) (sym is) (act_meant options core act choices))

@@ -3,15 +3,15 @@ use Rattle.std.proofs.Common.{◌≡◌, ℕ, Bool, true, false, List, [], ◌�
 use Rattle.dcsctp_machine.specs.declared.options.Options.{Options}
 use Rattle.dcsctp_machine.specs.Offer.{Offer, offer_of}
 use Rattle.dcsctp_machine.specs.Laws.{AnswerKeepsAgreement}
-use Rattle.dcsctp_machine.specs.Packet.{Content, init, init_ack, cookie_echo, cookie_ack, re_config, abort, shutdown, shutdown_ack, shutdown_complete, other, Packet}
+use Rattle.dcsctp_machine.specs.Packet.{Content, init, init_ack, cookie_echo, cookie_ack, re_config, abort, shutdown, shutdown_ack, shutdown_complete, plain, Packet}
 use Rattle.dcsctp_machine.specs.Endpoint.{Core, own_tag, closed, cookie_wait, cookie_echoed, open_in}
 use Rattle.dcsctp_machine.specs.control.Effect.{Effect, sends, Change}
 use Rattle.dcsctp_machine.specs.control.Choices.{Choices}
-use Rattle.dcsctp_machine.specs.control.Acts.{MakesCookie, act_change, chunk_change, flush_change, other_change, violation_change}
+use Rattle.dcsctp_machine.specs.control.Acts.{MakesCookie, act_change, chunk_change, flush_change, plain_change, violation_change}
 use Rattle.dcsctp_machine.specs.Admission.{shutdown_acks_in}
-use Rattle.dcsctp_machine.specs.control.Shutdown.{shutdown_step}
+use Rattle.dcsctp_machine.specs.control.ShutdownChanges.{shutdown_step_change}
 use Rattle.dcsctp_machine.specs.Past.{Has, HasFreshTags}
-use Rattle.dcsctp_machine.specs.World.{after_effects, SideState, after_change, after_changes, HasEnding, MayBeWorked, own_tag_borne, echo_in_front, init_alone, ending_in, ChunkChanges, PacketTurns, worked_whole, worked_acks, Move, does, receives, MoveTurns}
+use Rattle.dcsctp_machine.specs.World.{after_effects, SideState, after_change, after_changes, HasEnding, MayBeWorked, own_tag_borne, echo_in_front, init_alone, ending_in, ChunkChanges, PacketChanges, worked_whole, worked_acks, Move, does, receives, MoveChanges}
 use Rattle.dcsctp_agreement.proofs.Facts.{TrueFront, Behind, AllBehind, TrueContents, TruePast, TrueCore}
 use Rattle.dcsctp_agreement.proofs.Growth.{after_within, past_after, past_grows, true_of}
 use Rattle.dcsctp_agreement.proofs.Echoes.{core_grows}
@@ -34,9 +34,9 @@ violation_kept my_offer their_offer mine theirs (cookie_echoed my held bytes) ch
 violation_kept my_offer their_offer mine theirs (open_in phase my held) choices h = aborts_kept my_offer their_offer mine theirs (open_in phase my held) choices.causes choices.fits h
 
 other_kept : (my_offer their_offer : Offer) (mine theirs : List Effect) (core : Core) (is_violation : Bool) (choices : Choices)
-    → TrueCore my_offer their_offer mine theirs core → Kept my_offer their_offer mine theirs (other_change core is_violation choices)
+    → TrueCore my_offer their_offer mine theirs core → Kept my_offer their_offer mine theirs (plain_change core is_violation choices)
 other_kept my_offer their_offer mine theirs core false choices h =
-    let stepped : Change = shutdown_step core choices.tsn choices.is_acknowledged in
+    let stepped : Change = shutdown_step_change core choices.tsn choices.is_acknowledged in
     let first : Kept my_offer their_offer mine theirs stepped = step_kept my_offer their_offer mine theirs core choices.tsn choices.is_acknowledged h in
     then_kept my_offer their_offer mine theirs stepped (flush_change stepped.core choices) choices.following first
     (flush_kept my_offer their_offer (after_effects stepped.effects mine) theirs stepped.core choices first.core)
@@ -61,8 +61,8 @@ none_ending (abort reflected causes ∷ contents) h k = h.0
 none_ending (shutdown tsn ∷ contents) h k = h.0
 none_ending (shutdown_ack ∷ contents) h k = h.0
 none_ending (shutdown_complete reflected ∷ contents) h k = h.0
-none_ending (other chunk_type flags value ∷ contents) h (inl k) = k
-none_ending (other chunk_type flags value ∷ contents) h (inr k) = none_ending contents h.1 k
+none_ending (plain chunk ∷ contents) h (inl k) = k
+none_ending (plain chunk ∷ contents) h (inr k) = none_ending contents h.1 k
 
 own_tagged : (core : Core) (header : ℕ) (content : Content) (behind : List Content) → AllBehind behind
     → MayBeWorked core (record { tag = header; contents = content ∷ behind }) → OwnTagged core header content
@@ -87,7 +87,7 @@ own_tagged core header (abort reflected causes) behind h k = tt
 own_tagged core header (shutdown tsn) behind h k = tt
 own_tagged core header shutdown_ack behind h k = tt
 own_tagged core header (shutdown_complete reflected) behind h k = tt
-own_tagged core header (other chunk_type flags value) behind h k = tt
+own_tagged core header (plain chunk) behind h k = tt
 
 front_kept : AnswerKeepsAgreement → (options : Options) (their_offer : Offer) (mine theirs : List Effect) (core : Core) (header : ℕ) (content : Content) (behind : List Content) (choices : Choices)
     → SameTag mine → SameTag theirs → TrueCore (offer_of options) their_offer mine theirs core
@@ -112,7 +112,7 @@ front_kept law options their_offer mine theirs core header shutdown_ack behind c
     ack_kept (offer_of options) their_offer mine theirs core header h
 front_kept law options their_offer mine theirs core header (shutdown_complete reflected) behind choices my_tags their_tags h delivered is own makes =
     complete_kept (offer_of options) their_offer mine theirs core h
-front_kept law options their_offer mine theirs core header (other chunk_type flags value) behind choices my_tags their_tags h delivered is own makes =
+front_kept law options their_offer mine theirs core header (plain chunk) behind choices my_tags their_tags h delivered is own makes =
     other_kept (offer_of options) their_offer mine theirs core choices.is_violation choices h
 
 -- ---- the chunks behind it
@@ -130,7 +130,7 @@ behind_kept options their_offer mine theirs core header (abort reflected causes)
 behind_kept options their_offer mine theirs core header (shutdown tsn) choices tags h is = absurd is
 behind_kept options their_offer mine theirs core header shutdown_ack choices tags h is = absurd is
 behind_kept options their_offer mine theirs core header (shutdown_complete reflected) choices tags h is = absurd is
-behind_kept options their_offer mine theirs core header (other chunk_type flags value) choices tags h is =
+behind_kept options their_offer mine theirs core header (plain chunk) choices tags h is =
     other_kept (offer_of options) their_offer mine theirs core choices.is_violation choices h
 
 -- ---- a side after its moves
@@ -191,12 +191,12 @@ acks_true_after their_offer side theirs header (re_config parameters ∷ content
 acks_true_after their_offer side theirs header (abort reflected causes ∷ contents) changes h turns = acks_true_after their_offer side theirs header contents changes h turns
 acks_true_after their_offer side theirs header (shutdown tsn ∷ contents) changes h turns = acks_true_after their_offer side theirs header contents changes h turns
 acks_true_after their_offer side theirs header (shutdown_complete reflected ∷ contents) changes h turns = acks_true_after their_offer side theirs header contents changes h turns
-acks_true_after their_offer side theirs header (other chunk_type flags value ∷ contents) changes h turns = acks_true_after their_offer side theirs header contents changes h turns
+acks_true_after their_offer side theirs header (plain chunk ∷ contents) changes h turns = acks_true_after their_offer side theirs header contents changes h turns
 
 packet_turns_true : AnswerKeepsAgreement → (their_offer : Offer) (side : SideState) (theirs : List Effect) (packet : Packet) (changes : List Change)
     → TrueSide their_offer side theirs → HasFreshTags (after_changes side changes).past → SameTag theirs
     → Has (sends packet) theirs → TrueContents their_offer (offer_of side.options) theirs side.past packet.tag packet.contents
-    → PacketTurns side.options side.core packet changes → TrueSide their_offer (after_changes side changes) theirs
+    → PacketChanges side.options side.core packet changes → TrueSide their_offer (after_changes side changes) theirs
 packet_turns_true law their_offer side theirs packet changes h fresh tags delivered is (worked_whole may turns) =
     packet_true_after law their_offer side theirs packet.tag packet.contents changes h fresh tags delivered is may turns
 packet_turns_true law their_offer side theirs packet changes h fresh tags delivered is (worked_acks turns) =
@@ -204,7 +204,7 @@ packet_turns_true law their_offer side theirs packet changes h fresh tags delive
 
 pub move_true_after : AnswerKeepsAgreement → (their_offer : Offer) (side : SideState) (theirs : List Effect) (move : Move) (changes : List Change)
     → TrueSide their_offer side theirs → TruePast their_offer (offer_of side.options) theirs side.past
-    → HasFreshTags (after_changes side changes).past → HasFreshTags theirs → MoveTurns side theirs move changes
+    → HasFreshTags (after_changes side changes).past → HasFreshTags theirs → MoveChanges side theirs move changes
     → TrueSide their_offer (after_changes side changes) theirs
 move_true_after law their_offer side theirs (does act) changes h their_past fresh their_fresh turns =
     let change : Change = act_change side.options side.core act turns.0 in

@@ -10,8 +10,8 @@ use Rattle.dcsctp_machine.specs.Packet.{Introduction, Content, init, cookie_echo
 use Rattle.dcsctp_machine.specs.Endpoint.{Core, closed, cookie_wait, cookie_echoed, open_in, OpenPhase, established, shutdown_ack_sent}
 use Rattle.dcsctp_machine.specs.control.Effect.{Link, Effect, draws, sends, holds, connects, ends, Change, emitted, emitted_alone, link_of}
 use Rattle.dcsctp_machine.specs.control.Choices.{Filling, Choices}
-use Rattle.dcsctp_machine.specs.control.Handshake.{introduction_of, connect_change, init_change, echoes, held_by_init_ack, init_ack_change, cookie_ack_change, t1_again, t1_gives_up}
-use Rattle.dcsctp_machine.specs.control.CookieEcho.{Resolution, establish_new, restart, simultaneous_init, discard, maintain_existing, invalid_tag, resolve, held_by_cookie, new_association, restarts, maintains, resolved, echo_read}
+use Rattle.dcsctp_machine.specs.control.HandshakeChanges.{introduction_of, connect_change, init_change, echo_change, held_by_init_ack, init_ack_change, cookie_ack_change, t1_again_change, t1_gives_up_change}
+use Rattle.dcsctp_machine.specs.control.CookieEchoChanges.{Resolution, establish_new, restart, simultaneous_init, discard, maintain_existing, invalid_tag, resolve, held_by_cookie, new_association_change, restart_change, maintain_change, resolved_change, read_echo_change}
 use Rattle.dcsctp_machine.specs.Past.{Each, InPlace, current}
 use Rattle.dcsctp_machine.specs.World.{after_effects}
 use Rattle.dcsctp_agreement.proofs.OneSideLemmas.{Stands, stands-sends, stands-draws, stands-connects, stands-new, flush_leads}
@@ -93,7 +93,7 @@ init_keeps options (cookie_echoed my held cookie) theirs choices past good = goo
 init_keeps options (open_in shutdown_ack_sent my held) theirs choices past good = good-sends (open_in shutdown_ack_sent my held) _ past good
 init_keeps options core theirs choices past good = good-emitted_alone core choices.fits _ _ _ (good-draws core choices.drawn past good)
 
-echoes_keeps : (my : Pair) (held : Held) (cookie : List ℕ) (fits : Bool) (filling : Filling) → Keeps (cookie_echoed my held cookie) (echoes my held cookie fits filling)
+echoes_keeps : (my : Pair) (held : Held) (cookie : List ℕ) (fits : Bool) (filling : Filling) → Keeps (cookie_echoed my held cookie) (echo_change my held cookie fits filling)
 echoes_keeps my held cookie false filling past good = good
 echoes_keeps my held cookie true filling past good =
     stands_echoed cookie (flush_leads (link_of my held) (Some (link_of my held)) held.peer.tag held (cookie_echo cookie ∷ []) filling past good)
@@ -111,12 +111,12 @@ cookie_ack_keeps (cookie_echoed my held cookie) choices past good =
     stands_open established (flush_leads (link_of my held) None held.peer.tag held [] choices.filling (connects (link_of my held) ∷ past) (stands-connects good))
 cookie_ack_keeps core choices past good = good
 
-pub t1_again_keeps : (options : Options) (core : Core) (choices : Choices) → Keeps core (t1_again options core choices)
+pub t1_again_keeps : (options : Options) (core : Core) (choices : Choices) → Keeps core (t1_again_change options core choices)
 t1_again_keeps options (cookie_wait my) choices past good = good-emitted_alone (cookie_wait my) choices.fits 0 (init (introduction_of options my)) past good
 t1_again_keeps options (cookie_echoed my held cookie) choices past good = echoes_keeps my held cookie choices.fits choices.filling past good
 t1_again_keeps options core choices past good = good
 
-pub t1_gives_up_keeps : (core : Core) → Keeps core (t1_gives_up core)
+pub t1_gives_up_keeps : (core : Core) → Keeps core (t1_gives_up_change core)
 t1_gives_up_keeps (cookie_wait my) past good = good-ends (cookie_wait my) past good
 t1_gives_up_keeps (cookie_echoed my held cookie) past good = good-ends (cookie_echoed my held cookie) past good
 t1_gives_up_keeps core past good = good
@@ -124,25 +124,25 @@ t1_gives_up_keeps core past good = good
 -- ---- COOKIE ECHO
 
 new_keeps : (options : Options) (cookie : Cookie) (choices : Choices) (past : List Effect) → Each InPlace past
-    → Good (new_association options cookie choices).core (after_effects (new_association options cookie choices).effects past)
+    → Good (new_association_change options cookie choices).core (after_effects (new_association_change options cookie choices).effects past)
 new_keeps options cookie choices past in_place =
     let held : Held = held_by_cookie options cookie in
     let link : Link = link_of cookie.maker held in
     stands_open established (flush_leads link None cookie.addressee.tag held (cookie_ack ∷ []) choices.filling (connects link ∷ holds link ∷ past)
     (stands-connects (stands-new cookie.maker cookie.addressee held.capabilities past in_place)))
 
-restarts_keeps : (options : Options) (core : Core) (cookie : Cookie) (choices : Choices) → Keeps core (restarts options core cookie choices)
+restarts_keeps : (options : Options) (core : Core) (cookie : Cookie) (choices : Choices) → Keeps core (restart_change options core cookie choices)
 restarts_keeps options (open_in shutdown_ack_sent my held) cookie choices past good = good-sends (open_in shutdown_ack_sent my held) _ past good
 restarts_keeps options core cookie choices past good = new_keeps options cookie choices past (good_in_place core past good)
 
-maintains_keeps : (core : Core) (cookie : Cookie) (choices : Choices) → Keeps core (maintains core cookie choices)
+maintains_keeps : (core : Core) (cookie : Cookie) (choices : Choices) → Keeps core (maintain_change core cookie choices)
 maintains_keeps (cookie_echoed my held echoed) cookie choices past good =
     stands_open established (flush_leads (link_of my held) None cookie.addressee.tag held (cookie_ack ∷ []) choices.filling (connects (link_of my held) ∷ past) (stands-connects good))
 maintains_keeps (open_in phase my held) cookie choices past good =
     stands_open phase (flush_leads (link_of my held) good.0 cookie.addressee.tag held (cookie_ack ∷ []) choices.filling past good.1)
 maintains_keeps core cookie choices past good = good
 
-resolved_keeps : (options : Options) (core : Core) (cookie : Cookie) (choices : Choices) (resolution : Resolution) → Keeps core (resolved options core cookie choices resolution)
+resolved_keeps : (options : Options) (core : Core) (cookie : Cookie) (choices : Choices) (resolution : Resolution) → Keeps core (resolved_change options core cookie choices resolution)
 resolved_keeps options core cookie choices establish_new past good = new_keeps options cookie choices past (good_in_place core past good)
 resolved_keeps options core cookie choices restart past good = restarts_keeps options core cookie choices past good
 resolved_keeps options core cookie choices simultaneous_init past good = new_keeps options cookie choices past (good_in_place core past good)
@@ -150,6 +150,6 @@ resolved_keeps options core cookie choices discard past good = good
 resolved_keeps options core cookie choices maintain_existing past good = maintains_keeps core cookie choices past good
 resolved_keeps options core cookie choices invalid_tag past good = good
 
-pub echo_keeps : (options : Options) (core : Core) (header : ℕ) (read : Result Cookie (List ℕ)) (choices : Choices) → Keeps core (echo_read options core header read choices)
+pub echo_keeps : (options : Options) (core : Core) (header : ℕ) (read : Result Cookie (List ℕ)) (choices : Choices) → Keeps core (read_echo_change options core header read choices)
 echo_keeps options core header (Err text) choices past good = good
 echo_keeps options core header (Ok cookie) choices past good = resolved_keeps options core cookie choices (resolve core choices.tie header cookie) past good

@@ -4,12 +4,12 @@ use Rattle.dcsctp_machine.specs.declared.association.Pair.{Pair}
 use Rattle.dcsctp_machine.specs.declared.association.Held.{Held}
 use Rattle.dcsctp_machine.specs.declared.capabilities.Capabilities.{Capabilities}
 use Rattle.dcsctp_wire.specs.declared.reconfiguration.ReconfigurationResponseResult.TheVariants.{InProgress}
-use Rattle.dcsctp_machine.specs.Packet.{Content, Packet}
+use Rattle.dcsctp_machine.specs.Packet.{Plain, Content, Packet}
 use Rattle.dcsctp_machine.specs.Reconfiguration.{RequestedReset}
 use Rattle.dcsctp_machine.specs.control.Effect.{Link, Effect, draws, sends, holds, connects, begins, emitted, link_of}
-use Rattle.dcsctp_machine.specs.control.Choices.{Plain, plain_contents, Filling, Choices}
-use Rattle.dcsctp_machine.specs.control.Flush.{Flushed, next_number, reset_to_begin, further_packets, flushed_with, flush_where, flush}
-use Rattle.dcsctp_machine.specs.control.Handshake.{new_held}
+use Rattle.dcsctp_machine.specs.control.Choices.{plain_contents, Filling, Choices}
+use Rattle.dcsctp_machine.specs.control.FlushChanges.{Flushed, next_number, reset_to_begin, further_packets, flushed_with, flush_where, flush}
+use Rattle.dcsctp_machine.specs.control.HandshakeChanges.{new_held}
 use Rattle.dcsctp_machine.specs.control.Acts.{sent_by}
 use Rattle.dcsctp_machine.specs.Past.{Each, InPlace, current, unconnected, number_to_begin, outstanding, number_to_accept, number_to_perform}
 use Rattle.dcsctp_machine.specs.World.{after_effects}

@@ -5,11 +5,11 @@ use Rattle.dcsctp_machine.specs.declared.association.Held.{Held}
 use Rattle.dcsctp_wire.specs.declared.reconfiguration.ReconfigurationResponseResult.{ReconfigurationResponseResult}
 use Rattle.dcsctp_wire.specs.declared.reconfiguration.ReconfigurationResponseResult.TheVariants.{InProgress}
 use Rattle.dcsctp_machine.specs.Reconfiguration.{ResetParameter, RequestedReset, outgoing_reset_request, incoming_reset_request, reconfiguration_response, other_reset_parameter}
-use Rattle.dcsctp_machine.specs.Packet.{Content, re_config}
+use Rattle.dcsctp_machine.specs.Packet.{Plain, Content, re_config}
 use Rattle.dcsctp_machine.specs.control.Effect.{Effect, ends, emitted, emitted_alone}
-use Rattle.dcsctp_machine.specs.control.Choices.{Plain, plain_contents, Filling, Choices}
-use Rattle.dcsctp_machine.specs.control.Flush.{Flushed, reset_to_begin, further_packets, flushed_with, flush_where, flush}
-use Rattle.dcsctp_machine.specs.control.Resets.{Place, again, next, astray, place_of, Answered, worked, repeated, outgoing_by, incoming_by, Informed, informed_where, is_outstanding, Worked, work_parameters, work_chunk, answers_emitted, reset_sent, reset_worked}
+use Rattle.dcsctp_machine.specs.control.Choices.{plain_contents, Filling, Choices}
+use Rattle.dcsctp_machine.specs.control.FlushChanges.{Flushed, reset_to_begin, further_packets, flushed_with, flush_where, flush}
+use Rattle.dcsctp_machine.specs.control.ResetChanges.{Place, again, next, astray, place_of, Answered, worked, repeated, outgoing_by, incoming_by, Informed, informed_where, is_outstanding, WorkedParameters, work_parameters, work_chunk, answers_emitted, reset_sent, reset_worked}
 use Rattle.dcsctp_machine.specs.control.Acts.{sent_by}
 use Rattle.dcsctp_agreement.specs.OneSide.{ends_in}
 
@@ -115,7 +115,7 @@ no_ends-reset_sent false held answers choices =
 
 pub no_ends-reset : (my : Pair) (held : Held) (parameters : List ResetParameter) (choices : Choices) → ends_in (reset_worked my held parameters choices).effects ≡ 0
 no_ends-reset my held parameters choices =
-    let first : Worked = work_chunk my choices.is_reached held parameters in
+    let first : WorkedParameters = work_chunk my choices.is_reached held parameters in
     let after : Flushed = reset_sent first.is_refused first.held first.answers choices in
     no_ends-append first.effects after.effects
     (no_ends-chunk my choices.is_reached held parameters)

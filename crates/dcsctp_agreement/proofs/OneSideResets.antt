@@ -7,8 +7,8 @@ use Rattle.dcsctp_wire.specs.declared.reconfiguration.ReconfigurationResponseRes
 use Rattle.dcsctp_machine.specs.Reconfiguration.{ResetParameter, outgoing_reset_request, incoming_reset_request, reconfiguration_response, other_reset_parameter}
 use Rattle.dcsctp_machine.specs.control.Effect.{Link, Effect, completes, fails, accepts, performs}
 use Rattle.dcsctp_machine.specs.control.Choices.{Choices}
-use Rattle.dcsctp_machine.specs.control.Flush.{Flushed, next_number, flush}
-use Rattle.dcsctp_machine.specs.control.Resets.{Place, again, next, astray, place_of, Answered, with_last, worked, repeated, outgoing_by, incoming_by, without_outstanding, informed_by, informed_where, is_outstanding, Informed, Worked, work_parameters, work_chunk, answers_emitted, reset_sent, reset_worked}
+use Rattle.dcsctp_machine.specs.control.FlushChanges.{Flushed, next_number, flush}
+use Rattle.dcsctp_machine.specs.control.ResetChanges.{Place, again, next, astray, place_of, Answered, with_last, worked, repeated, outgoing_by, incoming_by, without_outstanding, informed_by, informed_where, is_outstanding, Informed, WorkedParameters, work_parameters, work_chunk, answers_emitted, reset_sent, reset_worked}
 use Rattle.dcsctp_machine.specs.Past.{my_of, peer_of}
 use Rattle.dcsctp_agreement.proofs.OneSideLemmas.{Stands, Leads, stands-sends, leads-append, flush_leads}
 
@@ -160,19 +160,19 @@ module _ (link : Link) (waiting : Option Link) where
   parameters_lead is_reached true held (outgoing_reset_request number answered reset ∷ parameters) past s = s
   parameters_lead is_reached false held (outgoing_reset_request number answered reset ∷ parameters) past s =
       let first : Answered = outgoing_by held number is_reached (place_of held.peer_last number) in
-      let rest : Worked = work_parameters link.my is_reached true first.held parameters in
+      let rest : WorkedParameters = work_parameters link.my is_reached true first.held parameters in
       leads-append link waiting held first.held rest.held first.effects rest.effects
       (outgoing_leads held number is_reached (place_of held.peer_last number) (placed held.peer_last number))
       (parameters_lead is_reached true first.held parameters) past s
   parameters_lead is_reached has_worked held (incoming_reset_request number streams ∷ parameters) past s =
       let first : Answered = incoming_by held number (place_of held.peer_last number) in
-      let rest : Worked = work_parameters link.my is_reached has_worked first.held parameters in
+      let rest : WorkedParameters = work_parameters link.my is_reached has_worked first.held parameters in
       leads-append link waiting held first.held rest.held first.effects rest.effects
       (incoming_leads held number (place_of held.peer_last number) (placed held.peer_last number))
       (parameters_lead is_reached has_worked first.held parameters) past s
   parameters_lead is_reached has_worked held (reconfiguration_response number result ∷ parameters) past s =
       let first : Informed = informed_where link.my held number result (is_outstanding number held.own_outstanding) in
-      let rest : Worked = work_parameters link.my is_reached has_worked first.held parameters in
+      let rest : WorkedParameters = work_parameters link.my is_reached has_worked first.held parameters in
       leads-append link waiting held first.held rest.held first.effects rest.effects
       (informed_leads_where held number result (is_outstanding number held.own_outstanding) (is_outstanding_means number held.own_outstanding))
       (parameters_lead is_reached has_worked first.held parameters) past s
@@ -202,7 +202,7 @@ module _ (link : Link) (waiting : Option Link) where
   pub reset_leads : (held : Held) (parameters : List ResetParameter) (choices : Choices)
       → Leads link waiting held (reset_worked link.my held parameters choices).effects (reset_worked link.my held parameters choices).held
   reset_leads held parameters choices =
-      let worked : Worked = work_chunk link.my choices.is_reached held parameters in
+      let worked : WorkedParameters = work_chunk link.my choices.is_reached held parameters in
       let after : Flushed = reset_sent worked.is_refused worked.held worked.answers choices in
       leads-append link waiting held worked.held after.held worked.effects after.effects
       (chunk_leads choices.is_reached held parameters)

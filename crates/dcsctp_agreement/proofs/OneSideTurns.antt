@@ -6,15 +6,15 @@ use Rattle.dcsctp_machine.specs.declared.options.Options.{Options}
 use Rattle.dcsctp_machine.specs.Cookie.{cookie_at}
 use Rattle.dcsctp_machine.specs.Cause.{Cause}
 use Rattle.dcsctp_machine.specs.Reconfiguration.{ResetParameter, RequestedReset}
-use Rattle.dcsctp_machine.specs.Packet.{Content, init, init_ack, cookie_echo, cookie_ack, re_config, abort, shutdown, shutdown_ack, shutdown_complete, other}
+use Rattle.dcsctp_machine.specs.Packet.{Content, init, init_ack, cookie_echo, cookie_ack, re_config, abort, shutdown, shutdown_ack, shutdown_complete, plain}
 use Rattle.dcsctp_machine.specs.Endpoint.{Core, closed, cookie_wait, cookie_echoed, open_in, OpenPhase, established, shutdown_pending, shutdown_sent, shutdown_received, shutdown_ack_sent}
-use Rattle.dcsctp_machine.specs.Outcome.{Following}
+use Rattle.dcsctp_machine.specs.Following.{Following}
 use Rattle.dcsctp_machine.specs.control.Effect.{Effect, Change, link_of}
 use Rattle.dcsctp_machine.specs.control.Choices.{Choices}
-use Rattle.dcsctp_machine.specs.control.Flush.{reset_request}
-use Rattle.dcsctp_machine.specs.control.Resets.{re_config_change}
-use Rattle.dcsctp_machine.specs.control.Shutdown.{shutdown_step_in, shutdown_step, shutdown_call, aborts, shutdown_again, abort_change, shutdown_change, shutdown_ack_change, shutdown_complete_change}
-use Rattle.dcsctp_machine.specs.control.Acts.{Act, connect, t1_expires, shut_down, step_of_shutdown, shutdown_repeats, abort_with, hands_over, flushes, request_again, flush_change, hand_over_change, request_sent, request_again_change, act_change, then_changes, violation_change, other_change, chunk_change}
+use Rattle.dcsctp_machine.specs.control.FlushChanges.{reset_request}
+use Rattle.dcsctp_machine.specs.control.ResetChanges.{re_config_change}
+use Rattle.dcsctp_machine.specs.control.ShutdownChanges.{shutdown_step_change_in, shutdown_step_change, shutdown_call_change, abort_call_change, shutdown_again_change, abort_change, shutdown_change, shutdown_ack_change, shutdown_complete_change}
+use Rattle.dcsctp_machine.specs.control.Acts.{Act, connect, t1_expires, shut_down, step_of_shutdown, shutdown_repeats, abort_with, hands_over, flushes, request_again, flush_change, hand_over_change, request_sent, request_again_change, act_change, then_changes, violation_change, plain_change, chunk_change}
 use Rattle.dcsctp_machine.specs.World.{SideState, after_effects, after_change, after_changes, ControlTurn, acted, worked, ControlTurns, SideRun, side_after}
 use Rattle.dcsctp_agreement.specs.OneSide.{EffectsInPlace, Leaves, PastIsState}
 use Rattle.dcsctp_agreement.proofs.OneSideLemmas.{Stands, after_effects-append, sent_leads}
@@ -46,28 +46,28 @@ request_again_keeps core reset fits past good = good
 
 -- ---- shutdown
 
-step_keeps_open : (phase : OpenPhase) (my : Pair) (held : Held) (tsn : ℕ) (is_acknowledged : Bool) → Keeps (open_in phase my held) (shutdown_step_in phase my held tsn is_acknowledged)
+step_keeps_open : (phase : OpenPhase) (my : Pair) (held : Held) (tsn : ℕ) (is_acknowledged : Bool) → Keeps (open_in phase my held) (shutdown_step_change_in phase my held tsn is_acknowledged)
 step_keeps_open shutdown_pending my held tsn true past good = good-sends (open_in shutdown_sent my held) _ past good
 step_keeps_open shutdown_received my held tsn true past good = good-sends (open_in shutdown_ack_sent my held) _ past good
 step_keeps_open phase my held tsn is_acknowledged past good = good
 
-step_keeps : (core : Core) (tsn : ℕ) (is_acknowledged : Bool) → Keeps core (shutdown_step core tsn is_acknowledged)
+step_keeps : (core : Core) (tsn : ℕ) (is_acknowledged : Bool) → Keeps core (shutdown_step_change core tsn is_acknowledged)
 step_keeps (open_in phase my held) tsn is_acknowledged past good = step_keeps_open phase my held tsn is_acknowledged past good
 step_keeps core tsn is_acknowledged past good = good
 
-call_keeps : (core : Core) (tsn : ℕ) (is_acknowledged : Bool) → Keeps core (shutdown_call core tsn is_acknowledged)
+call_keeps : (core : Core) (tsn : ℕ) (is_acknowledged : Bool) → Keeps core (shutdown_call_change core tsn is_acknowledged)
 call_keeps (cookie_wait my) tsn is_acknowledged past good = good-ends (cookie_wait my) past good
 call_keeps (cookie_echoed my held cookie) tsn is_acknowledged past good = step_keeps_open shutdown_pending my held tsn is_acknowledged past (Some (link_of my held), good)
 call_keeps (open_in established my held) tsn is_acknowledged past good = step_keeps_open shutdown_pending my held tsn is_acknowledged past good
 call_keeps core tsn is_acknowledged past good = good
 
-aborts_keeps : (core : Core) (causes : List Cause) (fits : Bool) → Keeps core (aborts core causes fits)
+aborts_keeps : (core : Core) (causes : List Cause) (fits : Bool) → Keeps core (abort_call_change core causes fits)
 aborts_keeps closed causes fits past good = good
 aborts_keeps (cookie_wait my) causes fits past good = good-ends (cookie_wait my) past good
 aborts_keeps (cookie_echoed my held cookie) causes fits past good = good-ended_alone (cookie_echoed my held cookie) fits held.peer.tag (abort false causes) past good
 aborts_keeps (open_in phase my held) causes fits past good = good-ended_alone (open_in phase my held) fits held.peer.tag (abort false causes) past good
 
-again_keeps : (core : Core) (tsn : ℕ) → Keeps core (shutdown_again core tsn)
+again_keeps : (core : Core) (tsn : ℕ) → Keeps core (shutdown_again_change core tsn)
 again_keeps (open_in shutdown_sent my held) tsn past good = good-sends (open_in shutdown_sent my held) _ past good
 again_keeps (open_in shutdown_ack_sent my held) tsn past good = good-sends (open_in shutdown_ack_sent my held) _ past good
 again_keeps core tsn past good = good
@@ -120,10 +120,10 @@ violation_keeps (cookie_echoed my held cookie) choices past good = aborts_keeps 
 violation_keeps (open_in phase my held) choices past good = aborts_keeps (open_in phase my held) choices.causes choices.fits past good
 violation_keeps core choices past good = good
 
-other_keeps : (core : Core) (is_violation : Bool) (choices : Choices) → Keeps core (other_change core is_violation choices)
+other_keeps : (core : Core) (is_violation : Bool) (choices : Choices) → Keeps core (plain_change core is_violation choices)
 other_keeps core true choices past good = violation_keeps core choices past good
 other_keeps core false choices past good =
-    let stepped : Change = shutdown_step core choices.tsn choices.is_acknowledged in
+    let stepped : Change = shutdown_step_change core choices.tsn choices.is_acknowledged in
     then_keeps core stepped (flush_change stepped.core choices) choices.following (step_keeps core choices.tsn choices.is_acknowledged) (flush_keeps stepped.core choices) past good
 
 chunk_keeps : (options : Options) (core : Core) (header : ℕ) (content : Content) (choices : Choices) → Keeps core (chunk_change options core header content choices)
@@ -136,7 +136,7 @@ chunk_keeps options core header (abort reflected causes) choices past good = abo
 chunk_keeps options core header (shutdown cumulative_tsn) choices past good = shutdown_keeps core choices.tsn choices.is_acknowledged past good
 chunk_keeps options core header shutdown_ack choices past good = shutdown_ack_keeps core header past good
 chunk_keeps options core header (shutdown_complete reflected) choices past good = shutdown_complete_keeps core past good
-chunk_keeps options core header (other chunk_type flags value) choices past good = other_keeps core choices.is_violation choices past good
+chunk_keeps options core header (plain chunk) choices past good = other_keeps core choices.is_violation choices past good
 
 turn_keeps : (options : Options) (core : Core) (change : Change) → ControlTurn options core change → Keeps core change
 turn_keeps options core change (acted act choices is) = subst (Keeps core) (sym is) (act_keeps options core act choices)

@@ -7,8 +7,8 @@ use Rattle.dcsctp_machine.specs.declared.association.Pair.{Pair}
 use Rattle.dcsctp_machine.specs.declared.association.Held.{Held}
 use Rattle.dcsctp_machine.specs.Offer.{Offer}
 use Rattle.dcsctp_machine.specs.control.Effect.{Effect, draws, completes, fails, accepts, performs}
-use Rattle.dcsctp_machine.specs.control.Flush.{next_number}
-use Rattle.dcsctp_machine.specs.control.Resets.{Place, again, next, astray, place_of, Answered, worked, repeated, outgoing_by, informed_by, informed_where}
+use Rattle.dcsctp_machine.specs.control.FlushChanges.{next_number}
+use Rattle.dcsctp_machine.specs.control.ResetChanges.{Place, again, next, astray, place_of, Answered, worked, repeated, outgoing_by, informed_by, informed_where}
 use Rattle.dcsctp_machine.specs.Past.{Has}
 use Rattle.dcsctp_machine.specs.World.{after_effects}
 use Rattle.dcsctp_agreement.proofs.Facts.{number_before, TruePerformed, TrueNothing, TrueResult, TrueEffects, PeerFacts}

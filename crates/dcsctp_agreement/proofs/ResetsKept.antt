@@ -8,8 +8,8 @@ use Rattle.dcsctp_machine.specs.Packet.{re_config}
 use Rattle.dcsctp_machine.specs.Endpoint.{Core, closed, cookie_wait, cookie_echoed, open_in, own_tag}
 use Rattle.dcsctp_machine.specs.control.Effect.{Effect}
 use Rattle.dcsctp_machine.specs.control.Choices.{Choices}
-use Rattle.dcsctp_machine.specs.control.Flush.{Flushed, flush}
-use Rattle.dcsctp_machine.specs.control.Resets.{place_of, Answered, outgoing_by, Informed, informed_where, is_outstanding, Worked, after_request, after_answer, work_parameters, work_chunk, answers_emitted, reset_sent, reset_worked, re_config_change}
+use Rattle.dcsctp_machine.specs.control.FlushChanges.{Flushed, flush}
+use Rattle.dcsctp_machine.specs.control.ResetChanges.{place_of, Answered, outgoing_by, Informed, informed_where, is_outstanding, WorkedParameters, after_request, after_answer, work_parameters, work_chunk, answers_emitted, reset_sent, reset_worked, re_config_change}
 use Rattle.dcsctp_machine.specs.World.{after_effects}
 use Rattle.dcsctp_agreement.proofs.Facts.{TrueParameters, TrueEffects, PeerFacts, TrueCore}
 use Rattle.dcsctp_agreement.proofs.Growth.{after_effects-append, after_within, effects-append, parameters_grow, peer_grows, same, then_true}
@@ -20,7 +20,7 @@ use Rattle.dcsctp_agreement.proofs.ResetAnswers.{Working, Answering, outgoing_an
 
 -- ---- the parameters after one another
 
-pub record WorkedKept (my_offer their_offer : Offer) (mine theirs : List Effect) (my : Pair) (held : Held) (worked : Worked) : Type 0 where
+pub record WorkedKept (my_offer their_offer : Offer) (mine theirs : List Effect) (my : Pair) (held : Held) (worked : WorkedParameters) : Type 0 where
   pub working : Working my_offer their_offer mine theirs my held worked.held worked.effects
   pub answers : TrueParameters (after_effects worked.effects mine) theirs held.peer.tag worked.answers
 
@@ -37,7 +37,7 @@ then_working my_offer their_offer mine theirs my held middle after first rest h 
       tags = λ t. subst SameTag (sym (after_effects-append first rest mine)) (k.tags (h.tags t));
     }
 
-then_request : (my_offer their_offer : Offer) (mine theirs : List Effect) (my : Pair) (held : Held) (number : ℕ) (first : Answered) (rest : Worked)
+then_request : (my_offer their_offer : Offer) (mine theirs : List Effect) (my : Pair) (held : Held) (number : ℕ) (first : Answered) (rest : WorkedParameters)
     → Answering my_offer their_offer mine theirs my held number first → WorkedKept my_offer their_offer (after_effects first.effects mine) theirs my first.held rest
     → WorkedKept my_offer their_offer mine theirs my held (after_request number first rest)
 then_request my_offer their_offer mine theirs my held number first rest h k =
@@ -50,7 +50,7 @@ then_request my_offer their_offer mine theirs my held number first rest h k =
       answers = subst (λ (past : List Effect). TrueParameters past theirs held.peer.tag (reconfiguration_response number first.result ∷ rest.answers)) (sym (after_effects-append first.effects rest.effects mine)) (result.0, answers);
     }
 
-then_answer : (my_offer their_offer : Offer) (mine theirs : List Effect) (my : Pair) (held : Held) (first : Informed) (rest : Worked)
+then_answer : (my_offer their_offer : Offer) (mine theirs : List Effect) (my : Pair) (held : Held) (first : Informed) (rest : WorkedParameters)
     → Working my_offer their_offer mine theirs my held first.held first.effects → WorkedKept my_offer their_offer (after_effects first.effects mine) theirs my first.held rest
     → WorkedKept my_offer their_offer mine theirs my held (after_answer first rest)
 then_answer my_offer their_offer mine theirs my held first rest h k =
@@ -145,7 +145,7 @@ reset_kept : (my_offer their_offer : Offer) (mine theirs : List Effect) (my : Pa
     → SameTag mine → PeerFacts my_offer their_offer mine theirs my held → TrueParameters theirs mine my.tag parameters
     → ResetKept my_offer their_offer mine theirs my held (reset_worked my held parameters choices)
 reset_kept my_offer their_offer mine theirs my held parameters choices tags h are =
-    let worked : Worked = work_chunk my choices.is_reached held parameters in
+    let worked : WorkedParameters = work_chunk my choices.is_reached held parameters in
     let past : List Effect = after_effects worked.effects mine in
     let k : WorkedKept my_offer their_offer mine theirs my held worked = chunk_kept my_offer their_offer mine theirs my choices.is_reached held parameters tags h are in
     let answers : TrueParameters past theirs worked.held.peer.tag worked.answers = subst (λ (p : Pair). TrueParameters past theirs p.tag worked.answers) (sym k.working.pair) k.answers in

@@ -15,7 +15,7 @@ use Rattle.dcsctp_machine.specs.control.Effect.{Link, Effect, sends}
 use Rattle.dcsctp_machine.specs.control.Choices.{Filling, Choices}
 use Rattle.dcsctp_machine.specs.control.Acts.{Act, act_change, chunk_change, MakesCookie}
 use Rattle.dcsctp_machine.specs.Past.{Has}
-use Rattle.dcsctp_machine.specs.Outcome.{next_chunk}
+use Rattle.dcsctp_machine.specs.Following.{next_chunk}
 use Rattle.dcsctp_machine.specs.World.{SideState, MayBeWorked, does, receives, World, Which, at_a, at_b, Step, world_after, Run, worked_whole}
 
 -- ---- values

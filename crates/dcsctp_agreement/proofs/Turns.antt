@@ -4,7 +4,7 @@ use Rattle.dcsctp_machine.specs.declared.association.Pair.{Pair}
 use Rattle.dcsctp_machine.specs.declared.association.Held.{Held}
 use Rattle.dcsctp_machine.specs.Offer.{Offer}
 use Rattle.dcsctp_machine.specs.Endpoint.{Core, open_in, OpenPhase}
-use Rattle.dcsctp_machine.specs.Outcome.{Following}
+use Rattle.dcsctp_machine.specs.Following.{Following}
 use Rattle.dcsctp_machine.specs.control.Effect.{Effect, draws, ends, Change, unchanged, dropped, ended}
 use Rattle.dcsctp_machine.specs.control.Acts.{then_changes}
 use Rattle.dcsctp_machine.specs.Past.{Has, FreshDraw, HasFreshTags}

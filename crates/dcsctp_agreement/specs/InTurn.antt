@@ -6,11 +6,11 @@ use Rattle.dcsctp_machine.specs.Offer.{offer_of, negotiated}
 use Rattle.dcsctp_machine.specs.Cookie.{cookie_at}
 use Rattle.dcsctp_machine.specs.Packet.{Content, Packet}
 use Rattle.dcsctp_machine.specs.Endpoint.{Core, closed, open_in, established}
-use Rattle.dcsctp_machine.specs.turns.Handshake.{cookie_for}
+use Rattle.dcsctp_machine.specs.turns.HandshakeOutcomes.{cookie_for}
 use Rattle.dcsctp_machine.specs.control.Effect.{Effect, sends, connects, Change, unchanged}
-use Rattle.dcsctp_machine.specs.Outcome.{next_chunk}
+use Rattle.dcsctp_machine.specs.Following.{next_chunk}
 use Rattle.dcsctp_machine.specs.control.Choices.{Filling, Choices}
-use Rattle.dcsctp_machine.specs.control.Handshake.{introduction_of, new_held}
+use Rattle.dcsctp_machine.specs.control.HandshakeChanges.{introduction_of, new_held}
 use Rattle.dcsctp_machine.specs.control.Acts.{connect, act_change, chunk_change}
 use Rattle.dcsctp_machine.specs.World.{does, receives, Which, at_a, at_b, Step, World, world_after, Run}
 

@@ -10,7 +10,7 @@ use Rattle.dcsctp_wire.specs.declared.reconfiguration.ReconfigurationResponseRes
 use Rattle.dcsctp_machine.specs.Reconfiguration.{ResetParameter, reconfiguration_response}
 use Rattle.dcsctp_machine.specs.Packet.{Content, re_config}
 use Rattle.dcsctp_machine.specs.control.Choices.{Choices}
-use Rattle.dcsctp_machine.specs.control.Flush.{next_number}
+use Rattle.dcsctp_machine.specs.control.FlushChanges.{next_number}
 use Rattle.dcsctp_machine.specs.control.Acts.{Act, act_change, chunk_change}
 use Rattle.dcsctp_machine.specs.Past.{Has, Each, current, number_to_begin, outstanding, number_to_accept, InPlace}
 use Rattle.dcsctp_machine.specs.World.{ControlTurn, SideRun, side_after}
@@ -67,7 +67,8 @@ pub record Means (core : Core) (change : Change) : Type 0 where
   -- An own request that was begun is outstanding.
   pub begun : (number : ℕ) → Has (begins number) change.effects → outstanding_in change.core ≡ Some number
   -- Resets are performed and completed in the association that is held.
-  pub completed : (my : Pair) (number : ℕ) → Has (completes my number) change.effects → (link : Link) × (link_in change.core ≡ Some link) × (link.my ≡ my)
+  pub completed : (my : Pair) (number : ℕ) → Has (completes my number) change.effects
+      → (link : Link) × (link_in change.core ≡ Some link) × (link.my ≡ my)
   pub performed : (peer : Pair) (number : ℕ) → Has (performs peer number) change.effects → (link : Link) × (link_in change.core ≡ Some link)
       × (link.peer ≡ peer)
 
@@ -90,7 +91,8 @@ Leaves past (open_in phase my held) = LeavesHeld past my held
 
 -- So what the effects say is held is held, and no other.
 abbrev pub PastIsState : Type 0
-PastIsState = (options : Options) (steps : List (List Change)) → SideRun options steps → Leaves (side_after options steps).past (side_after options steps).core
+PastIsState = (options : Options) (steps : List (List Change)) → SideRun options steps
+    → Leaves (side_after options steps).past (side_after options steps).core
 
 -- ---- own requests end by answers
 
@@ -111,7 +113,8 @@ IsRefusal result = ⊥
 -- a response to this number with a result of this kind is among the parameters
 abbrev pub HasResponse : (ReconfigurationResponseResult → Type 0) → ℕ → List ResetParameter → Type 0
 HasResponse Kind number [] = ⊥
-HasResponse Kind number (reconfiguration_response answered result ∷ parameters) = ((number ≡ answered) × Kind result) ⊎ HasResponse Kind number parameters
+HasResponse Kind number (reconfiguration_response answered result ∷ parameters) =
+    ((number ≡ answered) × Kind result) ⊎ HasResponse Kind number parameters
 HasResponse Kind number (parameter ∷ parameters) = HasResponse Kind number parameters
 
 abbrev pub parameters_in : Content → List ResetParameter

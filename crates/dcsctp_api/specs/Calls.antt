@@ -6,10 +6,9 @@ use Rattle.dcsctp_machine.specs.declared.word.Word.{Word}
 use Rattle.dcsctp_machine.specs.Event.{Event, event_map}
 use Rattle.dcsctp_machine.specs.Packet.{Emission, emission_bytes}
 use Rattle.dcsctp_machine.specs.Endpoint.{Endpoint, Core, closed, cookie_wait, cookie_echoed, open_in, OpenPhase, established, shutdown_pending, shutdown_sent, shutdown_received, shutdown_ack_sent}
-use Rattle.dcsctp_machine.specs.Outcome.{Outcome}
 use Rattle.dcsctp_machine.specs.Turn.{act_input}
 use Rattle.dcsctp_machine.specs.control.Acts.{connect}
-use Rattle.dcsctp_machine.specs.CallTurns.{Turns, HandleInput, CutInput, after_all, words_of, pairs_of, events_of}
+use Rattle.dcsctp_machine.specs.CallTurns.{Turned, Turns, HandleInput, CutInput, after_all, words_of, pairs_of, events_of}
 use Rattle.dcsctp_api.specs.declared.errors.SocketFault.{SocketFault}
 use Rattle.dcsctp_api.specs.declared.errors.SocketFault.TheVariants.{OutOfMemory, Failed}
 use Rattle.dcsctp_api.specs.declared.events.SocketEvent.{SocketEvent}
@@ -30,30 +29,30 @@ pub record UserView : Type 0 where
 abbrev pub user_event : Ports → Event Emission → Event (List ℕ)
 user_event ports event = event_map (emission_bytes ports) event
 
--- The outcomes of a call's turns lead from one view to the other, neither of which has failed.
-pub record Follows (old : UserView) (outcomes : List Outcome) (new : UserView) : Type 0 where
+-- A call's turns lead from one view to the other, neither of which has failed.
+pub record Follows (old : UserView) (turns : List Turned) (new : UserView) : Type 0 where
   pub runs : old.failed ≡ false
   pub goes_on : new.failed ≡ false
-  pub endpoint : new.endpoint ≡ after_all old.endpoint outcomes
-  pub events : new.events ≡ old.events ++ map (user_event (ports_of old.endpoint.options)) (events_of outcomes)
-  pub words : new.words ≡ words_of outcomes
-  pub pairs : new.pairs ≡ pairs_of outcomes
+  pub endpoint : new.endpoint ≡ after_all old.endpoint turns
+  pub events : new.events ≡ old.events ++ map (user_event (ports_of old.endpoint.options)) (events_of turns)
+  pub words : new.words ≡ words_of turns
+  pub pairs : new.pairs ≡ pairs_of turns
 
 -- Events were added behind those that wait: the front part of what these turns add.
-pub record AddsFront (ports : Ports) (outcomes : List Outcome) (old new : List (Event (List ℕ))) : Type 0 where
+pub record AddsFront (ports : Ports) (turns : List Turned) (old new : List (Event (List ℕ))) : Type 0 where
   pub added : List (Event (List ℕ))
   pub rest : List (Event (List ℕ))
   pub behind : new ≡ old ++ added
-  pub front : added ++ rest ≡ map (user_event ports) (events_of outcomes)
+  pub front : added ++ rest ≡ map (user_event ports) (events_of turns)
 
 -- A growth was refused, and the socket has failed. Events that were added before stay, in front, and
 -- the call added no others than its first turns do.
-pub record RanOut (old : UserView) (FirstTurns : List Outcome → Type 0) (new : UserView) : Type 0 where
+pub record RanOut (old : UserView) (FirstTurns : List Turned → Type 0) (new : UserView) : Type 0 where
   pub runs : old.failed ≡ false
   pub fails : new.failed ≡ true
-  pub outcomes : List Outcome
-  pub turns : FirstTurns outcomes
-  pub events : AddsFront (ports_of old.endpoint.options) outcomes old.events new.events
+  pub turns : List Turned
+  pub are : FirstTurns turns
+  pub events : AddsFront (ports_of old.endpoint.options) turns old.events new.events
 
 -- The socket had failed, and nothing changes.
 pub record StaysFailed (old new : UserView) : Type 0 where
@@ -61,7 +60,7 @@ pub record StaysFailed (old new : UserView) : Type 0 where
   pub same : new ≡ old
 
 abbrev pub HandlesInput : UserView → List ℕ → Result (Unit {0}) SocketFault → UserView → Type 0
-HandlesInput old packet (Ok done) new = (outcomes : List Outcome) × HandleInput old.endpoint packet outcomes × Follows old outcomes new
+HandlesInput old packet (Ok done) new = (turns : List Turned) × HandleInput old.endpoint packet turns × Follows old turns new
 HandlesInput old packet (Err OutOfMemory) new = RanOut old (CutInput old.endpoint packet) new
 HandlesInput old packet (Err Failed) new = StaysFailed old new
 
@@ -72,7 +71,7 @@ pub record FailsWhole (old new : UserView) : Type 0 where
 
 -- The call is one turn, or it changes nothing.
 abbrev pub Connects : UserView → Result (Unit {0}) SocketFault → UserView → Type 0
-Connects old (Ok done) new = (outcomes : List Outcome) × Turns old.endpoint (act_input connect ∷ []) outcomes × Follows old outcomes new
+Connects old (Ok done) new = (turns : List Turned) × Turns old.endpoint (act_input connect ∷ []) turns × Follows old turns new
 Connects old (Err OutOfMemory) new = FailsWhole old new
 Connects old (Err Failed) new = StaysFailed old new
 

@@ -8,8 +8,10 @@ use Rattle.dcsctp_machine.specs.declared.word.Word.{Word}
 use Rattle.dcsctp_machine.specs.Event.{Event}
 use Rattle.dcsctp_machine.specs.Packet.{Content, Emission}
 use Rattle.dcsctp_machine.specs.Endpoint.{Endpoint}
-use Rattle.dcsctp_machine.specs.Outcome.{Outcome, next_chunk, quiet, sends}
-use Rattle.dcsctp_machine.specs.turns.Flush.{allows_packet, flushes}
+use Rattle.dcsctp_machine.specs.Outcome.{Outcome, noting, quiet, sends}
+use Rattle.dcsctp_machine.specs.Following.{next_chunk}
+use Rattle.dcsctp_machine.specs.control.Effect.{Effect, drawn_in}
+use Rattle.dcsctp_machine.specs.turns.FlushOutcomes.{allows_packet, flush_outcome}
 use Rattle.dcsctp_api.specs.Calls.{user_event}
 use Rattle.dcsctp_api.specs.Events.{event_content}
 use Rattle.dcsctp_api.specs.declared.events.SocketEvent.{SocketEvent}
@@ -18,7 +20,7 @@ use Rattle.dcsctp_core.proofs.Moving.{Drawn-append}
 
 -- these words and events, and then those of a turn
 abbrev pub behind : List Word → List (Event Emission) → Outcome → Outcome
-behind words events o = record { words = words ++ o.words; drawn = o.drawn; after = o.after; events = events ++ o.events; following = o.following }
+behind words events o = record { words = words ++ o.words; effects = o.effects; after = o.after; events = events ++ o.events; following = o.following }
 
 -- These events were added, and the ports stay.
 pub record Adds {R : Type 0} (old : View R) (added : List (Event Emission)) (new : View R) : Type 0 where
@@ -50,7 +52,7 @@ moves_behind stream a b c words events o added drawn m =
       endpoint = m.endpoint;
       events = events_behind (ports_of a.endpoint.options) (ports_of b.endpoint.options) a.events b.events c.events events o.events added.ports added.events m.events;
       words = m.words ∙ ap (λ (ws : List Word). ws ++ o.words) drawn.words ∙ append_assoc a.words words o.words;
-      pairs = m.pairs ∙ ap (λ (ps : List Pair). ps ++ o.drawn) drawn.pairs;
+      pairs = m.pairs ∙ ap (λ (ps : List Pair). ps ++ drawn_in o.effects) drawn.pairs;
       drawn = Drawn-append (stream a.generator) (stream b.generator) (stream c.generator) words o.words drawn.drawn m.drawn;
     }
 
@@ -60,12 +62,12 @@ flush_where : (b : Bool) (e : Endpoint) (words more : List Word) (events others 
     → behind words events (cond b (sends e more others emission) (quiet e more others))
     ≡ cond b (sends e (words ++ more) (events ++ others) emission) (quiet e (words ++ more) (events ++ others))
 flush_where true e words more events others emission =
-    ap (λ (es : List (Event Emission)). record { words = words ++ more; drawn = []; after = (sends e more others emission).after; events = es; following = next_chunk })
+    ap (λ (es : List (Event Emission)). record { words = words ++ more; effects = []; after = (sends e more others emission).after; events = es; following = next_chunk })
     (sym (append_assoc events others ((sends e [] [] emission).events)))
 flush_where false e words more events others emission = refl
 
 pub flush_behind : (e : Endpoint) (words more : List Word) (events others : List (Event Emission)) (with_checksum : Bool) (tag : ℕ) (contents : List Content)
-    → behind words events (flushes e more others with_checksum tag contents) ≡ flushes e (words ++ more) (events ++ others) with_checksum tag contents
+    → behind words events (flush_outcome e more others with_checksum tag contents) ≡ flush_outcome e (words ++ more) (events ++ others) with_checksum tag contents
 flush_behind e words more events others with_checksum tag [] = refl
 flush_behind e words more events others with_checksum tag (content ∷ contents) =
     flush_where (allows_packet e.options.max_burst) e words more events others (record { with_checksum = with_checksum; packet = record { tag = tag; contents = content ∷ contents } })
@@ -121,9 +123,19 @@ added_one old new event is = ap (map event_content) is ∙ map-append event_cont
 
 -- A flush was cut behind these events.
 pub flush_cut : {R : Type 0} (old : View R) (e : Endpoint) (words : List Word) (events : List (Event Emission)) (with_checksum : Bool) (tag : ℕ) (contents : List Content) (es : List (Event (List ℕ)))
-    → es ≡ old.events ++ map (user_event (ports_of old.endpoint.options)) events → CutTurn old (flushes e words events with_checksum tag contents) es
+    → es ≡ old.events ++ map (user_event (ports_of old.endpoint.options)) events → CutTurn old (flush_outcome e words events with_checksum tag contents) es
 flush_cut old e words events with_checksum tag contents es is =
     subst (λ (o : Outcome). CutTurn old o es)
-    (flush_behind e [] words events [] with_checksum tag contents ∙ ap (λ (before : List (Event Emission)). flushes e words before with_checksum tag contents) (append-nil events))
-    (cut_behind old (record old { events = es }) [] events (flushes e words [] with_checksum tag contents) es (record { ports = refl; events = is })
-    (cut_first (record old { events = es }) (flushes e words [] with_checksum tag contents) es refl))
+    (flush_behind e [] words events [] with_checksum tag contents ∙ ap (λ (before : List (Event Emission)). flush_outcome e words before with_checksum tag contents) (append-nil events))
+    (cut_behind old (record old { events = es }) [] events (flush_outcome e words [] with_checksum tag contents) es (record { ports = refl; events = is })
+    (cut_first (record old { events = es }) (flush_outcome e words [] with_checksum tag contents) es refl))
+
+-- ---- the same turn with what it notes
+
+pub moves_noting : {R : Type 0} (stream : R → Stream) (a b : View R) (effects : List Effect) (o : Outcome) → drawn_in o.effects ≡ drawn_in (effects ++ o.effects)
+    → Moves stream a o b → Moves stream a (noting effects o) b
+moves_noting stream a b effects o same m =
+    record { endpoint = m.endpoint; events = m.events; words = m.words; pairs = m.pairs ∙ ap (λ (ps : List Pair). a.pairs ++ ps) same; drawn = m.drawn }
+
+pub cut_noting : {R : Type 0} (old : View R) (effects : List Effect) (o : Outcome) (es : List (Event (List ℕ))) → CutTurn old o es → CutTurn old (noting effects o) es
+cut_noting old effects o es cut = record { count = cut.count; added = cut.added }

@@ -2,19 +2,20 @@
 use Rattle.std.proofs.Common.{◌≡◌, Bool, true, false, cond, List, [], ◌∷◌, ◌++◌, refl, sym, ap, ◌∙◌}
 use Rattle.std.proofs.lemmas.List.{append-nil}
 use Rattle.rand_core.specs.Stream.{Stream}
-use Rattle.dcsctp_machine.specs.declared.association.Pair.{Pair}
+use Rattle.dcsctp_machine.specs.control.Effect.{Effect, ends, drawn_in}
 use Rattle.dcsctp_machine.specs.declared.word.Word.{Word}
 use Rattle.dcsctp_machine.specs.Settings.{ports_of}
 use Rattle.dcsctp_machine.specs.Event.{Event}
 use Rattle.dcsctp_machine.specs.Packet.{Emission}
 use Rattle.dcsctp_machine.specs.Endpoint.{Endpoint, Core, closed, cookie_wait, cookie_echoed, open_in}
-use Rattle.dcsctp_machine.specs.Outcome.{Outcome, dropped_rest, fits, quiet, sends, emits}
-use Rattle.dcsctp_machine.specs.turns.Ends.{closed_after, ends_with, close_outcome}
+use Rattle.dcsctp_machine.specs.Outcome.{Outcome, fits, quiet, sends, emits}
+use Rattle.dcsctp_machine.specs.Following.{dropped_rest}
+use Rattle.dcsctp_machine.specs.turns.EndOutcomes.{closed_after, ended_outcome, close_outcome}
 use Rattle.dcsctp_api.specs.Calls.{is_closed}
 use Rattle.dcsctp_core.specs.View.{View, Moves}
 use Rattle.dcsctp_core.proofs.Composing.{behind, moves_behind, moves_as}
 
-pub close_where_open : (e : Endpoint) (core : Core) (event : Event Emission) → is_closed core ≡ false → close_outcome e core event ≡ ends_with (quiet e [] []) event
+pub close_where_open : (e : Endpoint) (core : Core) (event : Event Emission) → is_closed core ≡ false → close_outcome e core event ≡ ended_outcome (quiet e [] []) event
 close_where_open e closed event is = cc is
 close_where_open e (cookie_wait my) event is = refl
 close_where_open e (cookie_echoed my held cookie) event is = refl
@@ -24,27 +25,28 @@ emits_where : (b : Bool) (e : Endpoint) (words : List Word) (emission : Emission
 emits_where true e words emission = refl
 emits_where false e words emission = refl
 
-draws_no_pair : (b : Bool) (e : Endpoint) (words : List Word) (emission : Emission) → (cond b (sends e words [] emission) (quiet e words [])).drawn ≡ []
-draws_no_pair true e words emission = refl
-draws_no_pair false e words emission = refl
+notes_nothing : (b : Bool) (e : Endpoint) (words : List Word) (emission : Emission) → (cond b (sends e words [] emission) (quiet e words [])).effects ≡ []
+notes_nothing true e words emission = refl
+notes_nothing false e words emission = refl
 
 -- After a packet the association ends.
 pub ends_after_packet : {R : Type 0} (stream : R → Stream) (a b c : View R) (emission : Emission) (event : Event Emission)
     → is_closed b.endpoint.core ≡ false
     → Moves stream a (emits a.endpoint [] emission) b → Moves stream b (close_outcome b.endpoint b.endpoint.core event) c
-    → Moves stream a (ends_with (emits a.endpoint [] emission) event) c
+    → Moves stream a (ended_outcome (emits a.endpoint [] emission) event) c
 ends_after_packet {R = R} stream a b c emission event runs first second =
     let o = emits a.endpoint [] emission in
-    let ended : Moves stream b (ends_with (quiet b.endpoint [] []) event) c = moves_as stream b c _ _ (sym (close_where_open b.endpoint b.endpoint.core event runs)) second in
+    let ended : Moves stream b (ended_outcome (quiet b.endpoint [] []) event) c = moves_as stream b c _ _ (sym (close_where_open b.endpoint b.endpoint.core event runs)) second in
     let ports = ap (λ (e : Endpoint). ports_of e.options) first.endpoint ∙ ap ports_of (emits_where (fits a.endpoint emission) a.endpoint [] emission) in
-    let m : Moves stream a (behind o.words o.events (ends_with (quiet b.endpoint [] []) event)) c =
-    moves_behind stream a b c o.words o.events (ends_with (quiet b.endpoint [] []) event) (record { ports = ports; events = first.events })
+    let m : Moves stream a (behind o.words o.events (ended_outcome (quiet b.endpoint [] []) event)) c =
+    moves_behind stream a b c o.words o.events (ended_outcome (quiet b.endpoint [] []) event) (record { ports = ports; events = first.events })
     (record {
       words = first.words;
-      pairs = first.pairs ∙ ap (λ (ps : List Pair). a.pairs ++ ps) (draws_no_pair (fits a.endpoint emission) a.endpoint [] emission) ∙ append-nil a.pairs;
+      pairs = first.pairs ∙ ap (λ (es : List Effect). a.pairs ++ drawn_in es) (notes_nothing (fits a.endpoint emission) a.endpoint [] emission) ∙ append-nil a.pairs;
       drawn = first.drawn;
     }) ended in
     moves_as stream a c _ _
-    (ap (λ (e : Endpoint). let out : Outcome = record { words = o.words; drawn = []; after = closed_after e; events = o.events ++ event ∷ []; following = dropped_rest } in out) (sym first.endpoint)
-    ∙ ap (λ (ws : List Word). let out : Outcome = record { words = ws; drawn = []; after = closed_after b.endpoint; events = o.events ++ event ∷ []; following = dropped_rest } in out) (sym (append-nil o.words)))
+    (ap (λ (es : List Effect). let out : Outcome = record { words = o.words; effects = es ++ ends ∷ []; after = closed_after (emits a.endpoint [] emission).after; events = o.events ++ event ∷ []; following = dropped_rest } in out) (notes_nothing (fits a.endpoint emission) a.endpoint [] emission)
+    ∙ ap (λ (e : Endpoint). let out : Outcome = record { words = o.words; effects = ends ∷ []; after = closed_after e; events = o.events ++ event ∷ []; following = dropped_rest } in out) (sym first.endpoint)
+    ∙ ap (λ (ws : List Word). let out : Outcome = record { words = ws; effects = ends ∷ []; after = closed_after b.endpoint; events = o.events ++ event ∷ []; following = dropped_rest } in out) (sym (append-nil o.words)))
     m

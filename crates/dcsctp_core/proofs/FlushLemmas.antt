@@ -12,7 +12,7 @@ use Rattle.dcsctp_machine.specs.Event.{sent}
 use Rattle.dcsctp_machine.specs.Packet.{Content, Emission, chunk_out, emission_bytes}
 use Rattle.dcsctp_machine.specs.Endpoint.{Endpoint}
 use Rattle.dcsctp_machine.specs.Outcome.{quiet, counted, sends}
-use Rattle.dcsctp_machine.specs.turns.Flush.{allows_packet, flushes}
+use Rattle.dcsctp_machine.specs.turns.FlushOutcomes.{allows_packet, flush_outcome}
 use Rattle.dcsctp_core.specs.declared.context.Context.{Context}
 use Rattle.dcsctp_core.specs.View.{View, endpoint_of, view_of, Moves}
 use Rattle.dcsctp_core.specs.Flushing.{packet_of, burst_limit, sent_as_built, flushed, Flushed}
@@ -31,21 +31,21 @@ chunk_is_not_empty (other_chunk type flags value) rest none = cc none
 
 -- Nothing goes out where nothing is held.
 pub flush_of_nothing : (e : Endpoint) (with_checksum : Bool) (tag : ℕ) (contents : List Content) → flat_map chunk_bytes (map chunk_out contents) ≡ []
-    → flushes e [] [] with_checksum tag contents ≡ quiet e [] []
+    → flush_outcome e [] [] with_checksum tag contents ≡ quiet e [] []
 flush_of_nothing e with_checksum tag [] empty = refl
 flush_of_nothing e with_checksum tag (content ∷ contents) empty = absurd (chunk_is_not_empty (chunk_out content) (flat_map chunk_bytes (map chunk_out contents)) empty)
 
 -- Else the packet goes out.
 pub flush_of_packet : (e : Endpoint) (with_checksum : Bool) (tag : ℕ) (contents : List Content) → allows_packet e.options.max_burst ≡ true
     → (flat_map chunk_bytes (map chunk_out contents) ≡ [] → ⊥)
-    → flushes e [] [] with_checksum tag contents ≡ sends e [] [] (record { with_checksum = with_checksum; packet = record { tag = tag; contents = contents } })
+    → flush_outcome e [] [] with_checksum tag contents ≡ sends e [] [] (record { with_checksum = with_checksum; packet = record { tag = tag; contents = contents } })
 flush_of_packet e with_checksum tag [] some not_empty = absurd (not_empty refl)
 flush_of_packet e with_checksum tag (content ∷ contents) some not_empty =
     ap (λ (b : Bool). cond b (sends e [] [] (record { with_checksum = with_checksum; packet = record { tag = tag; contents = content ∷ contents } })) (quiet e [] [])) some
 
 -- and where no packet is allowed
 flush_unallowed : (e : Endpoint) (with_checksum : Bool) (tag : ℕ) (contents : List Content) → allows_packet e.options.max_burst ≡ false
-    → flushes e [] [] with_checksum tag contents ≡ quiet e [] []
+    → flush_outcome e [] [] with_checksum tag contents ≡ quiet e [] []
 flush_unallowed e with_checksum tag [] none = refl
 flush_unallowed e with_checksum tag (content ∷ contents) none =
     ap (λ (b : Bool). cond b (sends e [] [] (record { with_checksum = with_checksum; packet = record { tag = tag; contents = content ∷ contents } })) (quiet e [] [])) none

@@ -8,7 +8,7 @@ use Rattle.dcsctp_machine.specs.declared.options.Options.{Options}
 use Rattle.dcsctp_machine.specs.Settings.{packet_size_limit}
 use Rattle.dcsctp_machine.specs.Packet.{Content, chunk_out}
 use Rattle.dcsctp_machine.specs.Outcome.{counted}
-use Rattle.dcsctp_machine.specs.turns.Flush.{allows_packet, flushes}
+use Rattle.dcsctp_machine.specs.turns.FlushOutcomes.{allows_packet, flush_outcome}
 use Rattle.dcsctp_machine.specs.Event.{Event, sent}
 use Rattle.dcsctp_core.specs.declared.context.Context.{Context}
 use Rattle.dcsctp_core.specs.View.{View, endpoint_of, view_of, Moves}
@@ -66,7 +66,7 @@ flushed packet (byte ∷ bytes) view = if allows_packet view.endpoint.options.ma
 -- It is a turn, whatever the machine calls the chunks that the packet holds, and keeps its limits.
 pub record Flushed {R : Type 0} (stream : R → Stream) (old : Context R) (with_checksum : Bool) (tag : ℕ) (contents : List Content)
     (new : Context R) : Type 0 where
-  pub moves : Moves stream (view_of old) (flushes (endpoint_of old) [] [] with_checksum tag contents) (view_of new)
+  pub moves : Moves stream (view_of old) (flush_outcome (endpoint_of old) [] [] with_checksum tag contents) (view_of new)
   pub limits : WithinLimits old.options (view_of old).events (view_of new).events
 
 -- The flush took place: this packet went out, if any; or a growth was refused, and nothing has changed.

@@ -1,4 +1,4 @@
--- What all handlers have in common: how a turn stands in a contract, and the turns of the doors.
+-- What all handlers have in common: how a turn stands in a contract, and the turns of what all handlers share.
 use Rattle.std.specs.Prelude.{◌≡◌, ℕ, ◌+◌, Bool, Result, Ok, Err, List, [], ◌∷◌, ◌++◌, length, nat_le, if◌then◌else◌}
 use Rattle.rand_core.specs.Stream.{Stream}
 use Rattle.dcsctp_wire.specs.Content.{ChunkContent}
@@ -6,14 +6,15 @@ use Rattle.dcsctp_wire.specs.Spelling.{chunk_bytes, header_bytes, packet_bytes_o
 use Rattle.dcsctp_machine.specs.declared.kinds.ErrorKind.{ErrorKind}
 use Rattle.dcsctp_machine.specs.declared.kinds.ErrorKind.TheVariants.{NoError}
 use Rattle.dcsctp_machine.specs.Settings.{packet_size_limit}
-use Rattle.dcsctp_machine.specs.Packet.{Content, Emission}
+use Rattle.dcsctp_machine.specs.Packet.{Emission}
 use Rattle.dcsctp_machine.specs.Cause.{Cause}
 use Rattle.dcsctp_machine.specs.Event.{Event, sent, aborted}
 use Rattle.dcsctp_machine.specs.Event as events
-use Rattle.dcsctp_machine.specs.Outcome.{Outcome, next_chunk, dropped_rest, still, counted, emits, reports}
-use Rattle.dcsctp_machine.specs.Outcome as machine
+use Rattle.dcsctp_machine.specs.Outcome.{Outcome, still, counted, reports}
+use Rattle.dcsctp_machine.specs.Following.{next_chunk, dropped_rest}
+use Rattle.dcsctp_machine.specs.Following as machine
 use Rattle.dcsctp_machine.specs.Turn.{arrival_outcome}
-use Rattle.dcsctp_machine.specs.turns.Ends.{close_outcome, abort_outcome}
+use Rattle.dcsctp_machine.specs.turns.EndOutcomes.{close_outcome, abort_outcome}
 use Rattle.dcsctp_core.specs.declared.following.Following.{Following}
 use Rattle.dcsctp_core.specs.declared.following.Following.TheVariants.{NextChunk, DroppedRest}
 use Rattle.dcsctp_core.specs.declared.context.Context.{Context}
@@ -61,7 +62,7 @@ abbrev pub WorksWhole : {R E : Type 0} → (R → Stream) → (View R → Outcom
 WorksWhole stream turn old (Ok next) new = Handles stream (view_of old) (turn (view_of old)) next (view_of new)
 WorksWhole stream turn old (Err error) new = view_of new ≡ view_of old
 
--- ---- the turns of the doors
+-- ---- the turns of what all handlers share
 
 -- Nothing happens.
 abbrev pub still_turn : {R : Type 0} → View R → Outcome
@@ -86,14 +87,6 @@ close_turn event view = close_outcome view.endpoint view.endpoint.core event
 -- An ABORT with these causes came.
 abbrev pub abort_turn : {R : Type 0} → List Cause → View R → Outcome
 abort_turn causes view = abort_outcome view.endpoint causes view.endpoint.core
-
--- a packet of one chunk, whatever the machine calls it
-abbrev pub emission_of : Bool → ℕ → Content → Emission
-emission_of with_checksum tag content = record { with_checksum = with_checksum; packet = record { tag = tag; contents = content ∷ [] } }
-
--- The packet goes out, where it fits.
-abbrev pub emit_turn : {R : Type 0} → Emission → View R → Outcome
-emit_turn emission view = emits view.endpoint [] emission
 
 -- Its bytes are one event more, and it is counted: what a chunk brings that fits in `mtu`.
 abbrev pub emitted : {R : Type 0} → Bool → ℕ → ChunkContent → View R → View R

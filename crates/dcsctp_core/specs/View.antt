@@ -9,10 +9,12 @@ use Rattle.dcsctp_machine.specs.Event.{Event}
 use Rattle.dcsctp_machine.specs.declared.association.Held.{Held}
 use Rattle.dcsctp_machine.specs.Transfer.{Transfer, new_transfer}
 use Rattle.dcsctp_machine.specs.Endpoint.{Endpoint, Core, closed, cookie_wait, cookie_echoed, open_in, established, RunningTimer, stopped_timers, fresh_endpoint}
-use Rattle.dcsctp_machine.specs.Outcome.{Outcome, next_chunk}
-use Rattle.dcsctp_machine.specs.control.Handshake.{new_held}
-use Rattle.dcsctp_machine.specs.turns.Handshake.{heartbeats_begun}
-use Rattle.dcsctp_machine.specs.CallTurns.{after_all, words_of, pairs_of, events_of}
+use Rattle.dcsctp_machine.specs.Outcome.{Outcome}
+use Rattle.dcsctp_machine.specs.Following.{next_chunk}
+use Rattle.dcsctp_machine.specs.control.HandshakeChanges.{new_held}
+use Rattle.dcsctp_machine.specs.turns.HandshakeOutcomes.{heartbeats_begun}
+use Rattle.dcsctp_machine.specs.control.Effect.{drawn_in}
+use Rattle.dcsctp_machine.specs.CallTurns.{Turned, after_all, words_of, effects_of, events_of}
 use Rattle.dcsctp_machine.specs.Settings.{ports_of}
 use Rattle.dcsctp_api.specs.Events.{event_content}
 use Rattle.dcsctp_api.specs.Calls.{user_event}
@@ -135,17 +137,17 @@ pub record Moves {R : Type 0} (stream : R → Stream) (old : View R) (outcome : 
   pub endpoint : new.endpoint ≡ outcome.after
   pub events : new.events ≡ old.events ++ map (user_event (ports_of old.endpoint.options)) outcome.events
   pub words : new.words ≡ old.words ++ outcome.words
-  pub pairs : new.pairs ≡ old.pairs ++ outcome.drawn
+  pub pairs : new.pairs ≡ old.pairs ++ drawn_in outcome.effects
   pub drawn : Drawn (stream old.generator) outcome.words (stream new.generator)
 
 -- several turns, one after another
-abbrev pub MovesAll : {R : Type 0} → (R → Stream) → View R → List Outcome → View R → Type 0
-MovesAll stream old outcomes new =
+abbrev pub MovesAll : {R : Type 0} → (R → Stream) → View R → List Turned → View R → Type 0
+MovesAll stream old turns new =
     Moves stream old (record {
-      words = words_of outcomes;
-      drawn = pairs_of outcomes;
-      after = after_all old.endpoint outcomes;
-      events = events_of outcomes;
+      words = words_of turns;
+      effects = effects_of turns;
+      after = after_all old.endpoint turns;
+      events = events_of turns;
       following = next_chunk;
     }) new
 
@@ -154,8 +156,8 @@ abbrev pub call_start : {R : Type 0} → View R → View R
 call_start view = record view { words = []; pairs = [] }
 
 -- the turns of a whole call
-abbrev pub CallMoves : {R : Type 0} → (R → Stream) → View R → List Outcome → View R → Type 0
-CallMoves stream old outcomes new = MovesAll stream (call_start old) outcomes new
+abbrev pub CallMoves : {R : Type 0} → (R → Stream) → View R → List Turned → View R → Type 0
+CallMoves stream old turns new = MovesAll stream (call_start old) turns new
 
 -- The turn was cut by a growth that was refused, after it had added so many of its events.
 pub record CutTurn {R : Type 0} (old : View R) (outcome : Outcome) (events : List (Event (List ℕ))) : Type 0 where

@@ -1,4 +1,4 @@
-//! The parts of a socket in one value, with one door for each effect.
+//! The parts of a socket in one value, with one function for each thing that they show or draw.
 
 ghost use Rattle.std.specs.Prelude.{◌≡◌};
 ghost use Rattle.dcsctp_machine.specs.Endpoint.{heartbeat_settings};
@@ -16,7 +16,7 @@ use rand_core::Rng;
 use std::alloc::{AllocError, Global};
 
 /// What a socket is made of. Handlers change the state, the events, the queue and the peer's
-/// implementation in place, and all else by the doors below.
+/// implementation in place, and all else by the functions below.
 #[derive(Drop)]
 pub struct Context<R> {
     /// Where memory comes from.

@@ -1,7 +1,7 @@
 //! How much goes out at once.
 
 ghost use Rattle.std.specs.Prelude.{◌≡◌};
-ghost use Rattle.dcsctp_machine.specs.turns.Flush.{allows_packet};
+ghost use Rattle.dcsctp_machine.specs.turns.FlushOutcomes.{allows_packet};
 
 use dcsctp_api::Options;
 

@@ -8,11 +8,12 @@ use Rattle.dcsctp_machine.specs.Cookie.{Cookie}
 use Rattle.dcsctp_machine.specs.Event.{Event, connected}
 use Rattle.dcsctp_machine.specs.Packet.{Emission, cookie_ack}
 use Rattle.dcsctp_machine.specs.Endpoint.{Endpoint, Core, closed, cookie_wait, cookie_echoed, open_in}
-use Rattle.dcsctp_machine.specs.Outcome.{Outcome, still}
-use Rattle.dcsctp_machine.specs.control.CookieEcho.{Resolution, establish_new, restart, simultaneous_init, discard, maintain_existing, invalid_tag}
-use Rattle.dcsctp_machine.specs.turns.Flush.{flushes}
-use Rattle.dcsctp_machine.specs.turns.Handshake.{connected_after}
-use Rattle.dcsctp_machine.specs.turns.CookieEcho.{refuses_echo, window_by_cookie, establishes_new, replaces, restarts}
+use Rattle.dcsctp_machine.specs.Outcome.{Outcome, still, noting}
+use Rattle.dcsctp_machine.specs.control.Effect.{connects, link_of}
+use Rattle.dcsctp_machine.specs.control.CookieEchoChanges.{Resolution, establish_new, restart, simultaneous_init, discard, maintain_existing, invalid_tag}
+use Rattle.dcsctp_machine.specs.turns.FlushOutcomes.{flush_outcome}
+use Rattle.dcsctp_machine.specs.turns.HandshakeOutcomes.{connected_after}
+use Rattle.dcsctp_machine.specs.turns.CookieEchoOutcomes.{refused_echo_outcome, window_by_cookie, establish_new_outcome, replace_outcome, restart_outcome}
 use Rattle.dcsctp_handshake.specs.declared.cookie_echo.CookieResolution.{CookieResolution}
 use Rattle.dcsctp_handshake.specs.declared.cookie_echo.CookieResolution.TheVariants.{EstablishNew, RestartDetected, SimultaneousInit, Discard, MaintainExisting, InvalidTag}
 use Rattle.dcsctp_core.specs.declared.transmission_control_block.Peer.{Peer}
@@ -31,7 +32,7 @@ resolution_of InvalidTag = invalid_tag
 
 -- these events, and a flush that begins with COOKIE ACK to this peer
 abbrev pub acknowledges_peer : Endpoint → Held → List (Event Emission) → Outcome
-acknowledges_peer e held events = flushes e [] events (held.capabilities.zero_checksum_method.0 == 0) held.peer.tag (cookie_ack ∷ [])
+acknowledges_peer e held events = flush_outcome e [] events (held.capabilities.zero_checksum_method.0 == 0) held.peer.tag (cookie_ack ∷ [])
 
 -- the same to the peer that is held, where one is
 abbrev pub acknowledged : Endpoint → Core → Outcome
@@ -52,15 +53,15 @@ peer_by_cookie options cookie =
 
 -- What waits to be sent stays.
 abbrev pub establish_turn : {R : Type 0} → (R → Stream) → Cookie → View R → Outcome
-establish_turn stream cookie view = establishes_new view.endpoint cookie (long_word (stream view.generator))
+establish_turn stream cookie view = establish_new_outcome view.endpoint cookie (long_word (stream view.generator))
 
 -- in place of the one that is held
 abbrev pub replace_turn : {R : Type 0} → (R → Stream) → Cookie → View R → Outcome
-replace_turn stream cookie view = replaces view.endpoint cookie (long_word (stream view.generator)) (connected ∷ [])
+replace_turn stream cookie view = replace_outcome view.endpoint cookie (long_word (stream view.generator)) (connected ∷ [])
 
 -- since the peer began anew
 abbrev pub restart_turn : {R : Type 0} → (R → Stream) → Cookie → View R → Outcome
-restart_turn stream cookie view = restarts view.endpoint cookie (long_word (stream view.generator))
+restart_turn stream cookie view = restart_outcome view.endpoint cookie (long_word (stream view.generator))
 
 -- ---- the others
 
@@ -68,7 +69,8 @@ restart_turn stream cookie view = restarts view.endpoint cookie (long_word (stre
 abbrev pub maintained : Endpoint → Core → Outcome
 maintained e closed = still e
 maintained e (cookie_wait mine) = still e
-maintained e (cookie_echoed mine held echoed) = acknowledges_peer (connected_after e mine held) held (connected ∷ [])
+maintained e (cookie_echoed mine held echoed) =
+    noting (connects (link_of mine held) ∷ []) (acknowledges_peer (connected_after e mine held) held (connected ∷ []))
 maintained e (open_in phase mine held) = acknowledges_peer e held []
 
 abbrev pub maintain_turn : {R : Type 0} → View R → Outcome
@@ -76,4 +78,4 @@ maintain_turn view = maintained view.endpoint view.endpoint.core
 
 -- A COOKIE ECHO is refused with this text.
 abbrev pub refuse_turn : {R : Type 0} → List ℕ → View R → Outcome
-refuse_turn text view = refuses_echo view.endpoint text
+refuse_turn text view = refused_echo_outcome view.endpoint text

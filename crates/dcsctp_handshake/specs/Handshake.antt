@@ -9,8 +9,8 @@ use Rattle.dcsctp_machine.specs.Cookie.{cookie_at}
 use Rattle.dcsctp_machine.specs.Packet.{Introduction}
 use Rattle.dcsctp_machine.specs.Endpoint.{Endpoint, Core, closed, cookie_wait, cookie_echoed, open_in}
 use Rattle.dcsctp_machine.specs.Outcome.{Outcome, still, emits}
-use Rattle.dcsctp_machine.specs.turns.Handshake.{tag_from, pair_from, init_outcome, answers_init, connect_outcome, init_emission, init_ack_outcome, echoes_cookie, accepts_init_ack, abort_emission, refuses_init_ack, cookie_ack_outcome}
-use Rattle.dcsctp_machine.specs.turns.CookieEcho.{cookie_echo_outcome}
+use Rattle.dcsctp_machine.specs.turns.HandshakeOutcomes.{tag_from, pair_from, init_outcome, answer_outcome, connect_outcome, init_emission, init_ack_outcome, send_echo_outcome, accepted_init_ack_outcome, abort_emission, refused_init_ack_outcome, cookie_ack_outcome}
+use Rattle.dcsctp_machine.specs.turns.CookieEchoOutcomes.{cookie_echo_outcome}
 use Rattle.dcsctp_core.specs.declared.context.Context.{Context}
 use Rattle.dcsctp_core.specs.declared.transmission_control_block.Peer.{Peer}
 use Rattle.dcsctp_core.specs.View.{View, view_of}
@@ -44,7 +44,7 @@ DrawsPair stream old (Err error) new = OnlyDraws old new
 
 -- An INIT is answered with this pair and tie tag.
 abbrev pub answer_turn : {R : Type 0} → Introduction → Pair → ℕ → View R → Outcome
-answer_turn theirs mine tie view = answers_init view.endpoint theirs [] mine tie
+answer_turn theirs mine tie view = answer_outcome view.endpoint theirs [] mine tie
 
 -- with the words that the generator gives next
 abbrev pub init_turn : {R : Type 0} → (R → Stream) → Introduction → View R → Outcome
@@ -66,13 +66,13 @@ missing_cookie_turn tag view = emits view.endpoint [] (abort_emission tag)
 
 -- An INIT ACK of this tag has no cookie.
 abbrev pub refusal_turn : {R : Type 0} → ℕ → View R → Outcome
-refusal_turn tag view = refuses_init_ack view.endpoint tag
+refusal_turn tag view = refused_init_ack_outcome view.endpoint tag
 
 -- The cookie that is echoed, where one is, goes out.
 abbrev pub echo_outcome : Endpoint → Core → Outcome
 echo_outcome e closed = still e
 echo_outcome e (cookie_wait mine) = still e
-echo_outcome e (cookie_echoed mine held cookie) = echoes_cookie e [] held.peer.tag cookie
+echo_outcome e (cookie_echoed mine held cookie) = send_echo_outcome e [] held.peer.tag cookie
 echo_outcome e (open_in phase mine held) = still e
 
 abbrev pub echo_turn : {R : Type 0} → View R → Outcome
@@ -84,7 +84,7 @@ peer_by_init_ack options theirs = record { pair = theirs.pair; a_rwnd = theirs.w
 
 -- An INIT ACK of this peer shows the association, and its cookie is echoed.
 abbrev pub acceptance_turn : {R : Type 0} → (R → Stream) → Pair → Introduction → List ℕ → View R → Outcome
-acceptance_turn stream mine theirs cookie view = accepts_init_ack view.endpoint mine theirs (Some cookie) (long_word (stream view.generator))
+acceptance_turn stream mine theirs cookie view = accepted_init_ack_outcome view.endpoint mine theirs (Some cookie) (long_word (stream view.generator))
 
 abbrev pub init_ack_turn : {R : Type 0} → (R → Stream) → Introduction → Option (List ℕ) → View R → Outcome
 init_ack_turn stream theirs cookie view = init_ack_outcome view.endpoint theirs cookie view.endpoint.core (long_word (stream view.generator))

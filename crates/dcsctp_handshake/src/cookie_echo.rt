@@ -2,7 +2,7 @@
 
 ghost use Rattle.std.specs.Prelude.{◌≡◌};
 ghost use Rattle.dcsctp_machine.specs.Settings.{IsValid};
-ghost use Rattle.dcsctp_machine.specs.control.CookieEcho.{resolve};
+ghost use Rattle.dcsctp_machine.specs.control.CookieEchoChanges.{resolve};
 ghost use Rattle.dcsctp_api.specs.Cookie.{cookie_of};
 ghost use Rattle.dcsctp_core.specs.View.{core_of, tie_of};
 ghost use Rattle.dcsctp_core.specs.Handling.{Tries, Takes, Works};

@@ -6,7 +6,7 @@ use Rattle.std.specs.Fmt.{padded_integral, digits, char_count}
 use Rattle.dcsctp_machine.specs.declared.association.Pair.{Pair}
 use Rattle.dcsctp_machine.specs.declared.association.Held.{Held}
 use Rattle.dcsctp_machine.specs.Endpoint.{Core, closed, cookie_wait, cookie_echoed, open_in, established, shutdown_ack_sent}
-use Rattle.dcsctp_machine.specs.Packet.{Content, init, cookie_echo, cookie_ack, abort, shutdown, shutdown_ack, shutdown_complete, other, Packet}
+use Rattle.dcsctp_machine.specs.Packet.{Content, init, cookie_echo, cookie_ack, abort, shutdown, shutdown_ack, shutdown_complete, plain, written, Packet}
 use Rattle.dcsctp_machine.specs.Admission.{Admission, all_chunks, shutdown_acks_alone, refused, shutdown_acks_in, admits}
 
 -- ---- sockets whose own tag is 9, of which the last two hold a peer with tag 7
@@ -43,7 +43,7 @@ an_init = init (record {
 
 -- a DATA chunk
 data_chunk : Content
-data_chunk = other 0 3 []
+data_chunk = plain (written 0 3 [])
 
 abort_is_wrong : Admission
 abort_is_wrong = refused (codes "ABORT chunk verification tag was wrong")

@@ -8,7 +8,7 @@ use Rattle.dcsctp_machine.specs.Cause.{missing_mandatory_parameter, cookie_recei
 use Rattle.dcsctp_wire.specs.Content.{unknown_cause}
 use Rattle.dcsctp_machine.specs.Reconfiguration.{outgoing_reset_request, incoming_reset_request, reconfiguration_response, other_reset_parameter, result_code}
 use Rattle.dcsctp_machine.specs.Packet.{Content, cookie_echo, cookie_ack, re_config, abort, shutdown, shutdown_ack, shutdown_complete, chunk_out, emission_bytes}
-use Rattle.dcsctp_machine.specs.control.CookieEcho.{shutting_down_error}
+use Rattle.dcsctp_machine.specs.control.CookieEchoChanges.{shutting_down_error}
 
 -- a chunk with its padding
 abbrev bytes_of : Content → List ℕ

@@ -10,16 +10,18 @@ use Rattle.dcsctp_machine.specs.Cause.{Cause}
 use Rattle.dcsctp_machine.specs.Event.{Event, aborted, connected}
 use Rattle.dcsctp_machine.specs.Packet.{Introduction, Content, init_ack, cookie_echo, cookie_ack, abort, Emission}
 use Rattle.dcsctp_machine.specs.Endpoint.{Endpoint, Core, closed, cookie_wait, cookie_echoed, open_in, established}
-use Rattle.dcsctp_machine.specs.Outcome.{Outcome, next_chunk, still, quiet, sends, fits, drawing}
-use Rattle.dcsctp_machine.specs.turns.Flush.{allows_packet}
-use Rattle.dcsctp_machine.specs.turns.Ends.{ends_with, abort_outcome}
-use Rattle.dcsctp_machine.specs.turns.Handshake.{pair_from, init_emission, awaits_init_ack, connect_outcome, ConnectTurn, no_cookie_text, abort_emission, awaits_cookie_ack, echo_emission, init_ack_outcome, InitAckTurn, connected_after, cookie_ack_outcome}
-use Rattle.dcsctp_machine.specs.control.Effect.{connects, Change, unchanged, emitted_alone, link_of}
+use Rattle.dcsctp_machine.specs.Outcome.{Outcome, noting, still, quiet, sends, fits, drawing}
+use Rattle.dcsctp_machine.specs.Following.{next_chunk}
+use Rattle.dcsctp_machine.specs.turns.FlushOutcomes.{allows_packet}
+use Rattle.dcsctp_machine.specs.turns.EndOutcomes.{ended_outcome, abort_outcome}
+use Rattle.dcsctp_machine.specs.turns.HandshakeOutcomes.{pair_from, init_emission, awaits_init_ack, connect_outcome, ConnectTurn, no_cookie_text, abort_emission, awaits_cookie_ack, echo_emission, init_ack_outcome, InitAckTurn, CookieAckTurn, connected_after, cookie_ack_outcome}
+use Rattle.dcsctp_machine.specs.control.Effect.{holds, connects, Change, unchanged, emitted_alone, link_of}
 use Rattle.dcsctp_machine.specs.control.Choices.{Filling, Choices}
-use Rattle.dcsctp_machine.specs.control.Flush.{reset_to_begin, Flushed, flushed_with, flush}
-use Rattle.dcsctp_machine.specs.control.Handshake.{connect_change, init_ack_change}
+use Rattle.dcsctp_machine.specs.control.FlushChanges.{reset_to_begin, Flushed, flushed_with, flush}
+use Rattle.dcsctp_machine.specs.control.HandshakeChanges.{connect_change, init_ack_change, held_by_init_ack}
 use Rattle.dcsctp_machine.specs.control.Acts.{connect, ChunkChange}
 use Rattle.dcsctp_machine.specs.Controlled.{IsControlled, ControlledChunk, ControlledAct}
+use Rattle.dcsctp_machine.proofs.FlushLemmas.{init_ack_turn_now, cookie_ack_turn_now}
 
 -- ---- what a turn chooses
 
@@ -59,7 +61,7 @@ ControlledAt e core tag content o = (change : Change) × ChunkChange e.options c
 
 -- a turn in which nothing happens
 pub still_controlled : (e : Endpoint) (core : Core) → e.core ≡ core → IsControlled e (still e) (unchanged core)
-still_controlled e core is = record { core = is; options = refl; signs = refl; drawn = refl; following = refl }
+still_controlled e core is = record { core = is; options = refl; signs = refl; effects = refl; following = refl }
 
 -- ---- a flush
 
@@ -89,8 +91,8 @@ flushes_one allowed e words events with_checksum tag content =
 
 connects_where : (b : Bool) (e : Endpoint) (mine : Pair) (words : List Word)
     → IsControlled e (drawing mine (if b then sends (awaits_init_ack e mine) words [] (init_emission e mine) else quiet (awaits_init_ack e mine) words [])) (connect_change e.options closed (choices_of e mine [] b))
-connects_where true e mine words = record { core = refl; options = refl; signs = refl; drawn = refl; following = refl }
-connects_where false e mine words = record { core = refl; options = refl; signs = refl; drawn = refl; following = refl }
+connects_where true e mine words = record { core = refl; options = refl; signs = refl; effects = refl; following = refl }
+connects_where false e mine words = record { core = refl; options = refl; signs = refl; effects = refl; following = refl }
 
 connect_at : (e : Endpoint) (core : Core) (word next : ℕ) → e.core ≡ core
     → (choices : Choices) × IsControlled e (connect_outcome e core word next) (connect_change e.options core choices)
@@ -109,18 +111,19 @@ connect_controlled e o turn = subst (ControlledAct e connect) (sym turn.2) (conn
 
 -- Without a cookie the peer is told where that fits, and the association ends.
 refused_where : (b : Bool) (e : Endpoint) (mine : Pair) (theirs : Introduction)
-    → IsControlled e (ends_with (if b then sends e [] [] (abort_emission theirs.pair.tag) else quiet e [] []) (aborted ProtocolViolation no_cookie_text))
+    → IsControlled e (ended_outcome (if b then sends e [] [] (abort_emission theirs.pair.tag) else quiet e [] []) (aborted ProtocolViolation no_cookie_text))
     (init_ack_change e.options (cookie_wait mine) theirs None (no_choices e b))
-refused_where true e mine theirs = record { core = refl; options = refl; signs = refl; drawn = refl; following = refl }
-refused_where false e mine theirs = record { core = refl; options = refl; signs = refl; drawn = refl; following = refl }
+refused_where true e mine theirs = record { core = refl; options = refl; signs = refl; effects = refl; following = refl }
+refused_where false e mine theirs = record { core = refl; options = refl; signs = refl; effects = refl; following = refl }
 
 -- With one, its COOKIE ECHO goes out where it fits and where a packet is allowed.
 echoed_where : (b allowed : Bool) (e : Endpoint) (mine : Pair) (theirs : Introduction) (cookie : List ℕ) (tie : ℕ)
-    → IsControlled e (if b then flushes_one allowed (awaits_cookie_ack e mine theirs cookie tie) (U64 tie ∷ []) [] true theirs.pair.tag (cookie_echo cookie) else quiet (awaits_cookie_ack e mine theirs cookie tie) (U64 tie ∷ []) [])
+    → IsControlled e (noting (holds (link_of mine (held_by_init_ack e.options mine theirs)) ∷ [])
+    (if b then flushes_one allowed (awaits_cookie_ack e mine theirs cookie tie) (U64 tie ∷ []) [] true theirs.pair.tag (cookie_echo cookie) else quiet (awaits_cookie_ack e mine theirs cookie tie) (U64 tie ∷ []) []))
     (init_ack_change e.options (cookie_wait mine) theirs (Some cookie) (choosing e b allowed))
-echoed_where true true e mine theirs cookie tie = record { core = refl; options = refl; signs = refl; drawn = refl; following = refl }
-echoed_where true false e mine theirs cookie tie = record { core = refl; options = refl; signs = refl; drawn = refl; following = refl }
-echoed_where false allowed e mine theirs cookie tie = record { core = refl; options = refl; signs = refl; drawn = refl; following = refl }
+echoed_where true true e mine theirs cookie tie = record { core = refl; options = refl; signs = refl; effects = refl; following = refl }
+echoed_where true false e mine theirs cookie tie = record { core = refl; options = refl; signs = refl; effects = refl; following = refl }
+echoed_where false allowed e mine theirs cookie tie = record { core = refl; options = refl; signs = refl; effects = refl; following = refl }
 
 init_ack_at : (e : Endpoint) (core : Core) (tag : ℕ) (theirs : Introduction) (cookie : Option (List ℕ)) (word : ℕ) → e.core ≡ core
     → ControlledAt e core tag (init_ack theirs cookie) (init_ack_outcome e theirs cookie core word)
@@ -136,14 +139,16 @@ init_ack_at e (open_in phase my held) tag theirs cookie word is = (_, (no_choice
 
 pub init_ack_controlled : (e : Endpoint) (tag : ℕ) (theirs : Introduction) (cookie : Option (List ℕ)) (o : Outcome) → InitAckTurn e theirs cookie o
     → ControlledChunk e tag (init_ack theirs cookie) o
-init_ack_controlled e tag theirs cookie o turn = subst (ControlledChunk e tag (init_ack theirs cookie)) (sym turn.1) (init_ack_at e e.core tag theirs cookie turn.0 refl)
+init_ack_controlled e tag theirs cookie o turn =
+    let now : (word : ℕ) × (o ≡ init_ack_outcome e theirs cookie e.core word) = init_ack_turn_now e theirs cookie o turn in
+    subst (ControlledChunk e tag (init_ack theirs cookie)) (sym now.1) (init_ack_at e e.core tag theirs cookie now.0 refl)
 
 -- ---- COOKIE ACK
 
 -- the turn, by what the flush makes of the peer
 abbrev ConnectedBy : Endpoint → Pair → Held → Flushed → Type 0
 ConnectedBy e mine held after =
-    IsControlled e (quiet (connected_after e mine held) [] (connected ∷ []))
+    IsControlled e (noting (connects (link_of mine held) ∷ []) (quiet (connected_after e mine held) [] (connected ∷ [])))
     (record { core = open_in established mine after.held; effects = connects (link_of mine held) ∷ after.effects; following = next_chunk })
 
 cookie_ack_at : (e : Endpoint) (core : Core) (tag : ℕ) → e.core ≡ core → ControlledAt e core tag cookie_ack (cookie_ack_outcome e core)
@@ -152,20 +157,20 @@ cookie_ack_at e (cookie_wait mine) tag is = (_, (no_choices e true, tt, refl), s
 cookie_ack_at e (cookie_echoed mine held cookie) tag is = (
   _,
   (no_choices e true, tt, refl),
-  subst (ConnectedBy e mine held) (sym (flush_of_none (allows_packet e.options.max_burst) held.peer.tag held)) (record { core = refl; options = refl; signs = refl; drawn = refl; following = refl }),
+  subst (ConnectedBy e mine held) (sym (flush_of_none (allows_packet e.options.max_burst) held.peer.tag held)) (record { core = refl; options = refl; signs = refl; effects = refl; following = refl }),
 )
 cookie_ack_at e (open_in phase mine held) tag is = (_, (no_choices e true, tt, refl), still_controlled e (open_in phase mine held) is)
 
-pub cookie_ack_controlled : (e : Endpoint) (tag : ℕ) (o : Outcome) → o ≡ cookie_ack_outcome e e.core → ControlledChunk e tag cookie_ack o
-cookie_ack_controlled e tag o turn = subst (ControlledChunk e tag cookie_ack) (sym turn) (cookie_ack_at e e.core tag refl)
+pub cookie_ack_controlled : (e : Endpoint) (tag : ℕ) (o : Outcome) → CookieAckTurn e o → ControlledChunk e tag cookie_ack o
+cookie_ack_controlled e tag o turn = subst (ControlledChunk e tag cookie_ack) (sym (cookie_ack_turn_now e o turn)) (cookie_ack_at e e.core tag refl)
 
 -- ---- ABORT
 
 abort_at : (e : Endpoint) (core : Core) (tag : ℕ) (reflected : Bool) (causes : List Cause) → e.core ≡ core → ControlledAt e core tag (abort reflected causes) (abort_outcome e causes core)
 abort_at e closed tag reflected causes is = (_, (no_choices e true, tt, refl), still_controlled e closed is)
 abort_at e (cookie_wait mine) tag reflected causes is = (_, (no_choices e true, tt, refl), still_controlled e (cookie_wait mine) is)
-abort_at e (cookie_echoed mine held cookie) tag reflected causes is = (_, (no_choices e true, tt, refl), record { core = refl; options = refl; signs = refl; drawn = refl; following = refl })
-abort_at e (open_in phase mine held) tag reflected causes is = (_, (no_choices e true, tt, refl), record { core = refl; options = refl; signs = refl; drawn = refl; following = refl })
+abort_at e (cookie_echoed mine held cookie) tag reflected causes is = (_, (no_choices e true, tt, refl), record { core = refl; options = refl; signs = refl; effects = refl; following = refl })
+abort_at e (open_in phase mine held) tag reflected causes is = (_, (no_choices e true, tt, refl), record { core = refl; options = refl; signs = refl; effects = refl; following = refl })
 
 pub abort_controlled : (e : Endpoint) (tag : ℕ) (reflected : Bool) (causes : List Cause) (o : Outcome) → o ≡ abort_outcome e causes e.core → ControlledChunk e tag (abort reflected causes) o
 abort_controlled e tag reflected causes o turn = subst (ControlledChunk e tag (abort reflected causes)) (sym turn) (abort_at e e.core tag reflected causes refl)

@@ -1,5 +1,5 @@
 -- The turns of an endpoint are turns of its association.
-use Rattle.std.proofs.Common.{◌≡◌, ◌≤◌, ℕ, Bool, true, false, cond, List, [], ◌∷◌, refl, sym, subst, ap, ◌∙◌, arith}
+use Rattle.std.proofs.Common.{◌≡◌, ◌≤◌, ℕ, Bool, true, false, cond, List, [], ◌∷◌, ◌⊎◌, inl, inr, refl, sym, subst, ap, arith}
 use Rattle.std.proofs.lemmas.Bool.Decides.{nat_tests}
 use Rattle.dcsctp_wire.specs.Spelling.{other_bytes}
 use Rattle.dcsctp_machine.specs.Settings.{packet_size_limit, IsValid}
@@ -8,19 +8,23 @@ use Rattle.dcsctp_machine.specs.declared.association.Held.{Held}
 use Rattle.dcsctp_machine.specs.declared.word.Word.{Word}
 use Rattle.dcsctp_machine.specs.declared.word.Word.TheVariants.{U32}
 use Rattle.dcsctp_machine.specs.Cookie.{cookie_bytes}
-use Rattle.dcsctp_machine.specs.Packet.{Introduction, Content, init, init_ack, cookie_echo, cookie_ack, re_config, abort, shutdown, shutdown_ack, shutdown_complete, other, Emission}
+use Rattle.dcsctp_machine.specs.Packet.{Introduction, Content, init, init_ack, cookie_echo, cookie_ack, re_config, abort, shutdown, shutdown_ack, shutdown_complete, plain}
 use Rattle.dcsctp_machine.specs.Endpoint.{Endpoint, Core, closed, cookie_wait, cookie_echoed, open_in, established, shutdown_pending, shutdown_sent, shutdown_received, shutdown_ack_sent}
-use Rattle.dcsctp_machine.specs.Outcome.{Outcome, still, next_chunk, count_up, fits, quiet, sends, emits, drawing}
+use Rattle.dcsctp_machine.specs.Outcome.{Outcome, still, count_up, fits, emits, drawing}
+use Rattle.dcsctp_machine.specs.Following.{next_chunk}
 use Rattle.dcsctp_machine.specs.Event.{sent}
-use Rattle.dcsctp_machine.specs.turns.Handshake.{pair_from, renewed_pair, renews, cookie_for, init_ack_for, init_ack_emission, answers_init, to_peer, init_outcome}
+use Rattle.dcsctp_machine.specs.declared.options.Options.{Options}
+use Rattle.dcsctp_machine.specs.Turn.{BeginTurn}
+use Rattle.dcsctp_machine.specs.turns.HandshakeOutcomes.{pair_from, renewed_pair, renewed_outcome, cookie_for, init_ack_for, init_ack_emission, answer_outcome, to_peer, init_outcome}
 use Rattle.dcsctp_machine.specs.control.Effect.{Effect, draws, unchanged, emitted_alone}
 use Rattle.dcsctp_machine.specs.control.Choices.{Choices}
-use Rattle.dcsctp_machine.specs.control.Handshake.{IsCookieOf}
-use Rattle.dcsctp_machine.specs.control.Acts.{connect, t1_expires, shut_down, step_of_shutdown, shutdown_repeats, abort_with, hands_over, flushes, request_again, ChunkChange}
-use Rattle.dcsctp_machine.specs.Controlled.{IsControlled, ControlledChunk}
-use Rattle.dcsctp_machine.specs.Laws.{FitsPair, FitsOwn, FitsAnswer, ChunksAreControlled, ActsAreControlled}
+use Rattle.dcsctp_machine.specs.control.HandshakeChanges.{IsCookieOf}
+use Rattle.dcsctp_machine.specs.control.Acts.{act_change, connect, t1_expires, shut_down, step_of_shutdown, shutdown_repeats, abort_with, hands_over, flushes, request_again}
+use Rattle.dcsctp_machine.specs.Controlled.{IsControlled, ControlledChunk, ControlledAct}
+use Rattle.dcsctp_machine.specs.Laws.{FitsPair, FitsOwn, FitsAnswer, ChunksAreControlled, ActsAreControlled, StandsBefore}
+use Rattle.dcsctp_machine.proofs.PlainLemmas.{plain_controlled}
 use Rattle.dcsctp_machine.proofs.LawLemmas.{names_read_back}
-use Rattle.dcsctp_machine.proofs.ControlHandshake.{choices_of, no_choices, filling_where, ControlledAt, still_controlled, init_ack_controlled, cookie_ack_controlled, abort_controlled, connect_controlled}
+use Rattle.dcsctp_machine.proofs.ControlHandshake.{choices_of, ControlledAt, still_controlled, init_ack_controlled, cookie_ack_controlled, abort_controlled, connect_controlled}
 use Rattle.dcsctp_machine.proofs.ControlEcho.{cookie_echo_controlled}
 
 -- ---- an INIT
@@ -40,36 +44,32 @@ is_cookie e theirs mine tie h mine_fits =
 one_packet : (b : Bool) (e : Endpoint) (words : List Word) (with_checksum : Bool) (tag : ℕ) (content : Content) (core : Core) → e.core ≡ core
     → IsControlled e (cond b (record {
       words = words;
-      drawn = [];
+      effects = [];
       after = record e { counts = record e.counts { packets_sent = count_up e.counts.packets_sent } };
       events = sent (record { with_checksum = with_checksum; packet = record { tag = tag; contents = content ∷ [] } }) ∷ [];
       following = next_chunk;
-    }) (record { words = words; drawn = []; after = e; events = []; following = next_chunk })) (record { core = core; effects = emitted_alone b tag content; following = next_chunk })
-one_packet true e words with_checksum tag content core is = record { core = is; options = refl; signs = refl; drawn = refl; following = refl }
-one_packet false e words with_checksum tag content core is = record { core = is; options = refl; signs = refl; drawn = refl; following = refl }
+    }) (record { words = words; effects = []; after = e; events = []; following = next_chunk })) (record { core = core; effects = emitted_alone b tag content; following = next_chunk })
+one_packet true e words with_checksum tag content core is = record { core = is; options = refl; signs = refl; effects = refl; following = refl }
+one_packet false e words with_checksum tag content core is = record { core = is; options = refl; signs = refl; effects = refl; following = refl }
 
 -- what is drawn beside it leaves no sign
-pub drawing_controlled : (e : Endpoint) (o : Outcome) (core : Core) (pair : Pair) (effects : List Effect) → o.drawn ≡ []
+pub drawing_controlled : (e : Endpoint) (o : Outcome) (core : Core) (pair : Pair) (effects : List Effect)
     → IsControlled e o (record { core = core; effects = effects; following = next_chunk }) → IsControlled e (drawing pair o) (record { core = core; effects = draws pair ∷ effects; following = next_chunk })
-drawing_controlled e o core pair effects none h =
-    record { core = h.core; options = h.options; signs = h.signs; drawn = ap (λ (ps : List Pair). pair ∷ ps) (sym none ∙ h.drawn); following = h.following }
-
-answer_draws_none : (b : Bool) (e : Endpoint) (words : List Word) (emission : Emission) → (cond b (sends e words [] emission) (quiet e words [])).drawn ≡ []
-answer_draws_none true e words emission = refl
-answer_draws_none false e words emission = refl
+drawing_controlled e o core pair effects h =
+    record { core = h.core; options = h.options; signs = h.signs; effects = ap (λ (es : List Effect). draws pair ∷ es) h.effects; following = h.following }
 
 answered : (e : Endpoint) (tag : ℕ) (theirs : Introduction) (mine : Pair) (tie : ℕ) (words : List Word) (core : Core) → e.core ≡ core
-    → IsControlled e (answers_init e theirs words mine tie) (record { core = core; effects = emitted_alone (fits e (init_ack_emission e theirs mine tie)) theirs.pair.tag (init_ack_for e theirs mine tie); following = next_chunk })
+    → IsControlled e (answer_outcome e theirs words mine tie) (record { core = core; effects = emitted_alone (fits e (init_ack_emission e theirs mine tie)) theirs.pair.tag (init_ack_for e theirs mine tie); following = next_chunk })
 answered e tag theirs mine tie words core is =
     one_packet (fits e (init_ack_emission e theirs mine tie)) e words (init_ack_emission e theirs mine tie).with_checksum theirs.pair.tag (init_ack_for e theirs mine tie) core is
 
 renewed : (e : Endpoint) (tag : ℕ) (theirs : Introduction) (word : ℕ) (core : Core) → e.core ≡ core → FitsAnswer e theirs
     → IsCookieOf theirs (renewed_pair e word) (cookie_bytes (cookie_for theirs (renewed_pair e word) e.tie))
-    × IsControlled e (renews e theirs word)
+    × IsControlled e (renewed_outcome e theirs word)
     (record { core = core; effects = draws (renewed_pair e word) ∷ emitted_alone (fits e (init_ack_emission e theirs (renewed_pair e word) e.tie)) theirs.pair.tag (init_ack_for e theirs (renewed_pair e word) e.tie); following = next_chunk })
 renewed e tag theirs word core is h = (
   is_cookie e theirs (renewed_pair e word) e.tie h (renewed_fits e word),
-  drawing_controlled e _ core (renewed_pair e word) _ (answer_draws_none (fits e (init_ack_emission e theirs (renewed_pair e word) e.tie)) e (U32 word ∷ []) (init_ack_emission e theirs (renewed_pair e word) e.tie))
+  drawing_controlled e _ core (renewed_pair e word) _
       (answered e tag theirs (renewed_pair e word) e.tie (U32 word ∷ []) core is),
 )
 
@@ -98,7 +98,7 @@ init_controlled e tag theirs closed word next is own h = (
     is_cookie e theirs (pair_from word next) 0 h (drawn_fits word next),
     refl,
   ),
-  drawing_controlled e _ closed (pair_from word next) _ (answer_draws_none (fits e (init_ack_emission e theirs (pair_from word next) 0)) e (U32 word ∷ U32 next ∷ []) (init_ack_emission e theirs (pair_from word next) 0))
+  drawing_controlled e _ closed (pair_from word next) _
       (answered e tag theirs (pair_from word next) 0 (U32 word ∷ U32 next ∷ []) closed is),
 )
 init_controlled e tag theirs (cookie_wait my) word next is own h = (
@@ -128,25 +128,6 @@ init_controlled e tag theirs (open_in shutdown_ack_sent my held) word next is ow
 
 -- ---- every chunk
 
--- what a chunk chooses where nothing waits and nothing is said
-abbrev nothing_chosen : Endpoint → Choices
-nothing_chosen e = record (no_choices e false) { is_acknowledged = false; filling = filling_where false }
-
--- It may change nothing, whatever the association is.
-other_change_is_none : (e : Endpoint) (core : Core) (tag chunk_type flags : ℕ) (value : List ℕ) → ChunkChange e.options core tag (other chunk_type flags value) (unchanged core)
-other_change_is_none e closed tag chunk_type flags value = (nothing_chosen e, tt, refl)
-other_change_is_none e (cookie_wait my) tag chunk_type flags value = (nothing_chosen e, tt, refl)
-other_change_is_none e (cookie_echoed my held cookie) tag chunk_type flags value = (nothing_chosen e, tt, refl)
-other_change_is_none e (open_in established my held) tag chunk_type flags value = (nothing_chosen e, tt, refl)
-other_change_is_none e (open_in shutdown_pending my held) tag chunk_type flags value = (nothing_chosen e, tt, refl)
-other_change_is_none e (open_in shutdown_sent my held) tag chunk_type flags value = (nothing_chosen e, tt, refl)
-other_change_is_none e (open_in shutdown_received my held) tag chunk_type flags value = (nothing_chosen e, tt, refl)
-other_change_is_none e (open_in shutdown_ack_sent my held) tag chunk_type flags value = (nothing_chosen e, tt, refl)
-
-other_controlled : (e : Endpoint) (tag chunk_type flags : ℕ) (value : List ℕ) (o : Outcome) → o ≡ still e → ControlledChunk e tag (other chunk_type flags value) o
-other_controlled e tag chunk_type flags value o turn =
-    subst (ControlledChunk e tag (other chunk_type flags value)) (sym turn) (unchanged e.core, other_change_is_none e e.core tag chunk_type flags value, still_controlled e e.core refl)
-
 pub chunks_are_controlled : ChunksAreControlled
 chunks_are_controlled e tag (init theirs) o turn fitting =
     subst (ControlledChunk e tag (init theirs)) (sym turn.2) (init_controlled e tag theirs e.core turn.0 turn.1 refl fitting.own fitting)
@@ -158,7 +139,38 @@ chunks_are_controlled e tag (abort reflected causes) o turn fitting = abort_cont
 chunks_are_controlled e tag (shutdown cumulative_tsn) o turn fitting = turn
 chunks_are_controlled e tag shutdown_ack o turn fitting = turn
 chunks_are_controlled e tag (shutdown_complete reflected) o turn fitting = turn
-chunks_are_controlled e tag (other chunk_type flags value) o turn fitting = other_controlled e tag chunk_type flags value o turn
+chunks_are_controlled e tag (plain chunk) o turn fitting = plain_controlled e tag chunk o turn
+
+-- ---- what stands before a packet's chunks
+
+-- Nothing happens, or a SHUTDOWN goes out again.
+pub begin_stands : (e : Endpoint) (core : Core) (has : Bool) (o : Outcome) → BeginTurn e core has o → (o ≡ still e) ⊎ ControlledAct e shutdown_repeats o
+begin_stands e closed has o turn = inl turn
+begin_stands e (cookie_wait my) has o turn = inl turn
+begin_stands e (cookie_echoed my held cookie) has o turn = inl turn
+begin_stands e (open_in established my held) has o turn = inl turn
+begin_stands e (open_in shutdown_pending my held) has o turn = inl turn
+begin_stands e (open_in shutdown_sent my held) true o turn = inr turn
+begin_stands e (open_in shutdown_sent my held) false o turn = inl turn
+begin_stands e (open_in shutdown_received my held) has o turn = inl turn
+begin_stands e (open_in shutdown_ack_sent my held) has o turn = inl turn
+
+-- Such a SHUTDOWN leaves the association as it is.
+repeated_keeps : (options : Options) (core : Core) (choices : Choices) → (act_change options core shutdown_repeats choices).core ≡ core
+repeated_keeps options closed choices = refl
+repeated_keeps options (cookie_wait my) choices = refl
+repeated_keeps options (cookie_echoed my held cookie) choices = refl
+repeated_keeps options (open_in established my held) choices = refl
+repeated_keeps options (open_in shutdown_pending my held) choices = refl
+repeated_keeps options (open_in shutdown_sent my held) choices = refl
+repeated_keeps options (open_in shutdown_received my held) choices = refl
+repeated_keeps options (open_in shutdown_ack_sent my held) choices = refl
+
+pub stands_before : (e : Endpoint) (has : Bool) (o : Outcome) → BeginTurn e e.core has o → StandsBefore e o
+stands_before e has o turn = elim (begin_stands e e.core has o turn) [
+  | inl rests ↦ record { change = unchanged e.core; is = inl refl; controlled = subst (λ (x : Outcome). IsControlled e x (unchanged e.core)) (sym rests) (still_controlled e e.core refl); keeps = refl }
+  | inr acts ↦ record { change = act_change e.options e.core shutdown_repeats acts.0; is = inr (acts.0, refl); controlled = acts.1; keeps = repeated_keeps e.options e.core acts.0 }
+]
 
 -- ---- every act
 

@@ -9,12 +9,13 @@ use Rattle.dcsctp_machine.specs.declared.kinds.ErrorKind.TheVariants.{ParseFaile
 use Rattle.dcsctp_machine.specs.declared.word.Word.TheVariants.{U64}
 use Rattle.dcsctp_machine.specs.Event.{connected, connection_restarted, error}
 use Rattle.dcsctp_machine.specs.Cookie.{Cookie, cookie_at}
-use Rattle.dcsctp_machine.specs.Packet.{cookie_ack, shutdown_ack, other}
+use Rattle.dcsctp_machine.specs.Packet.{cookie_ack, shutdown_ack, plain, written}
 use Rattle.dcsctp_machine.specs.Transfer.{SendQueueState}
 use Rattle.dcsctp_machine.specs.Endpoint.{Endpoint, closed, cookie_echoed, open_in, established, shutdown_received, shutdown_ack_sent, stopped_timers}
-use Rattle.dcsctp_machine.specs.Outcome.{next_chunk, dropped_rest}
-use Rattle.dcsctp_machine.specs.turns.CookieEcho.{window_by_cookie, cookie_echo_outcome}
-use Rattle.dcsctp_machine.proofs.HandshakeTurnFacts.{configured, queue, queue_at_start, socket, heartbeats_due, mine, held, transfer_begun, packet_of}
+use Rattle.dcsctp_machine.specs.Following.{next_chunk, dropped_rest}
+use Rattle.dcsctp_machine.specs.control.Effect.{holds, connects}
+use Rattle.dcsctp_machine.specs.turns.CookieEchoOutcomes.{window_by_cookie, cookie_echo_outcome}
+use Rattle.dcsctp_machine.proofs.HandshakeTurnFacts.{configured, queue, queue_at_start, socket, heartbeats_due, mine, held, transfer_begun, link, packet_of}
 
 -- made by this socket under tag 7 for the INIT of a peer under tag 9, with this tie tag
 abbrev own_cookie : ℕ → List ℕ
@@ -36,17 +37,17 @@ made e waiting packets_sent =
 
 -- The message under way goes on. COOKIE ACK has no checksum, as both have the method.
 echo_where_closed : (e : Endpoint) → cookie_echo_outcome (socket e 1191 (pos 4) closed 4) closed 7 (cookie_at (own_cookie 0)) 55
-    ≡ record { words = U64 55 ∷ []; drawn = []; after = made e (queue true) 5; events = connected ∷ packet_of false 9 (cookie_ack ∷ []) ∷ []; following = next_chunk }
+    ≡ record { words = U64 55 ∷ []; effects = holds link ∷ connects link ∷ []; after = made e (queue true) 5; events = connected ∷ packet_of false 9 (cookie_ack ∷ []) ∷ []; following = next_chunk }
 unfolding cookie_at
 echo_where_closed e = refl
 
 echo_under_wrong_tag : (e : Endpoint) → cookie_echo_outcome e closed 8 (cookie_at (own_cookie 0)) 55
-    ≡ record { words = []; drawn = []; after = e; events = error ParseFailed (codes "Received CookieEcho with invalid verification tag") ∷ []; following = dropped_rest }
+    ≡ record { words = []; effects = []; after = e; events = error ParseFailed (codes "Received CookieEcho with invalid verification tag") ∷ []; following = dropped_rest }
 unfolding cookie_at
 echo_under_wrong_tag e = refl
 
 echo_that_is_no_cookie : (e : Endpoint) → cookie_echo_outcome e closed 7 (cookie_at []) 55
-    ≡ record { words = []; drawn = []; after = e; events = error ParseFailed (codes "Invalid state cookie size") ∷ []; following = dropped_rest }
+    ≡ record { words = []; effects = []; after = e; events = error ParseFailed (codes "Invalid state cookie size") ∷ []; following = dropped_rest }
 unfolding cookie_at
 echo_that_is_no_cookie e = refl
 
@@ -65,12 +66,12 @@ older_held = record held { peer = record { tag = 90; first_tsn = 900 } }
 
 -- Both tags are other ones, and the tie tag is the association's. The message under way begins again.
 echo_of_restart : (e : Endpoint) → cookie_echo_outcome (socket e 1191 (pos 4) (open_in established older older_held) 4) (open_in established older older_held) 7 (cookie_at (own_cookie 77)) 55
-    ≡ record { words = U64 55 ∷ []; drawn = []; after = made e queue_at_start 5; events = connection_restarted ∷ connected ∷ packet_of false 9 (cookie_ack ∷ []) ∷ []; following = next_chunk }
+    ≡ record { words = U64 55 ∷ []; effects = holds link ∷ connects link ∷ []; after = made e queue_at_start 5; events = connection_restarted ∷ connected ∷ packet_of false 9 (cookie_ack ∷ []) ∷ []; following = next_chunk }
 unfolding cookie_at
 echo_of_restart e = refl
 
 echo_of_unknown_restart : (e : Endpoint) → cookie_echo_outcome (socket e 1191 (pos 4) (open_in established older older_held) 4) (open_in established older older_held) 7 (cookie_at (own_cookie 76)) 55
-    ≡ record { words = []; drawn = []; after = socket e 1191 (pos 4) (open_in established older older_held) 4; events = error ParseFailed (codes "Received CookieEcho with invalid verification tag") ∷ []; following = dropped_rest }
+    ≡ record { words = []; effects = []; after = socket e 1191 (pos 4) (open_in established older older_held) 4; events = error ParseFailed (codes "Received CookieEcho with invalid verification tag") ∷ []; following = dropped_rest }
 unfolding cookie_at
 echo_of_unknown_restart e = refl
 
@@ -78,9 +79,9 @@ echo_of_unknown_restart e = refl
 echo_of_restart_in_shutdown_ack_sent : (e : Endpoint) → cookie_echo_outcome (socket e 1191 (pos 4) (open_in shutdown_ack_sent older older_held) 4) (open_in shutdown_ack_sent older older_held) 7 (cookie_at (own_cookie 77)) 55
     ≡ record {
       words = [];
-      drawn = [];
+      effects = [];
       after = socket e 1191 (pos 4) (open_in shutdown_ack_sent older older_held) 5;
-      events = packet_of false 90 (shutdown_ack ∷ other 9 0 (0 ∷ 10 ∷ 0 ∷ 4 ∷ []) ∷ []) ∷ error WrongSequence (codes "Received COOKIE-ECHO while shutting down") ∷ [];
+      events = packet_of false 90 (shutdown_ack ∷ plain (written 9 0 (0 ∷ 10 ∷ 0 ∷ 4 ∷ [])) ∷ []) ∷ error WrongSequence (codes "Received COOKIE-ECHO while shutting down") ∷ [];
       following = dropped_rest;
     }
 unfolding cookie_at parameter_bytes
@@ -88,13 +89,13 @@ echo_of_restart_in_shutdown_ack_sent e = refl
 
 -- The own tag with another peer tag: both began at the same time.
 echo_of_both : (e : Endpoint) → cookie_echo_outcome (socket e 1191 (pos 4) (cookie_echoed mine older_held []) 4) (cookie_echoed mine older_held []) 7 (cookie_at (own_cookie 0)) 55
-    ≡ record { words = U64 55 ∷ []; drawn = []; after = made e queue_at_start 5; events = connected ∷ packet_of false 9 (cookie_ack ∷ []) ∷ []; following = next_chunk }
+    ≡ record { words = U64 55 ∷ []; effects = holds link ∷ connects link ∷ []; after = made e queue_at_start 5; events = connected ∷ packet_of false 9 (cookie_ack ∷ []) ∷ []; following = next_chunk }
 unfolding cookie_at
 echo_of_both e = refl
 
 -- Another own tag with the same peer tag, and a tie tag of 0: the cookie is of an attempt that is over.
 echo_that_is_late : (e : Endpoint) → cookie_echo_outcome (socket e 1191 (pos 4) (cookie_echoed older held []) 4) (cookie_echoed older held []) 7 (cookie_at (own_cookie 0)) 55
-    ≡ record { words = []; drawn = []; after = socket e 1191 (pos 4) (cookie_echoed older held []) 4; events = []; following = dropped_rest }
+    ≡ record { words = []; effects = []; after = socket e 1191 (pos 4) (cookie_echoed older held []) 4; events = []; following = dropped_rest }
 unfolding cookie_at
 echo_that_is_late e = refl
 
@@ -102,7 +103,7 @@ echo_that_is_late e = refl
 echo_in_cookie_echoed : (e : Endpoint) → cookie_echo_outcome (socket e 1191 (pos 4) (cookie_echoed mine held []) 4) (cookie_echoed mine held []) 7 (cookie_at (own_cookie 0)) 55
     ≡ record {
       words = [];
-      drawn = [];
+      effects = connects link ∷ [];
       after = record (socket e 1191 (pos 4) (open_in established mine held) 5) { timers = record e.timers { t1 = None; heartbeat_interval = heartbeats_due 35_000_000_000 30_000_000_000 } };
       events = connected ∷ packet_of false 9 (cookie_ack ∷ []) ∷ [];
       following = next_chunk;
@@ -112,11 +113,11 @@ echo_in_cookie_echoed e = refl
 
 -- COOKIE ACK alone, in any phase.
 echo_in_shutdown_received : (e : Endpoint) → cookie_echo_outcome (socket e 1191 (pos 4) (open_in shutdown_received mine held) 4) (open_in shutdown_received mine held) 7 (cookie_at (own_cookie 0)) 55
-    ≡ record { words = []; drawn = []; after = socket e 1191 (pos 4) (open_in shutdown_received mine held) 5; events = packet_of false 9 (cookie_ack ∷ []) ∷ []; following = next_chunk }
+    ≡ record { words = []; effects = []; after = socket e 1191 (pos 4) (open_in shutdown_received mine held) 5; events = packet_of false 9 (cookie_ack ∷ []) ∷ []; following = next_chunk }
 unfolding cookie_at
 echo_in_shutdown_received e = refl
 
 echo_under_burst_0 : (e : Endpoint) → cookie_echo_outcome (socket e 1191 (pos 0) (open_in established mine held) 4) (open_in established mine held) 7 (cookie_at (own_cookie 0)) 55
-    ≡ record { words = []; drawn = []; after = socket e 1191 (pos 0) (open_in established mine held) 4; events = []; following = next_chunk }
+    ≡ record { words = []; effects = []; after = socket e 1191 (pos 0) (open_in established mine held) 4; events = []; following = next_chunk }
 unfolding cookie_at
 echo_under_burst_0 e = refl

@@ -6,7 +6,7 @@ use Rattle.dcsctp_machine.specs.declared.capabilities.Capabilities.{Capabilities
 use Rattle.dcsctp_machine.specs.Offer.{Offer, agreed_method, negotiated, answering_offer, capabilities_offered, offer_in, offer_parameters, offer_announced}
 use Rattle.dcsctp_machine.specs.Packet.{Introduction, init_ack, cookie_in, introduction_in, introduction_out, chunk_out}
 use Rattle.dcsctp_machine.specs.Outcome.{count_up}
-use Rattle.dcsctp_machine.specs.turns.Handshake.{tag_from, first_tsn_from, pair_from}
+use Rattle.dcsctp_machine.specs.turns.HandshakeOutcomes.{tag_from, first_tsn_from, pair_from}
 
 -- ---- offers
 

@@ -16,9 +16,10 @@ use Rattle.dcsctp_machine.specs.Cause.{missing_mandatory_parameter}
 use Rattle.dcsctp_machine.specs.Packet.{Introduction, Content, init, cookie_echo, abort, Emission}
 use Rattle.dcsctp_machine.specs.Transfer.{SendQueueState, Transfer}
 use Rattle.dcsctp_machine.specs.Endpoint.{Endpoint, Core, closed, cookie_wait, cookie_echoed, open_in, established, RunningTimer, stopped_timers}
-use Rattle.dcsctp_machine.specs.Outcome.{next_chunk, dropped_rest}
-use Rattle.dcsctp_machine.specs.turns.Ends.{closed_after}
-use Rattle.dcsctp_machine.specs.turns.Handshake.{connect_outcome, implementation_of, init_ack_outcome, cookie_ack_outcome}
+use Rattle.dcsctp_machine.specs.Following.{next_chunk, dropped_rest}
+use Rattle.dcsctp_machine.specs.control.Effect.{Link, draws, holds, connects, ends}
+use Rattle.dcsctp_machine.specs.turns.EndOutcomes.{closed_after}
+use Rattle.dcsctp_machine.specs.turns.HandshakeOutcomes.{connect_outcome, implementation_of, init_ack_outcome, cookie_ack_outcome}
 
 -- ---- two sockets
 
@@ -121,6 +122,10 @@ transfer_begun cwnd =
       reassembly = record { messages = []; messages_received = 0; remaining_bytes = 5242880 };
     })
 
+-- the association that the two hold
+abbrev pub link : Link
+link = record { my = mine; peer = held.peer; capabilities = held.capabilities }
+
 abbrev pub packet_of : Bool → ℕ → List Content → Event Emission
 packet_of with_checksum tag contents = sent (record { with_checksum = with_checksum; packet = record { tag = tag; contents = contents } })
 
@@ -134,7 +139,7 @@ connecting e mtu packets_sent = record (socket e mtu (pos 4) (cookie_wait mine) 
 connect_sends_init : (e : Endpoint) → connect_outcome (socket e 52 (pos 4) closed 4) closed 100 6
     ≡ record {
       words = U32 100 ∷ U32 6 ∷ [];
-      drawn = mine ∷ [];
+      effects = draws mine ∷ [];
       after = connecting e 52 5;
       events = packet_of true 0 (init (record {
         pair = mine;
@@ -148,11 +153,11 @@ connect_sends_init e = refl
 
 -- It has 52 bytes: 12, 20, 4, 8 and 8. Where it doesn't fit, T1 runs all the same.
 init_that_does_not_fit : (e : Endpoint) → connect_outcome (socket e 51 (pos 4) closed 4) closed 100 6
-    ≡ record { words = U32 100 ∷ U32 6 ∷ []; drawn = mine ∷ []; after = connecting e 51 4; events = []; following = next_chunk }
+    ≡ record { words = U32 100 ∷ U32 6 ∷ []; effects = draws mine ∷ []; after = connecting e 51 4; events = []; following = next_chunk }
 unfolding init_bytes init_fields parameters_len parameter_bytes
 init_that_does_not_fit e = refl
 
-connect_in_established : (e : Endpoint) → connect_outcome e (open_in established mine held) 100 6 ≡ record { words = []; drawn = []; after = e; events = []; following = next_chunk }
+connect_in_established : (e : Endpoint) → connect_outcome e (open_in established mine held) 100 6 ≡ record { words = []; effects = []; after = e; events = []; following = next_chunk }
 connect_in_established e = refl
 
 -- ---- INIT ACK
@@ -173,24 +178,24 @@ echoing e mtu max_burst cwnd packets_sent =
 
 -- COOKIE ECHO has a checksum, whatever was agreed.
 init_ack_is_echoed : (e : Endpoint) → init_ack_outcome (socket e 1191 (pos 1) (cookie_wait mine) 4) theirs (Some foreign_cookie) (cookie_wait mine) 55
-    ≡ record { words = U64 55 ∷ []; drawn = []; after = echoing e 1191 (pos 1) 11910 5; events = packet_of true 9 (cookie_echo foreign_cookie ∷ []) ∷ []; following = next_chunk }
+    ≡ record { words = U64 55 ∷ []; effects = holds link ∷ []; after = echoing e 1191 (pos 1) 11910 5; events = packet_of true 9 (cookie_echo foreign_cookie ∷ []) ∷ []; following = next_chunk }
 unfolding other_bytes
 init_ack_is_echoed e = refl
 
 -- No flush sends a packet.
 echo_under_burst_0 : (e : Endpoint) → init_ack_outcome (socket e 1191 (pos 0) (cookie_wait mine) 4) theirs (Some foreign_cookie) (cookie_wait mine) 55
-    ≡ record { words = U64 55 ∷ []; drawn = []; after = echoing e 1191 (pos 0) 11910 4; events = []; following = next_chunk }
+    ≡ record { words = U64 55 ∷ []; effects = holds link ∷ []; after = echoing e 1191 (pos 0) 11910 4; events = []; following = next_chunk }
 unfolding other_bytes
 echo_under_burst_0 e = refl
 
 echo_under_negative_burst : (e : Endpoint) → init_ack_outcome (socket e 1191 (negsuc 0) (cookie_wait mine) 4) theirs (Some foreign_cookie) (cookie_wait mine) 55
-    ≡ record { words = U64 55 ∷ []; drawn = []; after = echoing e 1191 (negsuc 0) 11910 4; events = []; following = next_chunk }
+    ≡ record { words = U64 55 ∷ []; effects = holds link ∷ []; after = echoing e 1191 (negsuc 0) 11910 4; events = []; following = next_chunk }
 unfolding other_bytes
 echo_under_negative_burst e = refl
 
 -- The packet has 32 bytes.
 echo_that_does_not_fit : (e : Endpoint) → init_ack_outcome (socket e 31 (pos 4) (cookie_wait mine) 4) theirs (Some foreign_cookie) (cookie_wait mine) 55
-    ≡ record { words = U64 55 ∷ []; drawn = []; after = echoing e 31 (pos 4) 310 4; events = []; following = next_chunk }
+    ≡ record { words = U64 55 ∷ []; effects = holds link ∷ []; after = echoing e 31 (pos 4) 310 4; events = []; following = next_chunk }
 unfolding other_bytes
 echo_that_does_not_fit e = refl
 
@@ -198,7 +203,7 @@ echo_that_does_not_fit e = refl
 init_ack_without_cookie : (e : Endpoint) → init_ack_outcome (socket e 1191 (pos 0) (cookie_wait mine) 4) theirs None (cookie_wait mine) 55
     ≡ record {
       words = [];
-      drawn = [];
+      effects = ends ∷ [];
       after = record (socket e 1191 (pos 0) closed 5) { tie = 0; outstanding = None; timers = stopped_timers };
       events = packet_of true 9 (abort false (missing_mandatory_parameter (7 ∷ []) ∷ []) ∷ []) ∷ aborted ProtocolViolation (codes "InitAck chunk doesn't contain a cookie") ∷ [];
       following = dropped_rest;
@@ -209,7 +214,7 @@ init_ack_without_cookie e = refl
 end_leaves_queue : (e : Endpoint) → (closed_after e).below ≡ record { queue = e.below.queue; transfer = None }
 end_leaves_queue e = refl
 
-init_ack_in_cookie_echoed : (e : Endpoint) → init_ack_outcome e theirs None (cookie_echoed mine held []) 55 ≡ record { words = []; drawn = []; after = e; events = []; following = next_chunk }
+init_ack_in_cookie_echoed : (e : Endpoint) → init_ack_outcome e theirs None (cookie_echoed mine held []) 55 ≡ record { words = []; effects = []; after = e; events = []; following = next_chunk }
 init_ack_in_cookie_echoed e = refl
 
 -- More than the eight bytes of the name are wanted.
@@ -234,7 +239,7 @@ implementation_of_others = refl
 cookie_ack_connects : (e : Endpoint) → cookie_ack_outcome (socket e 1191 (pos 4) (cookie_echoed mine held foreign_cookie) 4) (cookie_echoed mine held foreign_cookie)
     ≡ record {
       words = [];
-      drawn = [];
+      effects = connects link ∷ [];
       after = record (socket e 1191 (pos 4) (open_in established mine held) 4) { timers = record e.timers { t1 = None; heartbeat_interval = heartbeats_due 35_000_000_000 30_000_000_000 } };
       events = connected ∷ [];
       following = next_chunk;
@@ -246,5 +251,5 @@ cookie_ack_without_heartbeats : (e : Endpoint)
     ≡ record e.timers { t1 = None }
 cookie_ack_without_heartbeats e = refl
 
-cookie_ack_in_cookie_wait : (e : Endpoint) → cookie_ack_outcome e (cookie_wait mine) ≡ record { words = []; drawn = []; after = e; events = []; following = next_chunk }
+cookie_ack_in_cookie_wait : (e : Endpoint) → cookie_ack_outcome e (cookie_wait mine) ≡ record { words = []; effects = []; after = e; events = []; following = next_chunk }
 cookie_ack_in_cookie_wait e = refl

@@ -8,10 +8,11 @@ use Rattle.dcsctp_wire.specs.Format.{u16_at, u32_at}
 use Rattle.dcsctp_machine.specs.declared.word.Word.{Word}
 use Rattle.dcsctp_machine.specs.Packet.{Introduction, shutdown_ack, Emission}
 use Rattle.dcsctp_machine.specs.Endpoint.{Endpoint, Core, closed, cookie_wait, cookie_echoed, open_in, established, shutdown_pending, shutdown_sent, shutdown_received, shutdown_ack_sent}
-use Rattle.dcsctp_machine.specs.Outcome.{Outcome, next_chunk, count_up, fits, emits}
+use Rattle.dcsctp_machine.specs.Outcome.{Outcome, count_up, fits, emits}
+use Rattle.dcsctp_machine.specs.Following.{next_chunk}
 use Rattle.dcsctp_machine.specs.Event.{sent}
 use Rattle.dcsctp_machine.specs.declared.word.Word.TheVariants.{U32}
-use Rattle.dcsctp_machine.specs.turns.Handshake.{init_outcome, init_ack_emission, pair_from, renewed_pair, to_peer}
+use Rattle.dcsctp_machine.specs.turns.HandshakeOutcomes.{init_outcome, init_ack_emission, pair_from, renewed_pair, to_peer}
 use Rattle.dcsctp_machine.specs.Laws.{NegotiationIsMutual, AnswerKeepsAgreement, FitsNames, CookieReadsBack, InitLeavesAssociation, CountsSentOnly, AtMostOnePacket, no_packet, one_packet, InitBringsOnePacket}
 
 and_comm : (a b : Bool) → a && b ≡ b && a
@@ -119,11 +120,11 @@ IsSmall e o = CountsSentOnly e o.after × AtMostOnePacket o.events
 
 small_where : (b : Bool) (e : Endpoint) (words : List Word) (emission : Emission) → IsSmall e (cond b (record {
   words = words;
-  drawn = [];
+  effects = [];
   after = record e { counts = record e.counts { packets_sent = count_up e.counts.packets_sent } };
   events = sent emission ∷ [];
   following = next_chunk;
-}) (record { words = words; drawn = []; after = e; events = []; following = next_chunk }))
+}) (record { words = words; effects = []; after = e; events = []; following = next_chunk }))
 small_where true e words emission = (refl, one_packet emission)
 small_where false e words emission = (refl, no_packet)
 

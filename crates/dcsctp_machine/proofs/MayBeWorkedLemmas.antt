@@ -8,7 +8,7 @@ use Rattle.dcsctp_machine.specs.Admission.{all_chunks, shutdown_acks_alone, firs
 use Rattle.dcsctp_machine.specs.World.{HasEnding, MayBeWorked, own_tag_borne, echo_in_front, init_alone, ending_in}
 use Rattle.dcsctp_machine.specs.control.Acts.{chunk_change}
 use Rattle.dcsctp_machine.specs.control.Choices.{Choices}
-use Rattle.dcsctp_machine.specs.control.Shutdown.{reflects}
+use Rattle.dcsctp_machine.specs.control.ShutdownChanges.{reflected_change}
 use Rattle.dcsctp_machine.specs.Laws.{AdmittedPacketsMayBeWorked}
 
 -- ---- packets with an ending chunk
@@ -94,7 +94,7 @@ cut_may core packet is = ending_in (shutdown_acks_end packet.contents (where_cut
 
 -- Where a SHUTDOWN ACK is cut out, it is answered.
 answered_where : (options : Options) (core : Core) (header : ℕ) (choices : Choices) → admits_shutdown_ack core header ≡ shutdown_acks_alone
-    → chunk_change options core header shutdown_ack choices ≡ reflects core header
+    → chunk_change options core header shutdown_ack choices ≡ reflected_change core header
 answered_where options closed header choices is = refl
 answered_where options (cookie_wait my) header choices is = refl
 answered_where options (cookie_echoed my held cookie) header choices is = refl

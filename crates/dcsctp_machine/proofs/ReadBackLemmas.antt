@@ -9,9 +9,9 @@ use Rattle.dcsctp_machine.specs.Packet.{cookie_parameters, packet_in}
 use Rattle.dcsctp_machine.specs.Settings.{wire_options}
 use Rattle.dcsctp_machine.specs.Endpoint.{Endpoint}
 use Rattle.dcsctp_machine.specs.Outcome.{Outcome}
-use Rattle.dcsctp_machine.specs.Turn.{arrival, refusal, unreadable_text}
+use Rattle.dcsctp_machine.specs.Turn.{arrival, refusal, unreadable_text, arrival_outcome, refusal_outcome}
 use Rattle.dcsctp_machine.specs.Admission.{Admission, refused, admits}
-use Rattle.dcsctp_machine.specs.CallTurns.{Turns, AdmittedTurns, HandleInput, unreadable, readable, words_of, events_of}
+use Rattle.dcsctp_machine.specs.CallTurns.{Turned, Turns, AdmittedTurns, HandleInput, unreadable, readable}
 use Rattle.dcsctp_wire.specs.Content.{PacketContent}
 use Rattle.dcsctp_wire.specs.Format.{IsPacket}
 use Rattle.dcsctp_machine.specs.Laws.{OfferReadsBack, CapabilitiesHoldOffer, IsRefused, RefusedPacketAddsOneError}
@@ -68,32 +68,35 @@ offer_reads_back options method cookie =
 -- ---- refused packets
 
 -- a packet that is counted, and then refused
-counted_and_refused : (e : Endpoint) (text : List ℕ) (os : List Outcome) → Turns e (arrival ∷ refusal text ∷ []) os → IsRefused e text os
+counted_and_refused : (e : Endpoint) (text : List ℕ) (ts : List Turned) → Turns e (arrival ∷ refusal text ∷ []) ts → IsRefused e text ts
 counted_and_refused e text [] turns = absurd turns
-counted_and_refused e text (o ∷ []) turns = absurd turns.1
-counted_and_refused e text (o ∷ p ∷ []) turns =
+counted_and_refused e text (t ∷ []) turns = absurd turns.1
+counted_and_refused e text (t ∷ u ∷ []) turns =
+    let first : t.outcome ≡ arrival_outcome e = turns.0.comes in
+    let second : u.outcome ≡ refusal_outcome t.outcome.after text = turns.1.0.comes in
     record {
-      endpoint = ap (λ (x : Outcome). x.after) turns.1.0 ∙ ap (λ (x : Outcome). x.after) turns.0;
-      events = ap (λ (x : Outcome). events_of (x ∷ p ∷ [])) turns.0 ∙ ap (λ (x : Outcome). events_of (x ∷ [])) turns.1.0;
-      words = ap (λ (x : Outcome). words_of (x ∷ p ∷ [])) turns.0 ∙ ap (λ (x : Outcome). words_of (x ∷ [])) turns.1.0;
+      endpoint = ap (λ (x : Outcome). x.after) second ∙ ap (λ (x : Outcome). x.after) first;
+      events = ap (λ (x : Outcome). x.events ++ (u.outcome.events ++ [])) first ∙ ap (λ (x : Outcome). x.events ++ []) second;
+      words = ap (λ (x : Outcome). x.words ++ (u.outcome.words ++ [])) first ∙ ap (λ (x : Outcome). x.words ++ []) second;
+      effects = ap (λ (x : Outcome). x.effects ++ (u.outcome.effects ++ [])) first ∙ ap (λ (x : Outcome). x.effects ++ []) second;
     }
-counted_and_refused e text (o ∷ p ∷ q ∷ os) turns = absurd turns.1.1
+counted_and_refused e text (t ∷ u ∷ v ∷ ts) turns = absurd turns.1.1
 
-unreadable_refused : (e : Endpoint) (bytes : List ℕ) (outcomes : List Outcome) → HandleInput e bytes outcomes
+unreadable_refused : (e : Endpoint) (bytes : List ℕ) (turns : List Turned) → HandleInput e bytes turns
     → ((packet : PacketContent) → IsPacket (wire_options e.options) packet bytes → ⊥)
-    → IsRefused e unreadable_text outcomes
-unreadable_refused e bytes outcomes (unreadable os none turns) nothing = counted_and_refused e unreadable_text outcomes turns
-unreadable_refused e bytes outcomes (readable packet counted os found turn admitted) nothing = absurd (nothing packet found)
+    → IsRefused e unreadable_text turns
+unreadable_refused e bytes turns (unreadable ts none taken) nothing = counted_and_refused e unreadable_text turns taken
+unreadable_refused e bytes turns (readable packet counted ts found turn admitted) nothing = absurd (nothing packet found)
 
-admission_refused : OneReading → (e : Endpoint) (bytes text : List ℕ) (packet : PacketContent) (outcomes : List Outcome) → HandleInput e bytes outcomes
+admission_refused : OneReading → (e : Endpoint) (bytes text : List ℕ) (packet : PacketContent) (turns : List Turned) → HandleInput e bytes turns
     → IsPacket (wire_options e.options) packet bytes → admits e.core (packet_in packet) ≡ refused text
-    → IsRefused e text outcomes
-admission_refused one e bytes text packet outcomes (unreadable os none turns) found refuses = absurd (none packet found)
-admission_refused one e bytes text packet outcomes (readable other counted os there turn admitted) found refuses =
+    → IsRefused e text turns
+admission_refused one e bytes text packet turns (unreadable ts none taken) found refuses = absurd (none packet found)
+admission_refused one e bytes text packet turns (readable other counted ts there turn admitted) found refuses =
     let same : other ≡ packet = one (wire_options e.options) bytes other packet there found in
     let says : admits e.core (packet_in other) ≡ refused text = ap (λ (p : PacketContent). admits e.core (packet_in p)) same ∙ refuses in
-    let turns : Turns counted.after (refusal text ∷ []) os = subst (λ (a : Admission). AdmittedTurns counted.after (packet_in other) a os) says admitted in
-    counted_and_refused e text (counted ∷ os) (turn, turns)
+    let taken : Turns counted.outcome.after (refusal text ∷ []) ts = subst (λ (a : Admission). AdmittedTurns counted.outcome.after (packet_in other) a ts) says admitted in
+    counted_and_refused e text (counted ∷ ts) (turn, taken)
 
 pub refused_packet_adds_one_error : OneReading → RefusedPacketAddsOneError
 refused_packet_adds_one_error one = record { unreadable = unreadable_refused; refused = admission_refused one }

@@ -10,17 +10,19 @@ use Rattle.dcsctp_machine.specs.declared.kinds.ErrorKind.TheVariants.{ParseFaile
 use Rattle.dcsctp_machine.specs.declared.options.Options.{Options}
 use Rattle.dcsctp_machine.specs.declared.word.Word.TheVariants.{U32}
 use Rattle.dcsctp_machine.specs.Settings.{packet_size_limit, IsValid, ports_of, wire_options}
-use Rattle.dcsctp_machine.specs.Event.{sent, connected, closed as is_closed, error}
+use Rattle.dcsctp_machine.specs.Event.{Event, sent, connected, closed as is_closed, error}
 use Rattle.dcsctp_machine.specs.Offer.{offer_of}
 use Rattle.dcsctp_machine.specs.Cookie.{cookie_bytes, cookie_at}
-use Rattle.dcsctp_machine.specs.Packet.{Introduction, Content, init_ack, shutdown_ack, emission_bytes}
+use Rattle.dcsctp_machine.specs.Packet.{Introduction, Content, init_ack, shutdown_ack, Emission, emission_bytes}
 use Rattle.dcsctp_machine.specs.Transfer.{empty_queue, new_retransmission, new_transfer}
 use Rattle.dcsctp_machine.specs.Admission.{refused, single_init_text, admits}
 use Rattle.dcsctp_machine.specs.Endpoint.{Endpoint, closed, cookie_wait, cookie_echoed, open_in, established, shutdown_pending, shutdown_sent, shutdown_received, shutdown_ack_sent, association_of, own_tag}
-use Rattle.dcsctp_machine.specs.Outcome.{Outcome, next_chunk}
-use Rattle.dcsctp_machine.specs.Turn.{arrival_outcome, refusal_outcome, unreadable_text}
-use Rattle.dcsctp_machine.specs.CallTurns.{words_of, events_of}
-use Rattle.dcsctp_machine.specs.turns.Handshake.{init_outcome}
+use Rattle.dcsctp_machine.specs.Outcome.{Outcome}
+use Rattle.dcsctp_machine.specs.Following.{next_chunk}
+use Rattle.dcsctp_machine.specs.Turn.{arrival, arrival_outcome, refusal_outcome, unreadable_text}
+use Rattle.dcsctp_machine.specs.control.Effect.{draws}
+use Rattle.dcsctp_machine.specs.CallTurns.{Turned, words_of, events_of}
+use Rattle.dcsctp_machine.specs.turns.HandshakeOutcomes.{init_outcome}
 
 -- ---- options
 
@@ -127,7 +129,7 @@ closed_cookie =
     ∷ 0 ∷ 0 ∷ 5 ∷ 0xdc ∷ 0 ∷ 0 ∷ 0 ∷ 0 ∷ 0 ∷ 0 ∷ 0 ∷ 0 ∷ 0 ∷ 1 ∷ 1 ∷ 0 ∷ 0 ∷ 0 ∷ 0 ∷ 1 ∷ 0 ∷ 40 ∷ 0 ∷ 30 ∷ []
 
 init_where_closed : (e : Endpoint) → init_outcome (socket e 1191 4) theirs closed 5 9
-    ≡ record { words = U32 5 ∷ U32 9 ∷ []; drawn = record { tag = 10; first_tsn = 5 } ∷ []; after = socket e 1191 5; events = sent (record { with_checksum = false; packet = record { tag = 7; contents = answer 10 5 5242880 closed_cookie ∷ [] } }) ∷ []; following = next_chunk }
+    ≡ record { words = U32 5 ∷ U32 9 ∷ []; effects = draws (record { tag = 10; first_tsn = 5 }) ∷ []; after = socket e 1191 5; events = sent (record { with_checksum = false; packet = record { tag = 7; contents = answer 10 5 5242880 closed_cookie ∷ [] } }) ∷ []; following = next_chunk }
 unfolding configured theirs socket answer closed_cookie cookie_bytes init_bytes init_fields parameters_len parameter_bytes
 init_where_closed e = refl
 
@@ -137,7 +139,7 @@ unfolding configured theirs socket cookie_bytes init_bytes init_fields parameter
 answer_that_fits e = refl
 
 -- It is neither sent nor counted, and yet two words are drawn.
-answer_that_does_not_fit : (e : Endpoint) → init_outcome (socket e 103 4) theirs closed 5 9 ≡ record { words = U32 5 ∷ U32 9 ∷ []; drawn = record { tag = 10; first_tsn = 5 } ∷ []; after = socket e 103 4; events = []; following = next_chunk }
+answer_that_does_not_fit : (e : Endpoint) → init_outcome (socket e 103 4) theirs closed 5 9 ≡ record { words = U32 5 ∷ U32 9 ∷ []; effects = draws (record { tag = 10; first_tsn = 5 }) ∷ []; after = socket e 103 4; events = []; following = next_chunk }
 unfolding configured theirs socket cookie_bytes init_bytes init_fields parameters_len parameter_bytes
 answer_that_does_not_fit e = refl
 
@@ -151,12 +153,12 @@ mine : Pair
 mine = record { tag = 11; first_tsn = 22 }
 
 init_in_cookie_wait : (e : Endpoint) → init_outcome (socket e 1191 4) theirs (cookie_wait mine) 5 9
-    ≡ record { words = []; drawn = []; after = socket e 1191 5; events = sent (record { with_checksum = false; packet = record { tag = 7; contents = answer 11 22 5242880 waiting_cookie ∷ [] } }) ∷ []; following = next_chunk }
+    ≡ record { words = []; effects = []; after = socket e 1191 5; events = sent (record { with_checksum = false; packet = record { tag = 7; contents = answer 11 22 5242880 waiting_cookie ∷ [] } }) ∷ []; following = next_chunk }
 unfolding configured theirs socket answer waiting_cookie mine cookie_bytes init_bytes init_fields parameters_len parameter_bytes
 init_in_cookie_wait e = refl
 
 init_in_cookie_echoed : (e : Endpoint) (held : Held) → init_outcome (socket e 1191 4) theirs (cookie_echoed mine held []) 5 9
-    ≡ record { words = []; drawn = []; after = socket e 1191 5; events = sent (record { with_checksum = false; packet = record { tag = 7; contents = answer 11 22 5242880 waiting_cookie ∷ [] } }) ∷ []; following = next_chunk }
+    ≡ record { words = []; effects = []; after = socket e 1191 5; events = sent (record { with_checksum = false; packet = record { tag = 7; contents = answer 11 22 5242880 waiting_cookie ∷ [] } }) ∷ []; following = next_chunk }
 unfolding configured theirs socket answer waiting_cookie mine cookie_bytes init_bytes init_fields parameters_len parameter_bytes
 init_in_cookie_echoed e held = refl
 
@@ -167,7 +169,7 @@ open_cookie =
     ∷ 0 ∷ 0 ∷ 5 ∷ 0xdc ∷ 0 ∷ 0 ∷ 0 ∷ 0 ∷ 0 ∷ 0 ∷ 0 ∷ 77 ∷ 0 ∷ 1 ∷ 1 ∷ 0 ∷ 0 ∷ 0 ∷ 0 ∷ 1 ∷ 0 ∷ 40 ∷ 0 ∷ 30 ∷ []
 
 answered_where_open : Endpoint → Outcome
-answered_where_open e = record { words = U32 5 ∷ []; drawn = record { tag = 6; first_tsn = 999999 } ∷ []; after = socket e 1191 5; events = sent (record { with_checksum = false; packet = record { tag = 7; contents = answer 6 999999 5242880 open_cookie ∷ [] } }) ∷ []; following = next_chunk }
+answered_where_open e = record { words = U32 5 ∷ []; effects = draws (record { tag = 6; first_tsn = 999999 }) ∷ []; after = socket e 1191 5; events = sent (record { with_checksum = false; packet = record { tag = 7; contents = answer 6 999999 5242880 open_cookie ∷ [] } }) ∷ []; following = next_chunk }
 
 init_in_established : (e : Endpoint) (held : Held) → init_outcome (socket e 1191 4) theirs (open_in established mine held) 5 9 ≡ answered_where_open e
 unfolding configured theirs socket answer open_cookie answered_where_open cookie_bytes init_bytes init_fields parameters_len parameter_bytes
@@ -187,7 +189,7 @@ init_in_shutdown_received e held = refl
 
 -- Here SHUTDOWN ACK goes to the peer that is held, and no word is drawn (RFC 9260, section 9.2).
 init_in_shutdown_ack_sent : (e : Endpoint) (held : Held) → init_outcome (socket e 1191 4) theirs (open_in shutdown_ack_sent mine (record held { peer = record { tag = 99; first_tsn = 1 }; capabilities = record held.capabilities { zero_checksum_method = record { 0 = 0 } } })) 5 9
-    ≡ record { words = []; drawn = []; after = socket e 1191 5; events = sent (record { with_checksum = true; packet = record { tag = 99; contents = shutdown_ack ∷ [] } }) ∷ []; following = next_chunk }
+    ≡ record { words = []; effects = []; after = socket e 1191 5; events = sent (record { with_checksum = true; packet = record { tag = 99; contents = shutdown_ack ∷ [] } }) ∷ []; following = next_chunk }
 unfolding configured socket other_bytes
 init_in_shutdown_ack_sent e held = refl
 
@@ -197,7 +199,7 @@ packet_is_counted : (e : Endpoint) → (arrival_outcome (record e { counts = rec
     ≡ record e { counts = record { packets_received = 4; packets_sent = 4; messages_queued = 5 } }
 packet_is_counted e = refl
 
-bytes_are_reported : (e : Endpoint) → refusal_outcome e unreadable_text ≡ record { words = []; drawn = []; after = e; events = error ParseFailed (codes "Failed to parse SCTP packet") ∷ []; following = next_chunk }
+bytes_are_reported : (e : Endpoint) → refusal_outcome e unreadable_text ≡ record { words = []; effects = []; after = e; events = error ParseFailed (codes "Failed to parse SCTP packet") ∷ []; following = next_chunk }
 bytes_are_reported e = refl
 
 init_ack_under_0 : admits closed (record { tag = 0; contents = answer 1 1 1 [] ∷ [] }) ≡ refused single_init_text
@@ -219,9 +221,14 @@ tag_where_open held = refl
 phase_is_shown : (held : Held) → association_of (open_in shutdown_sent mine held) ≡ Some (record { phase = phases.ShutdownSent; my = mine; held = Some held })
 phase_is_shown held = refl
 
--- Outcomes keep their order.
-turns_in_order : (e : Endpoint) → events_of (record { words = U32 1 ∷ []; drawn = []; after = e; events = connected ∷ []; following = next_chunk } ∷ record { words = U32 2 ∷ []; drawn = []; after = e; events = is_closed ∷ []; following = next_chunk } ∷ []) ≡ connected ∷ is_closed ∷ []
+-- Turns keep their order.
+taken : Endpoint → ℕ → Event Emission → Turned
+taken e word event = record { input = arrival; outcome = record { words = U32 word ∷ []; effects = []; after = e; events = event ∷ []; following = next_chunk } }
+
+turns_in_order : (e : Endpoint) → events_of (taken e 1 connected ∷ taken e 2 is_closed ∷ []) ≡ connected ∷ is_closed ∷ []
+unfolding taken
 turns_in_order e = refl
 
-words_in_order : (e : Endpoint) → words_of (record { words = U32 1 ∷ []; drawn = []; after = e; events = connected ∷ []; following = next_chunk } ∷ record { words = U32 2 ∷ []; drawn = []; after = e; events = is_closed ∷ []; following = next_chunk } ∷ []) ≡ U32 1 ∷ U32 2 ∷ []
+words_in_order : (e : Endpoint) → words_of (taken e 1 connected ∷ taken e 2 is_closed ∷ []) ≡ U32 1 ∷ U32 2 ∷ []
+unfolding taken
 words_in_order e = refl

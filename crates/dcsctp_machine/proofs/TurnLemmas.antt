@@ -2,15 +2,19 @@
 use Rattle.std.proofs.Common.{◌≡◌, ℕ, Bool, true, false, cond, List, [], ◌∷◌, ◌++◌, refl, rules, sym, subst, ap, ◌∙◌, append_assoc, arith}
 use Rattle.dcsctp_machine.specs.declared.association.Pair.{Pair}
 use Rattle.dcsctp_machine.specs.declared.word.Word.{Word}
-use Rattle.dcsctp_machine.specs.Packet.{Introduction, Content, init, init_ack, cookie_echo, cookie_ack, re_config, abort, shutdown, shutdown_ack, shutdown_complete, other, Emission}
+use Rattle.dcsctp_machine.specs.Packet.{Introduction, Content, init, init_ack, cookie_echo, cookie_ack, re_config, abort, shutdown, shutdown_ack, shutdown_complete, plain, Emission}
 use Rattle.dcsctp_machine.specs.Endpoint.{Endpoint, Core, closed, cookie_wait, cookie_echoed, open_in, established, shutdown_pending, shutdown_sent, shutdown_received, shutdown_ack_sent}
-use Rattle.dcsctp_machine.specs.Settings.{ports_of}
-use Rattle.dcsctp_machine.specs.Outcome.{Outcome, Following, next_chunk, packet_end, dropped_rest, count_up, still, fits, emits}
+use Rattle.dcsctp_machine.specs.declared.options.Options.{Options}
+use Rattle.dcsctp_machine.specs.Settings.{SameOptions, ports_of}
+use Rattle.dcsctp_machine.specs.control.Effect.{Effect, draws, sends, holds, connects, ends, begins, completes, fails, accepts, performs, drawn_in}
+use Rattle.dcsctp_machine.specs.Outcome.{Outcome, count_up, fits, emits}
+use Rattle.dcsctp_machine.specs.Following.{Following, next_chunk, packet_end, dropped_rest}
 use Rattle.dcsctp_machine.specs.Event.{Event, sent}
 use Rattle.dcsctp_machine.specs.Controlled.{ControlledChunk}
-use Rattle.dcsctp_machine.specs.Turn.{ContentTurn}
-use Rattle.dcsctp_machine.specs.CallTurns.{AfterChunk, ChunkTurns, after_all, words_of, pairs_of, events_of}
-use Rattle.dcsctp_machine.specs.turns.Handshake.{init_outcome}
+use Rattle.dcsctp_machine.specs.Turn.{Input, chunk_input, ContentTurn}
+use Rattle.dcsctp_machine.specs.CallTurns.{Turned, IsTurn, Turns, AfterChunk, ChunkTurns, after_all, words_of, effects_of, pairs_of, events_of}
+use Rattle.dcsctp_machine.specs.turns.HandshakeOutcomes.{init_outcome}
+use Rattle.dcsctp_machine.proofs.PlainLemmas.{plain_controlled}
 use Rattle.dcsctp_machine.proofs.ControlHandshake.{init_ack_controlled, cookie_ack_controlled, abort_controlled}
 use Rattle.dcsctp_machine.proofs.ControlEcho.{cookie_echo_controlled}
 
@@ -27,32 +31,44 @@ init_keeps_options e theirs (open_in shutdown_sent mine held) word next = search
 init_keeps_options e theirs (open_in shutdown_received mine held) word next = search (rules, emits_keeps_options)
 init_keeps_options e theirs (open_in shutdown_ack_sent mine held) word next = search (rules, emits_keeps_options)
 
-still_keeps_options : (e : Endpoint) (o : Outcome) → o ≡ still e → o.after.options ≡ e.options
-still_keeps_options e o is = ap (λ (x : Outcome). x.after.options) is
+-- ---- options
 
-controlled_keeps_options : (e : Endpoint) (tag : ℕ) (content : Content) (o : Outcome) → ControlledChunk e tag content o → o.after.options ≡ e.options
-controlled_keeps_options e tag content o turn = turn.2.options
+pub same_at_first : (p : Options) → SameOptions p p
+same_at_first p = refl
 
--- The options stay for good.
-pub content_keeps_options : (e : Endpoint) (tag : ℕ) (content : Content) (o : Outcome) → ContentTurn e tag content o → o.after.options ≡ e.options
-content_keeps_options e tag (init theirs) o turn = ap (λ (x : Outcome). x.after.options) turn.2 ∙ init_keeps_options e theirs e.core turn.0 turn.1
-content_keeps_options e tag (init_ack theirs cookie) o turn = controlled_keeps_options e tag (init_ack theirs cookie) o (init_ack_controlled e tag theirs cookie o turn)
-content_keeps_options e tag (cookie_echo cookie) o turn = controlled_keeps_options e tag (cookie_echo cookie) o (cookie_echo_controlled e tag cookie o turn)
-content_keeps_options e tag cookie_ack o turn = controlled_keeps_options e tag cookie_ack o (cookie_ack_controlled e tag o turn)
-content_keeps_options e tag (re_config parameters) o turn = controlled_keeps_options e tag (re_config parameters) o turn
-content_keeps_options e tag (abort reflected causes) o turn = controlled_keeps_options e tag (abort reflected causes) o (abort_controlled e tag reflected causes o turn)
-content_keeps_options e tag (shutdown cumulative_tsn) o turn = controlled_keeps_options e tag (shutdown cumulative_tsn) o turn
-content_keeps_options e tag shutdown_ack o turn = controlled_keeps_options e tag shutdown_ack o turn
-content_keeps_options e tag (shutdown_complete reflected) o turn = controlled_keeps_options e tag (shutdown_complete reflected) o turn
-content_keeps_options e tag (other type flags value) o turn = still_keeps_options e o turn
+pub same_after : (p q r : Options) → SameOptions p q → SameOptions q r → SameOptions p r
+same_after p q r first second = second ∙ ap (λ (x : Options). record x { max_message_size = r.max_message_size }) first
+
+pub same_of_equal : (p q : Options) → q ≡ p → SameOptions p q
+same_of_equal p q is = subst (SameOptions p) (sym is) refl
+
+pub same_ports : (p q : Options) → SameOptions p q → ports_of q ≡ ports_of p
+same_ports p q same = ap ports_of same
+
+controlled_keeps : (e : Endpoint) (tag : ℕ) (content : Content) (o : Outcome) → ControlledChunk e tag content o → SameOptions e.options o.after.options
+controlled_keeps e tag content o turn = turn.2.options
+
+-- The options stay for good, but for the longest message.
+pub content_keeps_options : (e : Endpoint) (tag : ℕ) (content : Content) (o : Outcome) → ContentTurn e tag content o → SameOptions e.options o.after.options
+content_keeps_options e tag (init theirs) o turn =
+    same_of_equal e.options o.after.options (ap (λ (x : Outcome). x.after.options) turn.2 ∙ init_keeps_options e theirs e.core turn.0 turn.1)
+content_keeps_options e tag (init_ack theirs cookie) o turn = controlled_keeps e tag (init_ack theirs cookie) o (init_ack_controlled e tag theirs cookie o turn)
+content_keeps_options e tag (cookie_echo cookie) o turn = controlled_keeps e tag (cookie_echo cookie) o (cookie_echo_controlled e tag cookie o turn)
+content_keeps_options e tag cookie_ack o turn = controlled_keeps e tag cookie_ack o (cookie_ack_controlled e tag o turn)
+content_keeps_options e tag (re_config parameters) o turn = controlled_keeps e tag (re_config parameters) o turn
+content_keeps_options e tag (abort reflected causes) o turn = controlled_keeps e tag (abort reflected causes) o (abort_controlled e tag reflected causes o turn)
+content_keeps_options e tag (shutdown cumulative_tsn) o turn = controlled_keeps e tag (shutdown cumulative_tsn) o turn
+content_keeps_options e tag shutdown_ack o turn = controlled_keeps e tag shutdown_ack o turn
+content_keeps_options e tag (shutdown_complete reflected) o turn = controlled_keeps e tag (shutdown_complete reflected) o turn
+content_keeps_options e tag (plain chunk) o turn = controlled_keeps e tag (plain chunk) o (plain_controlled e tag chunk o turn)
 
 goes_on_where : (b : Bool) (e : Endpoint) (words : List Word) (emission : Emission) → (cond b (let sends : Outcome = record {
   words = words;
-  drawn = [];
+  effects = [];
   after = record e { counts = record e.counts { packets_sent = count_up e.counts.packets_sent } };
   events = sent emission ∷ [];
   following = next_chunk;
-} in sends) (record { words = words; drawn = []; after = e; events = []; following = next_chunk })).following ≡ next_chunk
+} in sends) (record { words = words; effects = []; after = e; events = []; following = next_chunk })).following ≡ next_chunk
 goes_on_where true e words emission = refl
 goes_on_where false e words emission = refl
 
@@ -73,58 +89,103 @@ init_goes_on e theirs (open_in shutdown_ack_sent mine held) word next = search (
 -- ---- the chunks of a packet
 
 -- After each of these a further chunk has its turn.
-abbrev pub GoOn : List Outcome → Type 0
+abbrev pub GoOn : List Turned → Type 0
 GoOn [] = Unit {0}
-GoOn (o ∷ os) = (o.following ≡ next_chunk) × GoOn os
+GoOn (t ∷ ts) = (t.outcome.following ≡ next_chunk) × GoOn ts
 
-pub GoOn-push : (os : List Outcome) (o : Outcome) → GoOn os → o.following ≡ next_chunk → GoOn (os ++ o ∷ [])
-GoOn-push [] o a b = (b, tt)
-GoOn-push (p ∷ os) o a b = (a.0, GoOn-push os o a.1 b)
+pub GoOn-push : (ts : List Turned) (t : Turned) → GoOn ts → t.outcome.following ≡ next_chunk → GoOn (ts ++ t ∷ [])
+GoOn-push [] t a b = (b, tt)
+GoOn-push (p ∷ ts) t a b = (a.0, GoOn-push ts t a.1 b)
 
 -- the other chunks, where a further chunk has its turn
-others : (following : Following) (more none : Type 0) → following ≡ next_chunk → AfterChunk following more none → more
-others following more none goes_on h = subst (λ (f : Following). AfterChunk f more none) goes_on h
+further : (e : Endpoint) (tag : ℕ) (content : Content) (contents : List Content) (tail : List Input) (t : Turned) (ts : List Turned) → t.outcome.following ≡ next_chunk
+    → ChunkTurns e tag (content ∷ contents) tail (t ∷ ts) → ChunkTurns t.outcome.after tag contents tail ts
+further e tag content contents tail t ts goes_on turns =
+    subst (λ (f : Following). AfterChunk f (ChunkTurns t.outcome.after tag contents tail ts) (Turns t.outcome.after tail ts) (ts ≡ [])) goes_on turns.1
+
+and_further : (e : Endpoint) (tag : ℕ) (content : Content) (contents : List Content) (tail : List Input) (t : Turned) (ts : List Turned) → t.outcome.following ≡ next_chunk
+    → IsTurn e (chunk_input tag content) t → ChunkTurns t.outcome.after tag contents tail ts → ChunkTurns e tag (content ∷ contents) tail (t ∷ ts)
+and_further e tag content contents tail t ts goes_on turn rest =
+    (turn, subst (λ (f : Following). AfterChunk f (ChunkTurns t.outcome.after tag contents tail ts) (Turns t.outcome.after tail ts) (ts ≡ [])) (sym goes_on) rest)
 
 -- The ports stay for good.
-pub chunk_turns_keep_ports : (e : Endpoint) (tag : ℕ) (contents : List Content) (os : List Outcome) → GoOn os → ChunkTurns e tag contents os → ports_of (after_all e os).options ≡ ports_of e.options
+pub chunk_turns_keep_ports : (e : Endpoint) (tag : ℕ) (contents : List Content) (ts : List Turned) → GoOn ts → ChunkTurns e tag contents [] ts → ports_of (after_all e ts).options ≡ ports_of e.options
 chunk_turns_keep_ports e tag [] [] goes_on turns = refl
-chunk_turns_keep_ports e tag [] (o ∷ os) goes_on turns = absurd turns
+chunk_turns_keep_ports e tag [] (t ∷ ts) goes_on turns = absurd turns
 chunk_turns_keep_ports e tag (content ∷ contents) [] goes_on turns = absurd turns
-chunk_turns_keep_ports e tag (content ∷ contents) (o ∷ os) goes_on turns =
-    chunk_turns_keep_ports o.after tag contents os goes_on.1 (others o.following (ChunkTurns o.after tag contents os) (os ≡ []) goes_on.0 turns.1)
-    ∙ ap ports_of (content_keeps_options e tag content o turns.0)
+chunk_turns_keep_ports e tag (content ∷ contents) (t ∷ ts) goes_on turns =
+    chunk_turns_keep_ports t.outcome.after tag contents ts goes_on.1 (further e tag content contents [] t ts goes_on.0 turns)
+    ∙ same_ports e.options t.outcome.after.options (content_keeps_options e tag content t.outcome turns.0.comes)
 
 -- the last chunk so far, whatever it says of further ones
-last_chunk : (e : Endpoint) (tag : ℕ) (following : Following) → AfterChunk following (ChunkTurns e tag [] []) (let none : List Outcome = [] in none ≡ [])
+last_chunk : (e : Endpoint) (tag : ℕ) (following : Following) → AfterChunk following (ChunkTurns e tag [] [] []) (Turns e [] []) (let none : List Turned = [] in none ≡ [])
 last_chunk e tag next_chunk = tt
-last_chunk e tag packet_end = refl
+last_chunk e tag packet_end = tt
 last_chunk e tag dropped_rest = refl
 
 -- one chunk more
-pub chunk_turns-push : (e : Endpoint) (tag : ℕ) (contents : List Content) (os : List Outcome) (content : Content) (o : Outcome)
-    → GoOn os → ChunkTurns e tag contents os → ContentTurn (after_all e os) tag content o → ChunkTurns e tag (contents ++ content ∷ []) (os ++ o ∷ [])
-chunk_turns-push e tag [] [] content o goes_on turns turn = (turn, last_chunk o.after tag o.following)
-chunk_turns-push e tag [] (p ∷ os) content o goes_on turns turn = absurd turns
-chunk_turns-push e tag (c ∷ contents) [] content o goes_on turns turn = absurd turns
-chunk_turns-push e tag (c ∷ contents) (p ∷ os) content o goes_on turns turn =
-    let rest = others p.following (ChunkTurns p.after tag contents os) (os ≡ []) goes_on.0 turns.1 in
-    let more : ChunkTurns p.after tag (contents ++ content ∷ []) (os ++ o ∷ []) = chunk_turns-push p.after tag contents os content o goes_on.1 rest turn in
-    (turns.0, subst (λ (f : Following). AfterChunk f (ChunkTurns p.after tag (contents ++ content ∷ []) (os ++ o ∷ [])) (os ++ o ∷ [] ≡ [])) (sym goes_on.0) more)
+pub chunk_turns-push : (e : Endpoint) (tag : ℕ) (contents : List Content) (ts : List Turned) (content : Content) (t : Turned)
+    → GoOn ts → ChunkTurns e tag contents [] ts → IsTurn (after_all e ts) (chunk_input tag content) t → ChunkTurns e tag (contents ++ content ∷ []) [] (ts ++ t ∷ [])
+chunk_turns-push e tag [] [] content t goes_on turns turn = (turn, last_chunk t.outcome.after tag t.outcome.following)
+chunk_turns-push e tag [] (p ∷ ts) content t goes_on turns turn = absurd turns
+chunk_turns-push e tag (c ∷ contents) [] content t goes_on turns turn = absurd turns
+chunk_turns-push e tag (c ∷ contents) (p ∷ ts) content t goes_on turns turn =
+    and_further e tag c (contents ++ content ∷ []) [] p (ts ++ t ∷ []) goes_on.0 turns.0
+    (chunk_turns-push p.outcome.after tag contents ts content t goes_on.1 (further e tag c contents [] p ts goes_on.0 turns) turn)
+
+-- The chunks behind a last one that says so have no turn, nor has the end of the packet.
+pub chunk_turns-end : (e : Endpoint) (tag : ℕ) (contents : List Content) (tail : List Input) (ts : List Turned) (content : Content) (t : Turned) (rest : List Content)
+    → GoOn ts → ChunkTurns e tag contents [] ts → IsTurn (after_all e ts) (chunk_input tag content) t → t.outcome.following ≡ dropped_rest
+    → ChunkTurns e tag (contents ++ content ∷ rest) tail (ts ++ t ∷ [])
+chunk_turns-end e tag [] tail [] content t rest goes_on turns turn drops =
+    let none : List Turned = [] in
+    (turn, subst (λ (f : Following). AfterChunk f (ChunkTurns t.outcome.after tag rest tail none) (Turns t.outcome.after tail none) (none ≡ [])) (sym drops) refl)
+chunk_turns-end e tag [] tail (p ∷ ts) content t rest goes_on turns turn drops = absurd turns
+chunk_turns-end e tag (c ∷ contents) tail [] content t rest goes_on turns turn drops = absurd turns
+chunk_turns-end e tag (c ∷ contents) tail (p ∷ ts) content t rest goes_on turns turn drops =
+    and_further e tag c (contents ++ content ∷ rest) tail p (ts ++ t ∷ []) goes_on.0 turns.0
+    (chunk_turns-end p.outcome.after tag contents tail ts content t rest goes_on.1 (further e tag c contents [] p ts goes_on.0 turns) turn drops)
+
+-- Where no chunk dropped the rest, the packet's end comes behind them.
+pub chunk_turns-whole : (e : Endpoint) (tag : ℕ) (contents : List Content) (tail : List Input) (ts more : List Turned)
+    → GoOn ts → ChunkTurns e tag contents [] ts → Turns (after_all e ts) tail more → ChunkTurns e tag contents tail (ts ++ more)
+chunk_turns-whole e tag [] tail [] more goes_on turns end = end
+chunk_turns-whole e tag [] tail (p ∷ ts) more goes_on turns end = absurd turns
+chunk_turns-whole e tag (c ∷ contents) tail [] more goes_on turns end = absurd turns
+chunk_turns-whole e tag (c ∷ contents) tail (p ∷ ts) more goes_on turns end =
+    and_further e tag c contents tail p (ts ++ more) goes_on.0 turns.0
+    (chunk_turns-whole p.outcome.after tag contents tail ts more goes_on.1 (further e tag c contents [] p ts goes_on.0 turns) end)
 
 -- ---- one list after another
 
-pub after_all-append : (e : Endpoint) (xs ys : List Outcome) → after_all e (xs ++ ys) ≡ after_all (after_all e xs) ys
+pub after_all-append : (e : Endpoint) (xs ys : List Turned) → after_all e (xs ++ ys) ≡ after_all (after_all e xs) ys
 after_all-append e [] ys = refl
-after_all-append e (x ∷ xs) ys = after_all-append x.after xs ys
+after_all-append e (x ∷ xs) ys = after_all-append x.outcome.after xs ys
 
-pub words_of-append : (xs ys : List Outcome) → words_of (xs ++ ys) ≡ words_of xs ++ words_of ys
+pub words_of-append : (xs ys : List Turned) → words_of (xs ++ ys) ≡ words_of xs ++ words_of ys
 words_of-append [] ys = refl
-words_of-append (x ∷ xs) ys = ap (λ (ws : List Word). x.words ++ ws) (words_of-append xs ys) ∙ sym (append_assoc x.words (words_of xs) (words_of ys))
+words_of-append (x ∷ xs) ys = ap (λ (ws : List Word). x.outcome.words ++ ws) (words_of-append xs ys) ∙ sym (append_assoc x.outcome.words (words_of xs) (words_of ys))
 
-pub pairs_of-append : (xs ys : List Outcome) → pairs_of (xs ++ ys) ≡ pairs_of xs ++ pairs_of ys
-pairs_of-append [] ys = refl
-pairs_of-append (x ∷ xs) ys = ap (λ (ps : List Pair). x.drawn ++ ps) (pairs_of-append xs ys) ∙ sym (append_assoc x.drawn (pairs_of xs) (pairs_of ys))
+pub effects_of-append : (xs ys : List Turned) → effects_of (xs ++ ys) ≡ effects_of xs ++ effects_of ys
+effects_of-append [] ys = refl
+effects_of-append (x ∷ xs) ys = ap (λ (es : List Effect). x.outcome.effects ++ es) (effects_of-append xs ys) ∙ sym (append_assoc x.outcome.effects (effects_of xs) (effects_of ys))
 
-pub events_of-append : (xs ys : List Outcome) → events_of (xs ++ ys) ≡ events_of xs ++ events_of ys
+pub drawn_in-append : (xs ys : List Effect) → drawn_in (xs ++ ys) ≡ drawn_in xs ++ drawn_in ys
+drawn_in-append [] ys = refl
+drawn_in-append (draws pair ∷ xs) ys = ap (λ (ps : List Pair). pair ∷ ps) (drawn_in-append xs ys)
+drawn_in-append (sends packet ∷ xs) ys = drawn_in-append xs ys
+drawn_in-append (holds link ∷ xs) ys = drawn_in-append xs ys
+drawn_in-append (connects link ∷ xs) ys = drawn_in-append xs ys
+drawn_in-append (ends ∷ xs) ys = drawn_in-append xs ys
+drawn_in-append (begins number ∷ xs) ys = drawn_in-append xs ys
+drawn_in-append (completes my number ∷ xs) ys = drawn_in-append xs ys
+drawn_in-append (fails number ∷ xs) ys = drawn_in-append xs ys
+drawn_in-append (accepts number ∷ xs) ys = drawn_in-append xs ys
+drawn_in-append (performs peer number ∷ xs) ys = drawn_in-append xs ys
+
+pub pairs_of-append : (xs ys : List Turned) → pairs_of (xs ++ ys) ≡ pairs_of xs ++ pairs_of ys
+pairs_of-append xs ys = ap drawn_in (effects_of-append xs ys) ∙ drawn_in-append (effects_of xs) (effects_of ys)
+
+pub events_of-append : (xs ys : List Turned) → events_of (xs ++ ys) ≡ events_of xs ++ events_of ys
 events_of-append [] ys = refl
-events_of-append (x ∷ xs) ys = ap (λ (ws : List (Event Emission)). x.events ++ ws) (events_of-append xs ys) ∙ sym (append_assoc x.events (events_of xs) (events_of ys))
+events_of-append (x ∷ xs) ys = ap (λ (ws : List (Event Emission)). x.outcome.events ++ ws) (events_of-append xs ys) ∙ sym (append_assoc x.outcome.events (events_of xs) (events_of ys))

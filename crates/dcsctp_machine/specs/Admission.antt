@@ -2,7 +2,7 @@
 use Rattle.std.specs.Prelude.{◌==◌, ℕ, ◌-◌, ◌^◌, Bool, true, false, not, ◌&&◌, Option, None, Some, List, [], ◌∷◌, ◌++◌, codes}
 use Rattle.std.specs.Fmt.{digits, padded_integral, format_spec}
 use Rattle.dcsctp_machine.specs.Endpoint.{Core, closed, cookie_wait, cookie_echoed, open_in, own_tag}
-use Rattle.dcsctp_machine.specs.Packet.{Content, init, init_ack, cookie_echo, cookie_ack, re_config, abort, shutdown, shutdown_ack, shutdown_complete, other, Packet}
+use Rattle.dcsctp_machine.specs.Packet.{Content, init, init_ack, cookie_echo, cookie_ack, re_config, abort, shutdown, shutdown_ack, shutdown_complete, plain, Packet}
 
 pub data Admission : Type 0 where
   -- all chunks are worked
@@ -53,7 +53,7 @@ is_init (abort reflected causes) = false
 is_init (shutdown cumulative_tsn) = false
 is_init shutdown_ack = false
 is_init (shutdown_complete reflected) = false
-is_init (other type flags value) = false
+is_init (plain chunk) = false
 
 -- is it one chunk, an INIT?
 abbrev pub is_single_init : List Content → Bool

@@ -1,13 +1,14 @@
--- How a turn of an endpoint is one of its association: the association moves as the change says, it draws the
--- change's pairs, and the user sees its packets, its connections and ends and its resets in the change's order.
--- The rest of the endpoint (timers, counts, what lies below) is not said here.
+-- How a turn of an endpoint is one of its association: the association moves as the change says, its effects are the
+-- change's, and the user sees its packets, its connections and ends and its resets in the change's order.
+-- Not said here: timers, counts, what lies below, the words drawn, whether packets have a checksum, the texts, streams and
+-- kinds of events, and the events that are no sign.
 use Rattle.std.specs.Prelude.{◌≡◌, ℕ, List, [], ◌∷◌}
-use Rattle.dcsctp_machine.specs.declared.association.Pair.{Pair}
+use Rattle.dcsctp_machine.specs.Settings.{SameOptions}
 use Rattle.dcsctp_machine.specs.Packet.{Content, Packet, Emission}
 use Rattle.dcsctp_machine.specs.Event.{Event, sent, connected, closed, aborted, streams_reset_failed, streams_reset_performed, incoming_stream_reset}
 use Rattle.dcsctp_machine.specs.Endpoint.{Endpoint}
 use Rattle.dcsctp_machine.specs.Outcome.{Outcome}
-use Rattle.dcsctp_machine.specs.control.Effect.{Effect, draws, sends, connects, ends, completes, fails, performs, Change}
+use Rattle.dcsctp_machine.specs.control.Effect.{Effect, draws, sends, holds, connects, ends, begins, completes, fails, accepts, performs, noted, Change}
 use Rattle.dcsctp_machine.specs.control.Choices.{Choices}
 use Rattle.dcsctp_machine.specs.control.Acts.{Act, act_change, ChunkChange}
 
@@ -39,19 +40,16 @@ signs_of_effects (ends ∷ effects) = has_ended ∷ signs_of_effects effects
 signs_of_effects (completes my number ∷ effects) = own_reset_performed ∷ signs_of_effects effects
 signs_of_effects (fails number ∷ effects) = own_reset_failed ∷ signs_of_effects effects
 signs_of_effects (performs peer number ∷ effects) = peer_reset_performed ∷ signs_of_effects effects
-signs_of_effects (effect ∷ effects) = signs_of_effects effects
-
--- the pairs that were drawn
-abbrev pub pairs_of_effects : List Effect → List Pair
-pairs_of_effects [] = []
-pairs_of_effects (draws pair ∷ effects) = pair ∷ pairs_of_effects effects
-pairs_of_effects (effect ∷ effects) = pairs_of_effects effects
+signs_of_effects (draws pair ∷ effects) = signs_of_effects effects
+signs_of_effects (holds link ∷ effects) = signs_of_effects effects
+signs_of_effects (begins number ∷ effects) = signs_of_effects effects
+signs_of_effects (accepts number ∷ effects) = signs_of_effects effects
 
 pub record IsControlled (e : Endpoint) (o : Outcome) (change : Change) : Type 0 where
   pub core : o.after.core ≡ change.core
-  pub options : o.after.options ≡ e.options
+  pub options : SameOptions e.options o.after.options
   pub signs : signs_of_events o.events ≡ signs_of_effects change.effects
-  pub drawn : o.drawn ≡ pairs_of_effects change.effects
+  pub effects : o.effects ≡ noted change.effects
   pub following : o.following ≡ change.following
 
 -- a chunk's turn, as far as the association goes

@@ -13,7 +13,7 @@ use Rattle.dcsctp_machine.specs.declared.kinds.SctpImplementation.{SctpImplement
 use Rattle.dcsctp_machine.specs.declared.kinds.SctpImplementation.TheVariants.{Unknown}
 use Rattle.dcsctp_machine.specs.declared.options.Options.{Options}
 
--- the phases in which an association is open: each side has its peer's word for it
+-- the phases in which an association is open: COOKIE ECHO or COOKIE ACK has come
 pub data OpenPhase : Type 0 where
   established : OpenPhase
   shutdown_pending : OpenPhase

@@ -1,5 +1,5 @@
 -- What a socket tells its user, over what stands for a packet: a packet in the machine, its bytes outside.
-use Rattle.std.specs.Prelude.{ℕ, List}
+use Rattle.std.specs.Prelude.{ℕ, List, [], ◌∷◌}
 use Rattle.dcsctp_machine.specs.declared.kinds.ErrorKind.{ErrorKind}
 
 pub data Event (P : Type 0) : Type 0 where
@@ -38,3 +38,9 @@ event_map f (lifecycle_message_maybe_expired id) = lifecycle_message_maybe_expir
 event_map f (lifecycle_message_expired id) = lifecycle_message_expired id
 event_map f (lifecycle_message_delivered id) = lifecycle_message_delivered id
 event_map f (lifecycle_end id) = lifecycle_end id
+
+-- the packets among events, in order
+abbrev pub packets_in : {P : Type 0} → List (Event P) → List P
+packets_in [] = []
+packets_in (sent packet ∷ events) = packet ∷ packets_in events
+packets_in (event ∷ events) = packets_in events

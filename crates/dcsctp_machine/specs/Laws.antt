@@ -1,31 +1,32 @@
 -- Laws of the definitions, in other words than theirs.
-use Rattle.std.specs.Prelude.{◌≡◌, ◌≤◌, ◌<◌, ◌^◌, ℕ, Ok, Option, List, [], ◌∷◌, ◌++◌}
+use Rattle.std.specs.Prelude.{◌≡◌, ◌≤◌, ◌<◌, ◌^◌, ℕ, Ok, Option, List, [], ◌∷◌, ◌++◌, ◌⊎◌}
 use Rattle.dcsctp_machine.specs.declared.association.Pair.{Pair}
 use Rattle.dcsctp_machine.specs.declared.capabilities.Capabilities.{Capabilities}
 use Rattle.dcsctp_machine.specs.declared.kinds.ErrorKind.TheVariants.{ParseFailed}
 use Rattle.dcsctp_machine.specs.declared.options.Options.{Options}
-use Rattle.dcsctp_machine.specs.Settings.{IsValid, wire_options}
+use Rattle.dcsctp_machine.specs.Settings.{IsValid, SameOptions, wire_options}
 use Rattle.dcsctp_machine.specs.Admission.{all_chunks, shutdown_acks_alone, refused, admits, shutdown_acks_in}
 use Rattle.dcsctp_machine.specs.declared.schedule.Side.{Side}
 use Rattle.dcsctp_machine.specs.declared.schedule.Step.{Step}
 use Rattle.dcsctp_machine.specs.Sockets.{Both, of_side, StepTurns, Worked, SocketRun, turns_after, endpoint_after}
-use Rattle.dcsctp_machine.specs.CallTurns.{ChunkTurns, AdmittedTurns, HandleInput, after_all, words_of, events_of}
+use Rattle.dcsctp_machine.specs.CallTurns.{Turned, Turns, ChunkTurns, AdmittedTurns, HandleInput, after_all, words_of, effects_of, events_of}
 use Rattle.dcsctp_machine.specs.Event.{Event, sent, error}
-use Rattle.dcsctp_machine.specs.Turn.{unreadable_text, refusal_outcome, ContentTurn, ActTurn}
+use Rattle.dcsctp_machine.specs.Turn.{Input, packet_ends, unreadable_text, refusal_outcome, ContentTurn, ActTurn}
 use Rattle.dcsctp_machine.specs.Controlled.{IsControlled, ControlledChunk, ControlledAct}
-use Rattle.dcsctp_machine.specs.control.Effect.{Change}
+use Rattle.dcsctp_machine.specs.control.Effect.{Change, unchanged}
 use Rattle.dcsctp_wire.specs.Content.{PacketContent}
 use Rattle.dcsctp_wire.specs.Format.{IsPacket}
 use Rattle.dcsctp_machine.specs.Offer.{Offer, offer_of, offer_in, offer_parameters, offer_announced, capabilities_offered, negotiated, answering_offer}
 use Rattle.dcsctp_machine.specs.Cookie.{Cookie, cookie_bytes, cookie_at}
 use Rattle.dcsctp_machine.specs.Packet.{Introduction, Content, init, shutdown_ack, Packet, Emission, cookie_parameters, packet_in}
 use Rattle.dcsctp_machine.specs.Endpoint.{Endpoint, Core, closed, cookie_wait, cookie_echoed, open_in}
-use Rattle.dcsctp_machine.specs.World.{MayBeWorked, ChunkChanges, PacketTurns}
-use Rattle.dcsctp_machine.specs.control.Acts.{Act, chunk_change}
+use Rattle.dcsctp_machine.specs.World.{MayBeWorked, ChunkChanges}
+use Rattle.dcsctp_machine.specs.control.Acts.{Act, shutdown_repeats, act_change, chunk_change}
 use Rattle.dcsctp_machine.specs.control.Choices.{Choices}
-use Rattle.dcsctp_machine.specs.control.Shutdown.{reflects}
+use Rattle.dcsctp_machine.specs.control.ShutdownChanges.{reflected_change}
 use Rattle.dcsctp_machine.specs.Outcome.{Outcome, count_up}
-use Rattle.dcsctp_machine.specs.turns.Handshake.{InitTurn}
+use Rattle.dcsctp_machine.specs.turns.HandshakeOutcomes.{InitTurn}
+use Rattle.dcsctp_machine.specs.turns.FlushOutcomes.{Answer, FlushAnswers, flush_of, IsWithin, KeepsLimits}
 
 -- Two ends hold the same: the features are equal, and what comes in at one goes out at the other.
 pub record IsMirrored (mine theirs : Capabilities) : Type 0 where
@@ -98,18 +99,19 @@ CapabilitiesHoldOffer = (offer : Offer) → offer_in (capabilities_offered offer
 
 -- A packet that can't be read, or that admission refuses, is counted, adds one error, and changes
 -- nothing else (RFC 9260, section 8.5).
-pub record IsRefused (e : Endpoint) (text : List ℕ) (outcomes : List Outcome) : Type 0 where
-  pub endpoint : after_all e outcomes ≡ record e { counts = record e.counts { packets_received = count_up e.counts.packets_received } }
-  pub events : events_of outcomes ≡ error ParseFailed text ∷ []
-  pub words : words_of outcomes ≡ []
+pub record IsRefused (e : Endpoint) (text : List ℕ) (turns : List Turned) : Type 0 where
+  pub endpoint : after_all e turns ≡ record e { counts = record e.counts { packets_received = count_up e.counts.packets_received } }
+  pub events : events_of turns ≡ error ParseFailed text ∷ []
+  pub words : words_of turns ≡ []
+  pub effects : effects_of turns ≡ []
 
 pub record RefusedPacketAddsOneError : Type 0 where
-  pub unreadable : (e : Endpoint) (bytes : List ℕ) (outcomes : List Outcome) → HandleInput e bytes outcomes
+  pub unreadable : (e : Endpoint) (bytes : List ℕ) (turns : List Turned) → HandleInput e bytes turns
       → ((packet : PacketContent) → IsPacket (wire_options e.options) packet bytes → ⊥)
-      → IsRefused e unreadable_text outcomes
-  pub refused : (e : Endpoint) (bytes text : List ℕ) (packet : PacketContent) (outcomes : List Outcome) → HandleInput e bytes outcomes
+      → IsRefused e unreadable_text turns
+  pub refused : (e : Endpoint) (bytes text : List ℕ) (packet : PacketContent) (turns : List Turned) → HandleInput e bytes turns
       → IsPacket (wire_options e.options) packet bytes → admits e.core (packet_in packet) ≡ refused text
-      → IsRefused e text outcomes
+      → IsRefused e text turns
 
 -- Whatever admission lets in may be worked in the machine that agreement runs on: a whole packet, or its SHUTDOWN
 -- ACK chunks alone. Each of these is answered, and the association stays as it is (RFC 9260, sections 8.4 and
@@ -119,7 +121,7 @@ pub record AdmittedPacketsMayBeWorked : Type 0 where
   pub cut : (core : Core) (packet : Packet) → admits core packet ≡ shutdown_acks_alone
       → MayBeWorked core (record packet { contents = shutdown_acks_in packet.contents })
   pub answered : (options : Options) (core : Core) (packet : Packet) (choices : Choices) → admits core packet ≡ shutdown_acks_alone
-      → chunk_change options core packet.tag shutdown_ack choices ≡ reflects core packet.tag
+      → chunk_change options core packet.tag shutdown_ack choices ≡ reflected_change core packet.tag
 
 -- ---- the turns of an endpoint as turns of its association
 
@@ -152,39 +154,83 @@ abbrev pub ActsAreControlled : Type 0
 ActsAreControlled = (e : Endpoint) (act : Act) (o : Outcome) → ActTurn e act o → ControlledAct e act o
 
 -- where each of a packet's chunks fits at its turn
-abbrev pub FitsTurns : Endpoint → List Content → List Outcome → Type 0
-FitsTurns e [] outcomes = Unit {0}
+abbrev pub FitsTurns : Endpoint → List Content → List Turned → Type 0
+FitsTurns e [] turns = Unit {0}
 FitsTurns e (content ∷ contents) [] = Unit {0}
-FitsTurns e (content ∷ contents) (outcome ∷ outcomes) = FitsContent e content × FitsTurns outcome.after contents outcomes
+FitsTurns e (content ∷ contents) (turn ∷ turns) = FitsContent e content × FitsTurns turn.outcome.after contents turns
 
--- outcome by outcome
-abbrev pub AllControlled : Endpoint → List Outcome → List Change → Type 0
+-- turn by turn
+abbrev pub AllControlled : Endpoint → List Turned → List Change → Type 0
 AllControlled e [] [] = Unit {0}
 AllControlled e [] (change ∷ changes) = ⊥
-AllControlled e (outcome ∷ outcomes) [] = ⊥
-AllControlled e (outcome ∷ outcomes) (change ∷ changes) = IsControlled e outcome change × AllControlled outcome.after outcomes changes
+AllControlled e (turn ∷ turns) [] = ⊥
+AllControlled e (turn ∷ turns) (change ∷ changes) = IsControlled e turn.outcome change × AllControlled turn.outcome.after turns changes
 
--- The turns of a packet are a delivery to the association.
+-- what is left of a packet's turns: those of its end, or none
+pub data IsRest (e : Endpoint) (ends : List Input) (turns : List Turned) : Type 0 where
+  dropped : turns ≡ [] → IsRest e ends turns
+  ended : Turns e ends turns → IsRest e ends turns
+
+-- The turns of a packet's chunks are chunks worked by the association; behind them stands the end of the packet, or nothing.
+pub record AreChunks (e : Endpoint) (tag : ℕ) (contents : List Content) (ends : List Input) (turns : List Turned) : Type 0 where
+  pub chunks : List Turned
+  pub rest : List Turned
+  pub parts : turns ≡ chunks ++ rest
+  pub changes : List Change
+  pub moves : ChunkChanges e.options e.core tag contents changes
+  pub controlled : AllControlled e chunks changes
+  pub is_rest : IsRest (after_all e chunks) ends rest
+
 abbrev pub PacketsAreControlled : Type 0
 PacketsAreControlled =
-    (e : Endpoint) (tag : ℕ) (contents : List Content) (outcomes : List Outcome) → ChunkTurns e tag contents outcomes → FitsTurns e contents outcomes
-    → (changes : List Change) × ChunkChanges e.options e.core tag contents changes × AllControlled e outcomes changes
+    (e : Endpoint) (tag : ℕ) (contents : List Content) (ends : List Input) (turns : List Turned) → ChunkTurns e tag contents ends turns
+    → FitsTurns e contents turns → AreChunks e tag contents ends turns
 
--- What comes of a packet that was counted: a delivery to the association, or one error.
-pub data Delivered (e : Endpoint) (packet : Packet) (outcomes : List Outcome) : Type 0 where
-  delivered : (changes : List Change) → PacketTurns e.options e.core packet changes → AllControlled e outcomes changes → Delivered e packet outcomes
-  reported : (text : List ℕ) → outcomes ≡ refusal_outcome e text ∷ [] → Delivered e packet outcomes
+-- What stands before a packet's chunks: nothing, or the answer to data where a SHUTDOWN waits for its own.
+pub record StandsBefore (e : Endpoint) (o : Outcome) : Type 0 where
+  pub change : Change
+  pub is : (change ≡ unchanged e.core) ⊎ ((choices : Choices) × (change ≡ act_change e.options e.core shutdown_repeats choices))
+  pub controlled : IsControlled e o change
+  pub keeps : change.core ≡ e.core
+
+-- A packet's turns: what stands before its chunks; these, as they may be worked; and its end.
+pub record IsDelivery (e : Endpoint) (packet : Packet) (begun : Turned) (turns : List Turned) : Type 0 where
+  pub before : StandsBefore e begun.outcome
+  pub worked : AreChunks begun.outcome.after packet.tag packet.contents (packet_ends ∷ []) turns
+  pub may : MayBeWorked begun.outcome.after.core packet
+
+-- What comes of a packet that was counted: a delivery to the association, of all its chunks or its SHUTDOWN ACK chunks; or one error.
+pub data Delivered (e : Endpoint) (packet : Packet) : List Turned → Type 0 where
+  whole : (begun : Turned) (turns : List Turned) → IsDelivery e packet begun turns → Delivered e packet (begun ∷ turns)
+  acks : (turns : List Turned) → AreChunks e packet.tag (shutdown_acks_in packet.contents) [] turns → Delivered e packet turns
+  reported : (text : List ℕ) (turn : Turned) → turn.outcome ≡ refusal_outcome e text → Delivered e packet (turn ∷ [])
+
+-- where the chunks of a packet fit at their turns, behind the one that stands before them
+abbrev pub FitsBehind : List Content → List Turned → Type 0
+FitsBehind contents [] = Unit {0}
+FitsBehind contents (begun ∷ turns) = FitsTurns begun.outcome.after contents turns
 
 abbrev pub DeliveriesAreControlled : Type 0
 DeliveriesAreControlled =
-    (e : Endpoint) (packet : Packet) (outcomes : List Outcome) → AdmittedTurns e packet (admits e.core packet) outcomes → FitsTurns e packet.contents outcomes
-    → Delivered e packet outcomes
+    (e : Endpoint) (packet : Packet) (turns : List Turned) → AdmittedTurns e packet (admits e.core packet) turns → FitsBehind packet.contents turns
+    → Delivered e packet turns
+
+-- ---- a flush
+
+-- Whatever answers a flush gets, it sends at most as many packets as `max_burst` allows, one at most while the COOKIE ECHO
+-- isn't answered, none of them longer than `mtu`, and tells nothing else but what becomes of amounts and messages (RFC 9260,
+-- section 6.1).
+abbrev pub FlushKeepsLimits : Type 0
+FlushKeepsLimits =
+    (e : Endpoint) (draft : Emission) (answers : List Answer) → FlushAnswers e draft answers → IsWithin e draft
+    → KeepsLimits e (flush_of e draft answers).events
 
 -- ---- two sockets
 
--- The options of a socket stay for good, whatever the user calls and whatever is delivered.
+-- The options of a socket stay for good, but for the longest message that it takes, whatever the user calls and whatever is
+-- delivered.
 pub record SocketsKeepOptions : Type 0 where
-  pub step : (e : Endpoint) (packets : List (List ℕ)) (step : Step) (outcomes : List Outcome) → StepTurns e packets step outcomes
-      → (after_all e outcomes).options ≡ e.options
+  pub step : (e : Endpoint) (packets : List (List ℕ)) (step : Step) (turns : List Turned) → StepTurns e packets step turns
+      → SameOptions e.options (after_all e turns).options
   pub run : (options : Both Options) (steps : List Worked) → SocketRun options steps
-      → (side : Side) → (endpoint_after (of_side side options) (of_side side (turns_after steps))).options ≡ of_side side options
+      → (side : Side) → SameOptions (of_side side options) (endpoint_after (of_side side options) (of_side side (turns_after steps))).options

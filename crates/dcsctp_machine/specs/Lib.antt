@@ -18,3 +18,5 @@ pub mod World
 pub mod Turn
 pub mod turns
 pub mod Laws
+pub mod Fitting
+pub mod Following

@@ -1,5 +1,5 @@
--- What one turn leaves: the words that it drew and the pairs that it made of them, the endpoint after it, and
--- its events in order.
+-- What one turn leaves: the words that it drew, what happened to the association, the endpoint after it, and its events
+-- in order.
 use Rattle.std.specs.Prelude.{ℕ, Bool, ◌+◌, ◌-◌, ◌^◌, min, List, [], ◌∷◌, ◌++◌, length, nat_le, if◌then◌else◌}
 use Rattle.std.specs.List.{flat_map}
 use Rattle.dcsctp_machine.specs.declared.association.Pair.{Pair}
@@ -9,28 +9,22 @@ use Rattle.dcsctp_machine.specs.Settings.{packet_size_limit}
 use Rattle.dcsctp_machine.specs.Event.{Event, sent, error}
 use Rattle.dcsctp_machine.specs.Packet.{Content, Emission, chunk_out}
 use Rattle.dcsctp_machine.specs.Endpoint.{Endpoint}
+use Rattle.dcsctp_machine.specs.Following.{Following, next_chunk}
+use Rattle.dcsctp_machine.specs.control.Effect.{Effect, draws}
 use Rattle.dcsctp_wire.specs.Spelling.{chunk_bytes}
-
--- What follows a chunk in its packet.
-pub data Following : Type 0 where
-  -- the chunk after it
-  next_chunk : Following
-  -- no other chunk, and then the end of the packet
-  packet_end : Following
-  -- nothing: the rest of the packet is dropped
-  dropped_rest : Following
 
 pub record Outcome : Type 0 where
   pub words : List Word
-  -- the pairs that were made of the words, in order: a verification tag is drawn with each
-  pub drawn : List Pair
+  -- what happened to the association, in order, but for its packets, which stand among the events: pairs that were drawn,
+  -- what is held from here on, connections, ends, and the numbers of requests that were begun, ended, accepted and performed
+  pub effects : List Effect
   pub after : Endpoint
   pub events : List (Event Emission)
   pub following : Following
 
 -- nothing happens
 abbrev pub still : Endpoint → Outcome
-still e = record { words = []; drawn = []; after = e; events = []; following = next_chunk }
+still e = record { words = []; effects = []; after = e; events = []; following = next_chunk }
 
 -- one more, up to the greatest number of 64 bits
 abbrev pub count_up : ℕ → ℕ
@@ -38,7 +32,7 @@ count_up count = min (count + 1) (2 ^ 64 - 1)
 
 -- one OnError, and no change
 abbrev pub reports : Endpoint → ErrorKind → List ℕ → Outcome
-reports e kind text = record { words = []; drawn = []; after = e; events = error kind text ∷ []; following = next_chunk }
+reports e kind text = record { words = []; effects = []; after = e; events = error kind text ∷ []; following = next_chunk }
 
 -- how long the chunks of a packet are
 abbrev pub contents_len : List Content → ℕ
@@ -54,17 +48,36 @@ counted e = record e { counts = record e.counts { packets_sent = count_up e.coun
 
 -- these words and events, and no packet behind them
 abbrev pub quiet : Endpoint → List Word → List (Event Emission) → Outcome
-quiet e words events = record { words = words; drawn = []; after = e; events = events; following = next_chunk }
+quiet e words events = record { words = words; effects = []; after = e; events = events; following = next_chunk }
 
 -- these words and events, and then a packet
 abbrev pub sends : Endpoint → List Word → List (Event Emission) → Emission → Outcome
-sends e words events emission = record { words = words; drawn = []; after = counted e; events = events ++ sent emission ∷ []; following = next_chunk }
+sends e words events emission = record { words = words; effects = []; after = counted e; events = events ++ sent emission ∷ []; following = next_chunk }
 
 -- The words that were drawn, and then a packet, where it fits: one that doesn't is neither emitted nor
 -- counted.
 abbrev pub emits : Endpoint → List Word → Emission → Outcome
 emits e words emission = if fits e emission then sends e words [] emission else quiet e words []
 
+-- this outcome, behind these words and events
+abbrev pub behind : List Word → List (Event Emission) → Outcome → Outcome
+behind words events o = record o { words = words ++ o.words; events = events ++ o.events }
+
+-- one outcome, and another from where it led
+abbrev pub then_outcome : Outcome → Outcome → Outcome
+then_outcome first second =
+    record {
+      words = first.words ++ second.words;
+      effects = first.effects ++ second.effects;
+      after = second.after;
+      events = first.events ++ second.events;
+      following = second.following;
+    }
+
+-- this outcome, behind these effects
+abbrev pub noting : List Effect → Outcome → Outcome
+noting effects o = record o { effects = effects ++ o.effects }
+
 -- what comes of a turn that draws this pair
 abbrev pub drawing : Pair → Outcome → Outcome
-drawing pair o = record o { drawn = pair ∷ [] }
+drawing pair o = noting (draws pair ∷ []) o

@@ -1,12 +1,12 @@
 -- What the machine sees of a packet: a verification tag and what each chunk says (RFC 9260, section 3).
-use Rattle.std.specs.Prelude.{ℕ, Bool, Option, None, Some, List, [], ◌∷◌, ◌++◌, map, take}
+use Rattle.std.specs.Prelude.{◌==◌, ℕ, Bool, Option, None, Some, List, [], ◌∷◌, ◌++◌, map, take}
 use Rattle.std.specs.List.{flat_map}
 use Rattle.std.specs.Int.{w32, to_be_bytes}
 use Rattle.dcsctp_machine.specs.declared.association.Pair.{Pair}
 use Rattle.dcsctp_machine.specs.Settings.{Ports}
 use Rattle.dcsctp_machine.specs.Offer.{Offer, offer_parameters, offer_announced}
 use Rattle.dcsctp_wire.specs.Content.{ParameterContent, state_cookie, supported_extensions, zero_checksum_acceptable, forward_tsn_supported, unknown_parameter, InitContent, ChunkContent, init_chunk, init_ack_chunk, abort_chunk, cookie_echo_chunk, cookie_ack_chunk, other_chunk, PacketContent}
-use Rattle.dcsctp_wire.specs.Numbers.{shutdown_type, shutdown_ack_type, shutdown_complete_type, re_config_type}
+use Rattle.dcsctp_wire.specs.Numbers.{data_type, error_type, shutdown_type, shutdown_ack_type, shutdown_complete_type, re_config_type}
 use Rattle.dcsctp_wire.specs.Spelling.{parameter_bytes, parameters_len, t_bit, packet_bytes}
 use Rattle.dcsctp_machine.specs.Cause.{Cause}
 use Rattle.dcsctp_machine.specs.Reconfiguration.{ResetParameter, reset_parameter_content}
@@ -18,6 +18,20 @@ pub record Introduction : Type 0 where
   pub offer : Offer
   -- its receive window
   pub window : ℕ
+
+-- A chunk that speaks of no association: data, acknowledgements, heartbeats, errors, and what is unknown. Each kind that
+-- is told apart has its constructor here; what other chapters ask of kinds stands beside them, and names them alone.
+pub data Plain : Type 0 where
+  -- a kind without a handler, as it is written: type, flags, value
+  written : ℕ → ℕ → List ℕ → Plain
+
+-- is it a DATA chunk?
+abbrev pub is_data : Plain → Bool
+is_data (written type flags value) = type == data_type
+
+-- an ERROR chunk with this value (RFC 9260, section 3.3.10)
+abbrev pub error_of : List ℕ → Plain
+error_of value = written error_type 0 value
 
 pub data Content : Type 0 where
   init : Introduction → Content
@@ -37,8 +51,8 @@ pub data Content : Type 0 where
   shutdown_ack : Content
   -- SHUTDOWN COMPLETE (RFC 9260, section 3.3.13): the T bit
   shutdown_complete : Bool → Content
-  -- any other chunk: type, flags, value
-  other : ℕ → ℕ → List ℕ → Content
+  -- any other chunk
+  plain : Plain → Content
 
 pub record Packet : Type 0 where
   pub tag : ℕ
@@ -73,15 +87,14 @@ cookie_in (unknown_parameter type value ∷ parameters) = cookie_in parameters
 abbrev pub parameters_value : List ParameterContent → List ℕ
 parameters_value parameters = take (parameters_len parameters) (flat_map parameter_bytes parameters)
 
--- What a chunk says. A kind without a handler stands as its type, flags and value, as it is written, until its
--- handler is there.
+-- what a chunk says
 abbrev pub content_in : ChunkContent → Content
 content_in (init_chunk chunk) = init (introduction_in chunk)
 content_in (init_ack_chunk chunk) = init_ack (introduction_in chunk) (cookie_in chunk.parameters)
 content_in (abort_chunk reflected causes) = abort reflected causes
 content_in (cookie_echo_chunk cookie) = cookie_echo cookie
 content_in cookie_ack_chunk = cookie_ack
-content_in (other_chunk type flags value) = other type flags value
+content_in (other_chunk type flags value) = plain (written type flags value)
 
 abbrev pub packet_in : PacketContent → Packet
 packet_in packet = record { tag = packet.verification_tag; contents = map content_in packet.chunks }
@@ -104,6 +117,9 @@ introduction_out introduction cookie =
       parameters = offer_parameters introduction.offer ++ cookie_parameters cookie;
     }
 
+abbrev pub plain_out : Plain → ChunkContent
+plain_out (written type flags value) = other_chunk type flags value
+
 abbrev pub chunk_out : Content → ChunkContent
 chunk_out (init introduction) = init_chunk (introduction_out introduction None)
 chunk_out (init_ack introduction cookie) = init_ack_chunk (introduction_out introduction cookie)
@@ -114,7 +130,7 @@ chunk_out (abort reflected causes) = abort_chunk reflected causes
 chunk_out (shutdown cumulative_tsn) = other_chunk shutdown_type 0 (to_be_bytes w32 cumulative_tsn)
 chunk_out shutdown_ack = other_chunk shutdown_ack_type 0 []
 chunk_out (shutdown_complete reflected) = other_chunk shutdown_complete_type (t_bit reflected) []
-chunk_out (other type flags value) = other_chunk type flags value
+chunk_out (plain chunk) = plain_out chunk
 
 -- the bytes of a packet between these ports
 abbrev pub emission_bytes : Ports → Emission → List ℕ

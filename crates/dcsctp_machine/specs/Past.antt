@@ -1,8 +1,8 @@
 -- What one side has done so far, newest first, and where in it each effect may stand.
 use Rattle.std.specs.Prelude.{◌≡◌, ◌≢◌, ℕ, ◌+◌, ◌%◌, ◌^◌, Option, None, Some, List, [], ◌∷◌, ◌⊎◌}
 use Rattle.dcsctp_machine.specs.declared.association.Pair.{Pair}
-use Rattle.dcsctp_machine.specs.control.Effect.{Link, Effect, draws, holds, connects, ends, begins, completes, fails, accepts, performs}
-use Rattle.dcsctp_machine.specs.control.Flush.{next_number}
+use Rattle.dcsctp_machine.specs.control.Effect.{Link, Effect, draws, sends, holds, connects, ends, begins, completes, fails, accepts, performs}
+use Rattle.dcsctp_machine.specs.control.FlushChanges.{next_number}
 
 -- It is one of these.
 abbrev pub Has : Effect → List Effect → Type 0
@@ -19,7 +19,15 @@ Each Rule (newest ∷ earlier) = Rule newest earlier × Each Rule earlier
 -- A tag that is drawn was never drawn before.
 abbrev pub FreshDraw : Effect → List Effect → Type 0
 FreshDraw (draws pair) earlier = (other : Pair) → Has (draws other) earlier → pair.tag ≢ other.tag
-FreshDraw effect earlier = Unit {0}
+FreshDraw (sends packet) earlier = Unit {0}
+FreshDraw (holds link) earlier = Unit {0}
+FreshDraw (connects link) earlier = Unit {0}
+FreshDraw ends earlier = Unit {0}
+FreshDraw (begins number) earlier = Unit {0}
+FreshDraw (completes my number) earlier = Unit {0}
+FreshDraw (fails number) earlier = Unit {0}
+FreshDraw (accepts number) earlier = Unit {0}
+FreshDraw (performs peer number) earlier = Unit {0}
 
 -- No verification tag is drawn twice by this side.
 abbrev pub HasFreshTags : List Effect → Type 0
@@ -32,7 +40,14 @@ abbrev pub current : List Effect → Option Link
 current [] = None
 current (holds link ∷ earlier) = Some link
 current (ends ∷ earlier) = None
-current (effect ∷ earlier) = current earlier
+current (draws pair ∷ earlier) = current earlier
+current (sends packet ∷ earlier) = current earlier
+current (connects link ∷ earlier) = current earlier
+current (begins number ∷ earlier) = current earlier
+current (completes my number ∷ earlier) = current earlier
+current (fails number ∷ earlier) = current earlier
+current (accepts number ∷ earlier) = current earlier
+current (performs peer number ∷ earlier) = current earlier
 
 -- the association that is held and hasn't connected
 abbrev pub unconnected : List Effect → Option Link
@@ -40,7 +55,13 @@ unconnected [] = None
 unconnected (holds link ∷ earlier) = Some link
 unconnected (connects link ∷ earlier) = None
 unconnected (ends ∷ earlier) = None
-unconnected (effect ∷ earlier) = unconnected earlier
+unconnected (draws pair ∷ earlier) = unconnected earlier
+unconnected (sends packet ∷ earlier) = unconnected earlier
+unconnected (begins number ∷ earlier) = unconnected earlier
+unconnected (completes my number ∷ earlier) = unconnected earlier
+unconnected (fails number ∷ earlier) = unconnected earlier
+unconnected (accepts number ∷ earlier) = unconnected earlier
+unconnected (performs peer number ∷ earlier) = unconnected earlier
 
 -- the number that an own request has to bear: the own first TSN, and then one more each time
 abbrev pub number_to_begin : List Effect → Option ℕ
@@ -48,7 +69,13 @@ number_to_begin [] = None
 number_to_begin (holds link ∷ earlier) = Some link.my.first_tsn
 number_to_begin (begins number ∷ earlier) = Some (next_number number)
 number_to_begin (ends ∷ earlier) = None
-number_to_begin (effect ∷ earlier) = number_to_begin earlier
+number_to_begin (draws pair ∷ earlier) = number_to_begin earlier
+number_to_begin (sends packet ∷ earlier) = number_to_begin earlier
+number_to_begin (connects link ∷ earlier) = number_to_begin earlier
+number_to_begin (completes my number ∷ earlier) = number_to_begin earlier
+number_to_begin (fails number ∷ earlier) = number_to_begin earlier
+number_to_begin (accepts number ∷ earlier) = number_to_begin earlier
+number_to_begin (performs peer number ∷ earlier) = number_to_begin earlier
 
 -- the number of the own request that has not ended
 abbrev pub outstanding : List Effect → Option ℕ
@@ -58,7 +85,11 @@ outstanding (begins number ∷ earlier) = Some number
 outstanding (completes my number ∷ earlier) = None
 outstanding (fails number ∷ earlier) = None
 outstanding (ends ∷ earlier) = None
-outstanding (effect ∷ earlier) = outstanding earlier
+outstanding (draws pair ∷ earlier) = outstanding earlier
+outstanding (sends packet ∷ earlier) = outstanding earlier
+outstanding (connects link ∷ earlier) = outstanding earlier
+outstanding (accepts number ∷ earlier) = outstanding earlier
+outstanding (performs peer number ∷ earlier) = outstanding earlier
 
 -- how many own requests were begun in the association that is held
 abbrev pub requests_begun : List Effect → ℕ
@@ -66,7 +97,13 @@ requests_begun [] = 0
 requests_begun (holds link ∷ earlier) = 0
 requests_begun (begins number ∷ earlier) = requests_begun earlier + 1
 requests_begun (ends ∷ earlier) = 0
-requests_begun (effect ∷ earlier) = requests_begun earlier
+requests_begun (draws pair ∷ earlier) = requests_begun earlier
+requests_begun (sends packet ∷ earlier) = requests_begun earlier
+requests_begun (connects link ∷ earlier) = requests_begun earlier
+requests_begun (completes my number ∷ earlier) = requests_begun earlier
+requests_begun (fails number ∷ earlier) = requests_begun earlier
+requests_begun (accepts number ∷ earlier) = requests_begun earlier
+requests_begun (performs peer number ∷ earlier) = requests_begun earlier
 
 -- the number that a request of the peer has to bear to be accepted: its first TSN, and then one more each time
 abbrev pub number_to_accept : List Effect → Option ℕ
@@ -74,7 +111,13 @@ number_to_accept [] = None
 number_to_accept (holds link ∷ earlier) = Some (link.peer.first_tsn % 2 ^ 32)
 number_to_accept (accepts number ∷ earlier) = Some (next_number number)
 number_to_accept (ends ∷ earlier) = None
-number_to_accept (effect ∷ earlier) = number_to_accept earlier
+number_to_accept (draws pair ∷ earlier) = number_to_accept earlier
+number_to_accept (sends packet ∷ earlier) = number_to_accept earlier
+number_to_accept (connects link ∷ earlier) = number_to_accept earlier
+number_to_accept (begins number ∷ earlier) = number_to_accept earlier
+number_to_accept (completes my number ∷ earlier) = number_to_accept earlier
+number_to_accept (fails number ∷ earlier) = number_to_accept earlier
+number_to_accept (performs peer number ∷ earlier) = number_to_accept earlier
 
 -- the number of the peer's request that was accepted last and not performed
 abbrev pub number_to_perform : List Effect → Option ℕ
@@ -83,7 +126,12 @@ number_to_perform (holds link ∷ earlier) = None
 number_to_perform (accepts number ∷ earlier) = Some number
 number_to_perform (performs peer number ∷ earlier) = None
 number_to_perform (ends ∷ earlier) = None
-number_to_perform (effect ∷ earlier) = number_to_perform earlier
+number_to_perform (draws pair ∷ earlier) = number_to_perform earlier
+number_to_perform (sends packet ∷ earlier) = number_to_perform earlier
+number_to_perform (connects link ∷ earlier) = number_to_perform earlier
+number_to_perform (begins number ∷ earlier) = number_to_perform earlier
+number_to_perform (completes my number ∷ earlier) = number_to_perform earlier
+number_to_perform (fails number ∷ earlier) = number_to_perform earlier
 
 -- the own pair of an association, where there is one, and its peer's
 abbrev pub my_of : Option Link → Option Pair
@@ -107,4 +155,7 @@ InPlace (completes my number) earlier = (outstanding earlier ≡ Some number) ×
 InPlace (fails number) earlier = outstanding earlier ≡ Some number
 InPlace (accepts number) earlier = number_to_accept earlier ≡ Some number
 InPlace (performs peer number) earlier = (number_to_perform earlier ≡ Some number) × (peer_of (current earlier) ≡ Some peer)
-InPlace effect earlier = Unit {0}
+InPlace (draws pair) earlier = Unit {0}
+InPlace (sends packet) earlier = Unit {0}
+InPlace (holds link) earlier = Unit {0}
+InPlace ends earlier = Unit {0}

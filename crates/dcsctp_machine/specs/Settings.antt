@@ -43,6 +43,10 @@ wire_options options =
 abbrev pub milliseconds : ℕ → ℕ
 milliseconds n = n * 1_000_000
 
+-- The same but for `max_message_size`, which the user may set later.
+abbrev pub SameOptions : Options → Options → Type 0
+SameOptions old new = new ≡ record old { max_message_size = new.max_message_size }
+
 -- The options of a user who sets none.
 pub record IsDefault (options : Options) : Type 0 where
   pub local_port : options.local_port ≡ 5000

@@ -10,32 +10,25 @@ use Rattle.dcsctp_machine.specs.declared.schedule.Call.TheVariants as calls
 use Rattle.dcsctp_machine.specs.declared.schedule.Step.{Step}
 use Rattle.dcsctp_machine.specs.declared.schedule.Step.TheVariants as steps
 use Rattle.dcsctp_machine.specs.Settings.{ports_of}
-use Rattle.dcsctp_machine.specs.Event.{Event, event_map, sent}
+use Rattle.dcsctp_machine.specs.Event.{Event, event_map, packets_in}
 use Rattle.dcsctp_machine.specs.Packet.{emission_bytes}
 use Rattle.dcsctp_machine.specs.Endpoint.{Endpoint, fresh_endpoint, association_of}
-use Rattle.dcsctp_machine.specs.Outcome.{Outcome}
 use Rattle.dcsctp_machine.specs.Turn.{act_input}
 use Rattle.dcsctp_machine.specs.control.Acts.{connect}
-use Rattle.dcsctp_machine.specs.CallTurns.{Turns, HandleInput, after_all, events_of}
+use Rattle.dcsctp_machine.specs.CallTurns.{Turned, Turns, HandleInput, after_all, events_of}
 
 -- ---- what a side shows
 
--- the packets among events, in order
-abbrev pub packets_in : {P : Type 0} → List (Event P) → List P
-packets_in [] = []
-packets_in (sent packet ∷ events) = packet ∷ packets_in events
-packets_in (event ∷ events) = packets_in events
-
 -- A socket that was made with these options, after these turns.
-abbrev pub endpoint_after : Options → List Outcome → Endpoint
+abbrev pub endpoint_after : Options → List Turned → Endpoint
 endpoint_after options turns = after_all (fresh_endpoint options) turns
 
 -- its events as its user sees them, each packet in bytes
-abbrev pub events_shown : Options → List Outcome → List (Event (List ℕ))
+abbrev pub events_shown : Options → List Turned → List (Event (List ℕ))
 events_shown options turns = map (event_map (emission_bytes (ports_of options))) (events_of turns)
 
 -- the bytes of all packets that it ever emitted
-abbrev pub packets_shown : Options → List Outcome → List (List ℕ)
+abbrev pub packets_shown : Options → List Turned → List (List ℕ)
 packets_shown options turns = packets_in (events_shown options turns)
 
 -- ---- steps
@@ -46,29 +39,29 @@ numbered zero packets = None
 numbered (suc before) packets = slice_get packets before
 
 -- what comes of bytes that are handed in, where there are any
-abbrev pub DeliveryTurns : Endpoint → Option (List ℕ) → List Outcome → Type 0
-DeliveryTurns e None outcomes = outcomes ≡ []
-DeliveryTurns e (Some bytes) outcomes = HandleInput e bytes outcomes
+abbrev pub DeliveryTurns : Endpoint → Option (List ℕ) → List Turned → Type 0
+DeliveryTurns e None turns = turns ≡ []
+DeliveryTurns e (Some bytes) turns = HandleInput e bytes turns
 
 -- what comes of a user's call
-abbrev pub UserTurns : Endpoint → Call → List Outcome → Type 0
-UserTurns e calls.Connect outcomes = Turns e (act_input connect ∷ []) outcomes
+abbrev pub UserTurns : Endpoint → Call → List Turned → Type 0
+UserTurns e calls.Connect turns = Turns e (act_input connect ∷ []) turns
 
 abbrev pub side_of : Step → Side
 side_of (steps.Call side call) = side
 side_of (steps.Deliver side number) = side
 
 -- what comes of a step at its side, where the other has emitted these packets
-abbrev pub StepTurns : Endpoint → List (List ℕ) → Step → List Outcome → Type 0
-StepTurns e packets (steps.Call side call) outcomes = UserTurns e call outcomes
-StepTurns e packets (steps.Deliver side number) outcomes = DeliveryTurns e (numbered number packets) outcomes
+abbrev pub StepTurns : Endpoint → List (List ℕ) → Step → List Turned → Type 0
+StepTurns e packets (steps.Call side call) turns = UserTurns e call turns
+StepTurns e packets (steps.Deliver side number) turns = DeliveryTurns e (numbered number packets) turns
 
 -- ---- runs
 
--- a step, and what came of it
+-- a step, and its turns: what went in, and what came of it
 pub record Worked : Type 0 where
   pub step : Step
-  pub outcomes : List Outcome
+  pub turns : List Turned
 
 -- the options of two sockets, or what came of each
 pub record Both (T : Type 0) : Type 0 where
@@ -84,26 +77,26 @@ of_other sides.A both = both.b
 of_other sides.B both = both.a
 
 -- these turns behind those of one side
-abbrev pub with_turns : Side → List Outcome → Both (List Outcome) → Both (List Outcome)
-with_turns sides.A outcomes turns = record turns { a = turns.a ++ outcomes }
-with_turns sides.B outcomes turns = record turns { b = turns.b ++ outcomes }
+abbrev pub with_turns : Side → List Turned → Both (List Turned) → Both (List Turned)
+with_turns sides.A more turns = record turns { a = turns.a ++ more }
+with_turns sides.B more turns = record turns { b = turns.b ++ more }
 
 -- all turns of each side after these steps, which stand newest first
-abbrev pub turns_after : List Worked → Both (List Outcome)
+abbrev pub turns_after : List Worked → Both (List Turned)
 turns_after [] = record { a = []; b = [] }
-turns_after (worked ∷ earlier) = with_turns (side_of worked.step) worked.outcomes (turns_after earlier)
+turns_after (worked ∷ earlier) = with_turns (side_of worked.step) worked.turns (turns_after earlier)
 
 -- what comes of a step after these turns
-abbrev pub NextTurns : Both Options → Both (List Outcome) → Step → List Outcome → Type 0
-NextTurns options turns step outcomes =
+abbrev pub NextTurns : Both Options → Both (List Turned) → Step → List Turned → Type 0
+NextTurns options turns step more =
     StepTurns (endpoint_after (of_side (side_of step) options) (of_side (side_of step) turns))
-    (packets_shown (of_other (side_of step) options) (of_other (side_of step) turns)) step outcomes
+    (packets_shown (of_other (side_of step) options) (of_other (side_of step) turns)) step more
 
 -- Two sockets run: each of these steps, newest first, comes of what the steps before it left. Whatever is
 -- delivered was emitted by the other socket before, byte for byte.
 abbrev pub SocketRun : Both Options → List Worked → Type 0
 SocketRun options [] = Unit {0}
-SocketRun options (worked ∷ earlier) = NextTurns options (turns_after earlier) worked.step worked.outcomes × SocketRun options earlier
+SocketRun options (worked ∷ earlier) = NextTurns options (turns_after earlier) worked.step worked.turns × SocketRun options earlier
 
 -- the steps of a run, newest first
 abbrev pub schedule_of : List Worked → List Step

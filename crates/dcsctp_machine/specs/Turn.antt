@@ -1,12 +1,13 @@
--- One step of an endpoint: an input, and what comes of it.
-use Rattle.std.specs.Prelude.{◌≡◌, ℕ, List, codes}
+-- One turn of an endpoint: an input, and what comes of it.
+use Rattle.std.specs.Prelude.{◌≡◌, ℕ, Bool, true, false, List, [], ◌∷◌, codes, if◌then◌else◌}
 use Rattle.dcsctp_machine.specs.declared.kinds.ErrorKind.TheVariants.{ParseFailed}
-use Rattle.dcsctp_machine.specs.Packet.{Content, init, init_ack, cookie_echo, cookie_ack, re_config, abort, shutdown, shutdown_ack, shutdown_complete, other}
-use Rattle.dcsctp_machine.specs.Endpoint.{Endpoint}
+use Rattle.dcsctp_machine.specs.Packet.{Content, init, init_ack, cookie_echo, cookie_ack, re_config, abort, shutdown, shutdown_ack, shutdown_complete, plain, is_data}
+use Rattle.dcsctp_machine.specs.Endpoint.{Endpoint, Core, open_in, shutdown_sent}
 use Rattle.dcsctp_machine.specs.Outcome.{Outcome, still, count_up, reports}
-use Rattle.dcsctp_machine.specs.turns.Handshake.{InitTurn, ConnectTurn, InitAckTurn, cookie_ack_outcome}
-use Rattle.dcsctp_machine.specs.turns.CookieEcho.{CookieEchoTurn}
-use Rattle.dcsctp_machine.specs.turns.Ends.{abort_outcome}
+use Rattle.dcsctp_machine.specs.turns.HandshakeOutcomes.{InitTurn, ConnectTurn, InitAckTurn, CookieAckTurn}
+use Rattle.dcsctp_machine.specs.turns.CookieEchoOutcomes.{CookieEchoTurn}
+use Rattle.dcsctp_machine.specs.turns.EndOutcomes.{abort_outcome}
+use Rattle.dcsctp_machine.specs.turns.PlainOutcomes.{PlainTurn}
 use Rattle.dcsctp_machine.specs.control.Acts.{Act, connect, t1_expires, shut_down, step_of_shutdown, shutdown_repeats, abort_with, hands_over, flushes, request_again}
 use Rattle.dcsctp_machine.specs.Controlled.{ControlledChunk, ControlledAct}
 
@@ -15,8 +16,12 @@ pub data Input : Type 0 where
   arrival : Input
   -- it can't be read or isn't admitted, for the reason that the text gives
   refusal : List ℕ → Input
+  -- The chunks of an admitted packet, these, are about to be worked.
+  packet_begins : List Content → Input
   -- a chunk of an admitted packet with this verification tag is worked
   chunk_input : ℕ → Content → Input
+  -- No other chunk of the packet is worked, and its rest wasn't dropped.
+  packet_ends : Input
   -- what the user or a timer brings
   act_input : Act → Input
 
@@ -30,19 +35,33 @@ arrival_outcome e = still (record e { counts = record e.counts { packets_receive
 abbrev pub refusal_outcome : Endpoint → List ℕ → Outcome
 refusal_outcome e text = reports e ParseFailed text
 
--- What a chunk does. One that is read by its header alone changes nothing. Where a chunk is said by the association
--- alone, the rest of the endpoint is open.
+-- is there a DATA chunk among these?
+abbrev pub has_data : List Content → Bool
+has_data [] = false
+has_data (plain chunk ∷ contents) = if is_data chunk then true else has_data contents
+has_data (content ∷ contents) = has_data contents
+
+-- Data that comes where a SHUTDOWN waits for its answer is answered by another, before the chunks (RFC 9260, section 9.2).
+abbrev pub BeginTurn : Endpoint → Core → Bool → Outcome → Type 0
+BeginTurn e (open_in shutdown_sent my held) true o = ControlledAct e shutdown_repeats o
+BeginTurn e core has o = o ≡ still e
+
+-- The end of a packet: here what it acknowledges goes out, once data is received. Nothing does so far.
+abbrev pub EndTurn : Endpoint → Outcome → Type 0
+EndTurn e o = o ≡ still e
+
+-- What a chunk does. Where a chunk is said by the association alone, the rest of the endpoint is open.
 abbrev pub ContentTurn : Endpoint → ℕ → Content → Outcome → Type 0
 ContentTurn e tag (init theirs) o = InitTurn e theirs o
 ContentTurn e tag (init_ack theirs cookie) o = InitAckTurn e theirs cookie o
 ContentTurn e tag (cookie_echo cookie) o = CookieEchoTurn e tag cookie o
-ContentTurn e tag cookie_ack o = o ≡ cookie_ack_outcome e e.core
+ContentTurn e tag cookie_ack o = CookieAckTurn e o
 ContentTurn e tag (re_config parameters) o = ControlledChunk e tag (re_config parameters) o
 ContentTurn e tag (abort reflected causes) o = o ≡ abort_outcome e causes e.core
 ContentTurn e tag (shutdown cumulative_tsn) o = ControlledChunk e tag (shutdown cumulative_tsn) o
 ContentTurn e tag shutdown_ack o = ControlledChunk e tag shutdown_ack o
 ContentTurn e tag (shutdown_complete reflected) o = ControlledChunk e tag (shutdown_complete reflected) o
-ContentTurn e tag (other type flags value) o = o ≡ still e
+ContentTurn e tag (plain chunk) o = PlainTurn e chunk o
 
 -- What the user and the timers bring.
 abbrev pub ActTurn : Endpoint → Act → Outcome → Type 0
@@ -59,5 +78,7 @@ ActTurn e (request_again reset) o = ControlledAct e (request_again reset) o
 abbrev pub Turn : Endpoint → Input → Outcome → Type 0
 Turn e arrival o = o ≡ arrival_outcome e
 Turn e (refusal text) o = o ≡ refusal_outcome e text
+Turn e (packet_begins contents) o = BeginTurn e e.core (has_data contents) o
 Turn e (chunk_input tag content) o = ContentTurn e tag content o
+Turn e packet_ends o = EndTurn e o
 Turn e (act_input act) o = ActTurn e act o

@@ -35,7 +35,8 @@ after_changes side (change ∷ changes) = after_changes (after_change side chang
 -- One turn of the association: an act, or a chunk of any packet.
 pub data ControlTurn (options : Options) (core : Core) (change : Change) : Type 0 where
   acted : (act : Act) (choices : Choices) → change ≡ act_change options core act choices → ControlTurn options core change
-  worked : (header : ℕ) (content : Content) (choices : Choices) → change ≡ chunk_change options core header content choices → ControlTurn options core change
+  worked : (header : ℕ) (content : Content) (choices : Choices)
+      → change ≡ chunk_change options core header content choices → ControlTurn options core change
 
 abbrev pub ControlTurns : Options → Core → List Change → Type 0
 ControlTurns options core [] = Unit {0}
@@ -83,9 +84,9 @@ ChunkChanges options core header (content ∷ contents) (change ∷ changes) =
 
 -- What comes of a packet: its chunks are worked where they may be, or its SHUTDOWN ACK chunks alone, whatever
 -- its tag (RFC 9260, section 8.5.1).
-pub data PacketTurns (options : Options) (core : Core) (packet : Packet) (changes : List Change) : Type 0 where
-  worked_whole : MayBeWorked core packet → ChunkChanges options core packet.tag packet.contents changes → PacketTurns options core packet changes
-  worked_acks : ChunkChanges options core packet.tag (shutdown_acks_in packet.contents) changes → PacketTurns options core packet changes
+pub data PacketChanges (options : Options) (core : Core) (packet : Packet) (changes : List Change) : Type 0 where
+  worked_whole : MayBeWorked core packet → ChunkChanges options core packet.tag packet.contents changes → PacketChanges options core packet changes
+  worked_acks : ChunkChanges options core packet.tag (shutdown_acks_in packet.contents) changes → PacketChanges options core packet changes
 
 -- ---- two sides
 
@@ -97,9 +98,24 @@ pub data Move : Type 0 where
 
 -- What comes of a move of one side. Whatever is delivered was emitted by the other side before, once or often,
 -- lately or long ago.
-abbrev pub MoveTurns : SideState → List Effect → Move → List Change → Type 0
-MoveTurns side sent (does act) changes = (choices : Choices) × (changes ≡ act_change side.options side.core act choices ∷ [])
-MoveTurns side sent (receives packet) changes = Has (sends packet) sent × PacketTurns side.options side.core packet changes
+abbrev pub MoveChanges : SideState → List Effect → Move → List Change → Type 0
+MoveChanges side sent (does act) changes = (choices : Choices) × (changes ≡ act_change side.options side.core act choices ∷ [])
+MoveChanges side sent (receives packet) changes = Has (sends packet) sent × PacketChanges side.options side.core packet changes
+
+-- a move, and what came of it
+pub record Moved : Type 0 where
+  pub move : Move
+  pub changes : List Change
+
+-- What one call of a socket is to its side: any number of moves, one after another. The answer to data before a packet's
+-- chunks, these chunks, the packet's end, each expired timer, an abort and a flush are moves of their own.
+abbrev pub MovesMade : SideState → List Effect → List Moved → Type 0
+MovesMade side sent [] = Unit {0}
+MovesMade side sent (moved ∷ moves) = MoveChanges side sent moved.move moved.changes × MovesMade (after_changes side moved.changes) sent moves
+
+abbrev pub after_moves : SideState → List Moved → SideState
+after_moves side [] = side
+after_moves side (moved ∷ moves) = after_moves (after_changes side moved.changes) moves
 
 pub record World : Type 0 where
   pub a : SideState
@@ -124,15 +140,15 @@ abbrev pub world_after : Options → Options → List Step → World
 world_after options_a options_b [] = record { a = fresh_side options_a; b = fresh_side options_b }
 world_after options_a options_b (step ∷ earlier) = step_after (world_after options_a options_b earlier) step.side step.changes
 
-abbrev pub StepTurns : World → Which → Move → List Change → Type 0
-StepTurns world at_a move changes = MoveTurns world.a world.b.past move changes
-StepTurns world at_b move changes = MoveTurns world.b world.a.past move changes
+abbrev pub StepChanges : World → Which → Move → List Change → Type 0
+StepChanges world at_a move changes = MoveChanges world.a world.b.past move changes
+StepChanges world at_b move changes = MoveChanges world.b world.a.past move changes
 
 -- A run: each of these steps comes of the world before it. Its moves are the schedule.
 abbrev pub Run : Options → Options → List Step → Type 0
 Run options_a options_b [] = Unit {0}
 Run options_a options_b (step ∷ earlier) =
-    StepTurns (world_after options_a options_b earlier) step.side step.move step.changes × Run options_a options_b earlier
+    StepChanges (world_after options_a options_b earlier) step.side step.move step.changes × Run options_a options_b earlier
 
 -- the steps of one side, newest first
 abbrev pub steps_with : Which → Which → List Change → List (List Change) → List (List Change)
@@ -144,3 +160,8 @@ steps_with at_b at_b changes earlier = changes ∷ earlier
 abbrev pub steps_of : Which → List Step → List (List Change)
 steps_of which [] = []
 steps_of which (step ∷ earlier) = steps_with which step.side step.changes (steps_of which earlier)
+
+-- the steps of a run, newest first, with these moves of one side behind them
+abbrev pub with_moves : Which → List Moved → List Step → List Step
+with_moves which [] steps = steps
+with_moves which (moved ∷ moves) steps = with_moves which moves (record { side = which; move = moved.move; changes = moved.changes } ∷ steps)

@@ -1,8 +1,8 @@
 pub mod Effect
 pub mod Choices
-pub mod Flush
-pub mod Handshake
-pub mod CookieEcho
-pub mod Resets
-pub mod Shutdown
+pub mod FlushChanges
+pub mod HandshakeChanges
+pub mod CookieEchoChanges
+pub mod ResetChanges
+pub mod ShutdownChanges
 pub mod Acts

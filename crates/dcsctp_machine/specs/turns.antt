@@ -1,4 +1,5 @@
-pub mod CookieEcho
-pub mod Ends
-pub mod Flush
-pub mod Handshake
+pub mod CookieEchoOutcomes
+pub mod EndOutcomes
+pub mod FlushOutcomes
+pub mod HandshakeOutcomes
+pub mod PlainOutcomes

@@ -2,7 +2,7 @@
 
 ghost use Rattle.std.specs.Prelude.{◌<◌, ◌^◌};
 ghost use Rattle.dcsctp_machine.specs.Settings.{FitsOptions};
-ghost use Rattle.dcsctp_machine.specs.Laws.{NegotiationIsMutual, AnswerKeepsAgreement, CookieReadsBack, InitLeavesAssociation, InitBringsOnePacket, OfferReadsBack, CapabilitiesHoldOffer, RefusedPacketAddsOneError, AdmittedPacketsMayBeWorked, ChunksAreControlled, ActsAreControlled, PacketsAreControlled, DeliveriesAreControlled, SocketsKeepOptions};
+ghost use Rattle.dcsctp_machine.specs.Laws.{NegotiationIsMutual, AnswerKeepsAgreement, CookieReadsBack, InitLeavesAssociation, InitBringsOnePacket, OfferReadsBack, CapabilitiesHoldOffer, RefusedPacketAddsOneError, AdmittedPacketsMayBeWorked, ChunksAreControlled, ActsAreControlled, PacketsAreControlled, DeliveriesAreControlled, FlushKeepsLimits, SocketsKeepOptions};
 
 use crate::options::Options;
 use dcsctp_wire::one_reading;
@@ -104,7 +104,13 @@ pub fn deliveries_are_controlled()
     admitted_packets_may_be_worked();
 }
 
-/// The options of two sockets stay for good.
+/// Whatever a flush is answered, it sends as many packets as `max_burst` allows at most, none longer than
+/// `mtu`, and tells nothing else but what becomes of amounts and messages (RFC 9260, section 6.1).
+pub fn flush_keeps_limits()
+    ensures { FlushKeepsLimits }
+{}
+
+/// The options of two sockets stay for good, but for the longest message that each takes.
 pub fn sockets_keep_options()
     ensures { SocketsKeepOptions }
 {}

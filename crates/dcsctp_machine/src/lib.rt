@@ -21,9 +21,9 @@ pub use kinds::{
 };
 pub use laws::{
     acts_are_controlled, admitted_packets_may_be_worked, answer_keeps_agreement,
-    chunks_are_controlled, cookie_reads_back, deliveries_are_controlled, init_brings_one_packet,
-    init_leaves_association, negotiation_is_mutual, offer_reads_back, options_fit,
-    packets_are_controlled, refused_packet_adds_one_error, sockets_keep_options,
+    chunks_are_controlled, cookie_reads_back, deliveries_are_controlled, flush_keeps_limits,
+    init_brings_one_packet, init_leaves_association, negotiation_is_mutual, offer_reads_back,
+    options_fit, packets_are_controlled, refused_packet_adds_one_error, sockets_keep_options,
 };
 pub use options::Options;
 pub use schedule::{Call, Side, Step};

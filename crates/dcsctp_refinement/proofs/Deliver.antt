@@ -6,17 +6,16 @@ use Rattle.dcsctp_wire.specs.Format.{IsPacket}
 use Rattle.dcsctp_wire.specs.ReadsBack.{FitsChunk, FitsFields, BuiltPacketReadsAsItself}
 use Rattle.dcsctp_machine.specs.declared.options.Options.{Options}
 use Rattle.dcsctp_machine.specs.Settings.{FitsOptions, Ports, ports_of, wire_options}
-use Rattle.dcsctp_machine.specs.Event.{Event, event_map, sent, connected, closed, connection_restarted, aborted, error, buffered_amount_low, total_buffered_amount_low, streams_reset_failed, streams_reset_performed, incoming_stream_reset, lifecycle_message_fully_sent, lifecycle_message_maybe_expired, lifecycle_message_expired, lifecycle_message_delivered, lifecycle_end}
-use Rattle.dcsctp_machine.specs.Packet.{Content, init, init_ack, cookie_echo, cookie_ack, re_config, abort, shutdown, shutdown_ack, shutdown_complete, other, Packet, Emission, content_in, chunk_out, packet_in, emission_bytes}
+use Rattle.dcsctp_machine.specs.Event.{Event, event_map, sent, connected, closed, connection_restarted, aborted, error, buffered_amount_low, total_buffered_amount_low, streams_reset_failed, streams_reset_performed, incoming_stream_reset, lifecycle_message_fully_sent, lifecycle_message_maybe_expired, lifecycle_message_expired, lifecycle_message_delivered, lifecycle_end, packets_in}
+use Rattle.dcsctp_machine.specs.Packet.{Content, init, init_ack, cookie_echo, cookie_ack, re_config, abort, shutdown, shutdown_ack, shutdown_complete, plain, Packet, Emission, content_in, chunk_out, packet_in, emission_bytes}
 use Rattle.dcsctp_machine.specs.Endpoint.{Endpoint, Core, closed, cookie_wait, cookie_echoed, open_in}
-use Rattle.dcsctp_machine.specs.Outcome.{Outcome, Following, next_chunk, packet_end, dropped_rest}
-use Rattle.dcsctp_machine.specs.CallTurns.{AfterChunk, ChunkTurns}
+use Rattle.dcsctp_machine.specs.Following.{Following, next_chunk, packet_end, dropped_rest}
+use Rattle.dcsctp_machine.specs.Turn.{Input, packet_ends}
+use Rattle.dcsctp_machine.specs.CallTurns.{Turned, Turns, AfterChunk, ChunkTurns}
 use Rattle.dcsctp_machine.specs.Admission.{shutdown_acks_in}
 use Rattle.dcsctp_machine.specs.Laws.{OfferReadsBack, FitsOwn, FitsContent, FitsTurns}
-use Rattle.dcsctp_machine.specs.Sockets.{packets_in}
-use Rattle.dcsctp_refinement.proofs.Sendable.{Sendable, SendablePacket}
-use Rattle.dcsctp_refinement.proofs.Sent.{AllSent}
-use Rattle.dcsctp_refinement.proofs.TurnsFit.{FitsCore, FitsEndpoint, TurnFits, turn_fits}
+use Rattle.dcsctp_machine.specs.Fitting.{AllSent, FitsCore, FitsEndpoint, Sendable, SendablePacket, TurnFits}
+use Rattle.dcsctp_refinement.proofs.TurnsFit.{still_fits, turn_fits}
 
 -- ---- a packet in bytes
 
@@ -101,33 +100,58 @@ content_fits e (abort reflected causes) h good = tt
 content_fits e (shutdown tsn) h good = tt
 content_fits e shutdown_ack h good = tt
 content_fits e (shutdown_complete reflected) h good = tt
-content_fits e (other chunk_type flags value) h good = tt
+content_fits e (plain chunk) h good = tt
 
--- The chunks fit at their turns, and so does what each turn leaves.
-pub record ChunksFit (e : Endpoint) (contents : List Content) (outcomes : List Outcome) : Type 0 where
-  pub contents_fit : FitsTurns e contents outcomes
-  pub outcomes_fit : AllByRecursion TurnFits outcomes
+-- it fits, whatever the turn is
+abbrev pub Fits : Turned → Type 0
+Fits turn = TurnFits turn.outcome
 
-none_left : (e : Endpoint) (contents : List Content) (outcomes : List Outcome) → outcomes ≡ [] → ChunksFit e contents outcomes
-none_left e [] outcomes none = subst (ChunksFit e []) (sym none) (record { contents_fit = tt; outcomes_fit = tt })
-none_left e (content ∷ contents) outcomes none = subst (ChunksFit e (content ∷ contents)) (sym none) (record { contents_fit = tt; outcomes_fit = tt })
+-- The chunks fit at their turns, and so does what each turn leaves, to the end of the packet.
+pub record ChunksFit (e : Endpoint) (contents : List Content) (turns : List Turned) : Type 0 where
+  pub contents_fit : FitsTurns e contents turns
+  pub turns_fit : AllByRecursion Fits turns
 
-rest_fits : (following : Following) (e : Endpoint) (tag : ℕ) (contents : List Content) (outcomes : List Outcome) → AfterChunk following (ChunkTurns e tag contents outcomes) (outcomes ≡ [])
-    → (ChunkTurns e tag contents outcomes → ChunksFit e contents outcomes) → ChunksFit e contents outcomes
-rest_fits next_chunk e tag contents outcomes turns rest = rest turns
-rest_fits packet_end e tag contents outcomes turns rest = none_left e contents outcomes turns
-rest_fits dropped_rest e tag contents outcomes turns rest = none_left e contents outcomes turns
+-- where no chunk is left, the packet's end
+abbrev pub EndFits : List Input → Type 0
+EndFits tail = (e : Endpoint) (turns : List Turned) → Turns e tail turns → FitsEndpoint e → AllByRecursion Fits turns
 
-pub chunk_turns_fit : OfferReadsBack → (e : Endpoint) (tag : ℕ) (contents : List Content) (outcomes : List Outcome) → ChunkTurns e tag contents outcomes → FitsEndpoint e
-    → AllByRecursion Sendable contents → ChunksFit e contents outcomes
-chunk_turns_fit law e tag [] [] turns h good = record { contents_fit = tt; outcomes_fit = tt }
-chunk_turns_fit law e tag [] (o ∷ outcomes) turns h good = absurd turns
-chunk_turns_fit law e tag (content ∷ contents) [] turns h good = absurd turns
-chunk_turns_fit law e tag (content ∷ contents) (o ∷ outcomes) turns h good =
-    let first : TurnFits o = turn_fits law e tag content o turns.0 h good.0 in
-    let rest : ChunksFit o.after contents outcomes =
-    rest_fits o.following o.after tag contents outcomes turns.1 (λ more. chunk_turns_fit law o.after tag contents outcomes more first.after good.1) in
-    record { contents_fit = (content_fits e content h good.0, rest.contents_fit); outcomes_fit = (first, rest.outcomes_fit) }
+left : (e : Endpoint) (contents : List Content) (turns : List Turned) → AllByRecursion Fits turns → FitsTurns e contents turns → ChunksFit e contents turns
+left e contents turns each fits = record { contents_fit = fits; turns_fit = each }
+
+-- Turns that aren't of the chunks say nothing of these.
+any_fit : (e : Endpoint) (contents : List Content) (turns : List Turned) → FitsEndpoint e → AllByRecursion Sendable contents → AllByRecursion Fits turns → FitsTurns e contents turns
+any_fit e [] turns h good each = tt
+any_fit e (content ∷ contents) [] h good each = tt
+any_fit e (content ∷ contents) (t ∷ ts) h good each = (content_fits e content h good.0, any_fit t.outcome.after contents ts each.0.after good.1 each.1)
+
+none_fit : (turns : List Turned) → turns ≡ [] → AllByRecursion Fits turns
+none_fit turns none = subst (λ (ts : List Turned). AllByRecursion Fits ts) (sym none) tt
+
+rest_fits : (following : Following) (e : Endpoint) (tag : ℕ) (contents : List Content) (tail : List Input) (turns : List Turned) → FitsEndpoint e → AllByRecursion Sendable contents → EndFits tail
+    → AfterChunk following (ChunkTurns e tag contents tail turns) (Turns e tail turns) (turns ≡ [])
+    → (ChunkTurns e tag contents tail turns → ChunksFit e contents turns) → ChunksFit e contents turns
+rest_fits next_chunk e tag contents tail turns h good end rest more = more rest
+rest_fits packet_end e tag contents tail turns h good end rest more = let each = end e turns rest h in left e contents turns each (any_fit e contents turns h good each)
+rest_fits dropped_rest e tag contents tail turns h good end rest more = let each = none_fit turns rest in left e contents turns each (any_fit e contents turns h good each)
+
+pub chunk_turns_fit : OfferReadsBack → (e : Endpoint) (tag : ℕ) (contents : List Content) (tail : List Input) (turns : List Turned) → ChunkTurns e tag contents tail turns → FitsEndpoint e
+    → AllByRecursion Sendable contents → EndFits tail → ChunksFit e contents turns
+chunk_turns_fit law e tag [] tail turns taken h good end = record { contents_fit = tt; turns_fit = end e turns taken h }
+chunk_turns_fit law e tag (content ∷ contents) tail [] taken h good end = absurd taken
+chunk_turns_fit law e tag (content ∷ contents) tail (t ∷ ts) taken h good end =
+    let first : TurnFits t.outcome = turn_fits law e tag content t.outcome taken.0.comes h good.0 in
+    let rest : ChunksFit t.outcome.after contents ts =
+    rest_fits t.outcome.following t.outcome.after tag contents tail ts first.after good.1 end taken.1 (λ more. chunk_turns_fit law t.outcome.after tag contents tail ts more first.after good.1 end) in
+    record { contents_fit = (content_fits e content h good.0, rest.contents_fit); turns_fit = (first, rest.turns_fit) }
+
+pub nothing_ends : EndFits []
+nothing_ends e [] taken h = tt
+nothing_ends e (t ∷ ts) taken h = absurd taken
+
+pub packet_end_fits : EndFits (packet_ends ∷ [])
+packet_end_fits e [] taken h = absurd taken
+packet_end_fits e (t ∷ []) taken h = (subst TurnFits (sym taken.0.comes) (still_fits e h), tt)
+packet_end_fits e (t ∷ u ∷ ts) taken h = absurd taken.1
 
 -- the SHUTDOWN ACK chunks of a packet are among its chunks
 pub acks_sendable : (contents : List Content) → AllByRecursion Sendable contents → AllByRecursion Sendable (shutdown_acks_in contents)
@@ -141,4 +165,4 @@ acks_sendable (abort reflected causes ∷ contents) each = acks_sendable content
 acks_sendable (shutdown tsn ∷ contents) each = acks_sendable contents each.1
 acks_sendable (shutdown_ack ∷ contents) each = (each.0, acks_sendable contents each.1)
 acks_sendable (shutdown_complete reflected ∷ contents) each = acks_sendable contents each.1
-acks_sendable (other chunk_type flags value ∷ contents) each = acks_sendable contents each.1
+acks_sendable (plain chunk ∷ contents) each = acks_sendable contents each.1

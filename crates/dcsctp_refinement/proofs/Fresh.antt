@@ -2,8 +2,7 @@
 use Rattle.std.proofs.Common.{◌≡◌, ◌≢◌, List, [], ◌∷◌, ◌++◌, ◌⊎◌, inl, inr, sym, subst, append_assoc}
 use Rattle.std.specs.List.{AllByRecursion}
 use Rattle.dcsctp_machine.specs.declared.association.Pair.{Pair}
-use Rattle.dcsctp_machine.specs.control.Effect.{Effect, draws, sends, holds, connects, ends, begins, completes, fails, accepts, performs}
-use Rattle.dcsctp_machine.specs.Controlled.{pairs_of_effects}
+use Rattle.dcsctp_machine.specs.control.Effect.{drawn_in, Effect, draws, sends, holds, connects, ends, begins, completes, fails, accepts, performs}
 use Rattle.dcsctp_machine.specs.Past.{Has, HasFreshTags}
 use Rattle.dcsctp_machine.specs.World.{after_effects}
 use Rattle.dcsctp_refinement.specs.Agreement.{HasDistinctTags}
@@ -22,7 +21,7 @@ at_end pair [] more h = h
 at_end pair (first ∷ pairs) more h = inr (at_end pair pairs more h)
 
 -- what is drawn by effects
-pub drawn_pair : (pair : Pair) (effects : List Effect) → Has (draws pair) effects → IsPair pair (pairs_of_effects effects)
+pub drawn_pair : (pair : Pair) (effects : List Effect) → Has (draws pair) effects → IsPair pair (drawn_in effects)
 drawn_pair pair [] h = absurd h
 drawn_pair pair (draws first ∷ effects) (inl is) = inl (cc)
 drawn_pair pair (draws first ∷ effects) (inr h) = inr (drawn_pair pair effects h)
@@ -75,13 +74,13 @@ knows_more : (known : List Pair) (pair : Pair) (past : List Effect) → Knows kn
 knows_more known pair past knows other (inl is) = at_end other known (pair ∷ []) (inl (cc))
 knows_more known pair past knows other (inr h) = in_front other known (pair ∷ []) (knows other h)
 
-pub stays_fresh : (effects past : List Effect) (known : List Pair) → HasFreshTags past → Knows known past → HasDistinctTags (known ++ pairs_of_effects effects) → HasFreshTags (after_effects effects past)
+pub stays_fresh : (effects past : List Effect) (known : List Pair) → HasFreshTags past → Knows known past → HasDistinctTags (known ++ drawn_in effects) → HasFreshTags (after_effects effects past)
 stays_fresh [] past known fresh knows distinct = fresh
 stays_fresh (draws pair ∷ effects) past known fresh knows distinct =
     stays_fresh effects (draws pair ∷ past) (known ++ pair ∷ [])
-    ((λ other h same. tag_is_new other pair known (pairs_of_effects effects) distinct (knows other h) (sym same)), fresh)
+    ((λ other h same. tag_is_new other pair known (drawn_in effects) distinct (knows other h) (sym same)), fresh)
     (knows_more known pair past knows)
-    (subst HasDistinctTags (sym (append_assoc known (pair ∷ []) (pairs_of_effects effects))) distinct)
+    (subst HasDistinctTags (sym (append_assoc known (pair ∷ []) (drawn_in effects))) distinct)
 stays_fresh (sends packet ∷ effects) past known fresh knows distinct = stays_fresh effects (sends packet ∷ past) known (tt, fresh) (λ other h. elim h [ inl is ↦ absurd (cc) | inr before ↦ knows other before ]) distinct
 stays_fresh (holds link ∷ effects) past known fresh knows distinct = stays_fresh effects (holds link ∷ past) known (tt, fresh) (λ other h. elim h [ inl is ↦ absurd (cc) | inr before ↦ knows other before ]) distinct
 stays_fresh (connects link ∷ effects) past known fresh knows distinct = stays_fresh effects (connects link ∷ past) known (tt, fresh) (λ other h. elim h [ inl is ↦ absurd (cc) | inr before ↦ knows other before ]) distinct

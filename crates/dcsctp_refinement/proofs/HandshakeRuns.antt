@@ -7,29 +7,30 @@ use Rattle.dcsctp_machine.specs.declared.schedule.Side.TheVariants as sides
 use Rattle.dcsctp_machine.specs.declared.schedule.Call.TheVariants as calls
 use Rattle.dcsctp_machine.specs.declared.schedule.Step.{Step}
 use Rattle.dcsctp_machine.specs.declared.schedule.Step.TheVariants as steps
-use Rattle.dcsctp_machine.specs.Outcome.{Outcome}
+use Rattle.dcsctp_machine.specs.CallTurns.{Turned}
 use Rattle.dcsctp_machine.specs.Sockets.{Worked, Both, turns_after, SocketRun, schedule_of}
 use Rattle.dcsctp_refinement.specs.Handshake.{other_side, handshake, AreFitting, AreConnected, FittingSocketsConnect}
+use Rattle.dcsctp_refinement.specs.Agreement.{AreUsable}
 use Rattle.dcsctp_refinement.proofs.HandshakeTurns.{HandshakeLaws, Good}
 use Rattle.dcsctp_refinement.proofs.HandshakeEnds.{Ended, in_turn}
 
--- the run of a handshake with these outcomes
-abbrev pub run_of : Side → List Outcome → List Outcome → List Outcome → List Outcome → List Outcome → List Worked
+-- the run of a handshake with these turns
+abbrev pub run_of : Side → List Turned → List Turned → List Turned → List Turned → List Turned → List Worked
 run_of side o1 o2 o3 o4 o5 =
-    record { step = steps.Deliver side 2; outcomes = o5 }
-    ∷ record { step = steps.Deliver (other_side side) 2; outcomes = o4 }
-    ∷ record { step = steps.Deliver side 1; outcomes = o3 }
-    ∷ record { step = steps.Deliver (other_side side) 1; outcomes = o2 }
-    ∷ record { step = steps.Call side calls.Connect; outcomes = o1 }
+    record { step = steps.Deliver side 2; turns = o5 }
+    ∷ record { step = steps.Deliver (other_side side) 2; turns = o4 }
+    ∷ record { step = steps.Deliver side 1; turns = o3 }
+    ∷ record { step = steps.Deliver (other_side side) 1; turns = o2 }
+    ∷ record { step = steps.Call side calls.Connect; turns = o1 }
     ∷ []
 
 -- A run of these steps is one.
 pub record IsHandshake (side : Side) (run : List Worked) : Type 0 where
-  pub o1 : List Outcome
-  pub o2 : List Outcome
-  pub o3 : List Outcome
-  pub o4 : List Outcome
-  pub o5 : List Outcome
+  pub o1 : List Turned
+  pub o2 : List Turned
+  pub o3 : List Turned
+  pub o4 : List Turned
+  pub o5 : List Turned
   pub is : run ≡ run_of side o1 o2 o3 o4 o5
 
 first_is : (x y : Step) (xs ys : List Step) → x ∷ xs ≡ y ∷ ys → x ≡ y
@@ -38,10 +39,10 @@ first_is x y xs ys same = cc
 rest_is : (x y : Step) (xs ys : List Step) → x ∷ xs ≡ y ∷ ys → xs ≡ ys
 rest_is x y xs ys same = cc
 
--- a step with its outcomes behind others
-with_step : (worked : Worked) (step : Step) (earlier others : List Worked) → worked.step ≡ step → earlier ≡ others → worked ∷ earlier ≡ record { step = step; outcomes = worked.outcomes } ∷ others
+-- a step with its turns behind others
+with_step : (worked : Worked) (step : Step) (earlier others : List Worked) → worked.step ≡ step → earlier ≡ others → worked ∷ earlier ≡ record { step = step; turns = worked.turns } ∷ others
 with_step worked step earlier others is same =
-    ap (λ (s : Step). record { step = s; outcomes = worked.outcomes } ∷ earlier) is ∙ ap (λ (ws : List Worked). record { step = step; outcomes = worked.outcomes } ∷ ws) same
+    ap (λ (s : Step). record { step = s; turns = worked.turns } ∷ earlier) is ∙ ap (λ (ws : List Worked). record { step = step; turns = worked.turns } ∷ ws) same
 
 is_handshake : (side : Side) (run : List Worked) → schedule_of run ≡ reverse (handshake side) → IsHandshake side run
 is_handshake side [] same = absurd (cc)
@@ -56,11 +57,11 @@ is_handshake side (w5 ∷ w4 ∷ w3 ∷ w2 ∷ w1 ∷ []) same =
     let two = rest_is _ _ _ _ three in
     let one = rest_is _ _ _ _ two in
     record {
-      o1 = w1.outcomes;
-      o2 = w2.outcomes;
-      o3 = w3.outcomes;
-      o4 = w4.outcomes;
-      o5 = w5.outcomes;
+      o1 = w1.turns;
+      o2 = w2.turns;
+      o3 = w3.turns;
+      o4 = w4.turns;
+      o5 = w5.turns;
       is = with_step w5 (steps.Deliver side 2) (w4 ∷ w3 ∷ w2 ∷ w1 ∷ []) _ (first_is _ _ _ _ same)
           (with_step w4 (steps.Deliver (other_side side) 2) (w3 ∷ w2 ∷ w1 ∷ []) _ (first_is _ _ _ _ four)
           (with_step w3 (steps.Deliver side 1) (w2 ∷ w1 ∷ []) _ (first_is _ _ _ _ three)
@@ -68,7 +69,7 @@ is_handshake side (w5 ∷ w4 ∷ w3 ∷ w2 ∷ w1 ∷ []) same =
           (with_step w1 (steps.Call side calls.Connect) [] [] (first_is _ _ _ _ one) refl))));
     }
 
-connected_at : HandshakeLaws → (options : Both Options) (side : Side) (o1 o2 o3 o4 o5 : List Outcome) → Good options.a → Good options.b → AreFitting options
+connected_at : HandshakeLaws → (options : Both Options) (side : Side) (o1 o2 o3 o4 o5 : List Turned) → Good options.a → Good options.b → AreFitting options
     → SocketRun options (run_of side o1 o2 o3 o4 o5) → AreConnected options (turns_after (run_of side o1 o2 o3 o4 o5))
 connected_at law options sides.A o1 o2 o3 o4 o5 good_a good_b fit runs =
     let h : Ended options.a options.b ((o1 ++ o3) ++ o5) (o2 ++ o4) =
@@ -79,10 +80,16 @@ connected_at law options sides.B o1 o2 o3 o4 o5 good_a good_b fit runs =
     in_turn law options.b options.a o1 o2 o3 o4 o5 good_b good_a fit.to_a fit.to_b runs.1.1.1.1.0 runs.1.1.1.0 runs.1.1.0 runs.1.0 runs.0 in
     record { a_pair = h.q; b_pair = h.p; a = h.theirs; b = h.mine }
 
-pub fitting_sockets_connect : HandshakeLaws → FittingSocketsConnect
-fitting_sockets_connect law options side run are fit runs schedule =
+connects_now : HandshakeLaws → (options : Both Options) (side : Side) (run : List Worked) → AreUsable options → AreFitting options → SocketRun options run
+    → schedule_of run ≡ reverse (handshake side) → AreConnected options (turns_after run)
+connects_now law options side run are fit runs schedule =
     let h : IsHandshake side run = is_handshake side run schedule in
     subst (λ (ws : List Worked). AreConnected options (turns_after ws)) (sym h.is)
     (connected_at law options side h.o1 h.o2 h.o3 h.o4 h.o5
     (record { valid = (are sides.A).valid; fits = (are sides.A).fits; allow = fit.a }) (record { valid = (are sides.B).valid; fits = (are sides.B).fits; allow = fit.b })
     fit (subst (SocketRun options) h.is runs))
+
+pub fitting_sockets_connect : HandshakeLaws → FittingSocketsConnect
+fitting_sockets_connect law options side [] are fit runs = tt
+fitting_sockets_connect law options side (worked ∷ earlier) are fit runs =
+    ((λ schedule. connects_now law options side (worked ∷ earlier) are fit runs schedule), fitting_sockets_connect law options side earlier are fit runs.1)

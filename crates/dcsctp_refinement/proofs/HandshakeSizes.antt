@@ -15,8 +15,8 @@ use Rattle.dcsctp_machine.specs.Cookie.{Cookie, cookie_bytes}
 use Rattle.dcsctp_machine.specs.Packet.{Introduction, cookie_echo, introduction_out}
 use Rattle.dcsctp_machine.specs.Endpoint.{Endpoint}
 use Rattle.dcsctp_machine.specs.Outcome.{contents_len, fits}
-use Rattle.dcsctp_machine.specs.turns.Handshake.{init_emission, init_ack_emission, cookie_for, echo_emission}
-use Rattle.dcsctp_machine.specs.control.Handshake.{introduction_of, answering_introduction}
+use Rattle.dcsctp_machine.specs.turns.HandshakeOutcomes.{init_emission, init_ack_emission, cookie_for, echo_emission}
+use Rattle.dcsctp_machine.specs.control.HandshakeChanges.{introduction_of, answering_introduction}
 use Rattle.dcsctp_refinement.proofs.Sendable.{parameters_by}
 
 -- the limit of such options

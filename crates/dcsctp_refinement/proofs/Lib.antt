@@ -13,3 +13,6 @@ mod Sent
 mod Signs
 mod SocketsAgree
 mod TurnsFit
+pub mod NotedLemmas
+pub mod OneSocket
+pub mod RunFacts

@@ -1,5 +1,5 @@
--- What comes of a step at one socket is a move of its side, or none, in the machine that agreement is proved on.
-use Rattle.std.proofs.Common.{◌≡◌, ℕ, zero, suc, Option, None, Some, List, [], ◌∷◌, ◌++◌, refl, sym, subst, ap, ◌∙◌, append_assoc}
+-- What comes of a step at one socket is moves of its side in the machine that agreement is proved on.
+use Rattle.std.proofs.Common.{◌≡◌, ℕ, Bool, zero, suc, Option, None, Some, List, [], ◌∷◌, ◌++◌, refl, sym, subst, ap, ◌∙◌, append_assoc}
 use Rattle.std.proofs.lemmas.List.{append-nil}
 use Rattle.std.specs.List.{AllByRecursion, slice_get}
 use Rattle.dcsctp_wire.specs.Format.{IsPacket}
@@ -8,28 +8,30 @@ use Rattle.dcsctp_machine.specs.declared.options.Options.{Options}
 use Rattle.dcsctp_machine.specs.declared.schedule.Call.TheVariants as calls
 use Rattle.dcsctp_machine.specs.declared.schedule.Step.{Step}
 use Rattle.dcsctp_machine.specs.declared.schedule.Step.TheVariants as steps
-use Rattle.dcsctp_machine.specs.Settings.{FitsOptions, wire_options, ports_of}
+use Rattle.dcsctp_machine.specs.Settings.{SameOptions, FitsOptions, wire_options, ports_of}
 use Rattle.dcsctp_machine.specs.Packet.{Content, Packet, packet_in, emission_bytes}
-use Rattle.dcsctp_machine.specs.Endpoint.{Endpoint, Core}
-use Rattle.dcsctp_machine.specs.Outcome.{Outcome}
-use Rattle.dcsctp_machine.specs.Turn.{arrival, refusal, act_input, unreadable_text, arrival_outcome, refusal_outcome}
-use Rattle.dcsctp_machine.specs.turns.Handshake.{ConnectTurn}
-use Rattle.dcsctp_machine.specs.CallTurns.{Turns, ChunkTurns, AdmittedTurns, HandleInput, unreadable, readable, events_of}
+use Rattle.dcsctp_machine.specs.Endpoint.{Endpoint, Core, closed, cookie_wait, cookie_echoed, open_in, established, shutdown_pending, shutdown_sent, shutdown_received, shutdown_ack_sent, fresh_endpoint}
+use Rattle.dcsctp_machine.specs.Outcome.{Outcome, still}
+use Rattle.dcsctp_machine.specs.Turn.{Input, arrival, refusal, packet_ends, act_input, has_data, BeginTurn, unreadable_text, arrival_outcome, refusal_outcome}
+use Rattle.dcsctp_machine.specs.turns.HandshakeOutcomes.{ConnectTurn}
+use Rattle.dcsctp_machine.specs.CallTurns.{Turned, Turns, ChunkTurns, WholeTurns, AdmittedTurns, HandleInput, unreadable, readable, events_of}
 use Rattle.dcsctp_machine.specs.Admission.{Admission, all_chunks, shutdown_acks_alone, refused, admits, shutdown_acks_in}
 use Rattle.dcsctp_machine.specs.Controlled.{IsControlled}
 use Rattle.dcsctp_machine.specs.control.Effect.{Effect, sends, Change, unchanged}
 use Rattle.dcsctp_machine.specs.control.Choices.{Choices}
 use Rattle.dcsctp_machine.specs.control.Acts.{connect, act_change}
-use Rattle.dcsctp_machine.specs.Laws.{OfferReadsBack, ActsAreControlled, PacketsAreControlled, AdmittedPacketsMayBeWorked}
+use Rattle.dcsctp_machine.specs.Laws.{IsRest, dropped, ended, AreChunks, OfferReadsBack, ActsAreControlled, PacketsAreControlled, AdmittedPacketsMayBeWorked}
 use Rattle.dcsctp_machine.specs.Past.{Has}
-use Rattle.dcsctp_machine.specs.World.{SideState, after_changes, acted, ChunkChanges, PacketTurns, worked_whole, worked_acks, Move, does, receives, MoveTurns}
+use Rattle.dcsctp_machine.specs.World.{SideState, after_changes, acted, ChunkChanges, PacketChanges, worked_whole, worked_acks, Move, does, receives, MoveChanges, Moved, MovesMade, after_moves}
 use Rattle.dcsctp_machine.specs.Sockets.{endpoint_after, packets_shown, DeliveryTurns, StepTurns}
+use Rattle.dcsctp_machine.specs.Fitting.{FitsCore, Sendable, SendablePacket, TurnFits}
+use Rattle.dcsctp_machine.proofs.TurnLemmas.{after_all-append}
+use Rattle.dcsctp_machine.proofs.DeliveryLemmas.{same_options_move, longest_connects}
 use Rattle.dcsctp_agreement.specs.OneSide.{EffectsMean}
 use Rattle.dcsctp_agreement.proofs.Alone.{packet_turns}
-use Rattle.dcsctp_refinement.proofs.Deliver.{IsSent, sent_at, reads_as_sent, ChunksFit, chunk_turns_fit, acks_sendable}
+use Rattle.dcsctp_refinement.proofs.Deliver.{IsSent, sent_at, reads_as_sent, Fits, ChunksFit, EndFits, chunk_turns_fit, nothing_ends, packet_end_fits, acks_sendable}
 use Rattle.dcsctp_refinement.proofs.Follow.{Went, Followed, after_last, follow_turns, follow_idle}
-use Rattle.dcsctp_refinement.proofs.Sendable.{Sendable, SendablePacket}
-use Rattle.dcsctp_refinement.proofs.TurnsFit.{TurnFits, connect_fits}
+use Rattle.dcsctp_refinement.proofs.TurnsFit.{connect_fits}
 
 -- the laws below that the runs of sockets rest on
 pub record Below : Type 0 where
@@ -40,140 +42,236 @@ pub record Below : Type 0 where
   pub offers : OfferReadsBack
   pub built : BuiltPacketReadsAsItself
 
--- A socket's turns are a move of its side, where the other side's past is this, or the side rests.
-pub data SideMove (options : Options) (turns : List Outcome) (side : SideState) (theirs : List Effect) (outcomes : List Outcome) : Type 0 where
-  rested : Followed options (turns ++ outcomes) side → SideMove options turns side theirs outcomes
-  moved : (move : Move) (changes : List Change) → MoveTurns side theirs move changes → Followed options (turns ++ outcomes) (after_changes side changes)
-      → SideMove options turns side theirs outcomes
+-- A socket's turns are moves of its side, where the other side's past is this.
+pub record SideMoves (options : Options) (turns : List Turned) (side : SideState) (theirs : List Effect) (more : List Turned) : Type 0 where
+  pub moves : List Moved
+  pub made : MovesMade side theirs moves
+  pub follows : Followed options (turns ++ more) (after_moves side moves)
 
-nothing_happens : (options : Options) (turns : List Outcome) (side : SideState) (theirs : List Effect) (outcomes : List Outcome) → Followed options turns side → outcomes ≡ []
-    → SideMove options turns side theirs outcomes
-nothing_happens options turns side theirs outcomes h none =
-    rested (subst (λ (os : List Outcome). Followed options (turns ++ os) side) (sym none) (subst (λ (ts : List Outcome). Followed options ts side) (sym (append-nil turns)) h))
+rests : (options : Options) (turns : List Turned) (side : SideState) (theirs : List Effect) (more : List Turned) → Followed options (turns ++ more) side → SideMoves options turns side theirs more
+rests options turns side theirs more follows = record { moves = []; made = tt; follows = follows }
+
+moves_once : (options : Options) (turns : List Turned) (side : SideState) (theirs : List Effect) (more : List Turned) (move : Move) (changes : List Change) → MoveChanges side theirs move changes
+    → Followed options (turns ++ more) (after_changes side changes) → SideMoves options turns side theirs more
+moves_once options turns side theirs more move changes made follows = record { moves = record { move = move; changes = changes } ∷ []; made = (made, tt); follows = follows }
+
+nothing_happens : (options : Options) (turns : List Turned) (side : SideState) (theirs : List Effect) (more : List Turned) → Followed options turns side → more ≡ []
+    → SideMoves options turns side theirs more
+nothing_happens options turns side theirs more h none =
+    rests options turns side theirs more
+    (subst (λ (ts : List Turned). Followed options (turns ++ ts) side) (sym none) (subst (λ (ts : List Turned). Followed options ts side) (sym (append-nil turns)) h))
+
+-- turns that the side has no part in, and others behind them
+rests_then : (options : Options) (turns : List Turned) (side : SideState) (theirs : List Effect) (xs ys : List Turned) → SideMoves options (turns ++ xs) side theirs ys
+    → SideMoves options turns side theirs (xs ++ ys)
+rests_then options turns side theirs xs ys second =
+    record {
+      moves = second.moves;
+      made = second.made;
+      follows = subst (λ (ts : List Turned). Followed options ts (after_moves side second.moves)) (append_assoc turns xs ys) second.follows;
+    }
+
+-- turns that are a move of it, and others behind them
+moves_then : (options : Options) (turns : List Turned) (side : SideState) (theirs : List Effect) (xs ys : List Turned) (move : Move) (changes : List Change) → MoveChanges side theirs move changes
+    → SideMoves options (turns ++ xs) (after_changes side changes) theirs ys → SideMoves options turns side theirs (xs ++ ys)
+moves_then options turns side theirs xs ys move changes made second =
+    record {
+      moves = record { move = move; changes = changes } ∷ second.moves;
+      made = (made, second.made);
+      follows = subst (λ (ts : List Turned). Followed options ts (after_moves (after_changes side changes) second.moves)) (append_assoc turns xs ys) second.follows;
+    }
 
 -- ---- connect
 
 abbrev act_at : Endpoint → Options → Core → Outcome → Choices → Type 0
 act_at e options core o choices = IsControlled e o (act_change options core connect choices)
 
-connected_by : Below → (options : Options) (turns : List Outcome) (side : SideState) (theirs : List Effect) (o : Outcome) → Followed options turns side
-    → ConnectTurn (endpoint_after options turns) o → SideMove options turns side theirs (o ∷ [])
-connected_by law options turns side theirs o h turn =
-    let e : Endpoint = endpoint_after options turns in
-    let controlled = law.acts e connect o turn in
-    let choices : Choices = controlled.0 in
-    let same_core : act_at e e.options side.core o choices = subst (λ (core : Core). act_at e e.options core o choices) (sym h.core) controlled.1 in
-    let same : act_at e side.options side.core o choices = subst (λ (p : Options). act_at e p side.core o choices) (h.own_options ∙ sym h.side_options) same_core in
-    let change : Change = act_change side.options side.core connect choices in
-    let fits : TurnFits o = subst TurnFits (sym turn.2) (connect_fits law.offers e e.core turn.0 turn.1 h.fits) in
-    moved (does connect) (change ∷ []) (choices, refl)
-    (follow_turns law.effects_mean options turns side (o ∷ []) (change ∷ []) h (acted connect choices refl, tt) (same, tt) (fits, tt))
+connected_same : (p q : Options) (core : Core) (choices : Choices) → SameOptions p q → act_change q core connect choices ≡ act_change p core connect choices
+connected_same p q core choices same = ap (λ (x : Options). act_change x core connect choices) same ∙ longest_connects p q.max_message_size core choices
 
-connect_moves : Below → (options : Options) (turns : List Outcome) (side : SideState) (theirs : List Effect) (outcomes : List Outcome) → Followed options turns side
-    → Turns (endpoint_after options turns) (act_input connect ∷ []) outcomes → SideMove options turns side theirs outcomes
+connected_by : Below → (options : Options) (turns : List Turned) (side : SideState) (theirs : List Effect) (t : Turned) → Followed options turns side
+    → ConnectTurn (endpoint_after options turns) t.outcome → SideMoves options turns side theirs (t ∷ [])
+connected_by law options turns side theirs t h turn =
+    let e : Endpoint = endpoint_after options turns in
+    let controlled = law.acts e connect t.outcome turn in
+    let choices : Choices = controlled.0 in
+    let same_core : act_at e e.options side.core t.outcome choices = subst (λ (core : Core). act_at e e.options core t.outcome choices) (sym h.core) controlled.1 in
+    let own : SameOptions side.options e.options = subst (λ (p : Options). SameOptions p e.options) (sym h.side_options) h.own_options in
+    let same : act_at e side.options side.core t.outcome choices = subst (IsControlled e t.outcome) (connected_same side.options e.options side.core choices own) same_core in
+    let change : Change = act_change side.options side.core connect choices in
+    let fits : TurnFits t.outcome = subst TurnFits (sym turn.2) (connect_fits law.offers e e.core turn.0 turn.1 h.fits) in
+    moves_once options turns side theirs (t ∷ []) (does connect) (change ∷ []) (choices, refl)
+    (follow_turns law.effects_mean options turns side (t ∷ []) (change ∷ []) h (acted connect choices refl, tt) (same, tt) (fits, tt))
+
+connect_moves : Below → (options : Options) (turns : List Turned) (side : SideState) (theirs : List Effect) (more : List Turned) → Followed options turns side
+    → Turns (endpoint_after options turns) (act_input connect ∷ []) more → SideMoves options turns side theirs more
 connect_moves law options turns side theirs [] h turn = absurd turn
-connect_moves law options turns side theirs (o ∷ []) h turn = connected_by law options turns side theirs o h turn.0
-connect_moves law options turns side theirs (o ∷ next ∷ outcomes) h turn = absurd turn.1
+connect_moves law options turns side theirs (t ∷ []) h turn = connected_by law options turns side theirs t h turn.0.comes
+connect_moves law options turns side theirs (t ∷ next ∷ more) h turn = absurd turn.1
 
 -- ---- a packet that is counted, and one that is refused
 
-follow_counted : (options : Options) (turns : List Outcome) (side : SideState) (o : Outcome) → Followed options turns side → o ≡ arrival_outcome (endpoint_after options turns)
-    → Followed options (turns ++ o ∷ []) side
-follow_counted options turns side o h is =
-    follow_idle options turns side o h
-    (subst (λ (x : Outcome). IsControlled (endpoint_after options turns) x (unchanged (endpoint_after options turns).core)) (sym is) (record { core = refl; options = refl; signs = refl; drawn = refl; following = refl }))
-    (subst TurnFits (sym is) (record { after = record { valid = h.fits.valid; options = h.fits.options; core = h.fits.core }; sends = tt }))
+-- a turn that leaves the association, and sends nothing
+follow_still : (options : Options) (turns : List Turned) (side : SideState) (t : Turned) (o : Outcome) → Followed options turns side → t.outcome ≡ o
+    → IsControlled (endpoint_after options turns) o (unchanged (endpoint_after options turns).core) → TurnFits o → Followed options (turns ++ t ∷ []) side
+follow_still options turns side t o h is controlled fits =
+    follow_idle options turns side t h
+    (subst (λ (x : Outcome). IsControlled (endpoint_after options turns) x (unchanged (endpoint_after options turns).core)) (sym is) controlled) (subst TurnFits (sym is) fits)
 
-follow_refused : (options : Options) (turns : List Outcome) (side : SideState) (o : Outcome) (text : List ℕ) → Followed options turns side
-    → o ≡ refusal_outcome (endpoint_after options turns) text → Followed options (turns ++ o ∷ []) side
-follow_refused options turns side o text h is =
-    follow_idle options turns side o h
-    (subst (λ (x : Outcome). IsControlled (endpoint_after options turns) x (unchanged (endpoint_after options turns).core)) (sym is) (record { core = refl; options = refl; signs = refl; drawn = refl; following = refl }))
-    (subst TurnFits (sym is) (record { after = h.fits; sends = (tt, tt) }))
+follow_counted : (options : Options) (turns : List Turned) (side : SideState) (t : Turned) → Followed options turns side → t.outcome ≡ arrival_outcome (endpoint_after options turns)
+    → Followed options (turns ++ t ∷ []) side
+follow_counted options turns side t h is =
+    follow_still options turns side t (arrival_outcome (endpoint_after options turns)) h is (record { core = refl; options = refl; signs = refl; effects = refl; following = refl })
+    (record { after = record { valid = h.fits.valid; options = h.fits.options; core = h.fits.core }; sends = tt })
 
-refused_rests : (options : Options) (turns : List Outcome) (side : SideState) (outcomes : List Outcome) (text : List ℕ) → Followed options turns side
-    → Turns (endpoint_after options turns) (refusal text ∷ []) outcomes → Followed options (turns ++ outcomes) side
+follow_refused : (options : Options) (turns : List Turned) (side : SideState) (t : Turned) (text : List ℕ) → Followed options turns side
+    → t.outcome ≡ refusal_outcome (endpoint_after options turns) text → Followed options (turns ++ t ∷ []) side
+follow_refused options turns side t text h is =
+    follow_still options turns side t (refusal_outcome (endpoint_after options turns) text) h is (record { core = refl; options = refl; signs = refl; effects = refl; following = refl })
+    (record { after = h.fits; sends = (tt, tt) })
+
+follow_nothing : (options : Options) (turns : List Turned) (side : SideState) (t : Turned) → Followed options turns side
+    → t.outcome ≡ still (endpoint_after options turns) → Followed options (turns ++ t ∷ []) side
+follow_nothing options turns side t h is =
+    follow_still options turns side t (still (endpoint_after options turns)) h is (record { core = refl; options = refl; signs = refl; effects = refl; following = refl })
+    (record { after = h.fits; sends = tt })
+
+refused_rests : (options : Options) (turns : List Turned) (side : SideState) (more : List Turned) (text : List ℕ) → Followed options turns side
+    → Turns (endpoint_after options turns) (refusal text ∷ []) more → Followed options (turns ++ more) side
 refused_rests options turns side [] text h refusing = absurd refusing
-refused_rests options turns side (o ∷ []) text h refusing = follow_refused options turns side o text h refusing.0
-refused_rests options turns side (o ∷ next ∷ outcomes) text h refusing = absurd refusing.1
+refused_rests options turns side (t ∷ []) text h refusing = follow_refused options turns side t text h refusing.0.comes
+refused_rests options turns side (t ∷ next ∷ more) text h refusing = absurd refusing.1
 
-unread_rests : (options : Options) (turns : List Outcome) (side : SideState) (outcomes : List Outcome) → Followed options turns side
-    → Turns (endpoint_after options turns) (arrival ∷ refusal unreadable_text ∷ []) outcomes → Followed options (turns ++ outcomes) side
+unread_rests : (options : Options) (turns : List Turned) (side : SideState) (more : List Turned) → Followed options turns side
+    → Turns (endpoint_after options turns) (arrival ∷ refusal unreadable_text ∷ []) more → Followed options (turns ++ more) side
 unread_rests options turns side [] h unreading = absurd unreading
-unread_rests options turns side (counted ∷ outcomes) h unreading =
-    let first : Followed options (turns ++ counted ∷ []) side = follow_counted options turns side counted h unreading.0 in
-    subst (λ (ts : List Outcome). Followed options ts side) (append_assoc turns (counted ∷ []) outcomes)
-    (refused_rests options (turns ++ counted ∷ []) side outcomes unreadable_text first
-    (subst (λ (e : Endpoint). Turns e (refusal unreadable_text ∷ []) outcomes) (sym (after_last _ turns counted)) unreading.1))
+unread_rests options turns side (counted ∷ more) h unreading =
+    let first : Followed options (turns ++ counted ∷ []) side = follow_counted options turns side counted h unreading.0.comes in
+    subst (λ (ts : List Turned). Followed options ts side) (append_assoc turns (counted ∷ []) more)
+    (refused_rests options (turns ++ counted ∷ []) side more unreadable_text first
+    (subst (λ (e : Endpoint). Turns e (refusal unreadable_text ∷ []) more) (sym (after_last _ turns counted)) unreading.1))
+
+-- ---- what stands before a packet's chunks, and its end
+
+-- No shutdown is under way, so nothing stands before them.
+begin_rests : (e : Endpoint) (core : Core) (has : Bool) (o : Outcome) → FitsCore core → BeginTurn e core has o → o ≡ still e
+begin_rests e closed has o fits turn = turn
+begin_rests e (cookie_wait my) has o fits turn = turn
+begin_rests e (cookie_echoed my held cookie) has o fits turn = turn
+begin_rests e (open_in established my held) has o fits turn = turn
+begin_rests e (open_in shutdown_pending my held) has o fits turn = absurd fits
+begin_rests e (open_in shutdown_sent my held) has o fits turn = absurd fits
+begin_rests e (open_in shutdown_received my held) has o fits turn = absurd fits
+begin_rests e (open_in shutdown_ack_sent my held) has o fits turn = absurd fits
+
+-- The turns of the packet's end, or none.
+end_rests : (options : Options) (turns : List Turned) (side : SideState) (theirs : List Effect) (more : List Turned) → Followed options turns side
+    → Turns (endpoint_after options turns) (packet_ends ∷ []) more → SideMoves options turns side theirs more
+end_rests options turns side theirs [] h taken = absurd taken
+end_rests options turns side theirs (t ∷ []) h taken = rests options turns side theirs (t ∷ []) (follow_nothing options turns side t h taken.0.comes)
+end_rests options turns side theirs (t ∷ next ∷ more) h taken = absurd taken.1
+
+abbrev EndRests : List Input → Type 0
+EndRests tail = (options : Options) (turns : List Turned) (side : SideState) (theirs : List Effect) (more : List Turned) → Followed options turns side
+    → Turns (endpoint_after options turns) tail more → SideMoves options turns side theirs more
+
+none_rests : (options : Options) (turns : List Turned) (side : SideState) (theirs : List Effect) (more : List Turned) → Followed options turns side
+    → Turns (endpoint_after options turns) [] more → SideMoves options turns side theirs more
+none_rests options turns side theirs [] h taken = nothing_happens options turns side theirs [] h refl
+none_rests options turns side theirs (t ∷ more) h taken = absurd taken
+
+rest_moves : (tail : List Input) (options : Options) (turns : List Turned) (side : SideState) (theirs : List Effect) (more : List Turned) → EndRests tail → Followed options turns side
+    → IsRest (endpoint_after options turns) tail more → SideMoves options turns side theirs more
+rest_moves tail options turns side theirs more end h (dropped none) = nothing_happens options turns side theirs more h none
+rest_moves tail options turns side theirs more end h (ended taken) = end options turns side theirs more h taken
 
 -- ---- a packet whose chunks are worked
 
 -- the changes of chunks at an endpoint are changes at its side
-at_side : (options : Options) (turns : List Outcome) (side : SideState) (tag : ℕ) (contents : List Content) (changes : List Change) → Followed options turns side
+at_side : (options : Options) (turns : List Turned) (side : SideState) (tag : ℕ) (contents : List Content) (changes : List Change) → Followed options turns side
     → ChunkChanges (endpoint_after options turns).options (endpoint_after options turns).core tag contents changes → ChunkChanges side.options side.core tag contents changes
 at_side options turns side tag contents changes h moves =
-    subst (λ (p : Options). ChunkChanges p side.core tag contents changes) (h.own_options ∙ sym h.side_options)
+    same_options_move side.options (endpoint_after options turns).options side.core tag contents changes
+    (subst (λ (p : Options). SameOptions p (endpoint_after options turns).options) (sym h.side_options) h.own_options)
     (subst (λ (core : Core). ChunkChanges (endpoint_after options turns).options core tag contents changes) (sym h.core) moves)
 
-chunks_move : Below → (options : Options) (turns : List Outcome) (side : SideState) (theirs : List Effect) (packet : Packet) (contents : List Content) (outcomes : List Outcome)
-    → Followed options turns side → Has (sends packet) theirs → AllByRecursion Sendable contents
-    → ((changes : List Change) → ChunkChanges side.options side.core packet.tag contents changes → PacketTurns side.options side.core packet changes)
-    → ChunkTurns (endpoint_after options turns) packet.tag contents outcomes → SideMove options turns side theirs outcomes
-chunks_move law options turns side theirs packet contents outcomes h was_sent good to_packet chunk_turns =
-    let e : Endpoint = endpoint_after options turns in
-    let fits : ChunksFit e contents outcomes = chunk_turns_fit law.offers e packet.tag contents outcomes chunk_turns h.fits good in
-    let controlled = law.packets e packet.tag contents outcomes chunk_turns fits.contents_fit in
-    let of_packet : PacketTurns side.options side.core packet controlled.0 = to_packet controlled.0 (at_side options turns side packet.tag contents controlled.0 h controlled.1) in
-    moved (receives packet) controlled.0 (was_sent, of_packet)
-    (follow_turns law.effects_mean options turns side outcomes controlled.0 h (packet_turns side.options side.core packet controlled.0 of_packet) controlled.2 fits.outcomes_fit)
+-- the turns of the first of two lists fit, where all do
+front_fits : (xs ys : List Turned) → AllByRecursion Fits (xs ++ ys) → AllByRecursion Fits xs
+front_fits [] ys each = tt
+front_fits (x ∷ xs) ys each = (each.0, front_fits xs ys each.1)
 
-admitted_moves : Below → (options : Options) (turns : List Outcome) (side : SideState) (theirs : List Effect) (packet : Packet) (admission : Admission) (outcomes : List Outcome)
+chunks_move : Below → (options : Options) (turns : List Turned) (side : SideState) (theirs : List Effect) (packet : Packet) (contents : List Content) (tail : List Input) (more : List Turned)
+    → Followed options turns side → Has (sends packet) theirs → AllByRecursion Sendable contents → EndFits tail → EndRests tail
+    → ((changes : List Change) → ChunkChanges side.options side.core packet.tag contents changes → PacketChanges side.options side.core packet changes)
+    → ChunkTurns (endpoint_after options turns) packet.tag contents tail more → SideMoves options turns side theirs more
+chunks_move law options turns side theirs packet contents tail more h was_sent good end_fits end to_packet taken =
+    let e : Endpoint = endpoint_after options turns in
+    let fits : ChunksFit e contents more = chunk_turns_fit law.offers e packet.tag contents tail more taken h.fits good end_fits in
+    let are : AreChunks e packet.tag contents tail more = law.packets e packet.tag contents tail more taken fits.contents_fit in
+    let of_packet : PacketChanges side.options side.core packet are.changes = to_packet are.changes (at_side options turns side packet.tag contents are.changes h are.moves) in
+    let worked : Followed options (turns ++ are.chunks) (after_changes side are.changes) =
+    follow_turns law.effects_mean options turns side are.chunks are.changes h (packet_turns side.options side.core packet are.changes of_packet) are.controlled
+    (front_fits are.chunks are.rest (subst (λ (ts : List Turned). AllByRecursion Fits ts) are.parts fits.turns_fit)) in
+    subst (SideMoves options turns side theirs) (sym are.parts)
+    (moves_then options turns side theirs are.chunks are.rest (receives packet) are.changes (was_sent, of_packet)
+    (rest_moves tail options (turns ++ are.chunks) (after_changes side are.changes) theirs are.rest end worked
+    (subst (λ (x : Endpoint). IsRest x tail are.rest) (sym (after_all-append (fresh_endpoint options) turns are.chunks)) are.is_rest)))
+
+whole_moves : Below → (options : Options) (turns : List Turned) (side : SideState) (theirs : List Effect) (packet : Packet) (more : List Turned)
+    → admits side.core packet ≡ all_chunks → Followed options turns side → Has (sends packet) theirs → SendablePacket packet
+    → WholeTurns (endpoint_after options turns) packet more → SideMoves options turns side theirs more
+whole_moves law options turns side theirs packet [] is h was_sent good taken = absurd taken
+whole_moves law options turns side theirs packet (begun ∷ more) is h was_sent good taken =
+    let e : Endpoint = endpoint_after options turns in
+    let first : Followed options (turns ++ begun ∷ []) side =
+    follow_nothing options turns side begun h (begin_rests e e.core (has_data packet.contents) begun.outcome h.fits.core taken.0.comes) in
+    rests_then options turns side theirs (begun ∷ []) more
+    (chunks_move law options (turns ++ begun ∷ []) side theirs packet packet.contents (packet_ends ∷ []) more first was_sent good.contents packet_end_fits end_rests
+    (λ changes moves. worked_whole (law.admitted.whole side.core packet is) moves)
+    (subst (λ (x : Endpoint). ChunkTurns x packet.tag packet.contents (packet_ends ∷ []) more) (sym (after_last _ turns begun)) taken.1))
+
+admitted_moves : Below → (options : Options) (turns : List Turned) (side : SideState) (theirs : List Effect) (packet : Packet) (admission : Admission) (more : List Turned)
     → admits side.core packet ≡ admission → Followed options turns side → Has (sends packet) theirs → SendablePacket packet
-    → AdmittedTurns (endpoint_after options turns) packet admission outcomes → SideMove options turns side theirs outcomes
-admitted_moves law options turns side theirs packet all_chunks outcomes is h was_sent good chunk_turns =
-    chunks_move law options turns side theirs packet packet.contents outcomes h was_sent good.contents (λ changes moves. worked_whole (law.admitted.whole side.core packet is) moves) chunk_turns
-admitted_moves law options turns side theirs packet shutdown_acks_alone outcomes is h was_sent good chunk_turns =
-    chunks_move law options turns side theirs packet (shutdown_acks_in packet.contents) outcomes h was_sent (acks_sendable packet.contents good.contents) (λ changes moves. worked_acks moves) chunk_turns
-admitted_moves law options turns side theirs packet (refused text) outcomes is h was_sent good refusing = rested (refused_rests options turns side outcomes text h refusing)
+    → AdmittedTurns (endpoint_after options turns) packet admission more → SideMoves options turns side theirs more
+admitted_moves law options turns side theirs packet all_chunks more is h was_sent good taken = whole_moves law options turns side theirs packet more is h was_sent good taken
+admitted_moves law options turns side theirs packet shutdown_acks_alone more is h was_sent good taken =
+    chunks_move law options turns side theirs packet (shutdown_acks_in packet.contents) [] more h was_sent (acks_sendable packet.contents good.contents) nothing_ends none_rests
+    (λ changes moves. worked_acks moves) taken
+admitted_moves law options turns side theirs packet (refused text) more is h was_sent good refusing =
+    rests options turns side theirs more (refused_rests options turns side more text h refusing)
 
 -- ---- a delivery
 
--- behind the turn that counts the packet
-behind_count : (options : Options) (turns : List Outcome) (side : SideState) (theirs : List Effect) (counted : Outcome) (outcomes : List Outcome)
-    → SideMove options (turns ++ counted ∷ []) side theirs outcomes → SideMove options turns side theirs (counted ∷ outcomes)
-behind_count options turns side theirs counted outcomes (rested h) = rested (subst (λ (ts : List Outcome). Followed options ts side) (append_assoc turns (counted ∷ []) outcomes) h)
-behind_count options turns side theirs counted outcomes (moved move changes done h) =
-    moved move changes done (subst (λ (ts : List Outcome). Followed options ts (after_changes side changes)) (append_assoc turns (counted ∷ []) outcomes) h)
-
-input_moves : Below → (options other : Options) (turns : List Outcome) (side : SideState) (theirs : List Effect) (bytes : List ℕ) (outcomes : List Outcome) → Followed options turns side → FitsOptions other
-    → IsSent (Went theirs) (emission_bytes (ports_of other)) bytes → HandleInput (endpoint_after options turns) bytes outcomes → SideMove options turns side theirs outcomes
-input_moves law options other turns side theirs bytes outcomes h fits out (unreadable outcomes' none unreading) = rested (unread_rests options turns side outcomes' h unreading)
-input_moves law options other turns side theirs bytes outcomes h fits out (readable packet counted outcomes' is_packet counting admitted) =
+input_moves : Below → (options other : Options) (turns : List Turned) (side : SideState) (theirs : List Effect) (bytes : List ℕ) (more : List Turned) → Followed options turns side → FitsOptions other
+    → IsSent (Went theirs) (emission_bytes (ports_of other)) bytes → HandleInput (endpoint_after options turns) bytes more → SideMoves options turns side theirs more
+input_moves law options other turns side theirs bytes more h fits out (unreadable ts none unreading) = rests options turns side theirs ts (unread_rests options turns side ts h unreading)
+input_moves law options other turns side theirs bytes more h fits out (readable packet counted ts is_packet counting admitted) =
     let e : Endpoint = endpoint_after options turns in
     let sent_packet : Packet = out.emission.packet in
-    let first : Followed options (turns ++ counted ∷ []) side = follow_counted options turns side counted h counting in
+    let first : Followed options (turns ++ counted ∷ []) side = follow_counted options turns side counted h counting.comes in
     let is : packet_in packet ≡ sent_packet =
     reads_as_sent law.built e.options other out.emission packet fits out.good.sendable (subst (λ (bs : List ℕ). IsPacket (wire_options e.options) packet bs) out.is is_packet) in
-    let here : AdmittedTurns counted.after sent_packet (admits e.core sent_packet) outcomes' = subst (λ (p : Packet). AdmittedTurns counted.after p (admits e.core p) outcomes') is admitted in
-    let at_end : AdmittedTurns (endpoint_after options (turns ++ counted ∷ [])) sent_packet (admits e.core sent_packet) outcomes' =
-    subst (λ (x : Endpoint). AdmittedTurns x sent_packet (admits e.core sent_packet) outcomes') (sym (after_last _ turns counted)) here in
-    behind_count options turns side theirs counted outcomes'
-    (admitted_moves law options (turns ++ counted ∷ []) side theirs sent_packet (admits e.core sent_packet) outcomes'
+    let here : AdmittedTurns counted.outcome.after sent_packet (admits e.core sent_packet) ts =
+    subst (λ (p : Packet). AdmittedTurns counted.outcome.after p (admits e.core p) ts) is admitted in
+    let at_end : AdmittedTurns (endpoint_after options (turns ++ counted ∷ [])) sent_packet (admits e.core sent_packet) ts =
+    subst (λ (x : Endpoint). AdmittedTurns x sent_packet (admits e.core sent_packet) ts) (sym (after_last _ turns counted)) here in
+    rests_then options turns side theirs (counted ∷ []) ts
+    (admitted_moves law options (turns ++ counted ∷ []) side theirs sent_packet (admits e.core sent_packet) ts
     (ap (λ (core : Core). admits core sent_packet) h.core) first out.good.was_sent out.good.sendable at_end)
 
-delivery_moves : Below → (options other : Options) (turns others : List Outcome) (side : SideState) (theirs : SideState) (index : ℕ) (found : Option (List ℕ)) (outcomes : List Outcome)
+delivery_moves : Below → (options other : Options) (turns others : List Turned) (side : SideState) (theirs : SideState) (index : ℕ) (found : Option (List ℕ)) (more : List Turned)
     → Followed options turns side → Followed other others theirs → FitsOptions other → slice_get (packets_shown other others) index ≡ found
-    → DeliveryTurns (endpoint_after options turns) found outcomes → SideMove options turns side theirs.past outcomes
-delivery_moves law options other turns others side theirs index None outcomes h k fits is none = nothing_happens options turns side theirs.past outcomes h none
-delivery_moves law options other turns others side theirs index (Some bytes) outcomes h k fits is input =
-    input_moves law options other turns side theirs.past bytes outcomes h fits (sent_at (Went theirs.past) (emission_bytes (ports_of other)) (events_of others) index bytes k.went is) input
+    → DeliveryTurns (endpoint_after options turns) found more → SideMoves options turns side theirs.past more
+delivery_moves law options other turns others side theirs index None more h k fits is none = nothing_happens options turns side theirs.past more h none
+delivery_moves law options other turns others side theirs index (Some bytes) more h k fits is input =
+    input_moves law options other turns side theirs.past bytes more h fits (sent_at (Went theirs.past) (emission_bytes (ports_of other)) (events_of others) index bytes k.went is) input
 
 -- ---- a step
 
-pub step_moves : Below → (options other : Options) (turns others : List Outcome) (side theirs : SideState) (step : Step) (outcomes : List Outcome)
+pub step_moves : Below → (options other : Options) (turns others : List Turned) (side theirs : SideState) (step : Step) (more : List Turned)
     → Followed options turns side → Followed other others theirs → FitsOptions other
-    → StepTurns (endpoint_after options turns) (packets_shown other others) step outcomes → SideMove options turns side theirs.past outcomes
-step_moves law options other turns others side theirs (steps.Call which calls.Connect) outcomes h k fits done = connect_moves law options turns side theirs.past outcomes h done
-step_moves law options other turns others side theirs (steps.Deliver which zero) outcomes h k fits done = nothing_happens options turns side theirs.past outcomes h done
-step_moves law options other turns others side theirs (steps.Deliver which (suc index)) outcomes h k fits done =
-    delivery_moves law options other turns others side theirs index (slice_get (packets_shown other others) index) outcomes h k fits refl done
+    → StepTurns (endpoint_after options turns) (packets_shown other others) step more → SideMoves options turns side theirs.past more
+step_moves law options other turns others side theirs (steps.Call which calls.Connect) more h k fits done = connect_moves law options turns side theirs.past more h done
+step_moves law options other turns others side theirs (steps.Deliver which zero) more h k fits done = nothing_happens options turns side theirs.past more h done
+step_moves law options other turns others side theirs (steps.Deliver which (suc index)) more h k fits done =
+    delivery_moves law options other turns others side theirs index (slice_get (packets_shown other others) index) more h k fits refl done

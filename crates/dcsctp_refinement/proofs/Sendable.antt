@@ -5,33 +5,18 @@ use Rattle.std.proofs.lemmas.Bool.Decides.{nat_tests}
 use Rattle.dcsctp_wire.specs.Content.{ParameterContent, state_cookie, supported_extensions, zero_checksum_acceptable, forward_tsn_supported}
 use Rattle.dcsctp_wire.specs.Numbers.{re_config_type, forward_tsn_type, i_data_type, i_forward_tsn_type, state_cookie_type}
 use Rattle.dcsctp_wire.specs.Spelling.{parameters_len}
-use Rattle.dcsctp_wire.specs.ReadsBack.{IsByte, FitsParameter, FitsEcho, FitsChunk}
+use Rattle.dcsctp_wire.specs.ReadsBack.{IsByte, FitsParameter, FitsEcho}
 use Rattle.dcsctp_machine.specs.declared.association.Pair.{Pair}
 use Rattle.dcsctp_machine.specs.declared.options.Options.{Options}
 use Rattle.dcsctp_machine.specs.Settings.{IsValid, FitsOptions}
 use Rattle.dcsctp_machine.specs.Offer.{Offer, offer_of, answering_offer, agreed_method, offer_parameters}
 use Rattle.dcsctp_machine.specs.Cause.{missing_mandatory_parameter}
 use Rattle.dcsctp_machine.specs.Cookie.{Cookie, cookie_bytes}
-use Rattle.dcsctp_machine.specs.Packet.{Introduction, Content, init, init_ack, cookie_echo, cookie_ack, abort, Packet, cookie_in, content_in, chunk_out}
-use Rattle.dcsctp_machine.specs.control.Handshake.{introduction_of, answering_introduction}
-use Rattle.dcsctp_machine.specs.Laws.{FitsPair, FitsOffer, OfferReadsBack}
+use Rattle.dcsctp_machine.specs.Packet.{Introduction, Content, init, init_ack, cookie_echo, cookie_ack, abort, cookie_in}
+use Rattle.dcsctp_machine.specs.control.HandshakeChanges.{introduction_of, answering_introduction}
+use Rattle.dcsctp_machine.specs.Laws.{FitsPair, OfferReadsBack}
+use Rattle.dcsctp_machine.specs.Fitting.{Sendable}
 use Rattle.dcsctp_refinement.proofs.Bytes.{length_of_cookie, in_cookie}
-
--- what a side that reads the chunk takes of it
-abbrev pub FitsSaid : Content → Type 0
-FitsSaid (init theirs) = FitsPair theirs.pair × FitsOffer theirs.offer
-FitsSaid (init_ack theirs None) = FitsPair theirs.pair
-FitsSaid (init_ack theirs (Some cookie)) = FitsPair theirs.pair × FitsEcho cookie
-FitsSaid content = Unit {0}
-
-pub record Sendable (content : Content) : Type 0 where
-  pub fits : FitsChunk (chunk_out content)
-  pub reads : content_in (chunk_out content) ≡ content
-  pub said : FitsSaid content
-
-pub record SendablePacket (packet : Packet) : Type 0 where
-  pub tag : packet.tag < 2 ^ 32
-  pub contents : AllByRecursion Sendable packet.contents
 
 -- ---- what is announced
 

@@ -2,15 +2,7 @@
 use Rattle.std.proofs.Common.{List, [], ◌∷◌, ◌++◌}
 use Rattle.dcsctp_machine.specs.Event.{Event, sent, connected, closed, connection_restarted, aborted, error, buffered_amount_low, total_buffered_amount_low, streams_reset_failed, streams_reset_performed, incoming_stream_reset, lifecycle_message_fully_sent, lifecycle_message_maybe_expired, lifecycle_message_expired, lifecycle_message_delivered, lifecycle_end}
 use Rattle.dcsctp_machine.specs.Packet.{Emission}
-
--- what an event says of its packet, if it has one
-abbrev pub OfSent : (Emission → Type 0) → Event Emission → Type 0
-OfSent Good (sent emission) = Good emission
-OfSent Good event = Unit {0}
-
-abbrev pub AllSent : (Emission → Type 0) → List (Event Emission) → Type 0
-AllSent Good [] = Unit {0}
-AllSent Good (event ∷ events) = OfSent Good event × AllSent Good events
+use Rattle.dcsctp_machine.specs.Fitting.{AllSent, OfSent}
 
 pub all_sent_append : (Good : Emission → Type 0) (events more : List (Event Emission)) → AllSent Good events → AllSent Good more → AllSent Good (events ++ more)
 all_sent_append Good [] more none others = others

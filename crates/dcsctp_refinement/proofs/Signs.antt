@@ -6,9 +6,10 @@ use Rattle.dcsctp_machine.specs.control.Effect.{Link, Effect, draws, sends, hold
 use Rattle.dcsctp_machine.specs.Controlled.{Sign, packet_sent, has_connected, has_ended, own_reset_performed, own_reset_failed, peer_reset_performed, signs_of_events, signs_of_effects}
 use Rattle.dcsctp_machine.specs.Past.{Has}
 use Rattle.dcsctp_machine.specs.World.{after_effects}
+use Rattle.dcsctp_machine.specs.Fitting.{AllSent}
 use Rattle.dcsctp_agreement.proofs.Growth.{after_within}
 use Rattle.dcsctp_refinement.specs.Agreement.{HasConnected}
-use Rattle.dcsctp_refinement.proofs.Sent.{AllSent, all_sent_map}
+use Rattle.dcsctp_refinement.proofs.Sent.{all_sent_map}
 
 -- ---- effects and the past behind them
 

@@ -5,47 +5,28 @@ use Rattle.dcsctp_machine.specs.declared.association.Pair.{Pair}
 use Rattle.dcsctp_machine.specs.declared.word.Word.{Word}
 use Rattle.dcsctp_machine.specs.declared.word.Word.TheVariants.{U32, U64}
 use Rattle.dcsctp_machine.specs.declared.kinds.ErrorKind.TheVariants.{ProtocolViolation}
-use Rattle.dcsctp_machine.specs.Settings.{IsValid, FitsOptions}
 use Rattle.dcsctp_machine.specs.Cookie.{Cookie, cookie_at}
 use Rattle.dcsctp_machine.specs.Cause.{Cause}
 use Rattle.dcsctp_machine.specs.Event.{Event, sent, connected, connection_restarted, aborted}
-use Rattle.dcsctp_machine.specs.Packet.{Introduction, Content, init, init_ack, cookie_echo, cookie_ack, re_config, abort, shutdown, shutdown_ack, shutdown_complete, other, Emission}
+use Rattle.dcsctp_machine.specs.Packet.{Introduction, Content, init, init_ack, cookie_echo, cookie_ack, re_config, abort, shutdown, shutdown_ack, shutdown_complete, plain, Emission}
 use Rattle.dcsctp_machine.specs.Transfer.{SendQueueState}
 use Rattle.dcsctp_machine.specs.Endpoint.{Endpoint, Core, closed, cookie_wait, cookie_echoed, open_in, established, shutdown_pending, shutdown_sent, shutdown_received, shutdown_ack_sent}
-use Rattle.dcsctp_machine.specs.Outcome.{Outcome, still, quiet, sends, emits, fits, drawing}
+use Rattle.dcsctp_machine.specs.Outcome.{Outcome, noting, still, quiet, sends, emits, fits, drawing}
 use Rattle.dcsctp_machine.specs.Turn.{ContentTurn}
-use Rattle.dcsctp_machine.specs.turns.Flush.{allows_packet, flushes}
-use Rattle.dcsctp_machine.specs.turns.Ends.{ends_with, abort_outcome}
-use Rattle.dcsctp_machine.specs.turns.Handshake.{pair_from, renewed_pair, cookie_for, init_ack_emission, init_outcome, init_emission, awaits_init_ack, connect_outcome, no_cookie_text, abort_emission, queue_anew, awaits_cookie_ack, echo_emission, accepts_init_ack, init_ack_outcome, connected_after, cookie_ack_outcome}
-use Rattle.dcsctp_machine.specs.turns.CookieEcho.{established_by, establishes, interleaves, restarts_where, maintains, resolved_outcome, cookie_echo_outcome}
-use Rattle.dcsctp_machine.specs.control.CookieEcho.{Resolution, establish_new, restart, simultaneous_init, discard, maintain_existing, invalid_tag, resolve}
+use Rattle.dcsctp_machine.specs.turns.FlushOutcomes.{allows_packet, flush_outcome}
+use Rattle.dcsctp_machine.specs.turns.EndOutcomes.{ended_outcome, abort_outcome}
+use Rattle.dcsctp_machine.specs.turns.HandshakeOutcomes.{pair_from, renewed_pair, cookie_for, init_ack_emission, init_outcome, init_emission, awaits_init_ack, connect_outcome, no_cookie_text, abort_emission, queue_anew, awaits_cookie_ack, echo_emission, accepted_init_ack_outcome, init_ack_outcome, connected_after, cookie_ack_outcome}
+use Rattle.dcsctp_machine.specs.turns.CookieEchoOutcomes.{established_by, establish_outcome, interleaves, restart_outcome_where, maintain_outcome, resolved_outcome, cookie_echo_outcome}
+use Rattle.dcsctp_machine.specs.control.Effect.{Link, Effect, holds, connects, link_of}
+use Rattle.dcsctp_machine.specs.control.HandshakeChanges.{held_by_init_ack}
+use Rattle.dcsctp_machine.specs.control.CookieEchoChanges.{held_by_cookie, Resolution, establish_new, restart, simultaneous_init, discard, maintain_existing, invalid_tag, resolve}
 use Rattle.dcsctp_machine.specs.Laws.{FitsPair, OfferReadsBack}
+use Rattle.dcsctp_machine.specs.Fitting.{AllSent, FitsCore, FitsEndpoint, IsSendable, Sendable, TurnFits}
+use Rattle.dcsctp_machine.proofs.PlainLemmas.{plain_fits}
+use Rattle.dcsctp_machine.proofs.FlushLemmas.{init_ack_turn_now, cookie_echo_turn_now, cookie_ack_turn_now}
 use Rattle.dcsctp_refinement.proofs.Bytes.{ReadPairs, read_pairs_fit}
-use Rattle.dcsctp_refinement.proofs.Sendable.{Sendable, SendablePacket, init_sendable, init_ack_sendable, echo_sendable, ack_sendable, abort_sendable}
-use Rattle.dcsctp_refinement.proofs.Sent.{AllSent, all_sent_append}
-
--- The own pair fits its fields while the handshake is under way. No shutdown is under way: so far none begins.
-abbrev pub FitsCore : Core → Type 0
-FitsCore closed = Unit {0}
-FitsCore (cookie_wait my) = FitsPair my
-FitsCore (cookie_echoed my held cookie) = FitsPair my
-FitsCore (open_in established my held) = Unit {0}
-FitsCore (open_in shutdown_pending my held) = ⊥
-FitsCore (open_in shutdown_sent my held) = ⊥
-FitsCore (open_in shutdown_received my held) = ⊥
-FitsCore (open_in shutdown_ack_sent my held) = ⊥
-
-pub record FitsEndpoint (e : Endpoint) : Type 0 where
-  pub valid : IsValid e.options
-  pub options : FitsOptions e.options
-  pub core : FitsCore e.core
-
-abbrev pub IsSendable : Emission → Type 0
-IsSendable emission = SendablePacket emission.packet
-
-pub record TurnFits (o : Outcome) : Type 0 where
-  pub after : FitsEndpoint o.after
-  pub sends : AllSent IsSendable o.events
+use Rattle.dcsctp_refinement.proofs.Sendable.{init_sendable, init_ack_sendable, echo_sendable, ack_sendable, abort_sendable}
+use Rattle.dcsctp_refinement.proofs.Sent.{all_sent_append}
 
 pub still_fits : (e : Endpoint) → FitsEndpoint e → TurnFits (still e)
 still_fits e h = record { after = h; sends = tt }
@@ -60,6 +41,9 @@ packet_fits false e words events emission h before good = record { after = h; se
 
 emits_fit : (e : Endpoint) (words : List Word) (emission : Emission) → FitsEndpoint e → IsSendable emission → TurnFits (emits e words emission)
 emits_fit e words emission h good = packet_fits (fits e emission) e words [] emission h tt good
+
+noting_fits : (effects : List Effect) (o : Outcome) → TurnFits o → TurnFits (noting effects o)
+noting_fits effects o h = record { after = h.after; sends = h.sends }
 
 drawing_fits : (pair : Pair) (o : Outcome) → TurnFits o → TurnFits (drawing pair o)
 drawing_fits pair o h = record { after = h.after; sends = h.sends }
@@ -105,7 +89,7 @@ connect_fits law e (open_in phase my held) word next h = still_fits e h
 -- ---- INIT ACK
 
 refused_fits : (b : Bool) (e : Endpoint) (tag : ℕ) → FitsEndpoint e → IsSendable (abort_emission tag)
-    → TurnFits (ends_with (cond b (sends e [] [] (abort_emission tag)) (quiet e [] [])) (aborted ProtocolViolation no_cookie_text))
+    → TurnFits (ended_outcome (cond b (sends e [] [] (abort_emission tag)) (quiet e [] [])) (aborted ProtocolViolation no_cookie_text))
 refused_fits true e tag h good = record { after = record { valid = h.valid; options = h.options; core = tt }; sends = (good, (tt, tt)) }
 refused_fits false e tag h good = record { after = record { valid = h.valid; options = h.options; core = tt }; sends = (tt, tt) }
 
@@ -115,12 +99,13 @@ echoed_fits true allowed e words tag cookie h good = packet_fits allowed e words
 echoed_fits false allowed e words tag cookie h good = record { after = h; sends = tt }
 
 accepted_fits : (e : Endpoint) (my : Pair) (theirs : Introduction) (cookie : Option (List ℕ)) (word : ℕ) → FitsEndpoint e → FitsPair my → Sendable (init_ack theirs cookie)
-    → TurnFits (accepts_init_ack e my theirs cookie word)
+    → TurnFits (accepted_init_ack_outcome e my theirs cookie word)
 accepted_fits e my theirs None word h own good = refused_fits (fits e (abort_emission theirs.pair.tag)) e theirs.pair.tag h (record { tag = good.said.tag; contents = (abort_sendable, tt) })
 accepted_fits e my theirs (Some cookie) word h own good =
     let awaiting : Endpoint = awaits_cookie_ack e my theirs cookie word in
-    echoed_fits (fits awaiting (echo_emission theirs.pair.tag cookie)) (allows_packet awaiting.options.max_burst) awaiting (U64 word ∷ []) theirs.pair.tag cookie
-    (record { valid = h.valid; options = h.options; core = own }) (record { tag = good.said.0.tag; contents = (echo_sendable cookie good.said.1, tt) })
+    noting_fits (holds (link_of my (held_by_init_ack e.options my theirs)) ∷ []) _
+    (echoed_fits (fits awaiting (echo_emission theirs.pair.tag cookie)) (allows_packet awaiting.options.max_burst) awaiting (U64 word ∷ []) theirs.pair.tag cookie
+    (record { valid = h.valid; options = h.options; core = own }) (record { tag = good.said.0.tag; contents = (echo_sendable cookie good.said.1, tt) }))
 
 init_ack_fits : (e : Endpoint) (theirs : Introduction) (cookie : Option (List ℕ)) (core : Core) (word : ℕ) → FitsEndpoint e → FitsCore core → Sendable (init_ack theirs cookie)
     → TurnFits (init_ack_outcome e theirs cookie core word)
@@ -133,18 +118,20 @@ init_ack_fits e theirs cookie (open_in phase my held) word h own good = still_fi
 
 -- a flush of one COOKIE ACK
 acknowledged_fits : (e : Endpoint) (words : List Word) (events : List (Event Emission)) (with_checksum : Bool) (tag : ℕ) → FitsEndpoint e → AllSent IsSendable events → tag < 2 ^ 32
-    → TurnFits (flushes e words events with_checksum tag (cookie_ack ∷ []))
+    → TurnFits (flush_outcome e words events with_checksum tag (cookie_ack ∷ []))
 acknowledged_fits e words events with_checksum tag h before tag_fits =
     packet_fits (allows_packet e.options.max_burst) e words events (record { with_checksum = with_checksum; packet = record { tag = tag; contents = cookie_ack ∷ [] } }) h before
     (record { tag = tag_fits; contents = (ack_sendable, tt) })
 
 established_fits : (e : Endpoint) (cookie : Cookie) (queue : SendQueueState) (tie : ℕ) (events : List (Event Emission)) → FitsEndpoint e → ReadPairs cookie → AllSent IsSendable events
-    → TurnFits (establishes e cookie queue tie events)
+    → TurnFits (establish_outcome e cookie queue tie events)
 established_fits e cookie queue tie events h pairs before =
-    acknowledged_fits (established_by e cookie queue tie) (U64 tie ∷ []) events _ cookie.addressee.tag
-    (record { valid = h.valid; options = h.options; core = tt }) before pairs.addressee.tag
+    let link : Link = link_of cookie.maker (held_by_cookie e.options cookie) in
+    noting_fits (holds link ∷ connects link ∷ []) _
+    (acknowledged_fits (established_by e cookie queue tie) (U64 tie ∷ []) events _ cookie.addressee.tag
+    (record { valid = h.valid; options = h.options; core = tt }) before pairs.addressee.tag)
 
-restarted_fits : (e : Endpoint) (cookie : Cookie) (tie : ℕ) (core : Core) → FitsEndpoint e → FitsCore core → ReadPairs cookie → TurnFits (restarts_where e cookie tie core)
+restarted_fits : (e : Endpoint) (cookie : Cookie) (tie : ℕ) (core : Core) → FitsEndpoint e → FitsCore core → ReadPairs cookie → TurnFits (restart_outcome_where e cookie tie core)
 restarted_fits e cookie tie closed h own pairs = established_fits e cookie (queue_anew e.below.queue (interleaves e cookie)) tie (connection_restarted ∷ connected ∷ []) h pairs (tt, (tt, tt))
 restarted_fits e cookie tie (cookie_wait my) h own pairs = established_fits e cookie (queue_anew e.below.queue (interleaves e cookie)) tie (connection_restarted ∷ connected ∷ []) h pairs (tt, (tt, tt))
 restarted_fits e cookie tie (cookie_echoed my held echoed) h own pairs = established_fits e cookie (queue_anew e.below.queue (interleaves e cookie)) tie (connection_restarted ∷ connected ∷ []) h pairs (tt, (tt, tt))
@@ -154,11 +141,12 @@ restarted_fits e cookie tie (open_in shutdown_sent my held) h own pairs = absurd
 restarted_fits e cookie tie (open_in shutdown_received my held) h own pairs = absurd own
 restarted_fits e cookie tie (open_in shutdown_ack_sent my held) h own pairs = absurd own
 
-maintained_fits : (e : Endpoint) (cookie : Cookie) (core : Core) → FitsEndpoint e → ReadPairs cookie → TurnFits (maintains e cookie core)
+maintained_fits : (e : Endpoint) (cookie : Cookie) (core : Core) → FitsEndpoint e → ReadPairs cookie → TurnFits (maintain_outcome e cookie core)
 maintained_fits e cookie closed h pairs = still_fits e h
 maintained_fits e cookie (cookie_wait my) h pairs = still_fits e h
 maintained_fits e cookie (cookie_echoed my held echoed) h pairs =
-    acknowledged_fits (connected_after e my held) [] (connected ∷ []) _ cookie.addressee.tag (record { valid = h.valid; options = h.options; core = tt }) (tt, tt) pairs.addressee.tag
+    noting_fits (connects (link_of my held) ∷ []) _
+    (acknowledged_fits (connected_after e my held) [] (connected ∷ []) _ cookie.addressee.tag (record { valid = h.valid; options = h.options; core = tt }) (tt, tt) pairs.addressee.tag)
 maintained_fits e cookie (open_in phase my held) h pairs = acknowledged_fits e [] [] _ cookie.addressee.tag h tt pairs.addressee.tag
 
 resolved_fits : (e : Endpoint) (cookie : Cookie) (core : Core) (word : ℕ) (resolution : Resolution) → FitsEndpoint e → FitsCore core → ReadPairs cookie
@@ -193,12 +181,16 @@ abort_fits e causes (open_in phase my held) h = record { after = record { valid 
 
 pub turn_fits : OfferReadsBack → (e : Endpoint) (tag : ℕ) (content : Content) (o : Outcome) → ContentTurn e tag content o → FitsEndpoint e → Sendable content → TurnFits o
 turn_fits law e tag (init theirs) o turn h good = subst TurnFits (sym turn.2) (init_fits law e theirs e.core turn.0 turn.1 h h.core good.said.0)
-turn_fits law e tag (init_ack theirs cookie) o turn h good = subst TurnFits (sym turn.1) (init_ack_fits e theirs cookie e.core turn.0 h h.core good)
-turn_fits law e tag (cookie_echo bytes) o turn h good = subst TurnFits (sym turn.1) (echo_fits e e.core tag bytes (cookie_at bytes) turn.0 refl h h.core good.fits)
-turn_fits law e tag cookie_ack o turn h good = subst TurnFits (sym turn) (cookie_ack_fits e e.core h)
+turn_fits law e tag (init_ack theirs cookie) o turn h good =
+    let now : (word : ℕ) × (o ≡ init_ack_outcome e theirs cookie e.core word) = init_ack_turn_now e theirs cookie o turn in
+    subst TurnFits (sym now.1) (init_ack_fits e theirs cookie e.core now.0 h h.core good)
+turn_fits law e tag (cookie_echo bytes) o turn h good =
+    let now : (word : ℕ) × (o ≡ cookie_echo_outcome e e.core tag (cookie_at bytes) word) = cookie_echo_turn_now e tag bytes o turn in
+    subst TurnFits (sym now.1) (echo_fits e e.core tag bytes (cookie_at bytes) now.0 refl h h.core good.fits)
+turn_fits law e tag cookie_ack o turn h good = subst TurnFits (sym (cookie_ack_turn_now e o turn)) (cookie_ack_fits e e.core h)
 turn_fits law e tag (re_config parameters) o turn h good = absurd (cc)
 turn_fits law e tag (abort reflected causes) o turn h good = subst TurnFits (sym turn) (abort_fits e causes e.core h)
 turn_fits law e tag (shutdown cumulative_tsn) o turn h good = absurd (cc)
 turn_fits law e tag shutdown_ack o turn h good = absurd (cc)
 turn_fits law e tag (shutdown_complete reflected) o turn h good = absurd (cc)
-turn_fits law e tag (other chunk_type flags value) o turn h good = subst TurnFits (sym turn) (still_fits e h)
+turn_fits law e tag (plain chunk) o turn h good = plain_fits e chunk o turn h good

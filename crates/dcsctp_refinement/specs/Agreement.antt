@@ -8,11 +8,12 @@ use Rattle.dcsctp_machine.specs.Settings.{IsValid, FitsOptions}
 use Rattle.dcsctp_machine.specs.Offer.{offer_of, negotiated}
 use Rattle.dcsctp_machine.specs.Event.{Event, connected}
 use Rattle.dcsctp_machine.specs.Packet.{Emission}
-use Rattle.dcsctp_machine.specs.Outcome.{Outcome}
-use Rattle.dcsctp_machine.specs.CallTurns.{pairs_of}
-use Rattle.dcsctp_machine.specs.control.Effect.{Link, link_in}
+use Rattle.dcsctp_machine.specs.CallTurns.{Turned, effects_of, pairs_of}
+use Rattle.dcsctp_machine.specs.control.Effect.{Link, Effect, link_in}
+use Rattle.dcsctp_machine.specs.Past.{Each}
+use Rattle.dcsctp_machine.specs.World.{after_effects}
 use Rattle.dcsctp_machine.specs.Sockets.{Worked, Both, of_side, turns_after, SocketRun}
-use Rattle.dcsctp_agreement.specs.Agreement.{IsCrossed}
+use Rattle.dcsctp_agreement.specs.Agreement.{IsCrossed, FindsPerformed}
 
 -- No verification tag is drawn twice.
 abbrev pub HasDistinctTags : List Pair → Type 0
@@ -20,13 +21,13 @@ HasDistinctTags [] = Unit {0}
 HasDistinctTags (pair ∷ pairs) = AllByRecursion (λ later. pair.tag ≢ later.tag) pairs × HasDistinctTags pairs
 
 -- After one of these turns the association was held.
-abbrev pub WasHeld : Link → List Outcome → Type 0
+abbrev pub WasHeld : Link → List Turned → Type 0
 WasHeld link [] = ⊥
-WasHeld link (turn ∷ turns) = (link_in turn.after.core ≡ Some link) ⊎ WasHeld link turns
+WasHeld link (turn ∷ turns) = (link_in turn.outcome.after.core ≡ Some link) ⊎ WasHeld link turns
 
 -- Among these turns of the other side there is one after which it held the crossed association, and each of the
 -- two has what the two offers have in common.
-pub record FindsHeld (mine theirs : Options) (turns : List Outcome) (link : Link) : Type 0 where
+pub record FindsHeld (mine theirs : Options) (turns : List Turned) (link : Link) : Type 0 where
   pub other : Link
   pub held : WasHeld other turns
   pub crossed : IsCrossed link other
@@ -40,20 +41,27 @@ HasConnected (connected ∷ events) = Unit {0}
 HasConnected (event ∷ events) = HasConnected events
 
 -- The association that is held after a turn is of this kind.
-pub record Holds (Kind : Link → Type 0) (turn : Outcome) : Type 0 where
+pub record Holds (Kind : Link → Type 0) (turn : Turned) : Type 0 where
   pub link : Link
-  pub held : link_in turn.after.core ≡ Some link
+  pub held : link_in turn.outcome.after.core ≡ Some link
   pub kind : Kind link
 
 -- Each turn that adds OnConnected leaves an association of this kind.
-abbrev pub EachConnected : (Link → Type 0) → List Outcome → Type 0
+abbrev pub EachConnected : (Link → Type 0) → List Turned → Type 0
 EachConnected Kind [] = Unit {0}
-EachConnected Kind (turn ∷ turns) = (HasConnected turn.events → Holds Kind turn) × EachConnected Kind turns
+EachConnected Kind (turn ∷ turns) = (HasConnected turn.outcome.events → Holds Kind turn) × EachConnected Kind turns
 
--- Each OnConnected of either side finds the other so.
-pub record Agree (options : Both Options) (turns : Both (List Outcome)) : Type 0 where
+-- all that these turns noted, newest first
+abbrev pub noted_past : List Turned → List Effect
+noted_past turns = after_effects (effects_of turns) []
+
+-- Each OnConnected of either side finds the other so. Each own request that was performed, among the first 2^32 - 1 of its
+-- holding, finds that the other performed a request of that number in an association whose peer pair is the own pair.
+pub record Agree (options : Both Options) (turns : Both (List Turned)) : Type 0 where
   pub a : EachConnected (FindsHeld options.a options.b turns.b) turns.a
   pub b : EachConnected (FindsHeld options.b options.a turns.a) turns.b
+  pub a_performed : Each (FindsPerformed (noted_past turns.b)) (noted_past turns.a)
+  pub b_performed : Each (FindsPerformed (noted_past turns.a)) (noted_past turns.b)
 
 -- options that a socket can be made with, in memory
 pub record IsUsable (options : Options) : Type 0 where
@@ -64,7 +72,7 @@ abbrev pub AreUsable : Both Options → Type 0
 AreUsable options = (side : Side) → IsUsable (of_side side options)
 
 -- No verification tag is drawn twice by one side.
-pub record AreFresh (turns : Both (List Outcome)) : Type 0 where
+pub record AreFresh (turns : Both (List Turned)) : Type 0 where
   pub a : HasDistinctTags (pairs_of turns.a)
   pub b : HasDistinctTags (pairs_of turns.b)
 

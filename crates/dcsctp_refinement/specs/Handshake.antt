@@ -10,10 +10,9 @@ use Rattle.dcsctp_machine.specs.declared.schedule.Step.TheVariants as steps
 use Rattle.dcsctp_machine.specs.Offer.{offer_of, negotiated}
 use Rattle.dcsctp_machine.specs.Event.{Event, connected}
 use Rattle.dcsctp_machine.specs.Endpoint.{open_in, established}
-use Rattle.dcsctp_machine.specs.Outcome.{Outcome}
-use Rattle.dcsctp_machine.specs.CallTurns.{events_of}
-use Rattle.dcsctp_machine.specs.turns.Flush.{allows_packet}
-use Rattle.dcsctp_machine.specs.control.Handshake.{new_held}
+use Rattle.dcsctp_machine.specs.CallTurns.{Turned, events_of}
+use Rattle.dcsctp_machine.specs.turns.FlushOutcomes.{allows_packet}
+use Rattle.dcsctp_machine.specs.control.HandshakeChanges.{new_held}
 use Rattle.dcsctp_machine.specs.Sockets.{Worked, Both, endpoint_after, turns_after, SocketRun, schedule_of}
 use Rattle.dcsctp_refinement.specs.Agreement.{AreUsable}
 
@@ -53,19 +52,26 @@ connections (connected ∷ events) = suc (connections events)
 connections (event ∷ events) = connections events
 
 -- The side has connected once, and is Established with this pair and peer.
-pub record IsConnected (mine theirs : Options) (turns : List Outcome) (my peer : Pair) : Type 0 where
+pub record IsConnected (mine theirs : Options) (turns : List Turned) (my peer : Pair) : Type 0 where
   pub core : (endpoint_after mine turns).core ≡ open_in established my (new_held my peer (negotiated (offer_of mine) (offer_of theirs)))
   pub once : connections (events_of turns) ≡ 1
 
 -- Both are, and crossed.
-pub record AreConnected (options : Both Options) (turns : Both (List Outcome)) : Type 0 where
+pub record AreConnected (options : Both Options) (turns : Both (List Turned)) : Type 0 where
   pub a_pair : Pair
   pub b_pair : Pair
   pub a : IsConnected options.a options.b turns.a a_pair b_pair
   pub b : IsConnected options.b options.a turns.b b_pair a_pair
 
+-- At the end of each part of the run, from its beginning on, whose steps are those of the handshake, both are connected:
+-- so they were connected after the first five steps, whatever came later.
+abbrev pub ConnectThroughout : Both Options → Side → List Worked → Type 0
+ConnectThroughout options side [] = Unit {0}
+ConnectThroughout options side (worked ∷ earlier) =
+    (schedule_of (worked ∷ earlier) ≡ reverse (handshake side) → AreConnected options (turns_after (worked ∷ earlier)))
+    × ConnectThroughout options side earlier
+
 abbrev pub FittingSocketsConnect : Type 0
 FittingSocketsConnect =
     (options : Both Options) (side : Side) (run : List Worked) → AreUsable options → AreFitting options → SocketRun options run
-    → schedule_of run ≡ reverse (handshake side)
-    → AreConnected options (turns_after run)
+    → ConnectThroughout options side run

@@ -1,2 +1,4 @@
 pub mod Agreement
 pub mod Handshake
+pub mod Laws
+pub mod OneSocket

@@ -2,8 +2,12 @@
 
 ghost use Rattle.dcsctp_refinement.specs.Agreement.{SocketsAgree};
 ghost use Rattle.dcsctp_refinement.specs.Handshake.{FittingSocketsConnect};
+ghost use Rattle.dcsctp_refinement.specs.Laws.{SocketLaws};
+ghost use Rattle.dcsctp_refinement.specs.OneSocket.{SocketEffectsInPlace, SocketRequestsEndByAnswers};
 
-use dcsctp_agreement::{effects_mean, sides_agree};
+use dcsctp_agreement::{
+    answers_end_requests, effects_in_place, effects_mean, sides_agree, sides_run_alone,
+};
 use dcsctp_machine::{
     acts_are_controlled, admitted_packets_may_be_worked, answer_keeps_agreement, cookie_reads_back,
     offer_reads_back, packets_are_controlled,
@@ -12,7 +16,7 @@ use dcsctp_wire::{built_packet_reads_as_itself, built_packet_reads_back};
 
 /// Two sockets agree, over every schedule that loses, repeats, delays and reorders their packets: each
 /// OnConnected finds that the other holds, or held, the crossed association with what the two have in
-/// common.
+/// common; each own request to reset streams that was performed finds that the other performed it.
 pub fn sockets_agree()
     ensures { SocketsAgree }
 {
@@ -35,4 +39,38 @@ pub fn fitting_sockets_connect()
     offer_reads_back();
     answer_keeps_agreement();
     cookie_reads_back();
+}
+
+/// What each socket of a run noted stands in its place: one holding connects at most once, the numbers of
+/// requests go up by one, and each accepted request is performed at most once (RFC 6525, section 4.1).
+pub fn socket_effects_in_place()
+    ensures { SocketEffectsInPlace }
+{
+    effects_in_place();
+    sides_run_alone();
+    effects_mean();
+    acts_are_controlled();
+    packets_are_controlled();
+    admitted_packets_may_be_worked();
+    offer_reads_back();
+    built_packet_reads_as_itself();
+}
+
+/// An own request of a socket ends in the turn of an answer with its number, and in no other (RFC 6525,
+/// section 5.2.7).
+pub fn socket_requests_end_by_answers()
+    ensures { SocketRequestsEndByAnswers }
+{
+    answers_end_requests();
+    acts_are_controlled();
+}
+
+/// All that holds of the sockets of a run: the four theorems above.
+pub fn socket_laws()
+    ensures { SocketLaws }
+{
+    sockets_agree();
+    fitting_sockets_connect();
+    socket_effects_in_place();
+    socket_requests_end_by_answers();
 }

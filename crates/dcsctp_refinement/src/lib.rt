@@ -4,4 +4,7 @@
 
 mod laws;
 
-pub use laws::{fitting_sockets_connect, sockets_agree};
+pub use laws::{
+    fitting_sockets_connect, socket_effects_in_place, socket_laws, socket_requests_end_by_answers,
+    sockets_agree,
+};

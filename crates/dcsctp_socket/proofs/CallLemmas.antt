@@ -10,8 +10,8 @@ use Rattle.dcsctp_machine.specs.Packet.{packet_in, Emission}
 use Rattle.dcsctp_machine.specs.Admission.{Admission, refused, admits}
 use Rattle.dcsctp_machine.specs.Endpoint.{Endpoint, Core}
 use Rattle.dcsctp_machine.specs.Outcome.{Outcome}
-use Rattle.dcsctp_machine.specs.Turn.{Turn, refusal, arrival_outcome, refusal_outcome, unreadable_text}
-use Rattle.dcsctp_machine.specs.CallTurns.{AdmittedTurns, HandleInput, unreadable, readable, FirstAdmitted, CutInput, unread, read, events_of}
+use Rattle.dcsctp_machine.specs.Turn.{arrival, refusal, arrival_outcome, refusal_outcome, unreadable_text}
+use Rattle.dcsctp_machine.specs.CallTurns.{Turned, turned, AdmittedTurns, HandleInput, unreadable, readable, FirstAdmitted, CutInput, unread, read, events_of}
 use Rattle.dcsctp_api.specs.Calls.{AddsFront, user_event}
 use Rattle.dcsctp_machine.proofs.TurnLemmas.{events_of-append}
 use Rattle.dcsctp_core.specs.View.{View, call_start, Moves, MovesAll, CutTurn}
@@ -19,58 +19,65 @@ use Rattle.dcsctp_wire.specs.declared.packet.WireOptions.{WireOptions}
 use Rattle.dcsctp_socket.specs.Parts.{PacketMoves, InputMoves, PacketCut, InputCut}
 use Rattle.dcsctp_core.proofs.Moving.{moves_one, moves_then}
 
+-- the turn of a packet that is handed in, and of one that is refused
+abbrev arrived : Endpoint → Turned
+arrived e = turned arrival (arrival_outcome e)
+
+abbrev reported : Endpoint → List ℕ → Turned
+reported e text = turned (refusal text) (refusal_outcome e text)
+
 -- A packet that isn't admitted has one turn.
 pub refused_packet : {R : Type 0} (stream : R → Stream) (a b : View R) (packet : PacketContent) (text : List ℕ)
     → admits a.endpoint.core (packet_in packet) ≡ refused text → Moves stream a (refusal_outcome a.endpoint text) b
     → PacketMoves stream packet a b
 refused_packet stream a b packet text is moves =
     record {
-      outcomes = refusal_outcome a.endpoint text ∷ [];
-      turns = subst (λ (x : Admission). AdmittedTurns a.endpoint (packet_in packet) x (refusal_outcome a.endpoint text ∷ [])) (sym is) (refl, tt);
-      moves = moves_one stream a b (refusal_outcome a.endpoint text) moves;
+      turns = reported a.endpoint text ∷ [];
+      are = subst (λ (x : Admission). AdmittedTurns a.endpoint (packet_in packet) x (reported a.endpoint text ∷ [])) (sym is) (record { is = refl; comes = refl }, tt);
+      moves = moves_one stream a b (reported a.endpoint text) moves;
     }
 
 -- After the packet was counted, the rest of the call follows.
-counted_then : {R : Type 0} (stream : R → Stream) (a b c : View R) (outcomes : List Outcome)
-    → Moves stream a (arrival_outcome a.endpoint) b → MovesAll stream b outcomes c → MovesAll stream a (arrival_outcome a.endpoint ∷ outcomes) c
-counted_then stream a b c outcomes counted moves =
-    moves_then stream a b c (arrival_outcome a.endpoint ∷ []) outcomes refl (moves_one stream a b (arrival_outcome a.endpoint) counted) moves
+counted_then : {R : Type 0} (stream : R → Stream) (a b c : View R) (turns : List Turned)
+    → Moves stream a (arrival_outcome a.endpoint) b → MovesAll stream b turns c → MovesAll stream a (arrived a.endpoint ∷ turns) c
+counted_then stream a b c turns counted moves =
+    moves_then stream a b c (arrived a.endpoint ∷ []) turns refl (moves_one stream a b (arrived a.endpoint) counted) moves
 
 -- a call with bytes that are no packet
 pub unreadable_call : {R : Type 0} (stream : R → Stream) (a b c : View R) (bytes : List ℕ)
     → ((packet : PacketContent) → IsPacket (wire_options a.endpoint.options) packet bytes → ⊥)
     → Moves stream a (arrival_outcome a.endpoint) b → Moves stream b (refusal_outcome b.endpoint unreadable_text) c
-    → (outcomes : List Outcome) × HandleInput a.endpoint bytes outcomes × MovesAll stream a outcomes c
+    → (turns : List Turned) × HandleInput a.endpoint bytes turns × MovesAll stream a turns c
 unreadable_call stream a b c bytes none counted moves =
-    let rest = refusal_outcome b.endpoint unreadable_text in
-    let turn : Turn (arrival_outcome a.endpoint).after (refusal unreadable_text) rest = ap (λ (e : Endpoint). refusal_outcome e unreadable_text) counted.endpoint in (
-      arrival_outcome a.endpoint ∷ rest ∷ [],
-      unreadable (arrival_outcome a.endpoint ∷ rest ∷ []) none (refl, (turn, tt)),
+    let rest : Turned = reported b.endpoint unreadable_text in
+    let turn : rest.outcome ≡ refusal_outcome (arrival_outcome a.endpoint).after unreadable_text = ap (λ (e : Endpoint). refusal_outcome e unreadable_text) counted.endpoint in (
+      arrived a.endpoint ∷ rest ∷ [],
+      unreadable (arrived a.endpoint ∷ rest ∷ []) none (record { is = refl; comes = refl }, (record { is = refl; comes = turn }, tt)),
       counted_then stream a b c (rest ∷ []) counted (moves_one stream b c rest moves),
     )
 
 -- a call with a packet
-pub readable_call : {R : Type 0} (stream : R → Stream) (a b c : View R) (bytes : List ℕ) (packet : PacketContent) (outcomes : List Outcome)
+pub readable_call : {R : Type 0} (stream : R → Stream) (a b c : View R) (bytes : List ℕ) (packet : PacketContent) (turns : List Turned)
     → IsPacket (wire_options a.endpoint.options) packet bytes
     → Moves stream a (arrival_outcome a.endpoint) b
-    → AdmittedTurns b.endpoint (packet_in packet) (admits a.endpoint.core (packet_in packet)) outcomes
-    → MovesAll stream b outcomes c
-    → (all : List Outcome) × HandleInput a.endpoint bytes all × MovesAll stream a all c
-readable_call stream a b c bytes packet outcomes found counted turns moves = (
-  arrival_outcome a.endpoint ∷ outcomes,
-  readable packet (arrival_outcome a.endpoint) outcomes found refl
-      (subst (λ (e : Endpoint). AdmittedTurns e (packet_in packet) (admits a.endpoint.core (packet_in packet)) outcomes) counted.endpoint turns),
-  counted_then stream a b c outcomes counted moves,
+    → AdmittedTurns b.endpoint (packet_in packet) (admits a.endpoint.core (packet_in packet)) turns
+    → MovesAll stream b turns c
+    → (all : List Turned) × HandleInput a.endpoint bytes all × MovesAll stream a all c
+readable_call stream a b c bytes packet turns found counted are moves = (
+  arrived a.endpoint ∷ turns,
+  readable packet (arrived a.endpoint) turns found (record { is = refl; comes = refl })
+      (subst (λ (e : Endpoint). AdmittedTurns e (packet_in packet) (admits a.endpoint.core (packet_in packet)) turns) counted.endpoint are),
+  counted_then stream a b c turns counted moves,
 )
 
 -- ---- from what the code has in hand
 
 -- the turns of a whole call from one view to another
 abbrev Called : {R : Type 0} → (R → Stream) → List ℕ → View R → View R → Type 0
-Called stream bytes a c = (outcomes : List Outcome) × HandleInput a.endpoint bytes outcomes × MovesAll stream a outcomes c
+Called stream bytes a c = (turns : List Turned) × HandleInput a.endpoint bytes turns × MovesAll stream a turns c
 
 called_input : {R : Type 0} (stream : R → Stream) (bytes : List ℕ) (old new : View R) → Called stream bytes (call_start old) new → InputMoves stream bytes old new
-called_input stream bytes old new called = record { outcomes = called.0; turns = called.1; moves = called.2 }
+called_input stream bytes old new called = record { turns = called.0; are = called.1; moves = called.2 }
 
 -- the reader's options are those of the endpoint that counted the packet
 options_of : {R : Type 0} (stream : R → Stream) (a b : View R) (options : WireOptions) → Moves stream a (arrival_outcome a.endpoint) b → options ≡ wire_options b.endpoint.options → options ≡ wire_options a.endpoint.options
@@ -84,9 +91,9 @@ pub readable_input : {R : Type 0} (stream : R → Stream) (old a b c : View R) (
     → InputMoves stream bytes old c
 readable_input {R = R} stream old a b c bytes packet options begins counted is found same worked =
     let here : IsPacket (wire_options a.endpoint.options) packet bytes = subst (λ (o : WireOptions). IsPacket o packet bytes) (options_of stream a b options counted is) found in
-    let turns : AdmittedTurns b.endpoint (packet_in packet) (admits a.endpoint.core (packet_in packet)) worked.outcomes =
-    subst (λ (core : Core). AdmittedTurns b.endpoint (packet_in packet) (admits core (packet_in packet)) worked.outcomes) same worked.turns in
-    called_input stream bytes old c (subst (λ (v : View R). Called stream bytes v c) begins (readable_call stream a b c bytes packet worked.outcomes here counted turns worked.moves))
+    let are : AdmittedTurns b.endpoint (packet_in packet) (admits a.endpoint.core (packet_in packet)) worked.turns =
+    subst (λ (core : Core). AdmittedTurns b.endpoint (packet_in packet) (admits core (packet_in packet)) worked.turns) same worked.are in
+    called_input stream bytes old c (subst (λ (v : View R). Called stream bytes v c) begins (readable_call stream a b c bytes packet worked.turns here counted are worked.moves))
 
 pub unreadable_input : {R : Type 0} (stream : R → Stream) (old a b c : View R) (bytes : List ℕ) (options : WireOptions) (text : List ℕ)
     → a ≡ call_start old → Moves stream a (arrival_outcome a.endpoint) b → options ≡ wire_options b.endpoint.options
@@ -104,12 +111,13 @@ adds_none : (ports : Ports) (events : List (Event (List ℕ))) → AddsFront por
 adds_none ports events = record { added = []; rest = []; behind = sym (append-nil events); front = refl }
 
 -- The turns so far were finished, and the one after them was cut.
-pub adds_cut : {R : Type 0} (stream : R → Stream) (a b : View R) (outcomes : List Outcome) (outcome : Outcome) (events : List (Event (List ℕ)))
+pub adds_cut : {R : Type 0} (stream : R → Stream) (a b : View R) (turns : List Turned) (turn : Turned) (events : List (Event (List ℕ)))
     → ports_of b.endpoint.options ≡ ports_of a.endpoint.options
-    → MovesAll stream a outcomes b → CutTurn b outcome events → AddsFront (ports_of a.endpoint.options) (outcomes ++ outcome ∷ []) a.events events
-adds_cut stream a b outcomes outcome events same moves cut =
+    → MovesAll stream a turns b → CutTurn b turn.outcome events → AddsFront (ports_of a.endpoint.options) (turns ++ turn ∷ []) a.events events
+adds_cut stream a b turns turn events same moves cut =
+    let outcome : Outcome = turn.outcome in
     let ports = ports_of a.endpoint.options in
-    let before : List (Event (List ℕ)) = map (user_event ports) (events_of outcomes) in
+    let before : List (Event (List ℕ)) = map (user_event ports) (events_of turns) in
     let last : List (Event (List ℕ)) = map (user_event ports) outcome.events in
     record {
       added = before ++ take cut.count last;
@@ -120,14 +128,24 @@ adds_cut stream a b outcomes outcome events same moves cut =
           ∙ append_assoc a.events before (take cut.count last);
       front = append_assoc before (take cut.count last) (drop cut.count last)
           ∙ ap (λ (es : List (Event (List ℕ))). before ++ es) (take-append-drop cut.count last)
-          ∙ sym (map-append (user_event ports) (events_of outcomes) outcome.events)
-          ∙ ap (λ (es : List (Event Emission)). map (user_event ports) (events_of outcomes ++ es)) (sym (append-nil outcome.events))
-          ∙ ap (λ (es : List (Event Emission)). map (user_event ports) es) (sym (events_of-append outcomes (outcome ∷ [])));
+          ∙ sym (map-append (user_event ports) (events_of turns) outcome.events)
+          ∙ ap (λ (es : List (Event Emission)). map (user_event ports) (events_of turns ++ es)) (sym (append-nil outcome.events))
+          ∙ ap (λ (es : List (Event Emission)). map (user_event ports) es) (sym (events_of-append turns (turn ∷ [])));
+    }
+
+-- a turn in front that adds no event
+pub adds_begun : (ports : Ports) (first : Turned) (turns : List Turned) (old new : List (Event (List ℕ))) → first.outcome.events ≡ [] → AddsFront ports turns old new → AddsFront ports (first ∷ turns) old new
+adds_begun ports first turns old new quiet adds =
+    record {
+      added = adds.added;
+      rest = adds.rest;
+      behind = adds.behind;
+      front = adds.front ∙ ap (λ (es : List (Event Emission)). map (user_event ports) (es ++ events_of turns)) (sym quiet);
     }
 
 pub unread_cut : {R : Type 0} (view : View R) (bytes : List ℕ) (events : List (Event (List ℕ))) → events ≡ view.events → InputCut bytes view events
 unread_cut view bytes events same =
-    record { outcomes = []; turns = unread; adds = subst (λ (es : List (Event (List ℕ))). AddsFront (ports_of view.endpoint.options) [] view.events es) (sym same) (adds_none (ports_of view.endpoint.options) view.events) }
+    record { turns = []; are = unread; adds = subst (λ (es : List (Event (List ℕ))). AddsFront (ports_of view.endpoint.options) [] view.events es) (sym same) (adds_none (ports_of view.endpoint.options) view.events) }
 
 -- Counting a packet adds no event.
 pub counted_events : {R : Type 0} (stream : R → Stream) (old a b : View R) → a ≡ call_start old → Moves stream a (arrival_outcome a.endpoint) b → b.events ≡ old.events
@@ -136,28 +154,28 @@ counted_events {R = R} stream old a b begins counted = counted.events ∙ append
 -- a call that was cut, with the turns that it had
 abbrev Cut : {R : Type 0} → List ℕ → View R → List (Event (List ℕ)) → Type 0
 Cut bytes view events =
-    (outcomes : List Outcome) × CutInput view.endpoint bytes outcomes × AddsFront (ports_of view.endpoint.options) outcomes view.events events
+    (turns : List Turned) × CutInput view.endpoint bytes turns × AddsFront (ports_of view.endpoint.options) turns view.events events
 
 input_cut : {R : Type 0} (bytes : List ℕ) (old : View R) (events : List (Event (List ℕ))) → Cut bytes (call_start old) events → InputCut bytes old events
-input_cut bytes old events cut = record { outcomes = cut.0; turns = cut.1; adds = cut.2 }
+input_cut bytes old events cut = record { turns = cut.0; are = cut.1; adds = cut.2 }
 
 -- the packet was counted before, which adds no event
 counted_cut : {R : Type 0} (stream : R → Stream) (a b : View R) (bytes : List ℕ) (packet : PacketContent) (events : List (Event (List ℕ)))
     → IsPacket (wire_options a.endpoint.options) packet bytes → Moves stream a (arrival_outcome a.endpoint) b
     → b.endpoint.core ≡ a.endpoint.core → PacketCut packet b events → Cut bytes a events
 counted_cut stream a b bytes packet events found counted same cut =
-    let here : FirstAdmitted b.endpoint (packet_in packet) (admits a.endpoint.core (packet_in packet)) cut.outcomes =
-    subst (λ (core : Core). FirstAdmitted b.endpoint (packet_in packet) (admits core (packet_in packet)) cut.outcomes) same cut.turns in
+    let here : FirstAdmitted b.endpoint (packet_in packet) (admits a.endpoint.core (packet_in packet)) cut.turns =
+    subst (λ (core : Core). FirstAdmitted b.endpoint (packet_in packet) (admits core (packet_in packet)) cut.turns) same cut.are in
     let ports : ports_of b.endpoint.options ≡ ports_of a.endpoint.options = ap (λ (e : Endpoint). ports_of e.options) counted.endpoint in
     let waiting : b.events ≡ a.events = counted.events ∙ append-nil a.events in (
-      arrival_outcome a.endpoint ∷ cut.outcomes,
-      read packet (arrival_outcome a.endpoint) cut.outcomes found refl
-          (subst (λ (e : Endpoint). FirstAdmitted e (packet_in packet) (admits a.endpoint.core (packet_in packet)) cut.outcomes) counted.endpoint here),
+      arrived a.endpoint ∷ cut.turns,
+      read packet (arrived a.endpoint) cut.turns found (record { is = refl; comes = refl })
+          (subst (λ (e : Endpoint). FirstAdmitted e (packet_in packet) (admits a.endpoint.core (packet_in packet)) cut.turns) counted.endpoint here),
       record {
         added = cut.adds.added;
         rest = cut.adds.rest;
         behind = cut.adds.behind ∙ ap (λ (es : List (Event (List ℕ))). es ++ cut.adds.added) waiting;
-        front = cut.adds.front ∙ ap (λ (p : Ports). map (user_event p) (events_of cut.outcomes)) ports;
+        front = cut.adds.front ∙ ap (λ (p : Ports). map (user_event p) (events_of cut.turns)) ports;
       },
     )
 

@@ -3,29 +3,34 @@ use Rattle.std.proofs.Common.{◌≡◌, ℕ, Bool, true, false, List, [], ◌�
 use Rattle.std.proofs.lemmas.List.{append-nil}
 use Rattle.rand_core.specs.Stream.{Stream}
 use Rattle.dcsctp_machine.specs.Event.{Event}
-use Rattle.dcsctp_machine.specs.Packet.{Introduction, Content, init, other}
+use Rattle.dcsctp_machine.specs.Packet.{Introduction, Content, init, cookie_ack, plain, written}
 use Rattle.dcsctp_machine.specs.Outcome.{Outcome, still}
-use Rattle.dcsctp_machine.specs.Turn.{ContentTurn}
-use Rattle.dcsctp_machine.specs.turns.Handshake.{init_outcome}
+use Rattle.dcsctp_machine.specs.Turn.{ContentTurn, act_input}
+use Rattle.dcsctp_machine.specs.Endpoint.{Endpoint, Core, closed, cookie_wait, cookie_echoed, open_in}
+use Rattle.dcsctp_machine.specs.Following.{next_chunk}
+use Rattle.dcsctp_machine.specs.control.Acts.{connect}
+use Rattle.dcsctp_machine.specs.CallTurns.{Turned, turned}
+use Rattle.dcsctp_machine.specs.turns.HandshakeOutcomes.{init_outcome, cookie_ack_outcome}
+use Rattle.dcsctp_machine.proofs.FlushLemmas.{cookie_ack_turn_of}
 use Rattle.dcsctp_api.specs.declared.errors.SocketFault.{SocketFault}
 use Rattle.dcsctp_api.specs.Calls.{UserView, Connects, Follows, FailsWhole}
 use Rattle.dcsctp_core.specs.declared.following.Following.TheVariants.{NextChunk}
 use Rattle.dcsctp_core.specs.declared.context.Context.{Context}
 use Rattle.dcsctp_core.specs.declared.following.Following.{Following}
-use Rattle.dcsctp_core.specs.View.{View, endpoint_of, view_of, call_start, Moves}
+use Rattle.dcsctp_core.specs.View.{View, endpoint_of, view_of, call_start, Moves, CutTurn}
 use Rattle.dcsctp_core.specs.Drawing.{first_word, second_word}
 use Rattle.dcsctp_core.specs.Handling.{OnlyDrew, Works, WorksWhole}
 use Rattle.dcsctp_core.proofs.Moving.{moves_one, moves_still}
-use Rattle.dcsctp_handshake.specs.Handshake.{connect_turn}
+use Rattle.dcsctp_handshake.specs.Handshake.{connect_turn, cookie_ack_turn}
 use Rattle.dcsctp_socket.specs.Parts.{ChunkMoves, ChunkCut, ConnectMoves, WorksChunk, WorksConnect}
 use Rattle.dcsctp_socket.specs.SocketView.{Settles, user_view_of}
 
 -- ---- a chunk of another kind
 
 -- Nothing happens, and the chunk after it has its turn.
-pub other_worked : {R : Type 0} (stream : R → Stream) (view : View R) (tag chunk_type flags : ℕ) (value : List ℕ)
-    → ChunkMoves stream tag (other chunk_type flags value) view NextChunk view
-other_worked stream view tag chunk_type flags value =
+pub written_worked : {R : Type 0} (stream : R → Stream) (view : View R) (tag chunk_type flags : ℕ) (value : List ℕ)
+    → ChunkMoves stream tag (plain (written chunk_type flags value)) view NextChunk view
+written_worked stream view tag chunk_type flags value =
     record {
       outcome = still view.endpoint;
       turn = refl;
@@ -55,15 +60,31 @@ pub init_cut : {R : Type 0} (old new : View R) (tag : ℕ) (theirs : Introductio
 init_cut {R = R} old new tag theirs same =
     cut_before old tag (init theirs) (init_outcome old.endpoint theirs old.endpoint.core 0 0) new.events (0, 0, refl) (ap (λ (v : View R). v.events) same)
 
+-- ---- COOKIE ACK
+
+-- whatever the association is, the next chunk follows
+goes_on : (e : Endpoint) (core : Core) → (cookie_ack_outcome e core).following ≡ next_chunk
+goes_on e closed = refl
+goes_on e (cookie_wait mine) = refl
+goes_on e (cookie_echoed mine held cookie) = refl
+goes_on e (open_in phase mine held) = refl
+
+pub acknowledged_chunk : {R : Type 0} (stream : R → Stream) (old new : View R) (tag : ℕ) → Moves stream old (cookie_ack_turn old) new → ChunkMoves stream tag cookie_ack old NextChunk new
+acknowledged_chunk stream old new tag moves =
+    record { outcome = cookie_ack_turn old; turn = cookie_ack_turn_of old.endpoint (cookie_ack_turn old) refl; following = goes_on old.endpoint old.endpoint.core; moves = moves }
+
+pub acknowledged_cut : {R : Type 0} (old : View R) (tag : ℕ) (events : List (Event (List ℕ))) → CutTurn old (cookie_ack_turn old) events → ChunkCut tag cookie_ack old events
+acknowledged_cut old tag events cut = record { outcome = cookie_ack_turn old; turn = cookie_ack_turn_of old.endpoint (cookie_ack_turn old) refl; cut = cut }
+
 -- ---- connect
 
 pub connect_moves : {R : Type 0} (stream : R → Stream) (old start new : View R) → start ≡ call_start old
     → Moves stream start (connect_turn stream start) new → ConnectMoves stream old new
 connect_moves {R = R} stream old start new begins moves =
-    let turn = connect_turn stream (call_start old) in
+    let turn : Turned = turned (act_input connect) (connect_turn stream (call_start old)) in
     record {
-      outcomes = turn ∷ [];
-      turns = ((first_word (stream old.generator), second_word (stream old.generator), refl), tt);
+      turns = turn ∷ [];
+      are = (record { is = refl; comes = (first_word (stream old.generator), second_word (stream old.generator), refl) }, tt);
       moves = moves_one stream (call_start old) new turn (subst (λ (v : View R). Moves stream v (connect_turn stream v) new) begins moves);
     }
 
@@ -72,7 +93,7 @@ pub connects : {R E : Type 0} (stream : R → Stream) (old new : Context R) (fai
     → failed ≡ false → WorksConnect stream old result new → Settles failed result answer fails
     → Connects (user_view_of (record { view = view_of old; failed = failed })) answer (user_view_of (record { view = view_of new; failed = fails }))
 connects stream old new failed fails (Ok done) answer runs worked settled =
-    let then : Follows (user_view_of (record { view = view_of old; failed = failed })) worked.outcomes (user_view_of (record { view = view_of new; failed = fails })) =
+    let then : Follows (user_view_of (record { view = view_of old; failed = failed })) worked.turns (user_view_of (record { view = view_of new; failed = fails })) =
     record {
       runs = runs;
       goes_on = settled.1 ∙ runs;
@@ -82,7 +103,7 @@ connects stream old new failed fails (Ok done) answer runs worked settled =
       pairs = worked.moves.pairs;
     } in
     subst (λ (a : Result (Unit {0}) SocketFault). Connects (user_view_of (record { view = view_of old; failed = failed })) a (user_view_of (record { view = view_of new; failed = fails })))
-    (sym settled.0) (worked.outcomes, worked.turns, then)
+    (sym settled.0) (worked.turns, worked.are, then)
 connects {R = R} stream old new failed fails (Err error) answer runs same settled =
     let was : UserView = user_view_of (record { view = view_of old; failed = failed }) in
     let now : UserView = user_view_of (record { view = view_of new; failed = fails }) in

@@ -1,14 +1,21 @@
 -- The chunks of a packet are worked one after another.
-use Rattle.std.proofs.Common.{◌≡◌, ℕ, ◌+◌, ◌<◌, List, [], ◌∷◌, ◌++◌, length, map, take, drop, get_or, refl, sym, ap, subst, ◌∙◌, append_assoc}
+use Rattle.std.proofs.Common.{◌≡◌, ℕ, Bool, ◌+◌, ◌<◌, List, [], ◌∷◌, ◌++◌, length, map, take, drop, get_or, refl, sym, ap, subst, ◌∙◌, append_assoc}
 use Rattle.std.proofs.lemmas.List.{take_more, take-map, map-append, take-append-drop}
 use Rattle.dcsctp_wire.specs.declared.chunk.Chunk.{Chunk}
 use Rattle.dcsctp_wire.specs.Content.{ChunkContent, chunk_content}
 use Rattle.dcsctp_machine.specs.Packet.{Content, content_in}
 use Rattle.dcsctp_machine.specs.Endpoint.{Endpoint}
-use Rattle.dcsctp_machine.specs.Outcome.{Outcome, Following, dropped_rest}
-use Rattle.dcsctp_machine.specs.Turn.{ContentTurn}
-use Rattle.dcsctp_machine.specs.CallTurns.{AfterChunk, ChunkTurns, FirstTurns, after_all}
-use Rattle.dcsctp_machine.proofs.TurnLemmas.{GoOn, chunk_turns-push}
+use Rattle.dcsctp_machine.specs.Outcome.{Outcome, still}
+use Rattle.dcsctp_machine.specs.Settings.{ports_of}
+use Rattle.dcsctp_machine.specs.Following.{dropped_rest}
+use Rattle.dcsctp_machine.specs.Turn.{packet_begins, chunk_input, packet_ends, BeginTurn, ContentTurn}
+use Rattle.dcsctp_machine.specs.CallTurns.{Turned, turned, IsTurn, Turns, ChunkTurns, FirstTurns, after_all}
+use Rattle.dcsctp_machine.proofs.TurnLemmas.{GoOn, chunk_turns-push, chunk_turns-end, chunk_turns-whole}
+use Rattle.rand_core.specs.Stream.{Stream}
+use Rattle.dcsctp_core.specs.declared.state.State.{State}
+use Rattle.dcsctp_core.specs.declared.state.State.TheVariants.{Closed, CookieWait, CookieEchoed, Established}
+use Rattle.dcsctp_core.specs.View.{View, core_of, MovesAll}
+use Rattle.dcsctp_core.proofs.Moving.{moves_one, moves_then, moves_still}
 
 -- what the chunks of a packet say
 abbrev pub contents_of : List Chunk → List Content
@@ -34,47 +41,71 @@ contents_split chunks i chunk below is =
     ∙ ap (λ (cs : List Content). cs ++ after) (contents_more chunks i chunk below is)
     ∙ append_assoc (contents_of (take i chunks)) (content_in (chunk_content chunk) ∷ []) after
 
+-- a chunk's turn
+abbrev pub worked_as : ℕ → Content → Outcome → Turned
+worked_as tag content outcome = turned (chunk_input tag content) outcome
+
+is_worked : (e now : Endpoint) (tag : ℕ) (content : Content) (outcome : Outcome) → now ≡ e → ContentTurn now tag content outcome → IsTurn e (chunk_input tag content) (worked_as tag content outcome)
+is_worked e now tag content outcome here turn = record { is = refl; comes = subst (λ (x : Endpoint). ContentTurn x tag content outcome) here turn }
+
 -- One more chunk is worked.
-pub turns_more : (e now : Endpoint) (tag : ℕ) (chunks : List Chunk) (i : ℕ) (chunk : Chunk) (outcomes : List Outcome) (outcome : Outcome)
+pub turns_more : (e now : Endpoint) (tag : ℕ) (chunks : List Chunk) (i : ℕ) (chunk : Chunk) (turns : List Turned) (outcome : Outcome)
     → i < length chunks → chunk ≡ get_or chunks i chunk
-    → GoOn outcomes → ChunkTurns e tag (contents_of (take i chunks)) outcomes
-    → now ≡ after_all e outcomes
+    → GoOn turns → ChunkTurns e tag (contents_of (take i chunks)) [] turns
+    → now ≡ after_all e turns
     → ContentTurn now tag (content_in (chunk_content chunk)) outcome
-    → ChunkTurns e tag (contents_of (take (i + 1) chunks)) (outcomes ++ outcome ∷ [])
-turns_more e now tag chunks i chunk outcomes outcome below is goes_on turns here turn =
-    subst (λ (contents : List Content). ChunkTurns e tag contents (outcomes ++ outcome ∷ [])) (sym (contents_more chunks i chunk below is))
-    (chunk_turns-push e tag (contents_of (take i chunks)) outcomes (content_in (chunk_content chunk)) outcome goes_on turns
-    (subst (λ (x : Endpoint). ContentTurn x tag (content_in (chunk_content chunk)) outcome) here turn))
+    → ChunkTurns e tag (contents_of (take (i + 1) chunks)) [] (turns ++ worked_as tag (content_in (chunk_content chunk)) outcome ∷ [])
+turns_more e now tag chunks i chunk turns outcome below is goes_on are here turn =
+    let content = content_in (chunk_content chunk) in
+    subst (λ (contents : List Content). ChunkTurns e tag contents [] (turns ++ worked_as tag content outcome ∷ [])) (sym (contents_more chunks i chunk below is))
+    (chunk_turns-push e tag (contents_of (take i chunks)) turns content (worked_as tag content outcome) goes_on are
+    (is_worked (after_all e turns) now tag content outcome here turn))
 
 -- ---- where the rest of the packet is dropped
 
--- The chunks behind a last one that says so have no turn.
-chunk_turns-end : (e : Endpoint) (tag : ℕ) (contents : List Content) (os : List Outcome) (content : Content) (o : Outcome) (rest : List Content)
-    → GoOn os → ChunkTurns e tag contents os → ContentTurn (after_all e os) tag content o → o.following ≡ dropped_rest
-    → ChunkTurns e tag (contents ++ content ∷ rest) (os ++ o ∷ [])
-chunk_turns-end e tag [] [] content o rest goes_on turns turn drops =
-    let none : List Outcome = [] in
-    (turn, subst (λ (f : Following). AfterChunk f (ChunkTurns o.after tag rest none) (none ≡ [])) (sym drops) refl)
-chunk_turns-end e tag [] (p ∷ os) content o rest goes_on turns turn drops = absurd turns
-chunk_turns-end e tag (c ∷ contents) [] content o rest goes_on turns turn drops = absurd turns
-chunk_turns-end e tag (c ∷ contents) (p ∷ os) content o rest goes_on turns turn drops =
-    let behind : ChunkTurns p.after tag contents os = subst (λ (f : Following). AfterChunk f (ChunkTurns p.after tag contents os) (os ≡ [])) goes_on.0 turns.1 in
-    let all : List Content = contents ++ content ∷ rest in
-    let more : ChunkTurns p.after tag all (os ++ o ∷ []) = chunk_turns-end p.after tag contents os content o rest goes_on.1 behind turn drops in
-    (turns.0, subst (λ (f : Following). AfterChunk f (ChunkTurns p.after tag all (os ++ o ∷ [])) (os ++ o ∷ [] ≡ [])) (sym goes_on.0) more)
-
-pub turns_end : (e now : Endpoint) (tag : ℕ) (chunks : List Chunk) (i : ℕ) (chunk : Chunk) (outcomes : List Outcome) (outcome : Outcome)
+pub turns_end : (e now : Endpoint) (tag : ℕ) (chunks : List Chunk) (i : ℕ) (chunk : Chunk) (turns : List Turned) (outcome : Outcome)
     → i < length chunks → chunk ≡ get_or chunks i chunk
-    → GoOn outcomes → ChunkTurns e tag (contents_of (take i chunks)) outcomes
-    → now ≡ after_all e outcomes
+    → GoOn turns → ChunkTurns e tag (contents_of (take i chunks)) [] turns
+    → now ≡ after_all e turns
     → ContentTurn now tag (content_in (chunk_content chunk)) outcome
     → outcome.following ≡ dropped_rest
-    → ChunkTurns e tag (contents_of chunks) (outcomes ++ outcome ∷ [])
-turns_end e now tag chunks i chunk outcomes outcome below is goes_on turns here turn drops =
+    → ChunkTurns e tag (contents_of chunks) (packet_ends ∷ []) (turns ++ worked_as tag (content_in (chunk_content chunk)) outcome ∷ [])
+turns_end e now tag chunks i chunk turns outcome below is goes_on are here turn drops =
     let content = content_in (chunk_content chunk) in
-    subst (λ (contents : List Content). ChunkTurns e tag contents (outcomes ++ outcome ∷ [])) (sym (contents_split chunks i chunk below is))
-    (chunk_turns-end e tag (contents_of (take i chunks)) outcomes content outcome (contents_of (drop (i + 1) chunks)) goes_on turns
-    (subst (λ (x : Endpoint). ContentTurn x tag content outcome) here turn) drops)
+    subst (λ (contents : List Content). ChunkTurns e tag contents (packet_ends ∷ []) (turns ++ worked_as tag content outcome ∷ [])) (sym (contents_split chunks i chunk below is))
+    (chunk_turns-end e tag (contents_of (take i chunks)) (packet_ends ∷ []) turns content (worked_as tag content outcome) (contents_of (drop (i + 1) chunks)) goes_on are
+    (is_worked (after_all e turns) now tag content outcome here turn) drops)
+
+-- ---- a whole packet
+
+-- Nothing stands before the chunks in the states that there are.
+pub nothing_before : (e : Endpoint) (state : State) (has : Bool) → BeginTurn e (core_of state) has (still e)
+nothing_before e Closed has = refl
+nothing_before e (CookieWait wait) has = refl
+nothing_before e (CookieEchoed echoed) has = refl
+nothing_before e (Established tcb) has = refl
+
+abbrev pub begun : Endpoint → List Content → Turned
+begun e contents = turned (packet_begins contents) (still e)
+
+abbrev pub ended : Endpoint → Turned
+ended e = turned packet_ends (still e)
+
+-- the chunks' turns behind what stands before them
+pub moves_begun : {R : Type 0} (stream : R → Stream) (a b : View R) (contents : List Content) (turns : List Turned) → MovesAll stream a turns b → MovesAll stream a (begun a.endpoint contents ∷ turns) b
+moves_begun stream a b contents turns m = moves_then stream a a b (begun a.endpoint contents ∷ []) turns refl (moves_one stream a a (begun a.endpoint contents) (moves_still stream a)) m
+
+-- and before the end of the packet, which changes nothing so far
+pub moves_ended : {R : Type 0} (stream : R → Stream) (a b : View R) (turns : List Turned) → ports_of (after_all a.endpoint turns).options ≡ ports_of a.endpoint.options
+    → MovesAll stream a turns b → MovesAll stream a (turns ++ ended b.endpoint ∷ []) b
+moves_ended stream a b turns same m = moves_then stream a b b turns (ended b.endpoint ∷ []) same m (moves_one stream b b (ended b.endpoint) (moves_still stream b))
+
+-- All chunks had their turns, and then the packet ended.
+pub turns_whole : (e now : Endpoint) (tag : ℕ) (contents : List Content) (turns : List Turned) → GoOn turns → ChunkTurns e tag contents [] turns → now ≡ after_all e turns
+    → ChunkTurns e tag contents (packet_ends ∷ []) (turns ++ ended now ∷ [])
+turns_whole e now tag contents turns goes_on are here =
+    chunk_turns-whole e tag contents (packet_ends ∷ []) turns (ended now ∷ []) goes_on are
+    (subst (λ (x : Endpoint). Turns x (packet_ends ∷ []) (ended now ∷ [])) here (record { is = refl; comes = refl }, tt))
 
 -- ---- where a growth was refused
 
@@ -83,6 +114,6 @@ contents_taken count chunks =
     ap (λ (cs : List ChunkContent). map content_in cs) (sym (take-map chunk_content count chunks)) ∙ sym (take-map content_in count (map chunk_content chunks))
 
 -- These chunks are the first ones.
-pub first_turns : (e : Endpoint) (tag : ℕ) (chunks : List Chunk) (count : ℕ) (outcomes : List Outcome)
-    → ChunkTurns e tag (contents_of (take count chunks)) outcomes → FirstTurns e tag (contents_of chunks) outcomes
-first_turns e tag chunks count outcomes turns = (count, subst (λ (contents : List Content). ChunkTurns e tag contents outcomes) (contents_taken count chunks) turns)
+pub first_turns : (e : Endpoint) (tag : ℕ) (chunks : List Chunk) (count : ℕ) (turns : List Turned)
+    → ChunkTurns e tag (contents_of (take count chunks)) [] turns → FirstTurns e tag (contents_of chunks) turns
+first_turns e tag chunks count turns are = (count, subst (λ (contents : List Content). ChunkTurns e tag contents [] turns) (contents_taken count chunks) are)

@@ -9,7 +9,7 @@ use Rattle.dcsctp_machine.specs.Settings.{ports_of}
 use Rattle.dcsctp_machine.specs.Event.{Event}
 use Rattle.dcsctp_machine.specs.Turn.{ContentTurn, act_input}
 use Rattle.dcsctp_machine.specs.control.Acts.{connect}
-use Rattle.dcsctp_machine.specs.CallTurns.{Turns, ChunkTurns, AdmittedTurns, HandleInput, FirstTurns, FirstAdmitted, CutInput}
+use Rattle.dcsctp_machine.specs.CallTurns.{Turned, Turns, WholeTurns, AdmittedTurns, HandleInput, FirstOfWhole, FirstAdmitted, CutInput}
 use Rattle.dcsctp_api.specs.Calls.{AddsFront}
 use Rattle.dcsctp_core.specs.declared.context.Context.{Context}
 use Rattle.dcsctp_core.specs.View.{View, view_of, call_start, Moves, MovesAll, CallMoves, CutTurn}
@@ -23,29 +23,29 @@ pub record ChunkMoves {R : Type 0} (stream : R → Stream) (tag : ℕ) (content 
   pub following : outcome.following ≡ following_of next
   pub moves : Moves stream old outcome new
 
--- The chunks of a packet had their turns.
+-- The chunks of a packet had their turns, between what stands before them and the packet's end.
 pub record ChunksMove {R : Type 0} (stream : R → Stream) (packet : PacketContent) (old new : View R) : Type 0 where
-  pub outcomes : List Outcome
-  pub turns : ChunkTurns old.endpoint (packet_in packet).tag (packet_in packet).contents outcomes
-  pub moves : MovesAll stream old outcomes new
+  pub turns : List Turned
+  pub are : WholeTurns old.endpoint (packet_in packet) turns
+  pub moves : MovesAll stream old turns new
 
 -- A packet that was counted was admitted and worked, or refused.
 pub record PacketMoves {R : Type 0} (stream : R → Stream) (packet : PacketContent) (old new : View R) : Type 0 where
-  pub outcomes : List Outcome
-  pub turns : AdmittedTurns old.endpoint (packet_in packet) (admits old.endpoint.core (packet_in packet)) outcomes
-  pub moves : MovesAll stream old outcomes new
+  pub turns : List Turned
+  pub are : AdmittedTurns old.endpoint (packet_in packet) (admits old.endpoint.core (packet_in packet)) turns
+  pub moves : MovesAll stream old turns new
 
 -- A packet was handed in.
 pub record InputMoves {R : Type 0} (stream : R → Stream) (bytes : List ℕ) (old new : View R) : Type 0 where
-  pub outcomes : List Outcome
-  pub turns : HandleInput old.endpoint bytes outcomes
-  pub moves : CallMoves stream old outcomes new
+  pub turns : List Turned
+  pub are : HandleInput old.endpoint bytes turns
+  pub moves : CallMoves stream old turns new
 
 -- The user connected.
 pub record ConnectMoves {R : Type 0} (stream : R → Stream) (old new : View R) : Type 0 where
-  pub outcomes : List Outcome
-  pub turns : Turns old.endpoint (act_input connect ∷ []) outcomes
-  pub moves : CallMoves stream old outcomes new
+  pub turns : List Turned
+  pub are : Turns old.endpoint (act_input connect ∷ []) turns
+  pub moves : CallMoves stream old turns new
 
 -- ---- where a growth was refused
 
@@ -57,21 +57,21 @@ pub record ChunkCut {R : Type 0} (tag : ℕ) (content : Content) (old : View R) 
 
 -- Some chunks of a packet had their turns.
 pub record ChunksCut {R : Type 0} (packet : PacketContent) (old : View R) (events : List (Event (List ℕ))) : Type 0 where
-  pub outcomes : List Outcome
-  pub turns : FirstTurns old.endpoint (packet_in packet).tag (packet_in packet).contents outcomes
-  pub adds : AddsFront (ports_of old.endpoint.options) outcomes old.events events
+  pub turns : List Turned
+  pub are : FirstOfWhole old.endpoint (packet_in packet) turns
+  pub adds : AddsFront (ports_of old.endpoint.options) turns old.events events
 
 -- A packet that was counted had some of its turns.
 pub record PacketCut {R : Type 0} (packet : PacketContent) (old : View R) (events : List (Event (List ℕ))) : Type 0 where
-  pub outcomes : List Outcome
-  pub turns : FirstAdmitted old.endpoint (packet_in packet) (admits old.endpoint.core (packet_in packet)) outcomes
-  pub adds : AddsFront (ports_of old.endpoint.options) outcomes old.events events
+  pub turns : List Turned
+  pub are : FirstAdmitted old.endpoint (packet_in packet) (admits old.endpoint.core (packet_in packet)) turns
+  pub adds : AddsFront (ports_of old.endpoint.options) turns old.events events
 
 -- A packet was handed in, and the call was cut.
 pub record InputCut {R : Type 0} (bytes : List ℕ) (old : View R) (events : List (Event (List ℕ))) : Type 0 where
-  pub outcomes : List Outcome
-  pub turns : CutInput old.endpoint bytes outcomes
-  pub adds : AddsFront (ports_of old.endpoint.options) outcomes old.events events
+  pub turns : List Turned
+  pub are : CutInput old.endpoint bytes turns
+  pub adds : AddsFront (ports_of old.endpoint.options) turns old.events events
 
 -- ---- by the result of a function
 

@@ -115,7 +115,8 @@ AreCauses = AreItems (IsReadBy cause_of)
 -- Chunks of this type are read by their header alone.
 abbrev pub IsOtherType : ℕ → Type 0
 IsOtherType chunk_type =
-    (chunk_type ≢ init_type) × (chunk_type ≢ init_ack_type) × (chunk_type ≢ abort_type) × (chunk_type ≢ cookie_echo_type) × (chunk_type ≢ cookie_ack_type)
+    (chunk_type ≢ init_type) × (chunk_type ≢ init_ack_type) × (chunk_type ≢ abort_type)
+    × (chunk_type ≢ cookie_echo_type) × (chunk_type ≢ cookie_ack_type)
 
 -- A chunk of this type, flags and value. The flags of the kinds that have none are not looked at, and the value
 -- of a COOKIE ACK (RFC 9260, section 3.3.12) isn't either.

@@ -3,7 +3,10 @@ use Rattle.std.specs.Prelude.{ℕ}
 
 -- ---- chunk types
 
--- RFC 9260, sections 3.3.2, 3.3.3 and 3.3.7 to 3.3.13
+-- RFC 9260, sections 3.3.1 to 3.3.3 and 3.3.7 to 3.3.13
+abbrev pub data_type : ℕ
+data_type = 0
+
 abbrev pub init_type : ℕ
 init_type = 1
 

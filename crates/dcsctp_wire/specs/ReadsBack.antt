@@ -120,5 +120,6 @@ BuiltPacketReadsBack =
 -- COOKIE ECHO are no premises: where they are wrong, nothing is read.
 abbrev pub BuiltPacketReadsAsItself : Type 0
 BuiltPacketReadsAsItself =
-    (options : WireOptions) (with_checksum : Bool) (packet read : PacketContent) → FitsFields packet → IsPacket options read (packet_bytes with_checksum packet)
+    (options : WireOptions) (with_checksum : Bool) (packet read : PacketContent) → FitsFields packet
+    → IsPacket options read (packet_bytes with_checksum packet)
     → read ≡ packet

@@ -9,11 +9,12 @@ use Rattle.dcsctp_machine.specs.Event.{Event, event_map, sent, connected, closed
 use Rattle.dcsctp_machine.specs.Packet.{Emission, emission_bytes}
 use Rattle.dcsctp_machine.specs.Settings.{ports_of}
 use Rattle.dcsctp_machine.specs.Endpoint.{Endpoint}
-use Rattle.dcsctp_machine.specs.Outcome.{Outcome}
-use Rattle.dcsctp_machine.specs.CallTurns.{events_of}
-use Rattle.dcsctp_machine.specs.Sockets.{Both, turns_after, schedule_of}
-use Rattle.dcsctp_refinement.specs.Agreement.{HasDistinctTags, SocketsAgree}
-use Rattle.dcsctp_refinement.specs.Handshake.{handshake, connections, IsConnected, AreConnected, FittingSocketsConnect}
+use Rattle.dcsctp_machine.specs.CallTurns.{Turned, events_of}
+use Rattle.dcsctp_machine.specs.declared.schedule.Side.{Side}
+use Rattle.dcsctp_machine.specs.Sockets.{Worked, Both, turns_after, schedule_of}
+use Rattle.dcsctp_refinement.specs.Agreement.{HasDistinctTags}
+use Rattle.dcsctp_refinement.specs.Handshake.{ConnectThroughout, handshake, connections, IsConnected, AreConnected, FittingSocketsConnect}
+use Rattle.dcsctp_refinement.specs.Laws.{SocketLaws}
 use Rattle.dcsctp_world.specs.declared.act.Act.TheVariants as acts
 use Rattle.dcsctp_world.specs.Shown.{SideShown, WorldView, options_of}
 use Rattle.dcsctp_world.specs.Run.{SideRuns, IsRun}
@@ -22,11 +23,14 @@ use Rattle.dcsctp_api.specs.declared.errors.SocketFault.TheVariants.{OutOfMemory
 use Rattle.dcsctp_world.specs.Acts.{Applies, Ran, Runs}
 use Rattle.dcsctp_world.specs.Agreement.{Agrees, ShowsConnected, BothConnected, HandshakeConnects}
 
-pub world_agrees : {R : Type 0} → SocketsAgree → (options : Both Options) (world : WorldView R) → IsRun options world → Agrees options world
+pub world_agrees : {R : Type 0} → SocketLaws → (options : Both Options) (world : WorldView R) → IsRun options world → Agrees options world
 world_agrees law options world h =
     record {
       is_run = h;
-      agree = λ a b. law options h.steps h.usable h.run (record { a = subst HasDistinctTags (h.sides sides.A).pairs a; b = subst HasDistinctTags (h.sides sides.B).pairs b });
+      connect = λ fit side. law.connect options side h.steps h.usable fit h.run;
+      numbers = λ side. law.numbers options h.steps h.usable h.run side;
+      answers = λ side. law.answers options h.steps h.run side;
+      agree = λ a b. law.agree options h.steps h.usable h.run (record { a = subst HasDistinctTags (h.sides sides.A).pairs a; b = subst HasDistinctTags (h.sides sides.B).pairs b });
     }
 
 -- ---- the handshake
@@ -50,7 +54,7 @@ connections_shown f (lifecycle_message_expired id ∷ events) = connections_show
 connections_shown f (lifecycle_message_delivered id ∷ events) = connections_shown f events
 connections_shown f (lifecycle_end id ∷ events) = connections_shown f events
 
-shows_connected : {R : Type 0} (mine theirs : Options) (turns : List Outcome) (side : SideShown R) (my peer : Pair) → SideRuns mine turns side → IsConnected mine theirs turns my peer
+shows_connected : {R : Type 0} (mine theirs : Options) (turns : List Turned) (side : SideShown R) (my peer : Pair) → SideRuns mine turns side → IsConnected mine theirs turns my peer
     → ShowsConnected mine theirs side my peer
 shows_connected mine theirs turns side my peer h is =
     record {
@@ -76,11 +80,16 @@ both_connected options world h is =
       b = shows_connected options.b options.a (turns_after h.steps).b world.sides.b is.b_pair is.a_pair (h.sides sides.B) is.b;
     }
 
+-- at the end of the run
+at_end : (options : Both Options) (side : Side) (run : List Worked) → schedule_of run ≡ reverse (handshake side) → ConnectThroughout options side run → AreConnected options (turns_after run)
+at_end options side [] schedule h = absurd (cc)
+at_end options side (worked ∷ earlier) schedule h = h.0 schedule
+
 pub handshake_connects : {R : Type 0} → FittingSocketsConnect → (options : Both Options) (world : WorldView R) → IsRun options world → HandshakeConnects options world
 handshake_connects law options world run side acts_are fit =
     let schedule : reverse (schedule_of run.steps) ≡ handshake side = same_steps (reverse (schedule_of run.steps)) (handshake side) (sym run.acts ∙ acts_are) in
     both_connected options world run
-    (law options side run.steps run.usable fit run.run (sym (reverse-reverse (schedule_of run.steps)) ∙ ap (λ (l : List Step). reverse l) schedule))
+    (at_end options side run.steps (sym (reverse-reverse (schedule_of run.steps)) ∙ ap (λ (l : List Step). reverse l) schedule) (law options side run.steps run.usable fit run.run))
 
 -- ---- a growth that was refused among several steps
 
@@ -90,9 +99,9 @@ split_at (x ∷ xs) zero default within = refl
 split_at (x ∷ xs) (suc i) default within = ap (λ (l : List Step). x ∷ l) (split_at xs i default (omega (arith, within)))
 
 -- the steps before the one that was refused ran
-refused_at : {R : Type 0} → SocketsAgree → FittingSocketsConnect → (steps : List Step) (i : ℕ) (default : Step) (fault : SocketFault) (old now new : WorldView R) → i < length steps
+refused_at : {R : Type 0} → SocketLaws → (steps : List Step) (i : ℕ) (default : Step) (fault : SocketFault) (old now new : WorldView R) → i < length steps
     → Ran (take i steps) old now → Applies (get_or steps i default) now (Err fault) new → Runs steps old (Err fault) new
-refused_at law connects steps i default OutOfMemory old now new within ran out =
+refused_at law steps i default OutOfMemory old now new within ran out =
     record {
       done = take i steps;
       refused = get_or steps i default;
@@ -101,17 +110,17 @@ refused_at law connects steps i default OutOfMemory old now new within ran out =
       before = now;
       ran = ran;
       agrees = world_agrees law (options_of old) now ran.is_run;
-      connects = handshake_connects connects (options_of old) now ran.is_run;
+      connects = handshake_connects law.connect (options_of old) now ran.is_run;
       ran_out = out;
     }
-refused_at law connects steps i default Failed old now new within ran out =
+refused_at law steps i default Failed old now new within ran out =
     let goes_on : now.failed ≡ false = ran.goes_on in
     let had_failed : now.failed ≡ true = out.had_failed in
     absurd (cc)
 
-pub ran_out_among : {R : Type 0} → SocketsAgree → FittingSocketsConnect → (steps : List Step) (i : ℕ) (default : Step) (fault : SocketFault) (old now new : WorldView R) → i < length steps
+pub ran_out_among : {R : Type 0} → SocketLaws → (steps : List Step) (i : ℕ) (default : Step) (fault : SocketFault) (old now new : WorldView R) → i < length steps
     → Ran (take i steps) old now → Applies (get_or steps i default) now (Err fault) new
     → (result : Result (Unit {0}) SocketFault) → IsErrAnd result (λ given. given ≡ fault) → Runs steps old result new
-ran_out_among law connects steps i default fault old now new within ran out (Ok done) is = absurd is
-ran_out_among law connects steps i default fault old now new within ran out (Err given) is =
-    subst (λ (f : SocketFault). Runs steps old (Err f) new) (sym is) (refused_at law connects steps i default fault old now new within ran out)
+ran_out_among law steps i default fault old now new within ran out (Ok done) is = absurd is
+ran_out_among law steps i default fault old now new within ran out (Err given) is =
+    subst (λ (f : SocketFault). Runs steps old (Err f) new) (sym is) (refused_at law steps i default fault old now new within ran out)

@@ -5,12 +5,11 @@ use Rattle.dcsctp_machine.specs.declared.options.Options.{Options}
 use Rattle.dcsctp_machine.specs.declared.schedule.Side.{Side}
 use Rattle.dcsctp_machine.specs.declared.schedule.Side.TheVariants as sides
 use Rattle.dcsctp_machine.specs.declared.schedule.Step.{Step}
-use Rattle.dcsctp_machine.specs.Event.{Event}
+use Rattle.dcsctp_machine.specs.Event.{Event, packets_in}
 use Rattle.dcsctp_machine.specs.Settings.{ports_of}
 use Rattle.dcsctp_machine.specs.Endpoint.{association_of}
-use Rattle.dcsctp_machine.specs.Outcome.{Outcome}
-use Rattle.dcsctp_machine.specs.CallTurns.{events_of, pairs_of}
-use Rattle.dcsctp_machine.specs.Sockets.{Both, of_side, of_other, side_of, StepTurns, packets_in}
+use Rattle.dcsctp_machine.specs.CallTurns.{Turned, events_of, pairs_of}
+use Rattle.dcsctp_machine.specs.Sockets.{Both, of_side, of_other, side_of, StepTurns}
 use Rattle.dcsctp_api.specs.declared.errors.SocketFault.{SocketFault}
 use Rattle.dcsctp_api.specs.declared.errors.SocketFault.TheVariants.{OutOfMemory, Failed}
 use Rattle.dcsctp_api.specs.Calls.{user_event}
@@ -44,17 +43,17 @@ side_extends_further a b c first second =
 same_side_extends : {R : Type 0} (old new : SideShown R) → new ≡ old → SideExtends old new
 same_side_extends {R = R} old new same = subst (λ (s : SideShown R). SideExtends old s) (sym same) (side_extends_itself old)
 
-grows_extends : {R : Type 0} {answer : Reply} (Turns : List Outcome → Type 0) (old new : SideShown R) → Grows Turns answer old new → SideExtends old new
+grows_extends : {R : Type 0} {answer : Reply} (Turns : List Turned → Type 0) (old new : SideShown R) → Grows Turns answer old new → SideExtends old new
 grows_extends Turns old new grows =
-    let told : List (Event (List _)) = map (user_event (ports_of old.socket.view.endpoint.options)) (events_of grows.outcomes) in
+    let told : List (Event (List _)) = map (user_event (ports_of old.socket.view.endpoint.options)) (events_of grows.turns) in
     record {
       events = extends_by told grows.events;
       packets = extends_by (packets_in told) grows.packets;
-      pairs = extends_by (pairs_of grows.outcomes) grows.pairs;
+      pairs = extends_by (pairs_of grows.turns) grows.pairs;
       associations = extends_by [] (grows.associations ∙ sym (append-nil old.associations));
     }
 
-moves_extend_at : {R : Type 0} {answer : Reply} (Turns : List Outcome → Type 0) (mover : Side) (old moved : Both (SideShown R))
+moves_extend_at : {R : Type 0} {answer : Reply} (Turns : List Turned → Type 0) (mover : Side) (old moved : Both (SideShown R))
     → Grows Turns answer (of_side mover old) (of_side mover moved) → of_other mover moved ≡ of_other mover old → BothExtend old moved
 moves_extend_at Turns sides.A old moved grows stays = record { a = grows_extends Turns old.a moved.a grows; b = same_side_extends old.b moved.b stays }
 moves_extend_at Turns sides.B old moved grows stays = record { a = same_side_extends old.a moved.a stays; b = grows_extends Turns old.b moved.b grows }

@@ -8,13 +8,12 @@ use Rattle.dcsctp_machine.specs.declared.options.Options.{Options}
 use Rattle.dcsctp_machine.specs.declared.schedule.Side.{Side}
 use Rattle.dcsctp_machine.specs.declared.schedule.Side.TheVariants as sides
 use Rattle.dcsctp_machine.specs.declared.schedule.Step.{Step}
-use Rattle.dcsctp_machine.specs.Event.{Event, event_map}
+use Rattle.dcsctp_machine.specs.Event.{Event, event_map, packets_in}
 use Rattle.dcsctp_machine.specs.Packet.{Emission, emission_bytes}
-use Rattle.dcsctp_machine.specs.Settings.{ports_of}
+use Rattle.dcsctp_machine.specs.Settings.{Ports, SameOptions, ports_of}
 use Rattle.dcsctp_machine.specs.Endpoint.{Endpoint, association_of, fresh_endpoint}
-use Rattle.dcsctp_machine.specs.Outcome.{Outcome}
-use Rattle.dcsctp_machine.specs.CallTurns.{after_all, events_of, pairs_of}
-use Rattle.dcsctp_machine.specs.Sockets.{Both, of_side, of_other, side_of, StepTurns, packets_in, NextTurns, Worked, turns_after, with_turns, endpoint_after, events_shown, packets_shown, schedule_of, associations_of}
+use Rattle.dcsctp_machine.specs.CallTurns.{Turned, after_all, events_of, pairs_of}
+use Rattle.dcsctp_machine.specs.Sockets.{Both, of_side, of_other, side_of, StepTurns, NextTurns, Worked, turns_after, with_turns, endpoint_after, events_shown, packets_shown, schedule_of, associations_of}
 use Rattle.dcsctp_machine.proofs.TurnLemmas.{after_all-append, pairs_of-append, events_of-append}
 use Rattle.dcsctp_machine.proofs.SocketLemmas.{sockets_keep_options}
 use Rattle.dcsctp_api.specs.Calls.{user_event}
@@ -41,7 +40,7 @@ reverse-cons x xs = reverse_onto xs x []
 -- ---- a world that was just made
 
 fresh_side_runs : {R : Type 0} (options : Options) (generator : R) → SideRuns options [] (fresh_side options generator)
-fresh_side_runs options generator = record { goes_on = refl; endpoint = refl; waiting = refl; events = refl; packets = refl; pairs = refl }
+fresh_side_runs options generator = record { made_with = refl; goes_on = refl; endpoint = refl; waiting = refl; events = refl; packets = refl; pairs = refl }
 
 fresh_world_runs : {R : Type 0} (options : Both Options) (generators : Both R) → IsUsable options.a → IsUsable options.b → IsRun options (fresh_world options generators)
 fresh_world_runs options generators a b =
@@ -71,28 +70,27 @@ fresh_is_run {R = R} options generators world is a b = subst (λ (w : WorldView 
 
 pub is_run_options : {R : Type 0} (options : Both Options) (world : WorldView R) → IsRun options world → options_of world ≡ options
 is_run_options {R = R} options world h =
-    let kept : (side : Side) → (of_side side world.sides).socket.view.endpoint.options ≡ of_side side options =
-    λ (side : Side). ap (λ (e : Endpoint). e.options) (h.sides side).endpoint ∙ sockets_keep_options.run options h.steps h.run side in
-    ap (λ (o : Options). let both : Both Options = record { a = o; b = world.sides.b.socket.view.endpoint.options } in both) (kept sides.A)
-    ∙ ap (λ (o : Options). let both : Both Options = record { a = options.a; b = o } in both) (kept sides.B)
+    ap (λ (o : Options). let both : Both Options = record { a = o; b = world.sides.b.options } in both) (h.sides sides.A).made_with
+    ∙ ap (λ (o : Options). let both : Both Options = record { a = options.a; b = o } in both) (h.sides sides.B).made_with
 
 pub is_run_of_own : {R : Type 0} (options : Both Options) (world : WorldView R) → IsRun options world → IsRun (options_of world) world
 is_run_of_own options world h = subst (λ (o : Both Options). IsRun o world) (sym (is_run_options options world h)) h
 
 -- ---- a side that grows
 
-events_shown-append : (options : Options) (xs ys : List Outcome) → events_shown options (xs ++ ys) ≡ events_shown options xs ++ events_shown options ys
+events_shown-append : (options : Options) (xs ys : List Turned) → events_shown options (xs ++ ys) ≡ events_shown options xs ++ events_shown options ys
 events_shown-append options xs ys =
     ap (λ (l : List (Event Emission)). map (event_map (emission_bytes (ports_of options))) l) (events_of-append xs ys)
     ∙ map-append (event_map (emission_bytes (ports_of options))) (events_of xs) (events_of ys)
 
-side_grows : {R : Type 0} {answer : Reply} (options : Options) (turns : List Outcome) (Turns : List Outcome → Type 0) (old new : SideShown R) (grows : Grows Turns answer old new)
-    → (endpoint_after options turns).options ≡ options → SideRuns options turns old → SideRuns options (turns ++ grows.outcomes) new
+side_grows : {R : Type 0} {answer : Reply} (options : Options) (turns : List Turned) (Turns : List Turned → Type 0) (old new : SideShown R) (grows : Grows Turns answer old new)
+    → SameOptions options (endpoint_after options turns).options → SideRuns options turns old → SideRuns options (turns ++ grows.turns) new
 side_grows options turns Turns old new grows kept h =
-    let os = grows.outcomes in
-    let same : old.socket.view.endpoint.options ≡ options = ap (λ (e : Endpoint). e.options) h.endpoint ∙ kept in
-    let told : map (user_event (ports_of old.socket.view.endpoint.options)) (events_of os) ≡ events_shown options os = ap (λ (o : Options). map (user_event (ports_of o)) (events_of os)) same in
+    let os = grows.turns in
+    let same : ports_of old.socket.view.endpoint.options ≡ ports_of options = ap (λ (e : Endpoint). ports_of e.options) h.endpoint ∙ ap ports_of kept in
+    let told : map (user_event (ports_of old.socket.view.endpoint.options)) (events_of os) ≡ events_shown options os = ap (λ (p : Ports). map (user_event p) (events_of os)) same in
     record {
+      made_with = grows.options ∙ h.made_with;
       goes_on = grows.failed ∙ h.goes_on;
       endpoint = grows.endpoint ∙ ap (λ (e : Endpoint). after_all e os) h.endpoint ∙ sym (after_all-append (fresh_endpoint options) turns os);
       waiting = grows.waiting;
@@ -106,21 +104,21 @@ side_grows options turns Turns old new grows kept h =
 
 -- ---- a step more
 
-abbrev SidesRun : {R : Type 0} → Both Options → Both (List Outcome) → Both (SideShown R) → Side → Type 0
+abbrev SidesRun : {R : Type 0} → Both Options → Both (List Turned) → Both (SideShown R) → Side → Type 0
 SidesRun options turns shown side = SideRuns (of_side side options) (of_side side turns) (of_side side shown)
 
 -- the side that moved, and the other
-sides_next : {R : Type 0} {answer : Reply} (options : Both Options) (turns : Both (List Outcome)) (old moved : Both (SideShown R)) (Turns : List Outcome → Type 0) (mover : Side)
+sides_next : {R : Type 0} {answer : Reply} (options : Both Options) (turns : Both (List Turned)) (old moved : Both (SideShown R)) (Turns : List Turned → Type 0) (mover : Side)
     (grows : Grows Turns answer (of_side mover old) (of_side mover moved)) → of_other mover moved ≡ of_other mover old
-    → (endpoint_after (of_side mover options) (of_side mover turns)).options ≡ of_side mover options
-    → ((side : Side) → SidesRun options turns old side) → (side : Side) → SidesRun options (with_turns mover grows.outcomes turns) moved side
+    → SameOptions (of_side mover options) (endpoint_after (of_side mover options) (of_side mover turns)).options
+    → ((side : Side) → SidesRun options turns old side) → (side : Side) → SidesRun options (with_turns mover grows.turns turns) moved side
 sides_next options turns old moved Turns sides.A grows stays kept before sides.A = side_grows options.a turns.a Turns old.a moved.a grows kept (before sides.A)
 sides_next {R = R} options turns old moved Turns sides.A grows stays kept before sides.B = subst (λ (s : SideShown R). SideRuns options.b turns.b s) (sym stays) (before sides.B)
 sides_next {R = R} options turns old moved Turns sides.B grows stays kept before sides.A = subst (λ (s : SideShown R). SideRuns options.a turns.a s) (sym stays) (before sides.A)
 sides_next options turns old moved Turns sides.B grows stays kept before sides.B = side_grows options.b turns.b Turns old.b moved.b grows kept (before sides.B)
 
 -- no association was noted yet
-same_associations : {R : Type 0} {answer : Reply} (old moved : Both (SideShown R)) (Turns : List Outcome → Type 0) (mover : Side)
+same_associations : {R : Type 0} {answer : Reply} (old moved : Both (SideShown R)) (Turns : List Turned → Type 0) (mover : Side)
     → Grows Turns answer (of_side mover old) (of_side mover moved) → of_other mover moved ≡ of_other mover old
     → (side : Side) → (of_side side moved).associations ≡ (of_side side old).associations
 same_associations old moved Turns sides.A grows stays sides.A = grows.associations
@@ -134,18 +132,18 @@ noted : {R : Type 0} (moved : Both (SideShown R)) (side : Side)
 noted moved sides.A = refl
 noted moved sides.B = refl
 
-noted_runs : {R : Type 0} (options : Both Options) (turns : Both (List Outcome)) (moved : Both (SideShown R)) (side : Side) → SidesRun options turns moved side
+noted_runs : {R : Type 0} (options : Both Options) (turns : Both (List Turned)) (moved : Both (SideShown R)) (side : Side) → SidesRun options turns moved side
     → SidesRun options turns (with_associations moved) side
-noted_runs options turns moved sides.A h = record { goes_on = h.goes_on; endpoint = h.endpoint; waiting = h.waiting; events = h.events; packets = h.packets; pairs = h.pairs }
-noted_runs options turns moved sides.B h = record { goes_on = h.goes_on; endpoint = h.endpoint; waiting = h.waiting; events = h.events; packets = h.packets; pairs = h.pairs }
+noted_runs options turns moved sides.A h = record { made_with = h.made_with; goes_on = h.goes_on; endpoint = h.endpoint; waiting = h.waiting; events = h.events; packets = h.packets; pairs = h.pairs }
+noted_runs options turns moved sides.B h = record { made_with = h.made_with; goes_on = h.goes_on; endpoint = h.endpoint; waiting = h.waiting; events = h.events; packets = h.packets; pairs = h.pairs }
 
-other_packets : {R : Type 0} (options : Both Options) (turns : Both (List Outcome)) (old : Both (SideShown R)) (mover : Side) → ((side : Side) → SidesRun options turns old side)
+other_packets : {R : Type 0} (options : Both Options) (turns : Both (List Turned)) (old : Both (SideShown R)) (mover : Side) → ((side : Side) → SidesRun options turns old side)
     → (of_other mover old).packets ≡ packets_shown (of_other mover options) (of_other mover turns)
 other_packets options turns old sides.A runs = (runs sides.B).packets
 other_packets options turns old sides.B runs = (runs sides.A).packets
 
 -- the step's turns, from where the sides' turns had led
-turns_of : {R : Type 0} (options : Both Options) (turns : Both (List Outcome)) (old : Both (SideShown R)) (step : Step) (os : List Outcome)
+turns_of : {R : Type 0} (options : Both Options) (turns : Both (List Turned)) (old : Both (SideShown R)) (step : Step) (os : List Turned)
     → ((side : Side) → SidesRun options turns old side)
     → StepTurns (of_side (side_of step) old).socket.view.endpoint (of_other (side_of step) old).packets step os → NextTurns options turns step os
 turns_of options turns old step os runs turned =
@@ -157,14 +155,14 @@ pub is_run_next : {R : Type 0} (options : Both Options) (step : Step) (reply : R
 is_run_next {R = R} options step reply old new h applied =
     let mover : Side = side_of step in
     let moved : Both (SideShown R) = applied.moved in
-    let os = applied.moves.grows.outcomes in
-    let before : Both (List Outcome) = turns_after h.steps in
-    let worked : Worked = record { step = step; outcomes = os } in
-    let now : Both (List Outcome) = with_turns mover os before in
-    let Turns : List Outcome → Type 0 = StepTurns (of_side mover old.sides).socket.view.endpoint (of_other mover old.sides).packets step in
+    let os = applied.moves.grows.turns in
+    let before : Both (List Turned) = turns_after h.steps in
+    let worked : Worked = record { step = step; turns = os } in
+    let now : Both (List Turned) = with_turns mover os before in
+    let Turns : List Turned → Type 0 = StepTurns (of_side mover old.sides).socket.view.endpoint (of_other mover old.sides).packets step in
     let runs : (side : Side) → SidesRun options now moved side =
     sides_next options before old.sides moved Turns mover applied.moves.grows applied.moves.other_stays (sockets_keep_options.run options h.steps h.run mover) h.sides in
-    let ends = turns_of options before old.sides step os h.sides applied.moves.grows.turns in
+    let ends = turns_of options before old.sides step os h.sides applied.moves.grows.are in
     record {
       usable = h.usable;
       steps = worked ∷ h.steps;

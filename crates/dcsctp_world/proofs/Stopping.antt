@@ -6,11 +6,10 @@ use Rattle.dcsctp_machine.specs.declared.association.Association.{Association}
 use Rattle.dcsctp_machine.specs.declared.schedule.Side.{Side}
 use Rattle.dcsctp_machine.specs.declared.schedule.Side.TheVariants as sides
 use Rattle.dcsctp_machine.specs.declared.schedule.Step.{Step}
-use Rattle.dcsctp_machine.specs.Event.{Event}
+use Rattle.dcsctp_machine.specs.Event.{Event, packets_in}
 use Rattle.dcsctp_machine.specs.Endpoint.{Endpoint, association_of}
-use Rattle.dcsctp_machine.specs.Outcome.{Outcome}
-use Rattle.dcsctp_machine.specs.CallTurns.{after_all, pairs_of}
-use Rattle.dcsctp_machine.specs.Sockets.{Both, of_side, of_other, side_of, StepTurns, packets_in}
+use Rattle.dcsctp_machine.specs.CallTurns.{Turned, after_all, pairs_of}
+use Rattle.dcsctp_machine.specs.Sockets.{Both, of_side, of_other, side_of, StepTurns}
 use Rattle.dcsctp_api.specs.declared.errors.SocketFault.{SocketFault}
 use Rattle.dcsctp_api.specs.declared.errors.SocketFault.TheVariants.{OutOfMemory, Failed}
 use Rattle.dcsctp_api.specs.Calls.{Follows, Connects, HandlesInput}
@@ -30,11 +29,12 @@ use Rattle.dcsctp_world.proofs.Keeping.{front_same, front_whole}
 no_call_was_done : {P : Type 0} → NoCall ≡ Done → P
 no_call_was_done is = absurd (cc)
 
-pub grows_by_nothing : {R : Type 0} (Turns : List Outcome → Type 0) (side : SideShown R) → Turns [] → side.socket.view.events ≡ [] → Grows Turns NoCall side side
+pub grows_by_nothing : {R : Type 0} (Turns : List Turned → Type 0) (side : SideShown R) → Turns [] → side.socket.view.events ≡ [] → Grows Turns NoCall side side
 grows_by_nothing Turns side turned empty =
     record {
-      outcomes = [];
-      turns = turned;
+      turns = [];
+      are = turned;
+      options = refl;
       endpoint = refl;
       failed = refl;
       waiting = empty;
@@ -50,42 +50,44 @@ grows_by_nothing Turns side turned empty =
 -- ---- a growth was refused
 
 -- nothing was added yet
-pub shows_nothing : {R : Type 0} (outcomes : List Outcome) (old new : SideShown R) → new.events ≡ old.events → new.packets ≡ old.packets → new.pairs ≡ old.pairs
-    → new.associations ≡ old.associations → ShowsFront outcomes old new
-shows_nothing outcomes old new events packets pairs associations =
+pub shows_nothing : {R : Type 0} (turns : List Turned) (old new : SideShown R) → new.options ≡ old.options → new.events ≡ old.events → new.packets ≡ old.packets
+    → new.pairs ≡ old.pairs → new.associations ≡ old.associations → ShowsFront turns old new
+shows_nothing turns old new options events packets pairs associations =
     record {
-      events = front_same (told old outcomes) events;
-      packets = front_same (packets_in (told old outcomes)) packets;
-      pairs = front_same (pairs_of outcomes) pairs;
-      associations = front_same (association_of (after_all old.socket.view.endpoint outcomes).core ∷ []) associations;
+      options = options;
+      events = front_same (told old turns) events;
+      packets = front_same (packets_in (told old turns)) packets;
+      pairs = front_same (pairs_of turns) pairs;
+      associations = front_same (association_of (after_all old.socket.view.endpoint turns).core ∷ []) associations;
     }
 
 -- the socket itself was refused memory
-stops_before : {R : Type 0} (Turns : List Outcome → Type 0) (old : SideShown R) (socket : SocketView R) → Stops Turns old (record old { socket = socket })
+stops_before : {R : Type 0} (Turns : List Turned → Type 0) (old : SideShown R) (socket : SocketView R) → Stops Turns old (record old { socket = socket })
 stops_before Turns old socket =
     let new = record old { socket = socket } in
-    record { outcomes = []; turns = inl refl; shows = shows_nothing [] old new refl refl refl refl }
+    record { turns = []; are = inl refl; shows = shows_nothing [] old new refl refl refl refl refl }
 
 -- the call's turns were worked, and then what they brought was taken in part
-pub stops_after : {R : Type 0} (Turns : List Outcome → Type 0) (old new : SideShown R) (socket : SocketView R) (outcomes : List Outcome) → Turns outcomes
-    → old.socket.view.events ≡ [] → Follows (user_view_of old.socket) outcomes (user_view_of socket) → CollectsFront (record old { socket = socket }) new
+pub stops_after : {R : Type 0} (Turns : List Turned → Type 0) (old new : SideShown R) (socket : SocketView R) (turns : List Turned) → Turns turns
+    → old.socket.view.events ≡ [] → Follows (user_view_of old.socket) turns (user_view_of socket) → CollectsFront (record old { socket = socket }) new
     → Stops Turns old new
-stops_after Turns old new socket outcomes turned empty follows part =
-    let waiting : socket.view.events ≡ told old outcomes = follows.events ∙ ap (λ (l : List (Event (List ℕ))). l ++ told old outcomes) empty in
+stops_after Turns old new socket turns turned empty follows part =
+    let waiting : socket.view.events ≡ told old turns = follows.events ∙ ap (λ (l : List (Event (List ℕ))). l ++ told old turns) empty in
     record {
-      outcomes = outcomes;
-      turns = inr turned;
+      turns = turns;
+      are = inr turned;
       shows = record {
+        options = part.options;
         events = subst (λ (l : List (Event (List ℕ))). AddsFront l old.events new.events) waiting part.events;
         packets = subst (λ (l : List (Event (List ℕ))). AddsFront (packets_in l) old.packets new.packets) waiting part.packets;
         pairs = subst (λ (l : List Pair). AddsFront l old.pairs new.pairs) follows.pairs part.pairs;
-        associations = front_same (association_of (after_all old.socket.view.endpoint outcomes).core ∷ []) part.associations;
+        associations = front_same (association_of (after_all old.socket.view.endpoint turns).core ∷ []) part.associations;
       };
     }
 
 -- ---- a call that failed in the socket, by its fault
 
-module _ {R : Type 0} (Turns : List Outcome → Type 0) (old : SideShown R) (socket : SocketView R) where
+module _ {R : Type 0} (Turns : List Turned → Type 0) (old : SideShown R) (socket : SocketView R) where
   stays_failed : old.socket.failed ≡ true → socket ≡ old.socket → Fails Turns old Failed (record old { socket = socket })
   stays_failed had_failed same = (had_failed, ap (λ (s : SocketView R). let side : SideShown R = record old { socket = s } in side) same)
 
@@ -109,12 +111,13 @@ at_noted : {R : Type 0} (side new : SideShown R) → MaybeNoted side new → (P 
 at_noted side new (inl same) P h noted = subst P (sym same) h
 at_noted side new (inr same) P h noted = subst P (sym same) noted
 
-grows_in_part : {R : Type 0} {answer : Reply} (Turns : List Outcome → Type 0) (old moved new : SideShown R) (grows : Grows Turns answer old moved) → MaybeNoted moved new → Stops Turns old new
+grows_in_part : {R : Type 0} {answer : Reply} (Turns : List Turned → Type 0) (old moved new : SideShown R) (grows : Grows Turns answer old moved) → MaybeNoted moved new → Stops Turns old new
 grows_in_part {R = R} Turns old moved new grows noted =
-    let os = grows.outcomes in
+    let os = grows.turns in
     let now : List (Option Association) = association_of (after_all old.socket.view.endpoint os).core ∷ [] in
     let shows : (l : List (Option Association)) → AddsFront now old.associations l → ShowsFront os old (record moved { associations = l }) =
     λ l h. record {
+      options = grows.options;
       events = front_whole (told old os) grows.events;
       packets = front_whole (packets_in (told old os)) grows.packets;
       pairs = front_whole (pairs_of os) grows.pairs;
@@ -124,8 +127,8 @@ grows_in_part {R = R} Turns old moved new grows noted =
     ap (λ (l : List (Option Association)). l ++ association_of moved.socket.view.endpoint.core ∷ []) grows.associations
     ∙ ap (λ (e : Endpoint). old.associations ++ association_of e.core ∷ []) grows.endpoint in
     record {
-      outcomes = os;
-      turns = inr grows.turns;
+      turns = os;
+      are = inr grows.are;
       shows = at_noted moved new noted (λ (side : SideShown R). ShowsFront os old side)
           (shows moved.associations (front_same now grows.associations)) (shows (with_association moved).associations (front_whole now behind));
     }
@@ -134,8 +137,8 @@ other_in_part : {R : Type 0} (old moved new : SideShown R) → moved ≡ old →
 other_in_part {R = R} old moved new stays noted =
     let now : List (Option Association) = association_of old.socket.view.endpoint.core ∷ [] in
     let same : MaybeNoted old new = subst (λ (side : SideShown R). MaybeNoted side new) stays noted in
-    at_noted old new same (λ (side : SideShown R). ShowsFront [] old side) (shows_nothing [] old old refl refl refl refl)
-    (record { events = front_same [] refl; packets = front_same [] refl; pairs = front_same [] refl; associations = front_whole now refl })
+    at_noted old new same (λ (side : SideShown R). ShowsFront [] old side) (shows_nothing [] old old refl refl refl refl refl)
+    (record { options = refl; events = front_same [] refl; packets = front_same [] refl; pairs = front_same [] refl; associations = front_whole now refl })
 
 -- ---- a step
 
@@ -144,7 +147,7 @@ same_socket {R = R} old moved new stays noted =
     let same : MaybeNoted old new = subst (λ (side : SideShown R). MaybeNoted side new) stays noted in
     at_noted old new same (λ (side : SideShown R). side.socket ≡ old.socket) refl refl
 
-at_mover : {R : Type 0} {answer : Reply} (Turns : List Outcome → Type 0) (mover : Side) (old moved new : Both (SideShown R)) → Grows Turns answer (of_side mover old) (of_side mover moved)
+at_mover : {R : Type 0} {answer : Reply} (Turns : List Turned → Type 0) (mover : Side) (old moved new : Both (SideShown R)) → Grows Turns answer (of_side mover old) (of_side mover moved)
     → of_other mover moved ≡ of_other mover old → MaybeNoted moved.a new.a → MaybeNoted moved.b new.b
     → Stops Turns (of_side mover old) (of_side mover new) × ShowsFront [] (of_other mover old) (of_other mover new)
     × ((of_other mover new).socket ≡ (of_other mover old).socket)

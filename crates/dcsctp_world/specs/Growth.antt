@@ -2,12 +2,11 @@
 use Rattle.std.specs.Prelude.{◌≡◌, ℕ, true, false, Option, None, Some, Result, Ok, Err, List, [], ◌∷◌, ◌++◌, ◌⊎◌, map}
 use Rattle.dcsctp_machine.specs.declared.schedule.Step.{Step}
 use Rattle.dcsctp_machine.specs.declared.schedule.Step.TheVariants as steps
-use Rattle.dcsctp_machine.specs.Event.{Event}
+use Rattle.dcsctp_machine.specs.Event.{Event, packets_in}
 use Rattle.dcsctp_machine.specs.Endpoint.{association_of}
 use Rattle.dcsctp_machine.specs.Settings.{ports_of}
-use Rattle.dcsctp_machine.specs.Outcome.{Outcome}
-use Rattle.dcsctp_machine.specs.CallTurns.{after_all, words_of, events_of, pairs_of}
-use Rattle.dcsctp_machine.specs.Sockets.{packets_in, numbered}
+use Rattle.dcsctp_machine.specs.CallTurns.{Turned, after_all, words_of, events_of, pairs_of}
+use Rattle.dcsctp_machine.specs.Sockets.{numbered}
 use Rattle.dcsctp_api.specs.declared.errors.SocketFault.{SocketFault}
 use Rattle.dcsctp_api.specs.declared.errors.SocketFault.TheVariants.{OutOfMemory, Failed}
 use Rattle.dcsctp_api.specs.Calls.{UserView, user_event}
@@ -60,6 +59,7 @@ TakesAll old kept_before (Err error) new kept_now = KeptFront old.events kept_be
 pub record Collects {R : Type 0} (old new : SideShown R) : Type 0 where
   pub endpoint : new.socket.view.endpoint ≡ old.socket.view.endpoint
   pub failed : new.socket.failed ≡ old.socket.failed
+  pub options : new.options ≡ old.options
   pub waiting : new.socket.view.events ≡ []
   pub events : new.events ≡ old.events ++ old.socket.view.events
   pub packets : new.packets ≡ old.packets ++ packets_in old.socket.view.events
@@ -70,6 +70,7 @@ pub record Collects {R : Type 0} (old new : SideShown R) : Type 0 where
 
 -- Front parts of what waits in the socket and of the pairs of the last call were kept.
 pub record CollectsFront {R : Type 0} (old new : SideShown R) : Type 0 where
+  pub options : new.options ≡ old.options
   pub events : AddsFront old.socket.view.events old.events new.events
   pub packets : AddsFront (packets_in old.socket.view.events) old.packets new.packets
   pub pairs : AddsFront old.socket.view.pairs old.pairs new.pairs
@@ -80,52 +81,55 @@ abbrev pub CollectsAll : {R E : Type 0} → SideShown R → Result (Unit {0}) E 
 CollectsAll old (Ok done) new = Collects old new
 CollectsAll old (Err error) new = CollectsFront old new
 
--- these outcomes' events as the user of this side sees them
-abbrev pub told : {R : Type 0} → SideShown R → List Outcome → List (Event (List ℕ))
-told side outcomes = map (user_event (ports_of side.socket.view.endpoint.options)) (events_of outcomes)
+-- these turns' events as the user of this side sees them
+abbrev pub told : {R : Type 0} → SideShown R → List Turned → List (Event (List ℕ))
+told side turns = map (user_event (ports_of side.socket.view.endpoint.options)) (events_of turns)
 
--- Outcomes of these turns move the socket, and each list grows by what they show; no event waits. Where a call was made,
+-- Turns of this kind move the socket, and each list grows by what they show; no event waits. Where a call was made,
 -- its words and pairs are theirs; where none was, nothing changed.
-pub record Grows {R : Type 0} (Turns : List Outcome → Type 0) (answer : Reply) (old new : SideShown R) : Type 0 where
-  pub outcomes : List Outcome
-  pub turns : Turns outcomes
-  pub endpoint : new.socket.view.endpoint ≡ after_all old.socket.view.endpoint outcomes
+pub record Grows {R : Type 0} (Turns : List Turned → Type 0) (answer : Reply) (old new : SideShown R) : Type 0 where
+  pub turns : List Turned
+  pub are : Turns turns
+  pub endpoint : new.socket.view.endpoint ≡ after_all old.socket.view.endpoint turns
   pub failed : new.socket.failed ≡ old.socket.failed
+  pub options : new.options ≡ old.options
   pub waiting : new.socket.view.events ≡ []
-  pub events : new.events ≡ old.events ++ told old outcomes
-  pub packets : new.packets ≡ old.packets ++ packets_in (told old outcomes)
-  pub pairs : new.pairs ≡ old.pairs ++ pairs_of outcomes
+  pub events : new.events ≡ old.events ++ told old turns
+  pub packets : new.packets ≡ old.packets ++ packets_in (told old turns)
+  pub pairs : new.pairs ≡ old.pairs ++ pairs_of turns
   pub associations : new.associations ≡ old.associations
-  pub last_words : answer ≡ Done → new.socket.view.words ≡ words_of outcomes
-  pub last_pairs : answer ≡ Done → new.socket.view.pairs ≡ pairs_of outcomes
+  pub last_words : answer ≡ Done → new.socket.view.words ≡ words_of turns
+  pub last_pairs : answer ≡ Done → new.socket.view.pairs ≡ pairs_of turns
   pub idle : answer ≡ NoCall → new ≡ old
 
--- What a side shows grew by a front part of what these outcomes bring, and of its association after them.
-pub record ShowsFront {R : Type 0} (outcomes : List Outcome) (old new : SideShown R) : Type 0 where
-  pub events : AddsFront (told old outcomes) old.events new.events
-  pub packets : AddsFront (packets_in (told old outcomes)) old.packets new.packets
-  pub pairs : AddsFront (pairs_of outcomes) old.pairs new.pairs
-  pub associations : AddsFront (association_of (after_all old.socket.view.endpoint outcomes).core ∷ []) old.associations new.associations
+-- What a side shows grew by a front part of what these turns bring, and of its association after them. The options that its
+-- socket was made with stay.
+pub record ShowsFront {R : Type 0} (turns : List Turned) (old new : SideShown R) : Type 0 where
+  pub options : new.options ≡ old.options
+  pub events : AddsFront (told old turns) old.events new.events
+  pub packets : AddsFront (packets_in (told old turns)) old.packets new.packets
+  pub pairs : AddsFront (pairs_of turns) old.pairs new.pairs
+  pub associations : AddsFront (association_of (after_all old.socket.view.endpoint turns).core ∷ []) old.associations new.associations
 
--- A growth was refused while outcomes of these turns were kept, or before.
-pub record Stops {R : Type 0} (Turns : List Outcome → Type 0) (old new : SideShown R) : Type 0 where
-  pub outcomes : List Outcome
-  pub turns : (outcomes ≡ []) ⊎ Turns outcomes
-  pub shows : ShowsFront outcomes old new
+-- A growth was refused while what such turns brought was kept, or before.
+pub record Stops {R : Type 0} (Turns : List Turned → Type 0) (old new : SideShown R) : Type 0 where
+  pub turns : List Turned
+  pub are : (turns ≡ []) ⊎ Turns turns
+  pub shows : ShowsFront turns old new
 
 -- Turns failed at a side: a growth was refused, in its socket or in what it shows; or the socket had failed, and nothing
 -- has changed.
-abbrev pub Fails : {R : Type 0} → (List Outcome → Type 0) → SideShown R → SocketFault → SideShown R → Type 0
+abbrev pub Fails : {R : Type 0} → (List Turned → Type 0) → SideShown R → SocketFault → SideShown R → Type 0
 Fails Turns old OutOfMemory new = (old.socket.failed ≡ false) × Stops Turns old new
 Fails Turns old Failed new = (old.socket.failed ≡ true) × (new ≡ old)
 
 -- A call of the user was made at a side; or it failed.
-abbrev pub Calls : {R : Type 0} → (List Outcome → Type 0) → SideShown R → Result (Unit {0}) SocketFault → SideShown R → Type 0
+abbrev pub Calls : {R : Type 0} → (List Turned → Type 0) → SideShown R → Result (Unit {0}) SocketFault → SideShown R → Type 0
 Calls Turns old (Ok done) new = Grows Turns Done old new
 Calls Turns old (Err fault) new = Fails Turns old fault new
 
 -- A step was worked at its side, with this reply; or it failed.
-abbrev pub Works : {R : Type 0} → (List Outcome → Type 0) → Reply → SideShown R → Result Reply SocketFault → SideShown R → Type 0
+abbrev pub Works : {R : Type 0} → (List Turned → Type 0) → Reply → SideShown R → Result Reply SocketFault → SideShown R → Type 0
 Works Turns reply old (Ok answer) new = (answer ≡ reply) × Grows Turns answer old new
 Works Turns reply old (Err fault) new = Fails Turns old fault new
 

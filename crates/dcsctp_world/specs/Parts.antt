@@ -21,6 +21,7 @@ abbrev pub shown : {R : Type 0} → WatchedSocket R → SideShown R
 shown watched =
     record {
       socket = watched.socket;
+      options = watched.options;
       events = map event_content watched.events.items;
       packets = packet_bytes watched.packets.items;
       pairs = watched.pairs.items;

@@ -2,15 +2,15 @@
 use Rattle.std.specs.Prelude.{◌≡◌, false, List, [], map, reverse}
 use Rattle.dcsctp_machine.specs.declared.options.Options.{Options}
 use Rattle.dcsctp_machine.specs.declared.schedule.Side.{Side}
-use Rattle.dcsctp_machine.specs.Outcome.{Outcome}
-use Rattle.dcsctp_machine.specs.CallTurns.{pairs_of}
+use Rattle.dcsctp_machine.specs.CallTurns.{Turned, pairs_of}
 use Rattle.dcsctp_machine.specs.Sockets.{Both, of_side, Worked, SocketRun, turns_after, endpoint_after, events_shown, packets_shown, schedule_of, associations_of}
 use Rattle.dcsctp_refinement.specs.Agreement.{AreUsable}
 use Rattle.dcsctp_world.specs.declared.act.Act.TheVariants as acts
 use Rattle.dcsctp_world.specs.Shown.{SideShown, WorldView}
 
 -- A side after these turns: it has not failed, no event waits in it, and it shows what they brought.
-pub record SideRuns {R : Type 0} (options : Options) (turns : List Outcome) (side : SideShown R) : Type 0 where
+pub record SideRuns {R : Type 0} (options : Options) (turns : List Turned) (side : SideShown R) : Type 0 where
+  pub made_with : side.options ≡ options
   pub goes_on : side.socket.failed ≡ false
   pub endpoint : side.socket.view.endpoint ≡ endpoint_after options turns
   pub waiting : side.socket.view.events ≡ []

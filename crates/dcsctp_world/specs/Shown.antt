@@ -12,6 +12,8 @@ use Rattle.dcsctp_world.specs.declared.act.Act.{Act}
 -- drew, and its association at the start and after each act of either side.
 pub record SideShown (R : Type 0) : Type 0 where
   pub socket : SocketView R
+  -- those that the socket was made with
+  pub options : Options
   pub events : List (Event (List ℕ))
   pub packets : List (List ℕ)
   pub pairs : List Pair
@@ -25,13 +27,14 @@ pub record WorldView (R : Type 0) : Type 0 where
 
 -- a side with a socket that was just made
 abbrev pub fresh_side : {R : Type 0} → Options → R → SideShown R
-fresh_side options generator = record { socket = fresh_socket options generator; events = []; packets = []; pairs = []; associations = None ∷ [] }
+fresh_side options generator =
+    record { socket = fresh_socket options generator; options = options; events = []; packets = []; pairs = []; associations = None ∷ [] }
 
 -- a world that was just made
 abbrev pub fresh_world : {R : Type 0} → Both Options → Both R → WorldView R
 fresh_world options generators =
     record { sides = record { a = fresh_side options.a generators.a; b = fresh_side options.b generators.b }; acts = []; failed = false }
 
--- the options of its sockets
+-- the options that its sockets were made with
 abbrev pub options_of : {R : Type 0} → WorldView R → Both Options
-options_of world = record { a = world.sides.a.socket.view.endpoint.options; b = world.sides.b.socket.view.endpoint.options }
+options_of world = record { a = world.sides.a.options; b = world.sides.b.options }

@@ -22,6 +22,9 @@ pub struct WatchedSocket<R> {
     /// The socket. Between two acts no event waits in it.
     pub socket: Socket<R>,
 
+    /// The options that it was made with.
+    pub options: Options,
+
     /// Its events.
     pub events: Vec<SocketEvent>,
 
@@ -96,6 +99,7 @@ impl<R: Rng + Drop> WatchedSocket<R> {
         associations.push(None)?;
         Ok(WatchedSocket {
             socket,
+            options: *options,
             events: Vec::new(alloc),
             packets: Vec::new(alloc),
             pairs: Vec::new(alloc),

@@ -3,7 +3,7 @@
 use crate::act::{Act, Reply, side_of};
 use crate::watched_socket::WatchedSocket;
 use dcsctp_machine::{Side, Step, options_fit};
-use dcsctp_refinement::{fitting_sockets_connect, sockets_agree};
+use dcsctp_refinement::socket_laws;
 use dcsctp_socket::{Association, Options, Pair, Socket, SocketEvent, SocketFault};
 use rand_core::Rng;
 use std::alloc::Global;
@@ -139,8 +139,7 @@ impl<R: Rng + Drop> World<R> {
         if self.failed {
             return Err(SocketFault::Failed);
         }
-        sockets_agree();
-        fitting_sockets_connect();
+        socket_laws();
         match work(&mut self.a, &mut self.b, &mut self.acts, step) {
             Ok(reply) => Ok(reply),
             Err(_) => {
@@ -155,9 +154,11 @@ impl<R: Rng + Drop> World<R> {
     ///
     /// Over every schedule that loses, repeats, delays and reorders packets the two sockets agree:
     /// where no side drew a verification tag twice, which `pairs` shows, each OnConnected finds that
-    /// the other side holds, or held, the crossed association with what the two have in common. And the
-    /// four packets of a handshake, delivered in turn, connect two fresh sockets that fit each other
-    /// (RFC 9260, section 5.1).
+    /// the other side holds, or held, the crossed association with what the two have in common. Each
+    /// holding connects at most once, the numbers of requests to reset streams go up by one, and each
+    /// request that was accepted is performed at most once (RFC 6525, section 4.1); an own request ends
+    /// by an answer with its number (section 5.2.7). And the four packets of a handshake, delivered in
+    /// turn, connect two fresh sockets that fit each other (RFC 9260, section 5.1).
     pub fn run(&mut self, steps: &[Step]) -> Result<(), SocketFault>
         ensures call { Runs steps.now self.old result self.new }
         ensures agreement { OnOk result (Agrees (options_of self.old) self.new) }
@@ -167,8 +168,7 @@ impl<R: Rng + Drop> World<R> {
         if self.failed {
             return Err(SocketFault::Failed);
         }
-        sockets_agree();
-        fitting_sockets_connect();
+        socket_laws();
         for step in steps {
             self.apply(step)?;
         }

@@ -3,22 +3,12 @@
 use Rattle.std.specs.Prelude.{ℕ, Bool, Option, List, map}
 use Rattle.dcsctp_machine.specs.declared.association.Pair.{Pair}
 use Rattle.dcsctp_machine.specs.Cause.{Cause}
-use Rattle.dcsctp_machine.specs.Packet.{Content, other}
-use Rattle.dcsctp_machine.specs.Outcome.{Following}
+use Rattle.dcsctp_machine.specs.Packet.{Plain, Content, plain}
+use Rattle.dcsctp_machine.specs.Following.{Following}
 use Rattle.dcsctp_machine.specs.Reconfiguration.{RequestedReset}
 
--- A chunk that speaks of no association: data, an acknowledgement, and the like. Its type is none of those that
--- `Content` names by a constructor of their own; nothing in the record says so, and agreement doesn't need it.
-pub record Plain : Type 0 where
-  pub chunk_type : ℕ
-  pub flags : ℕ
-  pub value : List ℕ
-
-abbrev pub plain_content : Plain → Content
-plain_content chunk = other chunk.chunk_type chunk.flags chunk.value
-
 abbrev pub plain_contents : List Plain → List Content
-plain_contents chunks = map plain_content chunks
+plain_contents chunks = map plain chunks
 
 -- what a flush finds to send
 pub record Filling : Type 0 where

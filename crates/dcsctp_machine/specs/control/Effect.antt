@@ -5,7 +5,7 @@ use Rattle.dcsctp_machine.specs.declared.association.Held.{Held}
 use Rattle.dcsctp_machine.specs.declared.capabilities.Capabilities.{Capabilities}
 use Rattle.dcsctp_machine.specs.Packet.{Content, Packet}
 use Rattle.dcsctp_machine.specs.Endpoint.{Core, closed, cookie_wait, cookie_echoed, open_in}
-use Rattle.dcsctp_machine.specs.Outcome.{Following, next_chunk, dropped_rest}
+use Rattle.dcsctp_machine.specs.Following.{Following, next_chunk, dropped_rest}
 
 -- an association with a peer, as one side sees it
 pub record Link : Type 0 where
@@ -34,6 +34,34 @@ pub data Effect : Type 0 where
   accepts : ℕ → Effect
   -- OnIncomingStreamReset: the peer's request of this number was performed, under this peer's pair.
   performs : Pair → ℕ → Effect
+
+-- the pairs that were drawn
+abbrev pub drawn_in : List Effect → List Pair
+drawn_in [] = []
+drawn_in (draws pair ∷ effects) = pair ∷ drawn_in effects
+drawn_in (sends packet ∷ effects) = drawn_in effects
+drawn_in (holds link ∷ effects) = drawn_in effects
+drawn_in (connects link ∷ effects) = drawn_in effects
+drawn_in (ends ∷ effects) = drawn_in effects
+drawn_in (begins number ∷ effects) = drawn_in effects
+drawn_in (completes my number ∷ effects) = drawn_in effects
+drawn_in (fails number ∷ effects) = drawn_in effects
+drawn_in (accepts number ∷ effects) = drawn_in effects
+drawn_in (performs peer number ∷ effects) = drawn_in effects
+
+-- all but the packets
+abbrev pub noted : List Effect → List Effect
+noted [] = []
+noted (sends packet ∷ effects) = noted effects
+noted (draws pair ∷ effects) = draws pair ∷ noted effects
+noted (holds link ∷ effects) = holds link ∷ noted effects
+noted (connects link ∷ effects) = connects link ∷ noted effects
+noted (ends ∷ effects) = ends ∷ noted effects
+noted (begins number ∷ effects) = begins number ∷ noted effects
+noted (completes my number ∷ effects) = completes my number ∷ noted effects
+noted (fails number ∷ effects) = fails number ∷ noted effects
+noted (accepts number ∷ effects) = accepts number ∷ noted effects
+noted (performs peer number ∷ effects) = performs peer number ∷ noted effects
 
 -- What one turn makes of the association, and its effects in order.
 pub record Change : Type 0 where

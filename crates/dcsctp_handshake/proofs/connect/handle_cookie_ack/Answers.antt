@@ -2,7 +2,7 @@ use Rattle.std.proofs.lemmas.Result.{err_from_is_err_and}
 use Rattle.std.proofs.Common.{List, [], ◌∷◌, ap, ◌∙◌}
 use Rattle.dcsctp_machine.specs.Event.{Event, connected}
 use Rattle.dcsctp_machine.specs.Packet.{Emission}
-use Rattle.dcsctp_machine.specs.turns.Handshake.{cookie_ack_outcome}
+use Rattle.dcsctp_machine.specs.turns.HandshakeOutcomes.{cookie_ack_outcome}
 use Rattle.dcsctp_api.specs.declared.events.SocketEvent.TheVariants.{OnConnected}
 use Rattle.dcsctp_core.specs.declared.state.State.{State}
 use Rattle.dcsctp_core.specs.View.{View, core_of, view_of, endpoint_of}

@@ -3,7 +3,7 @@ use Rattle.std.proofs.Common.{[], ◌∷◌, refl, ap, ◌∙◌}
 use Rattle.dcsctp_machine.specs.Event.{aborted}
 use Rattle.dcsctp_machine.specs.declared.kinds.ErrorKind.TheVariants.{ProtocolViolation}
 use Rattle.dcsctp_machine.specs.Outcome.{emits}
-use Rattle.dcsctp_machine.specs.turns.Handshake.{abort_emission, no_cookie_text}
+use Rattle.dcsctp_machine.specs.turns.HandshakeOutcomes.{abort_emission, no_cookie_text}
 use Rattle.dcsctp_core.specs.View.{View, view_of, endpoint_of}
 use Rattle.dcsctp_core.proofs.Composing.{cut_after}
 use Rattle.dcsctp_handshake.specs.Handshake.{refusal_turn}

@@ -1,9 +1,14 @@
 use Rattle.std.proofs.Common.{map, refl}
 use Rattle.std.proofs.lemmas.Result.{err_from_is_err_and}
 use Rattle.dcsctp_wire.specs.Content.{cause_content}
-use Rattle.dcsctp_core.specs.View.{view_of}
+use Rattle.dcsctp_wire.specs.Content.{init_content}
+use Rattle.dcsctp_machine.specs.Packet.{introduction_in, cookie_in, init_ack, cookie_echo}
+use Rattle.dcsctp_machine.proofs.FlushLemmas.{init_ack_turn_of, cookie_echo_turn_of}
+use Rattle.dcsctp_core.specs.View.{view_of, endpoint_of}
+use Rattle.dcsctp_core.specs.Drawing.{long_word}
+use Rattle.dcsctp_handshake.specs.Handshake.{init_ack_turn, cookie_echo_turn}
 use Rattle.dcsctp_core.specs.Handling.{abort_turn}
-use Rattle.dcsctp_socket.proofs.ChunkLemmas.{init_cut, other_worked, works_whole}
+use Rattle.dcsctp_socket.proofs.ChunkLemmas.{acknowledged_chunk, acknowledged_cut, init_cut, written_worked, works_chunk, works_whole}
 use Rattle.dcsctp_socket.proofs.calls.handle_chunk.Goals as goal
 
 -- An INIT whose turn was cut added nothing.
@@ -21,4 +26,36 @@ returns-in-Abort g c =
 
 -- A chunk of a kind without a handler changes nothing.
 pub returns-in-Other : goal.returns-in-Other
-returns-in-Other g c = rw c.in-Other.is (other_worked g.R.Rng.stream (view_of c.args.context.now) c.args.header_tag _ _ _)
+returns-in-Other g c = rw c.in-Other.is (written_worked g.R.Rng.stream (view_of c.args.context.now) c.args.header_tag _ _ _)
+
+-- The flushes of these find nothing that waits, so their answers are known.
+pub returns-in-InitAck : goal.returns-in-InitAck
+returns-in-InitAck g c =
+    let old = c.args.context.now in
+    let said = init_content c.in-InitAck.init_ack in
+    let word = long_word (g.R.Rng.stream old.generator) in
+    rw c.in-InitAck.is
+    (works_chunk g.R.Rng.stream c.args.header_tag (init_ack (introduction_in said) (cookie_in said.parameters)) (init_ack_turn g.R.Rng.stream (introduction_in said) (cookie_in said.parameters)) old
+    c.handle_init_ack.result c.handle_init_ack.new.context
+    (init_ack_turn_of (endpoint_of old) (introduction_in said) (cookie_in said.parameters) _ word refl) c.handle_init_ack.ensures)
+
+pub returns-in-CookieEcho : goal.returns-in-CookieEcho
+returns-in-CookieEcho g c =
+    let old = c.args.context.now in
+    let bytes = c.in-CookieEcho.echo.cookie.now in
+    let word = long_word (g.R.Rng.stream old.generator) in
+    rw c.in-CookieEcho.is
+    (works_chunk g.R.Rng.stream c.args.header_tag (cookie_echo bytes) (cookie_echo_turn g.R.Rng.stream c.args.header_tag bytes) old
+    c.handle_cookie_echo.result c.handle_cookie_echo.new.context
+    (cookie_echo_turn_of (endpoint_of old) c.args.header_tag bytes _ word refl) c.handle_cookie_echo.ensures)
+
+pub returns-in_ok-handle_cookie_ack-in-CookieAck : goal.returns-in_ok-handle_cookie_ack-in-CookieAck
+returns-in_ok-handle_cookie_ack-in-CookieAck g c =
+    rw c.in-CookieAck.is
+    (acknowledged_chunk g.R.Rng.stream (view_of c.args.context.now) (view_of c.handle_cookie_ack.new.context) c.args.header_tag c.in_ok-handle_cookie_ack-in-CookieAck.ensures)
+
+pub returns-in_err-handle_cookie_ack-in-CookieAck : goal.returns-in_err-handle_cookie_ack-in-CookieAck
+returns-in_err-handle_cookie_ack-in-CookieAck g c =
+    rw c.in-CookieAck.is
+    (rw (err_from_is_err_and c.from_residual-in_err-handle_cookie_ack-in-CookieAck.result c.from_residual-in_err-handle_cookie_ack-in-CookieAck.ensures.1).1
+    (acknowledged_cut (view_of c.args.context.now) c.args.header_tag _ c.in_err-handle_cookie_ack-in-CookieAck.ensures))

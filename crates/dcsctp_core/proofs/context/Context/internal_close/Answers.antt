@@ -3,7 +3,7 @@ use Rattle.std.proofs.lemmas.List.{append-nil, map-append}
 use Rattle.dcsctp_machine.specs.Settings.{ports_of}
 use Rattle.dcsctp_machine.specs.Event.{Event}
 use Rattle.dcsctp_machine.specs.Endpoint.{stopped_timers}
-use Rattle.dcsctp_machine.specs.turns.Ends.{closed_after}
+use Rattle.dcsctp_machine.specs.turns.EndOutcomes.{closed_after}
 use Rattle.dcsctp_send.specs.Timer.{TimerModel}
 use Rattle.dcsctp_api.specs.Events.{event_content}
 use Rattle.dcsctp_api.specs.declared.events.SocketEvent.{SocketEvent}

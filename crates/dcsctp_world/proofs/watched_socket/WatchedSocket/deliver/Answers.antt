@@ -1,8 +1,7 @@
 use Rattle.std.proofs.Common.{ℕ, Option, Ok, Err, List, refl, sym, ap, subst}
 use Rattle.std.proofs.lemmas.Result.{err_from_is_err_and}
 use Rattle.dcsctp_api.specs.declared.errors.SocketFault.{SocketFault}
-use Rattle.dcsctp_machine.specs.Outcome.{Outcome}
-use Rattle.dcsctp_machine.specs.CallTurns.{HandleInput}
+use Rattle.dcsctp_machine.specs.CallTurns.{Turned, HandleInput}
 use Rattle.dcsctp_machine.specs.Sockets.{numbered, DeliveryTurns}
 use Rattle.dcsctp_world.specs.declared.act.Reply.TheVariants.{NoCall}
 use Rattle.dcsctp_world.specs.Growth.{Works, delivery_reply}
@@ -19,7 +18,7 @@ returns-in-None g c =
 
 pub returns-in_err-handle_input-in-Some : goal.returns-in_err-handle_input-in-Some
 returns-in_err-handle_input-in-Some g c =
-    let Turns : List Outcome → Type 0 = DeliveryTurns c.args.self.now.socket.view.endpoint (numbered c.args.number (packet_bytes c.args.packets.now)) in
+    let Turns : List Turned → Type 0 = DeliveryTurns c.args.self.now.socket.view.endpoint (numbered c.args.number (packet_bytes c.args.packets.now)) in
     let p = err_from_is_err_and c.from_residual.result c.from_residual.ensures.1 in
     rw (p.1, p.2)
     (input_fails Turns (shown c.args.self.now) c.handle_input.new.self _ _ c.in_err-handle_input-in-Some.ensures.call
@@ -27,7 +26,7 @@ returns-in_err-handle_input-in-Some g c =
 
 pub returns-in_err-keep_all-in-Some : goal.returns-in_err-keep_all-in-Some
 returns-in_err-keep_all-in-Some g c =
-    let Turns : List Outcome → Type 0 = DeliveryTurns c.args.self.now.socket.view.endpoint (numbered c.args.number (packet_bytes c.args.packets.now)) in
+    let Turns : List Turned → Type 0 = DeliveryTurns c.args.self.now.socket.view.endpoint (numbered c.args.number (packet_bytes c.args.packets.now)) in
     let worked = c.in_ok-handle_input-in-Some.ensures.call in
     let p = err_from_is_err_and c.from_residual-in_err-keep_all-in-Some.result c.from_residual-in_err-keep_all-in-Some.ensures.1 in
     rw (p.1, p.2) (

@@ -18,14 +18,14 @@ work-requires-clause-b g c = ((c.self.invariant c.if-self.false).sides sides.B).
 pub returns-in-Ok-clause-agreement : goal.returns-in-Ok-clause-agreement
 returns-in-Ok-clause-agreement g c =
     let new = world_of c.work.new.a c.work.new.b c.work.new.acts.items c.self.inside.failed in
-    world_agrees c.sockets_agree.ensures (options_of c.args.self.now) new
+    world_agrees c.socket_laws.ensures (options_of c.args.self.now) new
     (subst (λ (w : WorldView g.row.R.Denot). IsRun (options_of w) new) c.self.view_is
     (applied_is_run c.args.step.now c.in-Ok.reply c.self.inside.a c.self.inside.b c.work.new.a c.work.new.b c.self.inside.acts.items c.work.new.acts.items
     c.self.inside.failed c.if-self.false c.self.invariant c.in-Ok.ensures))
 
 pub returns-in-Ok-clause-handshake : goal.returns-in-Ok-clause-handshake
 returns-in-Ok-clause-handshake g c =
-    handshake_connects c.fitting_sockets_connect.ensures (options_of c.args.self.now) (world_of c.work.new.a c.work.new.b c.work.new.acts.items c.self.inside.failed)
+    handshake_connects c.socket_laws.ensures.connect (options_of c.args.self.now) (world_of c.work.new.a c.work.new.b c.work.new.acts.items c.self.inside.failed)
     (returns-in-Ok-clause-agreement g c).is_run
 
 pub returns-in-Ok-clause-options : goal.returns-in-Ok-clause-options

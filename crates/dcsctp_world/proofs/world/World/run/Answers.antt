@@ -12,13 +12,13 @@ loop-step-preserved g c =
     c.loop-step-test.true c.loop-step.invariant c.in_ok-apply.ensures.call c.in_ok-apply.ensures.agreement.is_run c.in_ok-apply.ensures.options
 
 pub returns-clause-agreement : goal.returns-clause-agreement
-returns-clause-agreement g c = world_agrees c.sockets_agree.ensures (options_of c.args.self.now) c.loop-step.self c.loop-step.invariant.is_run
+returns-clause-agreement g c = world_agrees c.socket_laws.ensures (options_of c.args.self.now) c.loop-step.self c.loop-step.invariant.is_run
 
 pub returns-clause-handshake : goal.returns-clause-handshake
 returns-clause-handshake g c =
-    handshake_connects c.fitting_sockets_connect.ensures (options_of c.args.self.now) c.loop-step.self c.loop-step.invariant.is_run
+    handshake_connects c.socket_laws.ensures.connect (options_of c.args.self.now) c.loop-step.self c.loop-step.invariant.is_run
 
 pub returns-in_err-apply-clause-call : goal.returns-in_err-apply-clause-call
 returns-in_err-apply-clause-call g c =
-    ran_out_among c.sockets_agree.ensures c.fitting_sockets_connect.ensures c.args.steps.now c.loop-step.step-index (steps.Call sides.A calls.Connect) c.in_err-apply.field-0.0 c.args.self.now c.loop-step.self c.apply.new.self
+    ran_out_among c.socket_laws.ensures c.args.steps.now c.loop-step.step-index (steps.Call sides.A calls.Connect) c.in_err-apply.field-0.0 c.args.self.now c.loop-step.self c.apply.new.self
     c.loop-step-test.true c.loop-step.invariant c.in_err-apply.ensures.call c.from_residual.result c.from_residual.ensures.1

@@ -6,11 +6,11 @@ use Rattle.dcsctp_wire.specs.declared.reconfiguration.ReconfigurationResponseRes
 use Rattle.dcsctp_wire.specs.declared.reconfiguration.ReconfigurationResponseResult.TheVariants.{SuccessNothingToDo, SuccessPerformed, Denied, ErrorWrongSSN, ErrorRequestAlreadyInProgress, ErrorBadSequenceNumber, InProgress}
 use Rattle.dcsctp_machine.specs.Reconfiguration.{ResetParameter, outgoing_reset_request, incoming_reset_request, reconfiguration_response, other_reset_parameter}
 use Rattle.dcsctp_machine.specs.Packet.{re_config}
-use Rattle.dcsctp_machine.specs.Endpoint.{Core, closed, cookie_wait, cookie_echoed, open_in}
-use Rattle.dcsctp_machine.specs.Outcome.{next_chunk}
+use Rattle.dcsctp_machine.specs.Endpoint.{Core, cookie_echoed, open_in}
+use Rattle.dcsctp_machine.specs.Following.{next_chunk}
 use Rattle.dcsctp_machine.specs.control.Effect.{Effect, completes, fails, accepts, performs, Change, unchanged, emitted_alone}
 use Rattle.dcsctp_machine.specs.control.Choices.{Choices}
-use Rattle.dcsctp_machine.specs.control.Flush.{Flushed, flush, next_number}
+use Rattle.dcsctp_machine.specs.control.FlushChanges.{Flushed, flush, next_number}
 
 -- ---- which number
 
@@ -116,21 +116,21 @@ informed_where my held number result false = record { held = held; effects = [] 
 -- ---- the parameters after one another
 
 -- What is left of them. A second Outgoing SSN Reset Request is an error, and nothing goes out.
-pub record Worked : Type 0 where
+pub record WorkedParameters : Type 0 where
   pub held : Held
   pub effects : List Effect
   pub answers : List ResetParameter
   pub is_refused : Bool
 
-abbrev pub after_request : ℕ → Answered → Worked → Worked
+abbrev pub after_request : ℕ → Answered → WorkedParameters → WorkedParameters
 after_request number first rest =
     record rest { effects = first.effects ++ rest.effects; answers = reconfiguration_response number first.result ∷ rest.answers }
 
-abbrev pub after_answer : Informed → Worked → Worked
+abbrev pub after_answer : Informed → WorkedParameters → WorkedParameters
 after_answer first rest = record rest { effects = first.effects ++ rest.effects }
 
 -- the own pair, whether data has come that was sent before, and whether an outgoing request was worked so far
-abbrev pub work_parameters : Pair → Bool → Bool → Held → List ResetParameter → Worked
+abbrev pub work_parameters : Pair → Bool → Bool → Held → List ResetParameter → WorkedParameters
 work_parameters my is_reached has_worked held [] = record { held = held; effects = []; answers = []; is_refused = false }
 work_parameters my is_reached true held (outgoing_reset_request number answered reset ∷ parameters) =
     record { held = held; effects = []; answers = []; is_refused = true }
@@ -148,7 +148,7 @@ work_parameters my is_reached has_worked held (other_reset_parameter type value 
 -- ---- the chunk
 
 -- A chunk without parameters is an error too.
-abbrev pub work_chunk : Pair → Bool → Held → List ResetParameter → Worked
+abbrev pub work_chunk : Pair → Bool → Held → List ResetParameter → WorkedParameters
 work_chunk my is_reached held [] = record { held = held; effects = []; answers = []; is_refused = true }
 work_chunk my is_reached held (parameter ∷ parameters) = work_parameters my is_reached false held (parameter ∷ parameters)
 
@@ -167,16 +167,15 @@ reset_sent false held answers choices =
 -- the peer part and effects after the chunk
 abbrev pub reset_worked : Pair → Held → List ResetParameter → Choices → Informed
 reset_worked my held parameters choices =
-    let worked : Worked = work_chunk my choices.is_reached held parameters in
+    let worked : WorkedParameters = work_chunk my choices.is_reached held parameters in
     let sent : Flushed = reset_sent worked.is_refused worked.held worked.answers choices in
     record { held = sent.held; effects = worked.effects ++ sent.effects }
 
 abbrev pub re_config_change : Core → List ResetParameter → Choices → Change
-re_config_change closed parameters choices = unchanged closed
-re_config_change (cookie_wait my) parameters choices = unchanged (cookie_wait my)
 re_config_change (cookie_echoed my held cookie) parameters choices =
     let after : Informed = reset_worked my held parameters choices in
     record { core = cookie_echoed my after.held cookie; effects = after.effects; following = next_chunk }
 re_config_change (open_in phase my held) parameters choices =
     let after : Informed = reset_worked my held parameters choices in
     record { core = open_in phase my after.held; effects = after.effects; following = next_chunk }
+re_config_change core parameters choices = unchanged core

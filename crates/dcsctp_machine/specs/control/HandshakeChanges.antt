@@ -11,11 +11,11 @@ use Rattle.dcsctp_machine.specs.Offer.{offer_of, answering_offer, negotiated}
 use Rattle.dcsctp_machine.specs.Cookie.{Cookie, cookie_at}
 use Rattle.dcsctp_machine.specs.Cause.{missing_mandatory_parameter}
 use Rattle.dcsctp_machine.specs.Packet.{Introduction, init, init_ack, cookie_echo, abort, shutdown_ack}
-use Rattle.dcsctp_machine.specs.Endpoint.{Core, closed, cookie_wait, cookie_echoed, open_in, OpenPhase, established, shutdown_pending, shutdown_sent, shutdown_received, shutdown_ack_sent}
-use Rattle.dcsctp_machine.specs.Outcome.{next_chunk}
+use Rattle.dcsctp_machine.specs.Endpoint.{Core, closed, cookie_wait, cookie_echoed, open_in, OpenPhase, established, shutdown_ack_sent}
+use Rattle.dcsctp_machine.specs.Following.{next_chunk}
 use Rattle.dcsctp_machine.specs.control.Effect.{Effect, draws, holds, connects, Change, unchanged, ended, emitted, emitted_alone, link_of}
 use Rattle.dcsctp_machine.specs.control.Choices.{Filling, Choices}
-use Rattle.dcsctp_machine.specs.control.Flush.{Flushed, flush}
+use Rattle.dcsctp_machine.specs.control.FlushChanges.{Flushed, flush}
 
 -- what a socket says of itself in an INIT
 abbrev pub introduction_of : Options → Pair → Introduction
@@ -48,9 +48,7 @@ sends_init options mine fits = emitted_alone fits 0 (init (introduction_of optio
 abbrev pub connect_change : Options → Core → Choices → Change
 connect_change options closed choices =
     record { core = cookie_wait choices.drawn; effects = draws choices.drawn ∷ sends_init options choices.drawn choices.fits; following = next_chunk }
-connect_change options (cookie_wait my) choices = unchanged (cookie_wait my)
-connect_change options (cookie_echoed my held cookie) choices = unchanged (cookie_echoed my held cookie)
-connect_change options (open_in phase my held) choices = unchanged (open_in phase my held)
+connect_change options core choices = unchanged core
 
 -- ---- INIT
 
@@ -72,33 +70,30 @@ sends_init_ack options theirs mine choices =
     emitted_alone choices.fits theirs.pair.tag (init_ack (answering_introduction options theirs mine) (Some choices.cookie))
 
 -- a pair is drawn for the answer
-abbrev pub draws_and_answers : Options → Core → Introduction → Choices → Change
-draws_and_answers options core theirs choices =
+abbrev pub drawn_answer_change : Options → Core → Introduction → Choices → Change
+drawn_answer_change options core theirs choices =
     record { core = core; effects = draws choices.drawn ∷ sends_init_ack options theirs choices.drawn choices; following = next_chunk }
 
-abbrev pub init_where_open : Options → Core → Introduction → OpenPhase → Held → Choices → Change
-init_where_open options core theirs established held choices = draws_and_answers options core theirs choices
-init_where_open options core theirs shutdown_pending held choices = draws_and_answers options core theirs choices
-init_where_open options core theirs shutdown_sent held choices = draws_and_answers options core theirs choices
-init_where_open options core theirs shutdown_received held choices = draws_and_answers options core theirs choices
-init_where_open options core theirs shutdown_ack_sent held choices =
+abbrev pub init_change_where_open : Options → Core → Introduction → OpenPhase → Held → Choices → Change
+init_change_where_open options core theirs shutdown_ack_sent held choices =
     record { core = core; effects = emitted held.peer.tag (shutdown_ack ∷ []); following = next_chunk }
+init_change_where_open options core theirs phase held choices = drawn_answer_change options core theirs choices
 
 -- The association stays as it is in every phase.
 abbrev pub init_change : Options → Core → Introduction → Choices → Change
-init_change options closed theirs choices = draws_and_answers options closed theirs choices
+init_change options closed theirs choices = drawn_answer_change options closed theirs choices
 init_change options (cookie_wait my) theirs choices =
     record { core = cookie_wait my; effects = sends_init_ack options theirs my choices; following = next_chunk }
 init_change options (cookie_echoed my held cookie) theirs choices =
     record { core = cookie_echoed my held cookie; effects = sends_init_ack options theirs my choices; following = next_chunk }
-init_change options (open_in phase my held) theirs choices = init_where_open options (open_in phase my held) theirs phase held choices
+init_change options (open_in phase my held) theirs choices = init_change_where_open options (open_in phase my held) theirs phase held choices
 
 -- ---- INIT ACK
 
 -- COOKIE ECHO goes out under the peer's tag; where it doesn't fit, nothing is sent.
-abbrev pub echoes : Pair → Held → List ℕ → Bool → Filling → Change
-echoes my held cookie false filling = record { core = cookie_echoed my held cookie; effects = []; following = next_chunk }
-echoes my held cookie true filling =
+abbrev pub echo_change : Pair → Held → List ℕ → Bool → Filling → Change
+echo_change my held cookie false filling = record { core = cookie_echoed my held cookie; effects = []; following = next_chunk }
+echo_change my held cookie true filling =
     let after : Flushed = flush held.peer.tag held (cookie_echo cookie ∷ []) filling in
     record { core = cookie_echoed my after.held cookie; effects = after.effects; following = next_chunk }
 
@@ -108,39 +103,33 @@ held_by_init_ack options my theirs = new_held my theirs.pair (negotiated (offer_
 
 -- INIT ACK counts in CookieWait alone. One without a cookie ends the association (RFC 9260, section 3.3.3).
 abbrev pub init_ack_change : Options → Core → Introduction → Option (List ℕ) → Choices → Change
-init_ack_change options closed theirs cookie choices = unchanged closed
 init_ack_change options (cookie_wait my) theirs None choices =
     ended (emitted_alone choices.fits theirs.pair.tag (abort false (missing_mandatory_parameter (state_cookie_type ∷ []) ∷ [])))
 init_ack_change options (cookie_wait my) theirs (Some cookie) choices =
     let held : Held = held_by_init_ack options my theirs in
-    let echoed : Change = echoes my held cookie choices.fits choices.filling in
+    let echoed : Change = echo_change my held cookie choices.fits choices.filling in
     record echoed { effects = holds (link_of my held) ∷ echoed.effects }
-init_ack_change options (cookie_echoed my held echoed) theirs cookie choices = unchanged (cookie_echoed my held echoed)
-init_ack_change options (open_in phase my held) theirs cookie choices = unchanged (open_in phase my held)
+init_ack_change options core theirs cookie choices = unchanged core
 
 -- ---- COOKIE ACK
 
 -- COOKIE ACK counts in CookieEchoed alone (RFC 9260, section 5.2.5).
 abbrev pub cookie_ack_change : Core → Choices → Change
-cookie_ack_change closed choices = unchanged closed
-cookie_ack_change (cookie_wait my) choices = unchanged (cookie_wait my)
 cookie_ack_change (cookie_echoed my held cookie) choices =
     let after : Flushed = flush held.peer.tag held [] choices.filling in
     record { core = open_in established my after.held; effects = connects (link_of my held) ∷ after.effects; following = next_chunk }
-cookie_ack_change (open_in phase my held) choices = unchanged (open_in phase my held)
+cookie_ack_change core choices = unchanged core
 
 -- ---- T1
 
 -- T1 expired with restarts left: INIT or COOKIE ECHO again.
-abbrev pub t1_again : Options → Core → Choices → Change
-t1_again options closed choices = unchanged closed
-t1_again options (cookie_wait my) choices = record { core = cookie_wait my; effects = sends_init options my choices.fits; following = next_chunk }
-t1_again options (cookie_echoed my held cookie) choices = echoes my held cookie choices.fits choices.filling
-t1_again options (open_in phase my held) choices = unchanged (open_in phase my held)
+abbrev pub t1_again_change : Options → Core → Choices → Change
+t1_again_change options (cookie_wait my) choices = record { core = cookie_wait my; effects = sends_init options my choices.fits; following = next_chunk }
+t1_again_change options (cookie_echoed my held cookie) choices = echo_change my held cookie choices.fits choices.filling
+t1_again_change options core choices = unchanged core
 
 -- T1 expired without restarts: the association is given up.
-abbrev pub t1_gives_up : Core → Change
-t1_gives_up closed = unchanged closed
-t1_gives_up (cookie_wait my) = ended []
-t1_gives_up (cookie_echoed my held cookie) = ended []
-t1_gives_up (open_in phase my held) = unchanged (open_in phase my held)
+abbrev pub t1_gives_up_change : Core → Change
+t1_gives_up_change (cookie_wait my) = ended []
+t1_gives_up_change (cookie_echoed my held cookie) = ended []
+t1_gives_up_change core = unchanged core

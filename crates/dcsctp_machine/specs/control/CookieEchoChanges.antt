@@ -6,14 +6,13 @@ use Rattle.dcsctp_machine.specs.declared.options.Options.{Options}
 use Rattle.dcsctp_machine.specs.Offer.{offer_of, negotiated}
 use Rattle.dcsctp_machine.specs.Cookie.{Cookie, cookie_at}
 use Rattle.dcsctp_machine.specs.Cause.{cookie_received_while_shutting_down, cause_bytes}
-use Rattle.dcsctp_wire.specs.Numbers.{error_type}
-use Rattle.dcsctp_machine.specs.Packet.{Content, cookie_ack, shutdown_ack, other}
-use Rattle.dcsctp_machine.specs.Endpoint.{Core, closed, cookie_wait, cookie_echoed, open_in, OpenPhase, established, shutdown_pending, shutdown_sent, shutdown_received, shutdown_ack_sent}
-use Rattle.dcsctp_machine.specs.Outcome.{next_chunk, dropped_rest}
+use Rattle.dcsctp_machine.specs.Packet.{Content, cookie_ack, shutdown_ack, plain, error_of}
+use Rattle.dcsctp_machine.specs.Endpoint.{Core, closed, cookie_wait, cookie_echoed, open_in, OpenPhase, established, shutdown_ack_sent}
+use Rattle.dcsctp_machine.specs.Following.{next_chunk, dropped_rest}
 use Rattle.dcsctp_machine.specs.control.Effect.{holds, connects, Change, unchanged, dropped, emitted, link_of}
 use Rattle.dcsctp_machine.specs.control.Choices.{Choices}
-use Rattle.dcsctp_machine.specs.control.Flush.{Flushed, flush}
-use Rattle.dcsctp_machine.specs.control.Handshake.{new_held}
+use Rattle.dcsctp_machine.specs.control.FlushChanges.{Flushed, flush}
+use Rattle.dcsctp_machine.specs.control.HandshakeChanges.{new_held}
 
 -- ---- which case
 
@@ -63,8 +62,8 @@ held_by_cookie options cookie = new_held cookie.maker cookie.addressee (negotiat
 
 -- A new association: of the pairs in the cookie, with what was offered in the INIT that it answers. COOKIE ACK
 -- is the first chunk of a flush.
-abbrev pub new_association : Options → Cookie → Choices → Change
-new_association options cookie choices =
+abbrev pub new_association_change : Options → Cookie → Choices → Change
+new_association_change options cookie choices =
     let held : Held = held_by_cookie options cookie in
     let after : Flushed = flush cookie.addressee.tag held (cookie_ack ∷ []) choices.filling in
     record {
@@ -75,46 +74,40 @@ new_association options cookie choices =
 
 -- ERROR with the cause Cookie Received While Shutting Down
 abbrev pub shutting_down_error : Content
-shutting_down_error = other error_type 0 (cause_bytes cookie_received_while_shutting_down)
+shutting_down_error = plain (error_of (cause_bytes cookie_received_while_shutting_down))
 
 -- A restart is refused once SHUTDOWN ACK was sent.
-abbrev pub restarts_where_open : Options → OpenPhase → Pair → Held → Cookie → Choices → Change
-restarts_where_open options established my held cookie choices = new_association options cookie choices
-restarts_where_open options shutdown_pending my held cookie choices = new_association options cookie choices
-restarts_where_open options shutdown_sent my held cookie choices = new_association options cookie choices
-restarts_where_open options shutdown_received my held cookie choices = new_association options cookie choices
-restarts_where_open options shutdown_ack_sent my held cookie choices =
+abbrev pub restart_change_where_open : Options → OpenPhase → Pair → Held → Cookie → Choices → Change
+restart_change_where_open options shutdown_ack_sent my held cookie choices =
     record { core = open_in shutdown_ack_sent my held; effects = emitted held.peer.tag (shutdown_ack ∷ shutting_down_error ∷ []); following = dropped_rest }
+restart_change_where_open options phase my held cookie choices = new_association_change options cookie choices
 
-abbrev pub restarts : Options → Core → Cookie → Choices → Change
-restarts options closed cookie choices = new_association options cookie choices
-restarts options (cookie_wait my) cookie choices = new_association options cookie choices
-restarts options (cookie_echoed my held echoed) cookie choices = new_association options cookie choices
-restarts options (open_in phase my held) cookie choices = restarts_where_open options phase my held cookie choices
+abbrev pub restart_change : Options → Core → Cookie → Choices → Change
+restart_change options (open_in phase my held) cookie choices = restart_change_where_open options phase my held cookie choices
+restart_change options core cookie choices = new_association_change options cookie choices
 
 -- Where its COOKIE ACK is awaited, the association is established; in every phase COOKIE ACK goes out.
-abbrev pub maintains : Core → Cookie → Choices → Change
-maintains closed cookie choices = unchanged closed
-maintains (cookie_wait my) cookie choices = unchanged (cookie_wait my)
-maintains (cookie_echoed my held echoed) cookie choices =
+abbrev pub maintain_change : Core → Cookie → Choices → Change
+maintain_change (cookie_echoed my held echoed) cookie choices =
     let after : Flushed = flush cookie.addressee.tag held (cookie_ack ∷ []) choices.filling in
     record { core = open_in established my after.held; effects = connects (link_of my held) ∷ after.effects; following = next_chunk }
-maintains (open_in phase my held) cookie choices =
+maintain_change (open_in phase my held) cookie choices =
     let after : Flushed = flush cookie.addressee.tag held (cookie_ack ∷ []) choices.filling in
     record { core = open_in phase my after.held; effects = after.effects; following = next_chunk }
+maintain_change core cookie choices = unchanged core
 
-abbrev pub resolved : Options → Core → Cookie → Choices → Resolution → Change
-resolved options core cookie choices establish_new = new_association options cookie choices
-resolved options core cookie choices restart = restarts options core cookie choices
-resolved options core cookie choices simultaneous_init = new_association options cookie choices
-resolved options core cookie choices discard = dropped core
-resolved options core cookie choices maintain_existing = maintains core cookie choices
-resolved options core cookie choices invalid_tag = dropped core
+abbrev pub resolved_change : Options → Core → Cookie → Choices → Resolution → Change
+resolved_change options core cookie choices establish_new = new_association_change options cookie choices
+resolved_change options core cookie choices restart = restart_change options core cookie choices
+resolved_change options core cookie choices simultaneous_init = new_association_change options cookie choices
+resolved_change options core cookie choices discard = dropped core
+resolved_change options core cookie choices maintain_existing = maintain_change core cookie choices
+resolved_change options core cookie choices invalid_tag = dropped core
 
 -- Bytes that are no cookie change nothing.
-abbrev pub echo_read : Options → Core → ℕ → Result Cookie (List ℕ) → Choices → Change
-echo_read options core header (Err text) choices = dropped core
-echo_read options core header (Ok cookie) choices = resolved options core cookie choices (resolve core choices.tie header cookie)
+abbrev pub read_echo_change : Options → Core → ℕ → Result Cookie (List ℕ) → Choices → Change
+read_echo_change options core header (Err text) choices = dropped core
+read_echo_change options core header (Ok cookie) choices = resolved_change options core cookie choices (resolve core choices.tie header cookie)
 
 abbrev pub cookie_echo_change : Options → Core → ℕ → List ℕ → Choices → Change
-cookie_echo_change options core header bytes choices = echo_read options core header (cookie_at bytes) choices
+cookie_echo_change options core header bytes choices = read_echo_change options core header (cookie_at bytes) choices

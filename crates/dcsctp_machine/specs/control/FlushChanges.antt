@@ -2,10 +2,10 @@
 -- much of it fits and how many packets go out stands in the choices (RFC 9260, section 6.1).
 use Rattle.std.specs.Prelude.{ℕ, Bool, true, false, ◌+◌, ◌%◌, ◌^◌, Option, None, Some, List, [], ◌∷◌, ◌++◌}
 use Rattle.dcsctp_machine.specs.declared.association.Held.{Held}
-use Rattle.dcsctp_machine.specs.Packet.{Content, re_config}
+use Rattle.dcsctp_machine.specs.Packet.{Plain, Content, re_config}
 use Rattle.dcsctp_machine.specs.Reconfiguration.{RequestedReset, outgoing_reset_request}
 use Rattle.dcsctp_machine.specs.control.Effect.{Effect, begins, emitted}
-use Rattle.dcsctp_machine.specs.control.Choices.{Plain, plain_contents, Filling}
+use Rattle.dcsctp_machine.specs.control.Choices.{plain_contents, Filling}
 
 -- the number after this one (RFC 6525, section 4.1)
 abbrev pub next_number : ℕ → ℕ

@@ -16,11 +16,12 @@ use Rattle.dcsctp_machine.specs.Cause.{missing_mandatory_parameter}
 use Rattle.dcsctp_machine.specs.Event.{aborted, connected}
 use Rattle.dcsctp_machine.specs.Packet.{Introduction, Content, init, init_ack, cookie_echo, abort, shutdown_ack, Emission}
 use Rattle.dcsctp_machine.specs.Transfer.{SendQueueState, queue_after_reset, new_transfer, next_tsn_of}
-use Rattle.dcsctp_machine.specs.Endpoint.{Endpoint, Core, closed, cookie_wait, cookie_echoed, open_in, OpenPhase, established, shutdown_pending, shutdown_sent, shutdown_received, shutdown_ack_sent, Timers, started, t1_settings, heartbeat_settings}
-use Rattle.dcsctp_machine.specs.Outcome.{Outcome, still, quiet, fits, emits, drawing}
-use Rattle.dcsctp_machine.specs.control.Handshake.{introduction_of, held_by_init_ack}
-use Rattle.dcsctp_machine.specs.turns.Flush.{flushes}
-use Rattle.dcsctp_machine.specs.turns.Ends.{ends_with}
+use Rattle.dcsctp_machine.specs.Endpoint.{Endpoint, Core, closed, cookie_wait, cookie_echoed, open_in, OpenPhase, established, shutdown_ack_sent, Timers, started, t1_settings, heartbeat_settings}
+use Rattle.dcsctp_machine.specs.Outcome.{Outcome, still, quiet, fits, emits, noting, drawing}
+use Rattle.dcsctp_machine.specs.control.Effect.{holds, connects, link_of}
+use Rattle.dcsctp_machine.specs.control.HandshakeChanges.{introduction_of, held_by_init_ack}
+use Rattle.dcsctp_machine.specs.turns.FlushOutcomes.{Answer, FlushAnswers, FlushKind, draft_to, flush_answered, flush_outcome}
+use Rattle.dcsctp_machine.specs.turns.EndOutcomes.{ended_outcome}
 
 -- a verification tag from a random word: never 0
 abbrev pub tag_from : ℕ → ℕ
@@ -57,8 +58,8 @@ init_ack_emission e theirs mine tie =
       packet = record { tag = theirs.pair.tag; contents = init_ack_for e theirs mine tie ∷ [] };
     }
 
-abbrev pub answers_init : Endpoint → Introduction → List Word → Pair → ℕ → Outcome
-answers_init e theirs words mine tie = emits e words (init_ack_emission e theirs mine tie)
+abbrev pub answer_outcome : Endpoint → Introduction → List Word → Pair → ℕ → Outcome
+answer_outcome e theirs words mine tie = emits e words (init_ack_emission e theirs mine tie)
 
 -- a packet of one control chunk under the peer's tag
 abbrev pub to_peer : Held → Content → Emission
@@ -77,26 +78,23 @@ abbrev pub renewed_pair : Endpoint → ℕ → Pair
 renewed_pair e word = record { tag = tag_from word; first_tsn = (next_tsn_of e.below.transfer + tsn_gap) % 2 ^ 32 }
 
 -- An INIT is answered with a pair that is drawn for it.
-abbrev pub renews : Endpoint → Introduction → ℕ → Outcome
-renews e theirs word = drawing (renewed_pair e word) (answers_init e theirs (U32 word ∷ []) (renewed_pair e word) e.tie)
+abbrev pub renewed_outcome : Endpoint → Introduction → ℕ → Outcome
+renewed_outcome e theirs word = drawing (renewed_pair e word) (answer_outcome e theirs (U32 word ∷ []) (renewed_pair e word) e.tie)
 
 -- where an association is open
-abbrev pub init_where_open : Endpoint → Introduction → OpenPhase → Held → ℕ → Outcome
-init_where_open e theirs established held word = renews e theirs word
-init_where_open e theirs shutdown_pending held word = renews e theirs word
-init_where_open e theirs shutdown_sent held word = renews e theirs word
-init_where_open e theirs shutdown_received held word = renews e theirs word
-init_where_open e theirs shutdown_ack_sent held word = emits e [] (to_peer held shutdown_ack)
+abbrev pub init_outcome_where_open : Endpoint → Introduction → OpenPhase → Held → ℕ → Outcome
+init_outcome_where_open e theirs shutdown_ack_sent held word = emits e [] (to_peer held shutdown_ack)
+init_outcome_where_open e theirs phase held word = renewed_outcome e theirs word
 
 -- An INIT is answered with the own pair while a handshake is under way, else with a drawn tag: a closed socket draws
 -- the first TSN too, an open association takes one far from its own. Neither is kept. The association stays as it is in
 -- every phase. The words are those that come next, drawn or not.
 abbrev pub init_outcome : Endpoint → Introduction → Core → ℕ → ℕ → Outcome
 init_outcome e theirs closed word next =
-    drawing (pair_from word next) (answers_init e theirs (U32 word ∷ U32 next ∷ []) (pair_from word next) 0)
-init_outcome e theirs (cookie_wait mine) word next = answers_init e theirs [] mine 0
-init_outcome e theirs (cookie_echoed mine held cookie) word next = answers_init e theirs [] mine 0
-init_outcome e theirs (open_in phase mine held) word next = init_where_open e theirs phase held word
+    drawing (pair_from word next) (answer_outcome e theirs (U32 word ∷ U32 next ∷ []) (pair_from word next) 0)
+init_outcome e theirs (cookie_wait mine) word next = answer_outcome e theirs [] mine 0
+init_outcome e theirs (cookie_echoed mine held cookie) word next = answer_outcome e theirs [] mine 0
+init_outcome e theirs (open_in phase mine held) word next = init_outcome_where_open e theirs phase held word
 
 -- an INIT is worked
 abbrev pub InitTurn : Endpoint → Introduction → Outcome → Type 0
@@ -117,9 +115,7 @@ awaits_init_ack e mine =
 abbrev pub connect_outcome : Endpoint → Core → ℕ → ℕ → Outcome
 connect_outcome e closed word next =
     drawing (pair_from word next) (emits (awaits_init_ack e (pair_from word next)) (U32 word ∷ U32 next ∷ []) (init_emission e (pair_from word next)))
-connect_outcome e (cookie_wait my) word next = still e
-connect_outcome e (cookie_echoed my held cookie) word next = still e
-connect_outcome e (open_in phase my held) word next = still e
+connect_outcome e core word next = still e
 
 -- the user connects
 abbrev pub ConnectTurn : Endpoint → Outcome → Type 0
@@ -138,17 +134,20 @@ abort_emission tag =
       packet = record { tag = tag; contents = abort false (missing_mandatory_parameter (state_cookie_type ∷ []) ∷ []) ∷ [] };
     }
 
-abbrev pub refuses_init_ack : Endpoint → ℕ → Outcome
-refuses_init_ack e tag = ends_with (emits e [] (abort_emission tag)) (aborted ProtocolViolation no_cookie_text)
+abbrev pub refused_init_ack_outcome : Endpoint → ℕ → Outcome
+refused_init_ack_outcome e tag = ended_outcome (emits e [] (abort_emission tag)) (aborted ProtocolViolation no_cookie_text)
 
--- The peer's implementation, by its cookie.
+-- how the cookies of known implementations begin
+abbrev pub implementations : List (List ℕ × SctpImplementation)
+implementations = (codes "dcSCTP00", DcsctpCc) ∷ (codes "dcSCTPr0", DcsctpRs) ∷ (codes "KAME-BSD", UsrSctp) ∷ []
+
+abbrev pub named_in : List ℕ → List (List ℕ × SctpImplementation) → SctpImplementation
+named_in cookie [] = Unknown
+named_in cookie (row ∷ rows) = if starts_with nat_eq cookie row.0 then row.1 else named_in cookie rows
+
+-- The peer's implementation, by its cookie, which has to be longer than its beginning.
 abbrev pub implementation_of : List ℕ → SctpImplementation
-implementation_of cookie =
-    if nat_le (length cookie) 8 then Unknown
-    else (if starts_with nat_eq cookie (codes "dcSCTP00") then DcsctpCc
-    else (if starts_with nat_eq cookie (codes "dcSCTPr0") then DcsctpRs
-    else (if starts_with nat_eq cookie (codes "KAME-BSD") then UsrSctp
-    else Unknown)))
+implementation_of cookie = if nat_le (length cookie) 8 then Unknown else named_in cookie implementations
 
 -- the queue as a new association finds it, with its numbers anew
 abbrev pub queue_anew : SendQueueState → Bool → SendQueueState
@@ -173,24 +172,47 @@ awaits_cookie_ack e mine theirs cookie tie =
 abbrev pub echo_emission : ℕ → List ℕ → Emission
 echo_emission tag cookie = record { with_checksum = true; packet = record { tag = tag; contents = cookie_echo cookie ∷ [] } }
 
-abbrev pub echoes_cookie : Endpoint → List Word → ℕ → List ℕ → Outcome
-echoes_cookie e words tag cookie = if fits e (echo_emission tag cookie)
-    then flushes e words [] (echo_emission tag cookie).with_checksum tag (echo_emission tag cookie).packet.contents else quiet e words []
+abbrev pub send_echo_by : FlushKind → Endpoint → List Word → ℕ → List ℕ → Outcome
+send_echo_by flush e words tag cookie = if fits e (echo_emission tag cookie)
+    then flush e words [] (echo_emission tag cookie).with_checksum tag (echo_emission tag cookie).packet.contents else quiet e words []
 
-abbrev pub accepts_init_ack : Endpoint → Pair → Introduction → Option (List ℕ) → ℕ → Outcome
-accepts_init_ack e mine theirs None tie = refuses_init_ack e theirs.pair.tag
-accepts_init_ack e mine theirs (Some cookie) tie = echoes_cookie (awaits_cookie_ack e mine theirs cookie tie) (U64 tie ∷ []) theirs.pair.tag cookie
+abbrev pub send_echo_outcome : Endpoint → List Word → ℕ → List ℕ → Outcome
+send_echo_outcome e words tag cookie = send_echo_by flush_outcome e words tag cookie
 
--- INIT ACK counts in CookieWait alone (RFC 9260, section 5.2.3). The word is the one that comes next, drawn or not.
+abbrev pub accepted_init_ack_by : FlushKind → Endpoint → Pair → Introduction → Option (List ℕ) → ℕ → Outcome
+accepted_init_ack_by flush e mine theirs None tie = refused_init_ack_outcome e theirs.pair.tag
+accepted_init_ack_by flush e mine theirs (Some cookie) tie =
+    noting (holds (link_of mine (held_by_init_ack e.options mine theirs)) ∷ [])
+    (send_echo_by flush (awaits_cookie_ack e mine theirs cookie tie) (U64 tie ∷ []) theirs.pair.tag cookie)
+
+abbrev pub accepted_init_ack_outcome : Endpoint → Pair → Introduction → Option (List ℕ) → ℕ → Outcome
+accepted_init_ack_outcome e mine theirs cookie tie = accepted_init_ack_by flush_outcome e mine theirs cookie tie
+
+-- INIT ACK counts in CookieWait alone (RFC 9260, section 5.2.3). The word is the one that comes next, drawn or not. Its change is
+-- `init_ack_change`.
+abbrev pub init_ack_by : FlushKind → Endpoint → Introduction → Option (List ℕ) → Core → ℕ → Outcome
+init_ack_by flush e theirs cookie (cookie_wait mine) word = accepted_init_ack_by flush e mine theirs cookie word
+init_ack_by flush e theirs cookie core word = still e
+
 abbrev pub init_ack_outcome : Endpoint → Introduction → Option (List ℕ) → Core → ℕ → Outcome
-init_ack_outcome e theirs cookie closed word = still e
-init_ack_outcome e theirs cookie (cookie_wait mine) word = accepts_init_ack e mine theirs cookie word
-init_ack_outcome e theirs cookie (cookie_echoed mine held echoed) word = still e
-init_ack_outcome e theirs cookie (open_in phase mine held) word = still e
+init_ack_outcome e theirs cookie core word = init_ack_by flush_outcome e theirs cookie core word
+
+-- The answers that its flush may get, where there is one.
+abbrev pub EchoAnswers : Bool → Endpoint → ℕ → List ℕ → List Answer → Type 0
+EchoAnswers true e tag cookie answers = FlushAnswers e (echo_emission tag cookie) answers
+EchoAnswers false e tag cookie answers = answers ≡ []
+
+abbrev pub InitAckAnswers : Endpoint → Introduction → Option (List ℕ) → Core → ℕ → List Answer → Type 0
+InitAckAnswers e theirs (Some cookie) (cookie_wait mine) word answers =
+    let after : Endpoint = awaits_cookie_ack e mine theirs cookie word in
+    EchoAnswers (fits after (echo_emission theirs.pair.tag cookie)) after theirs.pair.tag cookie answers
+InitAckAnswers e theirs cookie core word answers = answers ≡ []
 
 -- an INIT ACK is worked
 abbrev pub InitAckTurn : Endpoint → Introduction → Option (List ℕ) → Outcome → Type 0
-InitAckTurn e theirs cookie o = (word : ℕ) × (o ≡ init_ack_outcome e theirs cookie e.core word)
+InitAckTurn e theirs cookie o =
+    (word : ℕ) × (answers : List Answer) × InitAckAnswers e theirs cookie e.core word answers
+    × (o ≡ init_ack_by (flush_answered answers) e theirs cookie e.core word)
 
 -- ---- COOKIE ACK
 
@@ -204,10 +226,20 @@ heartbeats_begun e timers =
 abbrev pub connected_after : Endpoint → Pair → Held → Endpoint
 connected_after e mine held = record e { core = open_in established mine held; timers = heartbeats_begun e (record e.timers { t1 = None }) }
 
--- COOKIE ACK counts in CookieEchoed alone (RFC 9260, section 5.2.5). A flush follows.
+-- COOKIE ACK counts in CookieEchoed alone (RFC 9260, section 5.2.5). A flush follows. Its change is `cookie_ack_change`.
+abbrev pub cookie_ack_by : FlushKind → Endpoint → Core → Outcome
+cookie_ack_by flush e (cookie_echoed mine held cookie) =
+    noting (connects (link_of mine held) ∷ [])
+    (flush (connected_after e mine held) [] (connected ∷ []) (held.capabilities.zero_checksum_method.0 == 0) held.peer.tag [])
+cookie_ack_by flush e core = still e
+
 abbrev pub cookie_ack_outcome : Endpoint → Core → Outcome
-cookie_ack_outcome e closed = still e
-cookie_ack_outcome e (cookie_wait mine) = still e
-cookie_ack_outcome e (cookie_echoed mine held cookie) =
-    flushes (connected_after e mine held) [] (connected ∷ []) (held.capabilities.zero_checksum_method.0 == 0) held.peer.tag []
-cookie_ack_outcome e (open_in phase mine held) = still e
+cookie_ack_outcome e core = cookie_ack_by flush_outcome e core
+
+abbrev pub CookieAckAnswers : Endpoint → Core → List Answer → Type 0
+CookieAckAnswers e (cookie_echoed mine held cookie) answers = FlushAnswers (connected_after e mine held) (draft_to held) answers
+CookieAckAnswers e core answers = answers ≡ []
+
+-- a COOKIE ACK is worked
+abbrev pub CookieAckTurn : Endpoint → Outcome → Type 0
+CookieAckTurn e o = (answers : List Answer) × CookieAckAnswers e e.core answers × (o ≡ cookie_ack_by (flush_answered answers) e e.core)

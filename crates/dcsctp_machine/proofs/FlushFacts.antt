@@ -1,0 +1,76 @@
+-- Outside examples of a flush with answers, worked by hand and computed by the definitions: a wrong rule in specs/ would not
+-- check here.
+use Rattle.std.proofs.Common.{◌≡◌, ℕ, false, List, [], ◌∷◌, refl}
+use Rattle.std.specs.Prelude.{pos, negsuc}
+use Rattle.dcsctp_machine.specs.Event.{buffered_amount_low, lifecycle_message_fully_sent}
+use Rattle.dcsctp_machine.specs.Packet.{Content, plain, written, cookie_ack, Emission}
+use Rattle.dcsctp_machine.specs.Transfer.{Below}
+use Rattle.dcsctp_machine.specs.Endpoint.{Endpoint, cookie_echoed, open_in, established}
+use Rattle.dcsctp_machine.specs.Following.{next_chunk}
+use Rattle.dcsctp_machine.specs.Outcome.{noting}
+use Rattle.dcsctp_machine.specs.control.Effect.{Link, Effect, connects, begins}
+use Rattle.dcsctp_machine.specs.turns.FlushOutcomes.{Answer, Told, amount_is_low, message_is_sent, flush_of, packets_allowed}
+use Rattle.dcsctp_machine.proofs.HandshakeTurnFacts.{socket, mine, held, packet_of}
+
+-- two DATA chunks, of one byte each
+abbrev first : Content
+first = plain (written 0 3 (0 ∷ 0 ∷ 0 ∷ 100 ∷ 0 ∷ 1 ∷ 0 ∷ 0 ∷ 0 ∷ 0 ∷ 0 ∷ 53 ∷ 65 ∷ []))
+
+abbrev second : Content
+second = plain (written 0 3 (0 ∷ 0 ∷ 0 ∷ 101 ∷ 0 ∷ 1 ∷ 0 ∷ 1 ∷ 0 ∷ 0 ∷ 0 ∷ 53 ∷ 66 ∷ []))
+
+-- the socket that flushes, once it has sent so many packets
+abbrev flushing : Endpoint → ℕ → Endpoint
+flushing e count = socket e 1191 (pos 4) (open_in established mine held) count
+
+abbrev answering : Endpoint → List Content → List Told → List Effect → Below → Answer
+answering e chunks told effects below = record { chunks = chunks; told = told; effects = effects; after = record e { below = below } }
+
+abbrev acknowledgement : Emission
+acknowledgement = record { with_checksum = false; packet = record { tag = 9; contents = cookie_ack ∷ [] } }
+
+-- The first packet takes one message behind its COOKIE ACK and begins a request, and the second takes the other message, under
+-- the peer's tag 9. The user is told what fell before the packet that it fell for, and the transfer layer is as the second
+-- answer leaves it.
+two_packets : (e : Endpoint) (one two : Below) → flush_of (flushing e 4) acknowledgement
+    (answering (flushing e 4) (first ∷ []) [] (begins 100 ∷ []) one
+    ∷ answering (flushing e 5) (second ∷ []) (amount_is_low 1 ∷ message_is_sent 7 ∷ []) [] two ∷ [])
+    ≡ record {
+      words = [];
+      effects = begins 100 ∷ [];
+      after = record (flushing e 6) { below = two };
+      events = packet_of false 9 (cookie_ack ∷ first ∷ []) ∷ buffered_amount_low 1 ∷ lifecycle_message_fully_sent 7 ∷ packet_of false 9 (second ∷ []) ∷ [];
+      following = next_chunk;
+    }
+two_packets e one two = refl
+
+-- The second ask finds nothing: an empty packet isn't sent, and not counted.
+one_packet : (e : Endpoint) (one two : Below) → flush_of (flushing e 4) acknowledgement
+    (answering (flushing e 4) (first ∷ []) [] [] one ∷ answering (flushing e 5) [] [] [] two ∷ [])
+    ≡ record {
+      words = [];
+      effects = [];
+      after = record (flushing e 5) { below = two };
+      events = packet_of false 9 (cookie_ack ∷ first ∷ []) ∷ [];
+      following = next_chunk;
+    }
+one_packet e one two = refl
+
+-- What a flush begins stands behind what its turn did before: here the connection of a COOKIE ACK.
+connected_and_begun : (e : Endpoint) (link : Link) (below : Below)
+    → (noting (connects link ∷ []) (flush_of (flushing e 4) acknowledgement (answering (flushing e 4) (first ∷ []) [] (begins 100 ∷ []) below ∷ []))).effects
+    ≡ connects link ∷ begins 100 ∷ []
+connected_and_begun e link below = refl
+
+-- how many packets: those of `max_burst`, and one while the COOKIE ECHO isn't answered
+four_packets_are_allowed : packets_allowed (pos 4) (open_in established mine held) ≡ 4
+four_packets_are_allowed = refl
+
+one_packet_is_allowed : packets_allowed (pos 4) (cookie_echoed mine held []) ≡ 1
+one_packet_is_allowed = refl
+
+no_packet_is_allowed : packets_allowed (pos 0) (cookie_echoed mine held []) ≡ 0
+no_packet_is_allowed = refl
+
+no_packet_by_a_negative_burst : packets_allowed (negsuc 0) (open_in established mine held) ≡ 0
+no_packet_by_a_negative_burst = refl

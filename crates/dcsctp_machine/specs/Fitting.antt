@@ -1,0 +1,60 @@
+-- What a socket sends: numbers that fit their fields, and chunks that are read as themselves.
+use Rattle.std.specs.Prelude.{◌≡◌, ◌<◌, ◌^◌, None, Some, List, [], ◌∷◌}
+use Rattle.std.specs.List.{AllByRecursion}
+use Rattle.dcsctp_wire.specs.ReadsBack.{FitsEcho, FitsChunk}
+use Rattle.dcsctp_machine.specs.Settings.{IsValid, FitsOptions}
+use Rattle.dcsctp_machine.specs.Event.{Event, sent}
+use Rattle.dcsctp_machine.specs.Packet.{Content, init, init_ack, Packet, Emission, content_in, chunk_out}
+use Rattle.dcsctp_machine.specs.Endpoint.{Endpoint, Core, closed, cookie_wait, cookie_echoed, open_in, established, shutdown_pending, shutdown_sent, shutdown_received, shutdown_ack_sent}
+use Rattle.dcsctp_machine.specs.Outcome.{Outcome}
+use Rattle.dcsctp_machine.specs.Laws.{FitsPair, FitsOffer}
+
+-- what a side that reads the chunk takes of it
+abbrev pub FitsSaid : Content → Type 0
+FitsSaid (init theirs) = FitsPair theirs.pair × FitsOffer theirs.offer
+FitsSaid (init_ack theirs None) = FitsPair theirs.pair
+FitsSaid (init_ack theirs (Some cookie)) = FitsPair theirs.pair × FitsEcho cookie
+FitsSaid content = Unit {0}
+
+pub record Sendable (content : Content) : Type 0 where
+  pub fits : FitsChunk (chunk_out content)
+  pub reads : content_in (chunk_out content) ≡ content
+  pub said : FitsSaid content
+
+pub record SendablePacket (packet : Packet) : Type 0 where
+  pub tag : packet.tag < 2 ^ 32
+  pub contents : AllByRecursion Sendable packet.contents
+
+abbrev pub IsSendable : Emission → Type 0
+IsSendable emission = SendablePacket emission.packet
+
+-- what an event says of its packet, if it has one
+abbrev pub OfSent : (Emission → Type 0) → Event Emission → Type 0
+OfSent Good (sent emission) = Good emission
+OfSent Good event = Unit {0}
+
+-- what holds of each packet among events
+abbrev pub AllSent : (Emission → Type 0) → List (Event Emission) → Type 0
+AllSent Good [] = Unit {0}
+AllSent Good (event ∷ events) = OfSent Good event × AllSent Good events
+
+-- The own pair fits its fields while the handshake is under way. No shutdown is under way: so far none begins.
+abbrev pub FitsCore : Core → Type 0
+FitsCore closed = Unit {0}
+FitsCore (cookie_wait my) = FitsPair my
+FitsCore (cookie_echoed my held cookie) = FitsPair my
+FitsCore (open_in established my held) = Unit {0}
+FitsCore (open_in shutdown_pending my held) = ⊥
+FitsCore (open_in shutdown_sent my held) = ⊥
+FitsCore (open_in shutdown_received my held) = ⊥
+FitsCore (open_in shutdown_ack_sent my held) = ⊥
+
+pub record FitsEndpoint (e : Endpoint) : Type 0 where
+  pub valid : IsValid e.options
+  pub options : FitsOptions e.options
+  pub core : FitsCore e.core
+
+-- The turn leaves numbers that fit their fields, and sends what is read as itself.
+pub record TurnFits (o : Outcome) : Type 0 where
+  pub after : FitsEndpoint o.after
+  pub sends : AllSent IsSendable o.events
