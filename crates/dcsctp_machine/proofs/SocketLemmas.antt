@@ -6,6 +6,8 @@ use Rattle.dcsctp_machine.specs.declared.schedule.Side.TheVariants as sides
 use Rattle.dcsctp_machine.specs.declared.schedule.Call.TheVariants as calls
 use Rattle.dcsctp_machine.specs.declared.schedule.Step.{Step}
 use Rattle.dcsctp_machine.specs.declared.schedule.Step.TheVariants as steps
+use Rattle.dcsctp_machine.specs.declared.schedule.Act.{Act as WorldAct}
+use Rattle.dcsctp_machine.specs.declared.schedule.Act.TheVariants as acts
 use Rattle.dcsctp_machine.specs.Packet.{Content, Packet, packet_in}
 use Rattle.dcsctp_machine.specs.Admission.{Admission, all_chunks, shutdown_acks_alone, refused, admits, shutdown_acks_in}
 use Rattle.dcsctp_machine.specs.Settings.{SameOptions}
@@ -16,7 +18,7 @@ use Rattle.dcsctp_machine.specs.control.Acts.{Act, connect, shutdown_repeats}
 use Rattle.dcsctp_machine.specs.Controlled.{ControlledAct}
 use Rattle.dcsctp_machine.specs.Turn.{Input, arrival, refusal, packet_begins, chunk_input, packet_ends, act_input, Turn, BeginTurn, has_data, unreadable_text}
 use Rattle.dcsctp_machine.specs.CallTurns.{Turned, Turns, AfterChunk, ChunkTurns, WholeTurns, AdmittedTurns, HandleInput, unreadable, readable, after_all}
-use Rattle.dcsctp_machine.specs.Sockets.{Both, of_side, of_other, side_of, StepTurns, DeliveryTurns, numbered, with_turns, Worked, SocketRun, turns_after, endpoint_after, packets_shown}
+use Rattle.dcsctp_machine.specs.Sockets.{Both, of_side, of_other, StepTurns, DeliveryTurns, numbered, with_turns, Worked, SocketRun, turns_after, endpoint_after, packets_shown, side_of_act, TurnsOfAct}
 use Rattle.dcsctp_machine.specs.Laws.{SocketsKeepOptions}
 use Rattle.dcsctp_machine.proofs.TurnLemmas.{same_after, same_of_equal, content_keeps_options, after_all-append}
 use Rattle.dcsctp_machine.proofs.ControlLemmas.{begin_stands, acts_are_controlled}
@@ -92,6 +94,9 @@ step_keeps : (e : Endpoint) (packets : List (List ℕ)) (step : Step) (ts : List
 step_keeps e packets (steps.Call side calls.Connect) ts turns = turns_keep e (act_input connect ∷ []) ts turns
 step_keeps e packets (steps.Deliver side number) ts turns = delivery_keeps e (numbered number packets) ts turns
 
+act_keeps : (e : Endpoint) (packets : List (List ℕ)) (act : WorldAct) (ts : List Turned) → TurnsOfAct e packets act ts → KeptBy e ts
+act_keeps e packets (acts.Step step) ts turns = step_keeps e packets step ts turns
+
 -- ---- a run
 
 abbrev Kept : Both Options → Both (List Turned) → Side → Type 0
@@ -117,9 +122,9 @@ run_keeps options [] run sides.A = refl
 run_keeps options [] run sides.B = refl
 run_keeps options (worked ∷ earlier) run side =
     let before : Both (List Turned) = turns_after earlier in
-    let mover : Side = side_of worked.step in
+    let mover : Side = side_of_act worked.act in
     next_keeps options before mover worked.turns
-    (step_keeps (endpoint_after (of_side mover options) (of_side mover before)) (packets_shown (of_other mover options) (of_other mover before)) worked.step worked.turns run.0)
+    (act_keeps (endpoint_after (of_side mover options) (of_side mover before)) (packets_shown (of_other mover options) (of_other mover before)) worked.act worked.turns run.0)
     (λ (s : Side). run_keeps options earlier run.1 s) side
 
 pub sockets_keep_options : SocketsKeepOptions

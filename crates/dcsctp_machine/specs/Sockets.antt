@@ -9,6 +9,8 @@ use Rattle.dcsctp_machine.specs.declared.schedule.Call.{Call}
 use Rattle.dcsctp_machine.specs.declared.schedule.Call.TheVariants as calls
 use Rattle.dcsctp_machine.specs.declared.schedule.Step.{Step}
 use Rattle.dcsctp_machine.specs.declared.schedule.Step.TheVariants as steps
+use Rattle.dcsctp_machine.specs.declared.schedule.Act.{Act}
+use Rattle.dcsctp_machine.specs.declared.schedule.Act.TheVariants as acts
 use Rattle.dcsctp_machine.specs.Settings.{ports_of}
 use Rattle.dcsctp_machine.specs.Event.{Event, event_map, packets_in}
 use Rattle.dcsctp_machine.specs.Packet.{emission_bytes}
@@ -56,11 +58,21 @@ abbrev pub StepTurns : Endpoint → List (List ℕ) → Step → List Turned →
 StepTurns e packets (steps.Call side call) turns = UserTurns e call turns
 StepTurns e packets (steps.Deliver side number) turns = DeliveryTurns e (numbered number packets) turns
 
+-- ---- acts
+
+-- What may be done to two sockets: so far a step of a schedule.
+abbrev pub side_of_act : Act → Side
+side_of_act (acts.Step step) = side_of step
+
+-- what comes of it at its side, where the other has emitted these packets
+abbrev pub TurnsOfAct : Endpoint → List (List ℕ) → Act → List Turned → Type 0
+TurnsOfAct e packets (acts.Step step) turns = StepTurns e packets step turns
+
 -- ---- runs
 
--- a step, and its turns: what went in, and what came of it
+-- an act, and its turns: what went in, and what came of it
 pub record Worked : Type 0 where
-  pub step : Step
+  pub act : Act
   pub turns : List Turned
 
 -- the options of two sockets, or what came of each
@@ -84,24 +96,24 @@ with_turns sides.B more turns = record turns { b = turns.b ++ more }
 -- all turns of each side after these steps, which stand newest first
 abbrev pub turns_after : List Worked → Both (List Turned)
 turns_after [] = record { a = []; b = [] }
-turns_after (worked ∷ earlier) = with_turns (side_of worked.step) worked.turns (turns_after earlier)
+turns_after (worked ∷ earlier) = with_turns (side_of_act worked.act) worked.turns (turns_after earlier)
 
--- what comes of a step after these turns
-abbrev pub NextTurns : Both Options → Both (List Turned) → Step → List Turned → Type 0
-NextTurns options turns step more =
-    StepTurns (endpoint_after (of_side (side_of step) options) (of_side (side_of step) turns))
-    (packets_shown (of_other (side_of step) options) (of_other (side_of step) turns)) step more
+-- what comes of an act after these turns
+abbrev pub NextTurns : Both Options → Both (List Turned) → Act → List Turned → Type 0
+NextTurns options turns act more =
+    TurnsOfAct (endpoint_after (of_side (side_of_act act) options) (of_side (side_of_act act) turns))
+    (packets_shown (of_other (side_of_act act) options) (of_other (side_of_act act) turns)) act more
 
--- Two sockets run: each of these steps, newest first, comes of what the steps before it left. Whatever is
+-- Two sockets run: each of these acts, newest first, comes of what the acts before it left. Whatever is
 -- delivered was emitted by the other socket before, byte for byte.
 abbrev pub SocketRun : Both Options → List Worked → Type 0
 SocketRun options [] = Unit {0}
-SocketRun options (worked ∷ earlier) = NextTurns options (turns_after earlier) worked.step worked.turns × SocketRun options earlier
+SocketRun options (worked ∷ earlier) = NextTurns options (turns_after earlier) worked.act worked.turns × SocketRun options earlier
 
--- the steps of a run, newest first
-abbrev pub schedule_of : List Worked → List Step
-schedule_of [] = []
-schedule_of (worked ∷ earlier) = worked.step ∷ schedule_of earlier
+-- the acts of a run, newest first
+abbrev pub acts_of : List Worked → List Act
+acts_of [] = []
+acts_of (worked ∷ earlier) = worked.act ∷ acts_of earlier
 
 -- what a side's association was at the start and after each step of either side, newest first
 abbrev pub associations_of : Side → Both Options → List Worked → List (Option Association)

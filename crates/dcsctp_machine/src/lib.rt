@@ -26,6 +26,6 @@ pub use laws::{
     options_fit, packets_are_controlled, refused_packet_adds_one_error, sockets_keep_options,
 };
 pub use options::Options;
-pub use schedule::{Call, Side, Step};
+pub use schedule::{Act, Call, Side, Step};
 pub use time::SocketTime;
 pub use word::Word;

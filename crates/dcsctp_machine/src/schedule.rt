@@ -27,3 +27,10 @@ pub enum Step {
     /// ever emitted. A number that names none changes no socket.
     Deliver(Side, usize),
 }
+
+/// What was done to two sockets.
+#[derive(Clone, Copy, Debug, PartialEq, Eq)]
+pub enum Act {
+    /// A step of a schedule.
+    Step(Step),
+}

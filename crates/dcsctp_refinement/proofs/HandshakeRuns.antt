@@ -1,15 +1,16 @@
--- A run of two fitting sockets whose steps are those of a handshake connects them.
+-- A run of two fitting sockets whose acts are those of a handshake connects them.
 use Rattle.std.specs.Prelude.{reverse}
 use Rattle.std.proofs.Common.{◌≡◌, List, [], ◌∷◌, ◌++◌, refl, sym, subst, ap, ◌∙◌}
 use Rattle.dcsctp_machine.specs.declared.options.Options.{Options}
 use Rattle.dcsctp_machine.specs.declared.schedule.Side.{Side}
 use Rattle.dcsctp_machine.specs.declared.schedule.Side.TheVariants as sides
 use Rattle.dcsctp_machine.specs.declared.schedule.Call.TheVariants as calls
-use Rattle.dcsctp_machine.specs.declared.schedule.Step.{Step}
 use Rattle.dcsctp_machine.specs.declared.schedule.Step.TheVariants as steps
+use Rattle.dcsctp_machine.specs.declared.schedule.Act.{Act}
+use Rattle.dcsctp_machine.specs.declared.schedule.Act.TheVariants as acts
 use Rattle.dcsctp_machine.specs.CallTurns.{Turned}
-use Rattle.dcsctp_machine.specs.Sockets.{Worked, Both, turns_after, SocketRun, schedule_of}
-use Rattle.dcsctp_refinement.specs.Handshake.{other_side, handshake, AreFitting, AreConnected, FittingSocketsConnect}
+use Rattle.dcsctp_machine.specs.Sockets.{Worked, Both, turns_after, SocketRun, acts_of}
+use Rattle.dcsctp_refinement.specs.Handshake.{other_side, handshake_acts, AreFitting, AreConnected, FittingSocketsConnect}
 use Rattle.dcsctp_refinement.specs.Agreement.{AreUsable}
 use Rattle.dcsctp_refinement.proofs.HandshakeTurns.{HandshakeLaws, Good}
 use Rattle.dcsctp_refinement.proofs.HandshakeEnds.{Ended, in_turn}
@@ -17,14 +18,14 @@ use Rattle.dcsctp_refinement.proofs.HandshakeEnds.{Ended, in_turn}
 -- the run of a handshake with these turns
 abbrev pub run_of : Side → List Turned → List Turned → List Turned → List Turned → List Turned → List Worked
 run_of side o1 o2 o3 o4 o5 =
-    record { step = steps.Deliver side 2; turns = o5 }
-    ∷ record { step = steps.Deliver (other_side side) 2; turns = o4 }
-    ∷ record { step = steps.Deliver side 1; turns = o3 }
-    ∷ record { step = steps.Deliver (other_side side) 1; turns = o2 }
-    ∷ record { step = steps.Call side calls.Connect; turns = o1 }
+    record { act = acts.Step (steps.Deliver side 2); turns = o5 }
+    ∷ record { act = acts.Step (steps.Deliver (other_side side) 2); turns = o4 }
+    ∷ record { act = acts.Step (steps.Deliver side 1); turns = o3 }
+    ∷ record { act = acts.Step (steps.Deliver (other_side side) 1); turns = o2 }
+    ∷ record { act = acts.Step (steps.Call side calls.Connect); turns = o1 }
     ∷ []
 
--- A run of these steps is one.
+-- A run of these acts is one.
 pub record IsHandshake (side : Side) (run : List Worked) : Type 0 where
   pub o1 : List Turned
   pub o2 : List Turned
@@ -33,18 +34,18 @@ pub record IsHandshake (side : Side) (run : List Worked) : Type 0 where
   pub o5 : List Turned
   pub is : run ≡ run_of side o1 o2 o3 o4 o5
 
-first_is : (x y : Step) (xs ys : List Step) → x ∷ xs ≡ y ∷ ys → x ≡ y
+first_is : (x y : Act) (xs ys : List Act) → x ∷ xs ≡ y ∷ ys → x ≡ y
 first_is x y xs ys same = cc
 
-rest_is : (x y : Step) (xs ys : List Step) → x ∷ xs ≡ y ∷ ys → xs ≡ ys
+rest_is : (x y : Act) (xs ys : List Act) → x ∷ xs ≡ y ∷ ys → xs ≡ ys
 rest_is x y xs ys same = cc
 
--- a step with its turns behind others
-with_step : (worked : Worked) (step : Step) (earlier others : List Worked) → worked.step ≡ step → earlier ≡ others → worked ∷ earlier ≡ record { step = step; turns = worked.turns } ∷ others
-with_step worked step earlier others is same =
-    ap (λ (s : Step). record { step = s; turns = worked.turns } ∷ earlier) is ∙ ap (λ (ws : List Worked). record { step = step; turns = worked.turns } ∷ ws) same
+-- an act with its turns behind others
+with_act : (worked : Worked) (act : Act) (earlier others : List Worked) → worked.act ≡ act → earlier ≡ others → worked ∷ earlier ≡ record { act = act; turns = worked.turns } ∷ others
+with_act worked act earlier others is same =
+    ap (λ (a : Act). record { act = a; turns = worked.turns } ∷ earlier) is ∙ ap (λ (ws : List Worked). record { act = act; turns = worked.turns } ∷ ws) same
 
-is_handshake : (side : Side) (run : List Worked) → schedule_of run ≡ reverse (handshake side) → IsHandshake side run
+is_handshake : (side : Side) (run : List Worked) → acts_of run ≡ reverse (handshake_acts side) → IsHandshake side run
 is_handshake side [] same = absurd (cc)
 is_handshake side (w5 ∷ []) same = absurd (cc)
 is_handshake side (w5 ∷ w4 ∷ []) same = absurd (cc)
@@ -62,11 +63,11 @@ is_handshake side (w5 ∷ w4 ∷ w3 ∷ w2 ∷ w1 ∷ []) same =
       o3 = w3.turns;
       o4 = w4.turns;
       o5 = w5.turns;
-      is = with_step w5 (steps.Deliver side 2) (w4 ∷ w3 ∷ w2 ∷ w1 ∷ []) _ (first_is _ _ _ _ same)
-          (with_step w4 (steps.Deliver (other_side side) 2) (w3 ∷ w2 ∷ w1 ∷ []) _ (first_is _ _ _ _ four)
-          (with_step w3 (steps.Deliver side 1) (w2 ∷ w1 ∷ []) _ (first_is _ _ _ _ three)
-          (with_step w2 (steps.Deliver (other_side side) 1) (w1 ∷ []) _ (first_is _ _ _ _ two)
-          (with_step w1 (steps.Call side calls.Connect) [] [] (first_is _ _ _ _ one) refl))));
+      is = with_act w5 (acts.Step (steps.Deliver side 2)) (w4 ∷ w3 ∷ w2 ∷ w1 ∷ []) _ (first_is _ _ _ _ same)
+          (with_act w4 (acts.Step (steps.Deliver (other_side side) 2)) (w3 ∷ w2 ∷ w1 ∷ []) _ (first_is _ _ _ _ four)
+          (with_act w3 (acts.Step (steps.Deliver side 1)) (w2 ∷ w1 ∷ []) _ (first_is _ _ _ _ three)
+          (with_act w2 (acts.Step (steps.Deliver (other_side side) 1)) (w1 ∷ []) _ (first_is _ _ _ _ two)
+          (with_act w1 (acts.Step (steps.Call side calls.Connect)) [] [] (first_is _ _ _ _ one) refl))));
     }
 
 connected_at : HandshakeLaws → (options : Both Options) (side : Side) (o1 o2 o3 o4 o5 : List Turned) → Good options.a → Good options.b → AreFitting options
@@ -81,7 +82,7 @@ connected_at law options sides.B o1 o2 o3 o4 o5 good_a good_b fit runs =
     record { a_pair = h.q; b_pair = h.p; a = h.theirs; b = h.mine }
 
 connects_now : HandshakeLaws → (options : Both Options) (side : Side) (run : List Worked) → AreUsable options → AreFitting options → SocketRun options run
-    → schedule_of run ≡ reverse (handshake side) → AreConnected options (turns_after run)
+    → acts_of run ≡ reverse (handshake_acts side) → AreConnected options (turns_after run)
 connects_now law options side run are fit runs schedule =
     let h : IsHandshake side run = is_handshake side run schedule in
     subst (λ (ws : List Worked). AreConnected options (turns_after ws)) (sym h.is)

@@ -7,6 +7,8 @@ use Rattle.dcsctp_machine.specs.declared.schedule.Side.TheVariants as sides
 use Rattle.dcsctp_machine.specs.declared.schedule.Call.TheVariants as calls
 use Rattle.dcsctp_machine.specs.declared.schedule.Step.{Step}
 use Rattle.dcsctp_machine.specs.declared.schedule.Step.TheVariants as steps
+use Rattle.dcsctp_machine.specs.declared.schedule.Act.{Act as WorldAct}
+use Rattle.dcsctp_machine.specs.declared.schedule.Act.TheVariants as acts
 use Rattle.dcsctp_machine.specs.declared.word.Word.{Word}
 use Rattle.dcsctp_machine.specs.declared.word.Word.TheVariants.{U32}
 use Rattle.dcsctp_machine.specs.Packet.{Introduction, Content, init, init_ack, cookie_echo, cookie_ack, re_config, abort, shutdown, shutdown_ack, shutdown_complete, plain, Packet, Emission, packet_in}
@@ -22,7 +24,7 @@ use Rattle.dcsctp_machine.specs.CallTurns.{Turned, IsTurn, Turns, AfterChunk, Ch
 use Rattle.dcsctp_machine.specs.Admission.{Admission, all_chunks, shutdown_acks_alone, refused, admits, shutdown_acks_in}
 use Rattle.dcsctp_machine.specs.Laws.{ActsAreControlled}
 use Rattle.dcsctp_machine.specs.Past.{Has}
-use Rattle.dcsctp_machine.specs.Sockets.{Both, of_side, of_other, side_of, StepTurns, DeliveryTurns, numbered, with_turns, turns_after, endpoint_after, packets_shown}
+use Rattle.dcsctp_machine.specs.Sockets.{Both, of_side, of_other, side_of_act, StepTurns, DeliveryTurns, numbered, with_turns, turns_after, endpoint_after, packets_shown, TurnsOfAct}
 use Rattle.dcsctp_machine.proofs.ControlHandshake.{init_ack_controlled, cookie_ack_controlled, abort_controlled}
 use Rattle.dcsctp_machine.proofs.ControlEcho.{cookie_echo_controlled}
 use Rattle.dcsctp_machine.proofs.ControlLemmas.{begin_stands}
@@ -191,6 +193,9 @@ step_ends : EndLaws → (e : Endpoint) (packets : List (List ℕ)) (step : Step)
 step_ends law e packets (steps.Call side calls.Connect) ts taken = turns_end law e (act_input connect ∷ []) ts taken
 step_ends law e packets (steps.Deliver side number) ts taken = delivery_ends law e (numbered number packets) ts taken
 
+act_ends : EndLaws → (e : Endpoint) (packets : List (List ℕ)) (act : WorldAct) (ts : List Turned) → TurnsOfAct e packets act ts → AllEnd ts
+act_ends law e packets (acts.Step step) ts taken = step_ends law e packets step ts taken
+
 -- ---- a run
 
 both_end : (xs ys : List Turned) → AllEnd xs → AllEnd ys → AllEnd (xs ++ ys)
@@ -207,8 +212,8 @@ pub requests_end : EndLaws → SocketRequestsEndByAnswers
 requests_end law options [] runs sides.A = tt
 requests_end law options [] runs sides.B = tt
 requests_end law options (worked ∷ earlier) runs side =
-    let mover : Side = side_of worked.step in
+    let mover : Side = side_of_act worked.act in
     let before : Both (List Turned) = turns_after earlier in
     more_end mover worked.turns before
-    (step_ends law (endpoint_after (of_side mover options) (of_side mover before)) (packets_shown (of_other mover options) (of_other mover before)) worked.step worked.turns runs.0)
+    (act_ends law (endpoint_after (of_side mover options) (of_side mover before)) (packets_shown (of_other mover options) (of_other mover before)) worked.act worked.turns runs.0)
     (λ (s : Side). requests_end law options earlier runs.1 s) side

@@ -1,5 +1,7 @@
 -- Two sockets agree.
 use Rattle.std.proofs.Common.{◌≡◌, List, [], ◌∷◌, ◌++◌, refl, sym, subst, ap, ◌∙◌}
+use Rattle.dcsctp_machine.specs.declared.schedule.Act.{Act}
+use Rattle.dcsctp_machine.specs.declared.schedule.Act.TheVariants as acts
 use Rattle.dcsctp_machine.specs.declared.options.Options.{Options}
 use Rattle.dcsctp_machine.specs.declared.schedule.Side.{Side}
 use Rattle.dcsctp_machine.specs.declared.schedule.Side.TheVariants as sides
@@ -11,7 +13,7 @@ use Rattle.dcsctp_machine.specs.control.Effect.{Link, Effect, noted}
 use Rattle.dcsctp_machine.specs.Past.{Each, InPlace}
 use Rattle.dcsctp_machine.specs.World as machine
 use Rattle.dcsctp_machine.specs.World.{SideState, fresh_side, at_a, at_b, world_after, Run, Moved, MovesMade, after_moves, with_moves}
-use Rattle.dcsctp_machine.specs.Sockets.{Worked, Both, side_of, of_side, of_other, with_turns, turns_after, endpoint_after, packets_shown, StepTurns, SocketRun}
+use Rattle.dcsctp_machine.specs.Sockets.{Worked, Both, side_of, of_side, of_other, with_turns, turns_after, endpoint_after, packets_shown, StepTurns, SocketRun, side_of_act, NextTurns}
 use Rattle.dcsctp_machine.proofs.TurnLemmas.{pairs_of-append}
 use Rattle.dcsctp_agreement.specs.Agreement.{FindsCrossed, FindsPerformed, BothAgree, RunsAlone, SidesAgree, SidesRunAlone}
 use Rattle.dcsctp_agreement.specs.OneSide.{EffectsInPlace}
@@ -99,9 +101,13 @@ stepped law options turns step more sides.B are h done =
     let world : machine.World = world_after options.a options.b h.steps in
     moved_b options turns more h (step_moves law options.b options.a turns.b turns.a world.b world.a step more h.b h.a (are sides.A).fits done)
 
+acted : Below → (options : Both Options) (turns : Both (List Turned)) (act : Act) (more : List Turned) → AreUsable options → Joined options turns → NextTurns options turns act more
+    → Joined options (with_turns (side_of_act act) more turns)
+acted law options turns (acts.Step step) more are h done = stepped law options turns step more (side_of step) are h done
+
 pub joined : Below → (options : Both Options) (run : List Worked) → AreUsable options → SocketRun options run → Joined options (turns_after run)
 joined law options [] are runs = record { steps = []; is_run = tt; a = fresh options.a (are sides.A).valid (are sides.A).fits; b = fresh options.b (are sides.B).valid (are sides.B).fits }
-joined law options (worked ∷ earlier) are runs = stepped law options (turns_after earlier) worked.step worked.turns (side_of worked.step) are (joined law options earlier are runs.1) runs.0
+joined law options (worked ∷ earlier) are runs = acted law options (turns_after earlier) worked.act worked.turns are (joined law options earlier are runs.1) runs.0
 
 -- What a side finds in the machine, a socket finds.
 finds : (mine theirs : Options) (my_side their_side : SideState) (turns : List Turned) (link : Link) → my_side.options ≡ mine → Followed theirs turns their_side
@@ -143,7 +149,7 @@ pub sockets_agree : Below → SidesAgree → SocketsAgree
 sockets_agree law agree options [] are runs tags = agree_now law agree options [] are runs tags
 sockets_agree law agree options (worked ∷ earlier) are runs tags = (
   agree_now law agree options (worked ∷ earlier) are runs tags,
-  sockets_agree law agree options earlier are runs.1 (fresh_before (side_of worked.step) worked.turns (turns_after earlier) tags),
+  sockets_agree law agree options earlier are runs.1 (fresh_before (side_of_act worked.act) worked.turns (turns_after earlier) tags),
 )
 
 -- ---- the effects of each socket

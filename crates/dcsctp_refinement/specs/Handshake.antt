@@ -1,5 +1,5 @@
 -- The four packets of the handshake, delivered in turn between two fresh sockets (RFC 9260, section 5.1).
-use Rattle.std.specs.Prelude.{◌≡◌, ◌≤◌, ℕ, suc, true, List, [], ◌∷◌, reverse}
+use Rattle.std.specs.Prelude.{◌≡◌, ◌≤◌, ℕ, suc, true, List, [], ◌∷◌, map, reverse}
 use Rattle.dcsctp_machine.specs.declared.association.Pair.{Pair}
 use Rattle.dcsctp_machine.specs.declared.options.Options.{Options}
 use Rattle.dcsctp_machine.specs.declared.schedule.Side.{Side}
@@ -7,13 +7,15 @@ use Rattle.dcsctp_machine.specs.declared.schedule.Side.TheVariants as sides
 use Rattle.dcsctp_machine.specs.declared.schedule.Call.TheVariants as calls
 use Rattle.dcsctp_machine.specs.declared.schedule.Step.{Step}
 use Rattle.dcsctp_machine.specs.declared.schedule.Step.TheVariants as steps
+use Rattle.dcsctp_machine.specs.declared.schedule.Act.{Act}
+use Rattle.dcsctp_machine.specs.declared.schedule.Act.TheVariants as acts
 use Rattle.dcsctp_machine.specs.Offer.{offer_of, negotiated}
 use Rattle.dcsctp_machine.specs.Event.{Event, connected}
 use Rattle.dcsctp_machine.specs.Endpoint.{open_in, established}
 use Rattle.dcsctp_machine.specs.CallTurns.{Turned, events_of}
 use Rattle.dcsctp_machine.specs.turns.FlushOutcomes.{allows_packet}
 use Rattle.dcsctp_machine.specs.control.HandshakeChanges.{new_held}
-use Rattle.dcsctp_machine.specs.Sockets.{Worked, Both, endpoint_after, turns_after, SocketRun, schedule_of}
+use Rattle.dcsctp_machine.specs.Sockets.{Worked, Both, endpoint_after, turns_after, SocketRun, acts_of}
 use Rattle.dcsctp_refinement.specs.Agreement.{AreUsable}
 
 abbrev pub other_side : Side → Side
@@ -29,6 +31,9 @@ handshake side =
     ∷ steps.Deliver (other_side side) 2
     ∷ steps.Deliver side 2
     ∷ []
+
+abbrev pub handshake_acts : Side → List Act
+handshake_acts side = map acts.Step (handshake side)
 
 -- Options with which a handshake's packets go out and are taken. The longest is an INIT ACK of 104 bytes.
 pub record AllowHandshake (options : Options) : Type 0 where
@@ -63,12 +68,12 @@ pub record AreConnected (options : Both Options) (turns : Both (List Turned)) : 
   pub a : IsConnected options.a options.b turns.a a_pair b_pair
   pub b : IsConnected options.b options.a turns.b b_pair a_pair
 
--- At the end of each part of the run, from its beginning on, whose steps are those of the handshake, both are connected:
--- so they were connected after the first five steps, whatever came later.
+-- At the end of each part of the run, from its beginning on, whose acts are those of the handshake, both are connected:
+-- so they were connected after the first five acts, whatever came later.
 abbrev pub ConnectThroughout : Both Options → Side → List Worked → Type 0
 ConnectThroughout options side [] = Unit {0}
 ConnectThroughout options side (worked ∷ earlier) =
-    (schedule_of (worked ∷ earlier) ≡ reverse (handshake side) → AreConnected options (turns_after (worked ∷ earlier)))
+    (acts_of (worked ∷ earlier) ≡ reverse (handshake_acts side) → AreConnected options (turns_after (worked ∷ earlier)))
     × ConnectThroughout options side earlier
 
 abbrev pub FittingSocketsConnect : Type 0

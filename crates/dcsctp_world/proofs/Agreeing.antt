@@ -11,11 +11,11 @@ use Rattle.dcsctp_machine.specs.Settings.{ports_of}
 use Rattle.dcsctp_machine.specs.Endpoint.{Endpoint}
 use Rattle.dcsctp_machine.specs.CallTurns.{Turned, events_of}
 use Rattle.dcsctp_machine.specs.declared.schedule.Side.{Side}
-use Rattle.dcsctp_machine.specs.Sockets.{Worked, Both, turns_after, schedule_of}
+use Rattle.dcsctp_machine.specs.Sockets.{Worked, Both, turns_after, acts_of}
 use Rattle.dcsctp_refinement.specs.Agreement.{HasDistinctTags}
-use Rattle.dcsctp_refinement.specs.Handshake.{ConnectThroughout, handshake, connections, IsConnected, AreConnected, FittingSocketsConnect}
+use Rattle.dcsctp_refinement.specs.Handshake.{ConnectThroughout, handshake_acts, connections, IsConnected, AreConnected, FittingSocketsConnect}
 use Rattle.dcsctp_refinement.specs.Laws.{SocketLaws}
-use Rattle.dcsctp_world.specs.declared.act.Act.TheVariants as acts
+use Rattle.dcsctp_machine.specs.declared.schedule.Act.{Act}
 use Rattle.dcsctp_world.specs.Shown.{SideShown, WorldView, options_of}
 use Rattle.dcsctp_world.specs.Run.{SideRuns, IsRun}
 use Rattle.dcsctp_api.specs.declared.errors.SocketFault.{SocketFault}
@@ -62,15 +62,6 @@ shows_connected mine theirs turns side my peer h is =
       once = ap (λ (es : List (Event (List ℕ))). connections es) h.events ∙ connections_shown (emission_bytes (ports_of mine)) (events_of turns) ∙ is.once;
     }
 
-same_steps : (xs ys : List Step) → map acts.Step xs ≡ map acts.Step ys → xs ≡ ys
-same_steps [] [] same = refl
-same_steps [] (y ∷ ys) same = absurd (cc)
-same_steps (x ∷ xs) [] same = absurd (cc)
-same_steps (x ∷ xs) (y ∷ ys) same =
-    let first : x ≡ y = cc in
-    let rest : xs ≡ ys = same_steps xs ys (cc) in
-    ap (λ (step : Step). step ∷ xs) first ∙ ap (λ (steps : List Step). y ∷ steps) rest
-
 both_connected : {R : Type 0} (options : Both Options) (world : WorldView R) (h : IsRun options world) → AreConnected options (turns_after h.steps) → BothConnected options world
 both_connected options world h is =
     record {
@@ -81,15 +72,15 @@ both_connected options world h is =
     }
 
 -- at the end of the run
-at_end : (options : Both Options) (side : Side) (run : List Worked) → schedule_of run ≡ reverse (handshake side) → ConnectThroughout options side run → AreConnected options (turns_after run)
+at_end : (options : Both Options) (side : Side) (run : List Worked) → acts_of run ≡ reverse (handshake_acts side) → ConnectThroughout options side run → AreConnected options (turns_after run)
 at_end options side [] schedule h = absurd (cc)
 at_end options side (worked ∷ earlier) schedule h = h.0 schedule
 
 pub handshake_connects : {R : Type 0} → FittingSocketsConnect → (options : Both Options) (world : WorldView R) → IsRun options world → HandshakeConnects options world
 handshake_connects law options world run side acts_are fit =
-    let schedule : reverse (schedule_of run.steps) ≡ handshake side = same_steps (reverse (schedule_of run.steps)) (handshake side) (sym run.acts ∙ acts_are) in
-    both_connected options world run
-    (at_end options side run.steps (sym (reverse-reverse (schedule_of run.steps)) ∙ ap (λ (l : List Step). reverse l) schedule) (law options side run.steps run.usable fit run.run))
+    let are : acts_of run.steps ≡ reverse (handshake_acts side) =
+    sym (reverse-reverse (acts_of run.steps)) ∙ ap (λ (l : List Act). reverse l) (sym run.acts ∙ acts_are) in
+    both_connected options world run (at_end options side run.steps are (law options side run.steps run.usable fit run.run))
 
 -- ---- a growth that was refused among several steps
 

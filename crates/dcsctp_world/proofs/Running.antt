@@ -13,12 +13,12 @@ use Rattle.dcsctp_machine.specs.Packet.{Emission, emission_bytes}
 use Rattle.dcsctp_machine.specs.Settings.{Ports, SameOptions, ports_of}
 use Rattle.dcsctp_machine.specs.Endpoint.{Endpoint, association_of, fresh_endpoint}
 use Rattle.dcsctp_machine.specs.CallTurns.{Turned, after_all, events_of, pairs_of}
-use Rattle.dcsctp_machine.specs.Sockets.{Both, of_side, of_other, side_of, StepTurns, NextTurns, Worked, turns_after, with_turns, endpoint_after, events_shown, packets_shown, schedule_of, associations_of}
+use Rattle.dcsctp_machine.specs.Sockets.{Both, of_side, of_other, side_of, StepTurns, NextTurns, Worked, turns_after, with_turns, endpoint_after, events_shown, packets_shown, acts_of, associations_of}
 use Rattle.dcsctp_machine.proofs.TurnLemmas.{after_all-append, pairs_of-append, events_of-append}
 use Rattle.dcsctp_machine.proofs.SocketLemmas.{sockets_keep_options}
 use Rattle.dcsctp_api.specs.Calls.{user_event}
-use Rattle.dcsctp_world.specs.declared.act.Act.{Act}
-use Rattle.dcsctp_world.specs.declared.act.Act.TheVariants as acts
+use Rattle.dcsctp_machine.specs.declared.schedule.Act.{Act}
+use Rattle.dcsctp_machine.specs.declared.schedule.Act.TheVariants as acts
 use Rattle.dcsctp_world.specs.declared.act.Reply.{Reply}
 use Rattle.dcsctp_world.specs.declared.watched_socket.WatchedSocket.{WatchedSocket}
 use Rattle.dcsctp_world.specs.Shown.{SideShown, WorldView, fresh_side, fresh_world, options_of}
@@ -145,7 +145,7 @@ other_packets options turns old sides.B runs = (runs sides.A).packets
 -- the step's turns, from where the sides' turns had led
 turns_of : {R : Type 0} (options : Both Options) (turns : Both (List Turned)) (old : Both (SideShown R)) (step : Step) (os : List Turned)
     → ((side : Side) → SidesRun options turns old side)
-    → StepTurns (of_side (side_of step) old).socket.view.endpoint (of_other (side_of step) old).packets step os → NextTurns options turns step os
+    → StepTurns (of_side (side_of step) old).socket.view.endpoint (of_other (side_of step) old).packets step os → NextTurns options turns (acts.Step step) os
 turns_of options turns old step os runs turned =
     let mover : Side = side_of step in
     subst (λ (packets : List (List ℕ)). StepTurns (endpoint_after (of_side mover options) (of_side mover turns)) packets step os) (other_packets options turns old mover runs)
@@ -157,7 +157,7 @@ is_run_next {R = R} options step reply old new h applied =
     let moved : Both (SideShown R) = applied.moved in
     let os = applied.moves.grows.turns in
     let before : Both (List Turned) = turns_after h.steps in
-    let worked : Worked = record { step = step; turns = os } in
+    let worked : Worked = record { act = acts.Step step; turns = os } in
     let now : Both (List Turned) = with_turns mover os before in
     let Turns : List Turned → Type 0 = StepTurns (of_side mover old.sides).socket.view.endpoint (of_other mover old.sides).packets step in
     let runs : (side : Side) → SidesRun options now moved side =
@@ -167,8 +167,7 @@ is_run_next {R = R} options step reply old new h applied =
       usable = h.usable;
       steps = worked ∷ h.steps;
       run = (ends, h.run);
-      acts = applied.acts ∙ ap (λ (l : List Act). l ++ acts.Step step ∷ []) h.acts ∙ sym (map-append acts.Step (reverse (schedule_of h.steps)) (step ∷ []))
-          ∙ ap (λ (l : List Step). map acts.Step l) (sym (reverse-cons step (schedule_of h.steps)));
+      acts = applied.acts ∙ ap (λ (l : List Act). l ++ acts.Step step ∷ []) h.acts ∙ sym (reverse-cons (acts.Step step) (acts_of h.steps));
       sides = λ (side : Side). subst (λ (both : Both (SideShown R)). SidesRun options now both side) (sym applied.sides) (noted_runs options now moved side (runs side));
       associations = λ (side : Side).
           ap (λ (both : Both (SideShown R)). (of_side side both).associations) applied.sides ∙ noted moved side

@@ -14,9 +14,9 @@ use Rattle.dcsctp_api.specs.declared.errors.SocketFault.{SocketFault}
 use Rattle.dcsctp_api.specs.declared.errors.SocketFault.TheVariants.{OutOfMemory, Failed}
 use Rattle.dcsctp_api.specs.Calls.{Follows, Connects, HandlesInput}
 use Rattle.dcsctp_socket.specs.SocketView.{SocketView, user_view_of}
-use Rattle.dcsctp_world.specs.declared.act.Act.{Act}
+use Rattle.dcsctp_machine.specs.declared.schedule.Act.{Act}
 use Rattle.dcsctp_world.specs.declared.act.Reply.{Reply}
-use Rattle.dcsctp_world.specs.declared.act.Reply.TheVariants.{NoCall, Done}
+use Rattle.dcsctp_world.specs.declared.act.Reply.TheVariants.{NoCall}
 use Rattle.dcsctp_world.specs.declared.watched_socket.WatchedSocket.{WatchedSocket}
 use Rattle.dcsctp_world.specs.Shown.{SideShown, WorldView}
 use Rattle.dcsctp_world.specs.Growth.{AddsFront, CollectsFront, told, Grows, ShowsFront, Stops, Fails, with_association}
@@ -25,9 +25,6 @@ use Rattle.dcsctp_world.specs.Parts.{both, world_of}
 use Rattle.dcsctp_world.proofs.Keeping.{front_same, front_whole}
 
 -- ---- no call was made
-
-no_call_was_done : {P : Type 0} → NoCall ≡ Done → P
-no_call_was_done is = absurd (cc)
 
 pub grows_by_nothing : {R : Type 0} (Turns : List Turned → Type 0) (side : SideShown R) → Turns [] → side.socket.view.events ≡ [] → Grows Turns NoCall side side
 grows_by_nothing Turns side turned empty =
@@ -42,8 +39,8 @@ grows_by_nothing Turns side turned empty =
       packets = sym (append-nil side.packets);
       pairs = sym (append-nil side.pairs);
       associations = refl;
-      last_words = λ is. no_call_was_done is;
-      last_pairs = λ is. no_call_was_done is;
+      last_words = λ is. absurd is;
+      last_pairs = λ is. absurd is;
       idle = λ is. refl;
     }
 

@@ -4,10 +4,10 @@ use Rattle.dcsctp_machine.specs.declared.schedule.Step.{Step}
 use Rattle.dcsctp_machine.specs.Sockets.{Both, of_side, of_other, side_of, StepTurns}
 use Rattle.dcsctp_api.specs.declared.errors.SocketFault.{SocketFault}
 use Rattle.dcsctp_api.specs.declared.errors.SocketFault.TheVariants.{OutOfMemory, Failed}
-use Rattle.dcsctp_world.specs.declared.act.Act.TheVariants as acts
+use Rattle.dcsctp_machine.specs.declared.schedule.Act.TheVariants as acts
 use Rattle.dcsctp_world.specs.declared.act.Reply.{Reply}
 use Rattle.dcsctp_world.specs.Shown.{SideShown, WorldView, options_of}
-use Rattle.dcsctp_world.specs.Growth.{Extends, Fails, Grows, ShowsFront, Stops, SideExtends, with_association, reply_of}
+use Rattle.dcsctp_world.specs.Growth.{Extends, Fails, Grows, ShowsFront, Stops, SideExtends, with_association, IsReply}
 use Rattle.dcsctp_world.specs.Run.{IsRun}
 use Rattle.dcsctp_world.specs.Agreement.{Agrees, HandshakeConnects}
 
@@ -16,7 +16,7 @@ pub record StepMoves {R : Type 0} (step : Step) (answer : Reply) (old new : Both
   pub grows : Grows (StepTurns (of_side (side_of step) old).socket.view.endpoint (of_other (side_of step) old).packets step) answer
       (of_side (side_of step) old) (of_side (side_of step) new)
   pub other_stays : of_other (side_of step) new ≡ of_other (side_of step) old
-  pub reply : answer ≡ reply_of (of_other (side_of step) old).packets step
+  pub reply : IsReply (of_side (side_of step) old).socket.view.endpoint (of_other (side_of step) old).packets step answer
 
 -- A step was worked at its side; or it failed there. The other is as it was.
 abbrev pub MovesSide : {R : Type 0} → Step → Both (SideShown R) → Result Reply SocketFault → Both (SideShown R) → Type 0

@@ -1,5 +1,5 @@
 -- What the two sockets of a world agree on, along the run that it shows.
-use Rattle.std.specs.Prelude.{◌≡◌, map}
+use Rattle.std.specs.Prelude.{◌≡◌}
 use Rattle.std.specs.List.{AllByRecursion}
 use Rattle.dcsctp_machine.specs.declared.association.Pair.{Pair}
 use Rattle.dcsctp_machine.specs.declared.options.Options.{Options}
@@ -10,9 +10,8 @@ use Rattle.dcsctp_machine.specs.control.HandshakeChanges.{new_held}
 use Rattle.dcsctp_machine.specs.Past.{Each, InPlace}
 use Rattle.dcsctp_machine.specs.Sockets.{Both, of_side, turns_after}
 use Rattle.dcsctp_refinement.specs.Agreement.{HasDistinctTags, AgreeThroughout, noted_past}
-use Rattle.dcsctp_refinement.specs.Handshake.{handshake, AreFitting, ConnectThroughout, connections}
+use Rattle.dcsctp_refinement.specs.Handshake.{handshake_acts, AreFitting, ConnectThroughout, connections}
 use Rattle.dcsctp_refinement.specs.OneSocket.{EndsByAnswer}
-use Rattle.dcsctp_world.specs.declared.act.Act.TheVariants as acts
 use Rattle.dcsctp_world.specs.Shown.{SideShown, WorldView}
 use Rattle.dcsctp_world.specs.Run.{IsRun}
 
@@ -43,4 +42,4 @@ pub record BothConnected {R : Type 0} (options : Both Options) (world : WorldVie
 -- Where the acts are connect at one side and the four packets of the handshake in turn, sockets that fit each other are
 -- connected (RFC 9260, section 5.1).
 abbrev pub HandshakeConnects : {R : Type 0} → Both Options → WorldView R → Type 0
-HandshakeConnects options world = (side : Side) → world.acts ≡ map acts.Step (handshake side) → AreFitting options → BothConnected options world
+HandshakeConnects options world = (side : Side) → world.acts ≡ handshake_acts side → AreFitting options → BothConnected options world

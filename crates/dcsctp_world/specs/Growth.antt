@@ -2,8 +2,10 @@
 use Rattle.std.specs.Prelude.{◌≡◌, ℕ, true, false, Option, None, Some, Result, Ok, Err, List, [], ◌∷◌, ◌++◌, ◌⊎◌, map}
 use Rattle.dcsctp_machine.specs.declared.schedule.Step.{Step}
 use Rattle.dcsctp_machine.specs.declared.schedule.Step.TheVariants as steps
+use Rattle.dcsctp_machine.specs.declared.schedule.Call.{Call}
+use Rattle.dcsctp_machine.specs.declared.schedule.Call.TheVariants as calls
 use Rattle.dcsctp_machine.specs.Event.{Event, packets_in}
-use Rattle.dcsctp_machine.specs.Endpoint.{association_of}
+use Rattle.dcsctp_machine.specs.Endpoint.{Endpoint, association_of}
 use Rattle.dcsctp_machine.specs.Settings.{ports_of}
 use Rattle.dcsctp_machine.specs.CallTurns.{Turned, after_all, words_of, events_of, pairs_of}
 use Rattle.dcsctp_machine.specs.Sockets.{numbered}
@@ -85,6 +87,11 @@ CollectsAll old (Err error) new = CollectsFront old new
 abbrev pub told : {R : Type 0} → SideShown R → List Turned → List (Event (List ℕ))
 told side turns = map (user_event (ports_of side.socket.view.endpoint.options)) (events_of turns)
 
+-- a call was made
+abbrev pub WasCalled : Reply → Type 0
+WasCalled NoCall = ⊥
+WasCalled Done = Unit {0}
+
 -- Turns of this kind move the socket, and each list grows by what they show; no event waits. Where a call was made,
 -- its words and pairs are theirs; where none was, nothing changed.
 pub record Grows {R : Type 0} (Turns : List Turned → Type 0) (answer : Reply) (old new : SideShown R) : Type 0 where
@@ -98,8 +105,8 @@ pub record Grows {R : Type 0} (Turns : List Turned → Type 0) (answer : Reply) 
   pub packets : new.packets ≡ old.packets ++ packets_in (told old turns)
   pub pairs : new.pairs ≡ old.pairs ++ pairs_of turns
   pub associations : new.associations ≡ old.associations
-  pub last_words : answer ≡ Done → new.socket.view.words ≡ words_of turns
-  pub last_pairs : answer ≡ Done → new.socket.view.pairs ≡ pairs_of turns
+  pub last_words : WasCalled answer → new.socket.view.words ≡ words_of turns
+  pub last_pairs : WasCalled answer → new.socket.view.pairs ≡ pairs_of turns
   pub idle : answer ≡ NoCall → new ≡ old
 
 -- What a side shows grew by a front part of what these turns bring, and of its association after them. The options that its
@@ -128,10 +135,10 @@ abbrev pub Calls : {R : Type 0} → (List Turned → Type 0) → SideShown R →
 Calls Turns old (Ok done) new = Grows Turns Done old new
 Calls Turns old (Err fault) new = Fails Turns old fault new
 
--- A step was worked at its side, with this reply; or it failed.
-abbrev pub Works : {R : Type 0} → (List Turned → Type 0) → Reply → SideShown R → Result Reply SocketFault → SideShown R → Type 0
-Works Turns reply old (Ok answer) new = (answer ≡ reply) × Grows Turns answer old new
-Works Turns reply old (Err fault) new = Fails Turns old fault new
+-- A step was worked at its side, with such a reply; or it failed.
+abbrev pub Works : {R : Type 0} → (List Turned → Type 0) → (Reply → Type 0) → SideShown R → Result Reply SocketFault → SideShown R → Type 0
+Works Turns IsIt old (Ok answer) new = IsIt answer × Grows Turns answer old new
+Works Turns IsIt old (Err fault) new = Fails Turns old fault new
 
 -- Each list begins with what it held.
 pub record SideExtends {R : Type 0} (old new : SideShown R) : Type 0 where
@@ -151,12 +158,16 @@ Notes old (Err error) new = new ≡ old
 
 -- ---- replies
 
--- what is answered where these bytes are to be handed in
-abbrev pub delivery_reply : Option (List ℕ) → Reply
-delivery_reply None = NoCall
-delivery_reply (Some bytes) = Done
+-- It is what is answered where these bytes are to be handed in.
+abbrev pub IsDeliveryReply : Option (List ℕ) → Reply → Type 0
+IsDeliveryReply None reply = reply ≡ NoCall
+IsDeliveryReply (Some bytes) reply = reply ≡ Done
 
--- what a step answers where the other side has emitted these packets
-abbrev pub reply_of : List (List ℕ) → Step → Reply
-reply_of packets (steps.Call side call) = Done
-reply_of packets (steps.Deliver side number) = delivery_reply (numbered number packets)
+-- It is what a call of this endpoint's user answers.
+abbrev pub IsCallReply : Endpoint → Call → Reply → Type 0
+IsCallReply e calls.Connect reply = reply ≡ Done
+
+-- It is what a step answers from this endpoint, where the other side has emitted these packets.
+abbrev pub IsReply : Endpoint → List (List ℕ) → Step → Reply → Type 0
+IsReply e packets (steps.Call side call) reply = IsCallReply e call reply
+IsReply e packets (steps.Deliver side number) reply = IsDeliveryReply (numbered number packets) reply

@@ -4,7 +4,7 @@ use Rattle.std.specs.declared.alloc.Global.{Global}
 use Rattle.dcsctp_machine.specs.Sockets.{Both}
 use Rattle.dcsctp_api.specs.declared.events.SocketEvent.{SocketEvent}
 use Rattle.dcsctp_api.specs.Events.{event_content}
-use Rattle.dcsctp_world.specs.declared.act.Act.{Act}
+use Rattle.dcsctp_machine.specs.declared.schedule.Act.{Act}
 use Rattle.dcsctp_world.specs.declared.watched_socket.WatchedSocket.{WatchedSocket}
 use Rattle.dcsctp_world.specs.Growth.{Kept}
 use Rattle.dcsctp_world.specs.Shown.{SideShown, WorldView}

@@ -1,11 +1,10 @@
 -- What a world shows is what a run of two sockets shows.
-use Rattle.std.specs.Prelude.{◌≡◌, false, List, [], map, reverse}
+use Rattle.std.specs.Prelude.{◌≡◌, false, List, [], reverse}
 use Rattle.dcsctp_machine.specs.declared.options.Options.{Options}
 use Rattle.dcsctp_machine.specs.declared.schedule.Side.{Side}
 use Rattle.dcsctp_machine.specs.CallTurns.{Turned, pairs_of}
-use Rattle.dcsctp_machine.specs.Sockets.{Both, of_side, Worked, SocketRun, turns_after, endpoint_after, events_shown, packets_shown, schedule_of, associations_of}
+use Rattle.dcsctp_machine.specs.Sockets.{Both, of_side, Worked, SocketRun, turns_after, endpoint_after, events_shown, packets_shown, acts_of, associations_of}
 use Rattle.dcsctp_refinement.specs.Agreement.{AreUsable}
-use Rattle.dcsctp_world.specs.declared.act.Act.TheVariants as acts
 use Rattle.dcsctp_world.specs.Shown.{SideShown, WorldView}
 
 -- A side after these turns: it has not failed, no event waits in it, and it shows what they brought.
@@ -18,11 +17,11 @@ pub record SideRuns {R : Type 0} (options : Options) (turns : List Turned) (side
   pub packets : side.packets ≡ packets_shown options turns
   pub pairs : side.pairs ≡ pairs_of turns
 
--- All that the world shows is what two sockets with these options show, along one run of the steps that were applied.
+-- All that the world shows is what two sockets with these options show, along one run of what was applied.
 pub record IsRun {R : Type 0} (options : Both Options) (world : WorldView R) : Type 0 where
   pub usable : AreUsable options
   pub steps : List Worked
   pub run : SocketRun options steps
-  pub acts : world.acts ≡ map acts.Step (reverse (schedule_of steps))
+  pub acts : world.acts ≡ reverse (acts_of steps)
   pub sides : (side : Side) → SideRuns (of_side side options) (of_side side (turns_after steps)) (of_side side world.sides)
   pub associations : (side : Side) → (of_side side world.sides).associations ≡ reverse (associations_of side options steps)

@@ -6,7 +6,7 @@ use Rattle.dcsctp_machine.specs.declared.options.Options.{Options}
 use Rattle.dcsctp_machine.specs.Event.{Event}
 use Rattle.dcsctp_machine.specs.Sockets.{Both}
 use Rattle.dcsctp_socket.specs.SocketView.{SocketView, fresh_socket}
-use Rattle.dcsctp_world.specs.declared.act.Act.{Act}
+use Rattle.dcsctp_machine.specs.declared.schedule.Act.{Act}
 
 -- A socket, and all that it ever showed, oldest first: its events, the packets among them, the pairs that it
 -- drew, and its association at the start and after each act of either side.

@@ -1,16 +1,9 @@
-//! What a world was asked to do, and what a call answered.
+//! Where a step happens, and what its call answered.
 
 ghost use Rattle.std.specs.Prelude.{◌≡◌};
 ghost use Rattle.dcsctp_machine.specs.Sockets.{side_of};
 
 use dcsctp_machine::{Side, Step};
-
-/// What was applied to a world.
-#[derive(Clone, Copy, Debug, PartialEq, Eq)]
-pub enum Act {
-    /// A step of a schedule.
-    Step(Step),
-}
 
 /// What the call of an act answered.
 #[derive(Clone, Copy, Debug, PartialEq, Eq)]

@@ -9,7 +9,7 @@ mod act;
 mod watched_socket;
 mod world;
 
-pub use act::{Act, Reply};
-pub use dcsctp_machine::{Call, Side, Step};
+pub use act::Reply;
+pub use dcsctp_machine::{Act, Call, Side, Step};
 pub use dcsctp_socket as socket;
 pub use world::World;

@@ -7,7 +7,7 @@ ghost use Rattle.dcsctp_machine.specs.Sockets.{numbered, UserTurns, DeliveryTurn
 ghost use Rattle.dcsctp_api.specs.Events.{event_content};
 ghost use Rattle.dcsctp_socket.specs.SocketView.{user_view_of};
 ghost use Rattle.dcsctp_world.specs.Shown.{fresh_side};
-ghost use Rattle.dcsctp_world.specs.Growth.{Keeps, TakesAll, CollectsAll, Calls, Works, Notes, reply_of, delivery_reply};
+ghost use Rattle.dcsctp_world.specs.Growth.{Keeps, TakesAll, CollectsAll, Calls, Works, Notes, IsReply, IsDeliveryReply};
 ghost use Rattle.dcsctp_world.specs.Parts.{packet_bytes, kept, shown};
 
 use crate::act::Reply;
@@ -135,7 +135,7 @@ impl<R: Rng + Drop> WatchedSocket<R> {
     fn deliver(&mut self, packets: &[Vec<u8>], number: usize) -> Result<Reply, SocketFault>
         requires { self.old.socket.view.events ≡ [] }
         ensures { Works (DeliveryTurns self.old.socket.view.endpoint (numbered number
-            (packet_bytes packets.now))) (delivery_reply (numbered number (packet_bytes packets.now)))
+            (packet_bytes packets.now))) (IsDeliveryReply (numbered number (packet_bytes packets.now)))
             (shown self.old) result (shown self.new) }
     {
         match packet_numbered(packets, number) {
@@ -154,7 +154,7 @@ impl<R: Rng + Drop> WatchedSocket<R> {
     pub fn work(&mut self, packets: &[Vec<u8>], step: &Step) -> Result<Reply, SocketFault>
         requires { self.old.socket.view.events ≡ [] }
         ensures { Works (StepTurns self.old.socket.view.endpoint (packet_bytes packets.now) step.now)
-            (reply_of (packet_bytes packets.now) step.now) (shown self.old) result (shown self.new) }
+            (IsReply self.old.socket.view.endpoint (packet_bytes packets.now) step.now) (shown self.old) result (shown self.new) }
     {
         match step {
             Step::Call(_, call) => {

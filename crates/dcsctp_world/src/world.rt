@@ -1,8 +1,8 @@
 //! Two sockets, and what happens to them.
 
-use crate::act::{Act, Reply, side_of};
+use crate::act::{Reply, side_of};
 use crate::watched_socket::WatchedSocket;
-use dcsctp_machine::{Side, Step, options_fit};
+use dcsctp_machine::{Act, Side, Step, options_fit};
 use dcsctp_refinement::socket_laws;
 use dcsctp_socket::{Association, Options, Pair, Socket, SocketEvent, SocketFault};
 use rand_core::Rng;

@@ -4,7 +4,7 @@ use Rattle.dcsctp_api.specs.declared.errors.SocketFault.{SocketFault}
 use Rattle.dcsctp_machine.specs.CallTurns.{Turned, HandleInput}
 use Rattle.dcsctp_machine.specs.Sockets.{numbered, DeliveryTurns}
 use Rattle.dcsctp_world.specs.declared.act.Reply.TheVariants.{NoCall}
-use Rattle.dcsctp_world.specs.Growth.{Works, delivery_reply}
+use Rattle.dcsctp_world.specs.Growth.{Works, IsDeliveryReply}
 use Rattle.dcsctp_world.specs.Parts.{packet_bytes, shown}
 use Rattle.dcsctp_world.proofs.Stopping.{grows_by_nothing, input_fails, stops_after}
 use Rattle.dcsctp_world.proofs.watched_socket.WatchedSocket.deliver.Goals as goal
@@ -13,7 +13,7 @@ pub returns-in-None : goal.returns-in-None
 returns-in-None g c =
     let old = c.args.self.now in
     let Delivers : Option (List ℕ) → Type 0 = λ bytes.
-    Works (DeliveryTurns old.socket.view.endpoint bytes) (delivery_reply bytes) (shown old) (Ok NoCall) (shown old) in
+    Works (DeliveryTurns old.socket.view.endpoint bytes) (IsDeliveryReply bytes) (shown old) (Ok NoCall) (shown old) in
     subst Delivers (sym c.in-None.ensures) (refl, grows_by_nothing _ (shown old) refl c.requires)
 
 pub returns-in_err-handle_input-in-Some : goal.returns-in_err-handle_input-in-Some
