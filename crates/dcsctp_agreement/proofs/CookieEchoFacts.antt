@@ -5,7 +5,7 @@ use Rattle.std.specs.Prelude.{codes, replicate}
 use Rattle.dcsctp_wire.specs.Spelling.{parameter_bytes}
 use Rattle.dcsctp_machine.specs.declared.options.Options.{Options}
 use Rattle.dcsctp_machine.specs.Cookie.{Cookie, cookie_bytes, cookie_at}
-use Rattle.dcsctp_machine.specs.Packet.{cookie_ack, shutdown_ack, plain, written}
+use Rattle.dcsctp_machine.specs.Packet.{cookie_ack, shutdown_ack, plain, error_of}
 use Rattle.dcsctp_machine.specs.Endpoint.{Core, closed, cookie_wait, cookie_echoed, established, shutdown_sent, shutdown_ack_sent, open_in}
 use Rattle.dcsctp_machine.specs.Following.{next_chunk, dropped_rest}
 use Rattle.dcsctp_machine.specs.control.Effect.{sends, holds, connects, Change}
@@ -129,12 +129,12 @@ no_maker_tag a core = refl
 
 -- ---- the turns that don't
 
--- A restart is refused where SHUTDOWN ACK was sent, and only there: SHUTDOWN ACK and ERROR (type 9) with the
--- cause 10 go out.
+-- A restart is refused where SHUTDOWN ACK was sent, and only there: SHUTDOWN ACK and ERROR with the cause 10
+-- go out.
 restart_where_ending : (a : Options) → echo a (open_in shutdown_ack_sent two (new one 200 99)) 19 (cookie new_two new_one 12)
     ≡ record {
       core = open_in shutdown_ack_sent two (new one 200 99);
-      effects = sends (record { tag = 7; contents = shutdown_ack ∷ plain (written 9 0 (0 ∷ 10 ∷ 0 ∷ 4 ∷ [])) ∷ [] }) ∷ [];
+      effects = sends (record { tag = 7; contents = shutdown_ack ∷ plain (error_of (0 ∷ 10 ∷ 0 ∷ 4 ∷ [])) ∷ [] }) ∷ [];
       following = dropped_rest;
     }
 unfolding cookie_bytes cookie_at parameter_bytes
