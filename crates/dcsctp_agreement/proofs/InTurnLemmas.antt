@@ -1,15 +1,15 @@
 -- The four packets in turn connect two fresh sides.
-use Rattle.std.proofs.Common.{◌≡◌, ◌==◌, ℕ, Bool, true, List, [], ◌∷◌, inl, refl, sym, subst, ap, ◌∙◌, Result, arith}
+use Rattle.std.proofs.Common.{◌≡◌, ◌==◌, ℕ, Bool, true, List, [], ◌∷◌, inl, refl, sym, subst, ap, ◌∙◌, Result, Ok, arith}
 use Rattle.std.proofs.lemmas.Bool.Decides.{nat_tests}
 use Rattle.dcsctp_machine.specs.declared.options.Options.{Options}
 use Rattle.dcsctp_machine.specs.declared.capabilities.Capabilities.{Capabilities}
-use Rattle.dcsctp_machine.specs.Offer.{offer_of}
+use Rattle.dcsctp_machine.specs.declared.association.Pair.{Pair}
+use Rattle.dcsctp_machine.specs.Offer.{Offer, offer_of}
 use Rattle.dcsctp_machine.specs.Laws.{AnswerKeepsAgreement}
-use Rattle.dcsctp_machine.specs.Cookie.{Cookie}
+use Rattle.dcsctp_machine.specs.Cookie.{Cookie, cookie_at}
 use Rattle.dcsctp_machine.specs.Endpoint.{closed, open_in, established}
-use Rattle.dcsctp_machine.specs.turns.HandshakeOutcomes.{cookie_for}
 use Rattle.dcsctp_machine.specs.control.Effect.{Change}
-use Rattle.dcsctp_machine.specs.control.HandshakeChanges.{introduction_of, new_held, IsCookieOf}
+use Rattle.dcsctp_machine.specs.control.HandshakeChanges.{introduction_of, new_held}
 use Rattle.dcsctp_machine.specs.control.Acts.{connect}
 use Rattle.dcsctp_machine.specs.control.CookieEchoChanges.{case_without_peer, resolved_change, read_echo_change, new_association_change}
 use Rattle.dcsctp_machine.specs.World.{own_tag_borne, echo_in_front, init_alone, worked_whole, does, at_a, at_b, Step, world_after, Run}
@@ -18,16 +18,25 @@ use Rattle.dcsctp_agreement.specs.InTurn.{Handshake, choices_for, CookieReads, c
 same_number : (n : ℕ) → (n == n) ≡ true
 same_number n = grind (arith, nat_tests)
 
--- the cookie that is made
-abbrev made : Options → Handshake → Cookie
-made options_a handshake = cookie_for (introduction_of options_a handshake.a) handshake.b 0
+-- a cookie of the two pairs and of the first side's offer, with what it says else
+abbrev made : Options → Handshake → ℕ → ℕ → Cookie
+made options_a handshake window tie = record { maker = handshake.b; addressee = handshake.a; offer = offer_of options_a; window = window; tie = tie }
+
+reads_as_made : (options_a : Options) (handshake : Handshake) (reads : CookieReads options_a handshake)
+    → cookie_at handshake.cookie ≡ Ok (made options_a handshake reads.0.window reads.0.tie)
+reads_as_made options_a handshake reads =
+    let cookie : Cookie = reads.0 in
+    reads.1 ∙ ap (λ (c : Cookie). let r : Result Cookie (List ℕ) = Ok c in r)
+    (ap (λ (p : Pair). let c : Cookie = record cookie { maker = p } in c) reads.2
+    ∙ ap (λ (p : Pair). let c : Cookie = record cookie { maker = handshake.b; addressee = p } in c) reads.3
+    ∙ ap (λ (o : Offer). let c : Cookie = record cookie { maker = handshake.b; addressee = handshake.a; offer = o } in c) reads.4)
 
 -- COOKIE ECHO makes the association
-establishes : (options_a options_b : Options) (handshake : Handshake) → CookieReads options_a handshake
-    → cookie_echo_worked options_a options_b handshake ≡ new_association_change options_b (made options_a handshake) (choices_for handshake handshake.b)
+establishes : (options_a options_b : Options) (handshake : Handshake) (reads : CookieReads options_a handshake)
+    → cookie_echo_worked options_a options_b handshake ≡ new_association_change options_b (made options_a handshake reads.0.window reads.0.tie) (choices_for handshake handshake.b)
 establishes options_a options_b handshake reads =
-    ap (λ (r : Result Cookie (List ℕ)). read_echo_change options_b closed handshake.b.tag r (choices_for handshake handshake.b)) reads
-    ∙ ap (λ (b : Bool). resolved_change options_b closed (made options_a handshake) (choices_for handshake handshake.b) (case_without_peer b)) (same_number handshake.b.tag)
+    ap (λ (r : Result Cookie (List ℕ)). read_echo_change options_b closed handshake.b.tag r (choices_for handshake handshake.b)) (reads_as_made options_a handshake reads)
+    ∙ ap (λ (b : Bool). resolved_change options_b closed (made options_a handshake reads.0.window reads.0.tie) (choices_for handshake handshake.b) (case_without_peer b)) (same_number handshake.b.tag)
 
 -- the steps, by what the COOKIE ECHO brings
 abbrev steps_from : Options → Options → Handshake → Change → List Step
@@ -44,11 +53,8 @@ record Leads (options_a options_b : Options) (handshake : Handshake) (echoed : C
   run : Run options_a options_b (steps_from options_a options_b handshake echoed)
   connected : Connected options_a options_b handshake (world_after options_a options_b (steps_from options_a options_b handshake echoed))
 
-is_cookie : (options_a : Options) (handshake : Handshake) → CookieReads options_a handshake → IsCookieOf (introduction_of options_a handshake.a) handshake.b handshake.cookie
-is_cookie options_a handshake reads = (made options_a handshake, reads, refl, refl, refl)
-
-leads : AnswerKeepsAgreement → (options_a options_b : Options) (handshake : Handshake) → CookieReads options_a handshake
-    → Leads options_a options_b handshake (new_association_change options_b (made options_a handshake) (choices_for handshake handshake.b))
+leads : AnswerKeepsAgreement → (options_a options_b : Options) (handshake : Handshake) (reads : CookieReads options_a handshake)
+    → Leads options_a options_b handshake (new_association_change options_b (made options_a handshake reads.0.window reads.0.tie) (choices_for handshake handshake.b))
 leads law options_a options_b handshake reads =
     record {
       run = (
@@ -58,7 +64,7 @@ leads law options_a options_b handshake reads =
           (
             (inl refl, worked_whole (own_tag_borne refl) ((choices_for handshake handshake.a, tt, refl), tt)),
             (
-              (inl refl, worked_whole (init_alone (introduction_of options_a handshake.a) refl) ((choices_for handshake handshake.b, is_cookie options_a handshake reads, refl), tt)),
+              (inl refl, worked_whole (init_alone (introduction_of options_a handshake.a) refl) ((choices_for handshake handshake.b, reads, refl), tt)),
               ((choices_for handshake handshake.a, refl), tt),
             ),
           ),

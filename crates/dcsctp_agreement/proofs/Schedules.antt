@@ -12,10 +12,9 @@ use Rattle.dcsctp_machine.specs.Reconfiguration.{RequestedReset}
 use Rattle.dcsctp_machine.specs.Packet.{Introduction, Content, Packet}
 use Rattle.dcsctp_machine.specs.Endpoint.{Core}
 use Rattle.dcsctp_machine.specs.control.Effect.{Link, Effect, sends}
-use Rattle.dcsctp_machine.specs.control.Choices.{Filling, Choices}
+use Rattle.dcsctp_machine.specs.control.Choices.{Choices, nothing_to_send, idle_choices}
 use Rattle.dcsctp_machine.specs.control.Acts.{Act, act_change, chunk_change, MakesCookie}
 use Rattle.dcsctp_machine.specs.Past.{Has}
-use Rattle.dcsctp_machine.specs.Following.{next_chunk}
 use Rattle.dcsctp_machine.specs.World.{SideState, MayBeWorked, does, receives, World, Which, at_a, at_b, Step, world_after, Run, worked_whole}
 
 -- ---- values
@@ -69,12 +68,9 @@ bytes_of maker addressee tie = cookie_bytes (cookie maker addressee tie)
 
 -- ---- choices
 
-abbrev pub nothing : Filling
-nothing = record { is_allowed = true; acknowledgements = []; reset = None; data_chunks = []; further = [] }
-
 -- Packets fit, all data is acknowledged, and there is nothing to send.
 abbrev pub plain : Choices
-plain = record { drawn = pair 1 1; cookie = []; tie = 0; fits = true; is_acknowledged = true; is_reached = false; is_violation = false; causes = []; tsn = 0; following = next_chunk; plain = []; filling = nothing }
+plain = record (idle_choices (pair 1 1)) { is_reached = false }
 
 abbrev pub with_drawn : Pair → Choices
 with_drawn drawn = record plain { drawn = drawn }
@@ -87,7 +83,7 @@ abbrev pub with_tie : ℕ → Choices
 with_tie tie = record plain { tie = tie }
 
 abbrev pub with_reset : RequestedReset → Choices
-with_reset reset = record plain { filling = record nothing { reset = Some reset } }
+with_reset reset = record plain { filling = record nothing_to_send { reset = Some reset } }
 
 -- All data has come that was sent before a reset was requested.
 abbrev pub reached : Choices

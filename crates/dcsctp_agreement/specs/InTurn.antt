@@ -1,22 +1,15 @@
 -- The four packets of the handshake, delivered in turn between two fresh sides (RFC 9260, section 5.1).
-use Rattle.std.specs.Prelude.{◌≡◌, ℕ, ◌+◌, true, false, None, List, [], ◌∷◌, Ok}
+use Rattle.std.specs.Prelude.{◌≡◌, ℕ, ◌+◌, List, [], ◌∷◌}
 use Rattle.dcsctp_machine.specs.declared.options.Options.{Options}
 use Rattle.dcsctp_machine.specs.declared.association.Pair.{Pair}
 use Rattle.dcsctp_machine.specs.Offer.{offer_of, negotiated}
-use Rattle.dcsctp_machine.specs.Cookie.{cookie_at}
 use Rattle.dcsctp_machine.specs.Packet.{Content, Packet}
 use Rattle.dcsctp_machine.specs.Endpoint.{Core, closed, open_in, established}
-use Rattle.dcsctp_machine.specs.turns.HandshakeOutcomes.{cookie_for}
 use Rattle.dcsctp_machine.specs.control.Effect.{Effect, sends, connects, Change, unchanged}
-use Rattle.dcsctp_machine.specs.Following.{next_chunk}
-use Rattle.dcsctp_machine.specs.control.Choices.{Filling, Choices}
-use Rattle.dcsctp_machine.specs.control.HandshakeChanges.{introduction_of, new_held}
+use Rattle.dcsctp_machine.specs.control.Choices.{Choices, idle_choices}
+use Rattle.dcsctp_machine.specs.control.HandshakeChanges.{introduction_of, new_held, IsCookieOf}
 use Rattle.dcsctp_machine.specs.control.Acts.{connect, act_change, chunk_change}
 use Rattle.dcsctp_machine.specs.World.{does, receives, Which, at_a, at_b, Step, World, world_after, Run}
-
--- no data, no acknowledgement, no reset
-abbrev pub nothing_to_send : Filling
-nothing_to_send = record { is_allowed = true; acknowledgements = []; reset = None; data_chunks = []; further = [] }
 
 -- what is free in the handshake: each side's pair, the bytes of the cookie, and the tie tags that are drawn
 pub record Handshake : Type 0 where
@@ -27,25 +20,11 @@ pub record Handshake : Type 0 where
 
 -- each packet fits, and nothing else is to send
 abbrev pub choices_for : Handshake → Pair → Choices
-choices_for handshake drawn =
-    record {
-      drawn = drawn;
-      cookie = handshake.cookie;
-      tie = handshake.tie;
-      fits = true;
-      is_acknowledged = true;
-      is_reached = true;
-      is_violation = false;
-      causes = [];
-      tsn = 0;
-      following = next_chunk;
-      plain = [];
-      filling = nothing_to_send;
-    }
+choices_for handshake drawn = record (idle_choices drawn) { cookie = handshake.cookie; tie = handshake.tie }
 
--- The cookie reads back, as the one that the second side makes.
+-- The cookie reads as one that the second side makes for the INIT of the first.
 abbrev pub CookieReads : Options → Handshake → Type 0
-CookieReads options_a handshake = cookie_at handshake.cookie ≡ Ok (cookie_for (introduction_of options_a handshake.a) handshake.b 0)
+CookieReads options_a handshake = IsCookieOf (introduction_of options_a handshake.a) handshake.b handshake.cookie
 
 -- the first packet that these effects send
 abbrev pub sent_first : List Effect → Packet

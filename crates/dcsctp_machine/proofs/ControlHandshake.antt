@@ -16,7 +16,7 @@ use Rattle.dcsctp_machine.specs.turns.FlushOutcomes.{allows_packet}
 use Rattle.dcsctp_machine.specs.turns.EndOutcomes.{ended_outcome, abort_outcome}
 use Rattle.dcsctp_machine.specs.turns.HandshakeOutcomes.{pair_from, init_emission, awaits_init_ack, connect_outcome, ConnectTurn, no_cookie_text, abort_emission, awaits_cookie_ack, echo_emission, init_ack_outcome, InitAckTurn, CookieAckTurn, connected_after, cookie_ack_outcome}
 use Rattle.dcsctp_machine.specs.control.Effect.{holds, connects, Change, unchanged, emitted_alone, link_of}
-use Rattle.dcsctp_machine.specs.control.Choices.{Filling, Choices}
+use Rattle.dcsctp_machine.specs.control.Choices.{Filling, Choices, nothing_to_send, idle_choices}
 use Rattle.dcsctp_machine.specs.control.FlushChanges.{reset_to_begin, Flushed, flushed_with, flush}
 use Rattle.dcsctp_machine.specs.control.HandshakeChanges.{connect_change, init_ack_change, held_by_init_ack}
 use Rattle.dcsctp_machine.specs.control.Acts.{connect, ChunkChange}
@@ -27,25 +27,12 @@ use Rattle.dcsctp_machine.proofs.FlushLemmas.{init_ack_turn_now, cookie_ack_turn
 
 -- nothing waits to be sent
 abbrev pub filling_where : Bool → Filling
-filling_where is_allowed = record { is_allowed = is_allowed; acknowledgements = []; reset = None; data_chunks = []; further = [] }
+filling_where is_allowed = record nothing_to_send { is_allowed = is_allowed }
 
 -- the choices of a turn that emits one packet at most
 abbrev pub choices_of : Endpoint → Pair → List ℕ → Bool → Choices
 choices_of e drawn cookie fits =
-    record {
-      drawn = drawn;
-      cookie = cookie;
-      tie = e.tie;
-      fits = fits;
-      is_acknowledged = true;
-      is_reached = true;
-      is_violation = false;
-      causes = [];
-      tsn = 0;
-      following = next_chunk;
-      plain = [];
-      filling = filling_where (allows_packet e.options.max_burst);
-    }
+    record (idle_choices drawn) { cookie = cookie; tie = e.tie; fits = fits; filling = filling_where (allows_packet e.options.max_burst) }
 
 -- nothing is drawn
 abbrev pub no_choices : Endpoint → Bool → Choices

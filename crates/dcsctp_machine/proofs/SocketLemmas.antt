@@ -3,11 +3,7 @@ use Rattle.std.proofs.Common.{◌≡◌, ℕ, Bool, Option, None, Some, List, []
 use Rattle.dcsctp_machine.specs.declared.options.Options.{Options}
 use Rattle.dcsctp_machine.specs.declared.schedule.Side.{Side}
 use Rattle.dcsctp_machine.specs.declared.schedule.Side.TheVariants as sides
-use Rattle.dcsctp_machine.specs.declared.schedule.Call.TheVariants as calls
-use Rattle.dcsctp_machine.specs.declared.schedule.Step.{Step}
-use Rattle.dcsctp_machine.specs.declared.schedule.Step.TheVariants as steps
-use Rattle.dcsctp_machine.specs.declared.schedule.Act.{Act as WorldAct}
-use Rattle.dcsctp_machine.specs.declared.schedule.Act.TheVariants as acts
+use Rattle.dcsctp_machine.specs.Schedule.{connect_call, StepContent, call_step, delivery_step, ActContent, step_act}
 use Rattle.dcsctp_machine.specs.Packet.{Content, Packet, packet_in}
 use Rattle.dcsctp_machine.specs.Admission.{Admission, all_chunks, shutdown_acks_alone, refused, admits, shutdown_acks_in}
 use Rattle.dcsctp_machine.specs.Settings.{SameOptions}
@@ -90,12 +86,12 @@ delivery_keeps : (e : Endpoint) (bytes : Option (List ℕ)) (ts : List Turned) �
 delivery_keeps e None ts none = none_keeps e ts none
 delivery_keeps e (Some bytes) ts turns = input_keeps e bytes ts turns
 
-step_keeps : (e : Endpoint) (packets : List (List ℕ)) (step : Step) (ts : List Turned) → StepTurns e packets step ts → KeptBy e ts
-step_keeps e packets (steps.Call side calls.Connect) ts turns = turns_keep e (act_input connect ∷ []) ts turns
-step_keeps e packets (steps.Deliver side number) ts turns = delivery_keeps e (numbered number packets) ts turns
+step_keeps : (e : Endpoint) (packets : List (List ℕ)) (step : StepContent) (ts : List Turned) → StepTurns e packets step ts → KeptBy e ts
+step_keeps e packets (call_step side connect_call) ts turns = turns_keep e (act_input connect ∷ []) ts turns
+step_keeps e packets (delivery_step side number) ts turns = delivery_keeps e (numbered number packets) ts turns
 
-act_keeps : (e : Endpoint) (packets : List (List ℕ)) (act : WorldAct) (ts : List Turned) → TurnsOfAct e packets act ts → KeptBy e ts
-act_keeps e packets (acts.Step step) ts turns = step_keeps e packets step ts turns
+act_keeps : (e : Endpoint) (packets : List (List ℕ)) (act : ActContent) (ts : List Turned) → TurnsOfAct e packets act ts → KeptBy e ts
+act_keeps e packets (step_act step) ts turns = step_keeps e packets step ts turns
 
 -- ---- a run
 
@@ -128,4 +124,4 @@ run_keeps options (worked ∷ earlier) run side =
     (λ (s : Side). run_keeps options earlier run.1 s) side
 
 pub sockets_keep_options : SocketsKeepOptions
-sockets_keep_options = record { step = step_keeps; run = run_keeps }
+sockets_keep_options = record { act = act_keeps; run = run_keeps }

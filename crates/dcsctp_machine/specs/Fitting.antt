@@ -1,7 +1,8 @@
 -- What a socket sends: numbers that fit their fields, and chunks that are read as themselves.
-use Rattle.std.specs.Prelude.{◌≡◌, ◌<◌, ◌^◌, None, Some, List, [], ◌∷◌}
+use Rattle.std.specs.Prelude.{◌≡◌, ◌<◌, ◌^◌, ℕ, Option, None, Some, List, [], ◌∷◌}
 use Rattle.std.specs.List.{AllByRecursion}
 use Rattle.dcsctp_wire.specs.ReadsBack.{FitsEcho, FitsChunk}
+use Rattle.dcsctp_machine.specs.declared.association.Held.{Held}
 use Rattle.dcsctp_machine.specs.Settings.{IsValid, FitsOptions}
 use Rattle.dcsctp_machine.specs.Event.{Event, sent}
 use Rattle.dcsctp_machine.specs.Packet.{Content, init, init_ack, Packet, Emission, content_in, chunk_out}
@@ -38,12 +39,25 @@ abbrev pub AllSent : (Emission → Type 0) → List (Event Emission) → Type 0
 AllSent Good [] = Unit {0}
 AllSent Good (event ∷ events) = OfSent Good event × AllSent Good events
 
--- The own pair fits its fields while the handshake is under way. No shutdown is under way: so far none begins.
+-- a number of a request, where there is one
+abbrev pub FitsNumber : Option ℕ → Type 0
+FitsNumber None = Unit {0}
+FitsNumber (Some number) = number < 2 ^ 32
+
+-- what is known of the peer, and the numbers of requests
+pub record FitsHeld (held : Held) : Type 0 where
+  pub peer : FitsPair held.peer
+  pub own_next : held.own_next < 2 ^ 32
+  pub own_outstanding : FitsNumber held.own_outstanding
+  pub peer_last : held.peer_last < 2 ^ 32
+
+-- All that an association holds fits its fields: whatever of it is sent, now or again, can be read. No shutdown is under
+-- way: so far none begins.
 abbrev pub FitsCore : Core → Type 0
 FitsCore closed = Unit {0}
 FitsCore (cookie_wait my) = FitsPair my
-FitsCore (cookie_echoed my held cookie) = FitsPair my
-FitsCore (open_in established my held) = Unit {0}
+FitsCore (cookie_echoed my held cookie) = FitsPair my × FitsHeld held × FitsEcho cookie
+FitsCore (open_in established my held) = FitsPair my × FitsHeld held
 FitsCore (open_in shutdown_pending my held) = ⊥
 FitsCore (open_in shutdown_sent my held) = ⊥
 FitsCore (open_in shutdown_received my held) = ⊥

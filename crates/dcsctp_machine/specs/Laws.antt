@@ -7,8 +7,8 @@ use Rattle.dcsctp_machine.specs.declared.options.Options.{Options}
 use Rattle.dcsctp_machine.specs.Settings.{IsValid, SameOptions, wire_options}
 use Rattle.dcsctp_machine.specs.Admission.{all_chunks, shutdown_acks_alone, refused, admits, shutdown_acks_in}
 use Rattle.dcsctp_machine.specs.declared.schedule.Side.{Side}
-use Rattle.dcsctp_machine.specs.declared.schedule.Step.{Step}
-use Rattle.dcsctp_machine.specs.Sockets.{Both, of_side, StepTurns, Worked, SocketRun, turns_after, endpoint_after}
+use Rattle.dcsctp_machine.specs.Schedule.{ActContent}
+use Rattle.dcsctp_machine.specs.Sockets.{Both, of_side, TurnsOfAct, Worked, SocketRun, turns_after, endpoint_after}
 use Rattle.dcsctp_machine.specs.CallTurns.{Turned, Turns, ChunkTurns, AdmittedTurns, HandleInput, after_all, words_of, effects_of, events_of}
 use Rattle.dcsctp_machine.specs.Event.{Event, sent, error}
 use Rattle.dcsctp_machine.specs.Turn.{Input, packet_ends, unreadable_text, refusal_outcome, ContentTurn, ActTurn}
@@ -230,7 +230,7 @@ FlushKeepsLimits =
 -- The options of a socket stay for good, but for the longest message that it takes, whatever the user calls and whatever is
 -- delivered.
 pub record SocketsKeepOptions : Type 0 where
-  pub step : (e : Endpoint) (packets : List (List ℕ)) (step : Step) (turns : List Turned) → StepTurns e packets step turns
+  pub act : (e : Endpoint) (packets : List (List ℕ)) (act : ActContent) (turns : List Turned) → TurnsOfAct e packets act turns
       → SameOptions e.options (after_all e turns).options
   pub run : (options : Both Options) (steps : List Worked) → SocketRun options steps
       → (side : Side) → SameOptions (of_side side options) (endpoint_after (of_side side options) (of_side side (turns_after steps))).options

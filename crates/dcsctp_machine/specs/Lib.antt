@@ -9,6 +9,7 @@ pub mod Outcome
 pub mod Packet
 pub mod Reconfiguration
 pub mod Settings
+pub mod Schedule
 pub mod Sockets
 pub mod Transfer
 pub mod control

@@ -5,12 +5,7 @@ use Rattle.dcsctp_machine.specs.declared.association.Association.{Association}
 use Rattle.dcsctp_machine.specs.declared.options.Options.{Options}
 use Rattle.dcsctp_machine.specs.declared.schedule.Side.{Side}
 use Rattle.dcsctp_machine.specs.declared.schedule.Side.TheVariants as sides
-use Rattle.dcsctp_machine.specs.declared.schedule.Call.{Call}
-use Rattle.dcsctp_machine.specs.declared.schedule.Call.TheVariants as calls
-use Rattle.dcsctp_machine.specs.declared.schedule.Step.{Step}
-use Rattle.dcsctp_machine.specs.declared.schedule.Step.TheVariants as steps
-use Rattle.dcsctp_machine.specs.declared.schedule.Act.{Act}
-use Rattle.dcsctp_machine.specs.declared.schedule.Act.TheVariants as acts
+use Rattle.dcsctp_machine.specs.Schedule.{CallContent, connect_call, StepContent, call_step, delivery_step, ActContent, step_act}
 use Rattle.dcsctp_machine.specs.Settings.{ports_of}
 use Rattle.dcsctp_machine.specs.Event.{Event, event_map, packets_in}
 use Rattle.dcsctp_machine.specs.Packet.{emission_bytes}
@@ -46,33 +41,33 @@ DeliveryTurns e None turns = turns ≡ []
 DeliveryTurns e (Some bytes) turns = HandleInput e bytes turns
 
 -- what comes of a user's call
-abbrev pub UserTurns : Endpoint → Call → List Turned → Type 0
-UserTurns e calls.Connect turns = Turns e (act_input connect ∷ []) turns
+abbrev pub UserTurns : Endpoint → CallContent → List Turned → Type 0
+UserTurns e connect_call turns = Turns e (act_input connect ∷ []) turns
 
-abbrev pub side_of : Step → Side
-side_of (steps.Call side call) = side
-side_of (steps.Deliver side number) = side
+abbrev pub side_of : StepContent → Side
+side_of (call_step side call) = side
+side_of (delivery_step side number) = side
 
 -- what comes of a step at its side, where the other has emitted these packets
-abbrev pub StepTurns : Endpoint → List (List ℕ) → Step → List Turned → Type 0
-StepTurns e packets (steps.Call side call) turns = UserTurns e call turns
-StepTurns e packets (steps.Deliver side number) turns = DeliveryTurns e (numbered number packets) turns
+abbrev pub StepTurns : Endpoint → List (List ℕ) → StepContent → List Turned → Type 0
+StepTurns e packets (call_step side call) turns = UserTurns e call turns
+StepTurns e packets (delivery_step side number) turns = DeliveryTurns e (numbered number packets) turns
 
 -- ---- acts
 
--- What may be done to two sockets: so far a step of a schedule.
-abbrev pub side_of_act : Act → Side
-side_of_act (acts.Step step) = side_of step
+-- the side at which it happens
+abbrev pub side_of_act : ActContent → Side
+side_of_act (step_act step) = side_of step
 
 -- what comes of it at its side, where the other has emitted these packets
-abbrev pub TurnsOfAct : Endpoint → List (List ℕ) → Act → List Turned → Type 0
-TurnsOfAct e packets (acts.Step step) turns = StepTurns e packets step turns
+abbrev pub TurnsOfAct : Endpoint → List (List ℕ) → ActContent → List Turned → Type 0
+TurnsOfAct e packets (step_act step) turns = StepTurns e packets step turns
 
 -- ---- runs
 
 -- an act, and its turns: what went in, and what came of it
 pub record Worked : Type 0 where
-  pub act : Act
+  pub act : ActContent
   pub turns : List Turned
 
 -- the options of two sockets, or what came of each
@@ -99,7 +94,7 @@ turns_after [] = record { a = []; b = [] }
 turns_after (worked ∷ earlier) = with_turns (side_of_act worked.act) worked.turns (turns_after earlier)
 
 -- what comes of an act after these turns
-abbrev pub NextTurns : Both Options → Both (List Turned) → Act → List Turned → Type 0
+abbrev pub NextTurns : Both Options → Both (List Turned) → ActContent → List Turned → Type 0
 NextTurns options turns act more =
     TurnsOfAct (endpoint_after (of_side (side_of_act act) options) (of_side (side_of_act act) turns))
     (packets_shown (of_other (side_of_act act) options) (of_other (side_of_act act) turns)) act more
@@ -111,7 +106,7 @@ SocketRun options [] = Unit {0}
 SocketRun options (worked ∷ earlier) = NextTurns options (turns_after earlier) worked.act worked.turns × SocketRun options earlier
 
 -- the acts of a run, newest first
-abbrev pub acts_of : List Worked → List Act
+abbrev pub acts_of : List Worked → List ActContent
 acts_of [] = []
 acts_of (worked ∷ earlier) = worked.act ∷ acts_of earlier
 

@@ -87,7 +87,7 @@ reads_as_sent law mine theirs emission found fits h read =
 own_fits : (core : Core) → FitsCore core → FitsOwn core
 own_fits closed h = tt
 own_fits (cookie_wait my) h = h
-own_fits (cookie_echoed my held cookie) h = h
+own_fits (cookie_echoed my held cookie) h = h.0
 own_fits (open_in phase my held) h = tt
 
 content_fits : (e : Endpoint) (content : Content) → FitsEndpoint e → Sendable content → FitsContent e content

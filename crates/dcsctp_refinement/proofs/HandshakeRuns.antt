@@ -4,10 +4,7 @@ use Rattle.std.proofs.Common.{◌≡◌, List, [], ◌∷◌, ◌++◌, refl, sy
 use Rattle.dcsctp_machine.specs.declared.options.Options.{Options}
 use Rattle.dcsctp_machine.specs.declared.schedule.Side.{Side}
 use Rattle.dcsctp_machine.specs.declared.schedule.Side.TheVariants as sides
-use Rattle.dcsctp_machine.specs.declared.schedule.Call.TheVariants as calls
-use Rattle.dcsctp_machine.specs.declared.schedule.Step.TheVariants as steps
-use Rattle.dcsctp_machine.specs.declared.schedule.Act.{Act}
-use Rattle.dcsctp_machine.specs.declared.schedule.Act.TheVariants as acts
+use Rattle.dcsctp_machine.specs.Schedule.{connect_call, call_step, delivery_step, ActContent, step_act}
 use Rattle.dcsctp_machine.specs.CallTurns.{Turned}
 use Rattle.dcsctp_machine.specs.Sockets.{Worked, Both, turns_after, SocketRun, acts_of}
 use Rattle.dcsctp_refinement.specs.Handshake.{other_side, handshake_acts, AreFitting, AreConnected, FittingSocketsConnect}
@@ -18,11 +15,11 @@ use Rattle.dcsctp_refinement.proofs.HandshakeEnds.{Ended, in_turn}
 -- the run of a handshake with these turns
 abbrev pub run_of : Side → List Turned → List Turned → List Turned → List Turned → List Turned → List Worked
 run_of side o1 o2 o3 o4 o5 =
-    record { act = acts.Step (steps.Deliver side 2); turns = o5 }
-    ∷ record { act = acts.Step (steps.Deliver (other_side side) 2); turns = o4 }
-    ∷ record { act = acts.Step (steps.Deliver side 1); turns = o3 }
-    ∷ record { act = acts.Step (steps.Deliver (other_side side) 1); turns = o2 }
-    ∷ record { act = acts.Step (steps.Call side calls.Connect); turns = o1 }
+    record { act = step_act (delivery_step side 2); turns = o5 }
+    ∷ record { act = step_act (delivery_step (other_side side) 2); turns = o4 }
+    ∷ record { act = step_act (delivery_step side 1); turns = o3 }
+    ∷ record { act = step_act (delivery_step (other_side side) 1); turns = o2 }
+    ∷ record { act = step_act (call_step side connect_call); turns = o1 }
     ∷ []
 
 -- A run of these acts is one.
@@ -34,16 +31,16 @@ pub record IsHandshake (side : Side) (run : List Worked) : Type 0 where
   pub o5 : List Turned
   pub is : run ≡ run_of side o1 o2 o3 o4 o5
 
-first_is : (x y : Act) (xs ys : List Act) → x ∷ xs ≡ y ∷ ys → x ≡ y
+first_is : (x y : ActContent) (xs ys : List ActContent) → x ∷ xs ≡ y ∷ ys → x ≡ y
 first_is x y xs ys same = cc
 
-rest_is : (x y : Act) (xs ys : List Act) → x ∷ xs ≡ y ∷ ys → xs ≡ ys
+rest_is : (x y : ActContent) (xs ys : List ActContent) → x ∷ xs ≡ y ∷ ys → xs ≡ ys
 rest_is x y xs ys same = cc
 
 -- an act with its turns behind others
-with_act : (worked : Worked) (act : Act) (earlier others : List Worked) → worked.act ≡ act → earlier ≡ others → worked ∷ earlier ≡ record { act = act; turns = worked.turns } ∷ others
+with_act : (worked : Worked) (act : ActContent) (earlier others : List Worked) → worked.act ≡ act → earlier ≡ others → worked ∷ earlier ≡ record { act = act; turns = worked.turns } ∷ others
 with_act worked act earlier others is same =
-    ap (λ (a : Act). record { act = a; turns = worked.turns } ∷ earlier) is ∙ ap (λ (ws : List Worked). record { act = act; turns = worked.turns } ∷ ws) same
+    ap (λ (a : ActContent). record { act = a; turns = worked.turns } ∷ earlier) is ∙ ap (λ (ws : List Worked). record { act = act; turns = worked.turns } ∷ ws) same
 
 is_handshake : (side : Side) (run : List Worked) → acts_of run ≡ reverse (handshake_acts side) → IsHandshake side run
 is_handshake side [] same = absurd (cc)
@@ -63,11 +60,11 @@ is_handshake side (w5 ∷ w4 ∷ w3 ∷ w2 ∷ w1 ∷ []) same =
       o3 = w3.turns;
       o4 = w4.turns;
       o5 = w5.turns;
-      is = with_act w5 (acts.Step (steps.Deliver side 2)) (w4 ∷ w3 ∷ w2 ∷ w1 ∷ []) _ (first_is _ _ _ _ same)
-          (with_act w4 (acts.Step (steps.Deliver (other_side side) 2)) (w3 ∷ w2 ∷ w1 ∷ []) _ (first_is _ _ _ _ four)
-          (with_act w3 (acts.Step (steps.Deliver side 1)) (w2 ∷ w1 ∷ []) _ (first_is _ _ _ _ three)
-          (with_act w2 (acts.Step (steps.Deliver (other_side side) 1)) (w1 ∷ []) _ (first_is _ _ _ _ two)
-          (with_act w1 (acts.Step (steps.Call side calls.Connect)) [] [] (first_is _ _ _ _ one) refl))));
+      is = with_act w5 (step_act (delivery_step side 2)) (w4 ∷ w3 ∷ w2 ∷ w1 ∷ []) _ (first_is _ _ _ _ same)
+          (with_act w4 (step_act (delivery_step (other_side side) 2)) (w3 ∷ w2 ∷ w1 ∷ []) _ (first_is _ _ _ _ four)
+          (with_act w3 (step_act (delivery_step side 1)) (w2 ∷ w1 ∷ []) _ (first_is _ _ _ _ three)
+          (with_act w2 (step_act (delivery_step (other_side side) 1)) (w1 ∷ []) _ (first_is _ _ _ _ two)
+          (with_act w1 (step_act (call_step side connect_call)) [] [] (first_is _ _ _ _ one) refl))));
     }
 
 connected_at : HandshakeLaws → (options : Both Options) (side : Side) (o1 o2 o3 o4 o5 : List Turned) → Good options.a → Good options.b → AreFitting options

@@ -5,9 +5,7 @@ use Rattle.std.specs.List.{AllByRecursion, slice_get}
 use Rattle.dcsctp_wire.specs.Format.{IsPacket}
 use Rattle.dcsctp_wire.specs.ReadsBack.{BuiltPacketReadsAsItself}
 use Rattle.dcsctp_machine.specs.declared.options.Options.{Options}
-use Rattle.dcsctp_machine.specs.declared.schedule.Call.TheVariants as calls
-use Rattle.dcsctp_machine.specs.declared.schedule.Step.{Step}
-use Rattle.dcsctp_machine.specs.declared.schedule.Step.TheVariants as steps
+use Rattle.dcsctp_machine.specs.Schedule.{connect_call, StepContent, call_step, delivery_step}
 use Rattle.dcsctp_machine.specs.Settings.{SameOptions, FitsOptions, wire_options, ports_of}
 use Rattle.dcsctp_machine.specs.Packet.{Content, Packet, packet_in, emission_bytes}
 use Rattle.dcsctp_machine.specs.Endpoint.{Endpoint, Core, closed, cookie_wait, cookie_echoed, open_in, established, shutdown_pending, shutdown_sent, shutdown_received, shutdown_ack_sent, fresh_endpoint}
@@ -268,10 +266,10 @@ delivery_moves law options other turns others side theirs index (Some bytes) mor
 
 -- ---- a step
 
-pub step_moves : Below → (options other : Options) (turns others : List Turned) (side theirs : SideState) (step : Step) (more : List Turned)
+pub step_moves : Below → (options other : Options) (turns others : List Turned) (side theirs : SideState) (step : StepContent) (more : List Turned)
     → Followed options turns side → Followed other others theirs → FitsOptions other
     → StepTurns (endpoint_after options turns) (packets_shown other others) step more → SideMoves options turns side theirs.past more
-step_moves law options other turns others side theirs (steps.Call which calls.Connect) more h k fits done = connect_moves law options turns side theirs.past more h done
-step_moves law options other turns others side theirs (steps.Deliver which zero) more h k fits done = nothing_happens options turns side theirs.past more h done
-step_moves law options other turns others side theirs (steps.Deliver which (suc index)) more h k fits done =
+step_moves law options other turns others side theirs (call_step which connect_call) more h k fits done = connect_moves law options turns side theirs.past more h done
+step_moves law options other turns others side theirs (delivery_step which zero) more h k fits done = nothing_happens options turns side theirs.past more h done
+step_moves law options other turns others side theirs (delivery_step which (suc index)) more h k fits done =
     delivery_moves law options other turns others side theirs index (slice_get (packets_shown other others) index) more h k fits refl done

@@ -4,11 +4,7 @@ use Rattle.std.specs.List.{AllByRecursion}
 use Rattle.dcsctp_machine.specs.declared.association.Pair.{Pair}
 use Rattle.dcsctp_machine.specs.declared.schedule.Side.{Side}
 use Rattle.dcsctp_machine.specs.declared.schedule.Side.TheVariants as sides
-use Rattle.dcsctp_machine.specs.declared.schedule.Call.TheVariants as calls
-use Rattle.dcsctp_machine.specs.declared.schedule.Step.{Step}
-use Rattle.dcsctp_machine.specs.declared.schedule.Step.TheVariants as steps
-use Rattle.dcsctp_machine.specs.declared.schedule.Act.{Act as WorldAct}
-use Rattle.dcsctp_machine.specs.declared.schedule.Act.TheVariants as acts
+use Rattle.dcsctp_machine.specs.Schedule.{connect_call, StepContent, call_step, delivery_step, ActContent, step_act}
 use Rattle.dcsctp_machine.specs.declared.word.Word.{Word}
 use Rattle.dcsctp_machine.specs.declared.word.Word.TheVariants.{U32}
 use Rattle.dcsctp_machine.specs.Packet.{Introduction, Content, init, init_ack, cookie_echo, cookie_ack, re_config, abort, shutdown, shutdown_ack, shutdown_complete, plain, Packet, Emission, packet_in}
@@ -189,12 +185,12 @@ delivery_ends law e (Some bytes) _ (unreadable ts none taken) = turns_end law e 
 delivery_ends law e (Some bytes) _ (readable packet counted ts found counts taken) =
     (turn_ends law e arrival counted counts, admitted_end law counted.outcome.after (packet_in packet) (admits e.core (packet_in packet)) ts taken)
 
-step_ends : EndLaws → (e : Endpoint) (packets : List (List ℕ)) (step : Step) (ts : List Turned) → StepTurns e packets step ts → AllEnd ts
-step_ends law e packets (steps.Call side calls.Connect) ts taken = turns_end law e (act_input connect ∷ []) ts taken
-step_ends law e packets (steps.Deliver side number) ts taken = delivery_ends law e (numbered number packets) ts taken
+step_ends : EndLaws → (e : Endpoint) (packets : List (List ℕ)) (step : StepContent) (ts : List Turned) → StepTurns e packets step ts → AllEnd ts
+step_ends law e packets (call_step side connect_call) ts taken = turns_end law e (act_input connect ∷ []) ts taken
+step_ends law e packets (delivery_step side number) ts taken = delivery_ends law e (numbered number packets) ts taken
 
-act_ends : EndLaws → (e : Endpoint) (packets : List (List ℕ)) (act : WorldAct) (ts : List Turned) → TurnsOfAct e packets act ts → AllEnd ts
-act_ends law e packets (acts.Step step) ts taken = step_ends law e packets step ts taken
+act_ends : EndLaws → (e : Endpoint) (packets : List (List ℕ)) (act : ActContent) (ts : List Turned) → TurnsOfAct e packets act ts → AllEnd ts
+act_ends law e packets (step_act step) ts taken = step_ends law e packets step ts taken
 
 -- ---- a run
 

@@ -5,9 +5,7 @@ use Rattle.dcsctp_wire.specs.declared.reconfiguration.ReconfigurationResponseRes
 use Rattle.dcsctp_machine.specs.declared.association.Pair.{Pair}
 use Rattle.dcsctp_machine.specs.declared.options.Options.{Options}
 use Rattle.dcsctp_machine.specs.declared.schedule.Side.TheVariants as sides
-use Rattle.dcsctp_machine.specs.declared.schedule.Call.TheVariants as calls
-use Rattle.dcsctp_machine.specs.declared.schedule.Step.TheVariants as steps
-use Rattle.dcsctp_machine.specs.declared.schedule.Act.TheVariants as acts
+use Rattle.dcsctp_machine.specs.Schedule.{connect_call, call_step, step_act}
 use Rattle.dcsctp_machine.specs.Settings.{ports_of}
 use Rattle.dcsctp_machine.specs.Cookie.{cookie_bytes}
 use Rattle.dcsctp_machine.specs.Reconfiguration.{reconfiguration_response}
@@ -138,7 +136,7 @@ five_acts a b w =
 
 abbrev six_acts : Options → Options → Words → List Worked
 six_acts a b w =
-    record { act = acts.Step (steps.Call sides.A calls.Connect); turns = turned (act_input connect) (still (endpoint_after a (turns_after (five_acts a b w)).a)) ∷ [] } ∷ five_acts a b w
+    record { act = step_act (call_step sides.A connect_call); turns = turned (act_input connect) (still (endpoint_after a (turns_after (five_acts a b w)).a)) ∷ [] } ∷ five_acts a b w
 
 handshake_runs : HandshakeLaws → (a b : Options) (w : Words) → Good a → Good b → a.remote_port ≡ b.local_port → b.remote_port ≡ a.local_port → SocketRun (record { a = a; b = b }) (five_acts a b w)
 handshake_runs law a b w good_a good_b to_b to_a =

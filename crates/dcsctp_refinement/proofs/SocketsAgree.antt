@@ -1,11 +1,9 @@
 -- Two sockets agree.
 use Rattle.std.proofs.Common.{◌≡◌, List, [], ◌∷◌, ◌++◌, refl, sym, subst, ap, ◌∙◌}
-use Rattle.dcsctp_machine.specs.declared.schedule.Act.{Act}
-use Rattle.dcsctp_machine.specs.declared.schedule.Act.TheVariants as acts
+use Rattle.dcsctp_machine.specs.Schedule.{StepContent, ActContent, step_act}
 use Rattle.dcsctp_machine.specs.declared.options.Options.{Options}
 use Rattle.dcsctp_machine.specs.declared.schedule.Side.{Side}
 use Rattle.dcsctp_machine.specs.declared.schedule.Side.TheVariants as sides
-use Rattle.dcsctp_machine.specs.declared.schedule.Step.{Step}
 use Rattle.dcsctp_machine.specs.Settings.{IsValid, FitsOptions}
 use Rattle.dcsctp_machine.specs.Offer.{offer_of, negotiated}
 use Rattle.dcsctp_machine.specs.CallTurns.{Turned, pairs_of}
@@ -88,11 +86,11 @@ moved_b options turns more h m =
     record { steps = with_moves at_b m.moves h.steps; is_run = w.is_run; a = subst (Followed options.a turns.a) (sym w.a) h.a; b = subst (Followed options.b (turns.b ++ more)) (sym w.b) m.follows }
 
 -- what comes of a step at this side
-abbrev TurnsAt : Side → Both Options → Both (List Turned) → Step → List Turned → Type 0
+abbrev TurnsAt : Side → Both Options → Both (List Turned) → StepContent → List Turned → Type 0
 TurnsAt side options turns step more =
     StepTurns (endpoint_after (of_side side options) (of_side side turns)) (packets_shown (of_other side options) (of_other side turns)) step more
 
-stepped : Below → (options : Both Options) (turns : Both (List Turned)) (step : Step) (more : List Turned) (side : Side) → AreUsable options → Joined options turns
+stepped : Below → (options : Both Options) (turns : Both (List Turned)) (step : StepContent) (more : List Turned) (side : Side) → AreUsable options → Joined options turns
     → TurnsAt side options turns step more → Joined options (with_turns side more turns)
 stepped law options turns step more sides.A are h done =
     let world : machine.World = world_after options.a options.b h.steps in
@@ -101,9 +99,9 @@ stepped law options turns step more sides.B are h done =
     let world : machine.World = world_after options.a options.b h.steps in
     moved_b options turns more h (step_moves law options.b options.a turns.b turns.a world.b world.a step more h.b h.a (are sides.A).fits done)
 
-acted : Below → (options : Both Options) (turns : Both (List Turned)) (act : Act) (more : List Turned) → AreUsable options → Joined options turns → NextTurns options turns act more
+acted : Below → (options : Both Options) (turns : Both (List Turned)) (act : ActContent) (more : List Turned) → AreUsable options → Joined options turns → NextTurns options turns act more
     → Joined options (with_turns (side_of_act act) more turns)
-acted law options turns (acts.Step step) more are h done = stepped law options turns step more (side_of step) are h done
+acted law options turns (step_act step) more are h done = stepped law options turns step more (side_of step) are h done
 
 pub joined : Below → (options : Both Options) (run : List Worked) → AreUsable options → SocketRun options run → Joined options (turns_after run)
 joined law options [] are runs = record { steps = []; is_run = tt; a = fresh options.a (are sides.A).valid (are sides.A).fits; b = fresh options.b (are sides.B).valid (are sides.B).fits }

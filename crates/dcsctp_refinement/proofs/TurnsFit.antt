@@ -18,10 +18,12 @@ use Rattle.dcsctp_machine.specs.turns.EndOutcomes.{ended_outcome, abort_outcome}
 use Rattle.dcsctp_machine.specs.turns.HandshakeOutcomes.{pair_from, renewed_pair, cookie_for, init_ack_emission, init_outcome, init_emission, awaits_init_ack, connect_outcome, no_cookie_text, abort_emission, queue_anew, awaits_cookie_ack, echo_emission, accepted_init_ack_outcome, init_ack_outcome, connected_after, cookie_ack_outcome}
 use Rattle.dcsctp_machine.specs.turns.CookieEchoOutcomes.{established_by, establish_outcome, interleaves, restart_outcome_where, maintain_outcome, resolved_outcome, cookie_echo_outcome}
 use Rattle.dcsctp_machine.specs.control.Effect.{Link, Effect, holds, connects, link_of}
-use Rattle.dcsctp_machine.specs.control.HandshakeChanges.{held_by_init_ack}
+use Rattle.dcsctp_machine.specs.control.HandshakeChanges.{held_by_init_ack, new_held}
 use Rattle.dcsctp_machine.specs.control.CookieEchoChanges.{held_by_cookie, Resolution, establish_new, restart, simultaneous_init, discard, maintain_existing, invalid_tag, resolve}
 use Rattle.dcsctp_machine.specs.Laws.{FitsPair, OfferReadsBack}
-use Rattle.dcsctp_machine.specs.Fitting.{AllSent, FitsCore, FitsEndpoint, IsSendable, Sendable, TurnFits}
+use Rattle.dcsctp_machine.specs.declared.capabilities.Capabilities.{Capabilities}
+use Rattle.dcsctp_machine.specs.Offer.{offer_of, negotiated}
+use Rattle.dcsctp_machine.specs.Fitting.{AllSent, FitsHeld, FitsCore, FitsEndpoint, IsSendable, Sendable, TurnFits}
 use Rattle.dcsctp_machine.proofs.PlainLemmas.{plain_fits}
 use Rattle.dcsctp_machine.proofs.FlushLemmas.{init_ack_turn_now, cookie_echo_turn_now, cookie_ack_turn_now}
 use Rattle.dcsctp_refinement.proofs.Bytes.{ReadPairs, read_pairs_fit}
@@ -64,7 +66,7 @@ init_fits law e theirs closed word next h own said =
     drawing_fits (pair_from word next) _
     (emits_fit e (U32 word ∷ U32 next ∷ []) (init_ack_emission e theirs (pair_from word next) 0) h (answer_fits law e theirs (pair_from word next) 0 h said (drawn_fits word next)))
 init_fits law e theirs (cookie_wait my) word next h own said = emits_fit e [] (init_ack_emission e theirs my 0) h (answer_fits law e theirs my 0 h said own)
-init_fits law e theirs (cookie_echoed my held cookie) word next h own said = emits_fit e [] (init_ack_emission e theirs my 0) h (answer_fits law e theirs my 0 h said own)
+init_fits law e theirs (cookie_echoed my held cookie) word next h own said = emits_fit e [] (init_ack_emission e theirs my 0) h (answer_fits law e theirs my 0 h said own.0)
 init_fits law e theirs (open_in established my held) word next h own said =
     drawing_fits (renewed_pair e word) _
     (emits_fit e (U32 word ∷ []) (init_ack_emission e theirs (renewed_pair e word) e.tie) h (answer_fits law e theirs (renewed_pair e word) e.tie h said (renewed_fits e word)))
@@ -86,6 +88,13 @@ connect_fits law e (cookie_wait my) word next h = still_fits e h
 connect_fits law e (cookie_echoed my held cookie) word next h = still_fits e h
 connect_fits law e (open_in phase my held) word next h = still_fits e h
 
+-- ---- what an association begins with
+
+new_held_fits : (my peer : Pair) (capabilities : Capabilities) → FitsPair my → FitsPair peer → FitsHeld (new_held my peer capabilities)
+new_held_fits my peer capabilities own theirs =
+    let first : my.first_tsn < 2 ^ 32 = own.first_tsn in
+    record { peer = theirs; own_next = first; own_outstanding = tt; peer_last = omega arith }
+
 -- ---- INIT ACK
 
 refused_fits : (b : Bool) (e : Endpoint) (tag : ℕ) → FitsEndpoint e → IsSendable (abort_emission tag)
@@ -105,7 +114,11 @@ accepted_fits e my theirs (Some cookie) word h own good =
     let awaiting : Endpoint = awaits_cookie_ack e my theirs cookie word in
     noting_fits (holds (link_of my (held_by_init_ack e.options my theirs)) ∷ []) _
     (echoed_fits (fits awaiting (echo_emission theirs.pair.tag cookie)) (allows_packet awaiting.options.max_burst) awaiting (U64 word ∷ []) theirs.pair.tag cookie
-    (record { valid = h.valid; options = h.options; core = own }) (record { tag = good.said.0.tag; contents = (echo_sendable cookie good.said.1, tt) }))
+    (record {
+      valid = h.valid;
+      options = h.options;
+      core = (own, new_held_fits my theirs.pair (negotiated (offer_of e.options) theirs.offer) own good.said.0, good.said.1);
+    }) (record { tag = good.said.0.tag; contents = (echo_sendable cookie good.said.1, tt) }))
 
 init_ack_fits : (e : Endpoint) (theirs : Introduction) (cookie : Option (List ℕ)) (core : Core) (word : ℕ) → FitsEndpoint e → FitsCore core → Sendable (init_ack theirs cookie)
     → TurnFits (init_ack_outcome e theirs cookie core word)
@@ -129,7 +142,11 @@ established_fits e cookie queue tie events h pairs before =
     let link : Link = link_of cookie.maker (held_by_cookie e.options cookie) in
     noting_fits (holds link ∷ connects link ∷ []) _
     (acknowledged_fits (established_by e cookie queue tie) (U64 tie ∷ []) events _ cookie.addressee.tag
-    (record { valid = h.valid; options = h.options; core = tt }) before pairs.addressee.tag)
+    (record {
+      valid = h.valid;
+      options = h.options;
+      core = (pairs.maker, new_held_fits cookie.maker cookie.addressee (negotiated (offer_of e.options) cookie.offer) pairs.maker pairs.addressee);
+    }) before pairs.addressee.tag)
 
 restarted_fits : (e : Endpoint) (cookie : Cookie) (tie : ℕ) (core : Core) → FitsEndpoint e → FitsCore core → ReadPairs cookie → TurnFits (restart_outcome_where e cookie tie core)
 restarted_fits e cookie tie closed h own pairs = established_fits e cookie (queue_anew e.below.queue (interleaves e cookie)) tie (connection_restarted ∷ connected ∷ []) h pairs (tt, (tt, tt))
@@ -141,13 +158,13 @@ restarted_fits e cookie tie (open_in shutdown_sent my held) h own pairs = absurd
 restarted_fits e cookie tie (open_in shutdown_received my held) h own pairs = absurd own
 restarted_fits e cookie tie (open_in shutdown_ack_sent my held) h own pairs = absurd own
 
-maintained_fits : (e : Endpoint) (cookie : Cookie) (core : Core) → FitsEndpoint e → ReadPairs cookie → TurnFits (maintain_outcome e cookie core)
-maintained_fits e cookie closed h pairs = still_fits e h
-maintained_fits e cookie (cookie_wait my) h pairs = still_fits e h
-maintained_fits e cookie (cookie_echoed my held echoed) h pairs =
+maintained_fits : (e : Endpoint) (cookie : Cookie) (core : Core) → FitsEndpoint e → FitsCore core → ReadPairs cookie → TurnFits (maintain_outcome e cookie core)
+maintained_fits e cookie closed h own pairs = still_fits e h
+maintained_fits e cookie (cookie_wait my) h own pairs = still_fits e h
+maintained_fits e cookie (cookie_echoed my held echoed) h own pairs =
     noting_fits (connects (link_of my held) ∷ []) _
-    (acknowledged_fits (connected_after e my held) [] (connected ∷ []) _ cookie.addressee.tag (record { valid = h.valid; options = h.options; core = tt }) (tt, tt) pairs.addressee.tag)
-maintained_fits e cookie (open_in phase my held) h pairs = acknowledged_fits e [] [] _ cookie.addressee.tag h tt pairs.addressee.tag
+    (acknowledged_fits (connected_after e my held) [] (connected ∷ []) _ cookie.addressee.tag (record { valid = h.valid; options = h.options; core = (own.0, own.1) }) (tt, tt) pairs.addressee.tag)
+maintained_fits e cookie (open_in phase my held) h own pairs = acknowledged_fits e [] [] _ cookie.addressee.tag h tt pairs.addressee.tag
 
 resolved_fits : (e : Endpoint) (cookie : Cookie) (core : Core) (word : ℕ) (resolution : Resolution) → FitsEndpoint e → FitsCore core → ReadPairs cookie
     → TurnFits (resolved_outcome e cookie core word resolution)
@@ -155,7 +172,7 @@ resolved_fits e cookie core word establish_new h own pairs = established_fits e 
 resolved_fits e cookie core word restart h own pairs = restarted_fits e cookie word core h own pairs
 resolved_fits e cookie core word simultaneous_init h own pairs = established_fits e cookie (queue_anew e.below.queue (interleaves e cookie)) word (connected ∷ []) h pairs (tt, tt)
 resolved_fits e cookie core word discard h own pairs = record { after = h; sends = tt }
-resolved_fits e cookie core word maintain_existing h own pairs = maintained_fits e cookie core h pairs
+resolved_fits e cookie core word maintain_existing h own pairs = maintained_fits e cookie core h own pairs
 resolved_fits e cookie core word invalid_tag h own pairs = record { after = h; sends = (tt, tt) }
 
 echo_fits : (e : Endpoint) (core : Core) (header : ℕ) (bytes : List ℕ) (found : Result Cookie (List ℕ)) (word : ℕ) → cookie_at bytes ≡ found → FitsEndpoint e → FitsCore core → FitsEcho bytes
@@ -165,11 +182,11 @@ echo_fits e core header bytes (Ok cookie) word is h own echo = resolved_fits e c
 
 -- ---- COOKIE ACK and ABORT
 
-cookie_ack_fits : (e : Endpoint) (core : Core) → FitsEndpoint e → TurnFits (cookie_ack_outcome e core)
-cookie_ack_fits e closed h = still_fits e h
-cookie_ack_fits e (cookie_wait my) h = still_fits e h
-cookie_ack_fits e (cookie_echoed my held cookie) h = record { after = record { valid = h.valid; options = h.options; core = tt }; sends = (tt, tt) }
-cookie_ack_fits e (open_in phase my held) h = still_fits e h
+cookie_ack_fits : (e : Endpoint) (core : Core) → FitsEndpoint e → FitsCore core → TurnFits (cookie_ack_outcome e core)
+cookie_ack_fits e closed h own = still_fits e h
+cookie_ack_fits e (cookie_wait my) h own = still_fits e h
+cookie_ack_fits e (cookie_echoed my held cookie) h own = record { after = record { valid = h.valid; options = h.options; core = (own.0, own.1) }; sends = (tt, tt) }
+cookie_ack_fits e (open_in phase my held) h own = still_fits e h
 
 abort_fits : (e : Endpoint) (causes : List Cause) (core : Core) → FitsEndpoint e → TurnFits (abort_outcome e causes core)
 abort_fits e causes closed h = still_fits e h
@@ -187,7 +204,7 @@ turn_fits law e tag (init_ack theirs cookie) o turn h good =
 turn_fits law e tag (cookie_echo bytes) o turn h good =
     let now : (word : ℕ) × (o ≡ cookie_echo_outcome e e.core tag (cookie_at bytes) word) = cookie_echo_turn_now e tag bytes o turn in
     subst TurnFits (sym now.1) (echo_fits e e.core tag bytes (cookie_at bytes) now.0 refl h h.core good.fits)
-turn_fits law e tag cookie_ack o turn h good = subst TurnFits (sym (cookie_ack_turn_now e o turn)) (cookie_ack_fits e e.core h)
+turn_fits law e tag cookie_ack o turn h good = subst TurnFits (sym (cookie_ack_turn_now e o turn)) (cookie_ack_fits e e.core h h.core)
 turn_fits law e tag (re_config parameters) o turn h good = absurd (cc)
 turn_fits law e tag (abort reflected causes) o turn h good = subst TurnFits (sym turn) (abort_fits e causes e.core h)
 turn_fits law e tag (shutdown cumulative_tsn) o turn h good = absurd (cc)

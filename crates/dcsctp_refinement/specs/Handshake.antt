@@ -4,11 +4,7 @@ use Rattle.dcsctp_machine.specs.declared.association.Pair.{Pair}
 use Rattle.dcsctp_machine.specs.declared.options.Options.{Options}
 use Rattle.dcsctp_machine.specs.declared.schedule.Side.{Side}
 use Rattle.dcsctp_machine.specs.declared.schedule.Side.TheVariants as sides
-use Rattle.dcsctp_machine.specs.declared.schedule.Call.TheVariants as calls
-use Rattle.dcsctp_machine.specs.declared.schedule.Step.{Step}
-use Rattle.dcsctp_machine.specs.declared.schedule.Step.TheVariants as steps
-use Rattle.dcsctp_machine.specs.declared.schedule.Act.{Act}
-use Rattle.dcsctp_machine.specs.declared.schedule.Act.TheVariants as acts
+use Rattle.dcsctp_machine.specs.Schedule.{connect_call, StepContent, call_step, delivery_step, ActContent, step_act}
 use Rattle.dcsctp_machine.specs.Offer.{offer_of, negotiated}
 use Rattle.dcsctp_machine.specs.Event.{Event, connected}
 use Rattle.dcsctp_machine.specs.Endpoint.{open_in, established}
@@ -23,17 +19,17 @@ other_side sides.A = sides.B
 other_side sides.B = sides.A
 
 -- The one side connects; then INIT, INIT ACK, COOKIE ECHO and COOKIE ACK are delivered.
-abbrev pub handshake : Side → List Step
+abbrev pub handshake : Side → List StepContent
 handshake side =
-    steps.Call side calls.Connect
-    ∷ steps.Deliver (other_side side) 1
-    ∷ steps.Deliver side 1
-    ∷ steps.Deliver (other_side side) 2
-    ∷ steps.Deliver side 2
+    call_step side connect_call
+    ∷ delivery_step (other_side side) 1
+    ∷ delivery_step side 1
+    ∷ delivery_step (other_side side) 2
+    ∷ delivery_step side 2
     ∷ []
 
-abbrev pub handshake_acts : Side → List Act
-handshake_acts side = map acts.Step (handshake side)
+abbrev pub handshake_acts : Side → List ActContent
+handshake_acts side = map step_act (handshake side)
 
 -- Options with which a handshake's packets go out and are taken. The longest is an INIT ACK of 104 bytes.
 pub record AllowHandshake (options : Options) : Type 0 where

@@ -1,6 +1,6 @@
 -- What a world shows is what a run shows: so its sockets agree.
 use Rattle.std.proofs.Common.{◌≡◌, ◌<◌, ℕ, zero, suc, arith, true, false, Result, Ok, Err, IsErrAnd, take, drop, get_or, length, List, [], ◌∷◌, ◌++◌, map, reverse, refl, sym, ap, subst, ◌∙◌}
-use Rattle.std.proofs.lemmas.List.{reverse-reverse}
+use Rattle.std.proofs.lemmas.List.{map-append, reverse-reverse}
 use Rattle.dcsctp_machine.specs.declared.association.Pair.{Pair}
 use Rattle.dcsctp_machine.specs.declared.options.Options.{Options}
 use Rattle.dcsctp_machine.specs.declared.schedule.Side.TheVariants as sides
@@ -15,7 +15,7 @@ use Rattle.dcsctp_machine.specs.Sockets.{Worked, Both, turns_after, acts_of}
 use Rattle.dcsctp_refinement.specs.Agreement.{HasDistinctTags}
 use Rattle.dcsctp_refinement.specs.Handshake.{ConnectThroughout, handshake_acts, connections, IsConnected, AreConnected, FittingSocketsConnect}
 use Rattle.dcsctp_refinement.specs.Laws.{SocketLaws}
-use Rattle.dcsctp_machine.specs.declared.schedule.Act.{Act}
+use Rattle.dcsctp_machine.specs.Schedule.{ActContent, step_content, step_act}
 use Rattle.dcsctp_world.specs.Shown.{SideShown, WorldView, options_of}
 use Rattle.dcsctp_world.specs.Run.{SideRuns, IsRun}
 use Rattle.dcsctp_api.specs.declared.errors.SocketFault.{SocketFault}
@@ -79,7 +79,7 @@ at_end options side (worked ∷ earlier) schedule h = h.0 schedule
 pub handshake_connects : {R : Type 0} → FittingSocketsConnect → (options : Both Options) (world : WorldView R) → IsRun options world → HandshakeConnects options world
 handshake_connects law options world run side acts_are fit =
     let are : acts_of run.steps ≡ reverse (handshake_acts side) =
-    sym (reverse-reverse (acts_of run.steps)) ∙ ap (λ (l : List Act). reverse l) (sym run.acts ∙ acts_are) in
+    sym (reverse-reverse (acts_of run.steps)) ∙ ap (λ (l : List ActContent). reverse l) (sym run.acts ∙ acts_are) in
     both_connected options world run (at_end options side run.steps are (law options side run.steps run.usable fit run.run))
 
 -- ---- a growth that was refused among several steps
@@ -91,13 +91,14 @@ split_at (x ∷ xs) (suc i) default within = ap (λ (l : List Step). x ∷ l) (s
 
 -- the steps before the one that was refused ran
 refused_at : {R : Type 0} → SocketLaws → (steps : List Step) (i : ℕ) (default : Step) (fault : SocketFault) (old now new : WorldView R) → i < length steps
-    → Ran (take i steps) old now → Applies (get_or steps i default) now (Err fault) new → Runs steps old (Err fault) new
+    → Ran (map step_content (take i steps)) old now → Applies (step_act (step_content (get_or steps i default))) now (Err fault) new → Runs (map step_content steps) old (Err fault) new
 refused_at law steps i default OutOfMemory old now new within ran out =
     record {
-      done = take i steps;
-      refused = get_or steps i default;
-      rest = drop (suc i) steps;
-      all = split_at steps i default within;
+      done = map step_content (take i steps);
+      refused = step_content (get_or steps i default);
+      rest = map step_content (drop (suc i) steps);
+      all = ap (λ (l : List Step). map step_content l) (split_at steps i default within)
+          ∙ map-append step_content (take i steps) (get_or steps i default ∷ drop (suc i) steps);
       before = now;
       ran = ran;
       agrees = world_agrees law (options_of old) now ran.is_run;
@@ -110,8 +111,8 @@ refused_at law steps i default Failed old now new within ran out =
     absurd (cc)
 
 pub ran_out_among : {R : Type 0} → SocketLaws → (steps : List Step) (i : ℕ) (default : Step) (fault : SocketFault) (old now new : WorldView R) → i < length steps
-    → Ran (take i steps) old now → Applies (get_or steps i default) now (Err fault) new
-    → (result : Result (Unit {0}) SocketFault) → IsErrAnd result (λ given. given ≡ fault) → Runs steps old result new
+    → Ran (map step_content (take i steps)) old now → Applies (step_act (step_content (get_or steps i default))) now (Err fault) new
+    → (result : Result (Unit {0}) SocketFault) → IsErrAnd result (λ given. given ≡ fault) → Runs (map step_content steps) old result new
 ran_out_among law steps i default fault old now new within ran out (Ok done) is = absurd is
 ran_out_among law steps i default fault old now new within ran out (Err given) is =
-    subst (λ (f : SocketFault). Runs steps old (Err f) new) (sym is) (refused_at law steps i default fault old now new within ran out)
+    subst (λ (f : SocketFault). Runs (map step_content steps) old (Err f) new) (sym is) (refused_at law steps i default fault old now new within ran out)

@@ -9,18 +9,18 @@ use Rattle.dcsctp_machine.specs.Event.{Event, packets_in}
 use Rattle.dcsctp_machine.specs.Settings.{ports_of}
 use Rattle.dcsctp_machine.specs.Endpoint.{association_of}
 use Rattle.dcsctp_machine.specs.CallTurns.{Turned, events_of, pairs_of}
-use Rattle.dcsctp_machine.specs.Sockets.{Both, of_side, of_other, side_of, StepTurns}
+use Rattle.dcsctp_machine.specs.Sockets.{Both, of_side, of_other, side_of_act, TurnsOfAct}
 use Rattle.dcsctp_api.specs.declared.errors.SocketFault.{SocketFault}
 use Rattle.dcsctp_api.specs.declared.errors.SocketFault.TheVariants.{OutOfMemory, Failed}
 use Rattle.dcsctp_api.specs.Calls.{user_event}
 use Rattle.dcsctp_machine.specs.declared.schedule.Act.{Act}
-use Rattle.dcsctp_machine.specs.declared.schedule.Act.TheVariants as acts
+use Rattle.dcsctp_machine.specs.Schedule.{StepContent, ActContent, step_content, step_act}
 use Rattle.dcsctp_world.specs.declared.act.Reply.{Reply}
 use Rattle.dcsctp_world.specs.declared.watched_socket.WatchedSocket.{WatchedSocket}
 use Rattle.dcsctp_world.specs.Shown.{SideShown, WorldView, options_of}
 use Rattle.dcsctp_world.specs.Growth.{Grows, SideExtends, with_association}
 use Rattle.dcsctp_world.specs.Run.{IsRun}
-use Rattle.dcsctp_world.specs.Acts.{StepMoves, BothExtend, with_associations, Applied, WorksStep, WorldExtends, RanOut, Ran}
+use Rattle.dcsctp_world.specs.Acts.{ActMoves, BothExtend, with_associations, Applied, WorksAct, WorldExtends, RanOut, Ran}
 use Rattle.dcsctp_world.specs.Parts.{world_of}
 use Rattle.dcsctp_world.proofs.Keeping.{extends_itself, extends_by, extends_further}
 use Rattle.dcsctp_world.proofs.Running.{is_run_next}
@@ -58,15 +58,15 @@ moves_extend_at : {R : Type 0} {answer : Reply} (Turns : List Turned → Type 0)
 moves_extend_at Turns sides.A old moved grows stays = record { a = grows_extends Turns old.a moved.a grows; b = same_side_extends old.b moved.b stays }
 moves_extend_at Turns sides.B old moved grows stays = record { a = same_side_extends old.a moved.a stays; b = grows_extends Turns old.b moved.b grows }
 
-moves_extend : {R : Type 0} (step : Step) (reply : Reply) (old moved : Both (SideShown R)) → StepMoves step reply old moved → BothExtend old moved
-moves_extend step reply old moved moves =
-    moves_extend_at (StepTurns (of_side (side_of step) old).socket.view.endpoint (of_other (side_of step) old).packets step) (side_of step) old moved moves.grows moves.other_stays
+moves_extend : {R : Type 0} (act : ActContent) (reply : Reply) (old moved : Both (SideShown R)) → ActMoves act reply old moved → BothExtend old moved
+moves_extend act reply old moved moves =
+    moves_extend_at (TurnsOfAct (of_side (side_of_act act) old).socket.view.endpoint (of_other (side_of_act act) old).packets act) (side_of_act act) old moved moves.grows moves.other_stays
 
--- a step moved its side, and then both grew further
-pub moved_extend : {R : Type 0} (step : Step) (reply : Reply) (old moved new : Both (SideShown R)) → StepMoves step reply old moved
+-- an act moved its side, and then both grew further
+pub moved_extend : {R : Type 0} (act : ActContent) (reply : Reply) (old moved new : Both (SideShown R)) → ActMoves act reply old moved
     → SideExtends moved.a new.a → SideExtends moved.b new.b → BothExtend old new
-moved_extend step reply old moved new moves a b =
-    let first : BothExtend old moved = moves_extend step reply old moved moves in
+moved_extend act reply old moved new moves a b =
+    let first : BothExtend old moved = moves_extend act reply old moved moves in
     record { a = side_extends_further old.a moved.a new.a first.a a; b = side_extends_further old.b moved.b new.b first.b b }
 
 world_extends_itself : {R : Type 0} (world : WorldView R) → WorldExtends world world
@@ -94,16 +94,16 @@ noted_side_extends {R = R} side new is =
       associations = extends_by (association_of side.socket.view.endpoint.core ∷ []) refl;
     })
 
-applied_extends : {R : Type 0} (step : Step) (reply : Reply) (old new : WorldView R) → Applied step reply old new → WorldExtends old new
-applied_extends {R = R} step reply old new applied =
+applied_extends : {R : Type 0} (act : ActContent) (reply : Reply) (old new : WorldView R) → Applied act reply old new → WorldExtends old new
+applied_extends {R = R} act reply old new applied =
     record {
-      sides = moved_extend step reply old.sides applied.moved new.sides applied.moves
+      sides = moved_extend act reply old.sides applied.moved new.sides applied.moves
           (noted_side_extends applied.moved.a new.sides.a (ap (λ (both : Both (SideShown R)). both.a) applied.sides))
           (noted_side_extends applied.moved.b new.sides.b (ap (λ (both : Both (SideShown R)). both.b) applied.sides));
-      acts = extends_by (acts.Step step ∷ []) applied.acts;
+      acts = extends_by (act ∷ []) applied.acts;
     }
 
--- ---- a step
+-- ---- an act
 
 pub both_noted : {R : Type 0} (moved new : Both (SideShown R)) → new.a ≡ (with_associations moved).a → new.b ≡ (with_associations moved).b → new ≡ with_associations moved
 both_noted {R = R} moved new a b =
@@ -111,23 +111,23 @@ both_noted {R = R} moved new a b =
     ∙ ap (λ (s : SideShown R). let both : Both (SideShown R) = record { a = (with_associations moved).a; b = s } in both) b
 
 -- the world's own flag doesn't matter where it is not set
-pub applied_is_run : {R : Type 0} (step : Step) (reply : Reply) (a b new_a new_b : WatchedSocket R) (made new_made : List Act) (failed : Bool) → failed ≡ false
+pub applied_is_run : {R : Type 0} (act : ActContent) (reply : Reply) (a b new_a new_b : WatchedSocket R) (made new_made : List Act) (failed : Bool) → failed ≡ false
     → (failed ≡ false → IsRun (options_of (world_of a b made failed)) (world_of a b made failed))
-    → Applied step reply (world_of a b made false) (world_of new_a new_b new_made false)
+    → Applied act reply (world_of a b made false) (world_of new_a new_b new_made false)
     → IsRun (options_of (world_of a b made failed)) (world_of new_a new_b new_made failed)
-applied_is_run step reply a b new_a new_b made new_made true is invariant applied = absurd (cc)
-applied_is_run step reply a b new_a new_b made new_made false is invariant applied =
-    is_run_next (options_of (world_of a b made false)) step reply (world_of a b made false) (world_of new_a new_b new_made false) (invariant refl) applied
+applied_is_run act reply a b new_a new_b made new_made true is invariant applied = absurd (cc)
+applied_is_run act reply a b new_a new_b made new_made false is invariant applied =
+    is_run_next (options_of (world_of a b made false)) act reply (world_of a b made false) (world_of new_a new_b new_made false) (invariant refl) applied
 
--- a step that failed: no socket of the world had failed before, so a growth was refused
-pub ran_out_in : {R : Type 0} (step : Step) (fault : SocketFault) (a b new_a new_b : WatchedSocket R) (made new_made : List Act) (failed : Bool) → failed ≡ false
+-- an act that failed: no socket of the world had failed before, so a growth was refused
+pub ran_out_in : {R : Type 0} (act : ActContent) (fault : SocketFault) (a b new_a new_b : WatchedSocket R) (made new_made : List Act) (failed : Bool) → failed ≡ false
     → (failed ≡ false → IsRun (options_of (world_of a b made failed)) (world_of a b made failed))
-    → WorksStep step (world_of a b made false) (Err fault) (world_of new_a new_b new_made false)
-    → RanOut step (world_of a b made failed) (world_of new_a new_b new_made true)
-ran_out_in step OutOfMemory a b new_a new_b made new_made failed is invariant stops = record { runs = is; fails = refl; stops = stops.0; acts = stops.1 }
-ran_out_in step Failed a b new_a new_b made new_made failed is invariant stays =
-    let goes_on : (of_side (side_of step) (world_of a b made failed).sides).socket.failed ≡ false = ((invariant is).sides (side_of step)).goes_on in
-    let had_failed : (of_side (side_of step) (world_of a b made failed).sides).socket.failed ≡ true = stays.0 in
+    → WorksAct act (world_of a b made false) (Err fault) (world_of new_a new_b new_made false)
+    → RanOut act (world_of a b made failed) (world_of new_a new_b new_made true)
+ran_out_in act OutOfMemory a b new_a new_b made new_made failed is invariant stops = record { runs = is; fails = refl; stops = stops.0; acts = stops.1 }
+ran_out_in act Failed a b new_a new_b made new_made failed is invariant stays =
+    let goes_on : (of_side (side_of_act act) (world_of a b made failed).sides).socket.failed ≡ false = ((invariant is).sides (side_of_act act)).goes_on in
+    let had_failed : (of_side (side_of_act act) (world_of a b made failed).sides).socket.failed ≡ true = stays.0 in
     absurd (cc)
 
 -- ---- several steps
@@ -136,21 +136,23 @@ pub ran_none : {R : Type 0} (world : WorldView R) → world.failed ≡ false →
 ran_none world runs h =
     record { runs = runs; goes_on = runs; acts = sym (append-nil world.acts); extends = world_extends_itself world; options = refl; is_run = h }
 
-ran_more : {R : Type 0} (steps : List Step) (step : Step) (reply : Reply) (old now new : WorldView R) → Ran steps old now → Applied step reply now new
+ran_more : {R : Type 0} (steps : List StepContent) (step : StepContent) (reply : Reply) (old now new : WorldView R) → Ran steps old now → Applied (step_act step) reply now new
     → IsRun (options_of now) new → options_of new ≡ options_of now → Ran (steps ++ step ∷ []) old new
 ran_more {R = R} steps step reply old now new ran applied is_run options =
     record {
       runs = ran.runs;
       goes_on = applied.goes_on;
-      acts = applied.acts ∙ ap (λ (l : List Act). l ++ acts.Step step ∷ []) ran.acts ∙ append_assoc old.acts (map acts.Step steps) (acts.Step step ∷ [])
-          ∙ ap (λ (l : List Act). old.acts ++ l) (sym (map-append acts.Step steps (step ∷ [])));
-      extends = world_extends_further old now new ran.extends (applied_extends step reply now new applied);
+      acts = applied.acts ∙ ap (λ (l : List ActContent). l ++ step_act step ∷ []) ran.acts ∙ append_assoc old.acts (map step_act steps) (step_act step ∷ [])
+          ∙ ap (λ (l : List ActContent). old.acts ++ l) (sym (map-append step_act steps (step ∷ [])));
+      extends = world_extends_further old now new ran.extends (applied_extends (step_act step) reply now new applied);
       options = options ∙ ran.options;
       is_run = subst (λ (o : Both Options). IsRun o new) ran.options is_run;
     }
 
 -- as a loop over them goes
-pub ran_next : {R : Type 0} (steps : List Step) (i : ℕ) (default : Step) (reply : Reply) (old now new : WorldView R) → i < length steps → Ran (take i steps) old now
-    → Applied (get_or steps i default) reply now new → IsRun (options_of now) new → options_of new ≡ options_of now → Ran (take (i + 1) steps) old new
+pub ran_next : {R : Type 0} (steps : List Step) (i : ℕ) (default : Step) (reply : Reply) (old now new : WorldView R) → i < length steps → Ran (map step_content (take i steps)) old now
+    → Applied (step_act (step_content (get_or steps i default))) reply now new → IsRun (options_of now) new → options_of new ≡ options_of now → Ran (map step_content (take (i + 1) steps)) old new
 ran_next steps i default reply old now new within ran applied is_run options =
-    subst (λ (l : List Step). Ran l old new) (sym (take_more steps i default within)) (ran_more (take i steps) (get_or steps i default) reply old now new ran applied is_run options)
+    subst (λ (l : List StepContent). Ran l old new)
+    (sym (ap (λ (l : List Step). map step_content l) (take_more steps i default within) ∙ map-append step_content (take i steps) (get_or steps i default ∷ [])))
+    (ran_more (map step_content (take i steps)) (step_content (get_or steps i default)) reply old now new ran applied is_run options)

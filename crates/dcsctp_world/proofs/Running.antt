@@ -7,18 +7,17 @@ use Rattle.dcsctp_machine.specs.declared.association.Association.{Association}
 use Rattle.dcsctp_machine.specs.declared.options.Options.{Options}
 use Rattle.dcsctp_machine.specs.declared.schedule.Side.{Side}
 use Rattle.dcsctp_machine.specs.declared.schedule.Side.TheVariants as sides
-use Rattle.dcsctp_machine.specs.declared.schedule.Step.{Step}
 use Rattle.dcsctp_machine.specs.Event.{Event, event_map, packets_in}
 use Rattle.dcsctp_machine.specs.Packet.{Emission, emission_bytes}
 use Rattle.dcsctp_machine.specs.Settings.{Ports, SameOptions, ports_of}
 use Rattle.dcsctp_machine.specs.Endpoint.{Endpoint, association_of, fresh_endpoint}
 use Rattle.dcsctp_machine.specs.CallTurns.{Turned, after_all, events_of, pairs_of}
-use Rattle.dcsctp_machine.specs.Sockets.{Both, of_side, of_other, side_of, StepTurns, NextTurns, Worked, turns_after, with_turns, endpoint_after, events_shown, packets_shown, acts_of, associations_of}
+use Rattle.dcsctp_machine.specs.Sockets.{Both, of_side, of_other, side_of_act, TurnsOfAct, NextTurns, Worked, turns_after, with_turns, endpoint_after, events_shown, packets_shown, acts_of, associations_of}
 use Rattle.dcsctp_machine.proofs.TurnLemmas.{after_all-append, pairs_of-append, events_of-append}
 use Rattle.dcsctp_machine.proofs.SocketLemmas.{sockets_keep_options}
 use Rattle.dcsctp_api.specs.Calls.{user_event}
 use Rattle.dcsctp_machine.specs.declared.schedule.Act.{Act}
-use Rattle.dcsctp_machine.specs.declared.schedule.Act.TheVariants as acts
+use Rattle.dcsctp_machine.specs.Schedule.{ActContent, act_content}
 use Rattle.dcsctp_world.specs.declared.act.Reply.{Reply}
 use Rattle.dcsctp_world.specs.declared.watched_socket.WatchedSocket.{WatchedSocket}
 use Rattle.dcsctp_world.specs.Shown.{SideShown, WorldView, fresh_side, fresh_world, options_of}
@@ -58,9 +57,9 @@ pub is_fresh : {R : Type 0} (a b : WatchedSocket R) (made : List Act) (options :
     → shown a ≡ fresh_side options.a generators.a → shown b ≡ fresh_side options.b generators.b → made ≡ []
     → world_of a b made false ≡ fresh_world options generators
 is_fresh {R = R} a b made options generators is_a is_b is_made =
-    ap (λ (side : SideShown R). let w : WorldView R = record { sides = record { a = side; b = shown b }; acts = made; failed = false } in w) is_a
-    ∙ ap (λ (side : SideShown R). let w : WorldView R = record { sides = record { a = fresh_side options.a generators.a; b = side }; acts = made; failed = false } in w) is_b
-    ∙ ap (λ (l : List Act). let w : WorldView R = record (fresh_world options generators) { acts = l } in w) is_made
+    ap (λ (side : SideShown R). let w : WorldView R = record { sides = record { a = side; b = shown b }; acts = map act_content made; failed = false } in w) is_a
+    ∙ ap (λ (side : SideShown R). let w : WorldView R = record { sides = record { a = fresh_side options.a generators.a; b = side }; acts = map act_content made; failed = false } in w) is_b
+    ∙ ap (λ (l : List ActContent). let w : WorldView R = record (fresh_world options generators) { acts = l } in w) (ap (λ (l : List Act). map act_content l) is_made)
 
 pub fresh_is_run : {R : Type 0} (options : Both Options) (generators : Both R) (world : WorldView R) → world ≡ fresh_world options generators
     → IsUsable options.a → IsUsable options.b → IsRun options world
@@ -102,7 +101,7 @@ side_grows options turns Turns old new grows kept h =
       pairs = grows.pairs ∙ ap (λ (l : List Pair). l ++ pairs_of os) h.pairs ∙ sym (pairs_of-append turns os);
     }
 
--- ---- a step more
+-- ---- an act more
 
 abbrev SidesRun : {R : Type 0} → Both Options → Both (List Turned) → Both (SideShown R) → Side → Type 0
 SidesRun options turns shown side = SideRuns (of_side side options) (of_side side turns) (of_side side shown)
@@ -142,32 +141,32 @@ other_packets : {R : Type 0} (options : Both Options) (turns : Both (List Turned
 other_packets options turns old sides.A runs = (runs sides.B).packets
 other_packets options turns old sides.B runs = (runs sides.A).packets
 
--- the step's turns, from where the sides' turns had led
-turns_of : {R : Type 0} (options : Both Options) (turns : Both (List Turned)) (old : Both (SideShown R)) (step : Step) (os : List Turned)
+-- the act's turns, from where the sides' turns had led
+turns_of : {R : Type 0} (options : Both Options) (turns : Both (List Turned)) (old : Both (SideShown R)) (act : ActContent) (os : List Turned)
     → ((side : Side) → SidesRun options turns old side)
-    → StepTurns (of_side (side_of step) old).socket.view.endpoint (of_other (side_of step) old).packets step os → NextTurns options turns (acts.Step step) os
-turns_of options turns old step os runs turned =
-    let mover : Side = side_of step in
-    subst (λ (packets : List (List ℕ)). StepTurns (endpoint_after (of_side mover options) (of_side mover turns)) packets step os) (other_packets options turns old mover runs)
-    (subst (λ (e : Endpoint). StepTurns e (of_other mover old).packets step os) (runs mover).endpoint turned)
+    → TurnsOfAct (of_side (side_of_act act) old).socket.view.endpoint (of_other (side_of_act act) old).packets act os → NextTurns options turns act os
+turns_of options turns old act os runs turned =
+    let mover : Side = side_of_act act in
+    subst (λ (packets : List (List ℕ)). TurnsOfAct (endpoint_after (of_side mover options) (of_side mover turns)) packets act os) (other_packets options turns old mover runs)
+    (subst (λ (e : Endpoint). TurnsOfAct e (of_other mover old).packets act os) (runs mover).endpoint turned)
 
-pub is_run_next : {R : Type 0} (options : Both Options) (step : Step) (reply : Reply) (old new : WorldView R) → IsRun options old → Applied step reply old new → IsRun options new
-is_run_next {R = R} options step reply old new h applied =
-    let mover : Side = side_of step in
+pub is_run_next : {R : Type 0} (options : Both Options) (act : ActContent) (reply : Reply) (old new : WorldView R) → IsRun options old → Applied act reply old new → IsRun options new
+is_run_next {R = R} options act reply old new h applied =
+    let mover : Side = side_of_act act in
     let moved : Both (SideShown R) = applied.moved in
     let os = applied.moves.grows.turns in
     let before : Both (List Turned) = turns_after h.steps in
-    let worked : Worked = record { act = acts.Step step; turns = os } in
+    let worked : Worked = record { act = act; turns = os } in
     let now : Both (List Turned) = with_turns mover os before in
-    let Turns : List Turned → Type 0 = StepTurns (of_side mover old.sides).socket.view.endpoint (of_other mover old.sides).packets step in
+    let Turns : List Turned → Type 0 = TurnsOfAct (of_side mover old.sides).socket.view.endpoint (of_other mover old.sides).packets act in
     let runs : (side : Side) → SidesRun options now moved side =
     sides_next options before old.sides moved Turns mover applied.moves.grows applied.moves.other_stays (sockets_keep_options.run options h.steps h.run mover) h.sides in
-    let ends = turns_of options before old.sides step os h.sides applied.moves.grows.are in
+    let ends = turns_of options before old.sides act os h.sides applied.moves.grows.are in
     record {
       usable = h.usable;
       steps = worked ∷ h.steps;
       run = (ends, h.run);
-      acts = applied.acts ∙ ap (λ (l : List Act). l ++ acts.Step step ∷ []) h.acts ∙ sym (reverse-cons (acts.Step step) (acts_of h.steps));
+      acts = applied.acts ∙ ap (λ (l : List ActContent). l ++ act ∷ []) h.acts ∙ sym (reverse-cons act (acts_of h.steps));
       sides = λ (side : Side). subst (λ (both : Both (SideShown R)). SidesRun options now both side) (sym applied.sides) (noted_runs options now moved side (runs side));
       associations = λ (side : Side).
           ap (λ (both : Both (SideShown R)). (of_side side both).associations) applied.sides ∙ noted moved side

@@ -1,26 +1,26 @@
--- What a side shows where no call was made, and where a growth was refused while a step was worked.
-use Rattle.std.proofs.Common.{◌≡◌, ℕ, true, false, Option, Err, List, [], ◌∷◌, ◌++◌, ◌⊎◌, inl, inr, refl, sym, ap, subst, ◌∙◌}
+-- What a side shows where no call was made, and where a growth was refused while an act was worked.
+use Rattle.std.proofs.Common.{◌≡◌, ℕ, true, false, Option, Err, List, [], ◌∷◌, ◌++◌, ◌⊎◌, inl, inr, map, refl, sym, ap, subst, ◌∙◌}
 use Rattle.std.proofs.lemmas.List.{append-nil}
 use Rattle.dcsctp_machine.specs.declared.association.Pair.{Pair}
 use Rattle.dcsctp_machine.specs.declared.association.Association.{Association}
 use Rattle.dcsctp_machine.specs.declared.schedule.Side.{Side}
 use Rattle.dcsctp_machine.specs.declared.schedule.Side.TheVariants as sides
-use Rattle.dcsctp_machine.specs.declared.schedule.Step.{Step}
 use Rattle.dcsctp_machine.specs.Event.{Event, packets_in}
 use Rattle.dcsctp_machine.specs.Endpoint.{Endpoint, association_of}
 use Rattle.dcsctp_machine.specs.CallTurns.{Turned, after_all, pairs_of}
-use Rattle.dcsctp_machine.specs.Sockets.{Both, of_side, of_other, side_of, StepTurns}
+use Rattle.dcsctp_machine.specs.Sockets.{Both, of_side, of_other, side_of_act, TurnsOfAct}
 use Rattle.dcsctp_api.specs.declared.errors.SocketFault.{SocketFault}
 use Rattle.dcsctp_api.specs.declared.errors.SocketFault.TheVariants.{OutOfMemory, Failed}
 use Rattle.dcsctp_api.specs.Calls.{Follows, Connects, HandlesInput}
 use Rattle.dcsctp_socket.specs.SocketView.{SocketView, user_view_of}
 use Rattle.dcsctp_machine.specs.declared.schedule.Act.{Act}
+use Rattle.dcsctp_machine.specs.Schedule.{ActContent, act_content}
 use Rattle.dcsctp_world.specs.declared.act.Reply.{Reply}
 use Rattle.dcsctp_world.specs.declared.act.Reply.TheVariants.{NoCall}
 use Rattle.dcsctp_world.specs.declared.watched_socket.WatchedSocket.{WatchedSocket}
 use Rattle.dcsctp_world.specs.Shown.{SideShown, WorldView}
 use Rattle.dcsctp_world.specs.Growth.{AddsFront, CollectsFront, told, Grows, ShowsFront, Stops, Fails, with_association}
-use Rattle.dcsctp_world.specs.Acts.{StepMoves, StepStops, MovesSide, WorksStep}
+use Rattle.dcsctp_world.specs.Acts.{ActMoves, ActStops, MovesSide, WorksAct}
 use Rattle.dcsctp_world.specs.Parts.{both, world_of}
 use Rattle.dcsctp_world.proofs.Keeping.{front_same, front_whole}
 
@@ -137,7 +137,7 @@ other_in_part {R = R} old moved new stays noted =
     at_noted old new same (λ (side : SideShown R). ShowsFront [] old side) (shows_nothing [] old old refl refl refl refl refl)
     (record { options = refl; events = front_same [] refl; packets = front_same [] refl; pairs = front_same [] refl; associations = front_whole now refl })
 
--- ---- a step
+-- ---- an act
 
 same_socket : {R : Type 0} (old moved new : SideShown R) → moved ≡ old → MaybeNoted moved new → new.socket ≡ old.socket
 same_socket {R = R} old moved new stays noted =
@@ -153,13 +153,13 @@ at_mover Turns sides.A old moved new grows stays a b =
 at_mover Turns sides.B old moved new grows stays a b =
     (grows_in_part Turns old.b moved.b new.b grows b, other_in_part old.a moved.a new.a stays a, same_socket old.a moved.a new.a stays a)
 
--- the step failed at this side, and the other is as it was
-pub fails_at : {R : Type 0} (step : Step) (mover : Side) (fault : SocketFault) (old new : Both (SideShown R)) → side_of step ≡ mover
-    → Fails (StepTurns (of_side mover old).socket.view.endpoint (of_other mover old).packets step) (of_side mover old) fault (of_side mover new)
-    → of_other mover new ≡ of_other mover old → MovesSide step old (Err fault) new
-fails_at {R = R} step mover fault old new is fails stays =
+-- the act failed at this side, and the other is as it was
+pub fails_at : {R : Type 0} (act : ActContent) (mover : Side) (fault : SocketFault) (old new : Both (SideShown R)) → side_of_act act ≡ mover
+    → Fails (TurnsOfAct (of_side mover old).socket.view.endpoint (of_other mover old).packets act) (of_side mover old) fault (of_side mover new)
+    → of_other mover new ≡ of_other mover old → MovesSide act old (Err fault) new
+fails_at {R = R} act mover fault old new is fails stays =
     let At : Side → Type 0 = λ side.
-    Fails (StepTurns (of_side side old).socket.view.endpoint (of_other side old).packets step) (of_side side old) fault (of_side side new)
+    Fails (TurnsOfAct (of_side side old).socket.view.endpoint (of_other side old).packets act) (of_side side old) fault (of_side side new)
     × (of_other side new ≡ of_other side old) in
     subst At (sym is) (fails, stays)
 
@@ -171,13 +171,13 @@ same_both {R = R} sides.B old new mine other =
     ap (λ (s : SideShown R). let both : Both (SideShown R) = record { a = new.a; b = s } in both) mine
     ∙ ap (λ (s : SideShown R). let both : Both (SideShown R) = record { a = s; b = old.b } in both) other
 
--- then the step is not among the acts
-pub step_fails : {R : Type 0} (step : Step) (fault : SocketFault) (a b new_a new_b : WatchedSocket R) (made : List Act) → MovesSide step (both a b) (Err fault) (both new_a new_b)
-    → WorksStep step (world_of a b made false) (Err fault) (world_of new_a new_b made false)
-step_fails step OutOfMemory a b new_a new_b made fails =
+-- then it is not among the acts
+pub act_fails : {R : Type 0} (act : ActContent) (fault : SocketFault) (a b new_a new_b : WatchedSocket R) (made : List Act) → MovesSide act (both a b) (Err fault) (both new_a new_b)
+    → WorksAct act (world_of a b made false) (Err fault) (world_of new_a new_b made false)
+act_fails act OutOfMemory a b new_a new_b made fails =
     let old = both a b in
     let new = both new_a new_b in
-    let mover : Side = side_of step in (
+    let mover : Side = side_of_act act in (
       record {
         mover = fails.0.1;
         other = other_in_part (of_other mover old) (of_other mover old) (of_other mover new) refl (inl fails.1);
@@ -185,16 +185,16 @@ step_fails step OutOfMemory a b new_a new_b made fails =
       },
       refl,
     )
-step_fails {R = R} step Failed a b new_a new_b made fails = (
+act_fails {R = R} act Failed a b new_a new_b made fails = (
   fails.0.0,
-  ap (λ (sides : Both (SideShown R)). let world : WorldView R = record { sides = sides; acts = made; failed = false } in world)
-      (same_both (side_of step) (both a b) (both new_a new_b) fails.0.1 fails.1),
+  ap (λ (sides : Both (SideShown R)). let world : WorldView R = record { sides = sides; acts = map act_content made; failed = false } in world)
+      (same_both (side_of_act act) (both a b) (both new_a new_b) fails.0.1 fails.1),
 )
 
--- a step moved its side, and then a growth was refused
-pub moved_in_part : {R : Type 0} (step : Step) (reply : Reply) (old moved new : Both (SideShown R)) → StepMoves step reply old moved
-    → MaybeNoted moved.a new.a → MaybeNoted moved.b new.b → StepStops step old new
-moved_in_part step reply old moved new moves a b =
-    let both = at_mover (StepTurns (of_side (side_of step) old).socket.view.endpoint (of_other (side_of step) old).packets step) (side_of step) old moved new
+-- an act moved its side, and then a growth was refused
+pub moved_in_part : {R : Type 0} (act : ActContent) (reply : Reply) (old moved new : Both (SideShown R)) → ActMoves act reply old moved
+    → MaybeNoted moved.a new.a → MaybeNoted moved.b new.b → ActStops act old new
+moved_in_part act reply old moved new moves a b =
+    let both = at_mover (TurnsOfAct (of_side (side_of_act act) old).socket.view.endpoint (of_other (side_of_act act) old).packets act) (side_of_act act) old moved new
     moves.grows moves.other_stays a b in
     record { mover = both.0; other = both.1; other_socket = both.2 }

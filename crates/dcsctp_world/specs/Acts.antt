@@ -1,43 +1,42 @@
 -- What the calls of a world do.
 use Rattle.std.specs.Prelude.{◌≡◌, true, false, Result, Ok, Err, List, [], ◌∷◌, ◌++◌, map}
-use Rattle.dcsctp_machine.specs.declared.schedule.Step.{Step}
-use Rattle.dcsctp_machine.specs.Sockets.{Both, of_side, of_other, side_of, StepTurns}
+use Rattle.dcsctp_machine.specs.Schedule.{StepContent, ActContent, step_act}
+use Rattle.dcsctp_machine.specs.Sockets.{Both, of_side, of_other, side_of_act, TurnsOfAct}
 use Rattle.dcsctp_api.specs.declared.errors.SocketFault.{SocketFault}
 use Rattle.dcsctp_api.specs.declared.errors.SocketFault.TheVariants.{OutOfMemory, Failed}
-use Rattle.dcsctp_machine.specs.declared.schedule.Act.TheVariants as acts
 use Rattle.dcsctp_world.specs.declared.act.Reply.{Reply}
 use Rattle.dcsctp_world.specs.Shown.{SideShown, WorldView, options_of}
 use Rattle.dcsctp_world.specs.Growth.{Extends, Fails, Grows, ShowsFront, Stops, SideExtends, with_association, IsReply}
 use Rattle.dcsctp_world.specs.Run.{IsRun}
 use Rattle.dcsctp_world.specs.Agreement.{Agrees, HandshakeConnects}
 
--- A step moved its own side, and left the other. No association was noted yet.
-pub record StepMoves {R : Type 0} (step : Step) (answer : Reply) (old new : Both (SideShown R)) : Type 0 where
-  pub grows : Grows (StepTurns (of_side (side_of step) old).socket.view.endpoint (of_other (side_of step) old).packets step) answer
-      (of_side (side_of step) old) (of_side (side_of step) new)
-  pub other_stays : of_other (side_of step) new ≡ of_other (side_of step) old
-  pub reply : IsReply (of_side (side_of step) old).socket.view.endpoint (of_other (side_of step) old).packets step answer
+-- An act moved its own side, and left the other. No association was noted yet.
+pub record ActMoves {R : Type 0} (act : ActContent) (answer : Reply) (old new : Both (SideShown R)) : Type 0 where
+  pub grows : Grows (TurnsOfAct (of_side (side_of_act act) old).socket.view.endpoint (of_other (side_of_act act) old).packets act) answer
+      (of_side (side_of_act act) old) (of_side (side_of_act act) new)
+  pub other_stays : of_other (side_of_act act) new ≡ of_other (side_of_act act) old
+  pub reply : IsReply (of_side (side_of_act act) old).socket.view.endpoint (of_other (side_of_act act) old).packets act answer
 
--- A step was worked at its side; or it failed there. The other is as it was.
-abbrev pub MovesSide : {R : Type 0} → Step → Both (SideShown R) → Result Reply SocketFault → Both (SideShown R) → Type 0
-MovesSide step old (Ok reply) new = StepMoves step reply old new
-MovesSide step old (Err fault) new =
-    Fails (StepTurns (of_side (side_of step) old).socket.view.endpoint (of_other (side_of step) old).packets step)
-    (of_side (side_of step) old) fault (of_side (side_of step) new)
-    × (of_other (side_of step) new ≡ of_other (side_of step) old)
+-- An act was worked at its side; or it failed there. The other is as it was.
+abbrev pub MovesSide : {R : Type 0} → ActContent → Both (SideShown R) → Result Reply SocketFault → Both (SideShown R) → Type 0
+MovesSide act old (Ok reply) new = ActMoves act reply old new
+MovesSide act old (Err fault) new =
+    Fails (TurnsOfAct (of_side (side_of_act act) old).socket.view.endpoint (of_other (side_of_act act) old).packets act)
+    (of_side (side_of_act act) old) fault (of_side (side_of_act act) new)
+    × (of_other (side_of_act act) new ≡ of_other (side_of_act act) old)
 
 -- both sides with their associations as they are now
 abbrev pub with_associations : {R : Type 0} → Both (SideShown R) → Both (SideShown R)
 with_associations sides = record { a = with_association sides.a; b = with_association sides.b }
 
--- A step was applied: it moved its own side, both associations were noted, and the step was kept.
-pub record Applied {R : Type 0} (step : Step) (reply : Reply) (old new : WorldView R) : Type 0 where
+-- An act was applied: it moved its own side, both associations were noted, and the act was kept.
+pub record Applied {R : Type 0} (act : ActContent) (reply : Reply) (old new : WorldView R) : Type 0 where
   pub runs : old.failed ≡ false
   pub goes_on : new.failed ≡ false
   pub moved : Both (SideShown R)
-  pub moves : StepMoves step reply old.sides moved
+  pub moves : ActMoves act reply old.sides moved
   pub sides : new.sides ≡ with_associations moved
-  pub acts : new.acts ≡ old.acts ++ acts.Step step ∷ []
+  pub acts : new.acts ≡ old.acts ++ act ∷ []
 
 -- Each list begins with what it held.
 pub record BothExtend {R : Type 0} (old new : Both (SideShown R)) : Type 0 where
@@ -48,26 +47,26 @@ pub record WorldExtends {R : Type 0} (old new : WorldView R) : Type 0 where
   pub sides : BothExtend old.sides new.sides
   pub acts : Extends old.acts new.acts
 
--- A growth was refused in a step. What its own side shows grew by a front part of what the step's turns bring, if it
+-- A growth was refused in an act. What its own side shows grew by a front part of what the act's turns bring, if it
 -- grew; the other has its socket as it was, and at most its association once more.
-pub record StepStops {R : Type 0} (step : Step) (old new : Both (SideShown R)) : Type 0 where
-  pub mover : Stops (StepTurns (of_side (side_of step) old).socket.view.endpoint (of_other (side_of step) old).packets step)
-      (of_side (side_of step) old) (of_side (side_of step) new)
-  pub other : ShowsFront [] (of_other (side_of step) old) (of_other (side_of step) new)
-  pub other_socket : (of_other (side_of step) new).socket ≡ (of_other (side_of step) old).socket
+pub record ActStops {R : Type 0} (act : ActContent) (old new : Both (SideShown R)) : Type 0 where
+  pub mover : Stops (TurnsOfAct (of_side (side_of_act act) old).socket.view.endpoint (of_other (side_of_act act) old).packets act)
+      (of_side (side_of_act act) old) (of_side (side_of_act act) new)
+  pub other : ShowsFront [] (of_other (side_of_act act) old) (of_other (side_of_act act) new)
+  pub other_socket : (of_other (side_of_act act) new).socket ≡ (of_other (side_of_act act) old).socket
 
--- A step was applied; or a growth was refused in it, and it isn't among the acts; or the socket at its side had failed, and
+-- An act was applied; or a growth was refused in it, and it isn't among the acts; or the socket at its side had failed, and
 -- nothing has changed.
-abbrev pub WorksStep : {R : Type 0} → Step → WorldView R → Result Reply SocketFault → WorldView R → Type 0
-WorksStep step old (Ok reply) new = Applied step reply old new
-WorksStep step old (Err OutOfMemory) new = StepStops step old.sides new.sides × (new.acts ≡ old.acts)
-WorksStep step old (Err Failed) new = ((of_side (side_of step) old.sides).socket.failed ≡ true) × (new ≡ old)
+abbrev pub WorksAct : {R : Type 0} → ActContent → WorldView R → Result Reply SocketFault → WorldView R → Type 0
+WorksAct act old (Ok reply) new = Applied act reply old new
+WorksAct act old (Err OutOfMemory) new = ActStops act old.sides new.sides × (new.acts ≡ old.acts)
+WorksAct act old (Err Failed) new = ((of_side (side_of_act act) old.sides).socket.failed ≡ true) × (new ≡ old)
 
--- A growth was refused in a step, and the world has failed. The step isn't among its acts.
-pub record RanOut {R : Type 0} (step : Step) (old new : WorldView R) : Type 0 where
+-- A growth was refused in an act, and the world has failed. The act isn't among its acts.
+pub record RanOut {R : Type 0} (act : ActContent) (old new : WorldView R) : Type 0 where
   pub runs : old.failed ≡ false
   pub fails : new.failed ≡ true
-  pub stops : StepStops step old.sides new.sides
+  pub stops : ActStops act old.sides new.sides
   pub acts : new.acts ≡ old.acts
 
 -- The world had failed, and nothing changes.
@@ -75,35 +74,35 @@ pub record StaysFailed {R : Type 0} (old new : WorldView R) : Type 0 where
   pub had_failed : old.failed ≡ true
   pub same : new ≡ old
 
-abbrev pub Applies : {R : Type 0} → Step → WorldView R → Result Reply SocketFault → WorldView R → Type 0
-Applies step old (Ok reply) new = Applied step reply old new
-Applies step old (Err OutOfMemory) new = RanOut step old new
-Applies step old (Err Failed) new = StaysFailed old new
+abbrev pub Applies : {R : Type 0} → ActContent → WorldView R → Result Reply SocketFault → WorldView R → Type 0
+Applies act old (Ok reply) new = Applied act reply old new
+Applies act old (Err OutOfMemory) new = RanOut act old new
+Applies act old (Err Failed) new = StaysFailed old new
 
 -- These steps were applied, one after another: all that the world shows is what a run shows, of the steps from its
 -- making on.
-pub record Ran {R : Type 0} (steps : List Step) (old new : WorldView R) : Type 0 where
+pub record Ran {R : Type 0} (steps : List StepContent) (old new : WorldView R) : Type 0 where
   pub runs : old.failed ≡ false
   pub goes_on : new.failed ≡ false
-  pub acts : new.acts ≡ old.acts ++ map acts.Step steps
+  pub acts : new.acts ≡ old.acts ++ map step_act steps
   pub extends : WorldExtends old new
   pub options : options_of new ≡ options_of old
   pub is_run : IsRun (options_of old) new
 
 -- A growth was refused at one of these steps: those before it were applied, one after another, and what is promised of
 -- steps that were applied holds of them; the world has failed at this one, and those behind it weren't tried.
-pub record RanOutAmong {R : Type 0} (steps : List Step) (old new : WorldView R) : Type 0 where
-  pub done : List Step
-  pub refused : Step
-  pub rest : List Step
+pub record RanOutAmong {R : Type 0} (steps : List StepContent) (old new : WorldView R) : Type 0 where
+  pub done : List StepContent
+  pub refused : StepContent
+  pub rest : List StepContent
   pub all : steps ≡ done ++ refused ∷ rest
   pub before : WorldView R
   pub ran : Ran done old before
   pub agrees : Agrees (options_of old) before
   pub connects : HandshakeConnects (options_of old) before
-  pub ran_out : RanOut refused before new
+  pub ran_out : RanOut (step_act refused) before new
 
-abbrev pub Runs : {R : Type 0} → List Step → WorldView R → Result (Unit {0}) SocketFault → WorldView R → Type 0
+abbrev pub Runs : {R : Type 0} → List StepContent → WorldView R → Result (Unit {0}) SocketFault → WorldView R → Type 0
 Runs steps old (Ok done) new = Ran steps old new
 Runs steps old (Err OutOfMemory) new = RanOutAmong steps old new
 Runs steps old (Err Failed) new = StaysFailed old new

@@ -1,9 +1,6 @@
 -- How one side grows in an act.
 use Rattle.std.specs.Prelude.{◌≡◌, ℕ, true, false, Option, None, Some, Result, Ok, Err, List, [], ◌∷◌, ◌++◌, ◌⊎◌, map}
-use Rattle.dcsctp_machine.specs.declared.schedule.Step.{Step}
-use Rattle.dcsctp_machine.specs.declared.schedule.Step.TheVariants as steps
-use Rattle.dcsctp_machine.specs.declared.schedule.Call.{Call}
-use Rattle.dcsctp_machine.specs.declared.schedule.Call.TheVariants as calls
+use Rattle.dcsctp_machine.specs.Schedule.{CallContent, connect_call, ActContent, call_step, delivery_step, step_act}
 use Rattle.dcsctp_machine.specs.Event.{Event, packets_in}
 use Rattle.dcsctp_machine.specs.Endpoint.{Endpoint, association_of}
 use Rattle.dcsctp_machine.specs.Settings.{ports_of}
@@ -135,7 +132,7 @@ abbrev pub Calls : {R : Type 0} → (List Turned → Type 0) → SideShown R →
 Calls Turns old (Ok done) new = Grows Turns Done old new
 Calls Turns old (Err fault) new = Fails Turns old fault new
 
--- A step was worked at its side, with such a reply; or it failed.
+-- An act was worked at its side, with such a reply; or it failed.
 abbrev pub Works : {R : Type 0} → (List Turned → Type 0) → (Reply → Type 0) → SideShown R → Result Reply SocketFault → SideShown R → Type 0
 Works Turns IsIt old (Ok answer) new = IsIt answer × Grows Turns answer old new
 Works Turns IsIt old (Err fault) new = Fails Turns old fault new
@@ -164,10 +161,10 @@ IsDeliveryReply None reply = reply ≡ NoCall
 IsDeliveryReply (Some bytes) reply = reply ≡ Done
 
 -- It is what a call of this endpoint's user answers.
-abbrev pub IsCallReply : Endpoint → Call → Reply → Type 0
-IsCallReply e calls.Connect reply = reply ≡ Done
+abbrev pub IsCallReply : Endpoint → CallContent → Reply → Type 0
+IsCallReply e connect_call reply = reply ≡ Done
 
--- It is what a step answers from this endpoint, where the other side has emitted these packets.
-abbrev pub IsReply : Endpoint → List (List ℕ) → Step → Reply → Type 0
-IsReply e packets (steps.Call side call) reply = IsCallReply e call reply
-IsReply e packets (steps.Deliver side number) reply = IsDeliveryReply (numbered number packets) reply
+-- It is what an act answers from this endpoint, where the other side has emitted these packets.
+abbrev pub IsReply : Endpoint → List (List ℕ) → ActContent → Reply → Type 0
+IsReply e packets (step_act (call_step side call)) reply = IsCallReply e call reply
+IsReply e packets (step_act (delivery_step side number)) reply = IsDeliveryReply (numbered number packets) reply

@@ -4,6 +4,7 @@ use Rattle.std.specs.declared.alloc.Global.{Global}
 use Rattle.dcsctp_machine.specs.Sockets.{Both}
 use Rattle.dcsctp_api.specs.declared.events.SocketEvent.{SocketEvent}
 use Rattle.dcsctp_api.specs.Events.{event_content}
+use Rattle.dcsctp_machine.specs.Schedule.{act_content}
 use Rattle.dcsctp_machine.specs.declared.schedule.Act.{Act}
 use Rattle.dcsctp_world.specs.declared.watched_socket.WatchedSocket.{WatchedSocket}
 use Rattle.dcsctp_world.specs.Growth.{Kept}
@@ -32,4 +33,4 @@ abbrev pub both : {R : Type 0} → WatchedSocket R → WatchedSocket R → Both 
 both a b = record { a = shown a; b = shown b }
 
 abbrev pub world_of : {R : Type 0} → WatchedSocket R → WatchedSocket R → List Act → Bool → WorldView R
-world_of a b acts failed = record { sides = both a b; acts = acts; failed = failed }
+world_of a b acts failed = record { sides = both a b; acts = map act_content acts; failed = failed }

@@ -6,7 +6,7 @@ use Rattle.dcsctp_machine.specs.declared.options.Options.{Options}
 use Rattle.dcsctp_machine.specs.Event.{Event}
 use Rattle.dcsctp_machine.specs.Sockets.{Both}
 use Rattle.dcsctp_socket.specs.SocketView.{SocketView, fresh_socket}
-use Rattle.dcsctp_machine.specs.declared.schedule.Act.{Act}
+use Rattle.dcsctp_machine.specs.Schedule.{ActContent}
 
 -- A socket, and all that it ever showed, oldest first: its events, the packets among them, the pairs that it
 -- drew, and its association at the start and after each act of either side.
@@ -22,7 +22,7 @@ pub record SideShown (R : Type 0) : Type 0 where
 -- two of these, what happened to them, oldest first, and whether a growth was refused
 pub record WorldView (R : Type 0) : Type 0 where
   pub sides : Both (SideShown R)
-  pub acts : List Act
+  pub acts : List ActContent
   pub failed : Bool
 
 -- a side with a socket that was just made

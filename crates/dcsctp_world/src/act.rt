@@ -1,9 +1,10 @@
-//! Where a step happens, and what its call answered.
+//! Where an act happens, and what its call answered.
 
 ghost use Rattle.std.specs.Prelude.{◌≡◌};
-ghost use Rattle.dcsctp_machine.specs.Sockets.{side_of};
+ghost use Rattle.dcsctp_machine.specs.Schedule.{act_content};
+ghost use Rattle.dcsctp_machine.specs.Sockets.{side_of_act};
 
-use dcsctp_machine::{Side, Step};
+use dcsctp_machine::{Act, Side, Step};
 
 /// What the call of an act answered.
 #[derive(Clone, Copy, Debug, PartialEq, Eq)]
@@ -15,12 +16,12 @@ pub enum Reply {
     Done,
 }
 
-/// The side at which a step happens.
-pub(crate) fn side_of(step: &Step) -> Side
-    ensures { result ≡ side_of step.now }
+/// The side at which an act happens.
+pub(crate) fn side_of(act: &Act) -> Side
+    ensures { result ≡ side_of_act (act_content act.now) }
 {
-    match step {
-        Step::Call(side, _) => *side,
-        Step::Deliver(side, _) => *side,
+    match act {
+        Act::Step(Step::Call(side, _)) => *side,
+        Act::Step(Step::Deliver(side, _)) => *side,
     }
 }

@@ -3,7 +3,8 @@
 ghost use Rattle.std.specs.Prelude.{◌≡◌, [], ◌∷◌, IfOk, IsOkUnless};
 ghost use Rattle.std.specs.Option.{option_map};
 ghost use Rattle.dcsctp_machine.specs.Settings.{IsValid};
-ghost use Rattle.dcsctp_machine.specs.Sockets.{numbered, UserTurns, DeliveryTurns, StepTurns};
+ghost use Rattle.dcsctp_machine.specs.Schedule.{call_content, act_content};
+ghost use Rattle.dcsctp_machine.specs.Sockets.{numbered, UserTurns, DeliveryTurns, TurnsOfAct};
 ghost use Rattle.dcsctp_api.specs.Events.{event_content};
 ghost use Rattle.dcsctp_socket.specs.SocketView.{user_view_of};
 ghost use Rattle.dcsctp_world.specs.Shown.{fresh_side};
@@ -11,7 +12,7 @@ ghost use Rattle.dcsctp_world.specs.Growth.{Keeps, TakesAll, CollectsAll, Calls,
 ghost use Rattle.dcsctp_world.specs.Parts.{packet_bytes, kept, shown};
 
 use crate::act::Reply;
-use dcsctp_machine::{Call, Step};
+use dcsctp_machine::{Act, Call, Step};
 use dcsctp_socket::{Association, DcSctpSocket, Options, Pair, Socket, SocketEvent, SocketFault};
 use rand_core::Rng;
 use std::alloc::{AllocError, Global};
@@ -121,7 +122,7 @@ impl<R: Rng + Drop> WatchedSocket<R> {
     // brought finds no room.
     fn call(&mut self, call: Call) -> Result<(), SocketFault>
         requires { self.old.socket.view.events ≡ [] }
-        ensures { Calls (UserTurns self.old.socket.view.endpoint call) (shown self.old) result
+        ensures { Calls (UserTurns self.old.socket.view.endpoint (call_content call)) (shown self.old) result
             (shown self.new) }
     {
         match call {
@@ -148,20 +149,20 @@ impl<R: Rng + Drop> WatchedSocket<R> {
         }
     }
 
-    /// Works a step at this side, where the other has emitted these packets. `SocketFault::OutOfMemory`
-    /// says that a growth was refused, in the socket or here; a front part of what the step brings may
+    /// Works an act at this side, where the other has emitted these packets. `SocketFault::OutOfMemory`
+    /// says that a growth was refused, in the socket or here; a front part of what the act brings may
     /// have been kept then. `SocketFault::Failed` says that the socket had failed; nothing changes then.
-    pub fn work(&mut self, packets: &[Vec<u8>], step: &Step) -> Result<Reply, SocketFault>
+    pub fn work(&mut self, packets: &[Vec<u8>], act: &Act) -> Result<Reply, SocketFault>
         requires { self.old.socket.view.events ≡ [] }
-        ensures { Works (StepTurns self.old.socket.view.endpoint (packet_bytes packets.now) step.now)
-            (IsReply self.old.socket.view.endpoint (packet_bytes packets.now) step.now) (shown self.old) result (shown self.new) }
+        ensures { Works (TurnsOfAct self.old.socket.view.endpoint (packet_bytes packets.now) (act_content act.now))
+            (IsReply self.old.socket.view.endpoint (packet_bytes packets.now) (act_content act.now)) (shown self.old) result (shown self.new) }
     {
-        match step {
-            Step::Call(_, call) => {
+        match act {
+            Act::Step(Step::Call(_, call)) => {
                 self.call(*call)?;
                 Ok(Reply::Done)
             }
-            Step::Deliver(_, number) => self.deliver(packets, *number),
+            Act::Step(Step::Deliver(_, number)) => self.deliver(packets, *number),
         }
     }
 

@@ -41,53 +41,54 @@ impl<R> Model for World<R> {
 
 ghost use Rattle.std.specs.Prelude.{◌≡◌, [], false, map, OnOk, IfOk, IsOkUnless};
 ghost use Rattle.dcsctp_machine.specs.Settings.{IsValid};
+ghost use Rattle.dcsctp_machine.specs.Schedule.{act_content, step_content, step_act};
 ghost use Rattle.dcsctp_machine.specs.Sockets.{of_side};
 ghost use Rattle.dcsctp_api.specs.Events.{event_content};
 ghost use Rattle.dcsctp_world.specs.Shown.{fresh_world, options_of};
 ghost use Rattle.dcsctp_world.specs.Run.{IsRun};
 ghost use Rattle.dcsctp_world.specs.Agreement.{Agrees, HandshakeConnects};
-ghost use Rattle.dcsctp_world.specs.Acts.{MovesSide, WorksStep, Applies, Runs};
+ghost use Rattle.dcsctp_world.specs.Acts.{MovesSide, WorksAct, Applies, Runs};
 ghost use Rattle.dcsctp_world.specs.Parts.{packet_bytes, shown, both, world_of};
 
-// Works a step at its side. The errors are those of `WatchedSocket::work`; the other side stays.
+// Works an act at its side. The errors are those of `WatchedSocket::work`; the other side stays.
 fn move_side<R: Rng + Drop>(
     a: &mut WatchedSocket<R>,
     b: &mut WatchedSocket<R>,
-    step: &Step,
+    act: &Act,
 ) -> Result<Reply, SocketFault>
     requires a { a.old.socket.view.events ≡ [] }
     requires b { b.old.socket.view.events ≡ [] }
-    ensures { MovesSide step.now (both a.old b.old) result (both a.new b.new) }
+    ensures { MovesSide (act_content act.now) (both a.old b.old) result (both a.new b.new) }
 {
-    match side_of(step) {
+    match side_of(act) {
         Side::A => {
-            let reply = a.work(&b.packets, step)?;
+            let reply = a.work(&b.packets, act)?;
             Ok(reply)
         }
         Side::B => {
-            let reply = b.work(&a.packets, step)?;
+            let reply = b.work(&a.packets, act)?;
             Ok(reply)
         }
     }
 }
 
-// Works a step, and keeps it and what comes of it. The errors are those of `move_side`, and want of
+// Works an act, and keeps it and what comes of it. The errors are those of `move_side`, and want of
 // memory for an association or the act, which isn't kept then.
 fn work<R: Rng + Drop>(
     a: &mut WatchedSocket<R>,
     b: &mut WatchedSocket<R>,
     acts: &mut Vec<Act>,
-    step: &Step,
+    act: Act,
 ) -> Result<Reply, SocketFault>
     requires a { a.old.socket.view.events ≡ [] }
     requires b { b.old.socket.view.events ≡ [] }
-    ensures { WorksStep step.now (world_of a.old b.old acts.old.items false) result
+    ensures { WorksAct (act_content act) (world_of a.old b.old acts.old.items false) result
         (world_of a.new b.new acts.new.items false) }
 {
-    let reply = move_side(a, b, step)?;
+    let reply = move_side(a, b, &act)?;
     a.keep_association()?;
     b.keep_association()?;
-    acts.push(Act::Step(*step))?;
+    acts.push(act)?;
     Ok(reply)
 }
 
@@ -130,7 +131,7 @@ impl<R: Rng + Drop> World<R> {
     /// says. The errors are `SocketFault::OutOfMemory`, where a growth of a socket or of the world was
     /// refused, and `SocketFault::Failed`, where one was before.
     pub fn apply(&mut self, step: &Step) -> Result<Reply, SocketFault>
-        ensures call { Applies step.now self.old result self.new }
+        ensures call { Applies (step_act (step_content step.now)) self.old result self.new }
         ensures agreement { OnOk result (Agrees (options_of self.old) self.new) }
         ensures handshake { OnOk result (HandshakeConnects (options_of self.old) self.new) }
         ensures options { OnOk result (options_of self.new ≡ options_of self.old) }
@@ -140,7 +141,7 @@ impl<R: Rng + Drop> World<R> {
             return Err(SocketFault::Failed);
         }
         socket_laws();
-        match work(&mut self.a, &mut self.b, &mut self.acts, step) {
+        match work(&mut self.a, &mut self.b, &mut self.acts, Act::Step(*step)) {
             Ok(reply) => Ok(reply),
             Err(_) => {
                 self.failed = true;
@@ -160,7 +161,7 @@ impl<R: Rng + Drop> World<R> {
     /// by an answer with its number (section 5.2.7). And the four packets of a handshake, delivered in
     /// turn, connect two fresh sockets that fit each other (RFC 9260, section 5.1).
     pub fn run(&mut self, steps: &[Step]) -> Result<(), SocketFault>
-        ensures call { Runs steps.now self.old result self.new }
+        ensures call { Runs (map step_content steps.now) self.old result self.new }
         ensures agreement { OnOk result (Agrees (options_of self.old) self.new) }
         ensures handshake { OnOk result (HandshakeConnects (options_of self.old) self.new) }
     {
@@ -187,7 +188,7 @@ impl<R: Rng + Drop> World<R> {
 
     /// All that was applied, in order. It takes no memory.
     pub fn acts(&self) -> &[Act]
-        ensures { result.now ≡ self.now.acts }
+        ensures { map act_content result.now ≡ self.now.acts }
     {
         &self.acts
     }

@@ -1,10 +1,10 @@
 -- What a turn of the association takes from the rest of the endpoint. Over every run each of these may be
 -- anything, but that a drawn tag is fresh and that a cookie reads back as what its maker put in.
-use Rattle.std.specs.Prelude.{ℕ, Bool, Option, List, map}
+use Rattle.std.specs.Prelude.{ℕ, Bool, true, false, Option, None, List, [], map}
 use Rattle.dcsctp_machine.specs.declared.association.Pair.{Pair}
 use Rattle.dcsctp_machine.specs.Cause.{Cause}
 use Rattle.dcsctp_machine.specs.Packet.{Plain, Content, plain}
-use Rattle.dcsctp_machine.specs.Following.{Following}
+use Rattle.dcsctp_machine.specs.Following.{Following, next_chunk}
 use Rattle.dcsctp_machine.specs.Reconfiguration.{RequestedReset}
 
 abbrev pub plain_contents : List Plain → List Content
@@ -46,3 +46,25 @@ pub record Choices : Type 0 where
   -- packets that speak of no association, before a flush: HEARTBEAT ACK, ERROR, a fast retransmit
   pub plain : List (List Plain)
   pub filling : Filling
+
+-- no data, no acknowledgement, no reset
+abbrev pub nothing_to_send : Filling
+nothing_to_send = record { is_allowed = true; acknowledgements = []; reset = None; data_chunks = []; further = [] }
+
+-- the choices of an endpoint that has nothing to send, where each packet fits, and this pair is drawn
+abbrev pub idle_choices : Pair → Choices
+idle_choices drawn =
+    record {
+      drawn = drawn;
+      cookie = [];
+      tie = 0;
+      fits = true;
+      is_acknowledged = true;
+      is_reached = true;
+      is_violation = false;
+      causes = [];
+      tsn = 0;
+      following = next_chunk;
+      plain = [];
+      filling = nothing_to_send;
+    }

@@ -2,7 +2,8 @@ use Rattle.std.proofs.Common.{ℕ, List, Vec, refl, sym, subst, ◌∙◌}
 use Rattle.std.proofs.lemmas.Result.{err_from_is_err_and}
 use Rattle.std.specs.declared.alloc.Global.{Global}
 use Rattle.dcsctp_machine.specs.declared.schedule.Side.TheVariants as sides
-use Rattle.dcsctp_machine.specs.Sockets.{StepTurns}
+use Rattle.dcsctp_machine.specs.Schedule.{act_content}
+use Rattle.dcsctp_machine.specs.Sockets.{TurnsOfAct}
 use Rattle.dcsctp_world.specs.Growth.{Fails}
 use Rattle.dcsctp_world.specs.Parts.{packet_bytes, shown, both}
 use Rattle.dcsctp_world.proofs.Stopping.{fails_at}
@@ -13,8 +14,8 @@ returns-in_err-reply-in-A g c =
     let fault = c.in_err-reply-in-A.field-0.0 in
     let p = err_from_is_err_and c.from_residual.result c.from_residual.ensures.1 in
     rw (p.1, p.2)
-    (fails_at c.args.step.now sides.A fault (both c.args.a.now c.args.b.now) (both c.work.new.self c.args.b.now) (sym c.side_of.ensures ∙ c.in-A.is)
-    (subst (λ (bytes : List (Vec ℕ Global)). Fails (StepTurns c.args.a.now.socket.view.endpoint (packet_bytes bytes) c.args.step.now) (shown c.args.a.now) fault (shown c.work.new.self))
+    (fails_at (act_content c.args.act.now) sides.A fault (both c.args.a.now c.args.b.now) (both c.work.new.self c.args.b.now) (sym c.side_of.ensures ∙ c.in-A.is)
+    (subst (λ (bytes : List (Vec ℕ Global)). Fails (TurnsOfAct c.args.a.now.socket.view.endpoint (packet_bytes bytes) (act_content c.args.act.now)) (shown c.args.a.now) fault (shown c.work.new.self))
     c.deref.ensures.value c.in_err-reply-in-A.ensures) refl)
 
 pub returns-in_err-reply-in-B : goal.returns-in_err-reply-in-B
@@ -22,6 +23,6 @@ returns-in_err-reply-in-B g c =
     let fault = c.in_err-reply-in-B.field-0.0 in
     let p = err_from_is_err_and c.from_residual-in_err-reply-in-B.result c.from_residual-in_err-reply-in-B.ensures.1 in
     rw (p.1, p.2)
-    (fails_at c.args.step.now sides.B fault (both c.args.a.now c.args.b.now) (both c.args.a.now c.work-in-B.new.self) (sym c.side_of.ensures ∙ c.in-B.is)
-    (subst (λ (bytes : List (Vec ℕ Global)). Fails (StepTurns c.args.b.now.socket.view.endpoint (packet_bytes bytes) c.args.step.now) (shown c.args.b.now) fault (shown c.work-in-B.new.self))
+    (fails_at (act_content c.args.act.now) sides.B fault (both c.args.a.now c.args.b.now) (both c.args.a.now c.work-in-B.new.self) (sym c.side_of.ensures ∙ c.in-B.is)
+    (subst (λ (bytes : List (Vec ℕ Global)). Fails (TurnsOfAct c.args.b.now.socket.view.endpoint (packet_bytes bytes) (act_content c.args.act.now)) (shown c.args.b.now) fault (shown c.work-in-B.new.self))
     c.deref-in-B.ensures.value c.in_err-reply-in-B.ensures) refl)

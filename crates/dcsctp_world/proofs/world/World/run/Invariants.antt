@@ -1,6 +1,7 @@
-use Rattle.std.proofs.Common.{take}
+use Rattle.std.proofs.Common.{take, map}
+use Rattle.dcsctp_machine.specs.Schedule.{step_content}
 use Rattle.dcsctp_world.specs.Acts.{Ran}
 use Rattle.dcsctp_world.proofs.world.World.run.Given as goal
 
 abbrev pub invariant-loop-step : goal.invariant-loop-step
-invariant-loop-step g l = Ran (take l.step-index l.steps) l.fn.self l.self
+invariant-loop-step g l = Ran (map step_content (take l.step-index l.steps)) l.fn.self l.self

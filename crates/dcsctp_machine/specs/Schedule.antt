@@ -1,0 +1,34 @@
+-- What is done to two sockets, by what it says: two acts that say the same are one, wherever they stand in memory.
+use Rattle.std.specs.Prelude.{ℕ}
+use Rattle.dcsctp_machine.specs.declared.schedule.Side.{Side}
+use Rattle.dcsctp_machine.specs.declared.schedule.Call.{Call}
+use Rattle.dcsctp_machine.specs.declared.schedule.Call.TheVariants as calls
+use Rattle.dcsctp_machine.specs.declared.schedule.Step.{Step}
+use Rattle.dcsctp_machine.specs.declared.schedule.Step.TheVariants as steps
+use Rattle.dcsctp_machine.specs.declared.schedule.Act.{Act}
+use Rattle.dcsctp_machine.specs.declared.schedule.Act.TheVariants as acts
+
+-- a call of a socket's user, with what it hands over
+pub data CallContent : Type 0 where
+  connect_call : CallContent
+
+-- a step of a schedule
+pub data StepContent : Type 0 where
+  -- the user of this socket calls
+  call_step : Side → CallContent → StepContent
+  -- this socket is handed the other's packet of this number, counted from 1
+  delivery_step : Side → ℕ → StepContent
+
+-- what was done: so far a step of a schedule
+pub data ActContent : Type 0 where
+  step_act : StepContent → ActContent
+
+abbrev pub call_content : Call → CallContent
+call_content calls.Connect = connect_call
+
+abbrev pub step_content : Step → StepContent
+step_content (steps.Call side call) = call_step side (call_content call)
+step_content (steps.Deliver side number) = delivery_step side number
+
+abbrev pub act_content : Act → ActContent
+act_content (acts.Step step) = step_act (step_content step)
