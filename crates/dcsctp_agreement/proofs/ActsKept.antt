@@ -10,6 +10,7 @@ use Rattle.dcsctp_machine.specs.Following.{next_chunk}
 use Rattle.dcsctp_machine.specs.control.Effect.{Effect}
 use Rattle.dcsctp_machine.specs.control.Choices.{Choices}
 use Rattle.dcsctp_machine.specs.control.FlushChanges.{further_packets, flush, reset_request}
+use Rattle.dcsctp_machine.specs.Cause.{causes_of}
 use Rattle.dcsctp_machine.specs.control.Acts.{Act, connect, t1_expires, shut_down, step_of_shutdown, shutdown_repeats, abort_with, flushes, request_again, hands_over, sent_by, hand_over_change_in, hand_over_change, flush_change, request_sent, request_again_change, act_change}
 use Rattle.dcsctp_machine.specs.Past.{HasFreshTags}
 use Rattle.dcsctp_machine.specs.World.{after_effects}
@@ -96,7 +97,7 @@ act_kept options their_offer mine theirs core (t1_expires false) choices past h 
 act_kept options their_offer mine theirs core shut_down choices past h fresh = call_kept (offer_of options) their_offer mine theirs core choices.tsn choices.is_acknowledged h
 act_kept options their_offer mine theirs core step_of_shutdown choices past h fresh = step_kept (offer_of options) their_offer mine theirs core choices.tsn choices.is_acknowledged h
 act_kept options their_offer mine theirs core shutdown_repeats choices past h fresh = again_kept (offer_of options) their_offer mine theirs core choices.tsn h
-act_kept options their_offer mine theirs core (abort_with causes) choices past h fresh = aborts_kept (offer_of options) their_offer mine theirs core causes choices.fits h
+act_kept options their_offer mine theirs core (abort_with reason) choices past h fresh = aborts_kept (offer_of options) their_offer mine theirs core (causes_of reason) choices.fits h
 act_kept options their_offer mine theirs core flushes choices past h fresh = flush_kept (offer_of options) their_offer mine theirs core choices h
 act_kept options their_offer mine theirs core (request_again reset) choices past h fresh = request_kept (offer_of options) their_offer mine theirs core reset choices.fits h
 act_kept options their_offer mine theirs core hands_over choices past h fresh = hand_over_kept (offer_of options) their_offer mine theirs core h

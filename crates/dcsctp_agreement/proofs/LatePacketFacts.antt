@@ -1,9 +1,10 @@
 -- Outside examples of packets of an attempt that is over, computed by the definitions: an old COOKIE ECHO, and
 -- a late COOKIE ACK. A wrong rule in specs/ would not check here.
-use Rattle.std.proofs.Common.{◌≡◌, ℕ, false, Some, List, [], ◌∷◌, inl, inr, refl, ap, ◌∙◌, arith}
+use Rattle.std.proofs.Common.{◌≡◌, ℕ, false, Some, List, [], ◌∷◌, inl, inr, refl, ap, ◌∙◌, arith, codes}
 use Rattle.dcsctp_machine.specs.declared.association.Pair.{Pair}
 use Rattle.dcsctp_machine.specs.declared.options.Options.{Options}
 use Rattle.dcsctp_machine.specs.Cookie.{cookie_bytes, cookie_at}
+use Rattle.dcsctp_machine.specs.declared.ends.AbortReason.TheVariants.{CloseCalled}
 use Rattle.dcsctp_machine.specs.Cause.{user_initiated_abort}
 use Rattle.dcsctp_machine.specs.Packet.{Content, init, init_ack, cookie_echo, cookie_ack, abort}
 use Rattle.dcsctp_machine.specs.Endpoint.{closed, established, open_in}
@@ -19,7 +20,7 @@ use Rattle.dcsctp_agreement.proofs.ScheduleFacts.{one, two, new_two, first_cooki
 
 -- an ABORT without a text
 abbrev aborted : Content
-aborted = abort false (user_initiated_abort [] ∷ [])
+aborted = abort false (user_initiated_abort (codes "Close called") ∷ [])
 
 -- ---- an old cookie
 
@@ -27,8 +28,8 @@ aborted = abort false (user_initiated_abort [] ∷ [])
 abbrev replay : List Doing
 replay =
     gets at_b 9 (cookie_echo first_cookie) plain
-    ∷ acts at_b (abort_with (user_initiated_abort [] ∷ [])) plain
-    ∷ acts at_a (abort_with (user_initiated_abort [] ∷ [])) plain
+    ∷ acts at_b (abort_with CloseCalled) plain
+    ∷ acts at_a (abort_with CloseCalled) plain
     ∷ four_packets
 
 replay_goes : (a b : Options) → GoesOn a b replay
@@ -88,7 +89,7 @@ late_ack =
     ∷ gets at_a 7 (init_ack (introduction new_two) (Some second_cookie)) plain
     ∷ gets at_b 0 (init (introduction again)) (with_cookie new_two second_cookie)
     ∷ acts at_a connect (with_drawn again)
-    ∷ acts at_a (abort_with (user_initiated_abort [] ∷ [])) plain
+    ∷ acts at_a (abort_with CloseCalled) plain
     ∷ gets at_b 9 (cookie_echo first_cookie) plain
     ∷ gets at_a 7 (init_ack (introduction two) (Some first_cookie)) plain
     ∷ gets at_b 0 (init (introduction one)) (with_cookie two first_cookie)

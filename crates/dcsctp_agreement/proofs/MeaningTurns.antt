@@ -5,7 +5,7 @@ use Rattle.dcsctp_machine.specs.declared.association.Held.{Held}
 use Rattle.dcsctp_machine.specs.declared.options.Options.{Options}
 use Rattle.dcsctp_wire.specs.Numbers.{state_cookie_type}
 use Rattle.dcsctp_machine.specs.Cookie.{Cookie, cookie_at}
-use Rattle.dcsctp_machine.specs.Cause.{missing_mandatory_parameter}
+use Rattle.dcsctp_machine.specs.Cause.{missing_mandatory_parameter, causes_of}
 use Rattle.dcsctp_machine.specs.Reconfiguration.{ResetParameter, RequestedReset}
 use Rattle.dcsctp_machine.specs.Packet.{Introduction, Content, init, init_ack, cookie_echo, cookie_ack, re_config, abort, shutdown, shutdown_ack, shutdown_complete, plain}
 use Rattle.dcsctp_machine.specs.Endpoint.{Core, closed, cookie_wait, cookie_echoed, open_in, OpenPhase, established, shutdown_ack_sent}
@@ -166,7 +166,7 @@ act_meant options core (t1_expires false) choices = t1_gives_up_meant core
 act_meant options core shut_down choices = call_meant core choices.tsn choices.is_acknowledged
 act_meant options core step_of_shutdown choices = step_meant core choices.tsn choices.is_acknowledged
 act_meant options core shutdown_repeats choices = again_meant core choices.tsn
-act_meant options core (abort_with causes) choices = aborts_meant core causes choices.fits
+act_meant options core (abort_with reason) choices = aborts_meant core (causes_of reason) choices.fits
 act_meant options core hands_over choices = hand_over_meant core
 act_meant options core flushes choices = flush_meant core choices
 act_meant options core (request_again reset) choices = request_again_meant core reset choices.fits

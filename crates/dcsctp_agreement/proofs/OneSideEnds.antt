@@ -4,7 +4,7 @@ use Rattle.dcsctp_machine.specs.declared.association.Pair.{Pair}
 use Rattle.dcsctp_machine.specs.declared.association.Held.{Held}
 use Rattle.dcsctp_machine.specs.declared.options.Options.{Options}
 use Rattle.dcsctp_machine.specs.Cookie.{Cookie, cookie_at}
-use Rattle.dcsctp_machine.specs.Cause.{Cause}
+use Rattle.dcsctp_machine.specs.Cause.{Cause, causes_of}
 use Rattle.dcsctp_machine.specs.Reconfiguration.{ResetParameter, RequestedReset}
 use Rattle.dcsctp_machine.specs.Packet.{Introduction, Content, init, init_ack, cookie_echo, cookie_ack, re_config, abort, shutdown, shutdown_ack, shutdown_complete, plain}
 use Rattle.dcsctp_machine.specs.Endpoint.{Core, closed, cookie_wait, cookie_echoed, open_in, OpenPhase, established, shutdown_pending, shutdown_sent, shutdown_received, shutdown_ack_sent}
@@ -195,7 +195,7 @@ act_ends_once options core (t1_expires false) choices = t1_gives_up_ends_once co
 act_ends_once options core shut_down choices = call_ends_once core choices.tsn choices.is_acknowledged
 act_ends_once options core step_of_shutdown choices = step_ends_once core choices.tsn choices.is_acknowledged
 act_ends_once options core shutdown_repeats choices = again_ends_once core choices.tsn
-act_ends_once options core (abort_with causes) choices = aborts_ends_once core causes choices.fits
+act_ends_once options core (abort_with reason) choices = aborts_ends_once core (causes_of reason) choices.fits
 act_ends_once options core hands_over choices = hand_over_ends_once core
 act_ends_once options core flushes choices = flush_ends_once core choices
 act_ends_once options core (request_again reset) choices = request_again_ends_once core reset choices.fits

@@ -4,7 +4,7 @@ use Rattle.dcsctp_machine.specs.declared.association.Pair.{Pair}
 use Rattle.dcsctp_machine.specs.declared.association.Held.{Held}
 use Rattle.dcsctp_machine.specs.declared.options.Options.{Options}
 use Rattle.dcsctp_machine.specs.Cookie.{cookie_at}
-use Rattle.dcsctp_machine.specs.Cause.{Cause}
+use Rattle.dcsctp_machine.specs.Cause.{Cause, causes_of}
 use Rattle.dcsctp_machine.specs.Reconfiguration.{ResetParameter, RequestedReset}
 use Rattle.dcsctp_machine.specs.Packet.{Content, init, init_ack, cookie_echo, cookie_ack, re_config, abort, shutdown, shutdown_ack, shutdown_complete, plain}
 use Rattle.dcsctp_machine.specs.Endpoint.{Core, closed, cookie_wait, cookie_echoed, open_in, OpenPhase, established, shutdown_pending, shutdown_sent, shutdown_received, shutdown_ack_sent}
@@ -106,7 +106,7 @@ act_keeps options core (t1_expires false) choices past good = t1_gives_up_keeps 
 act_keeps options core shut_down choices past good = call_keeps core choices.tsn choices.is_acknowledged past good
 act_keeps options core step_of_shutdown choices past good = step_keeps core choices.tsn choices.is_acknowledged past good
 act_keeps options core shutdown_repeats choices past good = again_keeps core choices.tsn past good
-act_keeps options core (abort_with causes) choices past good = aborts_keeps core causes choices.fits past good
+act_keeps options core (abort_with reason) choices past good = aborts_keeps core (causes_of reason) choices.fits past good
 act_keeps options core hands_over choices past good = hand_over_keeps core past good
 act_keeps options core flushes choices past good = flush_keeps core choices past good
 act_keeps options core (request_again reset) choices past good = request_again_keeps core reset choices.fits past good

@@ -1,9 +1,10 @@
 -- Outside examples of whole handshakes, computed by the definitions: a wrong rule in specs/ would not check
 -- here.
-use Rattle.std.proofs.Common.{◌≡◌, ℕ, false, Some, List, [], ◌∷◌, inl, refl, arith}
+use Rattle.std.proofs.Common.{◌≡◌, ℕ, false, Some, List, [], ◌∷◌, inl, refl, arith, codes}
 use Rattle.dcsctp_machine.specs.declared.association.Pair.{Pair}
 use Rattle.dcsctp_machine.specs.declared.options.Options.{Options}
 use Rattle.dcsctp_machine.specs.Cookie.{cookie_bytes, cookie_at}
+use Rattle.dcsctp_machine.specs.declared.ends.AbortReason.TheVariants.{CloseCalled}
 use Rattle.dcsctp_machine.specs.Cause.{user_initiated_abort}
 use Rattle.dcsctp_machine.specs.Packet.{init, init_ack, cookie_echo, cookie_ack, abort}
 use Rattle.dcsctp_machine.specs.Endpoint.{established, open_in}
@@ -96,7 +97,7 @@ restart_echoed =
     gets at_a 17 (init_ack (introduction new_two) (Some restart_cookie)) plain
     ∷ gets at_b 0 (init (introduction new_one)) (with_cookie new_two restart_cookie)
     ∷ acts at_a connect (with_drawn new_one)
-    ∷ acts at_a (abort_with (user_initiated_abort [] ∷ [])) plain
+    ∷ acts at_a (abort_with CloseCalled) plain
     ∷ four_packets
 
 abbrev restart : List Doing
@@ -131,7 +132,7 @@ restart_end : (a b : Options) → end_of a b restart
           connects (link new_one new_two)
           ∷ sends (packet 19 (cookie_echo restart_cookie)) ∷ holds (link new_one new_two)
           ∷ sends (packet 0 (init (introduction new_one))) ∷ draws new_one
-          ∷ ends ∷ sends (packet 9 (abort false (user_initiated_abort [] ∷ [])))
+          ∷ ends ∷ sends (packet 9 (abort false (user_initiated_abort (codes "Close called") ∷ [])))
           ∷ connects (link one two)
           ∷ sends (packet 9 (cookie_echo first_cookie)) ∷ holds (link one two)
           ∷ sends (packet 0 (init (introduction one))) ∷ draws one

@@ -3,11 +3,12 @@ use Rattle.std.specs.Prelude.{◌≡◌, ℕ, Bool, true, false, Option, Some, N
 use Rattle.dcsctp_machine.specs.Settings.{Ports, ports_of}
 use Rattle.dcsctp_machine.specs.declared.association.Pair.{Pair}
 use Rattle.dcsctp_machine.specs.declared.word.Word.{Word}
+use Rattle.dcsctp_machine.specs.declared.ends.AbortReason.TheVariants.{CloseCalled}
 use Rattle.dcsctp_machine.specs.Event.{Event, event_map}
 use Rattle.dcsctp_machine.specs.Packet.{Emission, emission_bytes}
 use Rattle.dcsctp_machine.specs.Endpoint.{Endpoint, Core, closed, cookie_wait, cookie_echoed, open_in, OpenPhase, established, shutdown_pending, shutdown_sent, shutdown_received, shutdown_ack_sent}
 use Rattle.dcsctp_machine.specs.Turn.{act_input}
-use Rattle.dcsctp_machine.specs.control.Acts.{connect}
+use Rattle.dcsctp_machine.specs.control.Acts.{Act, connect, abort_with}
 use Rattle.dcsctp_machine.specs.CallTurns.{Turned, Turns, HandleInput, CutInput, after_all, words_of, pairs_of, events_of}
 use Rattle.dcsctp_api.specs.declared.errors.SocketFault.{SocketFault}
 use Rattle.dcsctp_api.specs.declared.errors.SocketFault.TheVariants.{OutOfMemory, Failed}
@@ -69,11 +70,21 @@ pub record FailsWhole (old new : UserView) : Type 0 where
   pub runs : old.failed ≡ false
   pub only : new ≡ record old { words = new.words; pairs = new.pairs; failed = true }
 
+-- The call is the turn of this act.
+abbrev pub Makes : Act → UserView → UserView → Type 0
+Makes act old new = (turns : List Turned) × Turns old.endpoint (act_input act ∷ []) turns × Follows old turns new
+
 -- The call is one turn, or it changes nothing.
 abbrev pub Connects : UserView → Result (Unit {0}) SocketFault → UserView → Type 0
-Connects old (Ok done) new = (turns : List Turned) × Turns old.endpoint (act_input connect ∷ []) turns × Follows old turns new
+Connects old (Ok done) new = Makes connect old new
 Connects old (Err OutOfMemory) new = FailsWhole old new
 Connects old (Err Failed) new = StaysFailed old new
+
+-- The call is one turn; or a growth was refused, and the first of its events may stand.
+abbrev pub Closes : UserView → Result (Unit {0}) SocketFault → UserView → Type 0
+Closes old (Ok done) new = Makes (abort_with CloseCalled) old new
+Closes old (Err OutOfMemory) new = RanOut old (Turns old.endpoint (act_input (abort_with CloseCalled) ∷ [])) new
+Closes old (Err Failed) new = StaysFailed old new
 
 -- The event that was added first is taken, and nothing else changes.
 abbrev pub PollsEvent : UserView → Option SocketEvent → UserView → Type 0

@@ -1,7 +1,7 @@
 //! The calls of a socket.
 
-ghost use Rattle.std.specs.Prelude.{◌≡◌, false, IsOk};
-ghost use Rattle.dcsctp_api.specs.Calls.{UserView, PollsEvent, HandlesInput, Connects, is_closed, socket_state_of};
+ghost use Rattle.std.specs.Prelude.{◌≡◌, true, false, IsOk};
+ghost use Rattle.dcsctp_api.specs.Calls.{UserView, PollsEvent, HandlesInput, Connects, Closes, is_closed, socket_state_of};
 
 use crate::errors::SocketFault;
 use crate::events::SocketEvent;
@@ -35,6 +35,14 @@ pub trait DcSctpSocket {
         ensures call { Connects (user_view self.old) result (user_view self.new) }
         ensures open { (user_view self.old).failed ≡ false
             → is_closed (user_view self.old).endpoint.core ≡ false → IsOk result };
+
+    /// Ends the association at once (RFC 9260, section 9.1): where a peer is held an ABORT goes out, if it
+    /// fits `mtu`, and `SocketEvent::OnClosed` is the last event. On a closed socket it answers `Ok`,
+    /// changes nothing and takes no memory.
+    fn close(&mut self) -> Result<(), SocketFault>
+        ensures call { Closes (user_view self.old) result (user_view self.new) }
+        ensures closed { (user_view self.old).failed ≡ false
+            → is_closed (user_view self.old).endpoint.core ≡ true → IsOk result };
 
     /// The state of the association.
     fn state(&self) -> SocketState

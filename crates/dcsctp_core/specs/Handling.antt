@@ -7,14 +7,13 @@ use Rattle.dcsctp_machine.specs.declared.kinds.ErrorKind.{ErrorKind}
 use Rattle.dcsctp_machine.specs.declared.kinds.ErrorKind.TheVariants.{NoError}
 use Rattle.dcsctp_machine.specs.Settings.{packet_size_limit}
 use Rattle.dcsctp_machine.specs.Packet.{Emission}
-use Rattle.dcsctp_machine.specs.Cause.{Cause}
 use Rattle.dcsctp_machine.specs.Event.{Event, sent, aborted}
 use Rattle.dcsctp_machine.specs.Event as events
 use Rattle.dcsctp_machine.specs.Outcome.{Outcome, still, counted, reports}
 use Rattle.dcsctp_machine.specs.Following.{next_chunk, dropped_rest}
 use Rattle.dcsctp_machine.specs.Following as machine
 use Rattle.dcsctp_machine.specs.Turn.{arrival_outcome}
-use Rattle.dcsctp_machine.specs.turns.EndOutcomes.{close_outcome, abort_outcome}
+use Rattle.dcsctp_machine.specs.turns.EndOutcomes.{close_outcome}
 use Rattle.dcsctp_core.specs.declared.following.Following.{Following}
 use Rattle.dcsctp_core.specs.declared.following.Following.TheVariants.{NextChunk, DroppedRest}
 use Rattle.dcsctp_core.specs.declared.context.Context.{Context}
@@ -83,10 +82,6 @@ end_event kind text = aborted kind text
 -- An association ends with this event; where there is none, nothing happens.
 abbrev pub close_turn : {R : Type 0} → Event Emission → View R → Outcome
 close_turn event view = close_outcome view.endpoint view.endpoint.core event
-
--- An ABORT with these causes came.
-abbrev pub abort_turn : {R : Type 0} → List Cause → View R → Outcome
-abort_turn causes view = abort_outcome view.endpoint causes view.endpoint.core
 
 -- Its bytes are one event more, and it is counted: what a chunk brings that fits in `mtu`.
 abbrev pub emitted : {R : Type 0} → Bool → ℕ → ChunkContent → View R → View R

@@ -1,8 +1,6 @@
-//! The core of a socket: its state, what all handlers share, and the handler of ABORT, which ends an
-//! association.
+//! The core of a socket: its state, and what all handlers share.
 #![tactic(auto)]
 
-mod abort;
 mod context;
 mod ending;
 mod flush;
@@ -10,7 +8,6 @@ mod following;
 mod state;
 mod transmission_control_block;
 
-pub use abort::handle_abort;
 pub use context::Context;
 pub use following::Following;
 pub use state::{CookieEchoState, CookieWaitState, State};

@@ -10,12 +10,12 @@ use Rattle.dcsctp_machine.specs.declared.word.Word.TheVariants.{U32}
 use Rattle.dcsctp_machine.specs.Cookie.{cookie_bytes}
 use Rattle.dcsctp_machine.specs.Packet.{Introduction, Content, init, init_ack, cookie_echo, cookie_ack, re_config, abort, shutdown, shutdown_ack, shutdown_complete, plain}
 use Rattle.dcsctp_machine.specs.Endpoint.{Endpoint, Core, closed, cookie_wait, cookie_echoed, open_in, established, shutdown_pending, shutdown_sent, shutdown_received, shutdown_ack_sent}
-use Rattle.dcsctp_machine.specs.Outcome.{Outcome, still, count_up, fits, emits, drawing}
+use Rattle.dcsctp_machine.specs.Outcome.{Outcome, still, count_up, fits, to_peer, emits, drawing}
 use Rattle.dcsctp_machine.specs.Following.{next_chunk}
 use Rattle.dcsctp_machine.specs.Event.{sent}
 use Rattle.dcsctp_machine.specs.declared.options.Options.{Options}
 use Rattle.dcsctp_machine.specs.Turn.{BeginTurn}
-use Rattle.dcsctp_machine.specs.turns.HandshakeOutcomes.{pair_from, renewed_pair, renewed_outcome, cookie_for, init_ack_for, init_ack_emission, answer_outcome, to_peer, init_outcome}
+use Rattle.dcsctp_machine.specs.turns.HandshakeOutcomes.{pair_from, renewed_pair, renewed_outcome, cookie_for, init_ack_for, init_ack_emission, answer_outcome, init_outcome}
 use Rattle.dcsctp_machine.specs.control.Effect.{Effect, draws, unchanged, emitted_alone}
 use Rattle.dcsctp_machine.specs.control.Choices.{Choices}
 use Rattle.dcsctp_machine.specs.control.HandshakeChanges.{IsCookieOf}
@@ -24,7 +24,7 @@ use Rattle.dcsctp_machine.specs.Controlled.{IsControlled, ControlledChunk, Contr
 use Rattle.dcsctp_machine.specs.Laws.{FitsPair, FitsOwn, FitsAnswer, ChunksAreControlled, ActsAreControlled, StandsBefore}
 use Rattle.dcsctp_machine.proofs.PlainLemmas.{plain_controlled}
 use Rattle.dcsctp_machine.proofs.LawLemmas.{names_read_back}
-use Rattle.dcsctp_machine.proofs.ControlHandshake.{choices_of, ControlledAt, still_controlled, init_ack_controlled, cookie_ack_controlled, abort_controlled, connect_controlled}
+use Rattle.dcsctp_machine.proofs.ControlHandshake.{choices_of, ControlledAt, still_controlled, init_ack_controlled, cookie_ack_controlled, abort_controlled, aborting_controlled, connect_controlled}
 use Rattle.dcsctp_machine.proofs.ControlEcho.{cookie_echo_controlled}
 
 -- ---- an INIT
@@ -180,7 +180,7 @@ acts_are_controlled e (t1_expires again) o turn = turn
 acts_are_controlled e shut_down o turn = turn
 acts_are_controlled e step_of_shutdown o turn = turn
 acts_are_controlled e shutdown_repeats o turn = turn
-acts_are_controlled e (abort_with causes) o turn = turn
+acts_are_controlled e (abort_with reason) o turn = aborting_controlled e o reason turn
 acts_are_controlled e hands_over o turn = turn
 acts_are_controlled e flushes o turn = turn
 acts_are_controlled e (request_again reset) o turn = turn

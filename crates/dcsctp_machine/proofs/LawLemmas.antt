@@ -8,11 +8,11 @@ use Rattle.dcsctp_wire.specs.Format.{u16_at, u32_at}
 use Rattle.dcsctp_machine.specs.declared.word.Word.{Word}
 use Rattle.dcsctp_machine.specs.Packet.{Introduction, shutdown_ack, Emission}
 use Rattle.dcsctp_machine.specs.Endpoint.{Endpoint, Core, closed, cookie_wait, cookie_echoed, open_in, established, shutdown_pending, shutdown_sent, shutdown_received, shutdown_ack_sent}
-use Rattle.dcsctp_machine.specs.Outcome.{Outcome, count_up, fits, emits}
+use Rattle.dcsctp_machine.specs.Outcome.{Outcome, count_up, fits, emits, to_peer}
 use Rattle.dcsctp_machine.specs.Following.{next_chunk}
 use Rattle.dcsctp_machine.specs.Event.{sent}
 use Rattle.dcsctp_machine.specs.declared.word.Word.TheVariants.{U32}
-use Rattle.dcsctp_machine.specs.turns.HandshakeOutcomes.{init_outcome, init_ack_emission, pair_from, renewed_pair, to_peer}
+use Rattle.dcsctp_machine.specs.turns.HandshakeOutcomes.{init_outcome, init_ack_emission, pair_from, renewed_pair}
 use Rattle.dcsctp_machine.specs.Laws.{NegotiationIsMutual, AnswerKeepsAgreement, FitsNames, CookieReadsBack, InitLeavesAssociation, CountsSentOnly, AtMostOnePacket, no_packet, one_packet, InitBringsOnePacket}
 
 and_comm : (a b : Bool) → a && b ≡ b && a

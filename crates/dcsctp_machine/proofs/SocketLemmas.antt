@@ -3,14 +3,15 @@ use Rattle.std.proofs.Common.{◌≡◌, ℕ, Bool, Option, None, Some, List, []
 use Rattle.dcsctp_machine.specs.declared.options.Options.{Options}
 use Rattle.dcsctp_machine.specs.declared.schedule.Side.{Side}
 use Rattle.dcsctp_machine.specs.declared.schedule.Side.TheVariants as sides
-use Rattle.dcsctp_machine.specs.Schedule.{connect_call, StepContent, call_step, delivery_step, ActContent, step_act}
+use Rattle.dcsctp_machine.specs.declared.ends.AbortReason.TheVariants.{CloseCalled}
+use Rattle.dcsctp_machine.specs.Schedule.{connect_call, close_call, StepContent, call_step, delivery_step, ActContent, step_act}
 use Rattle.dcsctp_machine.specs.Packet.{Content, Packet, packet_in}
 use Rattle.dcsctp_machine.specs.Admission.{Admission, all_chunks, shutdown_acks_alone, refused, admits, shutdown_acks_in}
 use Rattle.dcsctp_machine.specs.Settings.{SameOptions}
 use Rattle.dcsctp_machine.specs.Endpoint.{Endpoint, Core, fresh_endpoint}
 use Rattle.dcsctp_machine.specs.Outcome.{Outcome}
 use Rattle.dcsctp_machine.specs.Following.{Following, next_chunk, packet_end, dropped_rest}
-use Rattle.dcsctp_machine.specs.control.Acts.{Act, connect, shutdown_repeats}
+use Rattle.dcsctp_machine.specs.control.Acts.{Act, connect, shutdown_repeats, abort_with}
 use Rattle.dcsctp_machine.specs.Controlled.{ControlledAct}
 use Rattle.dcsctp_machine.specs.Turn.{Input, arrival, refusal, packet_begins, chunk_input, packet_ends, act_input, Turn, BeginTurn, has_data, unreadable_text}
 use Rattle.dcsctp_machine.specs.CallTurns.{Turned, Turns, AfterChunk, ChunkTurns, WholeTurns, AdmittedTurns, HandleInput, unreadable, readable, after_all}
@@ -88,6 +89,7 @@ delivery_keeps e (Some bytes) ts turns = input_keeps e bytes ts turns
 
 step_keeps : (e : Endpoint) (packets : List (List ℕ)) (step : StepContent) (ts : List Turned) → StepTurns e packets step ts → KeptBy e ts
 step_keeps e packets (call_step side connect_call) ts turns = turns_keep e (act_input connect ∷ []) ts turns
+step_keeps e packets (call_step side close_call) ts turns = turns_keep e (act_input (abort_with CloseCalled) ∷ []) ts turns
 step_keeps e packets (delivery_step side number) ts turns = delivery_keeps e (numbered number packets) ts turns
 
 act_keeps : (e : Endpoint) (packets : List (List ℕ)) (act : ActContent) (ts : List Turned) → TurnsOfAct e packets act ts → KeptBy e ts

@@ -1,10 +1,14 @@
 -- Why an association is aborted, or what was wrong with a packet: error causes (RFC 9260, section 3.3.10).
-use Rattle.std.specs.Prelude.{ℕ, List, []}
+use Rattle.std.specs.Prelude.{ℕ, List, [], ◌∷◌, codes}
 use Rattle.std.specs.List.{flat_map}
 use Rattle.std.specs.Int.{w16, to_be_bytes}
 use Rattle.dcsctp_wire.specs.Content.{CauseContent, unknown_cause}
 use Rattle.dcsctp_wire.specs.Content as wire
 use Rattle.dcsctp_wire.specs.Spelling.{as_parameter, parameter_bytes}
+use Rattle.dcsctp_machine.specs.declared.ends.Violation.{Violation}
+use Rattle.dcsctp_machine.specs.declared.ends.Violation.TheVariants.{DataWithInterleaving, InterleavedDataWithout, ForwardTsnWithout}
+use Rattle.dcsctp_machine.specs.declared.ends.AbortReason.{AbortReason}
+use Rattle.dcsctp_machine.specs.declared.ends.AbortReason.TheVariants as reasons
 
 abbrev pub Cause : Type 0
 Cause = CauseContent
@@ -28,3 +32,23 @@ protocol_violation text = unknown_cause 13 text
 -- a cause with its padding, as it stands in a chunk
 abbrev pub cause_bytes : Cause → List ℕ
 cause_bytes cause = parameter_bytes (as_parameter cause)
+
+-- ---- why a socket aborts its association
+
+-- what was broken
+abbrev pub violation_text : Violation → List ℕ
+violation_text DataWithInterleaving = codes "DATA/FORWARD-TSN chunk received when message interleaving is negotiated"
+violation_text InterleavedDataWithout = codes "I-DATA/I-FORWARD-TSN chunk received when message interleaving is not negotiated"
+violation_text ForwardTsnWithout = codes "FORWARD-TSN/I-FORWARD-TSN chunk received when partial reliability is not negotiated"
+
+-- what is said of it, to the peer and in the event that ends the association
+abbrev pub reason_text : AbortReason → List ℕ
+reason_text reasons.CloseCalled = codes "Close called"
+reason_text (reasons.Violation violation) = violation_text violation
+reason_text reasons.TooManyErrors = codes "Too many retransmissions"
+
+-- the causes in the ABORT that the peer gets
+abbrev pub causes_of : AbortReason → List Cause
+causes_of reasons.CloseCalled = user_initiated_abort (reason_text reasons.CloseCalled) ∷ []
+causes_of (reasons.Violation violation) = protocol_violation (reason_text (reasons.Violation violation)) ∷ []
+causes_of reasons.TooManyErrors = user_initiated_abort (reason_text reasons.TooManyErrors) ∷ []

@@ -1,8 +1,9 @@
 -- What one turn leaves: the words that it drew, what happened to the association, the endpoint after it, and its events
 -- in order.
-use Rattle.std.specs.Prelude.{ℕ, Bool, ◌+◌, ◌-◌, ◌^◌, min, List, [], ◌∷◌, ◌++◌, length, nat_le, if◌then◌else◌}
+use Rattle.std.specs.Prelude.{◌==◌, ℕ, Bool, ◌+◌, ◌-◌, ◌^◌, min, List, [], ◌∷◌, ◌++◌, length, nat_le, if◌then◌else◌}
 use Rattle.std.specs.List.{flat_map}
 use Rattle.dcsctp_machine.specs.declared.association.Pair.{Pair}
+use Rattle.dcsctp_machine.specs.declared.association.Held.{Held}
 use Rattle.dcsctp_machine.specs.declared.word.Word.{Word}
 use Rattle.dcsctp_machine.specs.declared.kinds.ErrorKind.{ErrorKind}
 use Rattle.dcsctp_machine.specs.Settings.{packet_size_limit}
@@ -33,6 +34,14 @@ count_up count = min (count + 1) (2 ^ 64 - 1)
 -- one OnError, and no change
 abbrev pub reports : Endpoint → ErrorKind → List ℕ → Outcome
 reports e kind text = record { words = []; effects = []; after = e; events = error kind text ∷ []; following = next_chunk }
+
+-- a packet of one control chunk under the peer's tag
+abbrev pub to_peer : Held → Content → Emission
+to_peer held content =
+    record {
+      with_checksum = held.capabilities.zero_checksum_method.0 == 0;
+      packet = record { tag = held.peer.tag; contents = content ∷ [] };
+    }
 
 -- how long the chunks of a packet are
 abbrev pub contents_len : List Content → ℕ

@@ -11,6 +11,7 @@ use Rattle.dcsctp_machine.specs.declared.schedule.Act.TheVariants as acts
 -- a call of a socket's user, with what it hands over
 pub data CallContent : Type 0 where
   connect_call : CallContent
+  close_call : CallContent
 
 -- a step of a schedule
 pub data StepContent : Type 0 where
@@ -25,6 +26,7 @@ pub data ActContent : Type 0 where
 
 abbrev pub call_content : Call → CallContent
 call_content calls.Connect = connect_call
+call_content calls.Close = close_call
 
 abbrev pub step_content : Step → StepContent
 step_content (steps.Call side call) = call_step side (call_content call)

@@ -2,16 +2,17 @@
 use Rattle.std.specs.Prelude.{◌≡◌, ℕ, zero, suc, Option, None, Some, List, [], ◌∷◌, ◌++◌, map}
 use Rattle.std.specs.List.{slice_get}
 use Rattle.dcsctp_machine.specs.declared.association.Association.{Association}
+use Rattle.dcsctp_machine.specs.declared.ends.AbortReason.TheVariants.{CloseCalled}
 use Rattle.dcsctp_machine.specs.declared.options.Options.{Options}
 use Rattle.dcsctp_machine.specs.declared.schedule.Side.{Side}
 use Rattle.dcsctp_machine.specs.declared.schedule.Side.TheVariants as sides
-use Rattle.dcsctp_machine.specs.Schedule.{CallContent, connect_call, StepContent, call_step, delivery_step, ActContent, step_act}
+use Rattle.dcsctp_machine.specs.Schedule.{CallContent, connect_call, close_call, StepContent, call_step, delivery_step, ActContent, step_act}
 use Rattle.dcsctp_machine.specs.Settings.{ports_of}
 use Rattle.dcsctp_machine.specs.Event.{Event, event_map, packets_in}
 use Rattle.dcsctp_machine.specs.Packet.{emission_bytes}
 use Rattle.dcsctp_machine.specs.Endpoint.{Endpoint, fresh_endpoint, association_of}
 use Rattle.dcsctp_machine.specs.Turn.{act_input}
-use Rattle.dcsctp_machine.specs.control.Acts.{connect}
+use Rattle.dcsctp_machine.specs.control.Acts.{connect, abort_with}
 use Rattle.dcsctp_machine.specs.CallTurns.{Turned, Turns, HandleInput, after_all, events_of}
 
 -- ---- what a side shows
@@ -43,6 +44,7 @@ DeliveryTurns e (Some bytes) turns = HandleInput e bytes turns
 -- what comes of a user's call
 abbrev pub UserTurns : Endpoint → CallContent → List Turned → Type 0
 UserTurns e connect_call turns = Turns e (act_input connect ∷ []) turns
+UserTurns e close_call turns = Turns e (act_input (abort_with CloseCalled) ∷ []) turns
 
 abbrev pub side_of : StepContent → Side
 side_of (call_step side call) = side

@@ -6,7 +6,7 @@ use Rattle.dcsctp_machine.specs.Endpoint.{Endpoint, Core, open_in, shutdown_sent
 use Rattle.dcsctp_machine.specs.Outcome.{Outcome, still, count_up, reports}
 use Rattle.dcsctp_machine.specs.turns.HandshakeOutcomes.{InitTurn, ConnectTurn, InitAckTurn, CookieAckTurn}
 use Rattle.dcsctp_machine.specs.turns.CookieEchoOutcomes.{CookieEchoTurn}
-use Rattle.dcsctp_machine.specs.turns.EndOutcomes.{abort_outcome}
+use Rattle.dcsctp_machine.specs.turns.EndOutcomes.{abort_outcome, aborting_outcome}
 use Rattle.dcsctp_machine.specs.turns.PlainOutcomes.{PlainTurn}
 use Rattle.dcsctp_machine.specs.control.Acts.{Act, connect, t1_expires, shut_down, step_of_shutdown, shutdown_repeats, abort_with, hands_over, flushes, request_again}
 use Rattle.dcsctp_machine.specs.Controlled.{ControlledChunk, ControlledAct}
@@ -70,7 +70,7 @@ ActTurn e (t1_expires again) o = ControlledAct e (t1_expires again) o
 ActTurn e shut_down o = ControlledAct e shut_down o
 ActTurn e step_of_shutdown o = ControlledAct e step_of_shutdown o
 ActTurn e shutdown_repeats o = ControlledAct e shutdown_repeats o
-ActTurn e (abort_with causes) o = ControlledAct e (abort_with causes) o
+ActTurn e (abort_with reason) o = o ≡ aborting_outcome e e.core reason
 ActTurn e hands_over o = ControlledAct e hands_over o
 ActTurn e flushes o = ControlledAct e flushes o
 ActTurn e (request_again reset) o = ControlledAct e (request_again reset) o

@@ -4,6 +4,7 @@
 
 mod association;
 mod capabilities;
+mod ends;
 mod kinds;
 mod laws;
 mod options;
@@ -14,6 +15,7 @@ mod word;
 pub use association::{Association, Held, Pair, Phase};
 pub use capabilities::Capabilities;
 pub use dcsctp_wire::ReconfigurationResponseResult;
+pub use ends::{AbortReason, Violation};
 pub use kinds::{
     BackoffAlgorithm, ErrorKind, SctpImplementation,
     ZERO_CHECKSUM_ALTERNATE_ERROR_DETECTION_METHOD_LOWER_LAYER_DTLS,

@@ -15,6 +15,9 @@ pub enum Side {
 pub enum Call {
     /// It begins an association (RFC 9260, section 5.1).
     Connect,
+
+    /// It closes its association at once (RFC 9260, section 9.1).
+    Close,
 }
 
 /// A step of a schedule.

@@ -1,3 +1,4 @@
+mod Aborting
 mod Bytes
 mod Deliver
 mod Follow

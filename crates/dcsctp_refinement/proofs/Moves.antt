@@ -4,20 +4,22 @@ use Rattle.std.proofs.lemmas.List.{append-nil}
 use Rattle.std.specs.List.{AllByRecursion, slice_get}
 use Rattle.dcsctp_wire.specs.Format.{IsPacket}
 use Rattle.dcsctp_wire.specs.ReadsBack.{BuiltPacketReadsAsItself}
+use Rattle.dcsctp_machine.specs.declared.ends.AbortReason.{AbortReason}
+use Rattle.dcsctp_machine.specs.declared.ends.AbortReason.TheVariants.{CloseCalled}
 use Rattle.dcsctp_machine.specs.declared.options.Options.{Options}
-use Rattle.dcsctp_machine.specs.Schedule.{connect_call, StepContent, call_step, delivery_step}
+use Rattle.dcsctp_machine.specs.Schedule.{connect_call, close_call, StepContent, call_step, delivery_step}
 use Rattle.dcsctp_machine.specs.Settings.{SameOptions, FitsOptions, wire_options, ports_of}
 use Rattle.dcsctp_machine.specs.Packet.{Content, Packet, packet_in, emission_bytes}
 use Rattle.dcsctp_machine.specs.Endpoint.{Endpoint, Core, closed, cookie_wait, cookie_echoed, open_in, established, shutdown_pending, shutdown_sent, shutdown_received, shutdown_ack_sent, fresh_endpoint}
 use Rattle.dcsctp_machine.specs.Outcome.{Outcome, still}
-use Rattle.dcsctp_machine.specs.Turn.{Input, arrival, refusal, packet_ends, act_input, has_data, BeginTurn, unreadable_text, arrival_outcome, refusal_outcome}
+use Rattle.dcsctp_machine.specs.Turn.{Input, ActTurn, arrival, refusal, packet_ends, act_input, has_data, BeginTurn, unreadable_text, arrival_outcome, refusal_outcome}
 use Rattle.dcsctp_machine.specs.turns.HandshakeOutcomes.{ConnectTurn}
 use Rattle.dcsctp_machine.specs.CallTurns.{Turned, Turns, ChunkTurns, WholeTurns, AdmittedTurns, HandleInput, unreadable, readable, events_of}
 use Rattle.dcsctp_machine.specs.Admission.{Admission, all_chunks, shutdown_acks_alone, refused, admits, shutdown_acks_in}
 use Rattle.dcsctp_machine.specs.Controlled.{IsControlled}
 use Rattle.dcsctp_machine.specs.control.Effect.{Effect, sends, Change, unchanged}
 use Rattle.dcsctp_machine.specs.control.Choices.{Choices}
-use Rattle.dcsctp_machine.specs.control.Acts.{connect, act_change}
+use Rattle.dcsctp_machine.specs.control.Acts.{connect, abort_with, act_change}
 use Rattle.dcsctp_machine.specs.Laws.{IsRest, dropped, ended, AreChunks, OfferReadsBack, ActsAreControlled, PacketsAreControlled, AdmittedPacketsMayBeWorked}
 use Rattle.dcsctp_machine.specs.Past.{Has}
 use Rattle.dcsctp_machine.specs.World.{SideState, after_changes, acted, ChunkChanges, PacketChanges, worked_whole, worked_acks, Move, does, receives, MoveChanges, Moved, MovesMade, after_moves}
@@ -30,6 +32,7 @@ use Rattle.dcsctp_agreement.proofs.Alone.{packet_turns}
 use Rattle.dcsctp_refinement.proofs.Deliver.{IsSent, sent_at, reads_as_sent, Fits, ChunksFit, EndFits, chunk_turns_fit, nothing_ends, packet_end_fits, acks_sendable}
 use Rattle.dcsctp_refinement.proofs.Follow.{Went, Followed, after_last, follow_turns, follow_idle}
 use Rattle.dcsctp_refinement.proofs.TurnsFit.{connect_fits}
+use Rattle.dcsctp_refinement.proofs.Aborting.{aborting_fits}
 
 -- the laws below that the runs of sockets rest on
 pub record Below : Type 0 where
@@ -106,6 +109,30 @@ connect_moves : Below → (options : Options) (turns : List Turned) (side : Side
 connect_moves law options turns side theirs [] h turn = absurd turn
 connect_moves law options turns side theirs (t ∷ []) h turn = connected_by law options turns side theirs t h turn.0.comes
 connect_moves law options turns side theirs (t ∷ next ∷ more) h turn = absurd turn.1
+
+-- ---- close
+
+abort_at : Endpoint → AbortReason → Outcome → Options → Core → Choices → Type 0
+abort_at e reason o options core choices = IsControlled e o (act_change options core (abort_with reason) choices)
+
+aborted_by : Below → (options : Options) (turns : List Turned) (side : SideState) (theirs : List Effect) (reason : AbortReason) (t : Turned) → Followed options turns side
+    → ActTurn (endpoint_after options turns) (abort_with reason) t.outcome → SideMoves options turns side theirs (t ∷ [])
+unfolding abort_at
+aborted_by law options turns side theirs reason t h turn =
+    let e : Endpoint = endpoint_after options turns in
+    let controlled = law.acts e (abort_with reason) t.outcome turn in
+    let choices : Choices = controlled.0 in
+    let same : abort_at e reason t.outcome side.options side.core choices = subst (λ (core : Core). abort_at e reason t.outcome side.options core choices) (sym h.core) controlled.1 in
+    let change : Change = act_change side.options side.core (abort_with reason) choices in
+    let fits : TurnFits t.outcome = subst TurnFits (sym turn) (aborting_fits e e.core reason h.fits h.fits.core) in
+    moves_once options turns side theirs (t ∷ []) (does (abort_with reason)) (change ∷ []) (choices, refl)
+    (follow_turns law.effects_mean options turns side (t ∷ []) (change ∷ []) h (acted (abort_with reason) choices refl, tt) (same, tt) (fits, tt))
+
+abort_moves : Below → (options : Options) (turns : List Turned) (side : SideState) (theirs : List Effect) (reason : AbortReason) (more : List Turned) → Followed options turns side
+    → Turns (endpoint_after options turns) (act_input (abort_with reason) ∷ []) more → SideMoves options turns side theirs more
+abort_moves law options turns side theirs reason [] h turn = absurd turn
+abort_moves law options turns side theirs reason (t ∷ []) h turn = aborted_by law options turns side theirs reason t h turn.0.comes
+abort_moves law options turns side theirs reason (t ∷ next ∷ more) h turn = absurd turn.1
 
 -- ---- a packet that is counted, and one that is refused
 
@@ -270,6 +297,7 @@ pub step_moves : Below → (options other : Options) (turns others : List Turned
     → Followed options turns side → Followed other others theirs → FitsOptions other
     → StepTurns (endpoint_after options turns) (packets_shown other others) step more → SideMoves options turns side theirs.past more
 step_moves law options other turns others side theirs (call_step which connect_call) more h k fits done = connect_moves law options turns side theirs.past more h done
+step_moves law options other turns others side theirs (call_step which close_call) more h k fits done = abort_moves law options turns side theirs.past CloseCalled more h done
 step_moves law options other turns others side theirs (delivery_step which zero) more h k fits done = nothing_happens options turns side theirs.past more h done
 step_moves law options other turns others side theirs (delivery_step which (suc index)) more h k fits done =
     delivery_moves law options other turns others side theirs index (slice_get (packets_shown other others) index) more h k fits refl done

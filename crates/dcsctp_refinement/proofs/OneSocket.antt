@@ -4,17 +4,18 @@ use Rattle.std.specs.List.{AllByRecursion}
 use Rattle.dcsctp_machine.specs.declared.association.Pair.{Pair}
 use Rattle.dcsctp_machine.specs.declared.schedule.Side.{Side}
 use Rattle.dcsctp_machine.specs.declared.schedule.Side.TheVariants as sides
-use Rattle.dcsctp_machine.specs.Schedule.{connect_call, StepContent, call_step, delivery_step, ActContent, step_act}
+use Rattle.dcsctp_machine.specs.declared.ends.AbortReason.TheVariants.{CloseCalled}
+use Rattle.dcsctp_machine.specs.Schedule.{connect_call, close_call, StepContent, call_step, delivery_step, ActContent, step_act}
 use Rattle.dcsctp_machine.specs.declared.word.Word.{Word}
 use Rattle.dcsctp_machine.specs.declared.word.Word.TheVariants.{U32}
 use Rattle.dcsctp_machine.specs.Packet.{Introduction, Content, init, init_ack, cookie_echo, cookie_ack, re_config, abort, shutdown, shutdown_ack, shutdown_complete, plain, Packet, Emission, packet_in}
 use Rattle.dcsctp_machine.specs.Endpoint.{Endpoint, Core, closed, cookie_wait, cookie_echoed, open_in, established, shutdown_pending, shutdown_sent, shutdown_received, shutdown_ack_sent}
-use Rattle.dcsctp_machine.specs.Outcome.{Outcome, quiet, sends as sends_packet, fits, emits}
+use Rattle.dcsctp_machine.specs.Outcome.{Outcome, quiet, sends as sends_packet, fits, emits, to_peer}
 use Rattle.dcsctp_machine.specs.Following.{Following, next_chunk, packet_end, dropped_rest}
 use Rattle.dcsctp_machine.specs.Turn.{Input, arrival, refusal, packet_begins, chunk_input, packet_ends, act_input, has_data, unreadable_text}
-use Rattle.dcsctp_machine.specs.turns.HandshakeOutcomes.{pair_from, renewed_pair, renewed_outcome, init_ack_emission, to_peer, init_outcome}
+use Rattle.dcsctp_machine.specs.turns.HandshakeOutcomes.{pair_from, renewed_pair, renewed_outcome, init_ack_emission, init_outcome}
 use Rattle.dcsctp_machine.specs.control.Effect.{Effect, draws, sends, holds, connects, ends, begins, completes, fails, accepts, performs, noted, Change}
-use Rattle.dcsctp_machine.specs.control.Acts.{Act, connect, shutdown_repeats}
+use Rattle.dcsctp_machine.specs.control.Acts.{Act, connect, shutdown_repeats, abort_with}
 use Rattle.dcsctp_machine.specs.Controlled.{ControlledChunk, ControlledAct}
 use Rattle.dcsctp_machine.specs.CallTurns.{Turned, IsTurn, Turns, AfterChunk, ChunkTurns, WholeTurns, AdmittedTurns, unreadable, readable}
 use Rattle.dcsctp_machine.specs.Admission.{Admission, all_chunks, shutdown_acks_alone, refused, admits, shutdown_acks_in}
@@ -187,6 +188,7 @@ delivery_ends law e (Some bytes) _ (readable packet counted ts found counts take
 
 step_ends : EndLaws → (e : Endpoint) (packets : List (List ℕ)) (step : StepContent) (ts : List Turned) → StepTurns e packets step ts → AllEnd ts
 step_ends law e packets (call_step side connect_call) ts taken = turns_end law e (act_input connect ∷ []) ts taken
+step_ends law e packets (call_step side close_call) ts taken = turns_end law e (act_input (abort_with CloseCalled) ∷ []) ts taken
 step_ends law e packets (delivery_step side number) ts taken = delivery_ends law e (numbered number packets) ts taken
 
 act_ends : EndLaws → (e : Endpoint) (packets : List (List ℕ)) (act : ActContent) (ts : List Turned) → TurnsOfAct e packets act ts → AllEnd ts

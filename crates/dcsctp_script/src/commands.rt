@@ -99,6 +99,7 @@ impl Run {
     fn obey<W: Write>(&mut self, command: Command, output: &mut W) -> Result<(), Failure> {
         match command {
             Command::Connect(side) => self.apply(Step::Call(side, Call::Connect))?,
+            Command::Close(side) => self.apply(Step::Call(side, Call::Close))?,
             Command::Give(side, number) => self.apply(Step::Deliver(side, number))?,
             Command::Show(_) | Command::State(_) => {}
         }
@@ -108,7 +109,7 @@ impl Run {
     // Prints what a command shows, and the new events.
     fn print<W: Write>(&mut self, command: Command, output: &mut W) -> io::Result<()> {
         match command {
-            Command::Connect(_) | Command::Give(..) => {}
+            Command::Connect(_) | Command::Close(_) | Command::Give(..) => {}
             Command::Show(side) => {
                 let association = self.world.socket(side).association();
                 print_association(side, association, output)?;

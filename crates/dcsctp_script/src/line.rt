@@ -11,6 +11,9 @@ pub enum Command {
     /// The user of this socket begins an association.
     Connect(Side),
 
+    /// The user of this socket ends its association at once.
+    Close(Side),
+
     /// This socket is handed the other's packet of this number.
     Give(Side, usize),
 
@@ -63,6 +66,7 @@ fn side(name: &str) -> Option<Side>
 fn plain_line(keyword: &str, side: Side) -> Option<Line<'_>> {
     let command = match keyword {
         "connect" => Command::Connect(side),
+        "close" => Command::Close(side),
         "show" => Command::Show(side),
         "state" => Command::State(side),
         _ => return None,

@@ -1,3 +1,4 @@
+mod ActLemmas
 mod CallLemmas
 mod ChunkLemmas
 mod ChunkLoop

@@ -4,11 +4,12 @@ use Rattle.rand_core.specs.Stream.{Stream}
 use Rattle.dcsctp_wire.specs.Content.{PacketContent}
 use Rattle.dcsctp_machine.specs.Admission.{admits}
 use Rattle.dcsctp_machine.specs.Packet.{Content, packet_in}
+use Rattle.dcsctp_machine.specs.Endpoint.{Endpoint}
 use Rattle.dcsctp_machine.specs.Outcome.{Outcome}
 use Rattle.dcsctp_machine.specs.Settings.{ports_of}
 use Rattle.dcsctp_machine.specs.Event.{Event}
 use Rattle.dcsctp_machine.specs.Turn.{ContentTurn, act_input}
-use Rattle.dcsctp_machine.specs.control.Acts.{connect}
+use Rattle.dcsctp_machine.specs.control.Acts.{Act, connect}
 use Rattle.dcsctp_machine.specs.CallTurns.{Turned, Turns, WholeTurns, AdmittedTurns, HandleInput, FirstOfWhole, FirstAdmitted, CutInput}
 use Rattle.dcsctp_api.specs.Calls.{AddsFront}
 use Rattle.dcsctp_core.specs.declared.context.Context.{Context}
@@ -47,6 +48,16 @@ pub record ConnectMoves {R : Type 0} (stream : R → Stream) (old new : View R) 
   pub are : Turns old.endpoint (act_input connect ∷ []) turns
   pub moves : CallMoves stream old turns new
 
+-- A call had its turns, which are these of its endpoint.
+pub record CallMoved {R : Type 0} (stream : R → Stream) (CallTurns : Endpoint → List Turned → Type 0) (old new : View R) : Type 0 where
+  pub turns : List Turned
+  pub are : CallTurns old.endpoint turns
+  pub moves : CallMoves stream old turns new
+
+-- the turns of a call that is one act
+abbrev pub ActTurns : Act → Endpoint → List Turned → Type 0
+ActTurns act e turns = Turns e (act_input act ∷ []) turns
+
 -- ---- where a growth was refused
 
 -- The turn of a chunk was cut after it had added so many of its events.
@@ -73,6 +84,12 @@ pub record InputCut {R : Type 0} (bytes : List ℕ) (old : View R) (events : Lis
   pub are : CutInput old.endpoint bytes turns
   pub adds : AddsFront (ports_of old.endpoint.options) turns old.events events
 
+-- A call was cut: events of such turns were added in part.
+pub record CallCut {R : Type 0} (CallTurns : Endpoint → List Turned → Type 0) (old : View R) (events : List (Event (List ℕ))) : Type 0 where
+  pub turns : List Turned
+  pub are : CallTurns old.endpoint turns
+  pub adds : AddsFront (ports_of old.endpoint.options) turns old.events events
+
 -- ---- by the result of a function
 
 abbrev pub WorksChunk : {R E : Type 0} → (R → Stream) → ℕ → Content → Context R → Result Following E → Context R → Type 0
@@ -90,6 +107,11 @@ WorksPacket stream packet old (Err error) new = PacketCut packet (view_of old) (
 abbrev pub WorksInput : {R E : Type 0} → (R → Stream) → List ℕ → Context R → Result (Unit {0}) E → Context R → Type 0
 WorksInput stream bytes old (Ok done) new = InputMoves stream bytes (view_of old) (view_of new)
 WorksInput stream bytes old (Err error) new = InputCut bytes (view_of old) (view_of new).events
+
+-- A call's turns, or some events of them.
+abbrev pub WorksCall : {R E : Type 0} → (R → Stream) → (Endpoint → List Turned → Type 0) → Context R → Result (Unit {0}) E → Context R → Type 0
+WorksCall stream CallTurns old (Ok done) new = CallMoved stream CallTurns (view_of old) (view_of new)
+WorksCall stream CallTurns old (Err error) new = CallCut CallTurns (view_of old) (view_of new).events
 
 -- Where a growth was refused, nothing has changed but what words were drawn.
 abbrev pub WorksConnect : {R E : Type 0} → (R → Stream) → Context R → Result (Unit {0}) E → Context R → Type 0

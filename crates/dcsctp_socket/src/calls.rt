@@ -1,20 +1,23 @@
 //! The calls of a socket, over its parts: each is a list of turns.
 
-ghost use Rattle.std.specs.Prelude.{◌≡◌, false, IsOk};
+ghost use Rattle.std.specs.Prelude.{◌≡◌, true, false, IsOk};
 ghost use Rattle.dcsctp_wire.specs.Content.{chunk_content, packet_content};
 ghost use Rattle.dcsctp_machine.specs.Packet.{content_in};
+ghost use Rattle.dcsctp_machine.specs.control.Acts.{abort_with};
 ghost use Rattle.dcsctp_machine.specs.Settings.{wire_options};
 ghost use Rattle.dcsctp_api.specs.Calls.{is_closed};
 ghost use Rattle.dcsctp_core.specs.View.{core_of};
-ghost use Rattle.dcsctp_socket.specs.Parts.{WorksChunk, WorksChunks, WorksPacket, WorksInput, WorksConnect};
+ghost use Rattle.dcsctp_socket.specs.Parts.{WorksChunk, WorksChunks, WorksPacket, WorksInput, WorksCall, ActTurns, WorksConnect};
 
 use crate::admission::{Admission, admit};
 use crate::texts::UNREADABLE;
 use dcsctp_api::{ErrorKind, Options};
-use dcsctp_core::{Context, Following, handle_abort};
+use dcsctp_core::{Context, Following};
+use dcsctp_ends::{abort_association, handle_abort};
 use dcsctp_handshake::{
     do_connect, handle_cookie_ack, handle_cookie_echo, handle_init, handle_init_ack,
 };
+use dcsctp_machine::AbortReason;
 use dcsctp_wire::{Chunk, PacketError, SctpPacket, WireOptions};
 use rand_core::Rng;
 use std::alloc::AllocError;
@@ -108,6 +111,18 @@ pub(crate) fn connect<R: Rng>(context: &mut Context<R>) -> Result<(), AllocError
 {
     context.begin_call();
     do_connect(context)?;
+    Ok(())
+}
+
+/// Ends the association at once (RFC 9260, section 9.1). The one error is that a growth was refused; the
+/// first events of the call may stand then.
+pub(crate) fn close<R: Rng>(context: &mut Context<R>) -> Result<(), AllocError>
+    ensures turn { WorksCall R.stream (ActTurns (abort_with AbortReason.CloseCalled)) context.old result
+        context.new }
+    ensures closed { is_closed (core_of context.old.state) ≡ true → IsOk result }
+{
+    context.begin_call();
+    abort_association(context, AbortReason::CloseCalled)?;
     Ok(())
 }
 

@@ -99,8 +99,8 @@ impl<R: Rng + Drop> Socket<R> {
 }
 
 impl<R: Rng + Drop> DcSctpSocket for Socket<R> {
-    ghost use Rattle.std.specs.Prelude.{◌≡◌, false, IsOk, OnOk, IsErrOf};
-    ghost use Rattle.dcsctp_api.specs.Calls.{PollsEvent, HandlesInput, Connects, is_closed};
+    ghost use Rattle.std.specs.Prelude.{◌≡◌, true, false, IsOk, OnOk, IsErrOf};
+    ghost use Rattle.dcsctp_api.specs.Calls.{PollsEvent, HandlesInput, Connects, Closes, is_closed};
     ghost use Rattle.dcsctp_core.specs.View.{Drawn};
     ghost use Rattle.dcsctp_socket.specs.SocketView.{user_view_of};
 
@@ -143,6 +143,23 @@ impl<R: Rng + Drop> DcSctpSocket for Socket<R> {
             return Err(SocketFault::Failed);
         }
         let outcome = calls::connect(&mut self.context);
+        settled(&mut self.failed, outcome)
+    }
+
+    fn close(&mut self) -> Result<(), SocketFault>
+        ensures call { Closes (user_view_of self.old) result (user_view_of self.new) }
+        ensures closed { self.old.failed ≡ false → is_closed self.old.view.endpoint.core ≡ true
+            → IsOk result }
+        // The words are what the generator gave, in order.
+        ensures drawn { OnOk result (Drawn (R.stream self.old.view.generator) self.new.view.words
+            (R.stream self.new.view.generator)) }
+        ensures failed { IsErrOf result SocketFault.Failed → self.new ≡ self.old }
+    {
+        // A socket that has failed sends no ABORT.
+        if self.failed {
+            return Err(SocketFault::Failed);
+        }
+        let outcome = calls::close(&mut self.context);
         settled(&mut self.failed, outcome)
     }
 

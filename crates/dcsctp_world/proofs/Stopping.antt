@@ -11,7 +11,7 @@ use Rattle.dcsctp_machine.specs.CallTurns.{Turned, after_all, pairs_of}
 use Rattle.dcsctp_machine.specs.Sockets.{Both, of_side, of_other, side_of_act, TurnsOfAct}
 use Rattle.dcsctp_api.specs.declared.errors.SocketFault.{SocketFault}
 use Rattle.dcsctp_api.specs.declared.errors.SocketFault.TheVariants.{OutOfMemory, Failed}
-use Rattle.dcsctp_api.specs.Calls.{Follows, Connects, HandlesInput}
+use Rattle.dcsctp_api.specs.Calls.{Follows, HandlesInput}
 use Rattle.dcsctp_socket.specs.SocketView.{SocketView, user_view_of}
 use Rattle.dcsctp_machine.specs.declared.schedule.Act.{Act}
 use Rattle.dcsctp_machine.specs.Schedule.{ActContent, act_content}
@@ -19,7 +19,7 @@ use Rattle.dcsctp_world.specs.declared.act.Reply.{Reply}
 use Rattle.dcsctp_world.specs.declared.act.Reply.TheVariants.{NoCall}
 use Rattle.dcsctp_world.specs.declared.watched_socket.WatchedSocket.{WatchedSocket}
 use Rattle.dcsctp_world.specs.Shown.{SideShown, WorldView}
-use Rattle.dcsctp_world.specs.Growth.{AddsFront, CollectsFront, told, Grows, ShowsFront, Stops, Fails, with_association}
+use Rattle.dcsctp_world.specs.Growth.{AddsFront, CollectsFront, told, Called, Grows, ShowsFront, Stops, Fails, with_association}
 use Rattle.dcsctp_world.specs.Acts.{ActMoves, ActStops, MovesSide, WorksAct}
 use Rattle.dcsctp_world.specs.Parts.{both, world_of}
 use Rattle.dcsctp_world.proofs.Keeping.{front_same, front_whole}
@@ -88,10 +88,10 @@ module _ {R : Type 0} (Turns : List Turned → Type 0) (old : SideShown R) (sock
   stays_failed : old.socket.failed ≡ true → socket ≡ old.socket → Fails Turns old Failed (record old { socket = socket })
   stays_failed had_failed same = (had_failed, ap (λ (s : SocketView R). let side : SideShown R = record old { socket = s } in side) same)
 
-  pub connect_fails : (fault : SocketFault) → Connects (user_view_of old.socket) (Err fault) (user_view_of socket)
+  pub call_fails : (fault : SocketFault) → Called Turns (user_view_of old.socket) (Err fault) (user_view_of socket)
       → (fault ≡ Failed → socket ≡ old.socket) → Fails Turns old fault (record old { socket = socket })
-  connect_fails OutOfMemory out same = (out.runs, stops_before Turns old socket)
-  connect_fails Failed stays same = stays_failed stays.had_failed (same refl)
+  call_fails OutOfMemory runs same = (runs, stops_before Turns old socket)
+  call_fails Failed had_failed same = stays_failed had_failed (same refl)
 
   pub input_fails : (bytes : List ℕ) (fault : SocketFault) → HandlesInput (user_view_of old.socket) bytes (Err fault) (user_view_of socket)
       → (fault ≡ Failed → socket ≡ old.socket) → Fails Turns old fault (record old { socket = socket })

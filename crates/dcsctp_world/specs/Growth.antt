@@ -1,6 +1,6 @@
 -- How one side grows in an act.
 use Rattle.std.specs.Prelude.{◌≡◌, ℕ, true, false, Option, None, Some, Result, Ok, Err, List, [], ◌∷◌, ◌++◌, ◌⊎◌, map}
-use Rattle.dcsctp_machine.specs.Schedule.{CallContent, connect_call, ActContent, call_step, delivery_step, step_act}
+use Rattle.dcsctp_machine.specs.Schedule.{CallContent, connect_call, close_call, ActContent, call_step, delivery_step, step_act}
 use Rattle.dcsctp_machine.specs.Event.{Event, packets_in}
 use Rattle.dcsctp_machine.specs.Endpoint.{Endpoint, association_of}
 use Rattle.dcsctp_machine.specs.Settings.{ports_of}
@@ -8,7 +8,7 @@ use Rattle.dcsctp_machine.specs.CallTurns.{Turned, after_all, words_of, events_o
 use Rattle.dcsctp_machine.specs.Sockets.{numbered}
 use Rattle.dcsctp_api.specs.declared.errors.SocketFault.{SocketFault}
 use Rattle.dcsctp_api.specs.declared.errors.SocketFault.TheVariants.{OutOfMemory, Failed}
-use Rattle.dcsctp_api.specs.Calls.{UserView, user_event}
+use Rattle.dcsctp_api.specs.Calls.{UserView, user_event, Follows}
 use Rattle.dcsctp_world.specs.declared.act.Reply.{Reply}
 use Rattle.dcsctp_world.specs.declared.act.Reply.TheVariants.{NoCall, Done}
 use Rattle.dcsctp_world.specs.Shown.{SideShown}
@@ -127,6 +127,13 @@ abbrev pub Fails : {R : Type 0} → (List Turned → Type 0) → SideShown R →
 Fails Turns old OutOfMemory new = (old.socket.failed ≡ false) × Stops Turns old new
 Fails Turns old Failed new = (old.socket.failed ≡ true) × (new ≡ old)
 
+-- A call of the user was made on a socket, by such turns; or a growth was refused in it; or the socket had failed, and
+-- nothing has changed.
+abbrev pub Called : (List Turned → Type 0) → UserView → Result (Unit {0}) SocketFault → UserView → Type 0
+Called Turns old (Ok done) new = (turns : List Turned) × Turns turns × Follows old turns new
+Called Turns old (Err OutOfMemory) new = old.failed ≡ false
+Called Turns old (Err Failed) new = old.failed ≡ true
+
 -- A call of the user was made at a side; or it failed.
 abbrev pub Calls : {R : Type 0} → (List Turned → Type 0) → SideShown R → Result (Unit {0}) SocketFault → SideShown R → Type 0
 Calls Turns old (Ok done) new = Grows Turns Done old new
@@ -163,6 +170,7 @@ IsDeliveryReply (Some bytes) reply = reply ≡ Done
 -- It is what a call of this endpoint's user answers.
 abbrev pub IsCallReply : Endpoint → CallContent → Reply → Type 0
 IsCallReply e connect_call reply = reply ≡ Done
+IsCallReply e close_call reply = reply ≡ Done
 
 -- It is what an act answers from this endpoint, where the other side has emitted these packets.
 abbrev pub IsReply : Endpoint → List (List ℕ) → ActContent → Reply → Type 0

@@ -1,6 +1,6 @@
 //! One of the two sockets, with all that it ever showed.
 
-ghost use Rattle.std.specs.Prelude.{◌≡◌, [], ◌∷◌, IfOk, IsOkUnless};
+ghost use Rattle.std.specs.Prelude.{◌≡◌, [], ◌∷◌, IfOk, IsErrOf, IsOkUnless};
 ghost use Rattle.std.specs.Option.{option_map};
 ghost use Rattle.dcsctp_machine.specs.Settings.{IsValid};
 ghost use Rattle.dcsctp_machine.specs.Schedule.{call_content, act_content};
@@ -8,7 +8,7 @@ ghost use Rattle.dcsctp_machine.specs.Sockets.{numbered, UserTurns, DeliveryTurn
 ghost use Rattle.dcsctp_api.specs.Events.{event_content};
 ghost use Rattle.dcsctp_socket.specs.SocketView.{user_view_of};
 ghost use Rattle.dcsctp_world.specs.Shown.{fresh_side};
-ghost use Rattle.dcsctp_world.specs.Growth.{Keeps, TakesAll, CollectsAll, Calls, Works, Notes, IsReply, IsDeliveryReply};
+ghost use Rattle.dcsctp_world.specs.Growth.{Keeps, TakesAll, CollectsAll, Called, Calls, Works, Notes, IsReply, IsDeliveryReply};
 ghost use Rattle.dcsctp_world.specs.Parts.{packet_bytes, kept, shown};
 
 use crate::act::Reply;
@@ -72,6 +72,24 @@ fn take_events<R: Rng + Drop>(
     Ok(())
 }
 
+// Makes a call of the user. The errors are those of the call.
+fn make_call<R: Rng + Drop>(socket: &mut Socket<R>, call: Call) -> Result<(), SocketFault>
+    ensures call { Called (UserTurns socket.old.view.endpoint (call_content call))
+        (user_view_of socket.old) result (user_view_of socket.new) }
+    ensures failed { IsErrOf result SocketFault.Failed → socket.new ≡ socket.old }
+{
+    match call {
+        Call::Connect => {
+            socket.connect()?;
+            Ok(())
+        }
+        Call::Close => {
+            socket.close()?;
+            Ok(())
+        }
+    }
+}
+
 // The packet of this number, counted from 1.
 fn packet_numbered(packets: &[Vec<u8>], number: usize) -> Option<&Vec<u8>>
     ensures { numbered number (packet_bytes packets.now) ≡ option_map (λ packet. packet.now.items)
@@ -125,9 +143,7 @@ impl<R: Rng + Drop> WatchedSocket<R> {
         ensures { Calls (UserTurns self.old.socket.view.endpoint (call_content call)) (shown self.old) result
             (shown self.new) }
     {
-        match call {
-            Call::Connect => self.socket.connect()?,
-        }
+        make_call(&mut self.socket, call)?;
         self.keep_all()?;
         Ok(())
     }

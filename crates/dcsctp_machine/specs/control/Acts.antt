@@ -3,7 +3,8 @@ use Rattle.std.specs.Prelude.{◌≡◌, ℕ, Bool, true, false, Option, None, S
 use Rattle.dcsctp_machine.specs.declared.association.Pair.{Pair}
 use Rattle.dcsctp_machine.specs.declared.association.Held.{Held}
 use Rattle.dcsctp_machine.specs.declared.options.Options.{Options}
-use Rattle.dcsctp_machine.specs.Cause.{Cause}
+use Rattle.dcsctp_machine.specs.declared.ends.AbortReason.{AbortReason}
+use Rattle.dcsctp_machine.specs.Cause.{causes_of}
 use Rattle.dcsctp_machine.specs.Reconfiguration.{RequestedReset}
 use Rattle.dcsctp_machine.specs.Packet.{Content, init, init_ack, cookie_echo, cookie_ack, re_config, abort, shutdown, shutdown_ack, shutdown_complete, plain}
 use Rattle.dcsctp_machine.specs.Endpoint.{Core, closed, cookie_wait, cookie_echoed, open_in, OpenPhase, established}
@@ -28,8 +29,8 @@ pub data Act : Type 0 where
   step_of_shutdown : Act
   -- T2 expired, or data came while a SHUTDOWN waits for its answer. Here at any time, as often as may be.
   shutdown_repeats : Act
-  -- ABORT with these causes. Here with any, at any time; a socket aborts on the user's close, a violation, or too many errors.
-  abort_with : List Cause → Act
+  -- The own end aborts for this reason. Here at any time; a socket does so on the user's close, and later on too many errors.
+  abort_with : AbortReason → Act
   -- The association is handed over to another socket. Here wherever it is Established; a socket wants more (nothing in
   -- flight, no reset under way).
   hands_over : Act
@@ -83,7 +84,7 @@ act_change options core (t1_expires false) choices = t1_gives_up_change core
 act_change options core shut_down choices = shutdown_call_change core choices.tsn choices.is_acknowledged
 act_change options core step_of_shutdown choices = shutdown_step_change core choices.tsn choices.is_acknowledged
 act_change options core shutdown_repeats choices = shutdown_again_change core choices.tsn
-act_change options core (abort_with causes) choices = abort_call_change core causes choices.fits
+act_change options core (abort_with reason) choices = abort_call_change core (causes_of reason) choices.fits
 act_change options core hands_over choices = hand_over_change core
 act_change options core flushes choices = flush_change core choices
 act_change options core (request_again reset) choices = request_again_change core reset choices.fits

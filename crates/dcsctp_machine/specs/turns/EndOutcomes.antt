@@ -1,13 +1,17 @@
 -- How an association ends, whatever ends it.
-use Rattle.std.specs.Prelude.{None, List, [], ◌∷◌, ◌++◌}
+use Rattle.std.specs.Prelude.{false, None, List, [], ◌∷◌, ◌++◌}
 use Rattle.dcsctp_wire.specs.Texts.{causes_text}
-use Rattle.dcsctp_machine.specs.declared.kinds.ErrorKind.TheVariants.{PeerReported}
-use Rattle.dcsctp_machine.specs.Cause.{Cause}
+use Rattle.dcsctp_machine.specs.declared.association.Held.{Held}
+use Rattle.dcsctp_machine.specs.declared.ends.AbortReason.{AbortReason}
+use Rattle.dcsctp_machine.specs.declared.ends.AbortReason.TheVariants as reasons
+use Rattle.dcsctp_machine.specs.declared.kinds.ErrorKind.TheVariants.{PeerReported, ProtocolViolation, TooManyRetries}
+use Rattle.dcsctp_machine.specs.Cause.{Cause, reason_text, causes_of}
 use Rattle.dcsctp_machine.specs.Event.{Event, aborted}
-use Rattle.dcsctp_machine.specs.Packet.{Emission}
-use Rattle.dcsctp_machine.specs.Endpoint.{Endpoint, Core, closed, cookie_echoed, open_in, stopped_timers}
+use Rattle.dcsctp_machine.specs.Event as events
+use Rattle.dcsctp_machine.specs.Packet.{Emission, abort}
+use Rattle.dcsctp_machine.specs.Endpoint.{Endpoint, Core, closed, cookie_wait, cookie_echoed, open_in, stopped_timers}
 use Rattle.dcsctp_machine.specs.control.Effect.{ends}
-use Rattle.dcsctp_machine.specs.Outcome.{Outcome, still, quiet}
+use Rattle.dcsctp_machine.specs.Outcome.{Outcome, still, quiet, to_peer, emits}
 use Rattle.dcsctp_machine.specs.Following.{dropped_rest}
 
 -- No association, and no timer. What waits to be sent stays, and so does the error count.
@@ -34,3 +38,26 @@ abbrev pub abort_outcome : Endpoint → List Cause → Core → Outcome
 abort_outcome e causes (cookie_echoed my held cookie) = ended_outcome (quiet e [] []) (aborted PeerReported (causes_text causes))
 abort_outcome e causes (open_in phase my held) = ended_outcome (quiet e [] []) (aborted PeerReported (causes_text causes))
 abort_outcome e causes core = still e
+
+-- ---- the own abort
+
+-- the event that ends an association which is aborted for this reason
+abbrev pub end_of : AbortReason → Event Emission
+end_of reasons.CloseCalled = events.closed
+end_of (reasons.Violation violation) = aborted ProtocolViolation (reason_text (reasons.Violation violation))
+end_of reasons.TooManyErrors = aborted TooManyRetries (reason_text reasons.TooManyErrors)
+
+-- an ABORT to the peer
+abbrev pub abort_to : Held → AbortReason → Emission
+abort_to held reason = to_peer held (abort false (causes_of reason))
+
+-- The peer is told, where one is held and the packet fits (RFC 9260, sections 8.1 and 9.1).
+abbrev pub abort_sent : Endpoint → Core → AbortReason → Outcome
+abort_sent e (cookie_echoed my held cookie) reason = emits e [] (abort_to held reason)
+abort_sent e (open_in phase my held) reason = emits e [] (abort_to held reason)
+abort_sent e core reason = quiet e [] []
+
+-- The own end aborts the association; where there is none, nothing happens. Its change is `abort_call_change`.
+abbrev pub aborting_outcome : Endpoint → Core → AbortReason → Outcome
+aborting_outcome e closed reason = still e
+aborting_outcome e core reason = ended_outcome (abort_sent e core reason) (end_of reason)

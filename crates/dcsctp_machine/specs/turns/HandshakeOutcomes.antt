@@ -17,7 +17,7 @@ use Rattle.dcsctp_machine.specs.Event.{aborted, connected}
 use Rattle.dcsctp_machine.specs.Packet.{Introduction, Content, init, init_ack, cookie_echo, abort, shutdown_ack, Emission}
 use Rattle.dcsctp_machine.specs.Transfer.{SendQueueState, queue_after_reset, new_transfer, next_tsn_of}
 use Rattle.dcsctp_machine.specs.Endpoint.{Endpoint, Core, closed, cookie_wait, cookie_echoed, open_in, OpenPhase, established, shutdown_ack_sent, Timers, started, t1_settings, heartbeat_settings}
-use Rattle.dcsctp_machine.specs.Outcome.{Outcome, still, quiet, fits, emits, noting, drawing}
+use Rattle.dcsctp_machine.specs.Outcome.{Outcome, still, quiet, fits, to_peer, emits, noting, drawing}
 use Rattle.dcsctp_machine.specs.control.Effect.{holds, connects, link_of}
 use Rattle.dcsctp_machine.specs.control.HandshakeChanges.{introduction_of, held_by_init_ack}
 use Rattle.dcsctp_machine.specs.turns.FlushOutcomes.{Answer, FlushAnswers, FlushKind, draft_to, flush_answered, flush_outcome}
@@ -60,14 +60,6 @@ init_ack_emission e theirs mine tie =
 
 abbrev pub answer_outcome : Endpoint → Introduction → List Word → Pair → ℕ → Outcome
 answer_outcome e theirs words mine tie = emits e words (init_ack_emission e theirs mine tie)
-
--- a packet of one control chunk under the peer's tag
-abbrev pub to_peer : Held → Content → Emission
-to_peer held content =
-    record {
-      with_checksum = held.capabilities.zero_checksum_method.0 == 0;
-      packet = record { tag = held.peer.tag; contents = content ∷ [] };
-    }
 
 -- how far a new first TSN is from those in use
 abbrev pub tsn_gap : ℕ

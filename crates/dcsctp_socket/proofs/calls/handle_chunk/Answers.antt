@@ -7,7 +7,7 @@ use Rattle.dcsctp_machine.proofs.FlushLemmas.{init_ack_turn_of, cookie_echo_turn
 use Rattle.dcsctp_core.specs.View.{view_of, endpoint_of}
 use Rattle.dcsctp_core.specs.Drawing.{long_word}
 use Rattle.dcsctp_handshake.specs.Handshake.{init_ack_turn, cookie_echo_turn}
-use Rattle.dcsctp_core.specs.Handling.{abort_turn}
+use Rattle.dcsctp_ends.specs.Ends.{abort_turn}
 use Rattle.dcsctp_socket.proofs.ChunkLemmas.{acknowledged_chunk, acknowledged_cut, init_cut, written_worked, works_chunk, works_whole}
 use Rattle.dcsctp_socket.proofs.calls.handle_chunk.Goals as goal
 

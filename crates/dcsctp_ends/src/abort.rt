@@ -2,12 +2,11 @@
 
 ghost use Rattle.std.specs.Prelude.{map};
 ghost use Rattle.dcsctp_wire.specs.Content.{cause_content};
-ghost use Rattle.dcsctp_core.specs.Handling.{WorksWhole, abort_turn};
+ghost use Rattle.dcsctp_core.specs.Handling.{WorksWhole};
+ghost use Rattle.dcsctp_ends.specs.Ends.{abort_turn};
 
-use crate::context::Context;
-use crate::following::Following;
-use crate::state::State;
 use dcsctp_api::ErrorKind;
+use dcsctp_core::{Context, Following, State};
 use dcsctp_wire::{AbortChunk, causes_text};
 use rand_core::Rng;
 use std::alloc::AllocError;

@@ -1,0 +1,3 @@
+pub mod Ends
+pub use Rattle.dcsctp_core.specs.Handling
+pub use Rattle.dcsctp_core.specs.View
