@@ -7,6 +7,8 @@ mod bad_lines;
 #[cfg(test)]
 mod checks;
 #[cfg(test)]
+mod closing;
+#[cfg(test)]
 mod faults;
 #[cfg(test)]
 mod options;

@@ -12,6 +12,8 @@ mod association;
 #[cfg(test)]
 mod checks;
 #[cfg(test)]
+mod closing;
+#[cfg(test)]
 mod cookie_echo;
 #[cfg(test)]
 mod damaged_init;

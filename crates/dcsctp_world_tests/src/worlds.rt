@@ -244,6 +244,28 @@ fn a_repeated_packet_adds_what_it_brings(rt: HostRuntime) {
     );
 }
 
+#[test]
+fn a_side_that_closes_holds_no_association(rt: HostRuntime) {
+    let mut world = world_behind_handshake(&rt, rt.alloc(), 0);
+    let close = Step::Call(Side::A, Call::Close);
+    replies(&rt, &mut world, "close", close, Reply::Done);
+    same(&rt, "packets and pairs", counts(&world), [3, 2, 1]);
+    let closed = matches!(world.events(Side::A).last(), Some(SocketEvent::OnClosed()));
+    holds(&rt, "A is closed", closed);
+    let noted = world
+        .associations(Side::A)
+        .last()
+        .expect(&rt, "none was noted");
+    holds(&rt, "A holds nothing", noted.is_none());
+    same(
+        &rt,
+        "B",
+        world.socket(Side::B).state(),
+        SocketState::Connected,
+    );
+    drop(world);
+}
+
 // Is the checksum of this packet of the side written as 0? It stands in bytes 8 to 11.
 fn has_no_checksum(rt: &impl Abort, world: &World<TwoWords>, side: Side, at: usize) -> bool {
     let packet = world.packets(side).get(at).expect(rt, "no such packet");
