@@ -38,6 +38,14 @@ fn aborts(rt: &impl Abort, socket: &mut Socket<TwoWords>, name: &str) {
     tells_closed(rt, socket, name);
 }
 
+// A socket that was closed begins an association: a packet has to go out.
+fn connects_again(rt: &impl Abort, socket: &mut Socket<TwoWords>) {
+    socket.connect().expect(rt, "no association was begun");
+    let packet = next_packet(rt, socket);
+    same(rt, "INIT", packet.len(), 44);
+    is_in_state(rt, socket, "again", SocketState::Connecting);
+}
+
 #[test]
 fn a_peer_is_told(rt: HostRuntime) {
     let mut socket = socket_of_seven(&rt, rt.alloc());
@@ -46,7 +54,7 @@ fn a_peer_is_told(rt: HostRuntime) {
     aborts(&rt, &mut socket, "connected");
     closes(&rt, &mut socket);
     tells_nothing(&rt, &mut socket);
-    begins(&rt, &mut socket);
+    connects_again(&rt, &mut socket);
     drop(socket);
 }
 
