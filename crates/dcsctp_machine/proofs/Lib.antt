@@ -1,6 +1,7 @@
 pub mod AdmissionFacts
 pub mod AdmissionLemmas
 pub mod CallFacts
+pub mod AlongLemmas
 pub mod ChunkFacts
 pub mod ControlEcho
 pub mod ControlHandshake

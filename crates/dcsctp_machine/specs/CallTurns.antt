@@ -55,6 +55,11 @@ abbrev pub events_of : List Turned → List (Event Emission)
 events_of [] = []
 events_of (turn ∷ turns) = turn.outcome.events ++ events_of turns
 
+-- This holds of each turn, at the endpoint that it starts from.
+abbrev pub AlongTurns : (Endpoint → Turned → Type 0) → Endpoint → List Turned → Type 0
+AlongTurns Good e [] = Unit {0}
+AlongTurns Good e (turn ∷ turns) = Good e turn × AlongTurns Good turn.outcome.after turns
+
 -- ---- handle_input
 
 -- What comes after a chunk: the others; or, with no other chunk, the end of the packet; or nothing at all.

@@ -17,3 +17,4 @@ mod TurnsFit
 pub mod NotedLemmas
 pub mod OneSocket
 pub mod RunFacts
+mod TellingEnds

@@ -1,27 +1,22 @@
 -- By what a socket's own requests end.
-use Rattle.std.proofs.Common.{◌≡◌, ℕ, Bool, true, false, cond, Option, None, Some, List, [], ◌∷◌, ◌++◌, inl, inr, sym, subst, ap}
+use Rattle.std.proofs.Common.{◌≡◌, ℕ, Bool, true, false, cond, List, [], ◌∷◌, inl, inr, sym, subst, ap}
 use Rattle.std.specs.List.{AllByRecursion}
 use Rattle.dcsctp_machine.specs.declared.association.Pair.{Pair}
-use Rattle.dcsctp_machine.specs.declared.schedule.Side.{Side}
-use Rattle.dcsctp_machine.specs.declared.schedule.Side.TheVariants as sides
-use Rattle.dcsctp_machine.specs.declared.ends.AbortReason.TheVariants.{CloseCalled}
-use Rattle.dcsctp_machine.specs.Schedule.{connect_call, close_call, StepContent, call_step, delivery_step, ActContent, step_act}
 use Rattle.dcsctp_machine.specs.declared.word.Word.{Word}
 use Rattle.dcsctp_machine.specs.declared.word.Word.TheVariants.{U32}
-use Rattle.dcsctp_machine.specs.Packet.{Introduction, Content, init, init_ack, cookie_echo, cookie_ack, re_config, abort, shutdown, shutdown_ack, shutdown_complete, plain, Packet, Emission, packet_in}
-use Rattle.dcsctp_machine.specs.Endpoint.{Endpoint, Core, closed, cookie_wait, cookie_echoed, open_in, established, shutdown_pending, shutdown_sent, shutdown_received, shutdown_ack_sent}
+use Rattle.dcsctp_machine.specs.Packet.{Introduction, Content, init, init_ack, cookie_echo, cookie_ack, re_config, abort, shutdown, shutdown_ack, shutdown_complete, plain, Emission}
+use Rattle.dcsctp_machine.specs.Endpoint.{Endpoint, Core, closed, cookie_wait, cookie_echoed, open_in, established, shutdown_pending, shutdown_sent, shutdown_received, shutdown_ack_sent, fresh_endpoint}
 use Rattle.dcsctp_machine.specs.Outcome.{Outcome, quiet, sends as sends_packet, fits, emits, to_peer}
-use Rattle.dcsctp_machine.specs.Following.{Following, next_chunk, packet_end, dropped_rest}
-use Rattle.dcsctp_machine.specs.Turn.{Input, arrival, refusal, packet_begins, chunk_input, packet_ends, act_input, has_data, unreadable_text}
+use Rattle.dcsctp_machine.specs.Turn.{Input, arrival, refusal, packet_begins, chunk_input, packet_ends, act_input, has_data}
 use Rattle.dcsctp_machine.specs.turns.HandshakeOutcomes.{pair_from, renewed_pair, renewed_outcome, init_ack_emission, init_outcome}
 use Rattle.dcsctp_machine.specs.control.Effect.{Effect, draws, sends, holds, connects, ends, begins, completes, fails, accepts, performs, noted, Change}
-use Rattle.dcsctp_machine.specs.control.Acts.{Act, connect, shutdown_repeats, abort_with}
+use Rattle.dcsctp_machine.specs.control.Acts.{Act, shutdown_repeats}
 use Rattle.dcsctp_machine.specs.Controlled.{ControlledChunk, ControlledAct}
-use Rattle.dcsctp_machine.specs.CallTurns.{Turned, IsTurn, Turns, AfterChunk, ChunkTurns, WholeTurns, AdmittedTurns, unreadable, readable}
-use Rattle.dcsctp_machine.specs.Admission.{Admission, all_chunks, shutdown_acks_alone, refused, admits, shutdown_acks_in}
+use Rattle.dcsctp_machine.specs.CallTurns.{Turned, IsTurn, AlongTurns}
 use Rattle.dcsctp_machine.specs.Laws.{ActsAreControlled}
 use Rattle.dcsctp_machine.specs.Past.{Has}
-use Rattle.dcsctp_machine.specs.Sockets.{Both, of_side, of_other, side_of_act, StepTurns, DeliveryTurns, numbered, with_turns, turns_after, endpoint_after, packets_shown, TurnsOfAct}
+use Rattle.dcsctp_machine.specs.Sockets.{of_side, turns_after}
+use Rattle.dcsctp_machine.proofs.AlongLemmas.{run_along}
 use Rattle.dcsctp_machine.proofs.ControlHandshake.{init_ack_controlled, cookie_ack_controlled, abort_controlled}
 use Rattle.dcsctp_machine.proofs.ControlEcho.{cookie_echo_controlled}
 use Rattle.dcsctp_machine.proofs.ControlLemmas.{begin_stands}
@@ -142,76 +137,13 @@ turn_ends law e (chunk_input tag content) t h = chunk_ends law.answers e tag con
 turn_ends law e packet_ends t h = same_ends t _ h.comes nothing_ended
 turn_ends law e (act_input act) t h = by_act law.answers e act t (law.acts e act t.outcome h.comes)
 
--- ---- lists of turns
-
-abbrev AllEnd : List Turned → Type 0
-AllEnd ts = AllByRecursion EndsByAnswer ts
-
-no_turns : (ts : List Turned) → ts ≡ [] → AllEnd ts
-no_turns ts none = subst AllEnd (sym none) tt
-
-turns_end : EndLaws → (e : Endpoint) (inputs : List Input) (ts : List Turned) → Turns e inputs ts → AllEnd ts
-turns_end law e [] [] taken = tt
-turns_end law e [] (t ∷ ts) taken = absurd taken
-turns_end law e (input ∷ inputs) [] taken = absurd taken
-turns_end law e (input ∷ inputs) (t ∷ ts) taken = (turn_ends law e input t taken.0, turns_end law t.outcome.after inputs ts taken.1)
-
-rest_ends : EndLaws → (following : Following) (e : Endpoint) (tail : List Input) (ts : List Turned) (More : Type 0) → (More → AllEnd ts) → AfterChunk following More (Turns e tail ts) (ts ≡ []) → AllEnd ts
-rest_ends law next_chunk e tail ts More more rest = more rest
-rest_ends law packet_end e tail ts More more rest = turns_end law e tail ts rest
-rest_ends law dropped_rest e tail ts More more rest = no_turns ts rest
-
-chunks_end : EndLaws → (e : Endpoint) (tag : ℕ) (contents : List Content) (tail : List Input) (ts : List Turned) → ChunkTurns e tag contents tail ts → AllEnd ts
-chunks_end law e tag [] tail ts taken = turns_end law e tail ts taken
-chunks_end law e tag (content ∷ contents) tail [] taken = absurd taken
-chunks_end law e tag (content ∷ contents) tail (t ∷ ts) taken = (
-  turn_ends law e (chunk_input tag content) t taken.0,
-  rest_ends law t.outcome.following t.outcome.after tail ts (ChunkTurns t.outcome.after tag contents tail ts)
-      (λ (rest : ChunkTurns t.outcome.after tag contents tail ts). chunks_end law t.outcome.after tag contents tail ts rest) taken.1,
-)
-
-whole_end : EndLaws → (e : Endpoint) (packet : Packet) (ts : List Turned) → WholeTurns e packet ts → AllEnd ts
-whole_end law e packet [] taken = absurd taken
-whole_end law e packet (t ∷ ts) taken =
-    (turn_ends law e (packet_begins packet.contents) t taken.0, chunks_end law t.outcome.after packet.tag packet.contents (packet_ends ∷ []) ts taken.1)
-
-admitted_end : EndLaws → (e : Endpoint) (packet : Packet) (admission : Admission) (ts : List Turned) → AdmittedTurns e packet admission ts → AllEnd ts
-admitted_end law e packet all_chunks ts taken = whole_end law e packet ts taken
-admitted_end law e packet shutdown_acks_alone ts taken = chunks_end law e packet.tag (shutdown_acks_in packet.contents) [] ts taken
-admitted_end law e packet (refused text) ts taken = turns_end law e (refusal text ∷ []) ts taken
-
-delivery_ends : EndLaws → (e : Endpoint) (bytes : Option (List ℕ)) (ts : List Turned) → DeliveryTurns e bytes ts → AllEnd ts
-delivery_ends law e None ts none = no_turns ts none
-delivery_ends law e (Some bytes) _ (unreadable ts none taken) = turns_end law e (arrival ∷ refusal unreadable_text ∷ []) ts taken
-delivery_ends law e (Some bytes) _ (readable packet counted ts found counts taken) =
-    (turn_ends law e arrival counted counts, admitted_end law counted.outcome.after (packet_in packet) (admits e.core (packet_in packet)) ts taken)
-
-step_ends : EndLaws → (e : Endpoint) (packets : List (List ℕ)) (step : StepContent) (ts : List Turned) → StepTurns e packets step ts → AllEnd ts
-step_ends law e packets (call_step side connect_call) ts taken = turns_end law e (act_input connect ∷ []) ts taken
-step_ends law e packets (call_step side close_call) ts taken = turns_end law e (act_input (abort_with CloseCalled) ∷ []) ts taken
-step_ends law e packets (delivery_step side number) ts taken = delivery_ends law e (numbered number packets) ts taken
-
-act_ends : EndLaws → (e : Endpoint) (packets : List (List ℕ)) (act : ActContent) (ts : List Turned) → TurnsOfAct e packets act ts → AllEnd ts
-act_ends law e packets (step_act step) ts taken = step_ends law e packets step ts taken
-
 -- ---- a run
 
-both_end : (xs ys : List Turned) → AllEnd xs → AllEnd ys → AllEnd (xs ++ ys)
-both_end [] ys none each = each
-both_end (x ∷ xs) ys first each = (first.0, both_end xs ys first.1 each)
-
-more_end : (mover : Side) (more : List Turned) (turns : Both (List Turned)) → AllEnd more → ((side : Side) → AllEnd (of_side side turns)) → (side : Side) → AllEnd (of_side side (with_turns mover more turns))
-more_end sides.A more turns each before sides.A = both_end turns.a more (before sides.A) each
-more_end sides.A more turns each before sides.B = before sides.B
-more_end sides.B more turns each before sides.A = before sides.A
-more_end sides.B more turns each before sides.B = both_end turns.b more (before sides.B) each
+all_by_answer : (e : Endpoint) (ts : List Turned) → AlongTurns (λ (x : Endpoint). EndsByAnswer) e ts → AllByRecursion EndsByAnswer ts
+all_by_answer e [] along = tt
+all_by_answer e (t ∷ ts) along = (along.0, all_by_answer t.outcome.after ts along.1)
 
 pub requests_end : EndLaws → SocketRequestsEndByAnswers
-requests_end law options [] runs sides.A = tt
-requests_end law options [] runs sides.B = tt
-requests_end law options (worked ∷ earlier) runs side =
-    let mover : Side = side_of_act worked.act in
-    let before : Both (List Turned) = turns_after earlier in
-    more_end mover worked.turns before
-    (act_ends law (endpoint_after (of_side mover options) (of_side mover before)) (packets_shown (of_other mover options) (of_other mover before)) worked.act worked.turns runs.0)
-    (λ (s : Side). requests_end law options earlier runs.1 s) side
+requests_end law options run runs side =
+    all_by_answer (fresh_endpoint (of_side side options)) (of_side side (turns_after run))
+    (run_along (λ (x : Endpoint). EndsByAnswer) (turn_ends law) options run runs side)

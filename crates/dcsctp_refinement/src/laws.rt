@@ -3,10 +3,10 @@
 ghost use Rattle.dcsctp_refinement.specs.Agreement.{SocketsAgree};
 ghost use Rattle.dcsctp_refinement.specs.Handshake.{FittingSocketsConnect};
 ghost use Rattle.dcsctp_refinement.specs.Laws.{SocketLaws};
-ghost use Rattle.dcsctp_refinement.specs.OneSocket.{SocketEffectsInPlace, SocketRequestsEndByAnswers};
+ghost use Rattle.dcsctp_refinement.specs.OneSocket.{SocketEffectsInPlace, SocketRequestsEndByAnswers, SocketsTellEnds};
 
 use dcsctp_agreement::{
-    answers_end_requests, effects_in_place, effects_mean, sides_agree, sides_run_alone,
+    answers_end_requests, effects_in_place, effects_mean, ends_once, sides_agree, sides_run_alone,
 };
 use dcsctp_machine::{
     acts_are_controlled, admitted_packets_may_be_worked, answer_keeps_agreement, cookie_reads_back,
@@ -65,7 +65,16 @@ pub fn socket_requests_end_by_answers()
     acts_are_controlled();
 }
 
-/// All that holds of the sockets of a run: the four theorems above.
+/// A turn of a socket that leads to the closed state from another adds one event that says so, OnClosed or
+/// OnAborted, and no other turn adds one (RFC 9260, section 9).
+pub fn sockets_tell_ends()
+    ensures { SocketsTellEnds }
+{
+    ends_once();
+    acts_are_controlled();
+}
+
+/// All that holds of the sockets of a run: the theorems above.
 pub fn socket_laws()
     ensures { SocketLaws }
 {
@@ -73,4 +82,5 @@ pub fn socket_laws()
     fitting_sockets_connect();
     socket_effects_in_place();
     socket_requests_end_by_answers();
+    sockets_tell_ends();
 }

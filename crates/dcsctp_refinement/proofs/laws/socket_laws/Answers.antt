@@ -7,4 +7,5 @@ returns c =
       connect = c.fitting_sockets_connect.ensures;
       numbers = c.socket_effects_in_place.ensures;
       answers = c.socket_requests_end_by_answers.ensures;
+      ends = c.sockets_tell_ends.ensures;
     }
