@@ -30,6 +30,7 @@ world_agrees law options world h =
       connect = λ fit side. law.connect options side h.steps h.usable fit h.run;
       numbers = λ side. law.numbers options h.steps h.usable h.run side;
       answers = λ side. law.answers options h.steps h.run side;
+      ends = λ side. law.ends options h.steps h.run side;
       agree = λ a b. law.agree options h.steps h.usable h.run (record { a = subst HasDistinctTags (h.sides sides.A).pairs a; b = subst HasDistinctTags (h.sides sides.B).pairs b });
     }
 

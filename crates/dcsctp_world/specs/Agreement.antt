@@ -4,14 +4,15 @@ use Rattle.std.specs.List.{AllByRecursion}
 use Rattle.dcsctp_machine.specs.declared.association.Pair.{Pair}
 use Rattle.dcsctp_machine.specs.declared.options.Options.{Options}
 use Rattle.dcsctp_machine.specs.declared.schedule.Side.{Side}
-use Rattle.dcsctp_machine.specs.Endpoint.{open_in, established}
+use Rattle.dcsctp_machine.specs.Endpoint.{open_in, established, fresh_endpoint}
 use Rattle.dcsctp_machine.specs.Offer.{offer_of, negotiated}
 use Rattle.dcsctp_machine.specs.control.HandshakeChanges.{new_held}
+use Rattle.dcsctp_machine.specs.CallTurns.{AlongTurns}
 use Rattle.dcsctp_machine.specs.Past.{Each, InPlace}
 use Rattle.dcsctp_machine.specs.Sockets.{Both, of_side, turns_after}
 use Rattle.dcsctp_refinement.specs.Agreement.{HasDistinctTags, AgreeThroughout, noted_past}
 use Rattle.dcsctp_refinement.specs.Handshake.{handshake_acts, AreFitting, ConnectThroughout, connections}
-use Rattle.dcsctp_refinement.specs.OneSocket.{EndsByAnswer}
+use Rattle.dcsctp_refinement.specs.OneSocket.{EndsByAnswer, TellsEnd}
 use Rattle.dcsctp_world.specs.Shown.{SideShown, WorldView}
 use Rattle.dcsctp_world.specs.Run.{IsRun}
 
@@ -19,13 +20,14 @@ use Rattle.dcsctp_world.specs.Run.{IsRun}
 -- of the run, when it is told, finds that the other side holds, or held, the crossed association, and each own request that
 -- was performed, that the other performed it. Where the sockets fit each other, the first five acts of a handshake connect
 -- them, whatever comes later. What each side notes of connections and of the numbers of requests stands in its place, and an
--- own request ends by an answer with its number.
+-- own request ends by an answer with its number. A turn that ends an association tells it once, and no other turn tells an end.
 pub record Agrees {R : Type 0} (options : Both Options) (world : WorldView R) : Type 0 where
   pub is_run : IsRun options world
   pub agree : HasDistinctTags world.sides.a.pairs → HasDistinctTags world.sides.b.pairs → AgreeThroughout options is_run.steps
   pub connect : AreFitting options → (side : Side) → ConnectThroughout options side is_run.steps
   pub numbers : (side : Side) → Each InPlace (noted_past (of_side side (turns_after is_run.steps)))
   pub answers : (side : Side) → AllByRecursion EndsByAnswer (of_side side (turns_after is_run.steps))
+  pub ends : (side : Side) → AlongTurns TellsEnd (fresh_endpoint (of_side side options)) (of_side side (turns_after is_run.steps))
 
 -- The side is Established with this pair and peer, and was told OnConnected once.
 pub record ShowsConnected {R : Type 0} (mine theirs : Options) (side : SideShown R) (my peer : Pair) : Type 0 where
