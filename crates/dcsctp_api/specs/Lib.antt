@@ -2,5 +2,6 @@ pub mod Calls
 pub mod Cookie
 pub mod Events
 pub mod Ids
+pub mod Time
 pub use Rattle.dcsctp_machine.specs.Event
 pub use Rattle.dcsctp_machine.specs.Offer

@@ -1,11 +1,14 @@
 //! The calls of a socket.
 
-ghost use Rattle.std.specs.Prelude.{◌≡◌, true, false, IsOk};
+ghost use Rattle.std.specs.Prelude.{◌≡◌, true, false, IsOk, ◌<◌};
 ghost use Rattle.dcsctp_api.specs.Calls.{UserView, PollsEvent, HandlesInput, Connects, Closes, is_closed, socket_state_of};
+ghost use Rattle.dcsctp_machine.specs.TimeTurns.{Waits, next_moment};
+ghost use Rattle.dcsctp_api.specs.Time.{Advances, OnlyMovesClock};
 
 use crate::errors::SocketFault;
 use crate::events::SocketEvent;
 use crate::state::SocketState;
+use dcsctp_machine::SocketTime;
 
 /// The calls of an SCTP socket that makes no system call: packets go in, events come out.
 ///
@@ -43,6 +46,26 @@ pub trait DcSctpSocket {
         ensures call { Closes (user_view self.old) result (user_view self.new) }
         ensures closed { (user_view self.old).failed ≡ false
             → is_closed (user_view self.old).endpoint.core ≡ true → IsOk result };
+
+    /// Tells the time: `now` is the present moment, and what is due has its turn. Where T1 has expired
+    /// (RFC 9260, section 5.1), the INIT or COOKIE ECHO goes out again, or, with no restart left, the
+    /// association ends with `SocketEvent::OnAborted`.
+    ///
+    /// A moment before the present one changes nothing, and takes no memory. One that isn't, and that
+    /// comes before the answer of `poll_timeout`, moves the clock alone, but while a COOKIE ACK is
+    /// awaited: there what acknowledges data may be due, of which `poll_timeout` says nothing.
+    fn advance_time(&mut self, now: SocketTime) -> Result<(), SocketFault>
+        ensures call { Advances (user_view self.old) now result (user_view self.new) }
+        ensures earlier { (user_view self.old).failed ≡ false
+            → now < (user_view self.old).endpoint.moment → IsOk result }
+        ensures waits { (user_view self.old).failed ≡ false → Waits (user_view self.old).endpoint now
+            → OnlyMovesClock (user_view self.old) now result (user_view self.new) };
+
+    /// The moment at which the socket wants to be told the time next, never before the present one;
+    /// `SocketTime::infinite_future()` where it waits for none. While an association is set up that is
+    /// T1's deadline. It takes no memory.
+    fn poll_timeout(&self) -> SocketTime
+        ensures { result ≡ next_moment (user_view self.now).endpoint };
 
     /// The state of the association.
     fn state(&self) -> SocketState

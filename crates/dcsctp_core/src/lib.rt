@@ -3,12 +3,14 @@
 
 mod context;
 mod ending;
+mod expiry;
 mod flush;
 mod following;
 mod state;
 mod transmission_control_block;
 
 pub use context::Context;
+pub use expiry::Expiry;
 pub use following::Following;
 pub use state::{CookieEchoState, CookieWaitState, State};
 pub use transmission_control_block::{Peer, TransmissionControlBlock};

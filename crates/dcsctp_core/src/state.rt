@@ -1,7 +1,8 @@
 //! The state of a socket (RFC 9260, section 4).
 
+use crate::expiry::{Expiry, expire};
 use crate::transmission_control_block::TransmissionControlBlock;
-use dcsctp_api::{Association, Pair, Phase, SocketState};
+use dcsctp_api::{Association, Pair, Phase, SocketState, SocketTime};
 use dcsctp_send::Timer;
 
 /// An INIT ACK is awaited.
@@ -35,6 +36,7 @@ pub struct CookieEchoState {
 ///    +------------------- COOKIE ECHO, from each, also anew --------------------+
 /// CookieWait --INIT ACK without a cookie--> Closed
 /// CookieEchoed, Established --ABORT--> Closed
+/// CookieWait, CookieEchoed --T1 without restarts--> Closed
 /// ```
 #[derive(Debug, Drop)]
 pub enum State {
@@ -56,7 +58,9 @@ impl State {
     ghost use Rattle.dcsctp_machine.specs.Endpoint.{own_tag, association_of};
     ghost use Rattle.dcsctp_api.specs.Calls.{socket_state_of, is_closed};
     ghost use Rattle.std.specs.Option.{option_map};
-    ghost use Rattle.dcsctp_core.specs.View.{core_of, tcb_of, established_from};
+    ghost use Rattle.dcsctp_send.specs.Timer.{running_deadline};
+    ghost use Rattle.dcsctp_core.specs.View.{core_of, tcb_of, t1_of, established_from};
+    ghost use Rattle.dcsctp_core.specs.Timing.{expiry_of, t1_told};
 
     /// The association with a peer, where one is held. It takes no memory.
     pub fn tcb(&self) -> Option<&TransmissionControlBlock>
@@ -116,6 +120,31 @@ impl State {
             }),
             State::CookieEchoed(echoed) => Some(echoed.tcb.association(Phase::CookieEchoed)),
             State::Established(tcb) => Some(tcb.association(Phase::Established)),
+        }
+    }
+
+    /// When T1 expires next, in `CookieWait` and `CookieEchoed`; none elsewhere. It takes no memory.
+    pub fn t1_deadline(&self) -> Option<SocketTime>
+        ensures { result ≡ running_deadline (t1_of self.now) }
+    {
+        match self {
+            State::Closed | State::Established(_) => None,
+            State::CookieWait(wait) => wait.t1_init.next_expiry(),
+            State::CookieEchoed(echoed) => echoed.t1_cookie.next_expiry(),
+        }
+    }
+
+    /// Tells T1 the time, in `CookieWait` and `CookieEchoed` (RFC 9260, section 5.1). In another state
+    /// nothing is due. It takes no memory.
+    pub fn expire_t1(&mut self, now: SocketTime) -> Expiry
+        ensures answer { result ≡ expiry_of now (t1_of self.old) }
+        ensures left { self.new ≡ t1_told now self.old }
+    {
+        match self {
+            State::Closed => Expiry::NotDue,
+            State::CookieWait(wait) => expire(&mut wait.t1_init, now),
+            State::CookieEchoed(echoed) => expire(&mut echoed.t1_cookie, now),
+            State::Established(_) => Expiry::NotDue,
         }
     }
 

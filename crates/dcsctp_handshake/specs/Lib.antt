@@ -1,5 +1,6 @@
 pub mod Echoes
 pub mod Handshake
+pub mod Timing
 pub use Rattle.dcsctp_api.specs.Events
 pub use Rattle.dcsctp_core.specs.Handling
 pub use Rattle.dcsctp_core.specs.View

@@ -46,7 +46,7 @@ fn started_t1(options: &Options, now: SocketTime, duration: Duration) -> Timer
 /// Sends an INIT with this pair, under tag 0, where it fits `mtu`.
 ///
 /// The one error is that a growth was refused. Nothing has changed then.
-fn send_init<R: Rng>(context: &mut Context<R>, my: Pair) -> Result<(), AllocError>
+pub(crate) fn send_init<R: Rng>(context: &mut Context<R>, my: Pair) -> Result<(), AllocError>
     ensures { Tries R.stream (send_init_turn my) context.old result context.new }
 {
     let options = &context.options;
@@ -130,7 +130,7 @@ fn implementation_of(cookie: &[u8]) -> SctpImplementation
 /// nothing is sent.
 ///
 /// The one error is that a growth was refused. Nothing has changed then.
-fn send_cookie_echo<R: Rng>(context: &mut Context<R>) -> Result<(), AllocError>
+pub(crate) fn send_cookie_echo<R: Rng>(context: &mut Context<R>) -> Result<(), AllocError>
     ensures { Tries R.stream echo_turn context.old result context.new }
 {
     let State::CookieEchoed(echoed) = &context.state else {

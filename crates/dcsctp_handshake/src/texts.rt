@@ -5,3 +5,9 @@ pub(crate) const NO_COOKIE: &str = "InitAck chunk doesn't contain a cookie";
 
 /// A COOKIE ECHO is of no association that is held, or that could be made.
 pub(crate) const INVALID_TAG: &str = "Received CookieEcho with invalid verification tag";
+
+/// No INIT ACK has come, however often the INIT was sent.
+pub(crate) const NO_INIT_ACK: &str = "No INIT_ACK received";
+
+/// No COOKIE ACK has come, however often the COOKIE ECHO was sent.
+pub(crate) const NO_COOKIE_ACK: &str = "No COOKIE_ACK received";

@@ -1,16 +1,18 @@
 -- What holds of each turn of a socket, whatever goes in, holds along each call and each run.
-use Rattle.std.proofs.Common.{◌≡◌, ℕ, Option, None, Some, List, [], ◌∷◌, ◌++◌, sym, subst}
+use Rattle.std.proofs.Common.{◌≡◌, ℕ, Bool, true, false, Option, None, Some, List, [], ◌∷◌, ◌++◌, sym, subst}
+use Rattle.std.specs.Prelude.{nat_le}
 use Rattle.dcsctp_machine.specs.declared.options.Options.{Options}
 use Rattle.dcsctp_machine.specs.declared.schedule.Side.{Side}
 use Rattle.dcsctp_machine.specs.declared.schedule.Side.TheVariants as sides
 use Rattle.dcsctp_machine.specs.declared.ends.AbortReason.TheVariants.{CloseCalled}
-use Rattle.dcsctp_machine.specs.Schedule.{connect_call, close_call, StepContent, call_step, delivery_step, ActContent, step_act}
+use Rattle.dcsctp_machine.specs.Schedule.{connect_call, close_call, advance_call, StepContent, call_step, delivery_step, ActContent, step_act}
 use Rattle.dcsctp_machine.specs.Packet.{Content, Packet, packet_in}
 use Rattle.dcsctp_machine.specs.Admission.{Admission, all_chunks, shutdown_acks_alone, refused, admits, shutdown_acks_in}
 use Rattle.dcsctp_machine.specs.Endpoint.{Endpoint, fresh_endpoint}
 use Rattle.dcsctp_machine.specs.Following.{Following, next_chunk, packet_end, dropped_rest}
 use Rattle.dcsctp_machine.specs.control.Acts.{connect, abort_with}
-use Rattle.dcsctp_machine.specs.Turn.{Input, arrival, refusal, packet_begins, chunk_input, packet_ends, act_input, unreadable_text}
+use Rattle.dcsctp_machine.specs.Turn.{Input, arrival, refusal, packet_begins, chunk_input, packet_ends, act_input, time_passes, unreadable_text}
+use Rattle.dcsctp_machine.specs.TimeTurns.{t1_inputs, MomentTurns, TimeTurns}
 use Rattle.dcsctp_machine.specs.CallTurns.{Turned, IsTurn, Turns, AlongTurns, AfterChunk, ChunkTurns, WholeTurns, AdmittedTurns, HandleInput, unreadable, readable, after_all}
 use Rattle.dcsctp_machine.specs.Sockets.{Both, of_side, of_other, StepTurns, DeliveryTurns, numbered, with_turns, Worked, SocketRun, turns_after, endpoint_after, packets_shown, side_of_act, TurnsOfAct}
 
@@ -63,9 +65,19 @@ module _ (Good : Endpoint → Turned → Type 0) (each : (e : Endpoint) (input :
   delivery_along e None ts none = none_along e ts none
   delivery_along e (Some bytes) ts turns = input_along e bytes ts turns
 
+  moment_along : (e : Endpoint) (moment : ℕ) (ts : List Turned) → MomentTurns e moment ts → AlongTurns Good e ts
+  moment_along e moment [] turns = absurd turns
+  moment_along e moment (t ∷ ts) turns =
+      (each e (time_passes moment) t turns.0, turns_along t.outcome.after (t1_inputs t.outcome.after t.outcome.after.core) ts turns.1)
+
+  time_along : (later : Bool) (e : Endpoint) (moment : ℕ) (ts : List Turned) → TimeTurns later e moment ts → AlongTurns Good e ts
+  time_along true e moment ts turns = moment_along e moment ts turns
+  time_along false e moment ts none = none_along e ts none
+
   step_along : (e : Endpoint) (packets : List (List ℕ)) (step : StepContent) (ts : List Turned) → StepTurns e packets step ts → AlongTurns Good e ts
   step_along e packets (call_step side connect_call) ts turns = turns_along e (act_input connect ∷ []) ts turns
   step_along e packets (call_step side close_call) ts turns = turns_along e (act_input (abort_with CloseCalled) ∷ []) ts turns
+  step_along e packets (call_step side (advance_call moment)) ts turns = time_along (nat_le e.moment moment) e moment ts turns
   step_along e packets (delivery_step side number) ts turns = delivery_along e (numbered number packets) ts turns
 
   pub act_along : (e : Endpoint) (packets : List (List ℕ)) (act : ActContent) (ts : List Turned) → TurnsOfAct e packets act ts → AlongTurns Good e ts

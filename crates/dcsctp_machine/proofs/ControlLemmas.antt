@@ -25,6 +25,7 @@ use Rattle.dcsctp_machine.specs.Laws.{FitsPair, FitsOwn, FitsAnswer, ChunksAreCo
 use Rattle.dcsctp_machine.proofs.PlainLemmas.{plain_controlled}
 use Rattle.dcsctp_machine.proofs.LawLemmas.{names_read_back}
 use Rattle.dcsctp_machine.proofs.ControlHandshake.{choices_of, ControlledAt, still_controlled, init_ack_controlled, cookie_ack_controlled, abort_controlled, aborting_controlled, connect_controlled}
+use Rattle.dcsctp_machine.proofs.TimerLemmas.{t1_again_controlled, t1_gives_up_controlled}
 use Rattle.dcsctp_machine.proofs.ControlEcho.{cookie_echo_controlled}
 
 -- ---- an INIT
@@ -176,7 +177,8 @@ stands_before e has o turn = elim (begin_stands e e.core has o turn) [
 
 pub acts_are_controlled : ActsAreControlled
 acts_are_controlled e connect o turn = connect_controlled e o turn
-acts_are_controlled e (t1_expires again) o turn = turn
+acts_are_controlled e (t1_expires true) o turn = t1_again_controlled e o turn
+acts_are_controlled e (t1_expires false) o turn = t1_gives_up_controlled e o turn
 acts_are_controlled e shut_down o turn = turn
 acts_are_controlled e step_of_shutdown o turn = turn
 acts_are_controlled e shutdown_repeats o turn = turn

@@ -118,7 +118,7 @@ some_answers e draft = answers_for first_ask (packets_allowed e.options.max_burs
 
 -- ---- INIT ACK
 
-echo_now : (b : Bool) (e : Endpoint) (words : List Word) (tag : ℕ) (cookie : List ℕ) (answers : List Answer) → EchoAnswers b e tag cookie answers
+pub echo_now : (b : Bool) (e : Endpoint) (words : List Word) (tag : ℕ) (cookie : List ℕ) (answers : List Answer) → EchoAnswers b e tag cookie answers
     → (if b then flush_answered answers e words [] true tag (echo_emission tag cookie).packet.contents else quiet e words [])
     ≡ (if b then flush_outcome e words [] true tag (echo_emission tag cookie).packet.contents else quiet e words [])
 echo_now true e words tag cookie answers h = flush_is_now e words [] true tag (echo_emission tag cookie).packet.contents answers h
@@ -138,7 +138,7 @@ pub init_ack_turn_now : (e : Endpoint) (theirs : Introduction) (cookie : Option 
     → (word : ℕ) × (o ≡ init_ack_outcome e theirs cookie e.core word)
 init_ack_turn_now e theirs cookie o turn = (turn.0, turn.3 ∙ init_ack_now e theirs cookie e.core turn.0 turn.1 turn.2)
 
-echo_answers : (b : Bool) (e : Endpoint) (tag : ℕ) (cookie : List ℕ) → (answers : List Answer) × EchoAnswers b e tag cookie answers
+pub echo_answers : (b : Bool) (e : Endpoint) (tag : ℕ) (cookie : List ℕ) → (answers : List Answer) × EchoAnswers b e tag cookie answers
 echo_answers true e tag cookie = some_answers e (echo_emission tag cookie)
 echo_answers false e tag cookie = ([], refl)
 

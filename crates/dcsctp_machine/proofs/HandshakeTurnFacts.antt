@@ -76,11 +76,11 @@ socket e mtu max_burst core packets_sent =
 
 -- T1, just started: it is doubled each time, and goes on eight times
 abbrev t1_due : ℕ → ℕ → Option RunningTimer
-t1_due deadline duration = Some (record { deadline = deadline; expiries = 0; settings = record { duration = duration; backoff = Exponential; max_restarts = Some 8; max_backoff = None } })
+t1_due deadline duration = Some (record { deadline = deadline; wait = duration; expiries = 0; terms = record { backoff = Exponential; max_restarts = Some 8; max_backoff = None } })
 
 -- the heartbeat interval, just started
 abbrev pub heartbeats_due : ℕ → ℕ → Option RunningTimer
-heartbeats_due deadline duration = Some (record { deadline = deadline; expiries = 0; settings = record { duration = duration; backoff = Fixed; max_restarts = None; max_backoff = None } })
+heartbeats_due deadline duration = Some (record { deadline = deadline; wait = duration; expiries = 0; terms = record { backoff = Fixed; max_restarts = None; max_backoff = None } })
 
 abbrev pub mine : Pair
 mine = record { tag = 7; first_tsn = 100 }

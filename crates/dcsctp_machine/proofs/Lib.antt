@@ -18,5 +18,7 @@ pub mod PlainLemmas
 pub mod ReadBackLemmas
 pub mod SocketLemmas
 pub mod StandardFacts
+pub mod TimerFacts
+pub mod TimerLemmas
 pub mod TurnFacts
 pub mod TurnLemmas

@@ -1,4 +1,5 @@
--- What a socket sends: numbers that fit their fields, and chunks that are read as themselves.
+-- What a socket sends: numbers that fit their fields, and chunks that are read as themselves; and the timer that sends
+-- again.
 use Rattle.std.specs.Prelude.{◌≡◌, ◌<◌, ◌^◌, ℕ, Option, None, Some, List, [], ◌∷◌}
 use Rattle.std.specs.List.{AllByRecursion}
 use Rattle.dcsctp_wire.specs.ReadsBack.{FitsEcho, FitsChunk}
@@ -7,6 +8,7 @@ use Rattle.dcsctp_machine.specs.Settings.{IsValid, FitsOptions}
 use Rattle.dcsctp_machine.specs.Event.{Event, sent}
 use Rattle.dcsctp_machine.specs.Packet.{Content, init, init_ack, Packet, Emission, content_in, chunk_out}
 use Rattle.dcsctp_machine.specs.Endpoint.{Endpoint, Core, closed, cookie_wait, cookie_echoed, open_in, established, shutdown_pending, shutdown_sent, shutdown_received, shutdown_ack_sent}
+use Rattle.dcsctp_machine.specs.Deadlines.{T1Runs}
 use Rattle.dcsctp_machine.specs.Outcome.{Outcome}
 use Rattle.dcsctp_machine.specs.Laws.{FitsPair, FitsOffer}
 
@@ -67,6 +69,8 @@ pub record FitsEndpoint (e : Endpoint) : Type 0 where
   pub valid : IsValid e.options
   pub options : FitsOptions e.options
   pub core : FitsCore e.core
+  -- a packet that isn't answered is sent again some day
+  pub t1 : T1Runs e.core e.timers.t1
 
 -- The turn leaves numbers that fit their fields, and sends what is read as itself.
 pub record TurnFits (o : Outcome) : Type 0 where

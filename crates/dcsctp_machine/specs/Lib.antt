@@ -21,3 +21,5 @@ pub mod turns
 pub mod Laws
 pub mod Fitting
 pub mod Following
+pub mod TimeTurns
+pub mod Deadlines

@@ -12,6 +12,8 @@ use Rattle.dcsctp_machine.specs.declared.schedule.Act.TheVariants as acts
 pub data CallContent : Type 0 where
   connect_call : CallContent
   close_call : CallContent
+  -- the present moment
+  advance_call : ℕ → CallContent
 
 -- a step of a schedule
 pub data StepContent : Type 0 where
@@ -27,6 +29,7 @@ pub data ActContent : Type 0 where
 abbrev pub call_content : Call → CallContent
 call_content calls.Connect = connect_call
 call_content calls.Close = close_call
+call_content (calls.AdvanceTime moment) = advance_call moment
 
 abbrev pub step_content : Step → StepContent
 step_content (steps.Call side call) = call_step side (call_content call)

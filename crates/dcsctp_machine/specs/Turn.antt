@@ -8,6 +8,7 @@ use Rattle.dcsctp_machine.specs.turns.HandshakeOutcomes.{InitTurn, ConnectTurn, 
 use Rattle.dcsctp_machine.specs.turns.CookieEchoOutcomes.{CookieEchoTurn}
 use Rattle.dcsctp_machine.specs.turns.EndOutcomes.{abort_outcome, aborting_outcome}
 use Rattle.dcsctp_machine.specs.turns.PlainOutcomes.{PlainTurn}
+use Rattle.dcsctp_machine.specs.turns.TimerOutcomes.{T1AgainTurn, t1_gives_up_outcome}
 use Rattle.dcsctp_machine.specs.control.Acts.{Act, connect, t1_expires, shut_down, step_of_shutdown, shutdown_repeats, abort_with, hands_over, flushes, request_again}
 use Rattle.dcsctp_machine.specs.Controlled.{ControlledChunk, ControlledAct}
 
@@ -24,6 +25,8 @@ pub data Input : Type 0 where
   packet_ends : Input
   -- what the user or a timer brings
   act_input : Act → Input
+  -- The clock is moved to this moment.
+  time_passes : ℕ → Input
 
 -- the text for bytes that are no packet
 abbrev pub unreadable_text : List ℕ
@@ -66,7 +69,8 @@ ContentTurn e tag (plain chunk) o = PlainTurn e chunk o
 -- What the user and the timers bring.
 abbrev pub ActTurn : Endpoint → Act → Outcome → Type 0
 ActTurn e connect o = ConnectTurn e o
-ActTurn e (t1_expires again) o = ControlledAct e (t1_expires again) o
+ActTurn e (t1_expires true) o = T1AgainTurn e o
+ActTurn e (t1_expires false) o = o ≡ t1_gives_up_outcome e e.core
 ActTurn e shut_down o = ControlledAct e shut_down o
 ActTurn e step_of_shutdown o = ControlledAct e step_of_shutdown o
 ActTurn e shutdown_repeats o = ControlledAct e shutdown_repeats o
@@ -75,6 +79,10 @@ ActTurn e hands_over o = ControlledAct e hands_over o
 ActTurn e flushes o = ControlledAct e flushes o
 ActTurn e (request_again reset) o = ControlledAct e (request_again reset) o
 
+-- The clock stands at this moment, and nothing else happens.
+abbrev pub clock_at : ℕ → Endpoint → Endpoint
+clock_at moment e = record e { moment = moment }
+
 abbrev pub Turn : Endpoint → Input → Outcome → Type 0
 Turn e arrival o = o ≡ arrival_outcome e
 Turn e (refusal text) o = o ≡ refusal_outcome e text
@@ -82,3 +90,4 @@ Turn e (packet_begins contents) o = BeginTurn e e.core (has_data contents) o
 Turn e (chunk_input tag content) o = ContentTurn e tag content o
 Turn e packet_ends o = EndTurn e o
 Turn e (act_input act) o = ActTurn e act o
+Turn e (time_passes moment) o = o ≡ still (clock_at moment e)

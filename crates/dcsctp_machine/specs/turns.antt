@@ -3,3 +3,4 @@ pub mod EndOutcomes
 pub mod FlushOutcomes
 pub mod HandshakeOutcomes
 pub mod PlainOutcomes
+pub mod TimerOutcomes

@@ -3,6 +3,7 @@
 ghost use Rattle.std.specs.Prelude.{◌<◌, ◌^◌};
 ghost use Rattle.dcsctp_machine.specs.Settings.{FitsOptions};
 ghost use Rattle.dcsctp_machine.specs.Laws.{NegotiationIsMutual, AnswerKeepsAgreement, CookieReadsBack, InitLeavesAssociation, InitBringsOnePacket, OfferReadsBack, CapabilitiesHoldOffer, RefusedPacketAddsOneError, AdmittedPacketsMayBeWorked, ChunksAreControlled, ActsAreControlled, PacketsAreControlled, DeliveriesAreControlled, FlushKeepsLimits, SocketsKeepOptions};
+ghost use Rattle.dcsctp_machine.specs.TimeTurns.{TimePassesQuietly};
 
 use crate::options::Options;
 use dcsctp_wire::one_reading;
@@ -113,4 +114,10 @@ pub fn flush_keeps_limits()
 /// The options of two sockets stay for good, but for the longest message that each takes.
 pub fn sockets_keep_options()
     ensures { SocketsKeepOptions }
+{}
+
+/// Time that passes before the next moment at which a socket wants to be told it moves the clock alone,
+/// but for a socket that awaits a COOKIE ACK.
+pub fn time_passes_quietly()
+    ensures { TimePassesQuietly }
 {}

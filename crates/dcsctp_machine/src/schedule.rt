@@ -1,5 +1,7 @@
 //! What happens to two sockets: calls of their users, and deliveries.
 
+use crate::time::SocketTime;
+
 /// One of two sockets.
 #[derive(Clone, Copy, Debug, PartialEq, Eq)]
 pub enum Side {
@@ -18,6 +20,9 @@ pub enum Call {
 
     /// It closes its association at once (RFC 9260, section 9.1).
     Close,
+
+    /// It tells the time: this is the present moment.
+    AdvanceTime(SocketTime),
 }
 
 /// A step of a schedule.

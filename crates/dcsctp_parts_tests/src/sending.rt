@@ -42,6 +42,46 @@ fn a_timer_runs_from_its_start_to_its_stop(rt: HostRuntime) {
     stands(&rt, &timer, "stopped");
 }
 
+/// Tells a timer a moment, in milliseconds: it answers whether it expires, and then expires next at
+/// another one.
+fn told(rt: &impl Abort, timer: &mut Timer, millis: u32, expires: bool, next: Option<u32>) {
+    let now = SocketTime::zero() + Duration::from_millis(u64::from(millis));
+    same(rt, "expires", timer.expire(now), expires);
+    let expiry = timer.next_expiry().map(|moment| moment.as_nanos());
+    let next = next.map(|millis| u128::from(millis) * 1_000_000);
+    same(rt, "next", expiry, next);
+}
+
+#[test]
+fn a_timer_backs_off_and_stops(rt: HostRuntime) {
+    let second = Duration::from_secs(1);
+    let mut timer = Timer::new(second, BackoffAlgorithm::Exponential, Some(2), None);
+    told(&rt, &mut timer, 5000, false, None);
+    timer.start(SocketTime::zero());
+    told(&rt, &mut timer, 999, false, Some(1000));
+    timer.set_duration(second + second);
+    told(&rt, &mut timer, 1000, true, Some(3000));
+    told(&rt, &mut timer, 3500, true, Some(7500));
+    told(&rt, &mut timer, 7499, false, Some(7500));
+    told(&rt, &mut timer, 7500, true, None);
+    timer.start(SocketTime::zero());
+    told(&rt, &mut timer, 1999, false, Some(2000));
+}
+
+#[test]
+fn a_bound_cuts_each_wait_but_the_first(rt: HostRuntime) {
+    let second = Duration::from_secs(1);
+    let bound = Some(Duration::from_millis(700));
+    let mut timer = Timer::new(second, BackoffAlgorithm::Exponential, None, bound);
+    timer.start(SocketTime::zero());
+    told(&rt, &mut timer, 1000, true, Some(1700));
+    told(&rt, &mut timer, 1700, true, Some(2400));
+    let mut fixed = Timer::new(second, BackoffAlgorithm::Fixed, Some(1), None);
+    fixed.start(SocketTime::zero());
+    told(&rt, &mut fixed, 1000, true, Some(2000));
+    told(&rt, &mut fixed, 2000, true, None);
+}
+
 #[test]
 fn the_timeout_is_half_a_second_at_first(rt: HostRuntime) {
     let timeout = RetransmissionTimeout::new(&Options::default());

@@ -87,12 +87,12 @@ end_fits reasons.TooManyErrors = (tt, tt)
 aborts_fit : (b : Bool) (e : Endpoint) (held : Held) (reason : AbortReason) → FitsEndpoint e → FitsHeld held
     → TurnFits (ended_outcome (cond b (sends e [] [] (abort_to held reason)) (quiet e [] [])) (end_of reason))
 aborts_fit true e held reason h fits =
-    record { after = record { valid = h.valid; options = h.options; core = tt }; sends = (record { tag = fits.peer.tag; contents = (reason_sendable reason, tt) }, end_fits reason) }
-aborts_fit false e held reason h fits = record { after = record { valid = h.valid; options = h.options; core = tt }; sends = end_fits reason }
+    record { after = record { valid = h.valid; options = h.options; core = tt; t1 = tt }; sends = (record { tag = fits.peer.tag; contents = (reason_sendable reason, tt) }, end_fits reason) }
+aborts_fit false e held reason h fits = record { after = record { valid = h.valid; options = h.options; core = tt; t1 = tt }; sends = end_fits reason }
 
 pub aborting_fits : (e : Endpoint) (core : Core) (reason : AbortReason) → FitsEndpoint e → FitsCore core → TurnFits (aborting_outcome e core reason)
 aborting_fits e closed reason h own = still_fits e h
-aborting_fits e (cookie_wait my) reason h own = record { after = record { valid = h.valid; options = h.options; core = tt }; sends = end_fits reason }
+aborting_fits e (cookie_wait my) reason h own = record { after = record { valid = h.valid; options = h.options; core = tt; t1 = tt }; sends = end_fits reason }
 aborting_fits e (cookie_echoed my held cookie) reason h own = aborts_fit (fits e (abort_to held reason)) e held reason h own.1
 aborting_fits e (open_in established my held) reason h own = aborts_fit (fits e (abort_to held reason)) e held reason h own.1
 aborting_fits e (open_in shutdown_pending my held) reason h own = absurd own

@@ -18,3 +18,7 @@ pub mod NotedLemmas
 pub mod OneSocket
 pub mod RunFacts
 mod TellingEnds
+pub mod TimeMoves
+pub mod T1Lemmas
+pub mod TimerFits
+pub mod StepMoves

@@ -1,25 +1,22 @@
--- What comes of a step at one socket is moves of its side in the machine that agreement is proved on.
-use Rattle.std.proofs.Common.{◌≡◌, ℕ, Bool, zero, suc, Option, None, Some, List, [], ◌∷◌, ◌++◌, refl, sym, subst, ap, ◌∙◌, append_assoc}
+-- What comes of connect and of a delivery at one socket is moves of its side in the machine that agreement is proved on.
+use Rattle.std.proofs.Common.{◌≡◌, ℕ, Bool, Option, None, Some, List, [], ◌∷◌, ◌++◌, refl, sym, subst, ap, ◌∙◌, append_assoc}
 use Rattle.std.proofs.lemmas.List.{append-nil}
 use Rattle.std.specs.List.{AllByRecursion, slice_get}
 use Rattle.dcsctp_wire.specs.Format.{IsPacket}
 use Rattle.dcsctp_wire.specs.ReadsBack.{BuiltPacketReadsAsItself}
-use Rattle.dcsctp_machine.specs.declared.ends.AbortReason.{AbortReason}
-use Rattle.dcsctp_machine.specs.declared.ends.AbortReason.TheVariants.{CloseCalled}
 use Rattle.dcsctp_machine.specs.declared.options.Options.{Options}
-use Rattle.dcsctp_machine.specs.Schedule.{connect_call, close_call, StepContent, call_step, delivery_step}
 use Rattle.dcsctp_machine.specs.Settings.{SameOptions, FitsOptions, wire_options, ports_of}
 use Rattle.dcsctp_machine.specs.Packet.{Content, Packet, packet_in, emission_bytes}
 use Rattle.dcsctp_machine.specs.Endpoint.{Endpoint, Core, closed, cookie_wait, cookie_echoed, open_in, established, shutdown_pending, shutdown_sent, shutdown_received, shutdown_ack_sent, fresh_endpoint}
 use Rattle.dcsctp_machine.specs.Outcome.{Outcome, still}
-use Rattle.dcsctp_machine.specs.Turn.{Input, ActTurn, arrival, refusal, packet_ends, act_input, has_data, BeginTurn, unreadable_text, arrival_outcome, refusal_outcome}
+use Rattle.dcsctp_machine.specs.Turn.{Input, arrival, refusal, packet_ends, act_input, has_data, BeginTurn, unreadable_text, arrival_outcome, refusal_outcome}
 use Rattle.dcsctp_machine.specs.turns.HandshakeOutcomes.{ConnectTurn}
 use Rattle.dcsctp_machine.specs.CallTurns.{Turned, Turns, ChunkTurns, WholeTurns, AdmittedTurns, HandleInput, unreadable, readable, events_of}
 use Rattle.dcsctp_machine.specs.Admission.{Admission, all_chunks, shutdown_acks_alone, refused, admits, shutdown_acks_in}
 use Rattle.dcsctp_machine.specs.Controlled.{IsControlled}
 use Rattle.dcsctp_machine.specs.control.Effect.{Effect, sends, Change, unchanged}
 use Rattle.dcsctp_machine.specs.control.Choices.{Choices}
-use Rattle.dcsctp_machine.specs.control.Acts.{connect, abort_with, act_change}
+use Rattle.dcsctp_machine.specs.control.Acts.{connect, act_change}
 use Rattle.dcsctp_machine.specs.Laws.{IsRest, dropped, ended, AreChunks, OfferReadsBack, ActsAreControlled, PacketsAreControlled, AdmittedPacketsMayBeWorked}
 use Rattle.dcsctp_machine.specs.Past.{Has}
 use Rattle.dcsctp_machine.specs.World.{SideState, after_changes, acted, ChunkChanges, PacketChanges, worked_whole, worked_acks, Move, does, receives, MoveChanges, Moved, MovesMade, after_moves}
@@ -32,7 +29,6 @@ use Rattle.dcsctp_agreement.proofs.Alone.{packet_turns}
 use Rattle.dcsctp_refinement.proofs.Deliver.{IsSent, sent_at, reads_as_sent, Fits, ChunksFit, EndFits, chunk_turns_fit, nothing_ends, packet_end_fits, acks_sendable}
 use Rattle.dcsctp_refinement.proofs.Follow.{Went, Followed, after_last, follow_turns, follow_idle}
 use Rattle.dcsctp_refinement.proofs.TurnsFit.{connect_fits}
-use Rattle.dcsctp_refinement.proofs.Aborting.{aborting_fits}
 
 -- the laws below that the runs of sockets rest on
 pub record Below : Type 0 where
@@ -52,18 +48,18 @@ pub record SideMoves (options : Options) (turns : List Turned) (side : SideState
 rests : (options : Options) (turns : List Turned) (side : SideState) (theirs : List Effect) (more : List Turned) → Followed options (turns ++ more) side → SideMoves options turns side theirs more
 rests options turns side theirs more follows = record { moves = []; made = tt; follows = follows }
 
-moves_once : (options : Options) (turns : List Turned) (side : SideState) (theirs : List Effect) (more : List Turned) (move : Move) (changes : List Change) → MoveChanges side theirs move changes
+pub moves_once : (options : Options) (turns : List Turned) (side : SideState) (theirs : List Effect) (more : List Turned) (move : Move) (changes : List Change) → MoveChanges side theirs move changes
     → Followed options (turns ++ more) (after_changes side changes) → SideMoves options turns side theirs more
 moves_once options turns side theirs more move changes made follows = record { moves = record { move = move; changes = changes } ∷ []; made = (made, tt); follows = follows }
 
-nothing_happens : (options : Options) (turns : List Turned) (side : SideState) (theirs : List Effect) (more : List Turned) → Followed options turns side → more ≡ []
+pub nothing_happens : (options : Options) (turns : List Turned) (side : SideState) (theirs : List Effect) (more : List Turned) → Followed options turns side → more ≡ []
     → SideMoves options turns side theirs more
 nothing_happens options turns side theirs more h none =
     rests options turns side theirs more
     (subst (λ (ts : List Turned). Followed options (turns ++ ts) side) (sym none) (subst (λ (ts : List Turned). Followed options ts side) (sym (append-nil turns)) h))
 
 -- turns that the side has no part in, and others behind them
-rests_then : (options : Options) (turns : List Turned) (side : SideState) (theirs : List Effect) (xs ys : List Turned) → SideMoves options (turns ++ xs) side theirs ys
+pub rests_then : (options : Options) (turns : List Turned) (side : SideState) (theirs : List Effect) (xs ys : List Turned) → SideMoves options (turns ++ xs) side theirs ys
     → SideMoves options turns side theirs (xs ++ ys)
 rests_then options turns side theirs xs ys second =
     record {
@@ -104,35 +100,11 @@ connected_by law options turns side theirs t h turn =
     moves_once options turns side theirs (t ∷ []) (does connect) (change ∷ []) (choices, refl)
     (follow_turns law.effects_mean options turns side (t ∷ []) (change ∷ []) h (acted connect choices refl, tt) (same, tt) (fits, tt))
 
-connect_moves : Below → (options : Options) (turns : List Turned) (side : SideState) (theirs : List Effect) (more : List Turned) → Followed options turns side
+pub connect_moves : Below → (options : Options) (turns : List Turned) (side : SideState) (theirs : List Effect) (more : List Turned) → Followed options turns side
     → Turns (endpoint_after options turns) (act_input connect ∷ []) more → SideMoves options turns side theirs more
 connect_moves law options turns side theirs [] h turn = absurd turn
 connect_moves law options turns side theirs (t ∷ []) h turn = connected_by law options turns side theirs t h turn.0.comes
 connect_moves law options turns side theirs (t ∷ next ∷ more) h turn = absurd turn.1
-
--- ---- close
-
-abort_at : Endpoint → AbortReason → Outcome → Options → Core → Choices → Type 0
-abort_at e reason o options core choices = IsControlled e o (act_change options core (abort_with reason) choices)
-
-aborted_by : Below → (options : Options) (turns : List Turned) (side : SideState) (theirs : List Effect) (reason : AbortReason) (t : Turned) → Followed options turns side
-    → ActTurn (endpoint_after options turns) (abort_with reason) t.outcome → SideMoves options turns side theirs (t ∷ [])
-unfolding abort_at
-aborted_by law options turns side theirs reason t h turn =
-    let e : Endpoint = endpoint_after options turns in
-    let controlled = law.acts e (abort_with reason) t.outcome turn in
-    let choices : Choices = controlled.0 in
-    let same : abort_at e reason t.outcome side.options side.core choices = subst (λ (core : Core). abort_at e reason t.outcome side.options core choices) (sym h.core) controlled.1 in
-    let change : Change = act_change side.options side.core (abort_with reason) choices in
-    let fits : TurnFits t.outcome = subst TurnFits (sym turn) (aborting_fits e e.core reason h.fits h.fits.core) in
-    moves_once options turns side theirs (t ∷ []) (does (abort_with reason)) (change ∷ []) (choices, refl)
-    (follow_turns law.effects_mean options turns side (t ∷ []) (change ∷ []) h (acted (abort_with reason) choices refl, tt) (same, tt) (fits, tt))
-
-abort_moves : Below → (options : Options) (turns : List Turned) (side : SideState) (theirs : List Effect) (reason : AbortReason) (more : List Turned) → Followed options turns side
-    → Turns (endpoint_after options turns) (act_input (abort_with reason) ∷ []) more → SideMoves options turns side theirs more
-abort_moves law options turns side theirs reason [] h turn = absurd turn
-abort_moves law options turns side theirs reason (t ∷ []) h turn = aborted_by law options turns side theirs reason t h turn.0.comes
-abort_moves law options turns side theirs reason (t ∷ next ∷ more) h turn = absurd turn.1
 
 -- ---- a packet that is counted, and one that is refused
 
@@ -147,7 +119,7 @@ follow_counted : (options : Options) (turns : List Turned) (side : SideState) (t
     → Followed options (turns ++ t ∷ []) side
 follow_counted options turns side t h is =
     follow_still options turns side t (arrival_outcome (endpoint_after options turns)) h is (record { core = refl; options = refl; signs = refl; effects = refl; following = refl })
-    (record { after = record { valid = h.fits.valid; options = h.fits.options; core = h.fits.core }; sends = tt })
+    (record { after = record { valid = h.fits.valid; options = h.fits.options; core = h.fits.core; t1 = h.fits.t1 }; sends = tt })
 
 follow_refused : (options : Options) (turns : List Turned) (side : SideState) (t : Turned) (text : List ℕ) → Followed options turns side
     → t.outcome ≡ refusal_outcome (endpoint_after options turns) text → Followed options (turns ++ t ∷ []) side
@@ -200,7 +172,7 @@ abbrev EndRests : List Input → Type 0
 EndRests tail = (options : Options) (turns : List Turned) (side : SideState) (theirs : List Effect) (more : List Turned) → Followed options turns side
     → Turns (endpoint_after options turns) tail more → SideMoves options turns side theirs more
 
-none_rests : (options : Options) (turns : List Turned) (side : SideState) (theirs : List Effect) (more : List Turned) → Followed options turns side
+pub none_rests : (options : Options) (turns : List Turned) (side : SideState) (theirs : List Effect) (more : List Turned) → Followed options turns side
     → Turns (endpoint_after options turns) [] more → SideMoves options turns side theirs more
 none_rests options turns side theirs [] h taken = nothing_happens options turns side theirs [] h refl
 none_rests options turns side theirs (t ∷ more) h taken = absurd taken
@@ -284,20 +256,9 @@ input_moves law options other turns side theirs bytes more h fits out (readable 
     (admitted_moves law options (turns ++ counted ∷ []) side theirs sent_packet (admits e.core sent_packet) ts
     (ap (λ (core : Core). admits core sent_packet) h.core) first out.good.was_sent out.good.sendable at_end)
 
-delivery_moves : Below → (options other : Options) (turns others : List Turned) (side : SideState) (theirs : SideState) (index : ℕ) (found : Option (List ℕ)) (more : List Turned)
+pub delivery_moves : Below → (options other : Options) (turns others : List Turned) (side : SideState) (theirs : SideState) (index : ℕ) (found : Option (List ℕ)) (more : List Turned)
     → Followed options turns side → Followed other others theirs → FitsOptions other → slice_get (packets_shown other others) index ≡ found
     → DeliveryTurns (endpoint_after options turns) found more → SideMoves options turns side theirs.past more
 delivery_moves law options other turns others side theirs index None more h k fits is none = nothing_happens options turns side theirs.past more h none
 delivery_moves law options other turns others side theirs index (Some bytes) more h k fits is input =
     input_moves law options other turns side theirs.past bytes more h fits (sent_at (Went theirs.past) (emission_bytes (ports_of other)) (events_of others) index bytes k.went is) input
-
--- ---- a step
-
-pub step_moves : Below → (options other : Options) (turns others : List Turned) (side theirs : SideState) (step : StepContent) (more : List Turned)
-    → Followed options turns side → Followed other others theirs → FitsOptions other
-    → StepTurns (endpoint_after options turns) (packets_shown other others) step more → SideMoves options turns side theirs.past more
-step_moves law options other turns others side theirs (call_step which connect_call) more h k fits done = connect_moves law options turns side theirs.past more h done
-step_moves law options other turns others side theirs (call_step which close_call) more h k fits done = abort_moves law options turns side theirs.past CloseCalled more h done
-step_moves law options other turns others side theirs (delivery_step which zero) more h k fits done = nothing_happens options turns side theirs.past more h done
-step_moves law options other turns others side theirs (delivery_step which (suc index)) more h k fits done =
-    delivery_moves law options other turns others side theirs index (slice_get (packets_shown other others) index) more h k fits refl done

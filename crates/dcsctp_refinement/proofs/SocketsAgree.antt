@@ -20,7 +20,8 @@ use Rattle.dcsctp_refinement.proofs.Follow.{Followed, each_connected_map}
 use Rattle.dcsctp_refinement.proofs.Fresh.{distinct_front}
 use Rattle.dcsctp_refinement.specs.OneSocket.{SocketEffectsInPlace}
 use Rattle.dcsctp_refinement.proofs.NotedLemmas.{in_place-noted, performed-noted}
-use Rattle.dcsctp_refinement.proofs.Moves.{Below, SideMoves, step_moves}
+use Rattle.dcsctp_refinement.proofs.Moves.{Below, SideMoves}
+use Rattle.dcsctp_refinement.proofs.StepMoves.{step_moves}
 
 -- The run of sockets is followed by a run of the machine.
 pub record Joined (options : Both Options) (turns : Both (List Turned)) : Type 0 where
@@ -32,7 +33,7 @@ pub record Joined (options : Both Options) (turns : Both (List Turned)) : Type 0
 fresh : (options : Options) → IsValid options → FitsOptions options → Followed options [] (fresh_side options)
 fresh options valid fits =
     record {
-      fits = record { valid = valid; options = fits; core = tt };
+      fits = record { valid = valid; options = fits; core = tt; t1 = tt };
       own_options = refl;
       side_options = refl;
       core = refl;

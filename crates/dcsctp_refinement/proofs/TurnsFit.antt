@@ -38,10 +38,10 @@ still_fits e h = record { after = h; sends = tt }
 packet_fits : (b : Bool) (e : Endpoint) (words : List Word) (events : List (Event Emission)) (emission : Emission) → FitsEndpoint e → AllSent IsSendable events → IsSendable emission
     → TurnFits (cond b (sends e words events emission) (quiet e words events))
 packet_fits true e words events emission h before good =
-    record { after = record { valid = h.valid; options = h.options; core = h.core }; sends = all_sent_append IsSendable events (sent emission ∷ []) before (good, tt) }
+    record { after = record { valid = h.valid; options = h.options; core = h.core; t1 = h.t1 }; sends = all_sent_append IsSendable events (sent emission ∷ []) before (good, tt) }
 packet_fits false e words events emission h before good = record { after = h; sends = before }
 
-emits_fit : (e : Endpoint) (words : List Word) (emission : Emission) → FitsEndpoint e → IsSendable emission → TurnFits (emits e words emission)
+pub emits_fit : (e : Endpoint) (words : List Word) (emission : Emission) → FitsEndpoint e → IsSendable emission → TurnFits (emits e words emission)
 emits_fit e words emission h good = packet_fits (fits e emission) e words [] emission h tt good
 
 noting_fits : (effects : List Effect) (o : Outcome) → TurnFits o → TurnFits (noting effects o)
@@ -80,7 +80,7 @@ init_fits law e theirs (open_in shutdown_ack_sent my held) word next h own said 
 pub connect_fits : OfferReadsBack → (e : Endpoint) (core : Core) (word next : ℕ) → FitsEndpoint e → TurnFits (connect_outcome e core word next)
 connect_fits law e closed word next h =
     let mine : Pair = pair_from word next in
-    let waiting : FitsEndpoint (awaits_init_ack e mine) = record { valid = h.valid; options = h.options; core = drawn_fits word next } in
+    let waiting : FitsEndpoint (awaits_init_ack e mine) = record { valid = h.valid; options = h.options; core = drawn_fits word next; t1 = tt } in
     drawing_fits mine _
     (emits_fit (awaits_init_ack e mine) (U32 word ∷ U32 next ∷ []) (init_emission e mine) waiting
     (record { tag = omega arith; contents = (init_sendable law e.options mine h.valid h.options (drawn_fits word next), tt) }))
@@ -99,10 +99,10 @@ new_held_fits my peer capabilities own theirs =
 
 refused_fits : (b : Bool) (e : Endpoint) (tag : ℕ) → FitsEndpoint e → IsSendable (abort_emission tag)
     → TurnFits (ended_outcome (cond b (sends e [] [] (abort_emission tag)) (quiet e [] [])) (aborted ProtocolViolation no_cookie_text))
-refused_fits true e tag h good = record { after = record { valid = h.valid; options = h.options; core = tt }; sends = (good, (tt, tt)) }
-refused_fits false e tag h good = record { after = record { valid = h.valid; options = h.options; core = tt }; sends = (tt, tt) }
+refused_fits true e tag h good = record { after = record { valid = h.valid; options = h.options; core = tt; t1 = tt }; sends = (good, (tt, tt)) }
+refused_fits false e tag h good = record { after = record { valid = h.valid; options = h.options; core = tt; t1 = tt }; sends = (tt, tt) }
 
-echoed_fits : (b allowed : Bool) (e : Endpoint) (words : List Word) (tag : ℕ) (cookie : List ℕ) → FitsEndpoint e → IsSendable (echo_emission tag cookie)
+pub echoed_fits : (b allowed : Bool) (e : Endpoint) (words : List Word) (tag : ℕ) (cookie : List ℕ) → FitsEndpoint e → IsSendable (echo_emission tag cookie)
     → TurnFits (cond b (cond allowed (sends e words [] (echo_emission tag cookie)) (quiet e words [])) (quiet e words []))
 echoed_fits true allowed e words tag cookie h good = packet_fits allowed e words [] (echo_emission tag cookie) h tt good
 echoed_fits false allowed e words tag cookie h good = record { after = h; sends = tt }
@@ -118,6 +118,7 @@ accepted_fits e my theirs (Some cookie) word h own good =
       valid = h.valid;
       options = h.options;
       core = (own, new_held_fits my theirs.pair (negotiated (offer_of e.options) theirs.offer) own good.said.0, good.said.1);
+      t1 = tt;
     }) (record { tag = good.said.0.tag; contents = (echo_sendable cookie good.said.1, tt) }))
 
 init_ack_fits : (e : Endpoint) (theirs : Introduction) (cookie : Option (List ℕ)) (core : Core) (word : ℕ) → FitsEndpoint e → FitsCore core → Sendable (init_ack theirs cookie)
@@ -146,6 +147,7 @@ established_fits e cookie queue tie events h pairs before =
       valid = h.valid;
       options = h.options;
       core = (pairs.maker, new_held_fits cookie.maker cookie.addressee (negotiated (offer_of e.options) cookie.offer) pairs.maker pairs.addressee);
+      t1 = tt;
     }) before pairs.addressee.tag)
 
 restarted_fits : (e : Endpoint) (cookie : Cookie) (tie : ℕ) (core : Core) → FitsEndpoint e → FitsCore core → ReadPairs cookie → TurnFits (restart_outcome_where e cookie tie core)
@@ -163,7 +165,7 @@ maintained_fits e cookie closed h own pairs = still_fits e h
 maintained_fits e cookie (cookie_wait my) h own pairs = still_fits e h
 maintained_fits e cookie (cookie_echoed my held echoed) h own pairs =
     noting_fits (connects (link_of my held) ∷ []) _
-    (acknowledged_fits (connected_after e my held) [] (connected ∷ []) _ cookie.addressee.tag (record { valid = h.valid; options = h.options; core = (own.0, own.1) }) (tt, tt) pairs.addressee.tag)
+    (acknowledged_fits (connected_after e my held) [] (connected ∷ []) _ cookie.addressee.tag (record { valid = h.valid; options = h.options; core = (own.0, own.1); t1 = tt }) (tt, tt) pairs.addressee.tag)
 maintained_fits e cookie (open_in phase my held) h own pairs = acknowledged_fits e [] [] _ cookie.addressee.tag h tt pairs.addressee.tag
 
 resolved_fits : (e : Endpoint) (cookie : Cookie) (core : Core) (word : ℕ) (resolution : Resolution) → FitsEndpoint e → FitsCore core → ReadPairs cookie
@@ -185,14 +187,14 @@ echo_fits e core header bytes (Ok cookie) word is h own echo = resolved_fits e c
 cookie_ack_fits : (e : Endpoint) (core : Core) → FitsEndpoint e → FitsCore core → TurnFits (cookie_ack_outcome e core)
 cookie_ack_fits e closed h own = still_fits e h
 cookie_ack_fits e (cookie_wait my) h own = still_fits e h
-cookie_ack_fits e (cookie_echoed my held cookie) h own = record { after = record { valid = h.valid; options = h.options; core = (own.0, own.1) }; sends = (tt, tt) }
+cookie_ack_fits e (cookie_echoed my held cookie) h own = record { after = record { valid = h.valid; options = h.options; core = (own.0, own.1); t1 = tt }; sends = (tt, tt) }
 cookie_ack_fits e (open_in phase my held) h own = still_fits e h
 
 abort_fits : (e : Endpoint) (causes : List Cause) (core : Core) → FitsEndpoint e → TurnFits (abort_outcome e causes core)
 abort_fits e causes closed h = still_fits e h
 abort_fits e causes (cookie_wait my) h = still_fits e h
-abort_fits e causes (cookie_echoed my held cookie) h = record { after = record { valid = h.valid; options = h.options; core = tt }; sends = (tt, tt) }
-abort_fits e causes (open_in phase my held) h = record { after = record { valid = h.valid; options = h.options; core = tt }; sends = (tt, tt) }
+abort_fits e causes (cookie_echoed my held cookie) h = record { after = record { valid = h.valid; options = h.options; core = tt; t1 = tt }; sends = (tt, tt) }
+abort_fits e causes (open_in phase my held) h = record { after = record { valid = h.valid; options = h.options; core = tt; t1 = tt }; sends = (tt, tt) }
 
 -- ---- each chunk that is read of what a socket sent
 

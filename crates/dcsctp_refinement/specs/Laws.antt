@@ -1,5 +1,6 @@
 -- All that holds of the sockets of a run.
 use Rattle.dcsctp_refinement.specs.Agreement.{SocketsAgree}
+use Rattle.dcsctp_refinement.specs.Deadlines.{SocketsRunT1}
 use Rattle.dcsctp_refinement.specs.Handshake.{FittingSocketsConnect}
 use Rattle.dcsctp_refinement.specs.OneSocket.{SocketEffectsInPlace, SocketRequestsEndByAnswers, SocketsTellEnds}
 
@@ -9,3 +10,4 @@ pub record SocketLaws : Type 0 where
   pub numbers : SocketEffectsInPlace
   pub answers : SocketRequestsEndByAnswers
   pub ends : SocketsTellEnds
+  pub t1 : SocketsRunT1

@@ -2,3 +2,4 @@ pub mod Agreement
 pub mod Handshake
 pub mod Laws
 pub mod OneSocket
+pub mod Deadlines

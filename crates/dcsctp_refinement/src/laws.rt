@@ -1,6 +1,7 @@
 //! Theorems on the runs of two sockets.
 
 ghost use Rattle.dcsctp_refinement.specs.Agreement.{SocketsAgree};
+ghost use Rattle.dcsctp_refinement.specs.Deadlines.{SocketsRunT1};
 ghost use Rattle.dcsctp_refinement.specs.Handshake.{FittingSocketsConnect};
 ghost use Rattle.dcsctp_refinement.specs.Laws.{SocketLaws};
 ghost use Rattle.dcsctp_refinement.specs.OneSocket.{SocketEffectsInPlace, SocketRequestsEndByAnswers, SocketsTellEnds};
@@ -74,6 +75,19 @@ pub fn sockets_tell_ends()
     acts_are_controlled();
 }
 
+/// At each socket of a run that awaits an INIT ACK or a COOKIE ACK, T1 runs (RFC 9260, section 5.1): so
+/// whatever is lost, it wants to be told the time again.
+pub fn sockets_run_t1()
+    ensures { SocketsRunT1 }
+{
+    effects_mean();
+    acts_are_controlled();
+    packets_are_controlled();
+    admitted_packets_may_be_worked();
+    offer_reads_back();
+    built_packet_reads_as_itself();
+}
+
 /// All that holds of the sockets of a run: the theorems above.
 pub fn socket_laws()
     ensures { SocketLaws }
@@ -83,4 +97,5 @@ pub fn socket_laws()
     socket_effects_in_place();
     socket_requests_end_by_answers();
     sockets_tell_ends();
+    sockets_run_t1();
 }

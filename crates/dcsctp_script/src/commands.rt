@@ -4,7 +4,7 @@ use crate::failure::{Failure, written};
 use crate::line::{Command, Line, parse_line};
 use crate::printing::print_event;
 use crate::script::Script;
-use crate::showing::{print_association, print_state};
+use crate::showing::{print_association, print_state, print_timeout};
 use crate::words::Words;
 use dcsctp_api::{DcSctpSocket, SocketEvent};
 use dcsctp_machine::{Call, Side, Step};
@@ -101,7 +101,8 @@ impl Run {
             Command::Connect(side) => self.apply(Step::Call(side, Call::Connect))?,
             Command::Close(side) => self.apply(Step::Call(side, Call::Close))?,
             Command::Give(side, number) => self.apply(Step::Deliver(side, number))?,
-            Command::Show(_) | Command::State(_) => {}
+            Command::Time(side, now) => self.apply(Step::Call(side, Call::AdvanceTime(now)))?,
+            Command::Show(_) | Command::State(_) | Command::Timeout(_) => {}
         }
         written(self.print(command, output))
     }
@@ -109,12 +110,15 @@ impl Run {
     // Prints what a command shows, and the new events.
     fn print<W: Write>(&mut self, command: Command, output: &mut W) -> io::Result<()> {
         match command {
-            Command::Connect(_) | Command::Close(_) | Command::Give(..) => {}
+            Command::Connect(_) | Command::Close(_) | Command::Give(..) | Command::Time(..) => {}
             Command::Show(side) => {
                 let association = self.world.socket(side).association();
                 print_association(side, association, output)?;
             }
             Command::State(side) => print_state(side, self.world.socket(side).state(), output)?,
+            Command::Timeout(side) => {
+                print_timeout(side, self.world.socket(side).poll_timeout(), output)?;
+            }
         }
         self.a.print(Side::A, self.world.events(Side::A), output)?;
         self.b.print(Side::B, self.world.events(Side::B), output)

@@ -1,9 +1,10 @@
 //! What a line says, by its fields, which are separated by one space.
 
-ghost use Rattle.std.specs.Prelude.{◌≡◌, ◌↔◌, Some, codes};
+ghost use Rattle.std.specs.Prelude.{◌≡◌, ◌↔◌, ◌*◌, Some, codes};
 
 use crate::number::number;
-use dcsctp_machine::Side;
+use dcsctp_machine::{Side, SocketTime};
+use std::time::Duration;
 
 /// A command that runs.
 #[derive(Clone, Copy)]
@@ -22,6 +23,12 @@ pub enum Command {
 
     /// The state of this socket is printed.
     State(Side),
+
+    /// This socket is told that this moment has come.
+    Time(Side, SocketTime),
+
+    /// The moment at which this socket wants to be told the time is printed.
+    Timeout(Side),
 }
 
 /// A line.
@@ -40,7 +47,7 @@ pub enum Line<'a> {
 /// The line that a text is. Its second field always names a side.
 ///
 /// None where the keyword or the side is unknown, a field is missing or one too many, or the
-/// number of a packet isn't one up to 2^64 - 1. The name and the value of an option and a list of
+/// number of a packet or of milliseconds isn't one up to 2^64 - 1. The name and the value of an option and a list of
 /// words are not looked at here.
 pub fn parse_line(text: &str) -> Option<Line<'_>> {
     let (keyword, rest) = text.split_once(' ')?;
@@ -69,6 +76,7 @@ fn plain_line(keyword: &str, side: Side) -> Option<Line<'_>> {
         "close" => Command::Close(side),
         "show" => Command::Show(side),
         "state" => Command::State(side),
+        "timeout" => Command::Timeout(side),
         _ => return None,
     };
     Some(Line::Command(command))
@@ -86,6 +94,17 @@ fn line_with_rest<'a>(keyword: &str, side: Side, rest: &'a str) -> Option<Line<'
             let number = number(rest, u64::MAX)?;
             Some(Line::Command(Command::Give(side, number as usize)))
         }
+        "time" => {
+            let moment = moment_at(number(rest, u64::MAX)?);
+            Some(Line::Command(Command::Time(side, moment)))
+        }
         _ => None,
     }
+}
+
+// The moment so many milliseconds after the making of the sockets.
+fn moment_at(millis: u64) -> SocketTime
+    ensures { result ≡ millis * 1_000_000 }
+{
+    SocketTime::zero() + Duration::from_millis(millis)
 }

@@ -4,7 +4,7 @@ ghost use Rattle.std.specs.Prelude.{◌≡◌};
 ghost use Rattle.dcsctp_machine.specs.Reconfiguration.{result_code};
 
 use crate::printing::side_name;
-use dcsctp_api::SocketState;
+use dcsctp_api::{SocketState, SocketTime};
 use dcsctp_machine::{Association, Capabilities, Held, Phase, ReconfigurationResponseResult, Side};
 use std::io::{self, Write};
 
@@ -20,6 +20,19 @@ pub fn print_state<W: Write>(side: Side, state: SocketState, output: &mut W) -> 
         SocketState::ShuttingDown => "ShuttingDown",
     };
     writeln!(output, "{name} {state}")
+}
+
+/// Prints the moment at which a socket wants to be told the time, on a line: in nanoseconds after its
+/// making, or `never`.
+///
+/// The one error is the writer's, which may have taken a part of the line then.
+pub fn print_timeout<W: Write>(side: Side, moment: SocketTime, output: &mut W) -> io::Result<()> {
+    let name = side_name(side);
+    if moment == SocketTime::infinite_future() {
+        return writeln!(output, "{name} timeout never");
+    }
+    let nanos = moment.as_nanos();
+    writeln!(output, "{name} timeout {nanos}")
 }
 
 /// Prints an association on a line: its phase, the own pair, and the rest where a peer is known;

@@ -19,4 +19,6 @@ mod scripts;
 #[cfg(test)]
 mod settings;
 #[cfg(test)]
+mod times;
+#[cfg(test)]
 mod whole_scripts;

@@ -2,3 +2,4 @@ mod ActLemmas
 mod CallLemmas
 mod ChunkLemmas
 mod ChunkLoop
+mod TimeLemmas

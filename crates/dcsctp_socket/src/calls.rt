@@ -1,21 +1,23 @@
 //! The calls of a socket, over its parts: each is a list of turns.
 
-ghost use Rattle.std.specs.Prelude.{◌≡◌, true, false, IsOk};
+ghost use Rattle.std.specs.Prelude.{◌≡◌, ◌<◌, true, false, IsOk};
 ghost use Rattle.dcsctp_wire.specs.Content.{chunk_content, packet_content};
 ghost use Rattle.dcsctp_machine.specs.Packet.{content_in};
 ghost use Rattle.dcsctp_machine.specs.control.Acts.{abort_with};
 ghost use Rattle.dcsctp_machine.specs.Settings.{wire_options};
+ghost use Rattle.dcsctp_machine.specs.TimeTurns.{Waits, next_moment};
 ghost use Rattle.dcsctp_api.specs.Calls.{is_closed};
-ghost use Rattle.dcsctp_core.specs.View.{core_of};
+ghost use Rattle.dcsctp_core.specs.View.{core_of, endpoint_of};
 ghost use Rattle.dcsctp_socket.specs.Parts.{WorksChunk, WorksChunks, WorksPacket, WorksInput, WorksCall, ActTurns, WorksConnect};
+ghost use Rattle.dcsctp_socket.specs.TimeParts.{WorksTime};
 
 use crate::admission::{Admission, admit};
 use crate::texts::UNREADABLE;
-use dcsctp_api::{ErrorKind, Options};
+use dcsctp_api::{ErrorKind, Options, SocketTime};
 use dcsctp_core::{Context, Following};
 use dcsctp_ends::{abort_association, handle_abort};
 use dcsctp_handshake::{
-    do_connect, handle_cookie_ack, handle_cookie_echo, handle_init, handle_init_ack,
+    do_connect, handle_cookie_ack, handle_cookie_echo, handle_init, handle_init_ack, handle_t1,
 };
 use dcsctp_machine::AbortReason;
 use dcsctp_wire::{Chunk, PacketError, SctpPacket, WireOptions};
@@ -124,6 +126,37 @@ pub(crate) fn close<R: Rng>(context: &mut Context<R>) -> Result<(), AllocError>
     context.begin_call();
     abort_association(context, AbortReason::CloseCalled)?;
     Ok(())
+}
+
+/// Tells the time: the clock is moved, and T1 has its turn where it is due (RFC 9260, section 5.1). An
+/// earlier moment changes nothing. The one error is that a growth was refused.
+pub(crate) fn advance_time<R: Rng>(
+    context: &mut Context<R>,
+    now: SocketTime,
+) -> Result<(), AllocError>
+    ensures turn { WorksTime R.stream now context.old result context.new }
+    ensures earlier { now < context.old.moment → IsOk result }
+    ensures waits { Waits (endpoint_of context.old) now → IsOk result }
+{
+    context.begin_call();
+    if now < context.moment {
+        return Ok(());
+    }
+    context.moment = now;
+    handle_t1(context)?;
+    Ok(())
+}
+
+/// The moment at which time has to be told next, never before the present one; the last one where none
+/// is waited for. That is T1's deadline while the association is set up: no other timer is worked so far.
+pub(crate) fn poll_timeout<R: Rng>(context: &Context<R>) -> SocketTime
+    ensures { result ≡ next_moment (endpoint_of context.now) }
+{
+    match context.state.t1_deadline() {
+        None => SocketTime::infinite_future(),
+        Some(deadline) if deadline < context.moment => context.moment,
+        Some(deadline) => deadline,
+    }
 }
 
 // What the reader of packets needs of the options.

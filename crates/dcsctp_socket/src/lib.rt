@@ -1,8 +1,9 @@
 //! An SCTP socket (RFC 9260) that makes no system call: packets go in, events come out.
 //!
 //! There are four kinds of call. Queries (`state`, `association`, `verification_tag`, `drawn_pairs`,
-//! `has_failed`) answer and change nothing. Inputs (`handle_input`) bring what the peer sent. Commands
-//! (`connect`) say what the user wants. Polls (`poll_event`) take what the socket has to tell. A user
+//! `has_failed`) answer and change nothing. Inputs (`handle_input`, `advance_time`) bring what the peer
+//! sent, and the time. Commands (`connect`) say what the user wants. Polls (`poll_event`,
+//! `poll_timeout`) take what the socket has to tell, and ask when it wants to be told the time. A user
 //! drives it by a loop, and takes all that waits after each call (the crate `dcsctp_example` has it
 //! whole, with its contract):
 //!
@@ -25,6 +26,10 @@
 //!
 //! Packets go to the peer, other events to the application. Events come in the order in which they
 //! happened. A later call invalidates none of them.
+//!
+//! The socket reads no clock. Behind each call a user asks `poll_timeout`, and at that moment, or when
+//! one is at hand, calls `advance_time`: a packet that the peer never answered goes out again. Each call
+//! may move that moment, so it is asked anew.
 #![tactic(auto)]
 
 mod admission;

@@ -3,8 +3,11 @@
 ghost use Rattle.dcsctp_socket.specs.SocketView.{Settles};
 
 use crate::calls;
-use dcsctp_api::{Association, DcSctpSocket, Options, Pair, SocketEvent, SocketFault, SocketState};
+use dcsctp_api::{
+    Association, DcSctpSocket, Options, Pair, SocketEvent, SocketFault, SocketState, SocketTime,
+};
 use dcsctp_core::Context;
+use dcsctp_machine::time_passes_quietly;
 use rand_core::Rng;
 use std::alloc::{AllocError, Global};
 use std::marker::Model;
@@ -99,8 +102,10 @@ impl<R: Rng + Drop> Socket<R> {
 }
 
 impl<R: Rng + Drop> DcSctpSocket for Socket<R> {
-    ghost use Rattle.std.specs.Prelude.{◌≡◌, true, false, IsOk, OnOk, IsErrOf};
+    ghost use Rattle.std.specs.Prelude.{◌≡◌, ◌<◌, true, false, IsOk, OnOk, IsErrOf};
     ghost use Rattle.dcsctp_api.specs.Calls.{PollsEvent, HandlesInput, Connects, Closes, is_closed};
+    ghost use Rattle.dcsctp_machine.specs.TimeTurns.{Waits, next_moment};
+    ghost use Rattle.dcsctp_api.specs.Time.{Advances, OnlyMovesClock};
     ghost use Rattle.dcsctp_core.specs.View.{Drawn};
     ghost use Rattle.dcsctp_socket.specs.SocketView.{user_view_of};
 
@@ -161,6 +166,31 @@ impl<R: Rng + Drop> DcSctpSocket for Socket<R> {
         }
         let outcome = calls::close(&mut self.context);
         settled(&mut self.failed, outcome)
+    }
+
+    fn advance_time(&mut self, now: SocketTime) -> Result<(), SocketFault>
+        ensures call { Advances (user_view_of self.old) now result (user_view_of self.new) }
+        ensures earlier { self.old.failed ≡ false → now < self.old.view.endpoint.moment → IsOk result }
+        ensures waits { self.old.failed ≡ false → Waits self.old.view.endpoint now
+            → OnlyMovesClock (user_view_of self.old) now result (user_view_of self.new) }
+        // The words are what the generator gave, in order.
+        ensures drawn { OnOk result (Drawn (R.stream self.old.view.generator) self.new.view.words
+            (R.stream self.new.view.generator)) }
+        ensures failed { IsErrOf result SocketFault.Failed → self.new ≡ self.old }
+    {
+        // The clock of a socket that has failed stands still.
+        if self.failed {
+            return Err(SocketFault::Failed);
+        }
+        time_passes_quietly();
+        let outcome = calls::advance_time(&mut self.context, now);
+        settled(&mut self.failed, outcome)
+    }
+
+    fn poll_timeout(&self) -> SocketTime
+        ensures { result ≡ next_moment self.now.view.endpoint }
+    {
+        calls::poll_timeout(&self.context)
     }
 
     fn state(&self) -> SocketState {

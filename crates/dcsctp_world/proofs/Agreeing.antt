@@ -13,6 +13,7 @@ use Rattle.dcsctp_machine.specs.CallTurns.{Turned, events_of}
 use Rattle.dcsctp_machine.specs.declared.schedule.Side.{Side}
 use Rattle.dcsctp_machine.specs.Sockets.{Worked, Both, turns_after, acts_of}
 use Rattle.dcsctp_refinement.specs.Agreement.{HasDistinctTags}
+use Rattle.dcsctp_refinement.specs.Deadlines.{RunsT1}
 use Rattle.dcsctp_refinement.specs.Handshake.{ConnectThroughout, handshake_acts, connections, IsConnected, AreConnected, FittingSocketsConnect}
 use Rattle.dcsctp_refinement.specs.Laws.{SocketLaws}
 use Rattle.dcsctp_machine.specs.Schedule.{ActContent, step_content, step_act}
@@ -31,6 +32,7 @@ world_agrees law options world h =
       numbers = λ side. law.numbers options h.steps h.usable h.run side;
       answers = λ side. law.answers options h.steps h.run side;
       ends = λ side. law.ends options h.steps h.run side;
+      t1 = λ side. subst RunsT1 (sym (h.sides side).endpoint) (law.t1 options h.steps h.usable h.run side);
       agree = λ a b. law.agree options h.steps h.usable h.run (record { a = subst HasDistinctTags (h.sides sides.A).pairs a; b = subst HasDistinctTags (h.sides sides.B).pairs b });
     }
 

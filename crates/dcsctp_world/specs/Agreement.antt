@@ -11,6 +11,7 @@ use Rattle.dcsctp_machine.specs.CallTurns.{AlongTurns}
 use Rattle.dcsctp_machine.specs.Past.{Each, InPlace}
 use Rattle.dcsctp_machine.specs.Sockets.{Both, of_side, turns_after}
 use Rattle.dcsctp_refinement.specs.Agreement.{HasDistinctTags, AgreeThroughout, noted_past}
+use Rattle.dcsctp_refinement.specs.Deadlines.{RunsT1}
 use Rattle.dcsctp_refinement.specs.Handshake.{handshake_acts, AreFitting, ConnectThroughout, connections}
 use Rattle.dcsctp_refinement.specs.OneSocket.{EndsByAnswer, TellsEnd}
 use Rattle.dcsctp_world.specs.Shown.{SideShown, WorldView}
@@ -21,6 +22,7 @@ use Rattle.dcsctp_world.specs.Run.{IsRun}
 -- was performed, that the other performed it. Where the sockets fit each other, the first five acts of a handshake connect
 -- them, whatever comes later. What each side notes of connections and of the numbers of requests stands in its place, and an
 -- own request ends by an answer with its number. A turn that ends an association tells it once, and no other turn tells an end.
+-- A socket that awaits an INIT ACK or a COOKIE ACK has T1 running.
 pub record Agrees {R : Type 0} (options : Both Options) (world : WorldView R) : Type 0 where
   pub is_run : IsRun options world
   pub agree : HasDistinctTags world.sides.a.pairs → HasDistinctTags world.sides.b.pairs → AgreeThroughout options is_run.steps
@@ -28,6 +30,7 @@ pub record Agrees {R : Type 0} (options : Both Options) (world : WorldView R) : 
   pub numbers : (side : Side) → Each InPlace (noted_past (of_side side (turns_after is_run.steps)))
   pub answers : (side : Side) → AllByRecursion EndsByAnswer (of_side side (turns_after is_run.steps))
   pub ends : (side : Side) → AlongTurns TellsEnd (fresh_endpoint (of_side side options)) (of_side side (turns_after is_run.steps))
+  pub t1 : (side : Side) → RunsT1 (of_side side world.sides).socket.view.endpoint
 
 -- The side is Established with this pair and peer, and was told OnConnected once.
 pub record ShowsConnected {R : Type 0} (mine theirs : Options) (side : SideShown R) (my peer : Pair) : Type 0 where

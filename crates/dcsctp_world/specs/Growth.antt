@@ -1,6 +1,6 @@
 -- How one side grows in an act.
 use Rattle.std.specs.Prelude.{◌≡◌, ℕ, true, false, Option, None, Some, Result, Ok, Err, List, [], ◌∷◌, ◌++◌, ◌⊎◌, map}
-use Rattle.dcsctp_machine.specs.Schedule.{CallContent, connect_call, close_call, ActContent, call_step, delivery_step, step_act}
+use Rattle.dcsctp_machine.specs.Schedule.{CallContent, connect_call, close_call, ActContent, call_step, delivery_step, step_act, advance_call}
 use Rattle.dcsctp_machine.specs.Event.{Event, packets_in}
 use Rattle.dcsctp_machine.specs.Endpoint.{Endpoint, association_of}
 use Rattle.dcsctp_machine.specs.Settings.{ports_of}
@@ -171,6 +171,7 @@ IsDeliveryReply (Some bytes) reply = reply ≡ Done
 abbrev pub IsCallReply : Endpoint → CallContent → Reply → Type 0
 IsCallReply e connect_call reply = reply ≡ Done
 IsCallReply e close_call reply = reply ≡ Done
+IsCallReply e (advance_call moment) reply = reply ≡ Done
 
 -- It is what an act answers from this endpoint, where the other side has emitted these packets.
 abbrev pub IsReply : Endpoint → List (List ℕ) → ActContent → Reply → Type 0

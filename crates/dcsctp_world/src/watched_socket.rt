@@ -87,6 +87,10 @@ fn make_call<R: Rng + Drop>(socket: &mut Socket<R>, call: Call) -> Result<(), So
             socket.close()?;
             Ok(())
         }
+        Call::AdvanceTime(now) => {
+            socket.advance_time(now)?;
+            Ok(())
+        }
     }
 }
 

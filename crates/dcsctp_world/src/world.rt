@@ -158,8 +158,9 @@ impl<R: Rng + Drop> World<R> {
     /// the other side holds, or held, the crossed association with what the two have in common. Each
     /// holding connects at most once, the numbers of requests to reset streams go up by one, and each
     /// request that was accepted is performed at most once (RFC 6525, section 4.1); an own request ends
-    /// by an answer with its number (section 5.2.7). And the four packets of a handshake, delivered in
-    /// turn, connect two fresh sockets that fit each other (RFC 9260, section 5.1).
+    /// by an answer with its number (section 5.2.7). The four packets of a handshake, delivered in turn,
+    /// connect two fresh sockets that fit each other (RFC 9260, section 5.1). And a socket that awaits an
+    /// INIT ACK or a COOKIE ACK has T1 running, so it will send again.
     pub fn run(&mut self, steps: &[Step]) -> Result<(), SocketFault>
         ensures call { Runs (map step_content steps.now) self.old result self.new }
         ensures agreement { OnOk result (Agrees (options_of self.old) self.new) }

@@ -7,4 +7,8 @@
 #[cfg(test)]
 mod checks;
 #[cfg(test)]
+mod lost_packets;
+#[cfg(test)]
+mod no_answer;
+#[cfg(test)]
 mod worlds;

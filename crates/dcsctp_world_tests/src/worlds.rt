@@ -16,9 +16,18 @@ const HANDSHAKE: [Step; 5] = [
     Step::Deliver(Side::A, 2),
 ];
 
+// What is kept of it.
+const HANDSHAKE_ACTS: [Act; 5] = [
+    Act::Step(Step::Call(Side::A, Call::Connect)),
+    Act::Step(Step::Deliver(Side::B, 1)),
+    Act::Step(Step::Deliver(Side::A, 1)),
+    Act::Step(Step::Deliver(Side::B, 2)),
+    Act::Step(Step::Deliver(Side::A, 2)),
+];
+
 // Two sockets, of which A draws tag 7 and first TSN 100, and B tag 9 and first TSN 200; each offers to
 // take packets without a checksum where the method isn't 0.
-fn new_world(rt: &impl Abort, alloc: Global, method: u32) -> World<TwoWords> {
+pub fn new_world(rt: &impl Abort, alloc: Global, method: u32) -> World<TwoWords> {
     let mut options = Options::default();
     options.zero_checksum_alternate_error_detection_method.0 = method;
     assert!(rt; options.is_valid(), "the options are not valid");
@@ -41,7 +50,7 @@ fn world_behind_handshake(rt: &impl Abort, alloc: Global, method: u32) -> World<
 }
 
 // Both sides have to be connected.
-fn are_connected(rt: &impl Abort, world: &World<TwoWords>, name: &str) {
+pub fn are_connected(rt: &impl Abort, world: &World<TwoWords>, name: &str) {
     let states = [world.socket(Side::A).state(), world.socket(Side::B).state()];
     same(
         rt,
@@ -65,8 +74,7 @@ fn four_packets_connect_two_sockets(rt: HostRuntime) {
     are_connected(&rt, &world, "the handshake");
     drew(&rt, &world, Side::A, 7, 100);
     drew(&rt, &world, Side::B, 9, 200);
-    let expected = HANDSHAKE.map(Act::Step);
-    same(&rt, "acts", world.acts(), expected.as_slice());
+    same(&rt, "acts", world.acts(), HANDSHAKE_ACTS.as_slice());
     holds(&rt, "no growth was refused", !world.has_failed());
     drop(world);
 }
@@ -156,10 +164,12 @@ fn replies(rt: &impl Abort, world: &mut World<TwoWords>, name: &str, step: Step,
     same(rt, name, reply, expected);
 }
 
+// A connects.
+const CONNECT: Step = Step::Call(Side::A, Call::Connect);
+
 #[test]
 fn steps_answer_whether_a_call_was_made(rt: HostRuntime) {
     let mut world = new_world(&rt, rt.alloc(), 0);
-    let connect = Step::Call(Side::A, Call::Connect);
     replies(
         &rt,
         &mut world,
@@ -167,7 +177,7 @@ fn steps_answer_whether_a_call_was_made(rt: HostRuntime) {
         Step::Deliver(Side::B, 1),
         Reply::NoCall,
     );
-    replies(&rt, &mut world, "connect", connect, Reply::Done);
+    replies(&rt, &mut world, "connect", CONNECT, Reply::Done);
     replies(
         &rt,
         &mut world,
@@ -196,7 +206,7 @@ fn steps_answer_whether_a_call_was_made(rt: HostRuntime) {
         Step::Deliver(Side::B, 1),
         Reply::Done,
     );
-    replies(&rt, &mut world, "connect again", connect, Reply::Done);
+    replies(&rt, &mut world, "connect again", CONNECT, Reply::Done);
     same(&rt, "packets and pairs", counts(&world), [1, 1, 1]);
     same(&rt, "acts", world.associations(Side::B).len(), 8);
     drop(world);

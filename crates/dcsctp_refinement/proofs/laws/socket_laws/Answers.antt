@@ -8,4 +8,5 @@ returns c =
       numbers = c.socket_effects_in_place.ensures;
       answers = c.socket_requests_end_by_answers.ensures;
       ends = c.sockets_tell_ends.ensures;
+      t1 = c.sockets_run_t1.ensures;
     }

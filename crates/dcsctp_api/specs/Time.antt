@@ -1,0 +1,19 @@
+-- What a socket does where it is told the time.
+use Rattle.std.specs.Prelude.{◌≡◌, ℕ, Result, Ok, Err, IsOk, List, []}
+use Rattle.dcsctp_machine.specs.Turn.{clock_at}
+use Rattle.dcsctp_machine.specs.TimeTurns.{AdvanceTurns}
+use Rattle.dcsctp_machine.specs.CallTurns.{Turned}
+use Rattle.dcsctp_api.specs.declared.errors.SocketFault.{SocketFault}
+use Rattle.dcsctp_api.specs.declared.errors.SocketFault.TheVariants.{OutOfMemory, Failed}
+use Rattle.dcsctp_api.specs.Calls.{UserView, Follows, RanOut, StaysFailed}
+
+-- The clock is moved, and what is due has its turns; an earlier moment has none.
+abbrev pub Advances : UserView → ℕ → Result (Unit {0}) SocketFault → UserView → Type 0
+Advances old moment (Ok done) new = (turns : List Turned) × AdvanceTurns old.endpoint moment turns × Follows old turns new
+Advances old moment (Err OutOfMemory) new = RanOut old (AdvanceTurns old.endpoint moment) new
+Advances old moment (Err Failed) new = StaysFailed old new
+
+-- The call succeeds, and moves the clock alone.
+pub record OnlyMovesClock (old : UserView) (moment : ℕ) (result : Result (Unit {0}) SocketFault) (new : UserView) : Type 0 where
+  pub succeeds : IsOk result
+  pub only : new ≡ record old { endpoint = clock_at moment old.endpoint; words = []; pairs = [] }

@@ -1,0 +1,34 @@
+//! What a timer says once it was told the time.
+
+ghost use Rattle.std.specs.Prelude.{◌≡◌};
+ghost use Rattle.dcsctp_core.specs.Timing.{expiry_of, timer_after};
+
+use dcsctp_api::SocketTime;
+use dcsctp_send::Timer;
+
+/// What a timer says once it was told the time.
+#[derive(Clone, Copy, Debug, PartialEq, Eq)]
+pub enum Expiry {
+    /// It doesn't run, or its deadline is still to come.
+    NotDue,
+
+    /// It has expired, and goes on.
+    Again,
+
+    /// It has expired with no restart left, and stopped.
+    GaveUp,
+}
+
+/// Tells the timer the time. It takes no memory.
+pub(crate) fn expire(timer: &mut Timer, now: SocketTime) -> Expiry
+    ensures answer { result ≡ expiry_of now timer.old.running }
+    ensures left { timer.new ≡ timer_after now timer.old }
+{
+    if !timer.expire(now) {
+        Expiry::NotDue
+    } else if timer.is_running() {
+        Expiry::Again
+    } else {
+        Expiry::GaveUp
+    }
+}

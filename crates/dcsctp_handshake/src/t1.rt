@@ -1,0 +1,75 @@
+//! T1-init and T1-cookie (RFC 9260, section 5.1): a packet that isn't answered is sent again, and after
+//! its last restart the association is given up. Called where the time is told.
+
+ghost use Rattle.std.specs.Prelude.{◌≡◌, string_bytes, IsOk};
+ghost use Rattle.dcsctp_core.specs.declared.expiry.Expiry.TheVariants.{NotDue};
+ghost use Rattle.dcsctp_core.specs.Handling.{Tries, Takes};
+ghost use Rattle.dcsctp_core.specs.Timing.{t1_expiry};
+ghost use Rattle.dcsctp_core.specs.View.{endpoint_of};
+ghost use Rattle.dcsctp_handshake.specs.Timing.{again_turn, abandon_turn, give_up_turn, t1_turn};
+
+use crate::connect::{send_cookie_echo, send_init};
+use crate::texts::{NO_COOKIE_ACK, NO_INIT_ACK};
+use dcsctp_api::ErrorKind;
+use dcsctp_core::{Context, Expiry, State};
+use rand_core::Rng;
+use std::alloc::AllocError;
+
+// Sends the packet again that isn't answered yet, where it fits `mtu`: INIT, or COOKIE ECHO in front of a
+// flush. The one error is that a growth was refused. Nothing has changed then.
+fn send_again<R: Rng>(context: &mut Context<R>) -> Result<(), AllocError>
+    ensures { Tries R.stream again_turn context.old result context.new }
+{
+    match &context.state {
+        State::CookieWait(wait) => {
+            let my = wait.my;
+            send_init(context, my)?;
+        }
+        State::CookieEchoed(_) => send_cookie_echo(context)?,
+        State::Closed => {}
+        State::Established(_) => {}
+    }
+    Ok(())
+}
+
+// Ends the association for want of an answer, with this text. The one error is that a growth was refused.
+// Nothing has changed then.
+fn abandon<R: Rng>(context: &mut Context<R>, text: &str) -> Result<(), AllocError>
+    ensures { Tries R.stream (abandon_turn text.now) context.old result context.new }
+{
+    let message = String::from_str(context.alloc, text)?;
+    context.internal_close(ErrorKind::TooManyRetries, message)?;
+    Ok(())
+}
+
+// Gives the association up whose packet was never answered. The one error is that a growth was refused.
+// Nothing has changed then.
+fn give_up<R: Rng>(context: &mut Context<R>) -> Result<(), AllocError>
+    ensures { Tries R.stream give_up_turn context.old result context.new }
+{
+    match context.state {
+        State::CookieWait(_) => abandon(context, NO_INIT_ACK)?,
+        State::CookieEchoed(_) => abandon(context, NO_COOKIE_ACK)?,
+        State::Closed => {}
+        State::Established(_) => {}
+    }
+    Ok(())
+}
+
+/// Tells T1 the present moment (RFC 9260, section 5.1). Where it expires, its packet is sent again and it
+/// backs off, or, with no restart left, the association ends with OnAborted. Where it isn't due, or doesn't
+/// run, nothing happens, and want of memory is never the answer.
+///
+/// The one error is that a growth was refused. The first events of the turn may stand then.
+pub fn handle_t1<R: Rng>(context: &mut Context<R>) -> Result<(), AllocError>
+    ensures turn { Takes R.stream t1_turn context.old result context.new }
+    ensures idle { t1_expiry (endpoint_of context.old) ≡ NotDue → IsOk result }
+{
+    let now = context.moment;
+    match context.state.expire_t1(now) {
+        Expiry::NotDue => {}
+        Expiry::Again => send_again(context)?,
+        Expiry::GaveUp => give_up(context)?,
+    }
+    Ok(())
+}

@@ -1,0 +1,134 @@
+-- The turns of T1 are turns of the association, and time that passes before the next deadline moves the clock alone.
+use Rattle.std.proofs.Common.{◌≡◌, ◌≤◌, ◌<◌, ℕ, Bool, true, false, Option, None, Some, List, [], ◌∷◌, ◌++◌, refl, sym, subst, ap, ◌∙◌, arith}
+use Rattle.std.specs.Prelude.{if◌then◌else◌, max, nat_le}
+use Rattle.dcsctp_machine.specs.declared.association.Pair.{Pair}
+use Rattle.dcsctp_machine.specs.declared.association.Held.{Held}
+use Rattle.dcsctp_machine.specs.Packet.{Content, cookie_echo}
+use Rattle.dcsctp_machine.specs.Endpoint.{Endpoint, Core, closed, cookie_wait, cookie_echoed, open_in, RunningTimer, is_due, is_restarted}
+use Rattle.dcsctp_machine.specs.Outcome.{Outcome, still, quiet, sends, fits}
+use Rattle.dcsctp_machine.specs.Following.{next_chunk}
+use Rattle.dcsctp_machine.specs.control.Effect.{emitted_alone}
+use Rattle.dcsctp_machine.specs.control.FlushChanges.{Flushed}
+use Rattle.dcsctp_machine.specs.control.Acts.{t1_expires}
+use Rattle.dcsctp_machine.specs.control.Choices.{Choices}
+use Rattle.dcsctp_machine.specs.control.HandshakeChanges.{t1_again_change, t1_gives_up_change}
+use Rattle.dcsctp_machine.specs.Controlled.{IsControlled, ControlledAct}
+use Rattle.dcsctp_machine.specs.turns.FlushOutcomes.{Answer, flush_answered, allows_packet}
+use Rattle.dcsctp_machine.specs.turns.HandshakeOutcomes.{init_emission, echo_emission}
+use Rattle.dcsctp_machine.specs.turns.TimerOutcomes.{t1_goes_on, AgainAnswers, again_by, again_outcome, t1_again_outcome, T1AgainTurn, t1_gives_up_outcome}
+use Rattle.dcsctp_machine.specs.Turn.{Input, act_input, time_passes, clock_at}
+use Rattle.dcsctp_machine.specs.CallTurns.{Turned, Turns}
+use Rattle.dcsctp_machine.specs.TimeTurns.{deadlines_in, next_of, t1_inputs_of, t1_inputs, T1Turns, MomentTurns, TimeTurns, AdvanceTurns, AwaitsNoCookieAck, Waits, MoveClock, TimePassesQuietly}
+use Rattle.dcsctp_machine.proofs.FlushLemmas.{echo_now, echo_answers}
+use Rattle.dcsctp_machine.proofs.ControlHandshake.{no_choices, choosing, still_controlled, flush_of_one, flushes_one}
+
+-- ---- where nothing waits to be sent
+
+again_now : (e : Endpoint) (core : Core) (answers : List Answer) → AgainAnswers e core answers → again_by (flush_answered answers) e core ≡ again_outcome e core
+again_now e closed answers h = refl
+again_now e (cookie_wait mine) answers h = refl
+again_now e (cookie_echoed mine held cookie) answers h = echo_now (fits e (echo_emission held.peer.tag cookie)) e [] held.peer.tag cookie answers h
+again_now e (open_in phase mine held) answers h = refl
+
+pub t1_again_turn_now : (e : Endpoint) (o : Outcome) → T1AgainTurn e o → o ≡ t1_again_outcome e e.core
+t1_again_turn_now e o turn = turn.2 ∙ again_now (t1_goes_on e) e.core turn.0 turn.1
+
+again_answers : (e : Endpoint) (core : Core) → (answers : List Answer) × AgainAnswers e core answers
+again_answers e closed = ([], refl)
+again_answers e (cookie_wait mine) = ([], refl)
+again_answers e (cookie_echoed mine held cookie) = echo_answers (fits e (echo_emission held.peer.tag cookie)) e held.peer.tag cookie
+again_answers e (open_in phase mine held) = ([], refl)
+
+pub t1_again_turn_of : (e : Endpoint) → T1AgainTurn e (t1_again_outcome e e.core)
+t1_again_turn_of e =
+    let h : (answers : List Answer) × AgainAnswers (t1_goes_on e) e.core answers = again_answers (t1_goes_on e) e.core in
+    (h.0, h.1, sym (again_now (t1_goes_on e) e.core h.0 h.1))
+
+-- ---- as a turn of the association
+
+init_where : (b : Bool) (e : Endpoint) (mine : Pair) → e.core ≡ cookie_wait mine
+    → IsControlled e (if b then sends (t1_goes_on e) [] [] (init_emission (t1_goes_on e) mine) else quiet (t1_goes_on e) [] []) (t1_again_change e.options (cookie_wait mine) (no_choices e b))
+init_where true e mine is = record { core = is; options = refl; signs = refl; effects = refl; following = refl }
+init_where false e mine is = record { core = is; options = refl; signs = refl; effects = refl; following = refl }
+
+-- by what the flush makes of the peer
+abbrev EchoedBy : Endpoint → Pair → List ℕ → Outcome → Flushed → Type 0
+EchoedBy e mine cookie o after = IsControlled e o (record { core = cookie_echoed mine after.held cookie; effects = after.effects; following = next_chunk })
+
+echo_allowed : (allowed : Bool) (e : Endpoint) (mine : Pair) (held : Held) (cookie : List ℕ) → e.core ≡ cookie_echoed mine held cookie
+    → EchoedBy e mine cookie (flushes_one allowed (t1_goes_on e) [] [] true held.peer.tag (cookie_echo cookie)) (record { held = held; effects = emitted_alone allowed held.peer.tag (cookie_echo cookie) })
+echo_allowed true e mine held cookie is = record { core = is; options = refl; signs = refl; effects = refl; following = refl }
+echo_allowed false e mine held cookie is = record { core = is; options = refl; signs = refl; effects = refl; following = refl }
+
+echo_where : (b allowed : Bool) (e : Endpoint) (mine : Pair) (held : Held) (cookie : List ℕ) → e.core ≡ cookie_echoed mine held cookie
+    → IsControlled e (if b then flushes_one allowed (t1_goes_on e) [] [] true held.peer.tag (cookie_echo cookie) else quiet (t1_goes_on e) [] [])
+    (t1_again_change e.options (cookie_echoed mine held cookie) (choosing e b allowed))
+echo_where true allowed e mine held cookie is =
+    subst (EchoedBy e mine cookie (flushes_one allowed (t1_goes_on e) [] [] true held.peer.tag (cookie_echo cookie)))
+    (sym (flush_of_one allowed held.peer.tag held (cookie_echo cookie))) (echo_allowed allowed e mine held cookie is)
+echo_where false allowed e mine held cookie is = record { core = is; options = refl; signs = refl; effects = refl; following = refl }
+
+again_at : (e : Endpoint) (core : Core) → e.core ≡ core → (choices : Choices) × IsControlled e (t1_again_outcome e core) (t1_again_change e.options core choices)
+again_at e closed is = (no_choices e true, record { core = is; options = refl; signs = refl; effects = refl; following = refl })
+again_at e (cookie_wait mine) is =
+    let b = fits (t1_goes_on e) (init_emission (t1_goes_on e) mine) in (no_choices e b, init_where b e mine is)
+again_at e (cookie_echoed mine held cookie) is =
+    let b = fits (t1_goes_on e) (echo_emission held.peer.tag cookie) in
+    let allowed = allows_packet e.options.max_burst in
+    (choosing e b allowed, echo_where b allowed e mine held cookie is)
+again_at e (open_in phase mine held) is = (no_choices e true, record { core = is; options = refl; signs = refl; effects = refl; following = refl })
+
+gives_up_at : (e : Endpoint) (core : Core) → e.core ≡ core → IsControlled e (t1_gives_up_outcome e core) (t1_gives_up_change core)
+gives_up_at e closed is = still_controlled e closed is
+gives_up_at e (cookie_wait mine) is = record { core = refl; options = refl; signs = refl; effects = refl; following = refl }
+gives_up_at e (cookie_echoed mine held cookie) is = record { core = refl; options = refl; signs = refl; effects = refl; following = refl }
+gives_up_at e (open_in phase mine held) is = still_controlled e (open_in phase mine held) is
+
+pub t1_again_controlled : (e : Endpoint) (o : Outcome) → T1AgainTurn e o → ControlledAct e (t1_expires true) o
+t1_again_controlled e o turn = subst (ControlledAct e (t1_expires true)) (sym (t1_again_turn_now e o turn)) (again_at e e.core refl)
+
+pub t1_gives_up_controlled : (e : Endpoint) (o : Outcome) → o ≡ t1_gives_up_outcome e e.core → ControlledAct e (t1_expires false) o
+t1_gives_up_controlled e o turn = subst (ControlledAct e (t1_expires false)) (sym turn) (no_choices e true, gives_up_at e e.core refl)
+
+-- ---- where nothing is due
+
+pub not_due : (moment present : ℕ) (timer : RunningTimer) → present ≤ moment → moment < max timer.deadline present → is_due moment timer ≡ false
+not_due moment present timer before next = grind arith
+
+t1_rests_of : (moment present : ℕ) (t1 : Option RunningTimer) → present ≤ moment → moment < next_of present (deadlines_in (cookie_wait (record { tag = 0; first_tsn = 0 })) (record { t1 = t1; t2 = None; reconfiguration = None; heartbeat_interval = None; heartbeat_timeout = None }))
+    → t1_inputs_of moment t1 ≡ []
+t1_rests_of moment present None before next = refl
+t1_rests_of moment present (Some timer) before next =
+    ap (λ (b : Bool). if b then act_input (t1_expires (is_restarted timer)) ∷ [] else []) (not_due moment present timer before next)
+
+t1_rests : (e : Endpoint) (core : Core) (moment : ℕ) → AwaitsNoCookieAck core → e.moment ≤ moment → moment < next_of e.moment (deadlines_in core e.timers)
+    → t1_inputs (clock_at moment e) core ≡ []
+t1_rests e closed moment phase before next = refl
+t1_rests e (cookie_wait mine) moment phase before next = t1_rests_of moment e.moment e.timers.t1 before next
+t1_rests e (cookie_echoed mine held cookie) moment phase before next = absurd phase
+t1_rests e (open_in phase mine held) moment none before next = refl
+
+moved_alone : (e : Endpoint) (moment : ℕ) (moved : Turned) (turns : List Turned) → moved.outcome ≡ still (clock_at moment e) → Turns moved.outcome.after [] turns → MoveClock e moment (moved ∷ turns)
+moved_alone e moment moved [] is rest =
+    record {
+      endpoint = ap (λ (o : Outcome). o.after) is;
+      events = ap (λ (o : Outcome). o.events ++ []) is;
+      words = ap (λ (o : Outcome). o.words ++ []) is;
+      effects = ap (λ (o : Outcome). o.effects ++ []) is;
+    }
+moved_alone e moment moved (turn ∷ turns) is rest = absurd rest
+
+quiet_moment : (e : Endpoint) (moment : ℕ) (turns : List Turned) → MomentTurns e moment turns → Waits e moment → MoveClock e moment turns
+quiet_moment e moment [] taken waits = absurd taken
+quiet_moment e moment (moved ∷ turns) taken waits =
+    let due : T1Turns (clock_at moment e) turns = subst (λ (o : Outcome). T1Turns o.after turns) taken.0.comes taken.1 in
+    let none : Turns (clock_at moment e) [] turns =
+    subst (λ (inputs : List Input). Turns (clock_at moment e) inputs turns) (t1_rests e e.core moment waits.phase waits.present waits.next) due in
+    moved_alone e moment moved turns taken.0.comes (subst (λ (o : Outcome). Turns o.after [] turns) (sym taken.0.comes) none)
+
+quiet_at : (e : Endpoint) (moment : ℕ) (b : Bool) (turns : List Turned) → b ≡ true → TimeTurns b e moment turns → Waits e moment → MoveClock e moment turns
+quiet_at e moment true turns is taken waits = quiet_moment e moment turns taken waits
+quiet_at e moment false turns is taken waits = absurd (cc)
+
+pub time_passes_quietly : TimePassesQuietly
+time_passes_quietly e moment turns taken waits = quiet_at e moment (nat_le e.moment moment) turns (grind arith) taken waits
