@@ -2,7 +2,7 @@
 -- ECHO is, and which change nothing. A wrong rule in specs/ would not check here.
 use Rattle.std.proofs.Common.{◌≡◌, ℕ, [], ◌∷◌, ◌++◌, refl}
 use Rattle.std.specs.Prelude.{codes, replicate}
-use Rattle.dcsctp_wire.specs.Spelling.{parameter_bytes}
+use Rattle.dcsctp_wire.specs.Content.{cookie_received_while_shutting_down}
 use Rattle.dcsctp_machine.specs.declared.options.Options.{Options}
 use Rattle.dcsctp_machine.specs.Cookie.{Cookie, cookie_bytes, cookie_at}
 use Rattle.dcsctp_machine.specs.Packet.{cookie_ack, shutdown_ack, plain, error_of}
@@ -129,15 +129,14 @@ no_maker_tag a core = refl
 
 -- ---- the turns that don't
 
--- A restart is refused where SHUTDOWN ACK was sent, and only there: SHUTDOWN ACK and ERROR with the cause 10
--- go out.
+-- A restart is refused where SHUTDOWN ACK was sent, and only there: SHUTDOWN ACK and ERROR go out.
 restart_where_ending : (a : Options) → echo a (open_in shutdown_ack_sent two (new one 200 99)) 19 (cookie new_two new_one 12)
     ≡ record {
       core = open_in shutdown_ack_sent two (new one 200 99);
-      effects = sends (record { tag = 7; contents = shutdown_ack ∷ plain (error_of (0 ∷ 10 ∷ 0 ∷ 4 ∷ [])) ∷ [] }) ∷ [];
+      effects = sends (record { tag = 7; contents = shutdown_ack ∷ plain (error_of (cookie_received_while_shutting_down ∷ [])) ∷ [] }) ∷ [];
       following = dropped_rest;
     }
-unfolding cookie_bytes cookie_at parameter_bytes
+unfolding cookie_bytes cookie_at
 restart_where_ending a = refl
 
 restart_where_shutting_down : (a : Options) → echo a (open_in shutdown_sent two (new one 200 99)) 19 (cookie new_two new_one 12)

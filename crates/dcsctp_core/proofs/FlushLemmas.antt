@@ -2,8 +2,8 @@
 use Rattle.std.proofs.Common.{◌≡◌, ◌≤◌, ℕ, ℤ, pos, negsuc, zero, suc, Bool, true, false, cond, List, [], ◌∷◌, ◌++◌, length, map, refl, sym, ap, ◌∙◌, arith}
 use Rattle.std.proofs.lemmas.List.{append-nil}
 use Rattle.std.specs.List.{flat_map}
-use Rattle.dcsctp_wire.specs.Content.{ChunkContent, init_chunk, init_ack_chunk, abort_chunk, cookie_echo_chunk, cookie_ack_chunk, other_chunk}
-use Rattle.dcsctp_wire.specs.Spelling.{chunk_bytes, init_bytes, abort_bytes, other_bytes, header_bytes, packet_bytes_of}
+use Rattle.dcsctp_wire.specs.Content.{ChunkContent}
+use Rattle.dcsctp_wire.specs.Spelling.{Spelled, by_value, by_list, spelled, other_bytes, list_bytes, spelled_bytes, chunk_bytes, header_bytes, packet_bytes_of}
 use Rattle.dcsctp_wire.specs.Building.{Building}
 use Rattle.rand_core.specs.Stream.{Stream}
 use Rattle.dcsctp_machine.specs.declared.options.Options.{Options}
@@ -20,14 +20,13 @@ use Rattle.dcsctp_core.proofs.Moving.{moves_still}
 use Rattle.dcsctp_core.proofs.Composing.{moves_as}
 
 -- A chunk has bytes.
+spelled_is_not_empty : (s : Spelled) (rest : List ℕ) → spelled_bytes s ++ rest ≡ [] → ⊥
+unfolding list_bytes other_bytes
+spelled_is_not_empty (by_value chunk_type flags value) rest none = cc none
+spelled_is_not_empty (by_list chunk_type flags fields parameters) rest none = cc none
+
 chunk_is_not_empty : (chunk : ChunkContent) (rest : List ℕ) → chunk_bytes chunk ++ rest ≡ [] → ⊥
-unfolding init_bytes abort_bytes other_bytes
-chunk_is_not_empty (init_chunk chunk) rest none = cc none
-chunk_is_not_empty (init_ack_chunk chunk) rest none = cc none
-chunk_is_not_empty (abort_chunk reflected causes) rest none = cc none
-chunk_is_not_empty (cookie_echo_chunk cookie) rest none = cc none
-chunk_is_not_empty cookie_ack_chunk rest none = cc none
-chunk_is_not_empty (other_chunk type flags value) rest none = cc none
+chunk_is_not_empty chunk rest none = spelled_is_not_empty (spelled chunk) rest none
 
 -- Nothing goes out where nothing is held.
 pub flush_of_nothing : (e : Endpoint) (with_checksum : Bool) (tag : ℕ) (contents : List Content) → flat_map chunk_bytes (map chunk_out contents) ≡ []

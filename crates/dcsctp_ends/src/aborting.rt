@@ -12,7 +12,7 @@ ghost use Rattle.dcsctp_ends.specs.Ends.{abort_sent_turn, aborting_turn};
 use dcsctp_api::ErrorKind;
 use dcsctp_core::{Context, State};
 use dcsctp_machine::{AbortReason, Violation};
-use dcsctp_wire::{AbortChunk, Chunk, ErrorCause, cause_code};
+use dcsctp_wire::{AbortChunk, Chunk, ErrorCause};
 use rand_core::Rng;
 use std::alloc::AllocError;
 
@@ -39,20 +39,11 @@ fn text_of(reason: AbortReason) -> &'static str
 fn cause_of(reason: AbortReason) -> ErrorCause<'static>
     ensures { cause_content result ∷ [] ≡ causes_of reason }
 {
-    let value = text_of(reason).as_bytes();
+    let text = text_of(reason).as_bytes();
     match reason {
-        AbortReason::CloseCalled => ErrorCause::Unknown {
-            code: cause_code::USER_INITIATED_ABORT,
-            value,
-        },
-        AbortReason::Violation(_) => ErrorCause::Unknown {
-            code: cause_code::PROTOCOL_VIOLATION,
-            value,
-        },
-        AbortReason::TooManyErrors => ErrorCause::Unknown {
-            code: cause_code::USER_INITIATED_ABORT,
-            value,
-        },
+        AbortReason::CloseCalled => ErrorCause::UserInitiatedAbort { text },
+        AbortReason::Violation(_) => ErrorCause::ProtocolViolation { text },
+        AbortReason::TooManyErrors => ErrorCause::UserInitiatedAbort { text },
     }
 }
 

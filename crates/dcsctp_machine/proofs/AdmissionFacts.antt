@@ -3,10 +3,11 @@
 use Rattle.std.proofs.Common.{◌≡◌, ℕ, true, false, List, [], ◌∷◌, refl}
 use Rattle.std.specs.Prelude.{codes}
 use Rattle.std.specs.Fmt.{padded_integral, digits, char_count}
+use Rattle.dcsctp_wire.specs.Content.{data_chunk}
 use Rattle.dcsctp_machine.specs.declared.association.Pair.{Pair}
 use Rattle.dcsctp_machine.specs.declared.association.Held.{Held}
 use Rattle.dcsctp_machine.specs.Endpoint.{Core, closed, cookie_wait, cookie_echoed, open_in, established, shutdown_ack_sent}
-use Rattle.dcsctp_machine.specs.Packet.{Content, init, cookie_echo, cookie_ack, abort, shutdown, shutdown_ack, shutdown_complete, plain, written, Packet}
+use Rattle.dcsctp_machine.specs.Packet.{Content, init, cookie_echo, cookie_ack, abort, shutdown, shutdown_ack, shutdown_complete, plain, unworked, Packet}
 use Rattle.dcsctp_machine.specs.Admission.{Admission, all_chunks, shutdown_acks_alone, refused, shutdown_acks_in, admits}
 
 -- ---- sockets whose own tag is 9, of which the last two hold a peer with tag 7
@@ -42,8 +43,8 @@ an_init = init (record {
 })
 
 -- a DATA chunk
-data_chunk : Content
-data_chunk = plain (written 0 3 [])
+a_data_chunk : Content
+a_data_chunk = plain (unworked (data_chunk (record { flags = record { is_end = true; is_beginning = true; is_unordered = false; immediate_ack = false }; tsn = 0; stream_id = 0; ssn = 0; ppid = 0; payload = [] })))
 
 abort_is_wrong : Admission
 abort_is_wrong = refused (codes "ABORT chunk verification tag was wrong")
@@ -89,8 +90,8 @@ unfolding packet abort_is_wrong
 reflected_abort_in_closed = refl
 
 -- In Closed the own tag is 0, and all chunks are worked with the ABORT.
-abort_in_closed : admits closed (packet 0 (an_init ∷ abort false [] ∷ data_chunk ∷ [])) ≡ all_chunks
-unfolding packet an_init data_chunk
+abort_in_closed : admits closed (packet 0 (an_init ∷ abort false [] ∷ a_data_chunk ∷ [])) ≡ all_chunks
+unfolding packet an_init a_data_chunk
 abort_in_closed = refl
 
 abort_in_closed_under_another_tag : admits closed (packet 9 (abort false [] ∷ [])) ≡ abort_is_wrong
@@ -98,8 +99,8 @@ unfolding packet abort_is_wrong
 abort_in_closed_under_another_tag = refl
 
 -- The first ABORT counts.
-first_abort_counts : (held : Held) → admits (open_core held) (packet 9 (data_chunk ∷ abort false [] ∷ abort true [] ∷ [])) ≡ all_chunks
-unfolding packet open_core mine data_chunk
+first_abort_counts : (held : Held) → admits (open_core held) (packet 9 (a_data_chunk ∷ abort false [] ∷ abort true [] ∷ [])) ≡ all_chunks
+unfolding packet open_core mine a_data_chunk
 first_abort_counts held = refl
 
 second_abort_does_not : (held : Held) → admits (open_core held) (packet 9 (abort true [] ∷ abort false [] ∷ [])) ≡ abort_is_wrong
@@ -133,8 +134,8 @@ reflected_shutdown_complete_under_own_tag : (held : Held) → admits (ending hel
 unfolding packet ending mine with_peer shutdown_complete_is_wrong
 reflected_shutdown_complete_under_own_tag held = refl
 
-shutdown_complete_in_closed : admits closed (packet 0 (shutdown_complete false ∷ data_chunk ∷ [])) ≡ all_chunks
-unfolding packet data_chunk
+shutdown_complete_in_closed : admits closed (packet 0 (shutdown_complete false ∷ a_data_chunk ∷ [])) ≡ all_chunks
+unfolding packet a_data_chunk
 shutdown_complete_in_closed = refl
 
 reflected_shutdown_complete_in_closed : admits closed (packet 0 (shutdown_complete true ∷ [])) ≡ shutdown_complete_is_wrong
@@ -168,8 +169,8 @@ shutdown_ack_in_cookie_wait_under_0 : admits waiting (packet 0 (an_init ∷ shut
 unfolding packet waiting mine an_init
 shutdown_ack_in_cookie_wait_under_0 = refl
 
-shutdown_ack_in_cookie_wait_under_own_tag : admits waiting (packet 9 (shutdown_ack ∷ data_chunk ∷ [])) ≡ all_chunks
-unfolding packet waiting mine data_chunk
+shutdown_ack_in_cookie_wait_under_own_tag : admits waiting (packet 9 (shutdown_ack ∷ a_data_chunk ∷ [])) ≡ all_chunks
+unfolding packet waiting mine a_data_chunk
 shutdown_ack_in_cookie_wait_under_own_tag = refl
 
 shutdown_ack_in_cookie_echoed : (held : Held) → admits (echoing held) (packet 7 (cookie_ack ∷ shutdown_ack ∷ [])) ≡ shutdown_acks_alone
@@ -194,14 +195,14 @@ unfolding packet open_core mine shutdown_ack_is_wrong
 shutdown_ack_before_cookie_echo held = refl
 
 -- what is left of a packet that is cut
-shutdown_acks_are_left : shutdown_acks_in (data_chunk ∷ shutdown_ack ∷ cookie_ack ∷ shutdown 5 ∷ shutdown_ack ∷ []) ≡ shutdown_ack ∷ shutdown_ack ∷ []
-unfolding data_chunk
+shutdown_acks_are_left : shutdown_acks_in (a_data_chunk ∷ shutdown_ack ∷ cookie_ack ∷ shutdown 5 ∷ shutdown_ack ∷ []) ≡ shutdown_ack ∷ shutdown_ack ∷ []
+unfolding a_data_chunk
 shutdown_acks_are_left = refl
 
 -- ---- COOKIE ECHO in front
 
-cookie_echo_in_closed : admits closed (packet 8 (cookie_echo [] ∷ data_chunk ∷ [])) ≡ all_chunks
-unfolding packet data_chunk
+cookie_echo_in_closed : admits closed (packet 8 (cookie_echo [] ∷ a_data_chunk ∷ [])) ≡ all_chunks
+unfolding packet a_data_chunk
 cookie_echo_in_closed = refl
 
 cookie_echo_under_0 : admits waiting (packet 0 (cookie_echo [] ∷ [])) ≡ all_chunks
@@ -212,8 +213,8 @@ cookie_echo_under_another_tag : (held : Held) → admits (open_core held) (packe
 unfolding packet open_core
 cookie_echo_under_another_tag held = refl
 
-late_cookie_echo : (held : Held) → admits (open_core held) (packet 8 (data_chunk ∷ cookie_echo [] ∷ [])) ≡ refused (codes "Packet has invalid verification tag: 00000008, expected 00000009")
-unfolding packet open_core mine data_chunk padded_integral digits char_count
+late_cookie_echo : (held : Held) → admits (open_core held) (packet 8 (a_data_chunk ∷ cookie_echo [] ∷ [])) ≡ refused (codes "Packet has invalid verification tag: 00000008, expected 00000009")
+unfolding packet open_core mine a_data_chunk padded_integral digits char_count
 late_cookie_echo held = refl
 
 -- ---- tag 0
@@ -236,8 +237,8 @@ shutdown_under_0 = refl
 
 -- ---- all else
 
-own_tag_is_admitted : (held : Held) → admits (open_core held) (packet 9 (data_chunk ∷ shutdown 5 ∷ [])) ≡ all_chunks
-unfolding packet open_core mine data_chunk
+own_tag_is_admitted : (held : Held) → admits (open_core held) (packet 9 (a_data_chunk ∷ shutdown 5 ∷ [])) ≡ all_chunks
+unfolding packet open_core mine a_data_chunk
 own_tag_is_admitted held = refl
 
 init_under_own_tag : admits waiting (packet 9 (an_init ∷ [])) ≡ all_chunks

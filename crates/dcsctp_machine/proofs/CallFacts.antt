@@ -1,9 +1,10 @@
 -- Outside examples of the turns of a packet, worked by hand and computed by the definitions: a wrong rule in specs/ would
 -- not check here.
-use Rattle.std.proofs.Common.{◌≡◌, List, [], ◌∷◌, refl}
+use Rattle.std.proofs.Common.{◌≡◌, true, false, List, [], ◌∷◌, refl}
+use Rattle.dcsctp_wire.specs.Content.{data_chunk, sack_chunk}
 use Rattle.dcsctp_machine.specs.declared.association.Pair.{Pair}
 use Rattle.dcsctp_machine.specs.declared.association.Held.{Held}
-use Rattle.dcsctp_machine.specs.Packet.{Content, shutdown, cookie_ack, shutdown_ack, plain, written}
+use Rattle.dcsctp_machine.specs.Packet.{Content, shutdown, cookie_ack, shutdown_ack, plain, unworked}
 use Rattle.dcsctp_machine.specs.Endpoint.{Endpoint, open_in, established, shutdown_sent}
 use Rattle.dcsctp_machine.specs.Outcome.{Outcome, still}
 use Rattle.dcsctp_machine.specs.Following.{next_chunk, packet_end, dropped_rest}
@@ -14,12 +15,12 @@ use Rattle.dcsctp_machine.specs.CallTurns.{Turned, turned, IsTurn, Turns, ChunkT
 
 -- ---- before the chunks
 
--- a SHUTDOWN, and behind it a DATA chunk (type 0) or a SACK chunk (type 3)
+-- a SHUTDOWN, and behind it a DATA chunk or a SACK chunk
 abbrev with_data : List Content
-with_data = shutdown 5 ∷ plain (written 0 3 (0 ∷ 0 ∷ 0 ∷ 9 ∷ [])) ∷ []
+with_data = shutdown 5 ∷ plain (unworked (data_chunk (record { flags = record { is_end = true; is_beginning = true; is_unordered = false; immediate_ack = false }; tsn = 9; stream_id = 0; ssn = 0; ppid = 0; payload = 65 ∷ [] }))) ∷ []
 
 abbrev with_sack : List Content
-with_sack = shutdown 5 ∷ plain (written 3 0 (0 ∷ 0 ∷ 0 ∷ 9 ∷ [])) ∷ []
+with_sack = shutdown 5 ∷ plain (unworked (sack_chunk (record { cumulative_tsn_ack = 9; a_rwnd = 1500; gap_ack_blocks = []; duplicate_tsns = [] }))) ∷ []
 
 -- Where a SHUTDOWN waits for its answer, data is answered by another;
 data_asks : (e : Endpoint) (mine : Pair) (held : Held) (o : Outcome)

@@ -2,14 +2,14 @@
 -- rule in specs/ would not check here.
 use Rattle.std.proofs.Common.{◌≡◌, ℕ, true, false, None, List, [], ◌∷◌, refl}
 use Rattle.std.specs.Prelude.{pos, codes}
-use Rattle.dcsctp_wire.specs.Spelling.{parameter_bytes}
+use Rattle.dcsctp_wire.specs.Content.{cookie_received_while_shutting_down, error_chunk}
 use Rattle.dcsctp_machine.specs.declared.association.Pair.{Pair}
 use Rattle.dcsctp_machine.specs.declared.association.Held.{Held}
 use Rattle.dcsctp_machine.specs.declared.kinds.ErrorKind.TheVariants.{ParseFailed, WrongSequence}
 use Rattle.dcsctp_machine.specs.declared.word.Word.TheVariants.{U64}
 use Rattle.dcsctp_machine.specs.Event.{connected, connection_restarted, error}
 use Rattle.dcsctp_machine.specs.Cookie.{Cookie, cookie_at}
-use Rattle.dcsctp_machine.specs.Packet.{cookie_ack, shutdown_ack, plain, written}
+use Rattle.dcsctp_machine.specs.Packet.{cookie_ack, shutdown_ack, plain, unworked}
 use Rattle.dcsctp_machine.specs.Transfer.{SendQueueState}
 use Rattle.dcsctp_machine.specs.Endpoint.{Endpoint, closed, cookie_echoed, open_in, established, shutdown_received, shutdown_ack_sent, stopped_timers}
 use Rattle.dcsctp_machine.specs.Following.{next_chunk, dropped_rest}
@@ -75,16 +75,16 @@ echo_of_unknown_restart : (e : Endpoint) → cookie_echo_outcome (socket e 1191 
 unfolding cookie_at
 echo_of_unknown_restart e = refl
 
--- SHUTDOWN ACK again, and an ERROR, chunk type 9, with cause 10.
+-- SHUTDOWN ACK again, and an ERROR.
 echo_of_restart_in_shutdown_ack_sent : (e : Endpoint) → cookie_echo_outcome (socket e 1191 (pos 4) (open_in shutdown_ack_sent older older_held) 4) (open_in shutdown_ack_sent older older_held) 7 (cookie_at (own_cookie 77)) 55
     ≡ record {
       words = [];
       effects = [];
       after = socket e 1191 (pos 4) (open_in shutdown_ack_sent older older_held) 5;
-      events = packet_of false 90 (shutdown_ack ∷ plain (written 9 0 (0 ∷ 10 ∷ 0 ∷ 4 ∷ [])) ∷ []) ∷ error WrongSequence (codes "Received COOKIE-ECHO while shutting down") ∷ [];
+      events = packet_of false 90 (shutdown_ack ∷ plain (unworked (error_chunk (cookie_received_while_shutting_down ∷ []))) ∷ []) ∷ error WrongSequence (codes "Received COOKIE-ECHO while shutting down") ∷ [];
       following = dropped_rest;
     }
-unfolding cookie_at parameter_bytes
+unfolding cookie_at
 echo_of_restart_in_shutdown_ack_sent e = refl
 
 -- The own tag with another peer tag: both began at the same time.

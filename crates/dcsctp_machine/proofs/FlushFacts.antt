@@ -1,9 +1,11 @@
 -- Outside examples of a flush with answers, worked by hand and computed by the definitions: a wrong rule in specs/ would not
 -- check here.
-use Rattle.std.proofs.Common.{◌≡◌, ℕ, false, List, [], ◌∷◌, refl}
+use Rattle.std.proofs.Common.{◌≡◌, ℕ, true, false, List, [], ◌∷◌, refl}
 use Rattle.std.specs.Prelude.{pos, negsuc}
+use Rattle.dcsctp_wire.specs.declared.chunk.user_data.DataFlags.{DataFlags}
+use Rattle.dcsctp_wire.specs.Content.{data_chunk}
 use Rattle.dcsctp_machine.specs.Event.{buffered_amount_low, lifecycle_message_fully_sent}
-use Rattle.dcsctp_machine.specs.Packet.{Content, plain, written, cookie_ack, Emission}
+use Rattle.dcsctp_machine.specs.Packet.{Content, plain, unworked, cookie_ack, Emission}
 use Rattle.dcsctp_machine.specs.Transfer.{Below}
 use Rattle.dcsctp_machine.specs.Endpoint.{Endpoint, cookie_echoed, open_in, established}
 use Rattle.dcsctp_machine.specs.Following.{next_chunk}
@@ -12,12 +14,16 @@ use Rattle.dcsctp_machine.specs.control.Effect.{Link, Effect, connects, begins}
 use Rattle.dcsctp_machine.specs.turns.FlushOutcomes.{Answer, Told, amount_is_low, message_is_sent, flush_of, packets_allowed}
 use Rattle.dcsctp_machine.proofs.HandshakeTurnFacts.{socket, mine, held, packet_of}
 
+-- the flags of a whole message
+abbrev whole : DataFlags
+whole = record { is_end = true; is_beginning = true; is_unordered = false; immediate_ack = false }
+
 -- two DATA chunks, of one byte each
 abbrev first : Content
-first = plain (written 0 3 (0 ∷ 0 ∷ 0 ∷ 100 ∷ 0 ∷ 1 ∷ 0 ∷ 0 ∷ 0 ∷ 0 ∷ 0 ∷ 53 ∷ 65 ∷ []))
+first = plain (unworked (data_chunk (record { flags = whole; tsn = 100; stream_id = 1; ssn = 0; ppid = 53; payload = 65 ∷ [] })))
 
 abbrev second : Content
-second = plain (written 0 3 (0 ∷ 0 ∷ 0 ∷ 101 ∷ 0 ∷ 1 ∷ 0 ∷ 1 ∷ 0 ∷ 0 ∷ 0 ∷ 53 ∷ 66 ∷ []))
+second = plain (unworked (data_chunk (record { flags = whole; tsn = 101; stream_id = 1; ssn = 1; ppid = 53; payload = 66 ∷ [] })))
 
 -- the socket that flushes, once it has sent so many packets
 abbrev flushing : Endpoint → ℕ → Endpoint

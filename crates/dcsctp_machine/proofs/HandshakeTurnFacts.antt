@@ -3,7 +3,7 @@
 use Rattle.std.proofs.Common.{◌≡◌, ℕ, Bool, true, false, Option, None, Some, List, [], ◌∷◌, refl}
 use Rattle.std.specs.Prelude.{ℤ, pos, negsuc, codes}
 use Rattle.dcsctp_wire.specs.declared.reconfiguration.ReconfigurationResponseResult.TheVariants.{SuccessNothingToDo}
-use Rattle.dcsctp_wire.specs.Spelling.{parameter_bytes, parameters_len, init_fields, init_bytes, abort_bytes, other_bytes}
+use Rattle.dcsctp_wire.specs.Spelling.{parameter_bytes, parameters_len, init_fields, list_bytes, other_bytes}
 use Rattle.dcsctp_machine.specs.declared.association.Pair.{Pair}
 use Rattle.dcsctp_machine.specs.declared.association.Held.{Held}
 use Rattle.dcsctp_machine.specs.declared.kinds.BackoffAlgorithm.TheVariants.{Fixed, Exponential}
@@ -148,13 +148,13 @@ connect_sends_init : (e : Endpoint) → connect_outcome (socket e 52 (pos 4) clo
       }) ∷ []) ∷ [];
       following = next_chunk;
     }
-unfolding init_bytes init_fields parameters_len parameter_bytes
+unfolding list_bytes init_fields parameters_len parameter_bytes
 connect_sends_init e = refl
 
 -- It has 52 bytes: 12, 20, 4, 8 and 8. Where it doesn't fit, T1 runs all the same.
 init_that_does_not_fit : (e : Endpoint) → connect_outcome (socket e 51 (pos 4) closed 4) closed 100 6
     ≡ record { words = U32 100 ∷ U32 6 ∷ []; effects = draws mine ∷ []; after = connecting e 51 4; events = []; following = next_chunk }
-unfolding init_bytes init_fields parameters_len parameter_bytes
+unfolding list_bytes init_fields parameters_len parameter_bytes
 init_that_does_not_fit e = refl
 
 connect_in_established : (e : Endpoint) → connect_outcome e (open_in established mine held) 100 6 ≡ record { words = []; effects = []; after = e; events = []; following = next_chunk }
@@ -208,7 +208,7 @@ init_ack_without_cookie : (e : Endpoint) → init_ack_outcome (socket e 1191 (po
       events = packet_of true 9 (abort false (missing_mandatory_parameter (7 ∷ []) ∷ []) ∷ []) ∷ aborted ProtocolViolation (codes "InitAck chunk doesn't contain a cookie") ∷ [];
       following = dropped_rest;
     }
-unfolding parameter_bytes parameters_len abort_bytes
+unfolding parameter_bytes parameters_len list_bytes
 init_ack_without_cookie e = refl
 
 end_leaves_queue : (e : Endpoint) → (closed_after e).below ≡ record { queue = e.below.queue; transfer = None }

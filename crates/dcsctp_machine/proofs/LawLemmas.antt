@@ -4,7 +4,7 @@ use Rattle.std.proofs.lemmas.Nat.{from_be_bytes-to_be_bytes_2, from_be_bytes-to_
 use Rattle.std.proofs.lemmas.Bool.Decides.{nat_tests}
 use Rattle.dcsctp_machine.specs.Offer.{negotiated}
 use Rattle.dcsctp_machine.specs.Cookie.{Cookie, flag_byte, has_zero_tag, cookie_bytes, cookie_at, cookie_fields, u64_at}
-use Rattle.dcsctp_wire.specs.Format.{u16_at, u32_at}
+use Rattle.dcsctp_wire.specs.Fields.{u16_at, u32_at}
 use Rattle.dcsctp_machine.specs.declared.word.Word.{Word}
 use Rattle.dcsctp_machine.specs.Packet.{Introduction, shutdown_ack, Emission}
 use Rattle.dcsctp_machine.specs.Endpoint.{Endpoint, Core, closed, cookie_wait, cookie_echoed, open_in, established, shutdown_pending, shutdown_sent, shutdown_received, shutdown_ack_sent}

@@ -1,6 +1,6 @@
 -- The turns of chunks that speak of no association, kind by kind. No other proof goes by their kinds.
 use Rattle.std.proofs.Common.{ℕ, false, refl, sym, subst}
-use Rattle.dcsctp_machine.specs.Packet.{Plain, plain, written}
+use Rattle.dcsctp_machine.specs.Packet.{Plain, plain, unworked}
 use Rattle.dcsctp_machine.specs.Endpoint.{Endpoint, Core, closed, cookie_wait, cookie_echoed, open_in, established, shutdown_pending, shutdown_sent, shutdown_received, shutdown_ack_sent}
 use Rattle.dcsctp_machine.specs.Outcome.{Outcome}
 use Rattle.dcsctp_machine.specs.turns.PlainOutcomes.{PlainTurn}
@@ -29,11 +29,11 @@ plain_change_is_none e (open_in shutdown_received my held) tag chunk = (nothing_
 plain_change_is_none e (open_in shutdown_ack_sent my held) tag chunk = (nothing_chosen e, tt, refl)
 
 pub plain_controlled : (e : Endpoint) (tag : ℕ) (chunk : Plain) (o : Outcome) → PlainTurn e chunk o → ControlledChunk e tag (plain chunk) o
-plain_controlled e tag (written type flags value) o turn =
-    subst (ControlledChunk e tag (plain (written type flags value))) (sym turn) (unchanged e.core, plain_change_is_none e e.core tag (written type flags value), still_controlled e e.core refl)
+plain_controlled e tag (unworked chunk) o turn =
+    subst (ControlledChunk e tag (plain (unworked chunk))) (sym turn) (unchanged e.core, plain_change_is_none e e.core tag (unworked chunk), still_controlled e e.core refl)
 
 -- ---- what goes out
 
 -- It leaves numbers that fit, and sends what is read as itself.
 pub plain_fits : (e : Endpoint) (chunk : Plain) (o : Outcome) → PlainTurn e chunk o → FitsEndpoint e → Sendable (plain chunk) → TurnFits o
-plain_fits e (written type flags value) o turn h good = subst TurnFits (sym turn) (record { after = h; sends = tt })
+plain_fits e (unworked chunk) o turn h good = subst TurnFits (sym turn) (record { after = h; sends = tt })

@@ -2,7 +2,7 @@
 -- would not check here.
 use Rattle.std.proofs.Common.{◌≡◌, ℕ, true, false, Some, Err, List, [], ◌∷◌, ◌++◌, refl, arith}
 use Rattle.std.specs.Prelude.{codes, replicate}
-use Rattle.dcsctp_wire.specs.Spelling.{parameter_bytes, parameters_len, init_fields, init_bytes, other_bytes, header_bytes, checksum_field, packet_bytes_of}
+use Rattle.dcsctp_wire.specs.Spelling.{parameter_bytes, parameters_len, init_fields, list_bytes, other_bytes, header_bytes, checksum_field, packet_bytes_of}
 use Rattle.dcsctp_machine.specs.declared.association.Pair.{Pair}
 use Rattle.dcsctp_machine.specs.declared.association.Held.{Held}
 use Rattle.dcsctp_machine.specs.declared.association.Phase.TheVariants as phases
@@ -130,17 +130,17 @@ closed_cookie =
 
 init_where_closed : (e : Endpoint) → init_outcome (socket e 1191 4) theirs closed 5 9
     ≡ record { words = U32 5 ∷ U32 9 ∷ []; effects = draws (record { tag = 10; first_tsn = 5 }) ∷ []; after = socket e 1191 5; events = sent (record { with_checksum = false; packet = record { tag = 7; contents = answer 10 5 5242880 closed_cookie ∷ [] } }) ∷ []; following = next_chunk }
-unfolding configured theirs socket answer closed_cookie cookie_bytes init_bytes init_fields parameters_len parameter_bytes
+unfolding configured theirs socket answer closed_cookie cookie_bytes list_bytes init_fields parameters_len parameter_bytes
 init_where_closed e = refl
 
 -- The answer has 104 bytes: 12, 20, 4, 8, 8 and 52.
 answer_that_fits : (e : Endpoint) → (init_outcome (socket e 104 4) theirs closed 5 9).after ≡ socket e 104 5
-unfolding configured theirs socket cookie_bytes init_bytes init_fields parameters_len parameter_bytes
+unfolding configured theirs socket cookie_bytes list_bytes init_fields parameters_len parameter_bytes
 answer_that_fits e = refl
 
 -- It is neither sent nor counted, and yet two words are drawn.
 answer_that_does_not_fit : (e : Endpoint) → init_outcome (socket e 103 4) theirs closed 5 9 ≡ record { words = U32 5 ∷ U32 9 ∷ []; effects = draws (record { tag = 10; first_tsn = 5 }) ∷ []; after = socket e 103 4; events = []; following = next_chunk }
-unfolding configured theirs socket cookie_bytes init_bytes init_fields parameters_len parameter_bytes
+unfolding configured theirs socket cookie_bytes list_bytes init_fields parameters_len parameter_bytes
 answer_that_does_not_fit e = refl
 
 waiting_cookie : List ℕ
@@ -154,12 +154,12 @@ mine = record { tag = 11; first_tsn = 22 }
 
 init_in_cookie_wait : (e : Endpoint) → init_outcome (socket e 1191 4) theirs (cookie_wait mine) 5 9
     ≡ record { words = []; effects = []; after = socket e 1191 5; events = sent (record { with_checksum = false; packet = record { tag = 7; contents = answer 11 22 5242880 waiting_cookie ∷ [] } }) ∷ []; following = next_chunk }
-unfolding configured theirs socket answer waiting_cookie mine cookie_bytes init_bytes init_fields parameters_len parameter_bytes
+unfolding configured theirs socket answer waiting_cookie mine cookie_bytes list_bytes init_fields parameters_len parameter_bytes
 init_in_cookie_wait e = refl
 
 init_in_cookie_echoed : (e : Endpoint) (held : Held) → init_outcome (socket e 1191 4) theirs (cookie_echoed mine held []) 5 9
     ≡ record { words = []; effects = []; after = socket e 1191 5; events = sent (record { with_checksum = false; packet = record { tag = 7; contents = answer 11 22 5242880 waiting_cookie ∷ [] } }) ∷ []; following = next_chunk }
-unfolding configured theirs socket answer waiting_cookie mine cookie_bytes init_bytes init_fields parameters_len parameter_bytes
+unfolding configured theirs socket answer waiting_cookie mine cookie_bytes list_bytes init_fields parameters_len parameter_bytes
 init_in_cookie_echoed e held = refl
 
 -- a fresh tag from one word, a TSN that is a million on, round 2^32, and the tie tag
@@ -172,19 +172,19 @@ answered_where_open : Endpoint → Outcome
 answered_where_open e = record { words = U32 5 ∷ []; effects = draws (record { tag = 6; first_tsn = 999999 }) ∷ []; after = socket e 1191 5; events = sent (record { with_checksum = false; packet = record { tag = 7; contents = answer 6 999999 5242880 open_cookie ∷ [] } }) ∷ []; following = next_chunk }
 
 init_in_established : (e : Endpoint) (held : Held) → init_outcome (socket e 1191 4) theirs (open_in established mine held) 5 9 ≡ answered_where_open e
-unfolding configured theirs socket answer open_cookie answered_where_open cookie_bytes init_bytes init_fields parameters_len parameter_bytes
+unfolding configured theirs socket answer open_cookie answered_where_open cookie_bytes list_bytes init_fields parameters_len parameter_bytes
 init_in_established e held = refl
 
 init_in_shutdown_pending : (e : Endpoint) (held : Held) → init_outcome (socket e 1191 4) theirs (open_in shutdown_pending mine held) 5 9 ≡ answered_where_open e
-unfolding configured theirs socket answer open_cookie answered_where_open cookie_bytes init_bytes init_fields parameters_len parameter_bytes
+unfolding configured theirs socket answer open_cookie answered_where_open cookie_bytes list_bytes init_fields parameters_len parameter_bytes
 init_in_shutdown_pending e held = refl
 
 init_in_shutdown_sent : (e : Endpoint) (held : Held) → init_outcome (socket e 1191 4) theirs (open_in shutdown_sent mine held) 5 9 ≡ answered_where_open e
-unfolding configured theirs socket answer open_cookie answered_where_open cookie_bytes init_bytes init_fields parameters_len parameter_bytes
+unfolding configured theirs socket answer open_cookie answered_where_open cookie_bytes list_bytes init_fields parameters_len parameter_bytes
 init_in_shutdown_sent e held = refl
 
 init_in_shutdown_received : (e : Endpoint) (held : Held) → init_outcome (socket e 1191 4) theirs (open_in shutdown_received mine held) 5 9 ≡ answered_where_open e
-unfolding configured theirs socket answer open_cookie answered_where_open cookie_bytes init_bytes init_fields parameters_len parameter_bytes
+unfolding configured theirs socket answer open_cookie answered_where_open cookie_bytes list_bytes init_fields parameters_len parameter_bytes
 init_in_shutdown_received e held = refl
 
 -- Here SHUTDOWN ACK goes to the peer that is held, and no word is drawn (RFC 9260, section 9.2).

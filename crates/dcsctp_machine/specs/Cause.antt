@@ -2,9 +2,8 @@
 use Rattle.std.specs.Prelude.{ℕ, List, [], ◌∷◌, codes}
 use Rattle.std.specs.List.{flat_map}
 use Rattle.std.specs.Int.{w16, to_be_bytes}
-use Rattle.dcsctp_wire.specs.Content.{CauseContent, unknown_cause}
+use Rattle.dcsctp_wire.specs.Content.{CauseContent}
 use Rattle.dcsctp_wire.specs.Content as wire
-use Rattle.dcsctp_wire.specs.Spelling.{as_parameter, parameter_bytes}
 use Rattle.dcsctp_machine.specs.declared.ends.Violation.{Violation}
 use Rattle.dcsctp_machine.specs.declared.ends.Violation.TheVariants.{DataWithInterleaving, InterleavedDataWithout, ForwardTsnWithout}
 use Rattle.dcsctp_machine.specs.declared.ends.AbortReason.{AbortReason}
@@ -19,19 +18,15 @@ missing_mandatory_parameter types = wire.missing_mandatory_parameter (flat_map (
 
 -- Cookie Received While Shutting Down (RFC 9260, section 3.3.10.10)
 abbrev pub cookie_received_while_shutting_down : Cause
-cookie_received_while_shutting_down = unknown_cause 10 []
+cookie_received_while_shutting_down = wire.cookie_received_while_shutting_down
 
 -- User-Initiated Abort (RFC 9260, section 3.3.10.12): a text
 abbrev pub user_initiated_abort : List ℕ → Cause
-user_initiated_abort text = unknown_cause 12 text
+user_initiated_abort text = wire.user_initiated_abort text
 
 -- Protocol Violation (RFC 9260, section 3.3.10.13): a text
 abbrev pub protocol_violation : List ℕ → Cause
-protocol_violation text = unknown_cause 13 text
-
--- a cause with its padding, as it stands in a chunk
-abbrev pub cause_bytes : Cause → List ℕ
-cause_bytes cause = parameter_bytes (as_parameter cause)
+protocol_violation text = wire.protocol_violation text
 
 -- ---- why a socket aborts its association
 

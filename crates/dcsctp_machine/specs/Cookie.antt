@@ -1,7 +1,7 @@
 -- The state cookie: what its maker wants to find again in a COOKIE ECHO (RFC 9260, section 5.1.3).
 use Rattle.std.specs.Prelude.{◌==◌, ℕ, Bool, true, false, not, ◌&&◌, ◌||◌, List, [], ◌∷◌, ◌++◌, length, take, drop, Result, Ok, Err, slice_index, codes, if◌then◌else◌}
 use Rattle.std.specs.Int.{w16, w32, w64, to_be_bytes, from_be_bytes}
-use Rattle.dcsctp_wire.specs.Format.{u16_at, u32_at}
+use Rattle.dcsctp_wire.specs.Fields.{u16_at, u32_at}
 use Rattle.dcsctp_machine.specs.declared.association.Pair.{Pair}
 use Rattle.dcsctp_machine.specs.Offer.{Offer}
 

@@ -4,7 +4,7 @@ use Rattle.std.specs.List.{list_any}
 use Rattle.dcsctp_machine.specs.declared.options.Options.{Options}
 use Rattle.dcsctp_machine.specs.declared.capabilities.Capabilities.{Capabilities}
 use Rattle.dcsctp_wire.specs.Numbers.{re_config_type, forward_tsn_type, i_data_type, i_forward_tsn_type}
-use Rattle.dcsctp_wire.specs.Content.{ParameterContent, state_cookie, supported_extensions, zero_checksum_acceptable, forward_tsn_supported, unknown_parameter}
+use Rattle.dcsctp_wire.specs.Content.{ParameterContent, supported_extensions, zero_checksum_acceptable, forward_tsn_supported}
 
 pub record Offer : Type 0 where
   -- RFC 3758
@@ -105,27 +105,18 @@ offer_parameters offer =
 -- The first Supported Extensions counts.
 abbrev pub extensions_of : List ParameterContent → List ℕ
 extensions_of [] = []
-extensions_of (state_cookie cookie ∷ parameters) = extensions_of parameters
 extensions_of (supported_extensions chunk_types ∷ parameters) = chunk_types
-extensions_of (zero_checksum_acceptable method ∷ parameters) = extensions_of parameters
-extensions_of (forward_tsn_supported ∷ parameters) = extensions_of parameters
-extensions_of (unknown_parameter other value ∷ parameters) = extensions_of parameters
+extensions_of (parameter ∷ parameters) = extensions_of parameters
 
 -- The first Zero Checksum Acceptable counts.
 abbrev pub method_of : List ParameterContent → ℕ
 method_of [] = 0
-method_of (state_cookie cookie ∷ parameters) = method_of parameters
-method_of (supported_extensions chunk_types ∷ parameters) = method_of parameters
 method_of (zero_checksum_acceptable method ∷ parameters) = method
-method_of (forward_tsn_supported ∷ parameters) = method_of parameters
-method_of (unknown_parameter other value ∷ parameters) = method_of parameters
+method_of (parameter ∷ parameters) = method_of parameters
 
 abbrev pub is_forward_tsn_supported : ParameterContent → Bool
-is_forward_tsn_supported (state_cookie cookie) = false
-is_forward_tsn_supported (supported_extensions chunk_types) = false
-is_forward_tsn_supported (zero_checksum_acceptable method) = false
 is_forward_tsn_supported forward_tsn_supported = true
-is_forward_tsn_supported (unknown_parameter other value) = false
+is_forward_tsn_supported parameter = false
 
 -- is the chunk type among these?
 abbrev pub supports_type : ℕ → List ℕ → Bool

@@ -1,13 +1,10 @@
 -- What the machine sees of a packet: a verification tag and what each chunk says (RFC 9260, section 3).
-use Rattle.std.specs.Prelude.{◌==◌, ℕ, Bool, Option, None, Some, List, [], ◌∷◌, ◌++◌, map, take}
-use Rattle.std.specs.List.{flat_map}
-use Rattle.std.specs.Int.{w32, to_be_bytes}
+use Rattle.std.specs.Prelude.{ℕ, Bool, true, false, Option, None, Some, List, [], ◌∷◌, ◌++◌, map}
 use Rattle.dcsctp_machine.specs.declared.association.Pair.{Pair}
 use Rattle.dcsctp_machine.specs.Settings.{Ports}
 use Rattle.dcsctp_machine.specs.Offer.{Offer, offer_parameters, offer_announced}
-use Rattle.dcsctp_wire.specs.Content.{ParameterContent, state_cookie, supported_extensions, zero_checksum_acceptable, forward_tsn_supported, unknown_parameter, InitContent, ChunkContent, init_chunk, init_ack_chunk, abort_chunk, cookie_echo_chunk, cookie_ack_chunk, other_chunk, PacketContent}
-use Rattle.dcsctp_wire.specs.Numbers.{data_type, error_type, shutdown_type, shutdown_ack_type, shutdown_complete_type, re_config_type}
-use Rattle.dcsctp_wire.specs.Spelling.{parameter_bytes, parameters_len, t_bit, packet_bytes}
+use Rattle.dcsctp_wire.specs.Content.{ParameterContent, state_cookie, InitContent, ChunkContent, data_chunk, init_chunk, init_ack_chunk, abort_chunk, shutdown_chunk, shutdown_ack_chunk, error_chunk, cookie_echo_chunk, cookie_ack_chunk, shutdown_complete_chunk, re_config_chunk, PacketContent}
+use Rattle.dcsctp_wire.specs.Spelling.{packet_bytes}
 use Rattle.dcsctp_machine.specs.Cause.{Cause}
 use Rattle.dcsctp_machine.specs.Reconfiguration.{ResetParameter, reset_parameter_content}
 
@@ -22,16 +19,17 @@ pub record Introduction : Type 0 where
 -- A chunk that speaks of no association: data, acknowledgements, heartbeats, errors, and what is unknown. Each kind that
 -- is told apart has its constructor here; what other chapters ask of kinds stands beside them, and names them alone.
 pub data Plain : Type 0 where
-  -- a kind without a handler, as it is written: type, flags, value
-  written : ℕ → ℕ → List ℕ → Plain
+  -- a kind that no handler works yet, as it stands in its packet
+  unworked : ChunkContent → Plain
 
 -- is it a DATA chunk?
 abbrev pub is_data : Plain → Bool
-is_data (written type flags value) = type == data_type
+is_data (unworked (data_chunk chunk)) = true
+is_data (unworked chunk) = false
 
--- an ERROR chunk with this value (RFC 9260, section 3.3.10)
-abbrev pub error_of : List ℕ → Plain
-error_of value = written error_type 0 value
+-- an ERROR chunk (RFC 9260, section 3.3.10)
+abbrev pub error_of : List Cause → Plain
+error_of causes = unworked (error_chunk causes)
 
 pub data Content : Type 0 where
   init : Introduction → Content
@@ -77,24 +75,17 @@ introduction_in chunk =
 abbrev pub cookie_in : List ParameterContent → Option (List ℕ)
 cookie_in [] = None
 cookie_in (state_cookie cookie ∷ parameters) = Some cookie
-cookie_in (supported_extensions chunk_types ∷ parameters) = cookie_in parameters
-cookie_in (zero_checksum_acceptable method ∷ parameters) = cookie_in parameters
-cookie_in (forward_tsn_supported ∷ parameters) = cookie_in parameters
-cookie_in (unknown_parameter type value ∷ parameters) = cookie_in parameters
+cookie_in (parameter ∷ parameters) = cookie_in parameters
 
--- Parameters, or causes, as the value of a chunk: the padding of the last is no part of its length (RFC 9260,
--- section 3.2).
-abbrev pub parameters_value : List ParameterContent → List ℕ
-parameters_value parameters = take (parameters_len parameters) (flat_map parameter_bytes parameters)
-
--- what a chunk says
+-- What a chunk says. Those of shutdown and RE-CONFIG are no contents of their own where they are read, as long as no handler
+-- works them.
 abbrev pub content_in : ChunkContent → Content
 content_in (init_chunk chunk) = init (introduction_in chunk)
 content_in (init_ack_chunk chunk) = init_ack (introduction_in chunk) (cookie_in chunk.parameters)
 content_in (abort_chunk reflected causes) = abort reflected causes
 content_in (cookie_echo_chunk cookie) = cookie_echo cookie
 content_in cookie_ack_chunk = cookie_ack
-content_in (other_chunk type flags value) = plain (written type flags value)
+content_in chunk = plain (unworked chunk)
 
 abbrev pub packet_in : PacketContent → Packet
 packet_in packet = record { tag = packet.verification_tag; contents = map content_in packet.chunks }
@@ -118,18 +109,18 @@ introduction_out introduction cookie =
     }
 
 abbrev pub plain_out : Plain → ChunkContent
-plain_out (written type flags value) = other_chunk type flags value
+plain_out (unworked chunk) = chunk
 
 abbrev pub chunk_out : Content → ChunkContent
 chunk_out (init introduction) = init_chunk (introduction_out introduction None)
 chunk_out (init_ack introduction cookie) = init_ack_chunk (introduction_out introduction cookie)
 chunk_out (cookie_echo cookie) = cookie_echo_chunk cookie
 chunk_out cookie_ack = cookie_ack_chunk
-chunk_out (re_config parameters) = other_chunk re_config_type 0 (parameters_value (map reset_parameter_content parameters))
+chunk_out (re_config parameters) = re_config_chunk (map reset_parameter_content parameters)
 chunk_out (abort reflected causes) = abort_chunk reflected causes
-chunk_out (shutdown cumulative_tsn) = other_chunk shutdown_type 0 (to_be_bytes w32 cumulative_tsn)
-chunk_out shutdown_ack = other_chunk shutdown_ack_type 0 []
-chunk_out (shutdown_complete reflected) = other_chunk shutdown_complete_type (t_bit reflected) []
+chunk_out (shutdown cumulative_tsn) = shutdown_chunk cumulative_tsn
+chunk_out shutdown_ack = shutdown_ack_chunk
+chunk_out (shutdown_complete reflected) = shutdown_complete_chunk reflected
 chunk_out (plain chunk) = plain_out chunk
 
 -- the bytes of a packet between these ports

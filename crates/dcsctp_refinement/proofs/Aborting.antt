@@ -3,13 +3,13 @@ use Rattle.std.proofs.Common.{◌≡◌, ℕ, ◌<◌, ◌^◌, Bool, true, fals
 use Rattle.std.specs.List.{AllByRecursion}
 use Rattle.std.proofs.lemmas.Bool.Decides.{nat_tests}
 use Rattle.dcsctp_wire.specs.Spelling.{parameters_len}
-use Rattle.dcsctp_wire.specs.ReadsBack.{IsByte, FitsCause}
+use Rattle.dcsctp_wire.specs.ReadsBack.{IsByte}
 use Rattle.dcsctp_machine.specs.declared.association.Held.{Held}
 use Rattle.dcsctp_machine.specs.declared.ends.Violation.{Violation}
 use Rattle.dcsctp_machine.specs.declared.ends.Violation.TheVariants.{DataWithInterleaving, InterleavedDataWithout, ForwardTsnWithout}
 use Rattle.dcsctp_machine.specs.declared.ends.AbortReason.{AbortReason}
 use Rattle.dcsctp_machine.specs.declared.ends.AbortReason.TheVariants as reasons
-use Rattle.dcsctp_machine.specs.Cause.{user_initiated_abort, protocol_violation, violation_text, reason_text, causes_of}
+use Rattle.dcsctp_machine.specs.Cause.{violation_text, reason_text, causes_of}
 use Rattle.dcsctp_machine.specs.Packet.{abort}
 use Rattle.dcsctp_machine.specs.Endpoint.{Endpoint, Core, closed, cookie_wait, cookie_echoed, open_in, established, shutdown_pending, shutdown_sent, shutdown_received, shutdown_ack_sent}
 use Rattle.dcsctp_machine.specs.Outcome.{sends, quiet, fits}
@@ -53,28 +53,22 @@ reason_in_bytes reasons.TooManyErrors = tested_bytes (reason_text reasons.TooMan
 
 -- ---- the ABORT
 
-user_cause_fits : (text : List ℕ) → AllByRecursion IsByte text → FitsCause (user_initiated_abort text)
-user_cause_fits text in_bytes = record { code_fits = omega arith; not_missing_parameter = omega arith; value_in_bytes = in_bytes }
-
-violation_cause_fits : (text : List ℕ) → AllByRecursion IsByte text → FitsCause (protocol_violation text)
-violation_cause_fits text in_bytes = record { code_fits = omega arith; not_missing_parameter = omega arith; value_in_bytes = in_bytes }
-
 violation_sendable : (violation : Violation) → Sendable (abort false (causes_of (reasons.Violation violation)))
 unfolding parameters_len
 violation_sendable DataWithInterleaving =
-    record { fits = record { len_fits = omega arith; causes_fit = (violation_cause_fits _ (violation_in_bytes DataWithInterleaving), tt) }; reads = refl; said = tt }
+    record { fits = record { len_fits = omega arith; causes_fit = (violation_in_bytes DataWithInterleaving, tt) }; reads = refl; said = tt }
 violation_sendable InterleavedDataWithout =
-    record { fits = record { len_fits = omega arith; causes_fit = (violation_cause_fits _ (violation_in_bytes InterleavedDataWithout), tt) }; reads = refl; said = tt }
+    record { fits = record { len_fits = omega arith; causes_fit = (violation_in_bytes InterleavedDataWithout, tt) }; reads = refl; said = tt }
 violation_sendable ForwardTsnWithout =
-    record { fits = record { len_fits = omega arith; causes_fit = (violation_cause_fits _ (violation_in_bytes ForwardTsnWithout), tt) }; reads = refl; said = tt }
+    record { fits = record { len_fits = omega arith; causes_fit = (violation_in_bytes ForwardTsnWithout, tt) }; reads = refl; said = tt }
 
 reason_sendable : (reason : AbortReason) → Sendable (abort false (causes_of reason))
 unfolding parameters_len
 reason_sendable reasons.CloseCalled =
-    record { fits = record { len_fits = omega arith; causes_fit = (user_cause_fits _ (reason_in_bytes reasons.CloseCalled), tt) }; reads = refl; said = tt }
+    record { fits = record { len_fits = omega arith; causes_fit = (reason_in_bytes reasons.CloseCalled, tt) }; reads = refl; said = tt }
 reason_sendable (reasons.Violation violation) = violation_sendable violation
 reason_sendable reasons.TooManyErrors =
-    record { fits = record { len_fits = omega arith; causes_fit = (user_cause_fits _ (reason_in_bytes reasons.TooManyErrors), tt) }; reads = refl; said = tt }
+    record { fits = record { len_fits = omega arith; causes_fit = (reason_in_bytes reasons.TooManyErrors, tt) }; reads = refl; said = tt }
 
 -- ---- the turn
 

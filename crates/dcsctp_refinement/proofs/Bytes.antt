@@ -4,7 +4,7 @@ use Rattle.std.specs.Int.{w16, w32, w64, to_be_bytes, from_be_bytes}
 use Rattle.std.specs.List.{AllByRecursion}
 use Rattle.std.proofs.lemmas.List.Elements.{All-append, All-drop, All-take, All-from_recursion, recursion_from_All}
 use Rattle.std.proofs.lemmas.Bool.Decides.{nat_tests}
-use Rattle.dcsctp_wire.specs.Format.{u32_at}
+use Rattle.dcsctp_wire.specs.Fields.{u32_at}
 use Rattle.dcsctp_wire.specs.ReadsBack.{IsByte}
 use Rattle.dcsctp_machine.specs.Cookie.{Cookie, magic, flag_byte, cookie_bytes, cookie_at, cookie_fields, has_magic, has_zero_tag, size_text, magic_text, tag_text}
 use Rattle.dcsctp_machine.specs.Laws.{FitsPair}

@@ -126,4 +126,4 @@ ack_sendable = record { fits = tt; reads = refl; said = tt }
 pub abort_sendable : Sendable (abort false (missing_mandatory_parameter (state_cookie_type ∷ []) ∷ []))
 unfolding parameters_len
 abort_sendable =
-    record { fits = record { len_fits = omega arith; causes_fit = (record { whole = refl; types_in_bytes = (omega arith, (omega arith, tt)) }, tt) }; reads = refl; said = tt }
+    record { fits = record { len_fits = omega arith; causes_fit = (record { whole = refl; entries_in_bytes = (omega arith, (omega arith, tt)) }, tt) }; reads = refl; said = tt }

@@ -1,7 +1,7 @@
 //! Printing what a socket shows of itself.
 
 ghost use Rattle.std.specs.Prelude.{◌≡◌};
-ghost use Rattle.dcsctp_machine.specs.Reconfiguration.{result_code};
+ghost use Rattle.dcsctp_wire.specs.Spelling.{result_code};
 
 use crate::printing::side_name;
 use dcsctp_api::{SocketState, SocketTime};

@@ -2,8 +2,9 @@
 use Rattle.std.proofs.Common.{◌≡◌, ℕ, Bool, true, false, List, [], ◌∷◌, refl, sym, ap, subst, ◌∙◌, Result, Ok, Err}
 use Rattle.std.proofs.lemmas.List.{append-nil}
 use Rattle.rand_core.specs.Stream.{Stream}
+use Rattle.dcsctp_wire.specs.Content.{ChunkContent}
 use Rattle.dcsctp_machine.specs.Event.{Event}
-use Rattle.dcsctp_machine.specs.Packet.{Introduction, Content, init, cookie_ack, plain, written}
+use Rattle.dcsctp_machine.specs.Packet.{Introduction, Content, init, cookie_ack, plain, unworked}
 use Rattle.dcsctp_machine.specs.Outcome.{Outcome, still}
 use Rattle.dcsctp_machine.specs.Turn.{ContentTurn, act_input}
 use Rattle.dcsctp_machine.specs.Endpoint.{Endpoint, Core, closed, cookie_wait, cookie_echoed, open_in}
@@ -25,12 +26,12 @@ use Rattle.dcsctp_handshake.specs.Handshake.{connect_turn, cookie_ack_turn}
 use Rattle.dcsctp_socket.specs.Parts.{ChunkMoves, ChunkCut, ConnectMoves, WorksChunk, WorksConnect}
 use Rattle.dcsctp_socket.specs.SocketView.{Settles, user_view_of}
 
--- ---- a chunk of another kind
+-- ---- a chunk that no handler works
 
 -- Nothing happens, and the chunk after it has its turn.
-pub written_worked : {R : Type 0} (stream : R → Stream) (view : View R) (tag chunk_type flags : ℕ) (value : List ℕ)
-    → ChunkMoves stream tag (plain (written chunk_type flags value)) view NextChunk view
-written_worked stream view tag chunk_type flags value =
+pub rests : {R : Type 0} (stream : R → Stream) (view : View R) (tag : ℕ) (chunk : ChunkContent)
+    → ChunkMoves stream tag (plain (unworked chunk)) view NextChunk view
+rests stream view tag chunk =
     record {
       outcome = still view.endpoint;
       turn = refl;

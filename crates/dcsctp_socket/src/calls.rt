@@ -45,7 +45,20 @@ fn handle_chunk<R: Rng>(
             handle_cookie_ack(context)?;
             Ok(Following::NextChunk)
         }
-        Chunk::Other(_) => Ok(Following::NextChunk),
+        // No handler works these yet.
+        Chunk::Data(_) => Ok(Following::NextChunk),
+        Chunk::Sack(_) => Ok(Following::NextChunk),
+        Chunk::HeartbeatRequest(_) => Ok(Following::NextChunk),
+        Chunk::HeartbeatAck(_) => Ok(Following::NextChunk),
+        Chunk::Shutdown(_) => Ok(Following::NextChunk),
+        Chunk::ShutdownAck => Ok(Following::NextChunk),
+        Chunk::Error(_) => Ok(Following::NextChunk),
+        Chunk::ShutdownComplete(_) => Ok(Following::NextChunk),
+        Chunk::IData(_) => Ok(Following::NextChunk),
+        Chunk::ReConfig(_) => Ok(Following::NextChunk),
+        Chunk::ForwardTsn(_) => Ok(Following::NextChunk),
+        Chunk::IForwardTsn(_) => Ok(Following::NextChunk),
+        Chunk::Unknown(_) => Ok(Following::NextChunk),
     }
 }
 

@@ -56,13 +56,14 @@ const CAUSES: usize = 1000;
 #[test]
 fn an_abort_of_a_thousand_causes_ends_the_association(rt: HostRuntime) {
     let alloc = rt.alloc();
-    // No User Data, without a value (RFC 9260, section 3.3.10.9), behind a length of 4004.
-    let causes = [0, 9, 0, 4]
+    // Cookie Received While Shutting Down, which has no value (RFC 9260, section 3.3.10.10), behind a length of
+    // 4004.
+    let causes = [0, 10, 0, 4]
         .as_slice()
         .repeat(alloc, CAUSES)
         .expect(&rt, "no causes");
     let packet = unchecked_packet(&rt, alloc, 7, &[&[6, 0, 0x0f, 0xa4], &causes]);
-    let mut expected = "cause 9,".repeat(alloc, CAUSES).expect(&rt, "no text");
+    let mut expected = "cause 10,".repeat(alloc, CAUSES).expect(&rt, "no text");
     expected.pop();
     opens_and_ends(&rt, alloc, "a thousand causes", &packet, &expected);
 }

@@ -1,8 +1,9 @@
 -- What the header and the value of a chunk say is unique.
-use Rattle.std.proofs.Common.{◌≡◌, ℕ, List, refl, sym, ap, ◌∙◌, arith}
+use Rattle.std.proofs.Common.{◌≡◌, ℕ, List, Some, sym, ap, ◌∙◌}
 use Rattle.std.specs.Prelude.{slice_index}
-use Rattle.dcsctp_wire.specs.Content.{InitContent, ChunkContent, init_chunk, init_ack_chunk, abort_chunk, cookie_echo_chunk, cookie_ack_chunk, other_chunk}
-use Rattle.dcsctp_wire.specs.Format.{parameter_of, cause_of, IsReadBy, IsInitValue, IsChunkOf, IsReadByHeader}
+use Rattle.dcsctp_wire.specs.Content.{InitContent, ChunkContent}
+use Rattle.dcsctp_wire.specs.Fields.{parameter_of, cause_of, lowest_bit}
+use Rattle.dcsctp_wire.specs.Format.{IsReadBy, IsInitValue, Form, introduction, parameter_list, cause_list, fields, form_of, HasForm, IsReadByHeader}
 use Rattle.dcsctp_wire.proofs.Items.{SaysOne, one_is_read, same_items}
 
 -- a value is one INIT
@@ -23,18 +24,15 @@ same_init a b value x y =
       parameters = parameters i;
     }
 
--- type, flags and value are those of one chunk
-same_chunk_of : (a b : ChunkContent) (chunk_type flags : ℕ) (value : List ℕ) → IsChunkOf a chunk_type flags value → IsChunkOf b chunk_type flags value → a ≡ b
-same_chunk_of (init_chunk a) (init_chunk b) chunk_type flags value x y = ap init_chunk (same_init a b value x.1 y.1)
-same_chunk_of (init_ack_chunk a) (init_ack_chunk b) chunk_type flags value x y = ap init_ack_chunk (same_init a b value x.1 y.1)
-same_chunk_of (abort_chunk a ps) (abort_chunk b qs) chunk_type flags value x y =
-    let causes : ps ≡ qs = same_items (IsReadBy cause_of) (one_is_read cause_of) ps qs value x.2 y.2 in
-    cc (x.1, y.1, causes)
-same_chunk_of (cookie_echo_chunk a) (cookie_echo_chunk b) chunk_type flags value x y = cc (x.1, y.1)
-same_chunk_of cookie_ack_chunk cookie_ack_chunk chunk_type flags value x y = refl
-same_chunk_of (other_chunk b c d) (other_chunk e f g) chunk_type flags value x y = cc (x.1, x.2, x.3, y.1, y.2, y.3)
-same_chunk_of a b chunk_type flags value x y = absurd (grind (arith, x, y))
+-- type, flags and value are those of one chunk of a form
+same_by : (form : Form) (a b : ChunkContent) (chunk_type flags : ℕ) (value : List ℕ) → HasForm form a chunk_type flags value → HasForm form b chunk_type flags value → a ≡ b
+same_by (introduction says) a b chunk_type flags value x y = x.1 ∙ ap says (same_init x.0 y.0 value x.2 y.2) ∙ sym y.1
+same_by (parameter_list says) a b chunk_type flags value x y =
+    x.1 ∙ ap says (same_items (IsReadBy parameter_of) (one_is_read parameter_of) x.0 y.0 value x.2 y.2) ∙ sym y.1
+same_by (cause_list says) a b chunk_type flags value x y =
+    x.1 ∙ ap (says (lowest_bit flags)) (same_items (IsReadBy cause_of) (one_is_read cause_of) x.0 y.0 value x.2 y.2) ∙ sym y.1
+same_by fields a b chunk_type flags value x y = let same : Some a ≡ Some b = sym x ∙ y in cc same
 
 -- bytes and a value say one chunk
 pub one_chunk : SaysOne IsReadByHeader
-one_chunk p q bytes value a b = same_chunk_of p q (slice_index bytes 0) (slice_index bytes 1) value a b
+one_chunk p q bytes value a b = same_by (form_of (slice_index bytes 0)) p q (slice_index bytes 0) (slice_index bytes 1) value a b

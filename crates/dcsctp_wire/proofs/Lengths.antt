@@ -1,14 +1,14 @@
 -- How long chunks and parameters are.
-use Rattle.std.proofs.Common.{◌≡◌, ℕ, zero, suc, ◌+◌, ◌%◌, Bool, ◌<◌, ◌≤◌, List, [], ◌∷◌, length, map, take, get_or, ap, ◌∙◌, arith, length-append}
+use Rattle.std.proofs.Common.{◌≡◌, ℕ, zero, suc, ◌+◌, ◌%◌, ◌<◌, ◌≤◌, List, [], ◌∷◌, length, map, take, get_or, refl, ap, ◌∙◌, arith, length-append}
 use Rattle.std.specs.List.{fold, flat_map, sum_by}
 use Rattle.std.proofs.lemmas.List.{length-replicate, map_more, map-append}
 use Rattle.std.proofs.lemmas.List.Sums.{fold_push}
 use Rattle.std.proofs.lemmas.List.Concat.{length-flat_map}
 use Rattle.dcsctp_wire.specs.declared.parameter.Parameter.{Parameter}
 use Rattle.dcsctp_wire.specs.declared.cause.ErrorCause.{ErrorCause}
-use Rattle.dcsctp_wire.specs.Content.{ParameterContent, CauseContent, InitContent, ChunkContent, cause_content, init_chunk, init_ack_chunk, abort_chunk, cookie_echo_chunk, cookie_ack_chunk, other_chunk, parameter_content}
+use Rattle.dcsctp_wire.specs.Content.{ParameterContent, InitContent, CauseContent, DataContent, IDataContent, SackContent, ChunkContent, cause_content, data_chunk, init_chunk, init_ack_chunk, sack_chunk, heartbeat_chunk, heartbeat_ack_chunk, abort_chunk, shutdown_chunk, shutdown_ack_chunk, error_chunk, cookie_echo_chunk, cookie_ack_chunk, shutdown_complete_chunk, i_data_chunk, re_config_chunk, forward_tsn_chunk, i_forward_tsn_chunk, unknown_chunk, parameter_content}
 use Rattle.dcsctp_wire.specs.Format.{padding_of}
-use Rattle.dcsctp_wire.specs.Spelling.{zeros, parameter_value, parameter_len, parameter_bytes, parameters_len, init_fields, init_bytes, as_parameter, abort_bytes, other_bytes, chunk_bytes}
+use Rattle.dcsctp_wire.specs.Spelling.{zeros, parameter_value, parameter_len, parameter_bytes, parameters_len, init_fields, data_fields, i_data_fields, sack_fields, as_parameter, Spelled, by_value, by_list, spelled, spelled_len, chunk_len, other_bytes, list_bytes, spelled_bytes, chunk_bytes}
 
 pub length-parameter_bytes : (parameter : ParameterContent) → length (parameter_bytes parameter) ≡ parameter_len parameter + padding_of (parameter_len parameter)
 unfolding parameter_bytes
@@ -20,13 +20,10 @@ unfolding other_bytes
 length-other_bytes chunk_type flags value =
     omega (arith, length-append value (zeros (padding_of (length value))), length-replicate {A = ℕ} (padding_of (length value)) 0)
 
-pub length-abort_bytes : (reflected : Bool) (causes : List CauseContent) → length (abort_bytes reflected causes) ≡ 4 + length (flat_map parameter_bytes (map as_parameter causes))
-unfolding abort_bytes
-length-abort_bytes reflected causes = omega arith
-
-pub length-init_bytes : (chunk_type : ℕ) (init : InitContent) → length (init_bytes chunk_type init) ≡ 20 + length (flat_map parameter_bytes init.parameters)
-unfolding init_bytes init_fields
-length-init_bytes chunk_type init = omega arith
+pub length-list_bytes : (chunk_type flags : ℕ) (fields : List ℕ) (parameters : List ParameterContent)
+    → length (list_bytes chunk_type flags fields parameters) ≡ 4 + length fields + length (flat_map parameter_bytes parameters)
+unfolding list_bytes
+length-list_bytes chunk_type flags fields parameters = omega (arith, length-append fields (flat_map parameter_bytes parameters))
 
 -- the length of parameters, with one more behind them
 abbrev pub and_one_more : ℕ → ParameterContent → ℕ
@@ -62,16 +59,65 @@ pub next_parameter_len : (parameters : List Parameter) (i : ℕ) → i < length 
 next_parameter_len parameters i lt d =
     omega (arith, next_parameter_fits parameters i lt d, length-parameter_bytes (parameter_content (get_or parameters i d)))
 
-pub chunk_is_padded : (chunk : ChunkContent) → length (chunk_bytes chunk) % 4 ≡ 0
-chunk_is_padded (init_chunk init) = omega (arith, length-init_bytes 1 init, padded_parameters init.parameters)
-chunk_is_padded (init_ack_chunk init) = omega (arith, length-init_bytes 2 init, padded_parameters init.parameters)
-chunk_is_padded (abort_chunk reflected causes) = omega (arith, length-abort_bytes reflected causes, padded_parameters (map as_parameter causes))
-chunk_is_padded (cookie_echo_chunk cookie) = omega (arith, length-other_bytes 10 0 cookie)
-chunk_is_padded cookie_ack_chunk = omega (arith, length-other_bytes 11 0 [])
-chunk_is_padded (other_chunk chunk_type flags value) = omega (arith, length-other_bytes chunk_type flags value)
+-- ---- chunks
 
-pub init_size : (chunk_type : ℕ) (init : InitContent) → length (init_bytes chunk_type init) ≡ 20 + sum_by (λ parameter. length (parameter_bytes parameter)) init.parameters
-init_size chunk_type init = length-init_bytes chunk_type init ∙ ap (λ (n : ℕ). 20 + n) (length-flat_map parameter_bytes init.parameters)
+pub length-data_fields : (chunk : DataContent) → length (data_fields chunk) ≡ 12
+unfolding data_fields
+length-data_fields chunk = refl
+
+pub length-i_data_fields : (chunk : IDataContent) → length (i_data_fields chunk) ≡ 16
+unfolding i_data_fields
+length-i_data_fields chunk = refl
+
+pub length-sack_fields : (chunk : SackContent) → length (sack_fields chunk) ≡ 12
+unfolding sack_fields
+length-sack_fields chunk = refl
+
+pub length-init_fields : (init : InitContent) → length (init_fields init) ≡ 16
+unfolding init_fields
+length-init_fields init = refl
+
+-- The fixed part of a chunk is a multiple of 4 bytes long.
+abbrev HasWholeFields : Spelled → Type 0
+HasWholeFields (by_value chunk_type flags value) = Unit {0}
+HasWholeFields (by_list chunk_type flags fields parameters) = length fields % 4 ≡ 0
+
+has_whole_fields : (chunk : ChunkContent) → HasWholeFields (spelled chunk)
+unfolding init_fields
+has_whole_fields (data_chunk chunk) = tt
+has_whole_fields (init_chunk init) = refl
+has_whole_fields (init_ack_chunk init) = refl
+has_whole_fields (sack_chunk chunk) = tt
+has_whole_fields (heartbeat_chunk parameters) = refl
+has_whole_fields (heartbeat_ack_chunk parameters) = refl
+has_whole_fields (abort_chunk reflected causes) = refl
+has_whole_fields (shutdown_chunk cumulative_tsn) = tt
+has_whole_fields shutdown_ack_chunk = tt
+has_whole_fields (error_chunk causes) = refl
+has_whole_fields (cookie_echo_chunk cookie) = tt
+has_whole_fields cookie_ack_chunk = tt
+has_whole_fields (shutdown_complete_chunk reflected) = tt
+has_whole_fields (i_data_chunk chunk) = tt
+has_whole_fields (re_config_chunk parameters) = refl
+has_whole_fields (forward_tsn_chunk tsn streams) = tt
+has_whole_fields (i_forward_tsn_chunk tsn streams) = tt
+has_whole_fields (unknown_chunk chunk_type flags value) = tt
+
+length-spelled : (s : Spelled) → HasWholeFields s → length (spelled_bytes s) ≡ spelled_len s + padding_of (spelled_len s)
+length-spelled (by_value chunk_type flags value) whole = omega (arith, length-other_bytes chunk_type flags value)
+length-spelled (by_list chunk_type flags fields parameters) whole =
+    omega (arith, whole, length-list_bytes chunk_type flags fields parameters, padded_parameters parameters)
+
+pub length-chunk_bytes : (chunk : ChunkContent) → length (chunk_bytes chunk) ≡ chunk_len chunk + padding_of (chunk_len chunk)
+length-chunk_bytes chunk = length-spelled (spelled chunk) (has_whole_fields chunk)
+
+pub chunk_is_padded : (chunk : ChunkContent) → length (chunk_bytes chunk) % 4 ≡ 0
+chunk_is_padded chunk = omega (arith, length-chunk_bytes chunk)
+
+pub list_size : (chunk_type flags : ℕ) (fields : List ℕ) (parameters : List ParameterContent)
+    → length (list_bytes chunk_type flags fields parameters) ≡ 4 + length fields + sum_by (λ parameter. length (parameter_bytes parameter)) parameters
+list_size chunk_type flags fields parameters =
+    length-list_bytes chunk_type flags fields parameters ∙ ap (λ (n : ℕ). 4 + length fields + n) (length-flat_map parameter_bytes parameters)
 
 -- ---- causes, which are written as parameters are
 
@@ -98,6 +144,3 @@ next_cause_fits (c ∷ cs) (suc i) lt d =
 pub next_cause_len : (causes : List ErrorCause) (i : ℕ) → i < length causes → (d : ErrorCause)
     → parameter_len (parameter_in (get_or causes i d)) ≤ length (flat_map parameter_bytes (map as_parameter (map cause_content causes)))
 next_cause_len causes i lt d = omega (arith, next_cause_fits causes i lt d, length-parameter_bytes (parameter_in (get_or causes i d)))
-
-pub abort_size : (reflected : Bool) (causes : List CauseContent) → length (abort_bytes reflected causes) ≡ 4 + sum_by (λ parameter. length (parameter_bytes parameter)) (map as_parameter causes)
-abort_size reflected causes = length-abort_bytes reflected causes ∙ ap (λ (n : ℕ). 4 + n) (length-flat_map parameter_bytes (map as_parameter causes))

@@ -6,8 +6,12 @@ pub mod Crc32cFacts
 pub mod Crc32cLemmas
 pub mod Crc32cTable
 pub mod Frames
+pub mod HandshakeFacts
+pub mod InBytes
 pub mod Items
+pub mod KindFacts
 pub mod Lengths
+pub mod PacketFacts
 pub mod Packets
 pub mod Putting
 pub mod ReadsBack
@@ -15,6 +19,7 @@ pub mod ReadsBackAsItself
 pub mod ReadsBackCauses
 pub mod ReadsBackChecksum
 pub mod ReadsBackChunks
+pub mod ReadsBackFields
 pub mod ReadsBackFrames
 pub mod ReadsBackItems
 pub mod ReadsBackParameters

@@ -1,13 +1,22 @@
 -- One list behind another.
-use Rattle.std.proofs.Common.{◌≡◌, ℕ, List, [], ◌∷◌, ◌++◌, take, ap, ◌∙◌, append_assoc, arith}
-use Rattle.std.proofs.lemmas.List.{take-replicate}
+use Rattle.std.proofs.Common.{◌≡◌, ℕ, ◌+◌, List, ◌∷◌, ◌++◌, length, sym, ap, ◌∙◌, append_assoc, length-append, arith}
+use Rattle.std.specs.Int.{w16, to_be_bytes}
 use Rattle.dcsctp_wire.specs.Format.{padding_of}
-use Rattle.dcsctp_wire.specs.Spelling.{zeros}
+use Rattle.dcsctp_wire.specs.Spelling.{zeros, other_bytes}
 
 -- what stands there after a was put behind the start, b behind that, and c behind that
 pub three_put : (start a b c : List ℕ) (one two three : List ℕ) → one ≡ start ++ a → two ≡ one ++ b → three ≡ two ++ c → three ≡ start ++ (a ++ b ++ c)
 three_put start a b c one two three h1 h2 h3 =
     h3 ∙ ap (λ (x : List ℕ). x ++ c) (h2 ∙ ap (λ (x : List ℕ). x ++ b) h1 ∙ append_assoc start a b) ∙ append_assoc start (a ++ b) c
 
-pub padding_from_zeros : (n : ℕ) → take (padding_of n) (0 ∷ 0 ∷ 0 ∷ []) ≡ zeros (padding_of n)
-padding_from_zeros n = take-replicate (padding_of n) 3 0 (omega arith)
+-- A chunk whose value is fields and what stands behind them: the header and the fields come first.
+pub fields_in_front : (chunk_type flags : ℕ) (fields value : List ℕ) (len : ℕ) → len ≡ 4 + length (fields ++ value)
+    → other_bytes chunk_type flags (fields ++ value)
+    ≡ ((chunk_type ∷ flags ∷ to_be_bytes w16 len) ++ fields) ++ value
+    ++ zeros (padding_of (length ((chunk_type ∷ flags ∷ to_be_bytes w16 len) ++ fields) + length value))
+unfolding other_bytes
+fields_in_front chunk_type flags fields value len is =
+    let front : List ℕ = (chunk_type ∷ flags ∷ to_be_bytes w16 len) ++ fields in
+    let padding : padding_of (length (fields ++ value)) ≡ padding_of (length front + length value) = omega (arith, length-append fields value) in
+    ap (λ (n : ℕ). chunk_type ∷ flags ∷ to_be_bytes w16 n ++ (fields ++ value) ++ zeros (padding_of (length (fields ++ value)))) (sym is)
+    ∙ ap (λ (n : ℕ). chunk_type ∷ flags ∷ to_be_bytes w16 len ++ (fields ++ value) ++ zeros n) padding

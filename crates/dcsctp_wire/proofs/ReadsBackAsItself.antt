@@ -2,9 +2,9 @@
 use Rattle.std.proofs.Common.{◌≡◌, ℕ, List, [], ◌∷◌, ◌++◌, Some, refl, ap, subst, ◌∙◌, arith}
 use Rattle.std.specs.List.{flat_map, AllByRecursion}
 use Rattle.std.proofs.lemmas.Nat.{from_be_bytes-to_be_bytes_2, from_be_bytes-to_be_bytes_4}
-use Rattle.dcsctp_wire.specs.Content.{InitContent, ChunkContent, init_chunk, init_ack_chunk, abort_chunk, cookie_echo_chunk, cookie_ack_chunk, other_chunk}
-use Rattle.dcsctp_wire.specs.Format.{Frame, frame_at, HasInitMinima, IsInitValue, IsReadByHeader, BeginsWithChunk, AreChunks}
-use Rattle.dcsctp_wire.specs.Spelling.{init_fields, init_bytes, chunk_bytes}
+use Rattle.dcsctp_wire.specs.Content.{InitContent, ChunkContent, data_chunk, init_chunk, init_ack_chunk, sack_chunk, heartbeat_chunk, heartbeat_ack_chunk, abort_chunk, shutdown_chunk, shutdown_ack_chunk, error_chunk, cookie_echo_chunk, cookie_ack_chunk, shutdown_complete_chunk, i_data_chunk, re_config_chunk, forward_tsn_chunk, i_forward_tsn_chunk, unknown_chunk}
+use Rattle.dcsctp_wire.specs.Format.{Frame, frame_at, HasInitMinima, IsInitValue, form_of, IsReadByHeader, BeginsWithChunk, AreChunks}
+use Rattle.dcsctp_wire.specs.Spelling.{init_fields, list_bytes, chunk_bytes}
 use Rattle.dcsctp_wire.specs.ReadsBack.{FitsInit, FitsChunk, HasMinima}
 use Rattle.dcsctp_wire.proofs.Chunks.{one_chunk}
 use Rattle.dcsctp_wire.proofs.Frames.{frame_of_nothing, same_frame}
@@ -30,15 +30,25 @@ init_has_minima init read fits is =
 
 -- An INIT is read as an INIT, and an INIT ACK as an INIT ACK.
 has_minima : (chunk read : ChunkContent) → FitsChunk chunk → (rest : List ℕ) → IsReadByHeader read (chunk_bytes chunk ++ rest) (chunk_value chunk) → HasMinima chunk
-unfolding init_bytes
-has_minima (init_chunk init) (init_chunk read) fits rest is = init_has_minima init read fits is.1
-has_minima (init_chunk init) read fits rest is = absurd (grind (arith, is))
-has_minima (init_ack_chunk init) (init_ack_chunk read) fits rest is = init_has_minima init read fits is.1
-has_minima (init_ack_chunk init) read fits rest is = absurd (grind (arith, is))
+unfolding form_of list_bytes
+has_minima (data_chunk chunk) read fits rest is = tt
+has_minima (init_chunk init) read fits rest is = init_has_minima init is.0 fits is.2
+has_minima (init_ack_chunk init) read fits rest is = init_has_minima init is.0 fits is.2
+has_minima (sack_chunk chunk) read fits rest is = tt
+has_minima (heartbeat_chunk parameters) read fits rest is = tt
+has_minima (heartbeat_ack_chunk parameters) read fits rest is = tt
 has_minima (abort_chunk reflected causes) read fits rest is = tt
+has_minima (shutdown_chunk cumulative_tsn) read fits rest is = tt
+has_minima shutdown_ack_chunk read fits rest is = tt
+has_minima (error_chunk causes) read fits rest is = tt
 has_minima (cookie_echo_chunk cookie) read fits rest is = tt
 has_minima cookie_ack_chunk read fits rest is = tt
-has_minima (other_chunk chunk_type flags value) read fits rest is = tt
+has_minima (shutdown_complete_chunk reflected) read fits rest is = tt
+has_minima (i_data_chunk chunk) read fits rest is = tt
+has_minima (re_config_chunk parameters) read fits rest is = tt
+has_minima (forward_tsn_chunk tsn streams) read fits rest is = tt
+has_minima (i_forward_tsn_chunk tsn streams) read fits rest is = tt
+has_minima (unknown_chunk chunk_type flags value) read fits rest is = tt
 
 -- ---- chunks
 

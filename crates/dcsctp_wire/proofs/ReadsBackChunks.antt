@@ -1,16 +1,16 @@
 -- Written chunks read back.
-use Rattle.std.proofs.Common.{◌≡◌, ℕ, ◌+◌, ◌%◌, ◌<◌, ◌≤◌, ◌^◌, Bool, true, false, List, [], ◌∷◌, ◌++◌, length, map, take, drop, Some, refl, sym, ap, ◌∙◌, append_assoc, length-append, length-drop, arith}
-use Rattle.std.specs.Prelude.{◌==◌}
+use Rattle.std.proofs.Common.{◌≡◌, ℕ, ◌+◌, ◌%◌, ◌<◌, ◌≤◌, ◌^◌, Bool, List, [], ◌∷◌, ◌++◌, length, map, take, drop, Some, refl, sym, ap, subst, ◌∙◌, append_assoc, length-append, length-drop, arith}
 use Rattle.std.specs.Int.{w16, to_be_bytes}
 use Rattle.std.specs.List.{flat_map, AllByRecursion}
 use Rattle.std.proofs.lemmas.List.{drop_at, take-append-drop, length-replicate, length-take-le}
 use Rattle.std.proofs.lemmas.Nat.{from_be_bytes-to_be_bytes_2, from_be_bytes-to_be_bytes_4}
-use Rattle.dcsctp_wire.specs.Content.{ParameterContent, InitContent, CauseContent, ChunkContent, init_chunk, init_ack_chunk, abort_chunk, cookie_echo_chunk, cookie_ack_chunk, other_chunk}
-use Rattle.dcsctp_wire.specs.Format.{padding_of, frame_at, HasInitMinima, IsInitValue, IsReadByHeader, BeginsWithChunk, AreChunks}
-use Rattle.dcsctp_wire.specs.Numbers.{init_type, init_ack_type, abort_type, cookie_echo_type, cookie_ack_type}
-use Rattle.dcsctp_wire.specs.Spelling.{zeros, parameter_bytes, parameters_len, init_fields, init_bytes, as_parameter, t_bit, abort_bytes, other_bytes, chunk_bytes}
-use Rattle.dcsctp_wire.specs.ReadsBack.{FitsInit, FitsAbort, FitsChunk, HasMinima}
+use Rattle.dcsctp_wire.specs.Content.{ParameterContent, InitContent, CauseContent, ChunkContent, data_chunk, init_chunk, init_ack_chunk, sack_chunk, heartbeat_chunk, heartbeat_ack_chunk, abort_chunk, shutdown_chunk, shutdown_ack_chunk, error_chunk, cookie_echo_chunk, cookie_ack_chunk, shutdown_complete_chunk, i_data_chunk, re_config_chunk, forward_tsn_chunk, i_forward_tsn_chunk, unknown_chunk}
+use Rattle.dcsctp_wire.specs.Fields.{fields_in}
+use Rattle.dcsctp_wire.specs.Format.{padding_of, frame_at, HasInitMinima, IsInitValue, AreParameters, AreCauses, Form, form_of, HasForm, IsChunkOf, IsReadByHeader, BeginsWithChunk, AreChunks}
+use Rattle.dcsctp_wire.specs.Spelling.{zeros, parameter_bytes, parameters_len, init_fields, as_parameter, data_fields, i_data_fields, sack_fields, Spelled, by_value, by_list, spelled, other_bytes, list_bytes, spelled_bytes, chunk_bytes}
+use Rattle.dcsctp_wire.specs.ReadsBack.{FitsList, FitsInit, FitsOther, FitsCauses, FitsChunk, HasMinima}
 use Rattle.dcsctp_wire.proofs.Lengths.{padded_parameters}
+use Rattle.dcsctp_wire.proofs.ReadsBackFields.{bit_read, data_reads, i_data_reads, sack_reads, shutdown_reads, forward_reads, i_forward_reads}
 use Rattle.dcsctp_wire.proofs.ReadsBackFrames.{frame_behind}
 use Rattle.dcsctp_wire.proofs.ReadsBackParameters.{parameters_read_back}
 use Rattle.dcsctp_wire.proofs.ReadsBackCauses.{causes_read_back}
@@ -49,11 +49,6 @@ framed_with first second len fields parameters whole is fits rest =
 abbrev pub init_value : InitContent → List ℕ
 init_value init = value_with (init_fields init) init.parameters
 
-init_framed : (chunk_type : ℕ) (init : InitContent) → FitsInit init → (rest : List ℕ) → frame_at (init_bytes chunk_type init ++ rest) ≡ Some (record { value = init_value init; rest = rest })
-unfolding init_bytes init_fields
-init_framed chunk_type init fits rest =
-    framed_with chunk_type 0 (20 + parameters_len init.parameters) (init_fields init) init.parameters refl (omega arith) fits.len_fits rest
-
 init_read : (init : InitContent) → FitsInit init → HasInitMinima init → IsInitValue init (init_value init)
 unfolding init_fields
 init_read init fits minima =
@@ -68,20 +63,6 @@ init_read init fits minima =
       parameters = parameters_read_back init.parameters fits.parameters (omega (arith, fits.len_fits));
     }
 
--- ---- ABORT
-
-abbrev abort_value : List CauseContent → List ℕ
-abort_value causes = value_with [] (map as_parameter causes)
-
-abort_framed : (reflected : Bool) (causes : List CauseContent) → FitsAbort causes → (rest : List ℕ) → frame_at (abort_bytes reflected causes ++ rest) ≡ Some (record { value = abort_value causes; rest = rest })
-unfolding abort_bytes
-abort_framed reflected causes fits rest =
-    framed_with abort_type (t_bit reflected) (4 + parameters_len (map as_parameter causes)) [] (map as_parameter causes) refl refl fits.len_fits rest
-
-t_bit_read : (reflected : Bool) → reflected ≡ (t_bit reflected % 2 == 1)
-t_bit_read true = refl
-t_bit_read false = refl
-
 -- ---- other chunks
 
 other_framed : (chunk_type flags : ℕ) (value : List ℕ) → 4 + length value < 2 ^ 16 → (rest : List ℕ) → frame_at (other_bytes chunk_type flags value ++ rest) ≡ Some (record { value = value; rest = rest })
@@ -92,33 +73,85 @@ other_framed chunk_type flags value len_fits rest =
     ap (λ (x : List ℕ). frame_at (chunk_type ∷ flags ∷ to_be_bytes w16 (4 + length value) ++ x)) (append_assoc value padding rest)
     ∙ frame_behind chunk_type flags (4 + length value) value (padding ++ rest) rest refl len_fits (drop_at padding rest (padding_of (4 + length value)) padding_is)
 
--- ---- chunks after one another
+-- ---- frames
 
 -- the value of a chunk
+abbrev pub spelled_value : Spelled → List ℕ
+spelled_value (by_value chunk_type flags value) = value
+spelled_value (by_list chunk_type flags fields parameters) = value_with fields parameters
+
 abbrev pub chunk_value : ChunkContent → List ℕ
-chunk_value (init_chunk init) = init_value init
-chunk_value (init_ack_chunk init) = init_value init
-chunk_value (abort_chunk reflected causes) = abort_value causes
-chunk_value (cookie_echo_chunk cookie) = cookie
-chunk_value cookie_ack_chunk = []
-chunk_value (other_chunk chunk_type flags value) = value
+chunk_value chunk = spelled_value (spelled chunk)
+
+abbrev FitsFrame : Spelled → Type 0
+FitsFrame (by_value chunk_type flags value) = 4 + length value < 2 ^ 16
+FitsFrame (by_list chunk_type flags fields parameters) = (length fields % 4 ≡ 0) × (4 + length fields + parameters_len parameters < 2 ^ 16)
+
+fits_frame : (chunk : ChunkContent) → FitsChunk chunk → FitsFrame (spelled chunk)
+unfolding data_fields i_data_fields sack_fields init_fields
+fits_frame (data_chunk chunk) fits = omega (arith, fits.len_fits)
+fits_frame (init_chunk init) fits = (refl, omega (arith, fits.len_fits))
+fits_frame (init_ack_chunk init) fits = (refl, omega (arith, fits.len_fits))
+fits_frame (sack_chunk chunk) fits = omega (arith, fits.len_fits, length-append chunk.gap_ack_blocks chunk.duplicate_tsns)
+fits_frame (heartbeat_chunk parameters) fits = (refl, omega (arith, fits.len_fits))
+fits_frame (heartbeat_ack_chunk parameters) fits = (refl, omega (arith, fits.len_fits))
+fits_frame (abort_chunk reflected causes) fits = (refl, omega (arith, fits.len_fits))
+fits_frame (shutdown_chunk cumulative_tsn) fits = omega arith
+fits_frame shutdown_ack_chunk fits = omega arith
+fits_frame (error_chunk causes) fits = (refl, omega (arith, fits.len_fits))
+fits_frame (cookie_echo_chunk cookie) fits = fits.len_fits
+fits_frame cookie_ack_chunk fits = omega arith
+fits_frame (shutdown_complete_chunk reflected) fits = omega arith
+fits_frame (i_data_chunk chunk) fits = omega (arith, fits.len_fits)
+fits_frame (re_config_chunk parameters) fits = (refl, omega (arith, fits.len_fits))
+fits_frame (forward_tsn_chunk tsn streams) fits = omega (arith, fits.len_fits)
+fits_frame (i_forward_tsn_chunk tsn streams) fits = omega (arith, fits.len_fits)
+fits_frame (unknown_chunk chunk_type flags value) fits = fits.len_fits
+
+spelled_framed : (s : Spelled) → FitsFrame s → (rest : List ℕ) → frame_at (spelled_bytes s ++ rest) ≡ Some (record { value = spelled_value s; rest = rest })
+unfolding list_bytes
+spelled_framed (by_value chunk_type flags value) fits rest = other_framed chunk_type flags value fits rest
+spelled_framed (by_list chunk_type flags fields parameters) fits rest =
+    framed_with chunk_type flags (4 + length fields + parameters_len parameters) fields parameters fits.0 refl fits.1 rest
 
 pub framed : (chunk : ChunkContent) → FitsChunk chunk → (rest : List ℕ) → frame_at (chunk_bytes chunk ++ rest) ≡ Some (record { value = chunk_value chunk; rest = rest })
-framed (init_chunk init) fits rest = init_framed init_type init fits rest
-framed (init_ack_chunk init) fits rest = init_framed init_ack_type init fits rest
-framed (abort_chunk reflected causes) fits rest = abort_framed reflected causes fits rest
-framed (cookie_echo_chunk cookie) fits rest = other_framed cookie_echo_type 0 cookie fits.len_fits rest
-framed cookie_ack_chunk fits rest = other_framed cookie_ack_type 0 [] (omega arith) rest
-framed (other_chunk chunk_type flags value) fits rest = other_framed chunk_type flags value fits.len_fits rest
+framed chunk fits rest = spelled_framed (spelled chunk) (fits_frame chunk fits) rest
+
+-- ---- what the value says
+
+list_read : (parameters : List ParameterContent) → FitsList parameters → AreParameters parameters (value_with [] parameters)
+list_read parameters fits = parameters_read_back parameters fits.parameters_fit (omega (arith, fits.len_fits))
+
+causes_read : (causes : List CauseContent) → FitsCauses causes → AreCauses causes (value_with [] (map as_parameter causes))
+causes_read causes fits = causes_read_back causes fits.causes_fit (omega (arith, fits.len_fits))
+
+-- a chunk of no known type
+unknown_read : (chunk_type flags : ℕ) (value : List ℕ) → FitsOther chunk_type flags value → IsChunkOf (unknown_chunk chunk_type flags value) chunk_type flags value
+unknown_read chunk_type flags value fits =
+    subst (λ (form : Form). HasForm form (unknown_chunk chunk_type flags value) chunk_type flags value) (sym fits.form) fits.read_as_unknown
 
 says : (chunk : ChunkContent) → FitsChunk chunk → HasMinima chunk → (rest : List ℕ) → IsReadByHeader chunk (chunk_bytes chunk ++ rest) (chunk_value chunk)
-unfolding init_bytes abort_bytes other_bytes
-says (init_chunk init) fits minima rest = (refl, init_read init fits minima)
-says (init_ack_chunk init) fits minima rest = (refl, init_read init fits minima)
-says (abort_chunk reflected causes) fits minima rest = (refl, t_bit_read reflected, causes_read_back causes fits.causes_fit (omega (arith, fits.len_fits)))
-says (cookie_echo_chunk cookie) fits minima rest = (refl, refl)
+unfolding form_of fields_in list_bytes other_bytes
+says (data_chunk chunk) fits minima rest = data_reads chunk fits
+says (init_chunk init) fits minima rest = (init, refl, init_read init fits minima)
+says (init_ack_chunk init) fits minima rest = (init, refl, init_read init fits minima)
+says (sack_chunk chunk) fits minima rest = sack_reads chunk fits
+says (heartbeat_chunk parameters) fits minima rest = (parameters, refl, list_read parameters fits)
+says (heartbeat_ack_chunk parameters) fits minima rest = (parameters, refl, list_read parameters fits)
+says (abort_chunk reflected causes) fits minima rest = (causes, ap (λ (bit : Bool). abort_chunk bit causes) (sym (bit_read reflected)), causes_read causes fits)
+says (shutdown_chunk cumulative_tsn) fits minima rest = shutdown_reads cumulative_tsn fits
+says shutdown_ack_chunk fits minima rest = refl
+says (error_chunk causes) fits minima rest = (causes, refl, causes_read causes fits)
+says (cookie_echo_chunk cookie) fits minima rest = refl
 says cookie_ack_chunk fits minima rest = refl
-says (other_chunk chunk_type flags value) fits minima rest = (fits.read_by_header, refl, refl, refl)
+says (shutdown_complete_chunk reflected) fits minima rest = ap (λ (bit : Bool). Some (shutdown_complete_chunk bit)) (bit_read reflected)
+says (i_data_chunk chunk) fits minima rest = i_data_reads chunk fits
+says (re_config_chunk parameters) fits minima rest = (parameters, refl, list_read parameters fits)
+says (forward_tsn_chunk tsn streams) fits minima rest = forward_reads tsn streams fits
+says (i_forward_tsn_chunk tsn streams) fits minima rest = i_forward_reads tsn streams fits
+says (unknown_chunk chunk_type flags value) fits minima rest = unknown_read chunk_type flags value fits
+
+-- ---- chunks after one another
 
 pub begins : (chunk : ChunkContent) → FitsChunk chunk → HasMinima chunk → (rest : List ℕ) → BeginsWithChunk chunk rest (chunk_bytes chunk ++ rest)
 begins chunk fits minima rest = record { value = chunk_value chunk; framed = framed chunk fits rest; read = says chunk fits minima rest }

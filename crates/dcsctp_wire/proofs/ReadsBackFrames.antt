@@ -5,7 +5,8 @@ use Rattle.std.proofs.Math.Seq.{drop-append-add}
 use Rattle.std.proofs.lemmas.Bool.{le-ltb}
 use Rattle.std.proofs.lemmas.List.{take_at}
 use Rattle.std.proofs.lemmas.Nat.{from_be_bytes-to_be_bytes_2}
-use Rattle.dcsctp_wire.specs.Format.{u16_at, padding_of, frame_at}
+use Rattle.dcsctp_wire.specs.Fields.{u16_at}
+use Rattle.dcsctp_wire.specs.Format.{padding_of, frame_at}
 
 -- a length that stands inside its container
 frame_with : (bytes : List ℕ) (len : ℕ) → u16_at 2 bytes ≡ len → 4 ≤ len → len ≤ length bytes

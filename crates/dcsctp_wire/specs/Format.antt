@@ -1,20 +1,13 @@
 -- Which bytes a packet, a chunk and a parameter are read from (RFC 9260, section 3).
 -- A list of chunks or parameters is read where its first stands in front and the others behind it.
-use Rattle.std.specs.Prelude.{◌≡◌, ◌≢◌, ◌≤◌, ◌==◌, ℕ, ◌+◌, ◌*◌, ◌-◌, ◌%◌, Bool, true, false, not, ◌&&◌, ◌||◌, IsTrue, List, [], ◌∷◌, length, take, drop, Option, Some, None, nat_lt, slice_index, if◌then◌else◌}
+use Rattle.std.specs.Prelude.{◌≡◌, ◌≤◌, ◌==◌, ℕ, ◌+◌, ◌-◌, ◌%◌, Bool, true, false, not, ◌&&◌, ◌||◌, IsTrue, List, [], ◌∷◌, length, take, drop, Option, Some, None, nat_lt, slice_index, if◌then◌else◌}
 use Rattle.std.specs.List.{AllByRecursion}
-use Rattle.std.specs.Option.{option_map}
-use Rattle.std.specs.Int.{w16, w32, from_be_bytes, from_le_bytes}
+use Rattle.std.specs.Int.{w32, from_le_bytes}
 use Rattle.dcsctp_wire.specs.declared.packet.WireOptions.{WireOptions}
-use Rattle.dcsctp_wire.specs.Numbers.{init_type, init_ack_type, abort_type, missing_mandatory_parameter_code, cookie_echo_type, cookie_ack_type, state_cookie_type, zero_checksum_acceptable_type, supported_extensions_type, forward_tsn_supported_type}
+use Rattle.dcsctp_wire.specs.Numbers.{init_type, init_ack_type, heartbeat_type, heartbeat_ack_type, abort_type, error_type, re_config_type}
 use Rattle.dcsctp_wire.specs.Crc32c.{packet_checksum_of}
-use Rattle.dcsctp_wire.specs.Content.{ParameterContent, state_cookie, supported_extensions, zero_checksum_acceptable, forward_tsn_supported, unknown_parameter, InitContent, CauseContent, missing_mandatory_parameter, unknown_cause, ChunkContent, init_chunk, init_ack_chunk, abort_chunk, cookie_echo_chunk, cookie_ack_chunk, other_chunk, PacketContent}
-
--- big-endian numbers at a place
-abbrev pub u16_at : ℕ → List ℕ → ℕ
-u16_at at bytes = from_be_bytes w16 (take 2 (drop at bytes))
-
-abbrev pub u32_at : ℕ → List ℕ → ℕ
-u32_at at bytes = from_be_bytes w32 (take 4 (drop at bytes))
+use Rattle.dcsctp_wire.specs.Content.{ParameterContent, InitContent, CauseContent, ChunkContent, init_chunk, init_ack_chunk, heartbeat_chunk, heartbeat_ack_chunk, abort_chunk, error_chunk, cookie_echo_chunk, re_config_chunk, PacketContent}
+use Rattle.dcsctp_wire.specs.Fields.{u16_at, u32_at, parameter_of, cause_of, lowest_bit, fields_in}
 
 -- how many bytes of padding follow n bytes, to a multiple of 4
 abbrev pub padding_of : ℕ → ℕ
@@ -53,16 +46,6 @@ AreItems Says (item ∷ items) bytes = (rest : List ℕ) × BeginsWith Says item
 abbrev pub IsReadBy : {Item : Type 0} → (ℕ → List ℕ → Option Item) → Item → List ℕ → List ℕ → Type 0
 IsReadBy read item bytes value = read (u16_at 0 bytes) value ≡ Some item
 
--- What a parameter of this type and value says (RFC 9260, section 3.3.2.1). A method has four bytes, and
--- bytes behind them are not looked at.
-unfoldable pub parameter_of : ℕ → List ℕ → Option ParameterContent
-parameter_of parameter_type value =
-    if parameter_type == state_cookie_type then Some (state_cookie value)
-    else (if parameter_type == supported_extensions_type then Some (supported_extensions value)
-    else (if parameter_type == zero_checksum_acceptable_type then (if nat_lt (length value) 4 then None else Some (zero_checksum_acceptable (u32_at 0 value)))
-    else (if parameter_type == forward_tsn_supported_type then Some forward_tsn_supported
-    else Some (unknown_parameter parameter_type value))))
-
 -- the parameter stands in front of the bytes, and rest behind it
 abbrev pub BeginsWithParameter : ParameterContent → List ℕ → List ℕ → Type 0
 BeginsWithParameter = BeginsWith (IsReadBy parameter_of)
@@ -90,20 +73,6 @@ pub record IsInitValue (init : InitContent) (value : List ℕ) : Type 0 where
   pub minima : HasInitMinima init
   pub parameters : AreParameters init.parameters (drop 16 value)
 
--- The types of missing parameters: a number of four bytes, and that many types of two (RFC 9260, section
--- 3.3.10.2). Bytes behind them are not looked at.
-unfoldable pub missing_types : List ℕ → Option (List ℕ)
-missing_types value =
-    if nat_lt (length value) 4 then None
-    else (if nat_lt (length value) (4 + 2 * u32_at 0 value) then None
-    else Some (take (2 * u32_at 0 value) (drop 4 value)))
-
--- What a cause of this code and value says (RFC 9260, section 3.3.10).
-unfoldable pub cause_of : ℕ → List ℕ → Option CauseContent
-cause_of code value =
-    if code == missing_mandatory_parameter_code then option_map missing_mandatory_parameter (missing_types value)
-    else Some (unknown_cause code value)
-
 -- The cause stands in front of the bytes, and rest behind it. Causes have the frame of parameters.
 abbrev pub BeginsWithCause : CauseContent → List ℕ → List ℕ → Type 0
 BeginsWithCause = BeginsWith (IsReadBy cause_of)
@@ -112,22 +81,39 @@ BeginsWithCause = BeginsWith (IsReadBy cause_of)
 abbrev pub AreCauses : List CauseContent → List ℕ → Type 0
 AreCauses = AreItems (IsReadBy cause_of)
 
--- Chunks of this type are read by their header alone.
-abbrev pub IsOtherType : ℕ → Type 0
-IsOtherType chunk_type =
-    (chunk_type ≢ init_type) × (chunk_type ≢ init_ack_type) × (chunk_type ≢ abort_type)
-    × (chunk_type ≢ cookie_echo_type) × (chunk_type ≢ cookie_ack_type)
+-- How the value of a chunk is read.
+pub data Form : Type 0 where
+  -- as that of INIT and INIT ACK: fields and parameters
+  introduction : (InitContent → ChunkContent) → Form
+  -- as parameters
+  parameter_list : (List ParameterContent → ChunkContent) → Form
+  -- as error causes, beside a bit of the flags
+  cause_list : (Bool → List CauseContent → ChunkContent) → Form
+  -- by its fields alone
+  fields : Form
 
--- A chunk of this type, flags and value. The flags of the kinds that have none are not looked at, and the value
--- of a COOKIE ACK (RFC 9260, section 3.3.12) isn't either.
+-- the form of a chunk type
+unfoldable pub form_of : ℕ → Form
+form_of chunk_type =
+    if chunk_type == init_type then introduction init_chunk
+    else (if chunk_type == init_ack_type then introduction init_ack_chunk
+    else (if chunk_type == heartbeat_type then parameter_list heartbeat_chunk
+    else (if chunk_type == heartbeat_ack_type then parameter_list heartbeat_ack_chunk
+    else (if chunk_type == abort_type then cause_list abort_chunk
+    else (if chunk_type == error_type then cause_list (λ bit causes. error_chunk causes)
+    else (if chunk_type == re_config_type then parameter_list re_config_chunk
+    else fields))))))
+
+-- a chunk of this type, flags and value, which has this form
+abbrev pub HasForm : Form → ChunkContent → ℕ → ℕ → List ℕ → Type 0
+HasForm (introduction says) chunk chunk_type flags value = (init : InitContent) × (chunk ≡ says init) × IsInitValue init value
+HasForm (parameter_list says) chunk chunk_type flags value = (parameters : List ParameterContent) × (chunk ≡ says parameters) × AreParameters parameters value
+HasForm (cause_list says) chunk chunk_type flags value = (causes : List CauseContent) × (chunk ≡ says (lowest_bit flags) causes) × AreCauses causes value
+HasForm fields chunk chunk_type flags value = fields_in chunk_type flags value ≡ Some chunk
+
+-- A chunk of this type, flags and value. Flags without a name are not looked at.
 abbrev pub IsChunkOf : ChunkContent → ℕ → ℕ → List ℕ → Type 0
-IsChunkOf (init_chunk init) chunk_type flags value = (chunk_type ≡ init_type) × IsInitValue init value
-IsChunkOf (init_ack_chunk init) chunk_type flags value = (chunk_type ≡ init_ack_type) × IsInitValue init value
-IsChunkOf (abort_chunk reflected causes) chunk_type flags value = (chunk_type ≡ abort_type) × (reflected ≡ (flags % 2 == 1)) × AreCauses causes value
-IsChunkOf (cookie_echo_chunk cookie) chunk_type flags value = (chunk_type ≡ cookie_echo_type) × (cookie ≡ value)
-IsChunkOf cookie_ack_chunk chunk_type flags value = chunk_type ≡ cookie_ack_type
-IsChunkOf (other_chunk other_type other_flags other_value) chunk_type flags value =
-    IsOtherType chunk_type × (other_type ≡ chunk_type) × (other_flags ≡ flags) × (other_value ≡ value)
+IsChunkOf chunk chunk_type flags value = HasForm (form_of chunk_type) chunk chunk_type flags value
 
 -- what the type and the flags, the first two bytes, and the value say
 abbrev pub IsReadByHeader : ChunkContent → List ℕ → List ℕ → Type 0
@@ -143,12 +129,8 @@ AreChunks = AreItems IsReadByHeader
 
 -- is the chunk a COOKIE ECHO (RFC 9260, section 3.3.11)?
 abbrev pub is_cookie_echo : ChunkContent → Bool
-is_cookie_echo (init_chunk init) = false
-is_cookie_echo (init_ack_chunk init) = false
-is_cookie_echo (abort_chunk reflected causes) = false
 is_cookie_echo (cookie_echo_chunk cookie) = true
-is_cookie_echo cookie_ack_chunk = false
-is_cookie_echo (other_chunk chunk_type flags value) = false
+is_cookie_echo chunk = false
 
 -- The checksum is right, or its field is 0 and the reader has an alternate error detection method, or
 -- it is not looked at (RFC 9260, section 6.8; RFC 9653, section 5.3).

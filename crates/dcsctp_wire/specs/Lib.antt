@@ -1,5 +1,6 @@
 pub mod Building
 pub mod Content
+pub mod Fields
 pub mod Crc32c
 pub mod Format
 pub mod Numbers

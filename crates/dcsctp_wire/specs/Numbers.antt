@@ -3,7 +3,7 @@ use Rattle.std.specs.Prelude.{ℕ}
 
 -- ---- chunk types
 
--- RFC 9260, sections 3.3.1 to 3.3.3 and 3.3.7 to 3.3.13
+-- RFC 9260, sections 3.3.1 to 3.3.13
 abbrev pub data_type : ℕ
 data_type = 0
 
@@ -12,6 +12,15 @@ init_type = 1
 
 abbrev pub init_ack_type : ℕ
 init_ack_type = 2
+
+abbrev pub sack_type : ℕ
+sack_type = 3
+
+abbrev pub heartbeat_type : ℕ
+heartbeat_type = 4
+
+abbrev pub heartbeat_ack_type : ℕ
+heartbeat_ack_type = 5
 
 abbrev pub abort_type : ℕ
 abort_type = 6
@@ -51,6 +60,20 @@ forward_tsn_type = 192
 
 -- ---- parameter types
 
+-- RFC 9260, section 3.3.5
+abbrev pub heartbeat_info_type : ℕ
+heartbeat_info_type = 1
+
+-- RFC 6525, sections 4.1, 4.2 and 4.4
+abbrev pub outgoing_ssn_reset_request_type : ℕ
+outgoing_ssn_reset_request_type = 13
+
+abbrev pub incoming_ssn_reset_request_type : ℕ
+incoming_ssn_reset_request_type = 14
+
+abbrev pub reconfiguration_response_type : ℕ
+reconfiguration_response_type = 16
+
 -- RFC 9260, section 3.3.3.1
 abbrev pub state_cookie_type : ℕ
 state_cookie_type = 7
@@ -71,6 +94,18 @@ forward_tsn_supported_type = 0xc000
 -- RFC 9260, section 3.3.10.2
 abbrev pub missing_mandatory_parameter_code : ℕ
 missing_mandatory_parameter_code = 2
+
+-- RFC 9260, section 3.3.10.6
+abbrev pub unrecognized_chunk_type_code : ℕ
+unrecognized_chunk_type_code = 6
+
+-- RFC 9260, section 3.3.10.9
+abbrev pub no_user_data_code : ℕ
+no_user_data_code = 9
+
+-- RFC 9260, section 3.3.10.10
+abbrev pub cookie_received_while_shutting_down_code : ℕ
+cookie_received_while_shutting_down_code = 10
 
 -- RFC 9260, section 3.3.10.12
 abbrev pub user_initiated_abort_code : ℕ

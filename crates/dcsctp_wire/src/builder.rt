@@ -1,7 +1,10 @@
 //! Writing a packet (RFC 9260, section 3.1).
 
 mod chunks;
+mod fixed;
 mod lengths;
+mod parameters;
+mod putting;
 
 ghost use Rattle.std.specs.Prelude.{◌≡◌, ◌≤◌, ◌↔◌, ℕ, ◌+◌, ◌-◌, ◌%◌, List, [], ◌++◌, length, take, drop, true, IfOk, IsTrue};
 ghost use Rattle.std.specs.Vec.{vec_len};
@@ -13,8 +16,9 @@ ghost use Rattle.dcsctp_wire.specs.Spelling.{zeros, chunk_bytes, header_bytes, p
 use crate::chunk::Chunk;
 use crate::crc32c::packet_checksum;
 use crate::packet::CommonHeader;
-use chunks::{put, put_chunk};
-pub use lengths::sizes;
+use chunks::put_chunk;
+pub use lengths::{parameters_serialized_size, sizes};
+use putting::put;
 use std::alloc::{AllocError, Global};
 use std::marker::Model;
 

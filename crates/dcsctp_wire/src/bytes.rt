@@ -1,9 +1,10 @@
 //! Numbers in bytes, and the frame that a chunk (RFC 9260, section 3.2) and a parameter
 //! (RFC 9260, section 3.2.1) share.
 
-ghost use Rattle.std.specs.Prelude.{◌≡◌, ◌+◌, ◌≤◌, length, drop, IfSome};
+ghost use Rattle.std.specs.Prelude.{◌≡◌, ◌+◌, ◌≤◌, ◌<◌, length, drop, IfSome};
 ghost use Rattle.std.specs.Option.{option_map};
-ghost use Rattle.dcsctp_wire.specs.Format.{u16_at, u32_at, padding_of, frame_at};
+ghost use Rattle.dcsctp_wire.specs.Fields.{u16_at, u32_at, has_entries};
+ghost use Rattle.dcsctp_wire.specs.Format.{padding_of, frame_at};
 ghost use Rattle.dcsctp_wire.specs.Reading.{frame_content};
 
 /// The value of a chunk or a parameter, and the bytes behind its padding.
@@ -32,6 +33,14 @@ pub fn u32_at(bytes: &[u8], at: usize) -> u32
 {
     let field = &bytes[at..at + 4];
     u32::from_be_bytes([field[0], field[1], field[2], field[3]])
+}
+
+/// Do fields of so many bytes stand there, and behind them whole entries of so many?
+pub(crate) fn has_entries(value: &[u8], fields: usize, entry: usize) -> bool
+    requires { 0 < entry }
+    ensures { result ≡ has_entries fields entry value.now }
+{
+    value.len() >= fields && (value.len() - fields) % entry == 0
 }
 
 /// How many bytes of padding follow `len` bytes, to a multiple of 4.

@@ -2,8 +2,9 @@
 
 ghost use Rattle.std.specs.Prelude.{◌≡◌, ◌<◌, ℕ, List, length, map, MatchOption, IfSome, IfOk, IsErrOf};
 ghost use Rattle.std.specs.Option.{option_map};
-ghost use Rattle.dcsctp_wire.specs.Content.{CauseContent, cause_content};
-ghost use Rattle.dcsctp_wire.specs.Format.{missing_types, cause_of, BeginsWithCause, AreCauses};
+ghost use Rattle.dcsctp_wire.specs.Content.{CauseContent, missing_mandatory_parameter, cause_content};
+ghost use Rattle.dcsctp_wire.specs.Fields.{missing_types, no_user_data_in, cause_of};
+ghost use Rattle.dcsctp_wire.specs.Format.{BeginsWithCause, AreCauses};
 
 mod text;
 
@@ -25,12 +26,27 @@ pub enum ErrorCause<'a> {
     /// part of no type.
     MissingMandatoryParameter { types: &'a [u8] },
 
+    /// Unrecognized Chunk Type, code 6 (RFC 9260, section 3.3.10.6): the bytes of the chunk.
+    UnrecognizedChunkType { chunk: &'a [u8] },
+
+    /// No User Data, code 9 (RFC 9260, section 3.3.10.9): the TSN of the DATA chunk.
+    NoUserData { tsn: u32 },
+
+    /// Cookie Received While Shutting Down, code 10 (RFC 9260, section 3.3.10.10).
+    CookieReceivedWhileShuttingDown,
+
+    /// User-Initiated Abort, code 12 (RFC 9260, section 3.3.10.12): a text.
+    UserInitiatedAbort { text: &'a [u8] },
+
+    /// Protocol Violation, code 13 (RFC 9260, section 3.3.10.13): a text.
+    ProtocolViolation { text: &'a [u8] },
+
     /// Any other cause, by its code and value.
     Unknown { code: u16, value: &'a [u8] },
 }
 
 /// The types of the missing parameters, where the value is long enough for its number of them.
-#[tactic(auto, unfolding(crate::specs::Format::missing_types))]
+#[tactic(auto, unfolding(crate::specs::Fields::missing_types))]
 fn types_in(value: &[u8]) -> Option<&[u8]>
     ensures { option_map (λ types. types.now) result ≡ missing_types value.now }
 {
@@ -44,16 +60,46 @@ fn types_in(value: &[u8]) -> Option<&[u8]>
     Some(&value[4..end])
 }
 
+/// A Missing Mandatory Parameter of this value.
+fn missing_from(value: &[u8]) -> Option<ErrorCause<'_>>
+    ensures { option_map cause_content result
+        ≡ option_map missing_mandatory_parameter (missing_types value.now) }
+{
+    let types = types_in(value)?;
+    Some(ErrorCause::MissingMandatoryParameter { types })
+}
+
+/// A No User Data of this value, where it is long enough for a TSN.
+#[tactic(auto, unfolding(crate::specs::Fields::no_user_data_in))]
+fn no_user_data_from(value: &[u8]) -> Option<ErrorCause<'_>>
+    ensures { option_map cause_content result ≡ no_user_data_in value.now }
+{
+    if value.len() < 4 {
+        return None;
+    }
+    Some(ErrorCause::NoUserData {
+        tsn: u32_at(value, 0),
+    })
+}
+
 /// What a cause of this code and value says (RFC 9260, section 3.3.10).
-#[tactic(auto, unfolding(crate::specs::Format::cause_of))]
+#[tactic(auto, unfolding(crate::specs::Fields::cause_of))]
 fn cause_from(code: u16, value: &[u8]) -> Option<ErrorCause<'_>>
     ensures { option_map cause_content result ≡ cause_of code value.now }
 {
-    if code != cause_code::MISSING_MANDATORY_PARAMETER {
-        return Some(ErrorCause::Unknown { code, value });
+    match code {
+        cause_code::MISSING_MANDATORY_PARAMETER => missing_from(value),
+        cause_code::UNRECOGNIZED_CHUNK_TYPE => {
+            Some(ErrorCause::UnrecognizedChunkType { chunk: value })
+        }
+        cause_code::NO_USER_DATA => no_user_data_from(value),
+        cause_code::COOKIE_RECEIVED_WHILE_SHUTTING_DOWN => {
+            Some(ErrorCause::CookieReceivedWhileShuttingDown)
+        }
+        cause_code::USER_INITIATED_ABORT => Some(ErrorCause::UserInitiatedAbort { text: value }),
+        cause_code::PROTOCOL_VIOLATION => Some(ErrorCause::ProtocolViolation { text: value }),
+        _ => Some(ErrorCause::Unknown { code, value }),
     }
-    let types = types_in(value)?;
-    Some(ErrorCause::MissingMandatoryParameter { types })
 }
 
 /// The cause in front of the bytes, and what stands behind its padding.

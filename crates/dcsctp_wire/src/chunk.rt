@@ -1,24 +1,41 @@
 //! The chunks of a packet (RFC 9260, section 3.2).
 
 ghost use Rattle.std.specs.Prelude.{◌≡◌, ◌<◌, ℕ, List, length, map, IfOk, IsErrOf};
+ghost use Rattle.std.specs.Option.{option_map};
 ghost use Rattle.dcsctp_wire.specs.Content.{ChunkContent, chunk_content};
+ghost use Rattle.dcsctp_wire.specs.Fields.{fields_in};
 ghost use Rattle.dcsctp_wire.specs.Format.{IsChunkOf, BeginsWithChunk, AreChunks};
 
 mod abort;
 mod cookie;
+mod forward_tsn;
 mod init;
-mod other;
+mod parameters;
+mod sack;
+mod shutdown;
+mod unknown;
+mod user_data;
 
 use crate::bytes::read_frame;
 use crate::cause::read_causes;
 use crate::packet::PacketError;
+use crate::parameter::read_parameters;
 use crate::types::chunk_type;
-pub use abort::AbortChunk;
+pub use abort::{AbortChunk, ErrorChunk};
 pub use cookie::CookieEchoChunk;
+pub use forward_tsn::{ForwardTsnChunk, IForwardTsnChunk, SkippedMessages, SkippedStream};
+use forward_tsn::{read_forward_tsn, read_i_forward_tsn};
 pub use init::InitChunk;
 use init::read_init;
-pub use other::OtherChunk;
+pub use parameters::{HeartbeatAckChunk, HeartbeatRequestChunk, ReConfigChunk};
+use sack::read_sack;
+pub use sack::{GapAckBlock, SackChunk};
+use shutdown::read_shutdown;
+pub use shutdown::{ShutdownChunk, ShutdownCompleteChunk};
 use std::alloc::Global;
+pub use unknown::UnknownChunk;
+pub use user_data::{DataChunk, DataFlags, IDataChunk};
+use user_data::{read_data, read_i_data};
 
 /// A chunk. Its bytes are borrowed: from the packet that is read, or from the caller that writes one.
 ///
@@ -26,14 +43,35 @@ use std::alloc::Global;
 /// and zero bytes to a multiple of 4.
 #[derive(Debug, Drop)]
 pub enum Chunk<'a> {
+    /// DATA, type 0 (RFC 9260, section 3.3.1).
+    Data(DataChunk<'a>),
+
     /// INIT, type 1 (RFC 9260, section 3.3.2).
     Init(InitChunk<'a>),
 
     /// INIT ACK, type 2 (RFC 9260, section 3.3.3).
     InitAck(InitChunk<'a>),
 
+    /// SACK, type 3 (RFC 9260, section 3.3.4).
+    Sack(SackChunk<'a>),
+
+    /// HEARTBEAT, type 4 (RFC 9260, section 3.3.5).
+    HeartbeatRequest(HeartbeatRequestChunk<'a>),
+
+    /// HEARTBEAT ACK, type 5 (RFC 9260, section 3.3.6).
+    HeartbeatAck(HeartbeatAckChunk<'a>),
+
     /// ABORT, type 6 (RFC 9260, section 3.3.7).
     Abort(AbortChunk<'a>),
+
+    /// SHUTDOWN, type 7 (RFC 9260, section 3.3.8).
+    Shutdown(ShutdownChunk),
+
+    /// SHUTDOWN ACK, type 8 (RFC 9260, section 3.3.9). A value is not looked at, and none is written.
+    ShutdownAck,
+
+    /// ERROR, type 9 (RFC 9260, section 3.3.10).
+    Error(ErrorChunk<'a>),
 
     /// COOKIE ECHO, type 10 (RFC 9260, section 3.3.11).
     CookieEcho(CookieEchoChunk<'a>),
@@ -41,16 +79,59 @@ pub enum Chunk<'a> {
     /// COOKIE ACK, type 11 (RFC 9260, section 3.3.12). A value is not looked at, and none is written.
     CookieAck,
 
-    /// A chunk that is read by its header alone.
-    Other(OtherChunk<'a>),
+    /// SHUTDOWN COMPLETE, type 14 (RFC 9260, section 3.3.13).
+    ShutdownComplete(ShutdownCompleteChunk),
+
+    /// I-DATA, type 64 (RFC 8260, section 2.1).
+    IData(IDataChunk<'a>),
+
+    /// RE-CONFIG, type 130 (RFC 6525, section 3.1).
+    ReConfig(ReConfigChunk<'a>),
+
+    /// FORWARD-TSN, type 192 (RFC 3758, section 3.2).
+    ForwardTsn(ForwardTsnChunk<'a>),
+
+    /// I-FORWARD-TSN, type 194 (RFC 8260, section 2.3.1).
+    IForwardTsn(IForwardTsnChunk<'a>),
+
+    /// A chunk of any other type, read by its header alone.
+    Unknown(UnknownChunk<'a>),
+}
+
+/// The chunk of this type, flags and value, where it holds neither parameters nor causes. There is none where
+/// the value is too short for the fields of its type, or ends within an entry.
+#[tactic(auto, unfolding(crate::specs::Fields::fields_in))]
+fn chunk_of_fields(chunk_type: u8, flags: u8, value: &[u8]) -> Option<Chunk<'_>>
+    ensures { option_map chunk_content result ≡ fields_in chunk_type flags value.now }
+{
+    match chunk_type {
+        chunk_type::DATA => read_data(flags, value),
+        chunk_type::SACK => read_sack(value),
+        chunk_type::SHUTDOWN => read_shutdown(value),
+        chunk_type::SHUTDOWN_ACK => Some(Chunk::ShutdownAck),
+        chunk_type::COOKIE_ECHO => Some(Chunk::CookieEcho(CookieEchoChunk { cookie: value })),
+        chunk_type::COOKIE_ACK => Some(Chunk::CookieAck),
+        chunk_type::SHUTDOWN_COMPLETE => Some(Chunk::ShutdownComplete(ShutdownCompleteChunk {
+            tag_reflected: flags % 2 == 1,
+        })),
+        chunk_type::I_DATA => read_i_data(flags, value),
+        chunk_type::FORWARD_TSN => read_forward_tsn(value),
+        chunk_type::I_FORWARD_TSN => read_i_forward_tsn(value),
+        _ => Some(Chunk::Unknown(UnknownChunk {
+            chunk_type,
+            flags,
+            value,
+        })),
+    }
 }
 
 /// The chunk of this type, flags and value.
 ///
 /// # Errors
 ///
-/// `Malformed` where the type is INIT, INIT ACK or ABORT and the value isn't one's, and `OutOfMemory`
-/// where a list of parameters or causes can't grow.
+/// `Malformed` where the value isn't one of the type, and `OutOfMemory` where a list of parameters or causes
+/// can't grow.
+#[tactic(auto, unfolding(crate::specs::Format::form_of))]
 fn chunk_from(
     alloc: Global,
     chunk_type: u8,
@@ -65,17 +146,23 @@ fn chunk_from(
     match chunk_type {
         chunk_type::INIT => Ok(Chunk::Init(read_init(alloc, value)?)),
         chunk_type::INIT_ACK => Ok(Chunk::InitAck(read_init(alloc, value)?)),
+        chunk_type::HEARTBEAT => Ok(Chunk::HeartbeatRequest(HeartbeatRequestChunk {
+            parameters: read_parameters(alloc, value)?,
+        })),
+        chunk_type::HEARTBEAT_ACK => Ok(Chunk::HeartbeatAck(HeartbeatAckChunk {
+            parameters: read_parameters(alloc, value)?,
+        })),
         chunk_type::ABORT => Ok(Chunk::Abort(AbortChunk {
             tag_reflected: flags % 2 == 1,
             error_causes: read_causes(alloc, value)?,
         })),
-        chunk_type::COOKIE_ECHO => Ok(Chunk::CookieEcho(CookieEchoChunk { cookie: value })),
-        chunk_type::COOKIE_ACK => Ok(Chunk::CookieAck),
-        _ => Ok(Chunk::Other(OtherChunk {
-            chunk_type,
-            flags,
-            value,
+        chunk_type::ERROR => Ok(Chunk::Error(ErrorChunk {
+            error_causes: read_causes(alloc, value)?,
         })),
+        chunk_type::RE_CONFIG => Ok(Chunk::ReConfig(ReConfigChunk {
+            parameters: read_parameters(alloc, value)?,
+        })),
+        _ => chunk_of_fields(chunk_type, flags, value).ok_or(PacketError::Malformed),
     }
 }
 

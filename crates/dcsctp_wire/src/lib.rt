@@ -14,14 +14,22 @@ mod parameter;
 mod reconfiguration;
 mod types;
 
-pub use builder::{SctpPacketBuilder, sizes};
+pub use builder::{SctpPacketBuilder, parameters_serialized_size, sizes};
 pub use bytes::{u16_at, u32_at};
 pub use cause::{ErrorCause, causes_text};
-pub use chunk::{AbortChunk, Chunk, CookieEchoChunk, InitChunk, OtherChunk};
+pub use chunk::{
+    AbortChunk, Chunk, CookieEchoChunk, DataChunk, DataFlags, ErrorChunk, ForwardTsnChunk,
+    GapAckBlock, HeartbeatAckChunk, HeartbeatRequestChunk, IDataChunk, IForwardTsnChunk, InitChunk,
+    ReConfigChunk, SackChunk, ShutdownChunk, ShutdownCompleteChunk, SkippedMessages, SkippedStream,
+    UnknownChunk,
+};
 pub use packet::{
     CommonHeader, PacketError, SctpPacket, WireOptions, built_packet_reads_as_itself,
     built_packet_reads_back, one_reading,
 };
 pub use parameter::Parameter;
-pub use reconfiguration::ReconfigurationResponseResult;
+pub use reconfiguration::{
+    IncomingSsnResetRequestParameter, NextTsns, OutgoingSsnResetRequestParameter,
+    ReconfigurationResponseParameter, ReconfigurationResponseResult,
+};
 pub use types::{cause_code, chunk_type, parameter_type};

@@ -142,8 +142,7 @@ fn is_cookie_echo(chunk: &Chunk) -> bool
 {
     match chunk {
         Chunk::CookieEcho(_) => true,
-        Chunk::Init(_) | Chunk::InitAck(_) | Chunk::Abort(_) | Chunk::CookieAck | Chunk::Other(_) =>
-            false,
+        _ => false,
     }
 }
 

@@ -1,12 +1,17 @@
-//! The parameters of INIT and INIT ACK (RFC 9260, section 3.2.1).
+//! The parameters of chunks (RFC 9260, section 3.2.1).
 
 ghost use Rattle.std.specs.Prelude.{◌≡◌, ◌<◌, ℕ, List, length, map, MatchOption, IfSome, IfOk, IsErrOf};
 ghost use Rattle.std.specs.Option.{option_map};
 ghost use Rattle.dcsctp_wire.specs.Content.{ParameterContent, parameter_content};
-ghost use Rattle.dcsctp_wire.specs.Format.{parameter_of, BeginsWithParameter, AreParameters};
+ghost use Rattle.dcsctp_wire.specs.Fields.{method_in, parameter_of};
+ghost use Rattle.dcsctp_wire.specs.Format.{BeginsWithParameter, AreParameters};
 
 use crate::bytes::{read_frame, u16_at, u32_at};
 use crate::packet::PacketError;
+use crate::reconfiguration::{
+    IncomingSsnResetRequestParameter, OutgoingSsnResetRequestParameter,
+    ReconfigurationResponseParameter, incoming_request_from, outgoing_request_from, response_from,
+};
 use crate::types::parameter_type as types;
 use std::alloc::Global;
 
@@ -17,10 +22,24 @@ use std::alloc::Global;
 /// to a multiple of 4.
 #[derive(Clone, Copy, Debug)]
 pub enum Parameter<'a> {
+    /// Heartbeat Info, type 1 (RFC 9260, section 3.3.5): what its sender wants back.
+    HeartbeatInfo {
+        info: &'a [u8],
+    },
+
     /// State Cookie, type 7 (RFC 9260, section 3.3.3.1): the cookie's bytes.
     StateCookie {
         cookie: &'a [u8],
     },
+
+    /// Outgoing SSN Reset Request, type 13 (RFC 6525, section 4.1).
+    OutgoingSsnResetRequest(OutgoingSsnResetRequestParameter<'a>),
+
+    /// Incoming SSN Reset Request, type 14 (RFC 6525, section 4.2).
+    IncomingSsnResetRequest(IncomingSsnResetRequestParameter<'a>),
+
+    /// Re-configuration Response, type 16 (RFC 6525, section 4.4), whose result has a name.
+    ReconfigurationResponse(ReconfigurationResponseParameter),
 
     /// Supported Extensions, type 0x8008: the chunk types that the sender understands.
     SupportedExtensions {
@@ -43,19 +62,33 @@ pub enum Parameter<'a> {
     },
 }
 
-/// What a parameter of this type and value says (RFC 9260, section 3.3.2.1). There is none where a
-/// method has less than four bytes (RFC 9653, section 4).
-#[tactic(auto, unfolding(crate::specs::Format::parameter_of))]
+/// The method whose value this is. There is none where it has less than four bytes (RFC 9653, section 4).
+#[tactic(auto, unfolding(crate::specs::Fields::method_in))]
+fn method_from(value: &[u8]) -> Option<Parameter<'_>>
+    ensures { option_map parameter_content result ≡ method_in value.now }
+{
+    if value.len() < 4 {
+        return None;
+    }
+    Some(Parameter::ZeroChecksumAcceptable {
+        method: u32_at(value, 0),
+    })
+}
+
+/// What a parameter of this type and value says (RFC 9260, section 3.3.2.1). There is none where the value is
+/// too short for the fields of its type, or ends within an entry.
+#[tactic(auto, unfolding(crate::specs::Fields::parameter_of))]
 fn parameter_from(parameter_type: u16, value: &[u8]) -> Option<Parameter<'_>>
     ensures { option_map parameter_content result ≡ parameter_of parameter_type value.now }
 {
     match parameter_type {
+        types::HEARTBEAT_INFO => Some(Parameter::HeartbeatInfo { info: value }),
         types::STATE_COOKIE => Some(Parameter::StateCookie { cookie: value }),
+        types::OUTGOING_SSN_RESET_REQUEST => outgoing_request_from(value),
+        types::INCOMING_SSN_RESET_REQUEST => incoming_request_from(value),
+        types::RECONFIGURATION_RESPONSE => response_from(value),
         types::SUPPORTED_EXTENSIONS => Some(Parameter::SupportedExtensions { chunk_types: value }),
-        types::ZERO_CHECKSUM_ACCEPTABLE if value.len() < 4 => None,
-        types::ZERO_CHECKSUM_ACCEPTABLE => Some(Parameter::ZeroChecksumAcceptable {
-            method: u32_at(value, 0),
-        }),
+        types::ZERO_CHECKSUM_ACCEPTABLE => method_from(value),
         types::FORWARD_TSN_SUPPORTED => Some(Parameter::ForwardTsnSupported),
         _ => Some(Parameter::Unknown {
             parameter_type,

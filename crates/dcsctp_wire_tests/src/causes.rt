@@ -1,36 +1,45 @@
 //! The texts of error causes (RFC 9260, section 3.3.10).
 
 use crate::checks::same;
-use dcsctp_wire::{ErrorCause, cause_code, causes_text};
+use dcsctp_wire::{ErrorCause, causes_text};
 use std::alloc::Global;
 use std::process::Abort;
 
 const MISSING: ErrorCause<'static> = ErrorCause::MissingMandatoryParameter { types: &[0, 7] };
 
-const CLOSED: ErrorCause<'static> = ErrorCause::Unknown {
-    code: cause_code::USER_INITIATED_ABORT,
-    value: b"Close called",
+const UNRECOGNIZED: ErrorCause<'static> = ErrorCause::UnrecognizedChunkType {
+    chunk: &[15, 0, 0, 4],
 };
 
-const NO_DATA: ErrorCause<'static> = ErrorCause::Unknown {
-    code: cause_code::NO_USER_DATA,
-    value: &[0, 0, 0, 1],
+const NO_DATA: ErrorCause<'static> = ErrorCause::NoUserData { tsn: 1 };
+
+const ENDING: ErrorCause<'static> = ErrorCause::CookieReceivedWhileShuttingDown;
+
+const CLOSED: ErrorCause<'static> = ErrorCause::UserInitiatedAbort {
+    text: b"Close called",
 };
 
-const VIOLATION: ErrorCause<'static> = ErrorCause::Unknown {
-    code: cause_code::PROTOCOL_VIOLATION,
-    value: b"a\tb\x7f\xffc ~",
+const VIOLATION: ErrorCause<'static> = ErrorCause::ProtocolViolation {
+    text: b"a\tb\x7f\xffc ~",
+};
+
+const OTHER: ErrorCause<'static> = ErrorCause::Unknown {
+    code: 4,
+    value: b"hi",
 };
 
 /// Names, causes and their texts.
 type Row = (&'static str, &'static [ErrorCause<'static>], &'static str);
 
 #[rattlefmt::skip]
-static TEXTS: [Row; 6] = [
+static TEXTS: [Row; 9] = [
     ("none", &[], ""),
     ("types", &[MISSING], "cause 2"),
     ("text", &[CLOSED], "cause 12: Close called"),
-    ("other value", &[NO_DATA], "cause 9"),
+    ("a chunk", &[UNRECOGNIZED], "cause 6"),
+    ("a TSN", &[NO_DATA], "cause 9"),
+    ("no value", &[ENDING], "cause 10"),
+    ("other value", &[OTHER], "cause 4"),
     ("dots", &[VIOLATION], "cause 13: a.b..c ~"),
     ("three", &[MISSING, CLOSED, NO_DATA], "cause 2,cause 12: Close called,cause 9"),
 ];

@@ -1,5 +1,5 @@
 //! Tests of `dcsctp_wire` by its public calls: what is read of packets that were put together by hand,
-//! what a builder writes, the texts of causes, checksums, and the published numbers.
+//! what a builder writes, each kind of chunk both ways, the texts of causes, checksums, and the published numbers.
 #![tactic(auto)]
 
 #[cfg(test)]
@@ -8,6 +8,8 @@ mod causes;
 mod checks;
 #[cfg(test)]
 mod checksums;
+#[cfg(test)]
+mod kinds;
 #[cfg(test)]
 mod numbers;
 #[cfg(test)]

@@ -9,11 +9,19 @@ fn chunk_types_are_the_published_ones(rt: HostRuntime) {
     all_same(
         &rt,
         &[
+            ("DATA", chunk_type::DATA, 0),
             ("INIT", chunk_type::INIT, 1),
             ("INIT ACK", chunk_type::INIT_ACK, 2),
+            ("SACK", chunk_type::SACK, 3),
+            ("HEARTBEAT", chunk_type::HEARTBEAT, 4),
+            ("HEARTBEAT ACK", chunk_type::HEARTBEAT_ACK, 5),
             ("ABORT", chunk_type::ABORT, 6),
+            ("SHUTDOWN", chunk_type::SHUTDOWN, 7),
+            ("SHUTDOWN ACK", chunk_type::SHUTDOWN_ACK, 8),
+            ("ERROR", chunk_type::ERROR, 9),
             ("COOKIE ECHO", chunk_type::COOKIE_ECHO, 10),
             ("COOKIE ACK", chunk_type::COOKIE_ACK, 11),
+            ("SHUTDOWN COMPLETE", chunk_type::SHUTDOWN_COMPLETE, 14),
             ("I-DATA", chunk_type::I_DATA, 64),
             ("RE-CONFIG", chunk_type::RE_CONFIG, 130),
             ("FORWARD-TSN", chunk_type::FORWARD_TSN, 192),
@@ -22,13 +30,29 @@ fn chunk_types_are_the_published_ones(rt: HostRuntime) {
     );
 }
 
-// RFC 9260, section 3.3.3.1; RFC 9653, section 4; RFC 3758, section 3.1.
+// RFC 9260, sections 3.3.3.1 and 3.3.5; RFC 6525, section 4; RFC 9653, section 4; RFC 3758, section 3.1.
 #[test]
 fn parameter_types_are_the_published_ones(rt: HostRuntime) {
     all_same(
         &rt,
         &[
+            ("Heartbeat Info", parameter_type::HEARTBEAT_INFO, 1),
             ("State Cookie", parameter_type::STATE_COOKIE, 7),
+            (
+                "Outgoing SSN Reset Request",
+                parameter_type::OUTGOING_SSN_RESET_REQUEST,
+                13,
+            ),
+            (
+                "Incoming SSN Reset Request",
+                parameter_type::INCOMING_SSN_RESET_REQUEST,
+                14,
+            ),
+            (
+                "Re-configuration Response",
+                parameter_type::RECONFIGURATION_RESPONSE,
+                16,
+            ),
             (
                 "Zero Checksum Acceptable",
                 parameter_type::ZERO_CHECKSUM_ACCEPTABLE,

@@ -135,7 +135,7 @@ fn an_abort_has_its_causes(rt: HostRuntime) {
         &ABORT,
         "SctpPacket { common_header: CommonHeader { source_port: 5000, destination_port: 5000, \
          verification_tag: 0 }, chunks: [Abort(AbortChunk { tag_reflected: true, error_causes: \
-         [Unknown { code: 13, value: [104, 105] }, MissingMandatoryParameter { types: [0, 7] }] })] }",
+         [ProtocolViolation { text: [104, 105] }, MissingMandatoryParameter { types: [0, 7] }] })] }",
     );
 }
 

@@ -6,8 +6,8 @@ ghost use Rattle.dcsctp_wire.specs.Spelling.{chunk_bytes, packet_bytes};
 
 use crate::checks::{holds, same};
 use dcsctp_wire::{
-    AbortChunk, Chunk, CookieEchoChunk, ErrorCause, InitChunk, OtherChunk, Parameter,
-    SctpPacketBuilder,
+    AbortChunk, Chunk, CookieEchoChunk, ErrorCause, InitChunk, Parameter, SctpPacketBuilder,
+    ShutdownCompleteChunk,
 };
 use std::alloc::{AllocError, Global};
 use std::process::Abort;
@@ -61,7 +61,7 @@ const OTHERS: [u8; 32] = [
     10, 0, 0, 9, 1, 2, 3, 4, 5, 0, 0, 0,
     // COOKIE ACK
     11, 0, 0, 4,
-    // a chunk with flags and no value
+    // SHUTDOWN COMPLETE with the T bit
     14, 1, 0, 4,
 ];
 
@@ -158,10 +158,8 @@ const OTHER_CHUNKS: [Chunk<'static>; 3] = [
         cookie: &[1, 2, 3, 4, 5],
     }),
     Chunk::CookieAck,
-    Chunk::Other(OtherChunk {
-        chunk_type: 14,
-        flags: 1,
-        value: &[],
+    Chunk::ShutdownComplete(ShutdownCompleteChunk {
+        tag_reflected: true,
     }),
 ];
 
@@ -174,9 +172,8 @@ fn writes_chunks_of_one_value_or_none(rt: HostRuntime) {
 }
 
 static CAUSES: [ErrorCause<'static>; 2] = [
-    ErrorCause::Unknown {
-        code: 13,
-        value: &[0x68, 0x69],
+    ErrorCause::ProtocolViolation {
+        text: &[0x68, 0x69],
     },
     ErrorCause::MissingMandatoryParameter { types: &[0, 7] },
 ];

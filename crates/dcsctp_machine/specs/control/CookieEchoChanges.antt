@@ -5,7 +5,7 @@ use Rattle.dcsctp_machine.specs.declared.association.Held.{Held}
 use Rattle.dcsctp_machine.specs.declared.options.Options.{Options}
 use Rattle.dcsctp_machine.specs.Offer.{offer_of, negotiated}
 use Rattle.dcsctp_machine.specs.Cookie.{Cookie, cookie_at}
-use Rattle.dcsctp_machine.specs.Cause.{cookie_received_while_shutting_down, cause_bytes}
+use Rattle.dcsctp_machine.specs.Cause.{cookie_received_while_shutting_down}
 use Rattle.dcsctp_machine.specs.Packet.{Content, cookie_ack, shutdown_ack, plain, error_of}
 use Rattle.dcsctp_machine.specs.Endpoint.{Core, closed, cookie_wait, cookie_echoed, open_in, OpenPhase, established, shutdown_ack_sent}
 use Rattle.dcsctp_machine.specs.Following.{next_chunk, dropped_rest}
@@ -74,7 +74,7 @@ new_association_change options cookie choices =
 
 -- ERROR with the cause Cookie Received While Shutting Down
 abbrev pub shutting_down_error : Content
-shutting_down_error = plain (error_of (cause_bytes cookie_received_while_shutting_down))
+shutting_down_error = plain (error_of (cookie_received_while_shutting_down ∷ []))
 
 -- A restart is refused once SHUTDOWN ACK was sent.
 abbrev pub restart_change_where_open : Options → OpenPhase → Pair → Held → Cookie → Choices → Change

@@ -51,6 +51,21 @@ fn push_cause(text: &mut String, cause: &ErrorCause<'_>) -> Result<(), AllocErro
         ErrorCause::MissingMandatoryParameter { .. } => {
             push_code_and_value(text, cause_code::MISSING_MANDATORY_PARAMETER, &[])
         }
+        ErrorCause::UnrecognizedChunkType { .. } => {
+            push_code_and_value(text, cause_code::UNRECOGNIZED_CHUNK_TYPE, &[])
+        }
+        ErrorCause::NoUserData { .. } => {
+            push_code_and_value(text, cause_code::NO_USER_DATA, &[])
+        }
+        ErrorCause::CookieReceivedWhileShuttingDown => {
+            push_code_and_value(text, cause_code::COOKIE_RECEIVED_WHILE_SHUTTING_DOWN, &[])
+        }
+        ErrorCause::UserInitiatedAbort { text: reason } => {
+            push_code_and_value(text, cause_code::USER_INITIATED_ABORT, reason)
+        }
+        ErrorCause::ProtocolViolation { text: reason } => {
+            push_code_and_value(text, cause_code::PROTOCOL_VIOLATION, reason)
+        }
         ErrorCause::Unknown { code, value } => push_code_and_value(text, *code, value),
     }
 }

@@ -1,4 +1,4 @@
-//! ABORT (RFC 9260, section 3.3.7).
+//! ABORT (RFC 9260, section 3.3.7) and ERROR (RFC 9260, section 3.3.10).
 
 use crate::cause::ErrorCause;
 
@@ -9,5 +9,12 @@ pub struct AbortChunk<'a> {
     pub tag_reflected: bool,
 
     /// Why, in their order.
+    pub error_causes: Vec<ErrorCause<'a>>,
+}
+
+/// What an ERROR says: its value is error causes.
+#[derive(Debug, Drop)]
+pub struct ErrorChunk<'a> {
+    /// What was wrong, in their order.
     pub error_causes: Vec<ErrorCause<'a>>,
 }

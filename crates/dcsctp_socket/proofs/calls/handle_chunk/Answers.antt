@@ -8,7 +8,7 @@ use Rattle.dcsctp_core.specs.View.{view_of, endpoint_of}
 use Rattle.dcsctp_core.specs.Drawing.{long_word}
 use Rattle.dcsctp_handshake.specs.Handshake.{init_ack_turn, cookie_echo_turn}
 use Rattle.dcsctp_ends.specs.Ends.{abort_turn}
-use Rattle.dcsctp_socket.proofs.ChunkLemmas.{acknowledged_chunk, acknowledged_cut, init_cut, written_worked, works_chunk, works_whole}
+use Rattle.dcsctp_socket.proofs.ChunkLemmas.{acknowledged_chunk, acknowledged_cut, init_cut, rests, works_chunk, works_whole}
 use Rattle.dcsctp_socket.proofs.calls.handle_chunk.Goals as goal
 
 -- An INIT whose turn was cut added nothing.
@@ -24,9 +24,45 @@ returns-in-Abort g c =
     (works_whole g.R.Rng.stream c.args.header_tag _ (abort_turn (map cause_content c.in-Abort.abort.error_causes.items)) c.args.context.now c.handle_abort.result c.handle_abort.new.context
     refl c.handle_abort.ensures)
 
--- A chunk of a kind without a handler changes nothing.
-pub returns-in-Other : goal.returns-in-Other
-returns-in-Other g c = rw c.in-Other.is (written_worked g.R.Rng.stream (view_of c.args.context.now) c.args.header_tag _ _ _)
+-- A chunk that no handler works changes nothing.
+pub returns-in-Data : goal.returns-in-Data
+returns-in-Data g c = rw c.in-Data.is (rests g.R.Rng.stream (view_of c.args.context.now) c.args.header_tag _)
+
+pub returns-in-Sack : goal.returns-in-Sack
+returns-in-Sack g c = rw c.in-Sack.is (rests g.R.Rng.stream (view_of c.args.context.now) c.args.header_tag _)
+
+pub returns-in-HeartbeatRequest : goal.returns-in-HeartbeatRequest
+returns-in-HeartbeatRequest g c = rw c.in-HeartbeatRequest.is (rests g.R.Rng.stream (view_of c.args.context.now) c.args.header_tag _)
+
+pub returns-in-HeartbeatAck : goal.returns-in-HeartbeatAck
+returns-in-HeartbeatAck g c = rw c.in-HeartbeatAck.is (rests g.R.Rng.stream (view_of c.args.context.now) c.args.header_tag _)
+
+pub returns-in-Shutdown : goal.returns-in-Shutdown
+returns-in-Shutdown g c = rw c.in-Shutdown.is (rests g.R.Rng.stream (view_of c.args.context.now) c.args.header_tag _)
+
+pub returns-in-ShutdownAck : goal.returns-in-ShutdownAck
+returns-in-ShutdownAck g c = rw c.in-ShutdownAck.is (rests g.R.Rng.stream (view_of c.args.context.now) c.args.header_tag _)
+
+pub returns-in-Error : goal.returns-in-Error
+returns-in-Error g c = rw c.in-Error.is (rests g.R.Rng.stream (view_of c.args.context.now) c.args.header_tag _)
+
+pub returns-in-ShutdownComplete : goal.returns-in-ShutdownComplete
+returns-in-ShutdownComplete g c = rw c.in-ShutdownComplete.is (rests g.R.Rng.stream (view_of c.args.context.now) c.args.header_tag _)
+
+pub returns-in-IData : goal.returns-in-IData
+returns-in-IData g c = rw c.in-IData.is (rests g.R.Rng.stream (view_of c.args.context.now) c.args.header_tag _)
+
+pub returns-in-ReConfig : goal.returns-in-ReConfig
+returns-in-ReConfig g c = rw c.in-ReConfig.is (rests g.R.Rng.stream (view_of c.args.context.now) c.args.header_tag _)
+
+pub returns-in-ForwardTsn : goal.returns-in-ForwardTsn
+returns-in-ForwardTsn g c = rw c.in-ForwardTsn.is (rests g.R.Rng.stream (view_of c.args.context.now) c.args.header_tag _)
+
+pub returns-in-IForwardTsn : goal.returns-in-IForwardTsn
+returns-in-IForwardTsn g c = rw c.in-IForwardTsn.is (rests g.R.Rng.stream (view_of c.args.context.now) c.args.header_tag _)
+
+pub returns-in-Unknown : goal.returns-in-Unknown
+returns-in-Unknown g c = rw c.in-Unknown.is (rests g.R.Rng.stream (view_of c.args.context.now) c.args.header_tag _)
 
 -- The flushes of these find nothing that waits, so their answers are known.
 pub returns-in-InitAck : goal.returns-in-InitAck

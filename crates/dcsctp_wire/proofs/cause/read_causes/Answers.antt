@@ -1,7 +1,8 @@
 use Rattle.std.proofs.Common.{List, [], ◌∷◌, append_assoc, subst, sym, ◌∙◌}
 use Rattle.std.proofs.lemmas.List.{map_push, append-nil}
 use Rattle.dcsctp_wire.specs.Content.{CauseContent, cause_content}
-use Rattle.dcsctp_wire.specs.Format.{cause_of, IsReadBy, AreCauses}
+use Rattle.dcsctp_wire.specs.Fields.{cause_of}
+use Rattle.dcsctp_wire.specs.Format.{IsReadBy, AreCauses}
 use Rattle.dcsctp_wire.proofs.Frames.{some_left, none_left}
 use Rattle.dcsctp_wire.proofs.Items.{one_is_read, others, none_are}
 use Rattle.dcsctp_wire.proofs.cause.read_causes.Goals as goal

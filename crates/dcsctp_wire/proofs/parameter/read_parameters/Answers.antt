@@ -1,7 +1,8 @@
 use Rattle.std.proofs.Common.{List, [], ◌∷◌, append_assoc, subst, sym, ◌∙◌}
 use Rattle.std.proofs.lemmas.List.{map_push, append-nil}
 use Rattle.dcsctp_wire.specs.Content.{ParameterContent, parameter_content}
-use Rattle.dcsctp_wire.specs.Format.{parameter_of, IsReadBy, AreParameters}
+use Rattle.dcsctp_wire.specs.Fields.{parameter_of}
+use Rattle.dcsctp_wire.specs.Format.{IsReadBy, AreParameters}
 use Rattle.dcsctp_wire.proofs.Frames.{some_left, none_left}
 use Rattle.dcsctp_wire.proofs.Items.{one_is_read, others, none_are}
 use Rattle.dcsctp_wire.proofs.parameter.read_parameters.Goals as goal
