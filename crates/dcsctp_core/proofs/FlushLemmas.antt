@@ -1,5 +1,6 @@
 -- What a flush does by its cases: nothing is held, or a packet goes out.
-use Rattle.std.proofs.Common.{◌≡◌, ◌≤◌, ℕ, ℤ, pos, negsuc, zero, suc, Bool, true, false, cond, List, [], ◌∷◌, ◌++◌, length, map, refl, sym, ap, ◌∙◌, arith}
+use Rattle.std.proofs.Common.{◌≡◌, ◌+◌, ◌≤◌, ℕ, ℤ, pos, negsuc, zero, suc, Bool, true, false, cond, List, [], ◌∷◌, ◌++◌, length, map, refl, sym, ap, ◌∙◌, arith}
+use Rattle.std.specs.Prelude.{nat_le}
 use Rattle.std.proofs.lemmas.List.{append-nil}
 use Rattle.std.specs.List.{flat_map}
 use Rattle.dcsctp_wire.specs.Content.{ChunkContent}
@@ -7,7 +8,7 @@ use Rattle.dcsctp_wire.specs.Spelling.{Spelled, by_value, by_list, spelled, othe
 use Rattle.dcsctp_wire.specs.Building.{Building}
 use Rattle.rand_core.specs.Stream.{Stream}
 use Rattle.dcsctp_machine.specs.declared.options.Options.{Options}
-use Rattle.dcsctp_machine.specs.Settings.{ports_of}
+use Rattle.dcsctp_machine.specs.Settings.{ports_of, packet_size_limit}
 use Rattle.dcsctp_machine.specs.Event.{sent}
 use Rattle.dcsctp_machine.specs.Packet.{Content, Emission, chunk_out, emission_bytes}
 use Rattle.dcsctp_machine.specs.Endpoint.{Endpoint}
@@ -15,6 +16,7 @@ use Rattle.dcsctp_machine.specs.Outcome.{quiet, counted, sends}
 use Rattle.dcsctp_machine.specs.turns.FlushOutcomes.{allows_packet, flush_outcome}
 use Rattle.dcsctp_core.specs.declared.context.Context.{Context}
 use Rattle.dcsctp_core.specs.View.{View, endpoint_of, view_of, Moves}
+use Rattle.dcsctp_core.specs.Handling.{emitted}
 use Rattle.dcsctp_core.specs.Flushing.{packet_of, burst_limit, sent_as_built, flushed, Flushed}
 use Rattle.dcsctp_core.proofs.Moving.{moves_still}
 use Rattle.dcsctp_core.proofs.Composing.{moves_as}
@@ -157,3 +159,17 @@ flushed_packet {R = R} stream old new packet bytes allowed not_empty built withi
       ∙ one_sent packet packet.body (view_of old) allowed not_empty,
   sent_within stream old new packet bytes allowed not_empty built within here,
 )
+
+-- ---- a packet of one chunk that fits
+
+pub emitted_sends : {R : Type 0} (stream : R → Stream) (a b : View R) (with_checksum : Bool) (tag : ℕ) (content : Content)
+    → nat_le (12 + length (chunk_bytes (chunk_out content))) (packet_size_limit a.endpoint.options) ≡ true → b ≡ emitted with_checksum tag (chunk_out content) a
+    → Moves stream a (sends a.endpoint [] [] (record { with_checksum = with_checksum; packet = record { tag = tag; contents = content ∷ [] } })) b
+emitted_sends {R = R} stream a b with_checksum tag content fits here =
+    let options : Options = a.endpoint.options in
+    let header : List ℕ = header_bytes options.local_port options.remote_port tag in
+    let bytes : List ℕ = packet_bytes_of with_checksum header (chunk_bytes (chunk_out content)) in
+    let out : View R = record a { endpoint = counted a.endpoint; events = a.events ++ sent bytes ∷ [] } in
+    sent_moves stream a b (record { with_checksum = with_checksum; packet = record { tag = tag; contents = content ∷ [] } }) bytes
+    (here ∙ ap (λ (test : Bool). cond test out a) fits)
+    (ap (packet_bytes_of with_checksum header) (sym (append-nil (chunk_bytes (chunk_out content)))))

@@ -10,12 +10,12 @@ use Rattle.dcsctp_machine.specs.Packet.{Emission}
 use Rattle.dcsctp_machine.specs.Event.{Event, sent, aborted}
 use Rattle.dcsctp_machine.specs.Event as events
 use Rattle.dcsctp_machine.specs.Outcome.{Outcome, still, counted, reports}
-use Rattle.dcsctp_machine.specs.Following.{next_chunk, dropped_rest}
+use Rattle.dcsctp_machine.specs.Following.{next_chunk, packet_end, dropped_rest}
 use Rattle.dcsctp_machine.specs.Following as machine
 use Rattle.dcsctp_machine.specs.Turn.{arrival_outcome}
 use Rattle.dcsctp_machine.specs.turns.EndOutcomes.{close_outcome}
 use Rattle.dcsctp_core.specs.declared.following.Following.{Following}
-use Rattle.dcsctp_core.specs.declared.following.Following.TheVariants.{NextChunk, DroppedRest}
+use Rattle.dcsctp_core.specs.declared.following.Following.TheVariants.{NextChunk, PacketEnd, DroppedRest}
 use Rattle.dcsctp_core.specs.declared.context.Context.{Context}
 use Rattle.dcsctp_core.specs.View.{View, view_of, Moves, CutTurn}
 
@@ -44,6 +44,7 @@ Takes stream turn old (Err error) new = CutTurn (view_of old) (turn (view_of old
 
 abbrev pub following_of : Following → machine.Following
 following_of NextChunk = next_chunk
+following_of PacketEnd = packet_end
 following_of DroppedRest = dropped_rest
 
 -- A turn of this outcome, and what the code says follows.

@@ -6,6 +6,9 @@ pub enum Following {
     /// The next chunk has its turn.
     NextChunk,
 
-    /// The rest of the packet is dropped.
+    /// No other chunk has its turn, and the packet ends.
+    PacketEnd,
+
+    /// The rest of the packet is dropped, and so is its end.
     DroppedRest,
 }

@@ -1,87 +1,180 @@
--- What holds of each turn of a socket, whatever goes in, holds along each call and each run.
-use Rattle.std.proofs.Common.{◌≡◌, ℕ, Bool, true, false, Option, None, Some, List, [], ◌∷◌, ◌++◌, sym, subst}
-use Rattle.std.specs.Prelude.{nat_le}
+-- What holds of each turn of a socket that may come, whatever goes in, holds along each call and each run.
+use Rattle.std.proofs.Common.{◌≡◌, ℕ, Bool, true, false, Option, None, Some, List, [], ◌∷◌, ◌++◌, map, sym, subst}
+use Rattle.std.specs.Prelude.{nat_le, if◌then◌else◌}
+use Rattle.std.specs.List.{AllByRecursion}
 use Rattle.dcsctp_machine.specs.declared.options.Options.{Options}
 use Rattle.dcsctp_machine.specs.declared.schedule.Side.{Side}
 use Rattle.dcsctp_machine.specs.declared.schedule.Side.TheVariants as sides
 use Rattle.dcsctp_machine.specs.declared.ends.AbortReason.TheVariants.{CloseCalled}
-use Rattle.dcsctp_machine.specs.Schedule.{connect_call, close_call, advance_call, StepContent, call_step, delivery_step, ActContent, step_act}
-use Rattle.dcsctp_machine.specs.Packet.{Content, Packet, packet_in}
+use Rattle.dcsctp_machine.specs.Schedule.{connect_call, close_call, advance_call, StepContent, call_step, delivery_step, OutsideContent, input_outside, ActContent, step_act, outside_act}
+use Rattle.dcsctp_wire.specs.Content.{ChunkContent, PacketContent}
+use Rattle.dcsctp_machine.specs.Packet.{Content, init, init_ack, cookie_echo, cookie_ack, re_config, abort, shutdown, shutdown_ack, shutdown_complete, plain, Packet, content_in, packet_in}
 use Rattle.dcsctp_machine.specs.Admission.{Admission, all_chunks, shutdown_acks_alone, refused, admits, shutdown_acks_in}
-use Rattle.dcsctp_machine.specs.Endpoint.{Endpoint, fresh_endpoint}
+use Rattle.dcsctp_machine.specs.Endpoint.{Endpoint, Core, closed, cookie_wait, cookie_echoed, open_in, RunningTimer, is_due, is_restarted, fresh_endpoint}
 use Rattle.dcsctp_machine.specs.Following.{Following, next_chunk, packet_end, dropped_rest}
-use Rattle.dcsctp_machine.specs.control.Acts.{connect, abort_with}
+use Rattle.dcsctp_machine.specs.control.Acts.{connect, abort_with, t1_expires}
 use Rattle.dcsctp_machine.specs.Turn.{Input, arrival, refusal, packet_begins, chunk_input, packet_ends, act_input, time_passes, unreadable_text}
-use Rattle.dcsctp_machine.specs.TimeTurns.{t1_inputs, MomentTurns, TimeTurns}
+use Rattle.dcsctp_machine.specs.TimeTurns.{t1_inputs_of, t1_inputs, MomentTurns, TimeTurns}
 use Rattle.dcsctp_machine.specs.CallTurns.{Turned, IsTurn, Turns, AlongTurns, AfterChunk, ChunkTurns, WholeTurns, AdmittedTurns, HandleInput, unreadable, readable, after_all}
-use Rattle.dcsctp_machine.specs.Sockets.{Both, of_side, of_other, StepTurns, DeliveryTurns, numbered, with_turns, Worked, SocketRun, turns_after, endpoint_after, packets_shown, side_of_act, TurnsOfAct}
+use Rattle.dcsctp_machine.specs.Sockets.{Both, of_side, of_other, StepTurns, DeliveryTurns, numbered, with_turns, Worked, SocketRun, turns_after, endpoint_after, packets_shown, side_of_act, OutsideTurns, TurnsOfAct}
 
 pub along_append : (Good : Endpoint → Turned → Type 0) (e : Endpoint) (xs ys : List Turned) → AlongTurns Good e xs → AlongTurns Good (after_all e xs) ys → AlongTurns Good e (xs ++ ys)
 along_append Good e [] ys first second = second
 along_append Good e (t ∷ xs) ys first second = (first.0, along_append Good t.outcome.after xs ys first.1 second)
 
-module _ (Good : Endpoint → Turned → Type 0) (each : (e : Endpoint) (input : Input) (t : Turned) → IsTurn e input t → Good e t) where
+-- ---- what may come
+
+-- Whatever is read of bytes, and the calls and timers that there are.
+pub record MayCome (May : Input → Type 0) : Type 0 where
+  pub arrives : May arrival
+  pub refuses : (text : List ℕ) → May (refusal text)
+  pub begins : (contents : List Content) → May (packet_begins contents)
+  pub is_read : (tag : ℕ) (chunk : ChunkContent) → May (chunk_input tag (content_in chunk))
+  pub ends : May packet_ends
+  pub connects : May (act_input connect)
+  pub closes : May (act_input (abort_with CloseCalled))
+  pub expires : (again : Bool) → May (act_input (t1_expires again))
+  pub passes : (moment : ℕ) → May (time_passes moment)
+
+abbrev Anything : Input → Type 0
+Anything input = Unit {0}
+
+anything_may_come : MayCome Anything
+anything_may_come =
+    record {
+      arrives = tt;
+      refuses = λ text. tt;
+      begins = λ contents. tt;
+      is_read = λ tag chunk. tt;
+      ends = tt;
+      connects = tt;
+      closes = tt;
+      expires = λ again. tt;
+      passes = λ moment. tt;
+    }
+
+-- each of these chunks, in a packet of any tag
+abbrev EachMay : (Input → Type 0) → List Content → Type 0
+EachMay May contents = AllByRecursion (λ content. (tag : ℕ) → May (chunk_input tag content)) contents
+
+read_may : (May : Input → Type 0) → MayCome May → (chunks : List ChunkContent) → EachMay May (map content_in chunks)
+read_may May come [] = tt
+read_may May come (chunk ∷ chunks) = ((λ tag. come.is_read tag chunk), read_may May come chunks)
+
+acks_may : (May : Input → Type 0) (contents : List Content) → EachMay May contents → EachMay May (shutdown_acks_in contents)
+acks_may May [] each = tt
+acks_may May (init theirs ∷ contents) each = acks_may May contents each.1
+acks_may May (init_ack theirs cookie ∷ contents) each = acks_may May contents each.1
+acks_may May (cookie_echo cookie ∷ contents) each = acks_may May contents each.1
+acks_may May (cookie_ack ∷ contents) each = acks_may May contents each.1
+acks_may May (re_config parameters ∷ contents) each = acks_may May contents each.1
+acks_may May (abort reflected causes ∷ contents) each = acks_may May contents each.1
+acks_may May (shutdown tsn ∷ contents) each = acks_may May contents each.1
+acks_may May (shutdown_ack ∷ contents) each = (each.0, acks_may May contents each.1)
+acks_may May (shutdown_complete reflected ∷ contents) each = acks_may May contents each.1
+acks_may May (plain chunk ∷ contents) each = acks_may May contents each.1
+
+due_may : (May : Input → Type 0) → MayCome May → (due again : Bool) → AllByRecursion May (if due then act_input (t1_expires again) ∷ [] else [])
+due_may May come true again = (come.expires again, tt)
+due_may May come false again = tt
+
+t1_may_of : (May : Input → Type 0) → MayCome May → (moment : ℕ) (t1 : Option RunningTimer) → AllByRecursion May (t1_inputs_of moment t1)
+t1_may_of May come moment None = tt
+t1_may_of May come moment (Some timer) = due_may May come (is_due moment timer) (is_restarted timer)
+
+t1_may : (May : Input → Type 0) → MayCome May → (e : Endpoint) (core : Core) → AllByRecursion May (t1_inputs e core)
+t1_may May come e closed = tt
+t1_may May come e (cookie_wait my) = t1_may_of May come e.moment e.timers.t1
+t1_may May come e (cookie_echoed my held cookie) = t1_may_of May come e.moment e.timers.t1
+t1_may May come e (open_in phase my held) = tt
+
+-- ---- each call
+
+module _ (Good : Endpoint → Turned → Type 0) (May : Input → Type 0) (come : MayCome May)
+    (each : (e : Endpoint) (input : Input) (t : Turned) → May input → IsTurn e input t → Good e t) where
   none_along : (e : Endpoint) (ts : List Turned) → ts ≡ [] → AlongTurns Good e ts
   none_along e ts none = subst (AlongTurns Good e) (sym none) tt
 
-  turns_along : (e : Endpoint) (inputs : List Input) (ts : List Turned) → Turns e inputs ts → AlongTurns Good e ts
-  turns_along e [] [] turns = tt
-  turns_along e [] (t ∷ ts) turns = absurd turns
-  turns_along e (input ∷ inputs) [] turns = absurd turns
-  turns_along e (input ∷ inputs) (t ∷ ts) turns = (each e input t turns.0, turns_along t.outcome.after inputs ts turns.1)
+  turns_along : (e : Endpoint) (inputs : List Input) (ts : List Turned) → AllByRecursion May inputs → Turns e inputs ts → AlongTurns Good e ts
+  turns_along e [] [] may turns = tt
+  turns_along e [] (t ∷ ts) may turns = absurd turns
+  turns_along e (input ∷ inputs) [] may turns = absurd turns
+  turns_along e (input ∷ inputs) (t ∷ ts) may turns = (each e input t may.0 turns.0, turns_along t.outcome.after inputs ts may.1 turns.1)
 
   -- whatever follows a chunk in its packet
-  rest_along : (following : Following) (e : Endpoint) (tail : List Input) (ts : List Turned) (More : Type 0) → (More → AlongTurns Good e ts)
+  rest_along : (following : Following) (e : Endpoint) (tail : List Input) (ts : List Turned) (More : Type 0) → AllByRecursion May tail → (More → AlongTurns Good e ts)
       → AfterChunk following More (Turns e tail ts) (ts ≡ []) → AlongTurns Good e ts
-  rest_along next_chunk e tail ts More more rest = more rest
-  rest_along packet_end e tail ts More more rest = turns_along e tail ts rest
-  rest_along dropped_rest e tail ts More more rest = none_along e ts rest
+  rest_along next_chunk e tail ts More may more rest = more rest
+  rest_along packet_end e tail ts More may more rest = turns_along e tail ts may rest
+  rest_along dropped_rest e tail ts More may more rest = none_along e ts rest
 
-  chunks_along : (e : Endpoint) (tag : ℕ) (contents : List Content) (tail : List Input) (ts : List Turned) → ChunkTurns e tag contents tail ts → AlongTurns Good e ts
-  chunks_along e tag [] tail ts turns = turns_along e tail ts turns
-  chunks_along e tag (content ∷ contents) tail [] turns = absurd turns
-  chunks_along e tag (content ∷ contents) tail (t ∷ ts) turns = (
-    each e (chunk_input tag content) t turns.0,
-    rest_along t.outcome.following t.outcome.after tail ts (ChunkTurns t.outcome.after tag contents tail ts)
-        (λ (rest : ChunkTurns t.outcome.after tag contents tail ts). chunks_along t.outcome.after tag contents tail ts rest) turns.1,
+  chunks_along : (e : Endpoint) (tag : ℕ) (contents : List Content) (tail : List Input) (ts : List Turned) → EachMay May contents → AllByRecursion May tail
+      → ChunkTurns e tag contents tail ts → AlongTurns Good e ts
+  chunks_along e tag [] tail ts chunks may turns = turns_along e tail ts may turns
+  chunks_along e tag (content ∷ contents) tail [] chunks may turns = absurd turns
+  chunks_along e tag (content ∷ contents) tail (t ∷ ts) chunks may turns = (
+    each e (chunk_input tag content) t (chunks.0 tag) turns.0,
+    rest_along t.outcome.following t.outcome.after tail ts (ChunkTurns t.outcome.after tag contents tail ts) may
+        (λ (rest : ChunkTurns t.outcome.after tag contents tail ts). chunks_along t.outcome.after tag contents tail ts chunks.1 may rest) turns.1,
   )
 
-  whole_along : (e : Endpoint) (packet : Packet) (ts : List Turned) → WholeTurns e packet ts → AlongTurns Good e ts
-  whole_along e packet [] turns = absurd turns
-  whole_along e packet (t ∷ ts) turns =
-      (each e (packet_begins packet.contents) t turns.0, chunks_along t.outcome.after packet.tag packet.contents (packet_ends ∷ []) ts turns.1)
+  whole_along : (e : Endpoint) (packet : Packet) (ts : List Turned) → EachMay May packet.contents → WholeTurns e packet ts → AlongTurns Good e ts
+  whole_along e packet [] chunks turns = absurd turns
+  whole_along e packet (t ∷ ts) chunks turns = (
+    each e (packet_begins packet.contents) t (come.begins packet.contents) turns.0,
+    chunks_along t.outcome.after packet.tag packet.contents (packet_ends ∷ []) ts chunks (come.ends, tt) turns.1,
+  )
 
-  admitted_along : (e : Endpoint) (packet : Packet) (admission : Admission) (ts : List Turned) → AdmittedTurns e packet admission ts → AlongTurns Good e ts
-  admitted_along e packet all_chunks ts turns = whole_along e packet ts turns
-  admitted_along e packet shutdown_acks_alone ts turns = chunks_along e packet.tag (shutdown_acks_in packet.contents) [] ts turns
-  admitted_along e packet (refused text) ts turns = turns_along e (refusal text ∷ []) ts turns
+  admitted_along : (e : Endpoint) (packet : Packet) (admission : Admission) (ts : List Turned) → EachMay May packet.contents → AdmittedTurns e packet admission ts → AlongTurns Good e ts
+  admitted_along e packet all_chunks ts chunks turns = whole_along e packet ts chunks turns
+  admitted_along e packet shutdown_acks_alone ts chunks turns =
+      chunks_along e packet.tag (shutdown_acks_in packet.contents) [] ts (acks_may May packet.contents chunks) tt turns
+  admitted_along e packet (refused text) ts chunks turns = turns_along e (refusal text ∷ []) ts (come.refuses text, tt) turns
 
-  pub input_along : (e : Endpoint) (bytes : List ℕ) (ts : List Turned) → HandleInput e bytes ts → AlongTurns Good e ts
-  input_along e bytes _ (unreadable ts none turns) = turns_along e (arrival ∷ refusal unreadable_text ∷ []) ts turns
-  input_along e bytes _ (readable packet counted ts found counts turns) =
-      (each e arrival counted counts, admitted_along counted.outcome.after (packet_in packet) (admits e.core (packet_in packet)) ts turns)
+  input_along_where : (e : Endpoint) (bytes : List ℕ) (ts : List Turned) → HandleInput e bytes ts → AlongTurns Good e ts
+  input_along_where e bytes _ (unreadable ts none turns) = turns_along e (arrival ∷ refusal unreadable_text ∷ []) ts (come.arrives, (come.refuses unreadable_text, tt)) turns
+  input_along_where e bytes _ (readable packet counted ts found counts turns) = (
+    each e arrival counted come.arrives counts,
+    admitted_along counted.outcome.after (packet_in packet) (admits e.core (packet_in packet)) ts (read_may May come packet.chunks) turns,
+  )
 
   delivery_along : (e : Endpoint) (bytes : Option (List ℕ)) (ts : List Turned) → DeliveryTurns e bytes ts → AlongTurns Good e ts
   delivery_along e None ts none = none_along e ts none
-  delivery_along e (Some bytes) ts turns = input_along e bytes ts turns
+  delivery_along e (Some bytes) ts turns = input_along_where e bytes ts turns
 
   moment_along : (e : Endpoint) (moment : ℕ) (ts : List Turned) → MomentTurns e moment ts → AlongTurns Good e ts
   moment_along e moment [] turns = absurd turns
-  moment_along e moment (t ∷ ts) turns =
-      (each e (time_passes moment) t turns.0, turns_along t.outcome.after (t1_inputs t.outcome.after t.outcome.after.core) ts turns.1)
+  moment_along e moment (t ∷ ts) turns = (
+    each e (time_passes moment) t (come.passes moment) turns.0,
+    turns_along t.outcome.after (t1_inputs t.outcome.after t.outcome.after.core) ts (t1_may May come t.outcome.after t.outcome.after.core) turns.1,
+  )
 
   time_along : (later : Bool) (e : Endpoint) (moment : ℕ) (ts : List Turned) → TimeTurns later e moment ts → AlongTurns Good e ts
   time_along true e moment ts turns = moment_along e moment ts turns
   time_along false e moment ts none = none_along e ts none
 
   step_along : (e : Endpoint) (packets : List (List ℕ)) (step : StepContent) (ts : List Turned) → StepTurns e packets step ts → AlongTurns Good e ts
-  step_along e packets (call_step side connect_call) ts turns = turns_along e (act_input connect ∷ []) ts turns
-  step_along e packets (call_step side close_call) ts turns = turns_along e (act_input (abort_with CloseCalled) ∷ []) ts turns
+  step_along e packets (call_step side connect_call) ts turns = turns_along e (act_input connect ∷ []) ts (come.connects, tt) turns
+  step_along e packets (call_step side close_call) ts turns = turns_along e (act_input (abort_with CloseCalled) ∷ []) ts (come.closes, tt) turns
   step_along e packets (call_step side (advance_call moment)) ts turns = time_along (nat_le e.moment moment) e moment ts turns
   step_along e packets (delivery_step side number) ts turns = delivery_along e (numbered number packets) ts turns
 
+  outside_along : (e : Endpoint) (outside : OutsideContent) (ts : List Turned) → OutsideTurns e outside ts → AlongTurns Good e ts
+  outside_along e (input_outside side bytes) ts turns = input_along_where e bytes ts turns
+
+  act_along_where : (e : Endpoint) (packets : List (List ℕ)) (act : ActContent) (ts : List Turned) → TurnsOfAct e packets act ts → AlongTurns Good e ts
+  act_along_where e packets (step_act step) ts turns = step_along e packets step ts turns
+  act_along_where e packets (outside_act outside) ts turns = outside_along e outside ts turns
+
+module _ (Good : Endpoint → Turned → Type 0) (each : (e : Endpoint) (input : Input) (t : Turned) → IsTurn e input t → Good e t) where
+  any_along : (e : Endpoint) (input : Input) (t : Turned) → Anything input → IsTurn e input t → Good e t
+  any_along e input t may turn = each e input t turn
+
+  pub input_along : (e : Endpoint) (bytes : List ℕ) (ts : List Turned) → HandleInput e bytes ts → AlongTurns Good e ts
+  input_along e bytes ts turns = input_along_where Good Anything anything_may_come any_along e bytes ts turns
+
   pub act_along : (e : Endpoint) (packets : List (List ℕ)) (act : ActContent) (ts : List Turned) → TurnsOfAct e packets act ts → AlongTurns Good e ts
-  act_along e packets (step_act step) ts turns = step_along e packets step ts turns
+  act_along e packets act ts turns = act_along_where Good Anything anything_may_come any_along e packets act ts turns
 
 -- ---- a run
 
@@ -96,13 +189,18 @@ next_along Good options turns sides.A more here before sides.B = before sides.B
 next_along Good options turns sides.B more here before sides.A = before sides.A
 next_along Good options turns sides.B more here before sides.B = along_append Good (fresh_endpoint options.b) turns.b more (before sides.B) here
 
-pub run_along : (Good : Endpoint → Turned → Type 0) → ((e : Endpoint) (input : Input) (t : Turned) → IsTurn e input t → Good e t)
+pub run_along_where : (Good : Endpoint → Turned → Type 0) (May : Input → Type 0) → MayCome May
+    → ((e : Endpoint) (input : Input) (t : Turned) → May input → IsTurn e input t → Good e t)
     → (options : Both Options) (run : List Worked) → SocketRun options run → (side : Side) → GoodSide Good options (turns_after run) side
-run_along Good each options [] runs sides.A = tt
-run_along Good each options [] runs sides.B = tt
-run_along Good each options (worked ∷ earlier) runs side =
+run_along_where Good May come each options [] runs sides.A = tt
+run_along_where Good May come each options [] runs sides.B = tt
+run_along_where Good May come each options (worked ∷ earlier) runs side =
     let before : Both (List Turned) = turns_after earlier in
     let mover : Side = side_of_act worked.act in
     next_along Good options before mover worked.turns
-    (act_along Good each (endpoint_after (of_side mover options) (of_side mover before)) (packets_shown (of_other mover options) (of_other mover before)) worked.act worked.turns runs.0)
-    (λ (s : Side). run_along Good each options earlier runs.1 s) side
+    (act_along_where Good May come each (endpoint_after (of_side mover options) (of_side mover before)) (packets_shown (of_other mover options) (of_other mover before)) worked.act worked.turns runs.0)
+    (λ (s : Side). run_along_where Good May come each options earlier runs.1 s) side
+
+pub run_along : (Good : Endpoint → Turned → Type 0) → ((e : Endpoint) (input : Input) (t : Turned) → IsTurn e input t → Good e t)
+    → (options : Both Options) (run : List Worked) → SocketRun options run → (side : Side) → GoodSide Good options (turns_after run) side
+run_along Good each options run runs side = run_along_where Good Anything anything_may_come (λ e input t may turn. each e input t turn) options run runs side

@@ -6,23 +6,21 @@ use Rattle.dcsctp_machine.specs.declared.association.Held.{Held}
 use Rattle.dcsctp_machine.specs.declared.word.Word.{Word}
 use Rattle.dcsctp_machine.specs.declared.word.Word.TheVariants.{U32, U64}
 use Rattle.dcsctp_machine.specs.declared.kinds.ErrorKind.TheVariants.{ProtocolViolation}
-use Rattle.dcsctp_machine.specs.declared.ends.AbortReason.{AbortReason}
-use Rattle.dcsctp_machine.specs.declared.ends.AbortReason.TheVariants as reasons
-use Rattle.dcsctp_machine.specs.Cause.{Cause, causes_of}
+use Rattle.dcsctp_machine.specs.Cause.{Cause}
 use Rattle.dcsctp_machine.specs.Event.{Event, aborted, connected}
 use Rattle.dcsctp_machine.specs.Packet.{Introduction, Content, init_ack, cookie_echo, cookie_ack, abort, Emission}
 use Rattle.dcsctp_machine.specs.Endpoint.{Endpoint, Core, closed, cookie_wait, cookie_echoed, open_in, established}
 use Rattle.dcsctp_machine.specs.Outcome.{Outcome, noting, still, quiet, sends, fits, drawing}
 use Rattle.dcsctp_machine.specs.Following.{next_chunk}
 use Rattle.dcsctp_machine.specs.turns.FlushOutcomes.{allows_packet}
-use Rattle.dcsctp_machine.specs.turns.EndOutcomes.{ended_outcome, abort_outcome, end_of, abort_to, aborting_outcome}
+use Rattle.dcsctp_machine.specs.turns.EndOutcomes.{ended_outcome, abort_outcome}
 use Rattle.dcsctp_machine.specs.turns.HandshakeOutcomes.{pair_from, init_emission, awaits_init_ack, connect_outcome, ConnectTurn, no_cookie_text, abort_emission, awaits_cookie_ack, echo_emission, init_ack_outcome, InitAckTurn, CookieAckTurn, connected_after, cookie_ack_outcome}
-use Rattle.dcsctp_machine.specs.control.Effect.{holds, connects, Change, unchanged, ended, emitted_alone, link_of}
+use Rattle.dcsctp_machine.specs.control.Effect.{holds, connects, Change, unchanged, emitted_alone, link_of}
 use Rattle.dcsctp_machine.specs.control.Choices.{Filling, Choices, nothing_to_send, idle_choices}
 use Rattle.dcsctp_machine.specs.control.FlushChanges.{reset_to_begin, Flushed, flushed_with, flush}
 use Rattle.dcsctp_machine.specs.control.HandshakeChanges.{connect_change, init_ack_change, held_by_init_ack}
-use Rattle.dcsctp_machine.specs.control.Acts.{connect, abort_with, act_change, ChunkChange}
-use Rattle.dcsctp_machine.specs.Controlled.{Sign, packet_sent, has_ended, signs_of_events, IsControlled, ControlledChunk, ControlledAct}
+use Rattle.dcsctp_machine.specs.control.Acts.{connect, ChunkChange}
+use Rattle.dcsctp_machine.specs.Controlled.{IsControlled, ControlledChunk, ControlledAct}
 use Rattle.dcsctp_machine.proofs.FlushLemmas.{init_ack_turn_now, cookie_ack_turn_now}
 
 -- ---- what a turn chooses
@@ -163,27 +161,3 @@ abort_at e (open_in phase mine held) tag reflected causes is = (_, (no_choices e
 
 pub abort_controlled : (e : Endpoint) (tag : ℕ) (reflected : Bool) (causes : List Cause) (o : Outcome) → o ≡ abort_outcome e causes e.core → ControlledChunk e tag (abort reflected causes) o
 abort_controlled e tag reflected causes o turn = subst (ControlledChunk e tag (abort reflected causes)) (sym turn) (abort_at e e.core tag reflected causes refl)
-
--- ---- the own abort
-
-told_end : (reason : AbortReason) → signs_of_events (end_of reason ∷ []) ≡ has_ended ∷ []
-told_end reasons.CloseCalled = refl
-told_end (reasons.Violation violation) = refl
-told_end reasons.TooManyErrors = refl
-
-aborts_where : (b : Bool) (e : Endpoint) (held : Held) (reason : AbortReason)
-    → IsControlled e (ended_outcome (if b then sends e [] [] (abort_to held reason) else quiet e [] []) (end_of reason))
-    (ended (emitted_alone b held.peer.tag (abort false (causes_of reason))))
-aborts_where true e held reason =
-    record { core = refl; options = refl; signs = ap (λ (signs : List Sign). packet_sent (abort_to held reason).packet ∷ signs) (told_end reason); effects = refl; following = refl }
-aborts_where false e held reason = record { core = refl; options = refl; signs = told_end reason; effects = refl; following = refl }
-
-aborting_at : (e : Endpoint) (core : Core) (reason : AbortReason) → e.core ≡ core
-    → (choices : Choices) × IsControlled e (aborting_outcome e core reason) (act_change e.options core (abort_with reason) choices)
-aborting_at e closed reason is = (no_choices e true, still_controlled e closed is)
-aborting_at e (cookie_wait my) reason is = (no_choices e true, record { core = refl; options = refl; signs = told_end reason; effects = refl; following = refl })
-aborting_at e (cookie_echoed my held cookie) reason is = (no_choices e (fits e (abort_to held reason)), aborts_where (fits e (abort_to held reason)) e held reason)
-aborting_at e (open_in phase my held) reason is = (no_choices e (fits e (abort_to held reason)), aborts_where (fits e (abort_to held reason)) e held reason)
-
-pub aborting_controlled : (e : Endpoint) (o : Outcome) (reason : AbortReason) → o ≡ aborting_outcome e e.core reason → ControlledAct e (abort_with reason) o
-aborting_controlled e o reason turn = subst (ControlledAct e (abort_with reason)) (sym turn) (aborting_at e e.core reason refl)

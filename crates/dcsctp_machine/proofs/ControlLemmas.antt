@@ -24,7 +24,8 @@ use Rattle.dcsctp_machine.specs.Controlled.{IsControlled, ControlledChunk, Contr
 use Rattle.dcsctp_machine.specs.Laws.{FitsPair, FitsOwn, FitsAnswer, ChunksAreControlled, ActsAreControlled, StandsBefore}
 use Rattle.dcsctp_machine.proofs.PlainLemmas.{plain_controlled}
 use Rattle.dcsctp_machine.proofs.LawLemmas.{names_read_back}
-use Rattle.dcsctp_machine.proofs.ControlHandshake.{choices_of, ControlledAt, still_controlled, init_ack_controlled, cookie_ack_controlled, abort_controlled, aborting_controlled, connect_controlled}
+use Rattle.dcsctp_machine.proofs.ControlHandshake.{choices_of, ControlledAt, still_controlled, init_ack_controlled, cookie_ack_controlled, abort_controlled, connect_controlled}
+use Rattle.dcsctp_machine.proofs.ControlEnds.{aborting_controlled, shutdown_ack_controlled, shutdown_complete_controlled}
 use Rattle.dcsctp_machine.proofs.TimerLemmas.{t1_again_controlled, t1_gives_up_controlled}
 use Rattle.dcsctp_machine.proofs.ControlEcho.{cookie_echo_controlled}
 
@@ -59,7 +60,7 @@ pub drawing_controlled : (e : Endpoint) (o : Outcome) (core : Core) (pair : Pair
 drawing_controlled e o core pair effects h =
     record { core = h.core; options = h.options; signs = h.signs; effects = ap (λ (es : List Effect). draws pair ∷ es) h.effects; following = h.following }
 
-answered : (e : Endpoint) (tag : ℕ) (theirs : Introduction) (mine : Pair) (tie : ℕ) (words : List Word) (core : Core) → e.core ≡ core
+pub answered : (e : Endpoint) (tag : ℕ) (theirs : Introduction) (mine : Pair) (tie : ℕ) (words : List Word) (core : Core) → e.core ≡ core
     → IsControlled e (answer_outcome e theirs words mine tie) (record { core = core; effects = emitted_alone (fits e (init_ack_emission e theirs mine tie)) theirs.pair.tag (init_ack_for e theirs mine tie); following = next_chunk })
 answered e tag theirs mine tie words core is =
     one_packet (fits e (init_ack_emission e theirs mine tie)) e words (init_ack_emission e theirs mine tie).with_checksum theirs.pair.tag (init_ack_for e theirs mine tie) core is
@@ -79,7 +80,7 @@ ack_fits : (e : Endpoint) (held : Held) → IsValid e.options → fits e (to_pee
 unfolding other_bytes
 ack_fits e held valid = let least : 32 ≤ packet_size_limit e.options = valid.least_size in grind (arith, nat_tests)
 
-ack_controlled : (e : Endpoint) (held : Held) (core : Core) → e.core ≡ core → IsValid e.options
+pub ack_controlled : (e : Endpoint) (held : Held) (core : Core) → e.core ≡ core → IsValid e.options
     → IsControlled e (emits e [] (to_peer held shutdown_ack)) (record { core = core; effects = emitted_alone true held.peer.tag shutdown_ack; following = next_chunk })
 ack_controlled e held core is valid =
     subst (λ (b : Bool). IsControlled e (emits e [] (to_peer held shutdown_ack)) (record { core = core; effects = emitted_alone b held.peer.tag shutdown_ack; following = next_chunk })) (ack_fits e held valid)
@@ -138,8 +139,8 @@ chunks_are_controlled e tag cookie_ack o turn fitting = cookie_ack_controlled e 
 chunks_are_controlled e tag (re_config parameters) o turn fitting = turn
 chunks_are_controlled e tag (abort reflected causes) o turn fitting = abort_controlled e tag reflected causes o turn
 chunks_are_controlled e tag (shutdown cumulative_tsn) o turn fitting = turn
-chunks_are_controlled e tag shutdown_ack o turn fitting = turn
-chunks_are_controlled e tag (shutdown_complete reflected) o turn fitting = turn
+chunks_are_controlled e tag shutdown_ack o turn fitting = shutdown_ack_controlled e tag o turn
+chunks_are_controlled e tag (shutdown_complete reflected) o turn fitting = shutdown_complete_controlled e tag reflected o turn
 chunks_are_controlled e tag (plain chunk) o turn fitting = plain_controlled e tag chunk o turn
 
 -- ---- what stands before a packet's chunks

@@ -69,7 +69,7 @@ longest_connects p n (cookie_wait my) choices = refl
 longest_connects p n (cookie_echoed my held cookie) choices = refl
 longest_connects p n (open_in phase my held) choices = refl
 
-chunk_same : (p : Options) (n : ℕ) (core : Core) (header : ℕ) (content : Content) (choices : Choices)
+pub chunk_same : (p : Options) (n : ℕ) (core : Core) (header : ℕ) (content : Content) (choices : Choices)
     → chunk_change (longest p n) core header content choices ≡ chunk_change p core header content choices
 chunk_same p n core header (init theirs) choices = init_same p n core theirs choices
 chunk_same p n core header (init_ack theirs cookie) choices = init_ack_same p n core theirs cookie choices

@@ -4,7 +4,9 @@ pub mod CallFacts
 pub mod AlongLemmas
 pub mod ChunkFacts
 pub mod ControlEcho
+pub mod ControlEnds
 pub mod ControlHandshake
+pub mod ControlInit
 pub mod ControlLemmas
 pub mod CookieEchoFacts
 pub mod DeliveryLemmas

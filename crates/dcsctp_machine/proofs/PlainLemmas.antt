@@ -1,39 +1,123 @@
--- The turns of chunks that speak of no association, kind by kind. No other proof goes by their kinds.
-use Rattle.std.proofs.Common.{ℕ, false, refl, sym, subst}
-use Rattle.dcsctp_machine.specs.Packet.{Plain, plain, unworked}
-use Rattle.dcsctp_machine.specs.Endpoint.{Endpoint, Core, closed, cookie_wait, cookie_echoed, open_in, established, shutdown_pending, shutdown_sent, shutdown_received, shutdown_ack_sent}
-use Rattle.dcsctp_machine.specs.Outcome.{Outcome}
-use Rattle.dcsctp_machine.specs.turns.PlainOutcomes.{PlainTurn}
+-- The turns of chunks that speak of no association, kind by kind. No other proof of this crate goes by their kinds.
+use Rattle.std.proofs.Common.{◌≡◌, ℕ, Bool, true, false, cond, Option, None, Some, List, [], ◌∷◌, refl, sym, subst}
+use Rattle.dcsctp_machine.specs.declared.association.Pair.{Pair}
+use Rattle.dcsctp_machine.specs.declared.association.Held.{Held}
+use Rattle.dcsctp_machine.specs.declared.ends.Violation.{Violation}
+use Rattle.dcsctp_machine.specs.declared.ends.AbortReason.TheVariants as reasons
+use Rattle.dcsctp_machine.specs.declared.kinds.ErrorKind.TheVariants.{ParseFailed}
+use Rattle.dcsctp_machine.specs.Cause.{causes_of}
+use Rattle.dcsctp_machine.specs.Event.{Event, error}
+use Rattle.dcsctp_machine.specs.Packet.{Plain, plain, unknown, unworked, Emission}
+use Rattle.dcsctp_machine.specs.Endpoint.{Endpoint, Core, closed, cookie_wait, cookie_echoed, open_in, OpenPhase, established, shutdown_pending, shutdown_sent, shutdown_received, shutdown_ack_sent}
+use Rattle.dcsctp_machine.specs.Outcome.{Outcome, still, sends, fits}
+use Rattle.dcsctp_machine.specs.turns.EndOutcomes.{abort_to, aborting_outcome}
+use Rattle.dcsctp_machine.specs.turns.PlainOutcomes.{PlainTurn, plain_outcome, violation_at, violation_by, is_reported, after_unknown, unknown_text, unknown_bytes, unknown_error, unknown_report, unknown_told}
 use Rattle.dcsctp_machine.specs.control.Effect.{unchanged}
+use Rattle.dcsctp_machine.specs.control.Effect as effects
 use Rattle.dcsctp_machine.specs.control.Choices.{Choices}
-use Rattle.dcsctp_machine.specs.control.Acts.{ChunkChange}
-use Rattle.dcsctp_machine.specs.Controlled.{ControlledChunk}
-use Rattle.dcsctp_machine.specs.Fitting.{Sendable, FitsEndpoint, TurnFits}
-use Rattle.dcsctp_machine.proofs.ControlHandshake.{no_choices, filling_where, still_controlled}
-
--- ---- as a turn of the association
+use Rattle.dcsctp_machine.specs.Controlled.{signs_of_events, IsControlled, ControlledChunk}
+use Rattle.dcsctp_machine.proofs.ControlHandshake.{no_choices, filling_where, still_controlled, ControlledAt}
+use Rattle.dcsctp_machine.proofs.ControlEnds.{aborts_where}
 
 -- what a chunk chooses where nothing waits and nothing is said
 abbrev nothing_chosen : Endpoint → Choices
 nothing_chosen e = record (no_choices e false) { is_acknowledged = false; filling = filling_where false }
 
--- It may change nothing, whatever the association is.
-plain_change_is_none : (e : Endpoint) (core : Core) (tag : ℕ) (chunk : Plain) → ChunkChange e.options core tag (plain chunk) (unchanged core)
-plain_change_is_none e closed tag chunk = (nothing_chosen e, tt, refl)
-plain_change_is_none e (cookie_wait my) tag chunk = (nothing_chosen e, tt, refl)
-plain_change_is_none e (cookie_echoed my held cookie) tag chunk = (nothing_chosen e, tt, refl)
-plain_change_is_none e (open_in established my held) tag chunk = (nothing_chosen e, tt, refl)
-plain_change_is_none e (open_in shutdown_pending my held) tag chunk = (nothing_chosen e, tt, refl)
-plain_change_is_none e (open_in shutdown_sent my held) tag chunk = (nothing_chosen e, tt, refl)
-plain_change_is_none e (open_in shutdown_received my held) tag chunk = (nothing_chosen e, tt, refl)
-plain_change_is_none e (open_in shutdown_ack_sent my held) tag chunk = (nothing_chosen e, tt, refl)
+-- ---- one that changes nothing
+
+rests_at : (e : Endpoint) (core : Core) (tag : ℕ) (chunk : Plain) → e.core ≡ core → ControlledAt e core tag (plain chunk) (still e)
+rests_at e closed tag chunk is = (unchanged closed, (nothing_chosen e, tt, refl), still_controlled e closed is)
+rests_at e (cookie_wait my) tag chunk is = (unchanged (cookie_wait my), (nothing_chosen e, tt, refl), still_controlled e (cookie_wait my) is)
+rests_at e (cookie_echoed my held cookie) tag chunk is = (unchanged (cookie_echoed my held cookie), (nothing_chosen e, tt, refl), still_controlled e (cookie_echoed my held cookie) is)
+rests_at e (open_in established my held) tag chunk is = (unchanged (open_in established my held), (nothing_chosen e, tt, refl), still_controlled e (open_in established my held) is)
+rests_at e (open_in shutdown_pending my held) tag chunk is = (unchanged (open_in shutdown_pending my held), (nothing_chosen e, tt, refl), still_controlled e (open_in shutdown_pending my held) is)
+rests_at e (open_in shutdown_sent my held) tag chunk is = (unchanged (open_in shutdown_sent my held), (nothing_chosen e, tt, refl), still_controlled e (open_in shutdown_sent my held) is)
+rests_at e (open_in shutdown_received my held) tag chunk is = (unchanged (open_in shutdown_received my held), (nothing_chosen e, tt, refl), still_controlled e (open_in shutdown_received my held) is)
+rests_at e (open_in shutdown_ack_sent my held) tag chunk is = (unchanged (open_in shutdown_ack_sent my held), (nothing_chosen e, tt, refl), still_controlled e (open_in shutdown_ack_sent my held) is)
+
+-- ---- one of a type that isn't known
+
+-- It chooses what follows, and the report, where one goes out.
+abbrev follows : Endpoint → ℕ → Choices
+follows e type = record (nothing_chosen e) { following = after_unknown type }
+
+abbrev reporting : Endpoint → ℕ → List ℕ → Choices
+reporting e type chunk = record (follows e type) { plain = (unknown_error e chunk ∷ []) ∷ [] }
+
+-- what it is to the association, where the user alone is told, or nobody
+silent : (e : Endpoint) (core : Core) → e.core ≡ core → (type : ℕ) (events : List (Event Emission)) → signs_of_events events ≡ []
+    → IsControlled e (record { words = []; effects = []; after = e; events = events; following = after_unknown type }) (record { core = core; effects = []; following = after_unknown type })
+silent e core is type events none = record { core = is; options = refl; signs = none; effects = refl; following = refl }
+
+-- where the peer is told too
+told : (e : Endpoint) (core : Core) (held : Held) (type : ℕ) (chunk : List ℕ) → e.core ≡ core
+    → IsControlled e (record (sends e [] (error ParseFailed (unknown_text type) ∷ []) (unknown_report e held chunk)) { following = after_unknown type })
+    (record { core = core; effects = effects.sends (unknown_report e held chunk).packet ∷ []; following = after_unknown type })
+told e core held type chunk is = record { core = is; options = refl; signs = refl; effects = refl; following = refl }
+
+unknown_at : (e : Endpoint) (core : Core) (tag type flags : ℕ) (value : List ℕ) (reported : Bool) → e.core ≡ core
+    → ControlledAt e core tag (plain (unknown type flags value))
+    (record (cond reported (unknown_told e core type (unknown_bytes type flags value)) (still e)) { following = after_unknown type })
+unknown_at e closed tag type flags value true is = (_, (follows e type, tt, refl), silent e closed is type (error ParseFailed (unknown_text type) ∷ []) refl)
+unknown_at e closed tag type flags value false is = (_, (follows e type, tt, refl), silent e closed is type [] refl)
+unknown_at e (cookie_wait my) tag type flags value true is = (_, (follows e type, tt, refl), silent e (cookie_wait my) is type (error ParseFailed (unknown_text type) ∷ []) refl)
+unknown_at e (cookie_wait my) tag type flags value false is = (_, (follows e type, tt, refl), silent e (cookie_wait my) is type [] refl)
+unknown_at e (cookie_echoed my held cookie) tag type flags value true is =
+    (_, (reporting e type (unknown_bytes type flags value), tt, refl), told e (cookie_echoed my held cookie) held type (unknown_bytes type flags value) is)
+unknown_at e (cookie_echoed my held cookie) tag type flags value false is = (_, (follows e type, tt, refl), silent e (cookie_echoed my held cookie) is type [] refl)
+unknown_at e (open_in established my held) tag type flags value true is =
+    (_, (reporting e type (unknown_bytes type flags value), tt, refl), told e (open_in established my held) held type (unknown_bytes type flags value) is)
+unknown_at e (open_in established my held) tag type flags value false is = (_, (follows e type, tt, refl), silent e (open_in established my held) is type [] refl)
+unknown_at e (open_in shutdown_pending my held) tag type flags value true is =
+    (_, (reporting e type (unknown_bytes type flags value), tt, refl), told e (open_in shutdown_pending my held) held type (unknown_bytes type flags value) is)
+unknown_at e (open_in shutdown_pending my held) tag type flags value false is = (_, (follows e type, tt, refl), silent e (open_in shutdown_pending my held) is type [] refl)
+unknown_at e (open_in shutdown_sent my held) tag type flags value true is =
+    (_, (reporting e type (unknown_bytes type flags value), tt, refl), told e (open_in shutdown_sent my held) held type (unknown_bytes type flags value) is)
+unknown_at e (open_in shutdown_sent my held) tag type flags value false is = (_, (follows e type, tt, refl), silent e (open_in shutdown_sent my held) is type [] refl)
+unknown_at e (open_in shutdown_received my held) tag type flags value true is =
+    (_, (reporting e type (unknown_bytes type flags value), tt, refl), told e (open_in shutdown_received my held) held type (unknown_bytes type flags value) is)
+unknown_at e (open_in shutdown_received my held) tag type flags value false is = (_, (follows e type, tt, refl), silent e (open_in shutdown_received my held) is type [] refl)
+unknown_at e (open_in shutdown_ack_sent my held) tag type flags value true is =
+    (_, (reporting e type (unknown_bytes type flags value), tt, refl), told e (open_in shutdown_ack_sent my held) held type (unknown_bytes type flags value) is)
+unknown_at e (open_in shutdown_ack_sent my held) tag type flags value false is = (_, (follows e type, tt, refl), silent e (open_in shutdown_ack_sent my held) is type [] refl)
+
+-- ---- one that breaks the protocol
+
+abbrev violating : Endpoint → Held → Violation → Choices
+violating e held violation =
+    record (no_choices e (fits e (abort_to held (reasons.Violation violation)))) { is_violation = true; causes = causes_of (reasons.Violation violation) }
+
+aborts_echoed : (e : Endpoint) (my : Pair) (held : Held) (cookie : List ℕ) (tag : ℕ) (chunk : Plain) (violation : Violation)
+    → ControlledAt e (cookie_echoed my held cookie) tag (plain chunk) (aborting_outcome e (cookie_echoed my held cookie) (reasons.Violation violation))
+aborts_echoed e my held cookie tag chunk violation =
+    (_, (violating e held violation, tt, refl), aborts_where (fits e (abort_to held (reasons.Violation violation))) e held (reasons.Violation violation))
+
+aborts_open : (e : Endpoint) (phase : OpenPhase) (my : Pair) (held : Held) (tag : ℕ) (chunk : Plain) (violation : Violation)
+    → ControlledAt e (open_in phase my held) tag (plain chunk) (aborting_outcome e (open_in phase my held) (reasons.Violation violation))
+aborts_open e phase my held tag chunk violation =
+    (_, (violating e held violation, tt, refl), aborts_where (fits e (abort_to held (reasons.Violation violation))) e held (reasons.Violation violation))
+
+-- ---- each
+
+quiet_at : (e : Endpoint) (core : Core) (tag : ℕ) (chunk : Plain) → e.core ≡ core → ControlledAt e core tag (plain chunk) (plain_outcome e core chunk None)
+quiet_at e core tag (unknown type flags value) is = unknown_at e core tag type flags value (is_reported type) is
+quiet_at e core tag (unworked chunk) is = rests_at e core tag (unworked chunk) is
+
+echoed_at : (e : Endpoint) (my : Pair) (held : Held) (cookie : List ℕ) (tag : ℕ) (chunk : Plain) (violation : Option Violation) → e.core ≡ cookie_echoed my held cookie
+    → ControlledAt e (cookie_echoed my held cookie) tag (plain chunk) (plain_outcome e (cookie_echoed my held cookie) chunk violation)
+echoed_at e my held cookie tag chunk (Some violation) is = aborts_echoed e my held cookie tag chunk violation
+echoed_at e my held cookie tag chunk None is = quiet_at e (cookie_echoed my held cookie) tag chunk is
+
+open_at : (e : Endpoint) (phase : OpenPhase) (my : Pair) (held : Held) (tag : ℕ) (chunk : Plain) (violation : Option Violation) → e.core ≡ open_in phase my held
+    → ControlledAt e (open_in phase my held) tag (plain chunk) (plain_outcome e (open_in phase my held) chunk violation)
+open_at e phase my held tag chunk (Some violation) is = aborts_open e phase my held tag chunk violation
+open_at e phase my held tag chunk None is = quiet_at e (open_in phase my held) tag chunk is
+
+plain_at : (e : Endpoint) (core : Core) (tag : ℕ) (chunk : Plain) → e.core ≡ core → ControlledAt e core tag (plain chunk) (plain_outcome e core chunk (violation_at core chunk))
+plain_at e closed tag chunk is = quiet_at e closed tag chunk is
+plain_at e (cookie_wait my) tag chunk is = quiet_at e (cookie_wait my) tag chunk is
+plain_at e (cookie_echoed my held cookie) tag chunk is = echoed_at e my held cookie tag chunk (violation_by held.capabilities chunk) is
+plain_at e (open_in phase my held) tag chunk is = open_at e phase my held tag chunk (violation_by held.capabilities chunk) is
 
 pub plain_controlled : (e : Endpoint) (tag : ℕ) (chunk : Plain) (o : Outcome) → PlainTurn e chunk o → ControlledChunk e tag (plain chunk) o
-plain_controlled e tag (unworked chunk) o turn =
-    subst (ControlledChunk e tag (plain (unworked chunk))) (sym turn) (unchanged e.core, plain_change_is_none e e.core tag (unworked chunk), still_controlled e e.core refl)
-
--- ---- what goes out
-
--- It leaves numbers that fit, and sends what is read as itself.
-pub plain_fits : (e : Endpoint) (chunk : Plain) (o : Outcome) → PlainTurn e chunk o → FitsEndpoint e → Sendable (plain chunk) → TurnFits o
-plain_fits e (unworked chunk) o turn h good = subst TurnFits (sym turn) (record { after = h; sends = tt })
+plain_controlled e tag chunk o turn = subst (ControlledChunk e tag (plain chunk)) (sym turn) (plain_at e e.core tag chunk refl)

@@ -16,6 +16,7 @@ use Rattle.dcsctp_machine.specs.CallTurns.{Turned, IsTurn, Turns, AfterChunk, Ch
 use Rattle.dcsctp_machine.specs.turns.HandshakeOutcomes.{init_outcome}
 use Rattle.dcsctp_machine.proofs.PlainLemmas.{plain_controlled}
 use Rattle.dcsctp_machine.proofs.ControlHandshake.{init_ack_controlled, cookie_ack_controlled, abort_controlled}
+use Rattle.dcsctp_machine.proofs.ControlEnds.{shutdown_ack_controlled, shutdown_complete_controlled}
 use Rattle.dcsctp_machine.proofs.ControlEcho.{cookie_echo_controlled}
 
 emits_keeps_options : (e : Endpoint) (words : List Word) (emission : Emission) → (emits e words emission).after.options ≡ e.options
@@ -58,8 +59,8 @@ content_keeps_options e tag cookie_ack o turn = controlled_keeps e tag cookie_ac
 content_keeps_options e tag (re_config parameters) o turn = controlled_keeps e tag (re_config parameters) o turn
 content_keeps_options e tag (abort reflected causes) o turn = controlled_keeps e tag (abort reflected causes) o (abort_controlled e tag reflected causes o turn)
 content_keeps_options e tag (shutdown cumulative_tsn) o turn = controlled_keeps e tag (shutdown cumulative_tsn) o turn
-content_keeps_options e tag shutdown_ack o turn = controlled_keeps e tag shutdown_ack o turn
-content_keeps_options e tag (shutdown_complete reflected) o turn = controlled_keeps e tag (shutdown_complete reflected) o turn
+content_keeps_options e tag shutdown_ack o turn = controlled_keeps e tag shutdown_ack o (shutdown_ack_controlled e tag o turn)
+content_keeps_options e tag (shutdown_complete reflected) o turn = controlled_keeps e tag (shutdown_complete reflected) o (shutdown_complete_controlled e tag reflected o turn)
 content_keeps_options e tag (plain chunk) o turn = controlled_keeps e tag (plain chunk) o (plain_controlled e tag chunk o turn)
 
 goes_on_where : (b : Bool) (e : Endpoint) (words : List Word) (emission : Emission) → (cond b (let sends : Outcome = record {
@@ -98,12 +99,12 @@ GoOn-push [] t a b = (b, tt)
 GoOn-push (p ∷ ts) t a b = (a.0, GoOn-push ts t a.1 b)
 
 -- the other chunks, where a further chunk has its turn
-further : (e : Endpoint) (tag : ℕ) (content : Content) (contents : List Content) (tail : List Input) (t : Turned) (ts : List Turned) → t.outcome.following ≡ next_chunk
+pub further : (e : Endpoint) (tag : ℕ) (content : Content) (contents : List Content) (tail : List Input) (t : Turned) (ts : List Turned) → t.outcome.following ≡ next_chunk
     → ChunkTurns e tag (content ∷ contents) tail (t ∷ ts) → ChunkTurns t.outcome.after tag contents tail ts
 further e tag content contents tail t ts goes_on turns =
     subst (λ (f : Following). AfterChunk f (ChunkTurns t.outcome.after tag contents tail ts) (Turns t.outcome.after tail ts) (ts ≡ [])) goes_on turns.1
 
-and_further : (e : Endpoint) (tag : ℕ) (content : Content) (contents : List Content) (tail : List Input) (t : Turned) (ts : List Turned) → t.outcome.following ≡ next_chunk
+pub and_further : (e : Endpoint) (tag : ℕ) (content : Content) (contents : List Content) (tail : List Input) (t : Turned) (ts : List Turned) → t.outcome.following ≡ next_chunk
     → IsTurn e (chunk_input tag content) t → ChunkTurns t.outcome.after tag contents tail ts → ChunkTurns e tag (content ∷ contents) tail (t ∷ ts)
 and_further e tag content contents tail t ts goes_on turn rest =
     (turn, subst (λ (f : Following). AfterChunk f (ChunkTurns t.outcome.after tag contents tail ts) (Turns t.outcome.after tail ts) (ts ≡ [])) (sym goes_on) rest)
@@ -145,6 +146,18 @@ chunk_turns-end e tag (c ∷ contents) tail [] content t rest goes_on turns turn
 chunk_turns-end e tag (c ∷ contents) tail (p ∷ ts) content t rest goes_on turns turn drops =
     and_further e tag c (contents ++ content ∷ rest) tail p (ts ++ t ∷ []) goes_on.0 turns.0
     (chunk_turns-end p.outcome.after tag contents tail ts content t rest goes_on.1 (further e tag c contents [] p ts goes_on.0 turns) turn drops)
+
+-- The chunks behind one that says so have no turn, and the packet ends.
+pub chunk_turns-cut : (e : Endpoint) (tag : ℕ) (contents : List Content) (tail : List Input) (ts : List Turned) (content : Content) (t : Turned) (rest : List Content) (more : List Turned)
+    → GoOn ts → ChunkTurns e tag contents [] ts → IsTurn (after_all e ts) (chunk_input tag content) t → t.outcome.following ≡ packet_end → Turns t.outcome.after tail more
+    → ChunkTurns e tag (contents ++ content ∷ rest) tail (ts ++ t ∷ more)
+chunk_turns-cut e tag [] tail [] content t rest more goes_on turns turn cuts end =
+    (turn, subst (λ (f : Following). AfterChunk f (ChunkTurns t.outcome.after tag rest tail more) (Turns t.outcome.after tail more) (more ≡ [])) (sym cuts) end)
+chunk_turns-cut e tag [] tail (p ∷ ts) content t rest more goes_on turns turn cuts end = absurd turns
+chunk_turns-cut e tag (c ∷ contents) tail [] content t rest more goes_on turns turn cuts end = absurd turns
+chunk_turns-cut e tag (c ∷ contents) tail (p ∷ ts) content t rest more goes_on turns turn cuts end =
+    and_further e tag c (contents ++ content ∷ rest) tail p (ts ++ t ∷ more) goes_on.0 turns.0
+    (chunk_turns-cut p.outcome.after tag contents tail ts content t rest more goes_on.1 (further e tag c contents [] p ts goes_on.0 turns) turn cuts end)
 
 -- Where no chunk dropped the rest, the packet's end comes behind them.
 pub chunk_turns-whole : (e : Endpoint) (tag : ℕ) (contents : List Content) (tail : List Input) (ts more : List Turned)

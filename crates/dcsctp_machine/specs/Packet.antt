@@ -3,7 +3,7 @@ use Rattle.std.specs.Prelude.{ℕ, Bool, true, false, Option, None, Some, List, 
 use Rattle.dcsctp_machine.specs.declared.association.Pair.{Pair}
 use Rattle.dcsctp_machine.specs.Settings.{Ports}
 use Rattle.dcsctp_machine.specs.Offer.{Offer, offer_parameters, offer_announced}
-use Rattle.dcsctp_wire.specs.Content.{ParameterContent, state_cookie, InitContent, ChunkContent, data_chunk, init_chunk, init_ack_chunk, abort_chunk, shutdown_chunk, shutdown_ack_chunk, error_chunk, cookie_echo_chunk, cookie_ack_chunk, shutdown_complete_chunk, re_config_chunk, PacketContent}
+use Rattle.dcsctp_wire.specs.Content.{ParameterContent, state_cookie, InitContent, ChunkContent, data_chunk, init_chunk, init_ack_chunk, abort_chunk, shutdown_chunk, shutdown_ack_chunk, error_chunk, cookie_echo_chunk, cookie_ack_chunk, shutdown_complete_chunk, re_config_chunk, unknown_chunk, PacketContent}
 use Rattle.dcsctp_wire.specs.Spelling.{packet_bytes}
 use Rattle.dcsctp_machine.specs.Cause.{Cause}
 use Rattle.dcsctp_machine.specs.Reconfiguration.{ResetParameter, reset_parameter_content}
@@ -19,11 +19,14 @@ pub record Introduction : Type 0 where
 -- A chunk that speaks of no association: data, acknowledgements, heartbeats, errors, and what is unknown. Each kind that
 -- is told apart has its constructor here; what other chapters ask of kinds stands beside them, and names them alone.
 pub data Plain : Type 0 where
+  -- a chunk of a type that isn't known (RFC 9260, section 3.2): type, flags, value
+  unknown : ℕ → ℕ → List ℕ → Plain
   -- a kind that no handler works yet, as it stands in its packet
   unworked : ChunkContent → Plain
 
 -- is it a DATA chunk?
 abbrev pub is_data : Plain → Bool
+is_data (unknown type flags value) = false
 is_data (unworked (data_chunk chunk)) = true
 is_data (unworked chunk) = false
 
@@ -77,14 +80,16 @@ cookie_in [] = None
 cookie_in (state_cookie cookie ∷ parameters) = Some cookie
 cookie_in (parameter ∷ parameters) = cookie_in parameters
 
--- What a chunk says. Those of shutdown and RE-CONFIG are no contents of their own where they are read, as long as no handler
--- works them.
+-- What a chunk says. SHUTDOWN and RE-CONFIG are no contents of their own where they are read, as long as no handler works them.
 abbrev pub content_in : ChunkContent → Content
 content_in (init_chunk chunk) = init (introduction_in chunk)
 content_in (init_ack_chunk chunk) = init_ack (introduction_in chunk) (cookie_in chunk.parameters)
 content_in (abort_chunk reflected causes) = abort reflected causes
 content_in (cookie_echo_chunk cookie) = cookie_echo cookie
 content_in cookie_ack_chunk = cookie_ack
+content_in shutdown_ack_chunk = shutdown_ack
+content_in (shutdown_complete_chunk reflected) = shutdown_complete reflected
+content_in (unknown_chunk type flags value) = plain (unknown type flags value)
 content_in chunk = plain (unworked chunk)
 
 abbrev pub packet_in : PacketContent → Packet
@@ -109,6 +114,7 @@ introduction_out introduction cookie =
     }
 
 abbrev pub plain_out : Plain → ChunkContent
+plain_out (unknown type flags value) = unknown_chunk type flags value
 plain_out (unworked chunk) = chunk
 
 abbrev pub chunk_out : Content → ChunkContent

@@ -1,10 +1,13 @@
 -- What is done to two sockets, by what it says: two acts that say the same are one, wherever they stand in memory.
-use Rattle.std.specs.Prelude.{ℕ}
+use Rattle.std.specs.Prelude.{ℕ, List}
+use Rattle.std.specs.List.{AllByRecursion}
 use Rattle.dcsctp_machine.specs.declared.schedule.Side.{Side}
 use Rattle.dcsctp_machine.specs.declared.schedule.Call.{Call}
 use Rattle.dcsctp_machine.specs.declared.schedule.Call.TheVariants as calls
 use Rattle.dcsctp_machine.specs.declared.schedule.Step.{Step}
 use Rattle.dcsctp_machine.specs.declared.schedule.Step.TheVariants as steps
+use Rattle.dcsctp_machine.specs.declared.schedule.Outside.{Outside}
+use Rattle.dcsctp_machine.specs.declared.schedule.Outside.TheVariants as outsides
 use Rattle.dcsctp_machine.specs.declared.schedule.Act.{Act}
 use Rattle.dcsctp_machine.specs.declared.schedule.Act.TheVariants as acts
 
@@ -22,9 +25,16 @@ pub data StepContent : Type 0 where
   -- this socket is handed the other's packet of this number, counted from 1
   delivery_step : Side → ℕ → StepContent
 
--- what was done: so far a step of a schedule
+-- what comes from outside
+pub data OutsideContent : Type 0 where
+  -- this socket is handed these bytes, which no socket needs to have emitted
+  input_outside : Side → List ℕ → OutsideContent
+
+-- what was done
 pub data ActContent : Type 0 where
+  -- a step of a schedule
   step_act : StepContent → ActContent
+  outside_act : OutsideContent → ActContent
 
 abbrev pub call_content : Call → CallContent
 call_content calls.Connect = connect_call
@@ -35,5 +45,20 @@ abbrev pub step_content : Step → StepContent
 step_content (steps.Call side call) = call_step side (call_content call)
 step_content (steps.Deliver side number) = delivery_step side number
 
+abbrev pub outside_content : Outside → OutsideContent
+outside_content (outsides.Input side bytes) = input_outside side bytes.items
+
 abbrev pub act_content : Act → ActContent
 act_content (acts.Step step) = step_act (step_content step)
+act_content (acts.Outside outside) = outside_act (outside_content outside)
+
+-- ---- honest acts
+
+-- It is a step, so each packet that it hands to a socket was emitted by the other, byte for byte.
+abbrev pub IsHonestAct : ActContent → Type 0
+IsHonestAct (step_act step) = Unit {0}
+IsHonestAct (outside_act outside) = ⊥
+
+-- Each of these acts is honest: none comes from outside.
+abbrev pub AreHonest : List ActContent → Type 0
+AreHonest acts = AllByRecursion IsHonestAct acts

@@ -1,4 +1,4 @@
--- Two sockets and every schedule: what comes of each call and of each delivery, and what a side shows.
+-- Two sockets and every list of acts: what comes of each call, each delivery and each act from outside, and what a side shows.
 use Rattle.std.specs.Prelude.{◌≡◌, ℕ, zero, suc, Option, None, Some, List, [], ◌∷◌, ◌++◌, map}
 use Rattle.std.specs.List.{slice_get}
 use Rattle.dcsctp_machine.specs.declared.association.Association.{Association}
@@ -6,7 +6,7 @@ use Rattle.dcsctp_machine.specs.declared.ends.AbortReason.TheVariants.{CloseCall
 use Rattle.dcsctp_machine.specs.declared.options.Options.{Options}
 use Rattle.dcsctp_machine.specs.declared.schedule.Side.{Side}
 use Rattle.dcsctp_machine.specs.declared.schedule.Side.TheVariants as sides
-use Rattle.dcsctp_machine.specs.Schedule.{CallContent, connect_call, close_call, StepContent, call_step, delivery_step, ActContent, step_act, advance_call}
+use Rattle.dcsctp_machine.specs.Schedule.{CallContent, connect_call, close_call, StepContent, call_step, delivery_step, OutsideContent, input_outside, ActContent, step_act, outside_act, advance_call}
 use Rattle.dcsctp_machine.specs.Settings.{ports_of}
 use Rattle.dcsctp_machine.specs.Event.{Event, event_map, packets_in}
 use Rattle.dcsctp_machine.specs.Packet.{emission_bytes}
@@ -57,15 +57,26 @@ abbrev pub StepTurns : Endpoint → List (List ℕ) → StepContent → List Tur
 StepTurns e packets (call_step side call) turns = UserTurns e call turns
 StepTurns e packets (delivery_step side number) turns = DeliveryTurns e (numbered number packets) turns
 
+-- ---- acts from outside
+
+abbrev pub side_of_outside : OutsideContent → Side
+side_of_outside (input_outside side bytes) = side
+
+-- what comes of it at its side: whatever the bytes say
+abbrev pub OutsideTurns : Endpoint → OutsideContent → List Turned → Type 0
+OutsideTurns e (input_outside side bytes) turns = HandleInput e bytes turns
+
 -- ---- acts
 
 -- the side at which it happens
 abbrev pub side_of_act : ActContent → Side
 side_of_act (step_act step) = side_of step
+side_of_act (outside_act outside) = side_of_outside outside
 
 -- what comes of it at its side, where the other has emitted these packets
 abbrev pub TurnsOfAct : Endpoint → List (List ℕ) → ActContent → List Turned → Type 0
 TurnsOfAct e packets (step_act step) turns = StepTurns e packets step turns
+TurnsOfAct e packets (outside_act outside) turns = OutsideTurns e outside turns
 
 -- ---- runs
 
@@ -103,8 +114,8 @@ NextTurns options turns act more =
     TurnsOfAct (endpoint_after (of_side (side_of_act act) options) (of_side (side_of_act act) turns))
     (packets_shown (of_other (side_of_act act) options) (of_other (side_of_act act) turns)) act more
 
--- Two sockets run: each of these acts, newest first, comes of what the acts before it left. Whatever is
--- delivered was emitted by the other socket before, byte for byte.
+-- Two sockets run: each of these acts, newest first, comes of what the acts before it left. Whatever a step
+-- delivers was emitted by the other socket before, byte for byte; what an act from outside hands in may be any bytes.
 abbrev pub SocketRun : Both Options → List Worked → Type 0
 SocketRun options [] = Unit {0}
 SocketRun options (worked ∷ earlier) = NextTurns options (turns_after earlier) worked.act worked.turns × SocketRun options earlier

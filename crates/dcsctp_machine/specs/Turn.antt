@@ -6,7 +6,7 @@ use Rattle.dcsctp_machine.specs.Endpoint.{Endpoint, Core, open_in, shutdown_sent
 use Rattle.dcsctp_machine.specs.Outcome.{Outcome, still, count_up, reports}
 use Rattle.dcsctp_machine.specs.turns.HandshakeOutcomes.{InitTurn, ConnectTurn, InitAckTurn, CookieAckTurn}
 use Rattle.dcsctp_machine.specs.turns.CookieEchoOutcomes.{CookieEchoTurn}
-use Rattle.dcsctp_machine.specs.turns.EndOutcomes.{abort_outcome, aborting_outcome}
+use Rattle.dcsctp_machine.specs.turns.EndOutcomes.{abort_outcome, aborting_outcome, ShutdownAckTurn, ShutdownCompleteTurn}
 use Rattle.dcsctp_machine.specs.turns.PlainOutcomes.{PlainTurn}
 use Rattle.dcsctp_machine.specs.turns.TimerOutcomes.{T1AgainTurn, t1_gives_up_outcome}
 use Rattle.dcsctp_machine.specs.control.Acts.{Act, connect, t1_expires, shut_down, step_of_shutdown, shutdown_repeats, abort_with, hands_over, flushes, request_again}
@@ -62,8 +62,8 @@ ContentTurn e tag cookie_ack o = CookieAckTurn e o
 ContentTurn e tag (re_config parameters) o = ControlledChunk e tag (re_config parameters) o
 ContentTurn e tag (abort reflected causes) o = o ≡ abort_outcome e causes e.core
 ContentTurn e tag (shutdown cumulative_tsn) o = ControlledChunk e tag (shutdown cumulative_tsn) o
-ContentTurn e tag shutdown_ack o = ControlledChunk e tag shutdown_ack o
-ContentTurn e tag (shutdown_complete reflected) o = ControlledChunk e tag (shutdown_complete reflected) o
+ContentTurn e tag shutdown_ack o = ShutdownAckTurn e e.core tag o
+ContentTurn e tag (shutdown_complete reflected) o = ShutdownCompleteTurn e e.core tag reflected o
 ContentTurn e tag (plain chunk) o = PlainTurn e chunk o
 
 -- What the user and the timers bring.

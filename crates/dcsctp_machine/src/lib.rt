@@ -29,6 +29,6 @@ pub use laws::{
     time_passes_quietly,
 };
 pub use options::Options;
-pub use schedule::{Act, Call, Side, Step};
+pub use schedule::{Act, Call, Outside, Side, Step};
 pub use time::SocketTime;
 pub use word::Word;

@@ -1,4 +1,4 @@
-//! What happens to two sockets: calls of their users, and deliveries.
+//! What happens to two sockets: calls of their users, deliveries, and what comes from outside.
 
 use crate::time::SocketTime;
 
@@ -36,9 +36,19 @@ pub enum Step {
     Deliver(Side, usize),
 }
 
+/// What happens to two sockets from outside, which no network between them does.
+#[derive(Debug, PartialEq, Eq, Drop)]
+pub enum Outside {
+    /// This socket is handed these bytes, which no socket needs to have emitted.
+    Input(Side, Vec<u8>),
+}
+
 /// What was done to two sockets.
-#[derive(Clone, Copy, Debug, PartialEq, Eq)]
+#[derive(Debug, PartialEq, Eq, Drop)]
 pub enum Act {
     /// A step of a schedule.
     Step(Step),
+
+    /// An act from outside.
+    Outside(Outside),
 }

@@ -18,7 +18,6 @@ use Rattle.dcsctp_machine.specs.Event.{Event}
 use Rattle.dcsctp_machine.specs.Packet.{Emission}
 use Rattle.dcsctp_machine.specs.Laws.{FitsPair}
 use Rattle.dcsctp_machine.specs.Fitting.{AllSent, FitsHeld, FitsCore, FitsEndpoint, IsSendable, Sendable, TurnFits}
-use Rattle.dcsctp_refinement.proofs.TurnsFit.{still_fits}
 
 -- ---- texts
 
@@ -85,7 +84,7 @@ aborts_fit true e held reason h fits =
 aborts_fit false e held reason h fits = record { after = record { valid = h.valid; options = h.options; core = tt; t1 = tt }; sends = end_fits reason }
 
 pub aborting_fits : (e : Endpoint) (core : Core) (reason : AbortReason) → FitsEndpoint e → FitsCore core → TurnFits (aborting_outcome e core reason)
-aborting_fits e closed reason h own = still_fits e h
+aborting_fits e closed reason h own = record { after = h; sends = tt }
 aborting_fits e (cookie_wait my) reason h own = record { after = record { valid = h.valid; options = h.options; core = tt; t1 = tt }; sends = end_fits reason }
 aborting_fits e (cookie_echoed my held cookie) reason h own = aborts_fit (fits e (abort_to held reason)) e held reason h own.1
 aborting_fits e (open_in established my held) reason h own = aborts_fit (fits e (abort_to held reason)) e held reason h own.1

@@ -12,7 +12,7 @@ use Rattle.dcsctp_machine.specs.Laws.{FitsPair}
 pub both : (xs ys : List ℕ) → AllByRecursion IsByte xs → AllByRecursion IsByte ys → AllByRecursion IsByte (xs ++ ys)
 both xs ys x y = recursion_from_All IsByte (xs ++ ys) (All-append IsByte xs ys (All-from_recursion IsByte xs x) (All-from_recursion IsByte ys y))
 
-in_two : (n : ℕ) → AllByRecursion IsByte (to_be_bytes w16 n)
+pub in_two : (n : ℕ) → AllByRecursion IsByte (to_be_bytes w16 n)
 in_two n = (omega arith, (omega arith, tt))
 
 in_four : (n : ℕ) → AllByRecursion IsByte (to_be_bytes w32 n)

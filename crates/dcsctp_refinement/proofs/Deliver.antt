@@ -1,5 +1,5 @@
 -- What comes of a packet of the other side is a delivery in the machine that agreement is proved on.
-use Rattle.std.proofs.Common.{◌≡◌, ℕ, zero, suc, Option, Some, List, [], ◌∷◌, map, refl, sym, subst, ap, ◌∙◌}
+use Rattle.std.proofs.Common.{◌≡◌, ◌<◌, ◌^◌, ℕ, zero, suc, Option, Some, List, [], ◌∷◌, map, refl, sym, subst, ap, ◌∙◌}
 use Rattle.std.specs.List.{AllByRecursion, slice_get}
 use Rattle.dcsctp_wire.specs.Content.{PacketContent}
 use Rattle.dcsctp_wire.specs.Format.{IsPacket}
@@ -135,13 +135,13 @@ rest_fits packet_end e tag contents tail turns h good end rest more = let each =
 rest_fits dropped_rest e tag contents tail turns h good end rest more = let each = none_fit turns rest in left e contents turns each (any_fit e contents turns h good each)
 
 pub chunk_turns_fit : OfferReadsBack → (e : Endpoint) (tag : ℕ) (contents : List Content) (tail : List Input) (turns : List Turned) → ChunkTurns e tag contents tail turns → FitsEndpoint e
-    → AllByRecursion Sendable contents → EndFits tail → ChunksFit e contents turns
-chunk_turns_fit law e tag [] tail turns taken h good end = record { contents_fit = tt; turns_fit = end e turns taken h }
-chunk_turns_fit law e tag (content ∷ contents) tail [] taken h good end = absurd taken
-chunk_turns_fit law e tag (content ∷ contents) tail (t ∷ ts) taken h good end =
-    let first : TurnFits t.outcome = turn_fits law e tag content t.outcome taken.0.comes h good.0 in
+    → tag < 2 ^ 32 → AllByRecursion Sendable contents → EndFits tail → ChunksFit e contents turns
+chunk_turns_fit law e tag [] tail turns taken h tagged good end = record { contents_fit = tt; turns_fit = end e turns taken h }
+chunk_turns_fit law e tag (content ∷ contents) tail [] taken h tagged good end = absurd taken
+chunk_turns_fit law e tag (content ∷ contents) tail (t ∷ ts) taken h tagged good end =
+    let first : TurnFits t.outcome = turn_fits law e tag content t.outcome taken.0.comes h tagged good.0 in
     let rest : ChunksFit t.outcome.after contents ts =
-    rest_fits t.outcome.following t.outcome.after tag contents tail ts first.after good.1 end taken.1 (λ more. chunk_turns_fit law t.outcome.after tag contents tail ts more first.after good.1 end) in
+    rest_fits t.outcome.following t.outcome.after tag contents tail ts first.after good.1 end taken.1 (λ more. chunk_turns_fit law t.outcome.after tag contents tail ts more first.after tagged good.1 end) in
     record { contents_fit = (content_fits e content h good.0, rest.contents_fit); turns_fit = (first, rest.turns_fit) }
 
 pub nothing_ends : EndFits []

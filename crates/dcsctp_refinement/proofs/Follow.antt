@@ -86,7 +86,7 @@ drawn_noted (fails number ∷ effects) = drawn_noted effects
 drawn_noted (accepts number ∷ effects) = drawn_noted effects
 drawn_noted (performs peer number ∷ effects) = drawn_noted effects
 
-noted_after : (effects past : List Effect) → noted (after_effects effects past) ≡ after_effects (noted effects) (noted past)
+pub noted_after : (effects past : List Effect) → noted (after_effects effects past) ≡ after_effects (noted effects) (noted past)
 noted_after [] past = refl
 noted_after (draws pair ∷ effects) past = noted_after effects (draws pair ∷ past)
 noted_after (sends packet ∷ effects) past = noted_after effects (sends packet ∷ past)
@@ -99,7 +99,7 @@ noted_after (fails number ∷ effects) past = noted_after effects (fails number 
 noted_after (accepts number ∷ effects) past = noted_after effects (accepts number ∷ past)
 noted_after (performs peer number ∷ effects) past = noted_after effects (performs peer number ∷ past)
 
-after_both : (xs ys past : List Effect) → after_effects (xs ++ ys) past ≡ after_effects ys (after_effects xs past)
+pub after_both : (xs ys past : List Effect) → after_effects (xs ++ ys) past ≡ after_effects ys (after_effects xs past)
 after_both [] ys past = refl
 after_both (x ∷ xs) ys past = after_both xs ys (x ∷ past)
 

@@ -9,10 +9,12 @@ mod HandshakeRuns
 mod HandshakeSizes
 mod HandshakeTurns
 mod Moves
+mod PlainFits
 mod Sendable
 mod Sent
 mod Signs
 mod SocketsAgree
+mod SocketsAlone
 mod TurnsFit
 pub mod NotedLemmas
 pub mod OneSocket
@@ -20,5 +22,7 @@ pub mod RunFacts
 mod TellingEnds
 pub mod TimeMoves
 pub mod T1Lemmas
+mod T1Turns
 pub mod TimerFits
 pub mod StepMoves
+mod T1Chunks

@@ -1,5 +1,5 @@
 -- What comes of connect and of a delivery at one socket is moves of its side in the machine that agreement is proved on.
-use Rattle.std.proofs.Common.{◌≡◌, ℕ, Bool, Option, None, Some, List, [], ◌∷◌, ◌++◌, refl, sym, subst, ap, ◌∙◌, append_assoc}
+use Rattle.std.proofs.Common.{◌≡◌, ◌^◌, ◌<◌, ℕ, Bool, Option, None, Some, List, [], ◌∷◌, ◌++◌, refl, sym, subst, ap, ◌∙◌, append_assoc}
 use Rattle.std.proofs.lemmas.List.{append-nil}
 use Rattle.std.specs.List.{AllByRecursion, slice_get}
 use Rattle.dcsctp_wire.specs.Format.{IsPacket}
@@ -198,12 +198,12 @@ front_fits [] ys each = tt
 front_fits (x ∷ xs) ys each = (each.0, front_fits xs ys each.1)
 
 chunks_move : Below → (options : Options) (turns : List Turned) (side : SideState) (theirs : List Effect) (packet : Packet) (contents : List Content) (tail : List Input) (more : List Turned)
-    → Followed options turns side → Has (sends packet) theirs → AllByRecursion Sendable contents → EndFits tail → EndRests tail
+    → Followed options turns side → Has (sends packet) theirs → packet.tag < 2 ^ 32 → AllByRecursion Sendable contents → EndFits tail → EndRests tail
     → ((changes : List Change) → ChunkChanges side.options side.core packet.tag contents changes → PacketChanges side.options side.core packet changes)
     → ChunkTurns (endpoint_after options turns) packet.tag contents tail more → SideMoves options turns side theirs more
-chunks_move law options turns side theirs packet contents tail more h was_sent good end_fits end to_packet taken =
+chunks_move law options turns side theirs packet contents tail more h was_sent tagged good end_fits end to_packet taken =
     let e : Endpoint = endpoint_after options turns in
-    let fits : ChunksFit e contents more = chunk_turns_fit law.offers e packet.tag contents tail more taken h.fits good end_fits in
+    let fits : ChunksFit e contents more = chunk_turns_fit law.offers e packet.tag contents tail more taken h.fits tagged good end_fits in
     let are : AreChunks e packet.tag contents tail more = law.packets e packet.tag contents tail more taken fits.contents_fit in
     let of_packet : PacketChanges side.options side.core packet are.changes = to_packet are.changes (at_side options turns side packet.tag contents are.changes h are.moves) in
     let worked : Followed options (turns ++ are.chunks) (after_changes side are.changes) =
@@ -223,7 +223,7 @@ whole_moves law options turns side theirs packet (begun ∷ more) is h was_sent 
     let first : Followed options (turns ++ begun ∷ []) side =
     follow_nothing options turns side begun h (begin_rests e e.core (has_data packet.contents) begun.outcome h.fits.core taken.0.comes) in
     rests_then options turns side theirs (begun ∷ []) more
-    (chunks_move law options (turns ++ begun ∷ []) side theirs packet packet.contents (packet_ends ∷ []) more first was_sent good.contents packet_end_fits end_rests
+    (chunks_move law options (turns ++ begun ∷ []) side theirs packet packet.contents (packet_ends ∷ []) more first was_sent good.tag good.contents packet_end_fits end_rests
     (λ changes moves. worked_whole (law.admitted.whole side.core packet is) moves)
     (subst (λ (x : Endpoint). ChunkTurns x packet.tag packet.contents (packet_ends ∷ []) more) (sym (after_last _ turns begun)) taken.1))
 
@@ -232,7 +232,7 @@ admitted_moves : Below → (options : Options) (turns : List Turned) (side : Sid
     → AdmittedTurns (endpoint_after options turns) packet admission more → SideMoves options turns side theirs more
 admitted_moves law options turns side theirs packet all_chunks more is h was_sent good taken = whole_moves law options turns side theirs packet more is h was_sent good taken
 admitted_moves law options turns side theirs packet shutdown_acks_alone more is h was_sent good taken =
-    chunks_move law options turns side theirs packet (shutdown_acks_in packet.contents) [] more h was_sent (acks_sendable packet.contents good.contents) nothing_ends none_rests
+    chunks_move law options turns side theirs packet (shutdown_acks_in packet.contents) [] more h was_sent good.tag (acks_sendable packet.contents good.contents) nothing_ends none_rests
     (λ changes moves. worked_acks moves) taken
 admitted_moves law options turns side theirs packet (refused text) more is h was_sent good refusing =
     rests options turns side theirs more (refused_rests options turns side more text h refusing)

@@ -18,6 +18,7 @@ use Rattle.dcsctp_machine.specs.Past.{Has}
 use Rattle.dcsctp_machine.specs.Sockets.{of_side, turns_after}
 use Rattle.dcsctp_machine.proofs.AlongLemmas.{run_along}
 use Rattle.dcsctp_machine.proofs.ControlHandshake.{init_ack_controlled, cookie_ack_controlled, abort_controlled}
+use Rattle.dcsctp_machine.proofs.ControlEnds.{shutdown_ack_controlled, shutdown_complete_controlled}
 use Rattle.dcsctp_machine.proofs.ControlEcho.{cookie_echo_controlled}
 use Rattle.dcsctp_machine.proofs.ControlLemmas.{begin_stands}
 use Rattle.dcsctp_machine.proofs.PlainLemmas.{plain_controlled}
@@ -119,8 +120,8 @@ chunk_ends law e tag cookie_ack t h = by_chunk law e tag cookie_ack t h.is (cook
 chunk_ends law e tag (re_config parameters) t h = by_chunk law e tag (re_config parameters) t h.is h.comes
 chunk_ends law e tag (abort reflected causes) t h = by_chunk law e tag (abort reflected causes) t h.is (abort_controlled e tag reflected causes t.outcome h.comes)
 chunk_ends law e tag (shutdown tsn) t h = by_chunk law e tag (shutdown tsn) t h.is h.comes
-chunk_ends law e tag shutdown_ack t h = by_chunk law e tag shutdown_ack t h.is h.comes
-chunk_ends law e tag (shutdown_complete reflected) t h = by_chunk law e tag (shutdown_complete reflected) t h.is h.comes
+chunk_ends law e tag shutdown_ack t h = by_chunk law e tag shutdown_ack t h.is (shutdown_ack_controlled e tag t.outcome h.comes)
+chunk_ends law e tag (shutdown_complete reflected) t h = by_chunk law e tag (shutdown_complete reflected) t h.is (shutdown_complete_controlled e tag reflected t.outcome h.comes)
 chunk_ends law e tag (plain chunk) t h = by_chunk law e tag (plain chunk) t h.is (plain_controlled e tag chunk t.outcome h.comes)
 
 -- the laws that this rests on

@@ -1,6 +1,6 @@
--- Two sockets agree.
+-- Two sockets agree, along an honest run.
 use Rattle.std.proofs.Common.{◌≡◌, List, [], ◌∷◌, ◌++◌, refl, sym, subst, ap, ◌∙◌}
-use Rattle.dcsctp_machine.specs.Schedule.{StepContent, ActContent, step_act}
+use Rattle.dcsctp_machine.specs.Schedule.{StepContent, ActContent, step_act, outside_act, IsHonestAct, AreHonest}
 use Rattle.dcsctp_machine.specs.declared.options.Options.{Options}
 use Rattle.dcsctp_machine.specs.declared.schedule.Side.{Side}
 use Rattle.dcsctp_machine.specs.declared.schedule.Side.TheVariants as sides
@@ -8,18 +8,16 @@ use Rattle.dcsctp_machine.specs.Settings.{IsValid, FitsOptions}
 use Rattle.dcsctp_machine.specs.Offer.{offer_of, negotiated}
 use Rattle.dcsctp_machine.specs.CallTurns.{Turned, pairs_of}
 use Rattle.dcsctp_machine.specs.control.Effect.{Link, Effect, noted}
-use Rattle.dcsctp_machine.specs.Past.{Each, InPlace}
+use Rattle.dcsctp_machine.specs.Past.{Each}
 use Rattle.dcsctp_machine.specs.World as machine
 use Rattle.dcsctp_machine.specs.World.{SideState, fresh_side, at_a, at_b, world_after, Run, Moved, MovesMade, after_moves, with_moves}
-use Rattle.dcsctp_machine.specs.Sockets.{Worked, Both, side_of, of_side, of_other, with_turns, turns_after, endpoint_after, packets_shown, StepTurns, SocketRun, side_of_act, NextTurns}
+use Rattle.dcsctp_machine.specs.Sockets.{Worked, Both, side_of, of_side, of_other, with_turns, turns_after, endpoint_after, packets_shown, StepTurns, SocketRun, side_of_act, NextTurns, acts_of}
 use Rattle.dcsctp_machine.proofs.TurnLemmas.{pairs_of-append}
-use Rattle.dcsctp_agreement.specs.Agreement.{FindsCrossed, FindsPerformed, BothAgree, RunsAlone, SidesAgree, SidesRunAlone}
-use Rattle.dcsctp_agreement.specs.OneSide.{EffectsInPlace}
+use Rattle.dcsctp_agreement.specs.Agreement.{FindsCrossed, FindsPerformed, BothAgree, SidesAgree}
 use Rattle.dcsctp_refinement.specs.Agreement.{noted_past, HasDistinctTags, FindsHeld, Agree, AreUsable, AreFresh, SocketsAgree}
 use Rattle.dcsctp_refinement.proofs.Follow.{Followed, each_connected_map}
 use Rattle.dcsctp_refinement.proofs.Fresh.{distinct_front}
-use Rattle.dcsctp_refinement.specs.OneSocket.{SocketEffectsInPlace}
-use Rattle.dcsctp_refinement.proofs.NotedLemmas.{in_place-noted, performed-noted}
+use Rattle.dcsctp_refinement.proofs.NotedLemmas.{performed-noted}
 use Rattle.dcsctp_refinement.proofs.Moves.{Below, SideMoves}
 use Rattle.dcsctp_refinement.proofs.StepMoves.{step_moves}
 
@@ -100,13 +98,15 @@ stepped law options turns step more sides.B are h done =
     let world : machine.World = world_after options.a options.b h.steps in
     moved_b options turns more h (step_moves law options.b options.a turns.b turns.a world.b world.a step more h.b h.a (are sides.A).fits done)
 
-acted : Below → (options : Both Options) (turns : Both (List Turned)) (act : ActContent) (more : List Turned) → AreUsable options → Joined options turns → NextTurns options turns act more
-    → Joined options (with_turns (side_of_act act) more turns)
-acted law options turns (step_act step) more are h done = stepped law options turns step more (side_of step) are h done
+acted : Below → (options : Both Options) (turns : Both (List Turned)) (act : ActContent) (more : List Turned) → AreUsable options → IsHonestAct act → Joined options turns
+    → NextTurns options turns act more → Joined options (with_turns (side_of_act act) more turns)
+acted law options turns (step_act step) more are honest h done = stepped law options turns step more (side_of step) are h done
+acted law options turns (outside_act outside) more are honest h done = absurd honest
 
-pub joined : Below → (options : Both Options) (run : List Worked) → AreUsable options → SocketRun options run → Joined options (turns_after run)
-joined law options [] are runs = record { steps = []; is_run = tt; a = fresh options.a (are sides.A).valid (are sides.A).fits; b = fresh options.b (are sides.B).valid (are sides.B).fits }
-joined law options (worked ∷ earlier) are runs = acted law options (turns_after earlier) worked.act worked.turns are (joined law options earlier are runs.1) runs.0
+pub joined : Below → (options : Both Options) (run : List Worked) → AreUsable options → SocketRun options run → AreHonest (acts_of run) → Joined options (turns_after run)
+joined law options [] are runs honest = record { steps = []; is_run = tt; a = fresh options.a (are sides.A).valid (are sides.A).fits; b = fresh options.b (are sides.B).valid (are sides.B).fits }
+joined law options (worked ∷ earlier) are runs honest =
+    acted law options (turns_after earlier) worked.act worked.turns are honest.0 (joined law options earlier are runs.1 honest.1) runs.0
 
 -- What a side finds in the machine, a socket finds.
 finds : (mine theirs : Options) (my_side their_side : SideState) (turns : List Turned) (link : Link) → my_side.options ≡ mine → Followed theirs turns their_side
@@ -127,9 +127,10 @@ resets mine theirs my_side their_side turns others h k each =
     subst (λ (past : List Effect). Each (FindsPerformed (noted_past others)) past) h.past
     (subst (λ (past : List Effect). Each (FindsPerformed past) (noted my_side.past)) k.past (performed-noted their_side.past my_side.past each))
 
-agree_now : Below → SidesAgree → (options : Both Options) (run : List Worked) → AreUsable options → SocketRun options run → AreFresh (turns_after run) → Agree options (turns_after run)
-agree_now law agree options run are runs tags =
-    let h : Joined options (turns_after run) = joined law options run are runs in
+agree_now : Below → SidesAgree → (options : Both Options) (run : List Worked) → AreUsable options → SocketRun options run → AreFresh (turns_after run) → AreHonest (acts_of run)
+    → Agree options (turns_after run)
+agree_now law agree options run are runs tags honest =
+    let h : Joined options (turns_after run) = joined law options run are runs honest in
     let world : machine.World = world_after options.a options.b h.steps in
     let both : BothAgree world = agree options.a options.b h.steps h.is_run (h.a.fresh tags.a) (h.b.fresh tags.b) in
     record {
@@ -145,23 +146,8 @@ fresh_before sides.A more turns h = record { a = distinct_front (pairs_of turns.
 fresh_before sides.B more turns h = record { a = h.a; b = distinct_front (pairs_of turns.b) (pairs_of more) (subst HasDistinctTags (pairs_of-append turns.b more) h.b) }
 
 pub sockets_agree : Below → SidesAgree → SocketsAgree
-sockets_agree law agree options [] are runs tags = agree_now law agree options [] are runs tags
+sockets_agree law agree options [] are runs tags = agree_now law agree options [] are runs tags tt
 sockets_agree law agree options (worked ∷ earlier) are runs tags = (
-  agree_now law agree options (worked ∷ earlier) are runs tags,
+  (λ honest. agree_now law agree options (worked ∷ earlier) are runs tags honest),
   sockets_agree law agree options earlier are runs.1 (fresh_before (side_of_act worked.act) worked.turns (turns_after earlier) tags),
 )
-
--- ---- the effects of each socket
-
-in_place : (options : Options) (turns : List Turned) (side : SideState) → Followed options turns side → Each InPlace side.past → Each InPlace (noted_past turns)
-in_place options turns side h each = subst (Each InPlace) h.past (in_place-noted side.past each)
-
-pub socket_effects_in_place : Below → EffectsInPlace → SidesRunAlone → SocketEffectsInPlace
-socket_effects_in_place law places alone options run are runs sides.A =
-    let h : Joined options (turns_after run) = joined law options run are runs in
-    let own : RunsAlone options.a options.b h.steps = alone options.a options.b h.steps h.is_run in
-    in_place options.a (turns_after run).a _ h.a (subst (λ (side : SideState). Each InPlace side.past) (sym own.a) (places options.a _ own.a_is_run))
-socket_effects_in_place law places alone options run are runs sides.B =
-    let h : Joined options (turns_after run) = joined law options run are runs in
-    let own : RunsAlone options.a options.b h.steps = alone options.a options.b h.steps h.is_run in
-    in_place options.b (turns_after run).b _ h.b (subst (λ (side : SideState). Each InPlace side.past) (sym own.b) (places options.b _ own.b_is_run))

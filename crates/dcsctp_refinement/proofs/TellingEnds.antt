@@ -18,6 +18,7 @@ use Rattle.dcsctp_machine.specs.Laws.{ActsAreControlled}
 use Rattle.dcsctp_machine.specs.World.{ControlTurn, acted, worked}
 use Rattle.dcsctp_machine.proofs.AlongLemmas.{run_along}
 use Rattle.dcsctp_machine.proofs.ControlHandshake.{init_ack_controlled, cookie_ack_controlled, abort_controlled}
+use Rattle.dcsctp_machine.proofs.ControlEnds.{shutdown_ack_controlled, shutdown_complete_controlled}
 use Rattle.dcsctp_machine.proofs.ControlEcho.{cookie_echo_controlled}
 use Rattle.dcsctp_machine.proofs.ControlLemmas.{begin_stands}
 use Rattle.dcsctp_machine.proofs.PlainLemmas.{plain_controlled}
@@ -129,8 +130,8 @@ chunk_tells law e tag cookie_ack t h = by_chunk law e tag cookie_ack t (cookie_a
 chunk_tells law e tag (re_config parameters) t h = by_chunk law e tag (re_config parameters) t h.comes
 chunk_tells law e tag (abort reflected causes) t h = by_chunk law e tag (abort reflected causes) t (abort_controlled e tag reflected causes t.outcome h.comes)
 chunk_tells law e tag (shutdown tsn) t h = by_chunk law e tag (shutdown tsn) t h.comes
-chunk_tells law e tag shutdown_ack t h = by_chunk law e tag shutdown_ack t h.comes
-chunk_tells law e tag (shutdown_complete reflected) t h = by_chunk law e tag (shutdown_complete reflected) t h.comes
+chunk_tells law e tag shutdown_ack t h = by_chunk law e tag shutdown_ack t (shutdown_ack_controlled e tag t.outcome h.comes)
+chunk_tells law e tag (shutdown_complete reflected) t h = by_chunk law e tag (shutdown_complete reflected) t (shutdown_complete_controlled e tag reflected t.outcome h.comes)
 chunk_tells law e tag (plain chunk) t h = by_chunk law e tag (plain chunk) t (plain_controlled e tag chunk t.outcome h.comes)
 
 still_rests : (e : Endpoint) → Rests e (still e)

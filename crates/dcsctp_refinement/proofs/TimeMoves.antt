@@ -28,7 +28,7 @@ longest_again p n (cookie_wait my) choices = refl
 longest_again p n (cookie_echoed my held cookie) choices = refl
 longest_again p n (open_in phase my held) choices = refl
 
-longest_expires : (again : Bool) (p : Options) (n : ℕ) (core : Core) (choices : Choices)
+pub longest_expires : (again : Bool) (p : Options) (n : ℕ) (core : Core) (choices : Choices)
     → act_change (record p { max_message_size = n }) core (t1_expires again) choices ≡ act_change p core (t1_expires again) choices
 longest_expires true p n core choices = longest_again p n core choices
 longest_expires false p n core choices = refl

@@ -14,7 +14,7 @@ use Rattle.dcsctp_machine.specs.Endpoint.{Endpoint, Core, closed, cookie_wait, c
 use Rattle.dcsctp_machine.specs.Outcome.{Outcome, noting, still, quiet, sends, emits, fits, drawing}
 use Rattle.dcsctp_machine.specs.Turn.{ContentTurn}
 use Rattle.dcsctp_machine.specs.turns.FlushOutcomes.{allows_packet, flush_outcome}
-use Rattle.dcsctp_machine.specs.turns.EndOutcomes.{ended_outcome, abort_outcome}
+use Rattle.dcsctp_machine.specs.turns.EndOutcomes.{ended_outcome, abort_outcome, reflected_outcome, ShutdownAckTurn, ShutdownCompleteTurn}
 use Rattle.dcsctp_machine.specs.turns.HandshakeOutcomes.{pair_from, renewed_pair, cookie_for, init_ack_emission, init_outcome, init_emission, awaits_init_ack, connect_outcome, no_cookie_text, abort_emission, queue_anew, awaits_cookie_ack, echo_emission, accepted_init_ack_outcome, init_ack_outcome, connected_after, cookie_ack_outcome}
 use Rattle.dcsctp_machine.specs.turns.CookieEchoOutcomes.{established_by, establish_outcome, interleaves, restart_outcome_where, maintain_outcome, resolved_outcome, cookie_echo_outcome}
 use Rattle.dcsctp_machine.specs.control.Effect.{Link, Effect, holds, connects, link_of}
@@ -24,9 +24,9 @@ use Rattle.dcsctp_machine.specs.Laws.{FitsPair, OfferReadsBack}
 use Rattle.dcsctp_machine.specs.declared.capabilities.Capabilities.{Capabilities}
 use Rattle.dcsctp_machine.specs.Offer.{offer_of, negotiated}
 use Rattle.dcsctp_machine.specs.Fitting.{AllSent, FitsHeld, FitsCore, FitsEndpoint, IsSendable, Sendable, TurnFits}
-use Rattle.dcsctp_machine.proofs.PlainLemmas.{plain_fits}
 use Rattle.dcsctp_machine.proofs.FlushLemmas.{init_ack_turn_now, cookie_echo_turn_now, cookie_ack_turn_now}
 use Rattle.dcsctp_refinement.proofs.Bytes.{ReadPairs, read_pairs_fit}
+use Rattle.dcsctp_refinement.proofs.PlainFits.{plain_fits}
 use Rattle.dcsctp_refinement.proofs.Sendable.{init_sendable, init_ack_sendable, echo_sendable, ack_sendable, abort_sendable}
 use Rattle.dcsctp_refinement.proofs.Sent.{all_sent_append}
 
@@ -198,18 +198,46 @@ abort_fits e causes (open_in phase my held) h = record { after = record { valid 
 
 -- ---- each chunk that is read of what a socket sent
 
-pub turn_fits : OfferReadsBack → (e : Endpoint) (tag : ℕ) (content : Content) (o : Outcome) → ContentTurn e tag content o → FitsEndpoint e → Sendable content → TurnFits o
-turn_fits law e tag (init theirs) o turn h good = subst TurnFits (sym turn.2) (init_fits law e theirs e.core turn.0 turn.1 h h.core good.said.0)
-turn_fits law e tag (init_ack theirs cookie) o turn h good =
+-- A SHUTDOWN COMPLETE goes out under the tag of the packet.
+reflected_fits : (e : Endpoint) (tag : ℕ) → FitsEndpoint e → tag < 2 ^ 32 → TurnFits (reflected_outcome e tag)
+reflected_fits e tag h fits =
+    record {
+      after = record { valid = h.valid; options = h.options; core = h.core; t1 = h.t1 };
+      sends = (record { tag = fits; contents = (record { fits = tt; reads = refl; said = tt }, tt) }, tt);
+    }
+
+shutdown_ack_fits : (e : Endpoint) (core : Core) (tag : ℕ) (o : Outcome) → ShutdownAckTurn e core tag o → FitsEndpoint e → FitsCore core → tag < 2 ^ 32 → TurnFits o
+shutdown_ack_fits e closed tag o turn h own fits = subst TurnFits (sym turn) (reflected_fits e tag h fits)
+shutdown_ack_fits e (cookie_wait my) tag o turn h own fits = subst TurnFits (sym turn) (reflected_fits e tag h fits)
+shutdown_ack_fits e (cookie_echoed my held cookie) tag o turn h own fits = subst TurnFits (sym turn) (reflected_fits e tag h fits)
+shutdown_ack_fits e (open_in established my held) tag o turn h own fits = subst TurnFits (sym turn) (reflected_fits e tag h fits)
+shutdown_ack_fits e (open_in shutdown_pending my held) tag o turn h own fits = absurd own
+shutdown_ack_fits e (open_in shutdown_sent my held) tag o turn h own fits = absurd own
+shutdown_ack_fits e (open_in shutdown_received my held) tag o turn h own fits = absurd own
+shutdown_ack_fits e (open_in shutdown_ack_sent my held) tag o turn h own fits = absurd own
+
+shutdown_complete_fits : (e : Endpoint) (core : Core) (tag : ℕ) (reflected : Bool) (o : Outcome) → ShutdownCompleteTurn e core tag reflected o → FitsEndpoint e → FitsCore core → TurnFits o
+shutdown_complete_fits e closed tag reflected o turn h own = subst TurnFits (sym turn) (still_fits e h)
+shutdown_complete_fits e (cookie_wait my) tag reflected o turn h own = subst TurnFits (sym turn) (still_fits e h)
+shutdown_complete_fits e (cookie_echoed my held cookie) tag reflected o turn h own = subst TurnFits (sym turn) (still_fits e h)
+shutdown_complete_fits e (open_in established my held) tag reflected o turn h own = subst TurnFits (sym turn) (still_fits e h)
+shutdown_complete_fits e (open_in shutdown_pending my held) tag reflected o turn h own = absurd own
+shutdown_complete_fits e (open_in shutdown_sent my held) tag reflected o turn h own = absurd own
+shutdown_complete_fits e (open_in shutdown_received my held) tag reflected o turn h own = absurd own
+shutdown_complete_fits e (open_in shutdown_ack_sent my held) tag reflected o turn h own = absurd own
+
+pub turn_fits : OfferReadsBack → (e : Endpoint) (tag : ℕ) (content : Content) (o : Outcome) → ContentTurn e tag content o → FitsEndpoint e → tag < 2 ^ 32 → Sendable content → TurnFits o
+turn_fits law e tag (init theirs) o turn h tagged good = subst TurnFits (sym turn.2) (init_fits law e theirs e.core turn.0 turn.1 h h.core good.said.0)
+turn_fits law e tag (init_ack theirs cookie) o turn h tagged good =
     let now : (word : ℕ) × (o ≡ init_ack_outcome e theirs cookie e.core word) = init_ack_turn_now e theirs cookie o turn in
     subst TurnFits (sym now.1) (init_ack_fits e theirs cookie e.core now.0 h h.core good)
-turn_fits law e tag (cookie_echo bytes) o turn h good =
+turn_fits law e tag (cookie_echo bytes) o turn h tagged good =
     let now : (word : ℕ) × (o ≡ cookie_echo_outcome e e.core tag (cookie_at bytes) word) = cookie_echo_turn_now e tag bytes o turn in
     subst TurnFits (sym now.1) (echo_fits e e.core tag bytes (cookie_at bytes) now.0 refl h h.core good.fits)
-turn_fits law e tag cookie_ack o turn h good = subst TurnFits (sym (cookie_ack_turn_now e o turn)) (cookie_ack_fits e e.core h h.core)
-turn_fits law e tag (re_config parameters) o turn h good = absurd (cc)
-turn_fits law e tag (abort reflected causes) o turn h good = subst TurnFits (sym turn) (abort_fits e causes e.core h)
-turn_fits law e tag (shutdown cumulative_tsn) o turn h good = absurd (cc)
-turn_fits law e tag shutdown_ack o turn h good = absurd (cc)
-turn_fits law e tag (shutdown_complete reflected) o turn h good = absurd (cc)
-turn_fits law e tag (plain chunk) o turn h good = plain_fits e chunk o turn h good
+turn_fits law e tag cookie_ack o turn h tagged good = subst TurnFits (sym (cookie_ack_turn_now e o turn)) (cookie_ack_fits e e.core h h.core)
+turn_fits law e tag (re_config parameters) o turn h tagged good = absurd (cc)
+turn_fits law e tag (abort reflected causes) o turn h tagged good = subst TurnFits (sym turn) (abort_fits e causes e.core h)
+turn_fits law e tag (shutdown cumulative_tsn) o turn h tagged good = absurd (cc)
+turn_fits law e tag shutdown_ack o turn h tagged good = shutdown_ack_fits e e.core tag o turn h h.core tagged
+turn_fits law e tag (shutdown_complete reflected) o turn h tagged good = shutdown_complete_fits e e.core tag reflected o turn h h.core
+turn_fits law e tag (plain chunk) o turn h tagged good = plain_fits e chunk o turn h good

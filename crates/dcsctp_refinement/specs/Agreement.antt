@@ -1,9 +1,11 @@
--- What two sockets agree on, over every schedule that loses, repeats, delays and reorders their packets.
+-- What two sockets agree on, over every schedule that loses, repeats, delays and reorders their packets: as long as no act comes
+-- from outside.
 use Rattle.std.specs.Prelude.{◌≡◌, ◌≢◌, Some, List, [], ◌∷◌, ◌⊎◌}
 use Rattle.std.specs.List.{AllByRecursion}
 use Rattle.dcsctp_machine.specs.declared.association.Pair.{Pair}
 use Rattle.dcsctp_machine.specs.declared.options.Options.{Options}
 use Rattle.dcsctp_machine.specs.declared.schedule.Side.{Side}
+use Rattle.dcsctp_machine.specs.Schedule.{AreHonest}
 use Rattle.dcsctp_machine.specs.Settings.{IsValid, FitsOptions}
 use Rattle.dcsctp_machine.specs.Offer.{offer_of, negotiated}
 use Rattle.dcsctp_machine.specs.Event.{Event, connected}
@@ -12,7 +14,7 @@ use Rattle.dcsctp_machine.specs.CallTurns.{Turned, effects_of, pairs_of}
 use Rattle.dcsctp_machine.specs.control.Effect.{Link, Effect, link_in}
 use Rattle.dcsctp_machine.specs.Past.{Each}
 use Rattle.dcsctp_machine.specs.World.{after_effects}
-use Rattle.dcsctp_machine.specs.Sockets.{Worked, Both, of_side, turns_after, SocketRun}
+use Rattle.dcsctp_machine.specs.Sockets.{Worked, Both, of_side, turns_after, SocketRun, acts_of}
 use Rattle.dcsctp_agreement.specs.Agreement.{IsCrossed, FindsPerformed}
 
 -- No verification tag is drawn twice.
@@ -76,11 +78,13 @@ pub record AreFresh (turns : Both (List Turned)) : Type 0 where
   pub a : HasDistinctTags (pairs_of turns.a)
   pub b : HasDistinctTags (pairs_of turns.b)
 
--- They agree at the end of each part of the run, from its beginning on: so each OnConnected, when it is told, finds
--- what the other side has done so far.
+-- They agree at the end of each part of the run, from its beginning on, that is honest: so each OnConnected, when it is
+-- told, finds what the other side has done so far. What came before the first act from outside is promised whatever
+-- comes behind it.
 abbrev pub AgreeThroughout : Both Options → List Worked → Type 0
 AgreeThroughout options [] = Agree options (turns_after [])
-AgreeThroughout options (worked ∷ earlier) = Agree options (turns_after (worked ∷ earlier)) × AgreeThroughout options earlier
+AgreeThroughout options (worked ∷ earlier) =
+    (AreHonest (acts_of (worked ∷ earlier)) → Agree options (turns_after (worked ∷ earlier))) × AgreeThroughout options earlier
 
 abbrev pub SocketsAgree : Type 0
 SocketsAgree =

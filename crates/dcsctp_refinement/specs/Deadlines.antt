@@ -1,4 +1,4 @@
--- Timers that run in every run of two sockets.
+-- Timers that run in every run of two sockets, whatever bytes they are handed.
 use Rattle.std.specs.Prelude.{List}
 use Rattle.dcsctp_machine.specs.declared.options.Options.{Options}
 use Rattle.dcsctp_machine.specs.declared.schedule.Side.{Side}

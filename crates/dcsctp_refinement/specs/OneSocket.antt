@@ -1,4 +1,5 @@
--- What holds of one socket of a run, by what its turns noted: the numbers of requests, by what they end, and how its ends are told.
+-- What holds of one socket of a run, whatever bytes it is handed, by what its turns noted: the numbers of requests, by what they
+-- end, and how its ends are told.
 use Rattle.std.specs.Prelude.{◌≡◌, ◌≢◌, ℕ, suc, List, [], ◌∷◌}
 use Rattle.std.specs.List.{AllByRecursion}
 use Rattle.dcsctp_wire.specs.declared.reconfiguration.ReconfigurationResponseResult.{ReconfigurationResponseResult}

@@ -7,17 +7,18 @@ ghost use Rattle.dcsctp_refinement.specs.Laws.{SocketLaws};
 ghost use Rattle.dcsctp_refinement.specs.OneSocket.{SocketEffectsInPlace, SocketRequestsEndByAnswers, SocketsTellEnds};
 
 use dcsctp_agreement::{
-    answers_end_requests, effects_in_place, effects_mean, ends_once, sides_agree, sides_run_alone,
+    answers_end_requests, effects_in_place, effects_mean, ends_once, sides_agree,
 };
 use dcsctp_machine::{
-    acts_are_controlled, admitted_packets_may_be_worked, answer_keeps_agreement, cookie_reads_back,
-    offer_reads_back, packets_are_controlled,
+    acts_are_controlled, admitted_packets_may_be_worked, answer_keeps_agreement,
+    chunks_are_controlled, cookie_reads_back, offer_reads_back, packets_are_controlled,
 };
 use dcsctp_wire::{built_packet_reads_as_itself, built_packet_reads_back};
 
-/// Two sockets agree, over every schedule that loses, repeats, delays and reorders their packets: each
-/// OnConnected finds that the other holds, or held, the crossed association with what the two have in
-/// common; each own request to reset streams that was performed finds that the other performed it.
+/// Two sockets agree, over every schedule that loses, repeats, delays and reorders their packets, as long as
+/// no act comes from outside: each OnConnected finds that the other holds, or held, the crossed association
+/// with what the two have in common; each own request to reset streams that was performed finds that the
+/// other performed it.
 pub fn sockets_agree()
     ensures { SocketsAgree }
 {
@@ -42,19 +43,15 @@ pub fn fitting_sockets_connect()
     cookie_reads_back();
 }
 
-/// What each socket of a run noted stands in its place: one holding connects at most once, the numbers of
-/// requests go up by one, and each accepted request is performed at most once (RFC 6525, section 4.1).
+/// What each socket of a run noted stands in its place, whatever bytes it was handed: one holding connects at
+/// most once, the numbers of requests go up by one, and each accepted request is performed at most once (RFC
+/// 6525, section 4.1).
 pub fn socket_effects_in_place()
     ensures { SocketEffectsInPlace }
 {
     effects_in_place();
-    sides_run_alone();
-    effects_mean();
+    chunks_are_controlled();
     acts_are_controlled();
-    packets_are_controlled();
-    admitted_packets_may_be_worked();
-    offer_reads_back();
-    built_packet_reads_as_itself();
 }
 
 /// An own request of a socket ends in the turn of an answer with its number, and in no other (RFC 6525,
@@ -76,17 +73,10 @@ pub fn sockets_tell_ends()
 }
 
 /// At each socket of a run that awaits an INIT ACK or a COOKIE ACK, T1 runs (RFC 9260, section 5.1): so
-/// whatever is lost, it wants to be told the time again.
+/// whatever is lost and whatever bytes it was handed, it wants to be told the time again.
 pub fn sockets_run_t1()
     ensures { SocketsRunT1 }
-{
-    effects_mean();
-    acts_are_controlled();
-    packets_are_controlled();
-    admitted_packets_may_be_worked();
-    offer_reads_back();
-    built_packet_reads_as_itself();
-}
+{}
 
 /// All that holds of the sockets of a run: the theorems above.
 pub fn socket_laws()

@@ -1,5 +1,5 @@
-//! What holds of two sockets over every schedule of calls and deliveries, from the bytes of their packets on,
-//! each the contract of a function without a body.
+//! What holds of two sockets over every list of acts, from the bytes of their packets on, each the contract
+//! of a function without a body: agreement of honest acts alone, all else whatever bytes are handed in.
 #![tactic(auto)]
 
 mod laws;

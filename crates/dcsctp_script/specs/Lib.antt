@@ -1,3 +1,4 @@
+pub mod Bytes
 pub mod Ending
 pub mod Number
 pub mod Script

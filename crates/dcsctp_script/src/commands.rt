@@ -7,18 +7,32 @@ use crate::script::Script;
 use crate::showing::{print_association, print_state, print_timeout};
 use crate::words::Words;
 use dcsctp_api::{DcSctpSocket, SocketEvent};
-use dcsctp_machine::{Call, Side, Step};
+use dcsctp_machine::{Call, Outside, Side, Step};
 use dcsctp_world::World;
+use std::alloc::Global;
 use std::io::{self, BufRead, Write};
 
 // The next command; none at the end of the script. No other line may come.
-fn next_command<R: BufRead>(script: &mut Script<R>) -> Result<Option<Command>, Failure> {
+fn next_command<R: BufRead>(
+    alloc: Global,
+    script: &mut Script<R>,
+) -> Result<Option<Command>, Failure> {
     let Some(text) = script.next_line()? else {
         return Ok(None);
     };
-    match parse_line(text) {
-        Some(Line::Command(command)) => Ok(Some(command)),
-        Some(Line::Setting(..)) | Some(Line::Words(..)) | None => Err(script.bad_line()),
+    match command_in(parse_line(alloc, text)?) {
+        Some(command) => Ok(Some(command)),
+        None => Err(script.bad_line()),
+    }
+}
+
+// The command that a line is, if it is one.
+fn command_in(line: Option<Line<'_>>) -> Option<Command> {
+    match line {
+        Some(Line::Command(command)) => Some(command),
+        Some(Line::Setting(..)) => None,
+        Some(Line::Words(..)) => None,
+        None => None,
     }
 }
 
@@ -81,13 +95,14 @@ impl Run {
     /// another way, or the writer in any.
     pub fn obey_all<R: BufRead, W: Write>(
         &mut self,
+        alloc: Global,
         first: Command,
         script: &mut Script<R>,
         output: &mut W,
     ) -> Result<(), Failure> {
         self.obey(first, output)?;
         for _ in 0..u64::MAX {
-            let Some(command) = next_command(script)? else {
+            let Some(command) = next_command(alloc, script)? else {
                 break;
             };
             self.obey(command, output)?;
@@ -102,24 +117,31 @@ impl Run {
             Command::Close(side) => self.apply(Step::Call(side, Call::Close))?,
             Command::Give(side, number) => self.apply(Step::Deliver(side, number))?,
             Command::Time(side, now) => self.apply(Step::Call(side, Call::AdvanceTime(now)))?,
-            Command::Show(_) | Command::State(_) | Command::Timeout(_) => {}
+            Command::Input(side, bytes) => self.hand_in(Outside::Input(side, bytes))?,
+            Command::Show(side) => written(self.print_association(side, output))?,
+            Command::State(side) => written(self.print_state(side, output))?,
+            Command::Timeout(side) => written(self.print_timeout(side, output))?,
         }
-        written(self.print(command, output))
+        written(self.print_events(output))
     }
 
-    // Prints what a command shows, and the new events.
-    fn print<W: Write>(&mut self, command: Command, output: &mut W) -> io::Result<()> {
-        match command {
-            Command::Connect(_) | Command::Close(_) | Command::Give(..) | Command::Time(..) => {}
-            Command::Show(side) => {
-                let association = self.world.socket(side).association();
-                print_association(side, association, output)?;
-            }
-            Command::State(side) => print_state(side, self.world.socket(side).state(), output)?,
-            Command::Timeout(side) => {
-                print_timeout(side, self.world.socket(side).poll_timeout(), output)?;
-            }
-        }
+    // Prints the association of this side.
+    fn print_association<W: Write>(&self, side: Side, output: &mut W) -> io::Result<()> {
+        print_association(side, self.world.socket(side).association(), output)
+    }
+
+    // Prints the state of this side.
+    fn print_state<W: Write>(&self, side: Side, output: &mut W) -> io::Result<()> {
+        print_state(side, self.world.socket(side).state(), output)
+    }
+
+    // Prints when this side wants to be told the time.
+    fn print_timeout<W: Write>(&self, side: Side, output: &mut W) -> io::Result<()> {
+        print_timeout(side, self.world.socket(side).poll_timeout(), output)
+    }
+
+    // Prints the new events.
+    fn print_events<W: Write>(&mut self, output: &mut W) -> io::Result<()> {
         self.a.print(Side::A, self.world.events(Side::A), output)?;
         self.b.print(Side::B, self.world.events(Side::B), output)
     }
@@ -127,6 +149,12 @@ impl Run {
     // Takes a step.
     fn apply(&mut self, step: Step) -> Result<(), Failure> {
         let _reply = self.world.apply(&step)?;
+        Ok(())
+    }
+
+    // Does what comes from outside.
+    fn hand_in(&mut self, outside: Outside) -> Result<(), Failure> {
+        let _reply = self.world.outside(outside)?;
         Ok(())
     }
 }

@@ -1,11 +1,12 @@
 //! Scripts: one command a line, on two sockets `A` and `B` that start closed.
 //!
 //! First come the lines that set options (`opt S name value`), then those that list random words
-//! (`words S w ..`), then the rest: `connect S`, `give S k`, `show S` and `state S`. After each
-//! command its events are printed, a line each. The first line that is none of these, or comes at
-//! the wrong place, ends the run.
+//! (`words S w ..`), then the rest: `connect S`, `close S`, `time S ms`, `give S k`, `input S hex`, `show
+//! S`, `state S` and `timeout S`. After each command its events are printed, a line each. The first line
+//! that is none of these, or comes at the wrong place, ends the run.
 #![tactic(auto)]
 
+mod bytes;
 mod commands;
 mod failure;
 mod line;

@@ -2,12 +2,14 @@
 
 ghost use Rattle.std.specs.Prelude.{◌≡◌, ◌↔◌, ◌*◌, Some, codes};
 
+use crate::bytes::bytes_of;
 use crate::number::number;
 use dcsctp_machine::{Side, SocketTime};
+use std::alloc::{AllocError, Global};
 use std::time::Duration;
 
 /// A command that runs.
-#[derive(Clone, Copy)]
+#[derive(Drop)]
 pub enum Command {
     /// The user of this socket begins an association.
     Connect(Side),
@@ -17,6 +19,9 @@ pub enum Command {
 
     /// This socket is handed the other's packet of this number.
     Give(Side, usize),
+
+    /// This socket is handed these bytes, from outside.
+    Input(Side, Vec<u8>),
 
     /// The association of this socket is printed.
     Show(Side),
@@ -32,7 +37,7 @@ pub enum Command {
 }
 
 /// A line.
-#[derive(Clone, Copy)]
+#[derive(Drop)]
 pub enum Line<'a> {
     /// The side's option of this name gets this value.
     Setting(Side, &'a str, &'a str),
@@ -46,14 +51,19 @@ pub enum Line<'a> {
 
 /// The line that a text is. Its second field always names a side.
 ///
-/// None where the keyword or the side is unknown, a field is missing or one too many, or the
-/// number of a packet or of milliseconds isn't one up to 2^64 - 1. The name and the value of an option and a list of
-/// words are not looked at here.
-pub fn parse_line(text: &str) -> Option<Line<'_>> {
-    let (keyword, rest) = text.split_once(' ')?;
+/// None where the keyword or the side is unknown, a field is missing or one too many, the number of a
+/// packet or of milliseconds isn't one up to 2^64 - 1, or bytes aren't written as such. The name and the
+/// value of an option and a list of words are not looked at here. The one error is want of memory.
+pub fn parse_line(alloc: Global, text: &str) -> Result<Option<Line<'_>>, AllocError> {
+    let Some((keyword, rest)) = text.split_once(' ') else {
+        return Ok(None);
+    };
     match rest.split_once(' ') {
-        None => plain_line(keyword, side(rest)?),
-        Some((name, rest)) => line_with_rest(keyword, side(name)?, rest),
+        None => Ok(plain_line(keyword, rest)),
+        Some((name, rest)) => match side(name) {
+            Some(side) => line_with_rest(alloc, keyword, side, rest),
+            None => Ok(None),
+        },
     }
 }
 
@@ -70,7 +80,8 @@ fn side(name: &str) -> Option<Side>
 }
 
 // A line of two fields.
-fn plain_line(keyword: &str, side: Side) -> Option<Line<'_>> {
+fn plain_line<'a>(keyword: &str, name: &str) -> Option<Line<'a>> {
+    let side = side(name)?;
     let command = match keyword {
         "connect" => Command::Connect(side),
         "close" => Command::Close(side),
@@ -82,8 +93,24 @@ fn plain_line(keyword: &str, side: Side) -> Option<Line<'_>> {
     Some(Line::Command(command))
 }
 
-// A line whose side is followed by more.
-fn line_with_rest<'a>(keyword: &str, side: Side, rest: &'a str) -> Option<Line<'a>> {
+// A line whose side is followed by more. The one error is want of memory.
+fn line_with_rest<'a>(
+    alloc: Global,
+    keyword: &str,
+    side: Side,
+    rest: &'a str,
+) -> Result<Option<Line<'a>>, AllocError> {
+    if keyword != "input" {
+        return Ok(line_with_text(keyword, side, rest));
+    }
+    match bytes_of(alloc, rest)? {
+        Some(bytes) => Ok(Some(Line::Command(Command::Input(side, bytes)))),
+        None => Ok(None),
+    }
+}
+
+// Such a line, but for one with bytes.
+fn line_with_text<'a>(keyword: &str, side: Side, rest: &'a str) -> Option<Line<'a>> {
     match keyword {
         "opt" => {
             let (name, value) = rest.split_once(' ')?;

@@ -59,11 +59,11 @@ fn run_lines<R: BufRead, W: Write>(
     output: &mut W,
 ) -> Result<(), Failure> {
     let mut setup = Setup::new(alloc);
-    let Some(first) = setup.read(script)? else {
+    let Some(first) = setup.read(alloc, script)? else {
         return Ok(());
     };
     let mut run = Run::new(setup.make_world(alloc)?);
-    run.obey_all(first, script, output)
+    run.obey_all(alloc, first, script, output)
 }
 
 // Writes the last line of a run that failed, if it has one.

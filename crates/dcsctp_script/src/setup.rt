@@ -75,14 +75,18 @@ impl Setup {
     ///
     /// `BadLine` says that a line is no line of a script, that an option stands behind words, that
     /// there is no such option or it may not have the value, or that a word is no number up to
-    /// 2^64 - 1. `OutOfMemory` says that there is no memory for a line or a word, and `Broken` that
+    /// 2^64 - 1. `OutOfMemory` says that there is no memory for a line, a word or bytes, and `Broken` that
     /// the reader failed.
-    pub fn read<R: BufRead>(&mut self, script: &mut Script<R>) -> Result<Option<Command>, Failure> {
+    pub fn read<R: BufRead>(
+        &mut self,
+        alloc: Global,
+        script: &mut Script<R>,
+    ) -> Result<Option<Command>, Failure> {
         for _ in 0..u64::MAX {
             let Some(text) = script.next_line()? else {
                 return Ok(None);
             };
-            let is_good = match parse_line(text) {
+            let is_good = match parse_line(alloc, text)? {
                 Some(Line::Setting(side, name, value)) => self.set(side, name, value),
                 Some(Line::Words(side, list)) => self.append(side, list)?,
                 Some(Line::Command(command)) => return Ok(Some(command)),

@@ -7,11 +7,15 @@ mod bad_lines;
 #[cfg(test)]
 mod checks;
 #[cfg(test)]
+mod chunks;
+#[cfg(test)]
 mod closing;
 #[cfg(test)]
 mod faults;
 #[cfg(test)]
 mod options;
+#[cfg(test)]
+mod outside;
 #[cfg(test)]
 mod printing;
 #[cfg(test)]

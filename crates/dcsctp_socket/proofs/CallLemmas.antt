@@ -7,7 +7,7 @@ use Rattle.dcsctp_wire.specs.Format.{IsPacket}
 use Rattle.dcsctp_machine.specs.Settings.{Ports, ports_of, wire_options}
 use Rattle.dcsctp_machine.specs.Event.{Event}
 use Rattle.dcsctp_machine.specs.Packet.{packet_in, Emission}
-use Rattle.dcsctp_machine.specs.Admission.{Admission, refused, admits}
+use Rattle.dcsctp_machine.specs.Admission.{Admission, shutdown_acks_alone, refused, admits}
 use Rattle.dcsctp_machine.specs.Endpoint.{Endpoint, Core}
 use Rattle.dcsctp_machine.specs.Outcome.{Outcome}
 use Rattle.dcsctp_machine.specs.Turn.{arrival, refusal, arrival_outcome, refusal_outcome, unreadable_text}
@@ -16,7 +16,7 @@ use Rattle.dcsctp_api.specs.Calls.{AddsFront, user_event}
 use Rattle.dcsctp_machine.proofs.TurnLemmas.{events_of-append}
 use Rattle.dcsctp_core.specs.View.{View, call_start, Moves, MovesAll, CutTurn}
 use Rattle.dcsctp_wire.specs.declared.packet.WireOptions.{WireOptions}
-use Rattle.dcsctp_socket.specs.Parts.{PacketMoves, InputMoves, PacketCut, InputCut}
+use Rattle.dcsctp_socket.specs.Parts.{AcksMove, PacketMoves, InputMoves, AcksCut, PacketCut, InputCut}
 use Rattle.dcsctp_core.proofs.Moving.{moves_one, moves_then}
 
 -- the turn of a packet that is handed in, and of one that is refused
@@ -35,6 +35,25 @@ refused_packet stream a b packet text is moves =
       turns = reported a.endpoint text ∷ [];
       are = subst (λ (x : Admission). AdmittedTurns a.endpoint (packet_in packet) x (reported a.endpoint text ∷ [])) (sym is) (record { is = refl; comes = refl }, tt);
       moves = moves_one stream a b (reported a.endpoint text) moves;
+    }
+
+-- A packet whose SHUTDOWN ACK chunks alone are worked has their turns.
+pub acks_worked : {R : Type 0} (stream : R → Stream) (a b : View R) (packet : PacketContent) → admits a.endpoint.core (packet_in packet) ≡ shutdown_acks_alone → AcksMove stream packet a b
+    → PacketMoves stream packet a b
+acks_worked stream a b packet is worked =
+    record {
+      turns = worked.turns;
+      are = subst (λ (x : Admission). AdmittedTurns a.endpoint (packet_in packet) x worked.turns) (sym is) worked.are;
+      moves = worked.moves;
+    }
+
+pub acks_cut : {R : Type 0} (a : View R) (packet : PacketContent) (events : List (Event (List ℕ))) → admits a.endpoint.core (packet_in packet) ≡ shutdown_acks_alone → AcksCut packet a events
+    → PacketCut packet a events
+acks_cut a packet events is cut =
+    record {
+      turns = cut.turns;
+      are = subst (λ (x : Admission). FirstAdmitted a.endpoint (packet_in packet) x cut.turns) (sym is) cut.are;
+      adds = cut.adds;
     }
 
 -- After the packet was counted, the rest of the call follows.
@@ -109,6 +128,17 @@ unreadable_input {R = R} stream old a b c bytes options text begins counted is n
 -- no turn was finished
 adds_none : (ports : Ports) (events : List (Event (List ℕ))) → AddsFront ports [] events events
 adds_none ports events = record { added = []; rest = []; behind = sym (append-nil events); front = refl }
+
+-- These turns were finished, and no event was added behind theirs.
+pub adds_whole : {R : Type 0} (stream : R → Stream) (a b : View R) (turns : List Turned) (events : List (Event (List ℕ))) → MovesAll stream a turns b → events ≡ b.events
+    → AddsFront (ports_of a.endpoint.options) turns a.events events
+adds_whole stream a b turns events moves same =
+    record {
+      added = map (user_event (ports_of a.endpoint.options)) (events_of turns);
+      rest = [];
+      behind = same ∙ moves.events;
+      front = append-nil (map (user_event (ports_of a.endpoint.options)) (events_of turns));
+    }
 
 -- The turns so far were finished, and the one after them was cut.
 pub adds_cut : {R : Type 0} (stream : R → Stream) (a b : View R) (turns : List Turned) (turn : Turned) (events : List (Event (List ℕ)))

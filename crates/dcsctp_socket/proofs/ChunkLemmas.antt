@@ -1,5 +1,5 @@
 -- Turns of chunks and of connect, from what their handlers say.
-use Rattle.std.proofs.Common.{◌≡◌, ℕ, Bool, true, false, List, [], ◌∷◌, refl, sym, ap, subst, ◌∙◌, Result, Ok, Err}
+use Rattle.std.proofs.Common.{◌≡◌, ℕ, Bool, true, false, None, List, [], ◌∷◌, refl, sym, ap, subst, ◌∙◌, Result, Ok, Err}
 use Rattle.std.proofs.lemmas.List.{append-nil}
 use Rattle.rand_core.specs.Stream.{Stream}
 use Rattle.dcsctp_wire.specs.Content.{ChunkContent}
@@ -11,6 +11,7 @@ use Rattle.dcsctp_machine.specs.Endpoint.{Endpoint, Core, closed, cookie_wait, c
 use Rattle.dcsctp_machine.specs.Following.{next_chunk}
 use Rattle.dcsctp_machine.specs.control.Acts.{connect}
 use Rattle.dcsctp_machine.specs.CallTurns.{Turned, turned}
+use Rattle.dcsctp_machine.specs.turns.PlainOutcomes.{violation_at, plain_outcome}
 use Rattle.dcsctp_machine.specs.turns.HandshakeOutcomes.{init_outcome, cookie_ack_outcome}
 use Rattle.dcsctp_machine.proofs.FlushLemmas.{cookie_ack_turn_of}
 use Rattle.dcsctp_api.specs.declared.errors.SocketFault.{SocketFault}
@@ -29,12 +30,12 @@ use Rattle.dcsctp_socket.specs.SocketView.{Settles, user_view_of}
 -- ---- a chunk that no handler works
 
 -- Nothing happens, and the chunk after it has its turn.
-pub rests : {R : Type 0} (stream : R → Stream) (view : View R) (tag : ℕ) (chunk : ChunkContent)
+pub rests : {R : Type 0} (stream : R → Stream) (view : View R) (tag : ℕ) (chunk : ChunkContent) → violation_at view.endpoint.core (unworked chunk) ≡ None
     → ChunkMoves stream tag (plain (unworked chunk)) view NextChunk view
-rests stream view tag chunk =
+rests stream view tag chunk none =
     record {
       outcome = still view.endpoint;
-      turn = refl;
+      turn = ap (plain_outcome view.endpoint view.endpoint.core (unworked chunk)) (sym none);
       following = refl;
       moves = moves_still stream view;
     }

@@ -7,25 +7,25 @@ use Rattle.dcsctp_machine.specs.Packet.{Content, content_in}
 use Rattle.dcsctp_machine.specs.Endpoint.{Endpoint}
 use Rattle.dcsctp_machine.specs.Outcome.{Outcome, still}
 use Rattle.dcsctp_machine.specs.Settings.{ports_of}
-use Rattle.dcsctp_machine.specs.Following.{dropped_rest}
+use Rattle.dcsctp_machine.specs.Following.{packet_end, dropped_rest}
 use Rattle.dcsctp_machine.specs.Turn.{packet_begins, chunk_input, packet_ends, BeginTurn, ContentTurn}
 use Rattle.dcsctp_machine.specs.CallTurns.{Turned, turned, IsTurn, Turns, ChunkTurns, FirstTurns, after_all}
-use Rattle.dcsctp_machine.proofs.TurnLemmas.{GoOn, chunk_turns-push, chunk_turns-end, chunk_turns-whole}
+use Rattle.dcsctp_machine.proofs.TurnLemmas.{GoOn, chunk_turns-push, chunk_turns-end, chunk_turns-cut, chunk_turns-whole, content_keeps_options, same_ports}
 use Rattle.rand_core.specs.Stream.{Stream}
 use Rattle.dcsctp_core.specs.declared.state.State.{State}
 use Rattle.dcsctp_core.specs.declared.state.State.TheVariants.{Closed, CookieWait, CookieEchoed, Established}
-use Rattle.dcsctp_core.specs.View.{View, core_of, MovesAll}
+use Rattle.dcsctp_core.specs.View.{View, core_of, Moves, MovesAll}
 use Rattle.dcsctp_core.proofs.Moving.{moves_one, moves_then, moves_still}
 
 -- what the chunks of a packet say
 abbrev pub contents_of : List Chunk → List Content
 contents_of chunks = map content_in (map chunk_content chunks)
 
-contents_append : (xs ys : List Chunk) → contents_of (xs ++ ys) ≡ contents_of xs ++ contents_of ys
+pub contents_append : (xs ys : List Chunk) → contents_of (xs ++ ys) ≡ contents_of xs ++ contents_of ys
 contents_append xs ys = ap (λ (cs : List ChunkContent). map content_in cs) (map-append chunk_content xs ys) ∙ map-append content_in (map chunk_content xs) (map chunk_content ys)
 
 -- what the chunks up to one place more say
-contents_more : (chunks : List Chunk) (i : ℕ) (chunk : Chunk) → i < length chunks → chunk ≡ get_or chunks i chunk
+pub contents_more : (chunks : List Chunk) (i : ℕ) (chunk : Chunk) → i < length chunks → chunk ≡ get_or chunks i chunk
     → contents_of (take (i + 1) chunks) ≡ contents_of (take i chunks) ++ content_in (chunk_content chunk) ∷ []
 contents_more chunks i chunk below is =
     let one : take (i + 1) chunks ≡ take i chunks ++ chunk ∷ [] = take_more chunks i chunk below ∙ ap (λ (c : Chunk). take i chunks ++ c ∷ []) (sym is) in
@@ -45,7 +45,7 @@ contents_split chunks i chunk below is =
 abbrev pub worked_as : ℕ → Content → Outcome → Turned
 worked_as tag content outcome = turned (chunk_input tag content) outcome
 
-is_worked : (e now : Endpoint) (tag : ℕ) (content : Content) (outcome : Outcome) → now ≡ e → ContentTurn now tag content outcome → IsTurn e (chunk_input tag content) (worked_as tag content outcome)
+pub is_worked : (e now : Endpoint) (tag : ℕ) (content : Content) (outcome : Outcome) → now ≡ e → ContentTurn now tag content outcome → IsTurn e (chunk_input tag content) (worked_as tag content outcome)
 is_worked e now tag content outcome here turn = record { is = refl; comes = subst (λ (x : Endpoint). ContentTurn x tag content outcome) here turn }
 
 -- One more chunk is worked.
@@ -100,12 +100,35 @@ pub moves_ended : {R : Type 0} (stream : R → Stream) (a b : View R) (turns : L
     → MovesAll stream a turns b → MovesAll stream a (turns ++ ended b.endpoint ∷ []) b
 moves_ended stream a b turns same m = moves_then stream a b b turns (ended b.endpoint ∷ []) same m (moves_one stream b b (ended b.endpoint) (moves_still stream b))
 
+-- a chunk's turn, and then the end of the packet
+pub moves_last : {R : Type 0} (stream : R → Stream) (a b : View R) (t : Turned) → Moves stream a t.outcome b → ports_of t.outcome.after.options ≡ ports_of a.endpoint.options
+    → MovesAll stream a (t ∷ ended b.endpoint ∷ []) b
+moves_last stream a b t moves same = moves_ended stream a b (t ∷ []) same (moves_one stream a b t moves)
+
+pub worked_keeps_ports : (e : Endpoint) (tag : ℕ) (content : Content) (o : Outcome) → ContentTurn e tag content o → ports_of o.after.options ≡ ports_of e.options
+worked_keeps_ports e tag content o turn = same_ports e.options o.after.options (content_keeps_options e tag content o turn)
+
 -- All chunks had their turns, and then the packet ended.
 pub turns_whole : (e now : Endpoint) (tag : ℕ) (contents : List Content) (turns : List Turned) → GoOn turns → ChunkTurns e tag contents [] turns → now ≡ after_all e turns
     → ChunkTurns e tag contents (packet_ends ∷ []) (turns ++ ended now ∷ [])
 turns_whole e now tag contents turns goes_on are here =
     chunk_turns-whole e tag contents (packet_ends ∷ []) turns (ended now ∷ []) goes_on are
     (subst (λ (x : Endpoint). Turns x (packet_ends ∷ []) (ended now ∷ [])) here (record { is = refl; comes = refl }, tt))
+
+-- One chunk cut the others, and then the packet ended.
+pub turns_cut : (e now : Endpoint) (tag : ℕ) (chunks : List Chunk) (i : ℕ) (chunk : Chunk) (turns : List Turned) (outcome : Outcome) (after : Endpoint)
+    → i < length chunks → chunk ≡ get_or chunks i chunk
+    → GoOn turns → ChunkTurns e tag (contents_of (take i chunks)) [] turns
+    → now ≡ after_all e turns
+    → ContentTurn now tag (content_in (chunk_content chunk)) outcome
+    → outcome.following ≡ packet_end → after ≡ outcome.after
+    → ChunkTurns e tag (contents_of chunks) (packet_ends ∷ []) (turns ++ worked_as tag (content_in (chunk_content chunk)) outcome ∷ ended after ∷ [])
+turns_cut e now tag chunks i chunk turns outcome after below is goes_on are here turn cuts led =
+    let content = content_in (chunk_content chunk) in
+    subst (λ (contents : List Content). ChunkTurns e tag contents (packet_ends ∷ []) (turns ++ worked_as tag content outcome ∷ ended after ∷ [])) (sym (contents_split chunks i chunk below is))
+    (chunk_turns-cut e tag (contents_of (take i chunks)) (packet_ends ∷ []) turns content (worked_as tag content outcome) (contents_of (drop (i + 1) chunks)) (ended after ∷ []) goes_on are
+    (is_worked (after_all e turns) now tag content outcome here turn) cuts
+    (subst (λ (x : Endpoint). Turns x (packet_ends ∷ []) (ended after ∷ [])) led (record { is = refl; comes = refl }, tt)))
 
 -- ---- where a growth was refused
 

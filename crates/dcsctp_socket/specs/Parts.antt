@@ -1,16 +1,18 @@
 -- What the calls of a socket do, by its parts.
 use Rattle.std.specs.Prelude.{◌≡◌, ℕ, Result, Ok, Err, List, [], ◌∷◌}
+use Rattle.std.specs.List.{AllByRecursion}
 use Rattle.rand_core.specs.Stream.{Stream}
 use Rattle.dcsctp_wire.specs.Content.{PacketContent}
-use Rattle.dcsctp_machine.specs.Admission.{admits}
+use Rattle.dcsctp_machine.specs.Admission.{admits, shutdown_acks_in}
 use Rattle.dcsctp_machine.specs.Packet.{Content, packet_in}
 use Rattle.dcsctp_machine.specs.Endpoint.{Endpoint}
+use Rattle.dcsctp_machine.specs.Following.{next_chunk}
 use Rattle.dcsctp_machine.specs.Outcome.{Outcome}
 use Rattle.dcsctp_machine.specs.Settings.{ports_of}
 use Rattle.dcsctp_machine.specs.Event.{Event}
 use Rattle.dcsctp_machine.specs.Turn.{ContentTurn, act_input}
 use Rattle.dcsctp_machine.specs.control.Acts.{Act, connect}
-use Rattle.dcsctp_machine.specs.CallTurns.{Turned, Turns, WholeTurns, AdmittedTurns, HandleInput, FirstOfWhole, FirstAdmitted, CutInput}
+use Rattle.dcsctp_machine.specs.CallTurns.{Turned, Turns, ChunkTurns, WholeTurns, AdmittedTurns, HandleInput, FirstTurns, FirstOfWhole, FirstAdmitted, CutInput}
 use Rattle.dcsctp_api.specs.Calls.{AddsFront}
 use Rattle.dcsctp_core.specs.declared.context.Context.{Context}
 use Rattle.dcsctp_core.specs.View.{View, view_of, call_start, Moves, MovesAll, CallMoves, CutTurn}
@@ -28,6 +30,19 @@ pub record ChunkMoves {R : Type 0} (stream : R → Stream) (tag : ℕ) (content 
 pub record ChunksMove {R : Type 0} (stream : R → Stream) (packet : PacketContent) (old new : View R) : Type 0 where
   pub turns : List Turned
   pub are : WholeTurns old.endpoint (packet_in packet) turns
+  pub moves : MovesAll stream old turns new
+
+-- A chunk had its turn, where it is a SHUTDOWN ACK, and those behind it may have theirs.
+pub record AckMoves {R : Type 0} (stream : R → Stream) (tag : ℕ) (content : Content) (old new : View R) : Type 0 where
+  pub turns : List Turned
+  pub goes_on : AllByRecursion (λ turn. turn.outcome.following ≡ next_chunk) turns
+  pub are : ChunkTurns old.endpoint tag (shutdown_acks_in (content ∷ [])) [] turns
+  pub moves : MovesAll stream old turns new
+
+-- The SHUTDOWN ACK chunks of a packet had their turns.
+pub record AcksMove {R : Type 0} (stream : R → Stream) (packet : PacketContent) (old new : View R) : Type 0 where
+  pub turns : List Turned
+  pub are : ChunkTurns old.endpoint packet.verification_tag (shutdown_acks_in (packet_in packet).contents) [] turns
   pub moves : MovesAll stream old turns new
 
 -- A packet that was counted was admitted and worked, or refused.
@@ -72,6 +87,12 @@ pub record ChunksCut {R : Type 0} (packet : PacketContent) (old : View R) (event
   pub are : FirstOfWhole old.endpoint (packet_in packet) turns
   pub adds : AddsFront (ports_of old.endpoint.options) turns old.events events
 
+-- Some SHUTDOWN ACK chunks of a packet had their turns.
+pub record AcksCut {R : Type 0} (packet : PacketContent) (old : View R) (events : List (Event (List ℕ))) : Type 0 where
+  pub turns : List Turned
+  pub are : FirstTurns old.endpoint packet.verification_tag (shutdown_acks_in (packet_in packet).contents) turns
+  pub adds : AddsFront (ports_of old.endpoint.options) turns old.events events
+
 -- A packet that was counted had some of its turns.
 pub record PacketCut {R : Type 0} (packet : PacketContent) (old : View R) (events : List (Event (List ℕ))) : Type 0 where
   pub turns : List Turned
@@ -99,6 +120,15 @@ WorksChunk stream tag content old (Err error) new = ChunkCut tag content (view_o
 abbrev pub WorksChunks : {R E : Type 0} → (R → Stream) → PacketContent → Context R → Result (Unit {0}) E → Context R → Type 0
 WorksChunks stream packet old (Ok done) new = ChunksMove stream packet (view_of old) (view_of new)
 WorksChunks stream packet old (Err error) new = ChunksCut packet (view_of old) (view_of new).events
+
+-- Where a growth was refused, nothing has changed.
+abbrev pub WorksAck : {R E : Type 0} → (R → Stream) → ℕ → Content → Context R → Result (Unit {0}) E → Context R → Type 0
+WorksAck stream tag content old (Ok done) new = AckMoves stream tag content (view_of old) (view_of new)
+WorksAck stream tag content old (Err error) new = view_of new ≡ view_of old
+
+abbrev pub WorksAcks : {R E : Type 0} → (R → Stream) → PacketContent → Context R → Result (Unit {0}) E → Context R → Type 0
+WorksAcks stream packet old (Ok done) new = AcksMove stream packet (view_of old) (view_of new)
+WorksAcks stream packet old (Err error) new = AcksCut packet (view_of old) (view_of new).events
 
 abbrev pub WorksPacket : {R E : Type 0} → (R → Stream) → PacketContent → Context R → Result (Unit {0}) E → Context R → Type 0
 WorksPacket stream packet old (Ok done) new = PacketMoves stream packet (view_of old) (view_of new)

@@ -8,59 +8,20 @@ ghost use Rattle.dcsctp_machine.specs.Settings.{wire_options};
 ghost use Rattle.dcsctp_machine.specs.TimeTurns.{Waits, next_moment};
 ghost use Rattle.dcsctp_api.specs.Calls.{is_closed};
 ghost use Rattle.dcsctp_core.specs.View.{core_of, endpoint_of};
-ghost use Rattle.dcsctp_socket.specs.Parts.{WorksChunk, WorksChunks, WorksPacket, WorksInput, WorksCall, ActTurns, WorksConnect};
+ghost use Rattle.dcsctp_socket.specs.Parts.{WorksChunks, WorksAck, WorksAcks, WorksPacket, WorksInput, WorksCall, ActTurns, WorksConnect};
 ghost use Rattle.dcsctp_socket.specs.TimeParts.{WorksTime};
 
 use crate::admission::{Admission, admit};
+use crate::dispatch::handle_chunk;
 use crate::texts::UNREADABLE;
 use dcsctp_api::{ErrorKind, Options, SocketTime};
 use dcsctp_core::{Context, Following};
-use dcsctp_ends::{abort_association, handle_abort};
-use dcsctp_handshake::{
-    do_connect, handle_cookie_ack, handle_cookie_echo, handle_init, handle_init_ack, handle_t1,
-};
+use dcsctp_ends::{abort_association, handle_shutdown_ack};
+use dcsctp_handshake::{do_connect, handle_t1};
 use dcsctp_machine::AbortReason;
 use dcsctp_wire::{Chunk, PacketError, SctpPacket, WireOptions};
 use rand_core::Rng;
 use std::alloc::AllocError;
-
-// Works a chunk of an admitted packet with this header tag, and says what follows it.
-fn handle_chunk<R: Rng>(
-    context: &mut Context<R>,
-    header_tag: u32,
-    chunk: &Chunk<'_>,
-) -> Result<Following, AllocError>
-    ensures { WorksChunk R.stream header_tag (content_in (chunk_content chunk.now)) context.old
-        result context.new }
-{
-    match chunk {
-        Chunk::Init(init) => {
-            handle_init(context, init)?;
-            Ok(Following::NextChunk)
-        }
-        Chunk::InitAck(init_ack) => handle_init_ack(context, init_ack),
-        Chunk::Abort(abort) => handle_abort(context, abort),
-        Chunk::CookieEcho(echo) => handle_cookie_echo(context, header_tag, echo),
-        Chunk::CookieAck => {
-            handle_cookie_ack(context)?;
-            Ok(Following::NextChunk)
-        }
-        // No handler works these yet.
-        Chunk::Data(_) => Ok(Following::NextChunk),
-        Chunk::Sack(_) => Ok(Following::NextChunk),
-        Chunk::HeartbeatRequest(_) => Ok(Following::NextChunk),
-        Chunk::HeartbeatAck(_) => Ok(Following::NextChunk),
-        Chunk::Shutdown(_) => Ok(Following::NextChunk),
-        Chunk::ShutdownAck => Ok(Following::NextChunk),
-        Chunk::Error(_) => Ok(Following::NextChunk),
-        Chunk::ShutdownComplete(_) => Ok(Following::NextChunk),
-        Chunk::IData(_) => Ok(Following::NextChunk),
-        Chunk::ReConfig(_) => Ok(Following::NextChunk),
-        Chunk::ForwardTsn(_) => Ok(Following::NextChunk),
-        Chunk::IForwardTsn(_) => Ok(Following::NextChunk),
-        Chunk::Unknown(_) => Ok(Following::NextChunk),
-    }
-}
 
 // Works the chunks of an admitted packet one after another, until one says that the rest is dropped.
 fn handle_chunks<R: Rng>(
@@ -73,8 +34,39 @@ fn handle_chunks<R: Rng>(
     for chunk in &packet.chunks {
         match handle_chunk(context, header_tag, chunk)? {
             Following::NextChunk => {}
+            Following::PacketEnd => return Ok(()),
             Following::DroppedRest => return Ok(()),
         }
+    }
+    Ok(())
+}
+
+// Works a chunk, where it is a SHUTDOWN ACK.
+fn work_shutdown_ack<R: Rng>(
+    context: &mut Context<R>,
+    header_tag: u32,
+    chunk: &Chunk<'_>,
+) -> Result<(), AllocError>
+    ensures { WorksAck R.stream header_tag (content_in (chunk_content chunk.now)) context.old result
+        context.new }
+{
+    if let Chunk::ShutdownAck = chunk {
+        handle_shutdown_ack(context, header_tag)?;
+        return Ok(());
+    }
+    Ok(())
+}
+
+// Works the SHUTDOWN ACK chunks of a packet, and nothing else of it.
+fn handle_shutdown_acks<R: Rng>(
+    context: &mut Context<R>,
+    packet: &SctpPacket<'_>,
+) -> Result<(), AllocError>
+    ensures { WorksAcks R.stream (packet_content packet.now) context.old result context.new }
+{
+    let header_tag = packet.common_header.verification_tag;
+    for chunk in &packet.chunks {
+        work_shutdown_ack(context, header_tag, chunk)?;
     }
     Ok(())
 }
@@ -88,6 +80,7 @@ fn handle_packet<R: Rng>(
 {
     match admit(&context.state, packet) {
         Admission::AllChunks => handle_chunks(context, packet)?,
+        Admission::ShutdownAcksAlone => handle_shutdown_acks(context, packet)?,
         Admission::Refused(refusal) => {
             let text = refusal.text(context.alloc)?;
             context.report(ErrorKind::ParseFailed, text)?;

@@ -34,8 +34,10 @@
 
 mod admission;
 mod calls;
+mod dispatch;
 mod socket;
 mod texts;
+mod unknown;
 
 pub use dcsctp_api as api;
 pub use dcsctp_api::{

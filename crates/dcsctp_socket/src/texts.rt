@@ -6,6 +6,13 @@ pub(crate) const UNREADABLE: &str = "Failed to parse SCTP packet";
 /// A packet has an ABORT, and the tag is wrong.
 pub(crate) const WRONG_ABORT_TAG: &str = "ABORT chunk verification tag was wrong";
 
+/// A packet has a SHUTDOWN COMPLETE, and the tag is wrong.
+pub(crate) const WRONG_SHUTDOWN_COMPLETE_TAG: &str =
+    "SHUTDOWN_COMPLETE chunk verification tag was wrong";
+
+/// A packet has a SHUTDOWN ACK, and the tag is wrong.
+pub(crate) const WRONG_SHUTDOWN_ACK_TAG: &str = "SHUTDOWN_ACK chunk verification tag was wrong";
+
 /// A packet has tag 0 and isn't one INIT.
 pub(crate) const NOT_A_SINGLE_INIT: &str =
     "Only a single INIT chunk can be present in packets sent on verification_tag = 0";

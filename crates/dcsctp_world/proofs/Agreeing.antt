@@ -22,12 +22,14 @@ use Rattle.dcsctp_world.specs.Run.{SideRuns, IsRun}
 use Rattle.dcsctp_api.specs.declared.errors.SocketFault.{SocketFault}
 use Rattle.dcsctp_api.specs.declared.errors.SocketFault.TheVariants.{OutOfMemory, Failed}
 use Rattle.dcsctp_world.specs.Acts.{Applies, Ran, Runs}
+use Rattle.dcsctp_world.proofs.Honest.{honest_run}
 use Rattle.dcsctp_world.specs.Agreement.{Agrees, ShowsConnected, BothConnected, HandshakeConnects}
 
 pub world_agrees : {R : Type 0} → SocketLaws → (options : Both Options) (world : WorldView R) → IsRun options world → Agrees options world
 world_agrees law options world h =
     record {
       is_run = h;
+      honest = honest_run world.acts (acts_of h.steps) h.acts;
       connect = λ fit side. law.connect options side h.steps h.usable fit h.run;
       numbers = λ side. law.numbers options h.steps h.usable h.run side;
       answers = λ side. law.answers options h.steps h.run side;

@@ -1,5 +1,6 @@
 mod Agreeing
 mod Applying
+mod Honest
 mod Keeping
 mod Running
 mod Stopping

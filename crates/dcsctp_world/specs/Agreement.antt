@@ -4,12 +4,13 @@ use Rattle.std.specs.List.{AllByRecursion}
 use Rattle.dcsctp_machine.specs.declared.association.Pair.{Pair}
 use Rattle.dcsctp_machine.specs.declared.options.Options.{Options}
 use Rattle.dcsctp_machine.specs.declared.schedule.Side.{Side}
+use Rattle.dcsctp_machine.specs.Schedule.{AreHonest}
 use Rattle.dcsctp_machine.specs.Endpoint.{open_in, established, fresh_endpoint}
 use Rattle.dcsctp_machine.specs.Offer.{offer_of, negotiated}
 use Rattle.dcsctp_machine.specs.control.HandshakeChanges.{new_held}
 use Rattle.dcsctp_machine.specs.CallTurns.{AlongTurns}
 use Rattle.dcsctp_machine.specs.Past.{Each, InPlace}
-use Rattle.dcsctp_machine.specs.Sockets.{Both, of_side, turns_after}
+use Rattle.dcsctp_machine.specs.Sockets.{Both, of_side, turns_after, acts_of}
 use Rattle.dcsctp_refinement.specs.Agreement.{HasDistinctTags, AgreeThroughout, noted_past}
 use Rattle.dcsctp_refinement.specs.Deadlines.{RunsT1}
 use Rattle.dcsctp_refinement.specs.Handshake.{handshake_acts, AreFitting, ConnectThroughout, connections}
@@ -17,14 +18,16 @@ use Rattle.dcsctp_refinement.specs.OneSocket.{EndsByAnswer, TellsEnd}
 use Rattle.dcsctp_world.specs.Shown.{SideShown, WorldView}
 use Rattle.dcsctp_world.specs.Run.{IsRun}
 
--- All that the world shows is what a run shows; and where no side drew a verification tag twice, each OnConnected
--- of the run, when it is told, finds that the other side holds, or held, the crossed association, and each own request that
--- was performed, that the other performed it. Where the sockets fit each other, the first five acts of a handshake connect
--- them, whatever comes later. What each side notes of connections and of the numbers of requests stands in its place, and an
--- own request ends by an answer with its number. A turn that ends an association tells it once, and no other turn tells an end.
--- A socket that awaits an INIT ACK or a COOKIE ACK has T1 running.
+-- All that the world shows is what a run shows. Where no side drew a verification tag twice, and no act came from outside
+-- up to there, each OnConnected of the run, when it is told, finds that the other side holds, or held, the crossed
+-- association, and each own request that was performed, that the other performed it. Where the sockets fit each other, the
+-- first five acts of a handshake connect them, whatever comes later. Whatever bytes came from outside: what each side notes of
+-- connections and of the numbers of requests stands in its place, an own request ends by an answer with its number, a turn
+-- that ends an association tells it once, and no other turn tells an end, and a socket that awaits an INIT ACK or a COOKIE
+-- ACK has T1 running.
 pub record Agrees {R : Type 0} (options : Both Options) (world : WorldView R) : Type 0 where
   pub is_run : IsRun options world
+  pub honest : AreHonest world.acts → AreHonest (acts_of is_run.steps)
   pub agree : HasDistinctTags world.sides.a.pairs → HasDistinctTags world.sides.b.pairs → AgreeThroughout options is_run.steps
   pub connect : AreFitting options → (side : Side) → ConnectThroughout options side is_run.steps
   pub numbers : (side : Side) → Each InPlace (noted_past (of_side side (turns_after is_run.steps)))

@@ -1,6 +1,6 @@
 -- How one side grows in an act.
 use Rattle.std.specs.Prelude.{◌≡◌, ℕ, true, false, Option, None, Some, Result, Ok, Err, List, [], ◌∷◌, ◌++◌, ◌⊎◌, map}
-use Rattle.dcsctp_machine.specs.Schedule.{CallContent, connect_call, close_call, ActContent, call_step, delivery_step, step_act, advance_call}
+use Rattle.dcsctp_machine.specs.Schedule.{CallContent, connect_call, close_call, ActContent, call_step, delivery_step, step_act, advance_call, OutsideContent, input_outside, outside_act}
 use Rattle.dcsctp_machine.specs.Event.{Event, packets_in}
 use Rattle.dcsctp_machine.specs.Endpoint.{Endpoint, association_of}
 use Rattle.dcsctp_machine.specs.Settings.{ports_of}
@@ -173,7 +173,12 @@ IsCallReply e connect_call reply = reply ≡ Done
 IsCallReply e close_call reply = reply ≡ Done
 IsCallReply e (advance_call moment) reply = reply ≡ Done
 
+-- It is what an act from outside answers.
+abbrev pub IsOutsideReply : OutsideContent → Reply → Type 0
+IsOutsideReply (input_outside side bytes) reply = reply ≡ Done
+
 -- It is what an act answers from this endpoint, where the other side has emitted these packets.
 abbrev pub IsReply : Endpoint → List (List ℕ) → ActContent → Reply → Type 0
 IsReply e packets (step_act (call_step side call)) reply = IsCallReply e call reply
 IsReply e packets (step_act (delivery_step side number)) reply = IsDeliveryReply (numbered number packets) reply
+IsReply e packets (outside_act outside) reply = IsOutsideReply outside reply

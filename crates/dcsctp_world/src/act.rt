@@ -1,10 +1,10 @@
-//! Where an act happens, and what its call answered.
+//! Where an act happens, what its call answered, and which acts are honest.
 
-ghost use Rattle.std.specs.Prelude.{◌≡◌};
-ghost use Rattle.dcsctp_machine.specs.Schedule.{act_content};
+ghost use Rattle.std.specs.Prelude.{◌≡◌, ◌↔◌, IsTrue, map};
+ghost use Rattle.dcsctp_machine.specs.Schedule.{act_content, AreHonest};
 ghost use Rattle.dcsctp_machine.specs.Sockets.{side_of_act};
 
-use dcsctp_machine::{Act, Side, Step};
+use dcsctp_machine::{Act, Outside, Side, Step};
 
 /// What the call of an act answered.
 #[derive(Clone, Copy, Debug, PartialEq, Eq)]
@@ -23,5 +23,18 @@ pub(crate) fn side_of(act: &Act) -> Side
     match act {
         Act::Step(Step::Call(side, _)) => *side,
         Act::Step(Step::Deliver(side, _)) => *side,
+        Act::Outside(Outside::Input(side, _)) => *side,
     }
+}
+
+/// Is each of these acts a step, and none from outside?
+pub(crate) fn are_honest(acts: &[Act]) -> bool
+    ensures { IsTrue result ↔ AreHonest (map act_content acts.now) }
+{
+    for act in acts {
+        if let Act::Outside(_) = act {
+            return false;
+        }
+    }
+    true
 }

@@ -2,7 +2,8 @@
 //!
 //! A `World` applies steps one after another. A step is a call of one socket's user, or the delivery of
 //! a packet that the other socket emitted: any of them, at any moment, as often as the schedule says. So
-//! a list of steps says what a network between two sockets may do: lose, repeat, delay and reorder.
+//! a list of steps says what a network between two sockets may do: lose, repeat, delay and reorder. What
+//! no such network does, as handing in bytes that no socket emitted, comes by an act from outside.
 #![tactic(auto)]
 
 mod act;
@@ -10,6 +11,6 @@ mod watched_socket;
 mod world;
 
 pub use act::Reply;
-pub use dcsctp_machine::{Act, Call, Side, Step};
+pub use dcsctp_machine::{Act, Call, Outside, Side, Step};
 pub use dcsctp_socket as socket;
 pub use world::World;

@@ -4,15 +4,17 @@ ghost use Rattle.std.specs.Prelude.{◌≡◌, [], ◌∷◌, IfOk, IsErrOf, IsO
 ghost use Rattle.std.specs.Option.{option_map};
 ghost use Rattle.dcsctp_machine.specs.Settings.{IsValid};
 ghost use Rattle.dcsctp_machine.specs.Schedule.{call_content, act_content};
+ghost use Rattle.dcsctp_machine.specs.CallTurns.{HandleInput};
 ghost use Rattle.dcsctp_machine.specs.Sockets.{numbered, UserTurns, DeliveryTurns, TurnsOfAct};
 ghost use Rattle.dcsctp_api.specs.Events.{event_content};
+ghost use Rattle.dcsctp_world.specs.declared.act.Reply.TheVariants.{Done};
 ghost use Rattle.dcsctp_socket.specs.SocketView.{user_view_of};
 ghost use Rattle.dcsctp_world.specs.Shown.{fresh_side};
 ghost use Rattle.dcsctp_world.specs.Growth.{Keeps, TakesAll, CollectsAll, Called, Calls, Works, Notes, IsReply, IsDeliveryReply};
 ghost use Rattle.dcsctp_world.specs.Parts.{packet_bytes, kept, shown};
 
 use crate::act::Reply;
-use dcsctp_machine::{Act, Call, Step};
+use dcsctp_machine::{Act, Call, Outside, Step};
 use dcsctp_socket::{Association, DcSctpSocket, Options, Pair, Socket, SocketEvent, SocketFault};
 use rand_core::Rng;
 use std::alloc::{AllocError, Global};
@@ -152,6 +154,17 @@ impl<R: Rng + Drop> WatchedSocket<R> {
         Ok(())
     }
 
+    // Hands over these bytes. The errors are as those of `call`.
+    fn hand_in(&mut self, bytes: &[u8]) -> Result<Reply, SocketFault>
+        requires { self.old.socket.view.events ≡ [] }
+        ensures { Works (HandleInput self.old.socket.view.endpoint bytes.now) (λ reply. reply ≡ Done)
+            (shown self.old) result (shown self.new) }
+    {
+        self.socket.handle_input(bytes)?;
+        self.keep_all()?;
+        Ok(Reply::Done)
+    }
+
     // Hands over the packet of this number, where there is one. The errors are as those of `call`.
     fn deliver(&mut self, packets: &[Vec<u8>], number: usize) -> Result<Reply, SocketFault>
         requires { self.old.socket.view.events ≡ [] }
@@ -161,11 +174,7 @@ impl<R: Rng + Drop> WatchedSocket<R> {
     {
         match packet_numbered(packets, number) {
             None => Ok(Reply::NoCall),
-            Some(packet) => {
-                self.socket.handle_input(packet)?;
-                self.keep_all()?;
-                Ok(Reply::Done)
-            }
+            Some(packet) => self.hand_in(packet),
         }
     }
 
@@ -183,6 +192,7 @@ impl<R: Rng + Drop> WatchedSocket<R> {
                 Ok(Reply::Done)
             }
             Act::Step(Step::Deliver(_, number)) => self.deliver(packets, *number),
+            Act::Outside(Outside::Input(_, bytes)) => self.hand_in(bytes),
         }
     }
 

@@ -1,8 +1,8 @@
 //! Two sockets, and what happens to them.
 
-use crate::act::{Reply, side_of};
+use crate::act::{Reply, are_honest, side_of};
 use crate::watched_socket::WatchedSocket;
-use dcsctp_machine::{Act, Side, Step, options_fit};
+use dcsctp_machine::{Act, Outside, Side, Step, options_fit};
 use dcsctp_refinement::socket_laws;
 use dcsctp_socket::{Association, Options, Pair, Socket, SocketEvent, SocketFault};
 use rand_core::Rng;
@@ -11,7 +11,8 @@ use std::marker::Model;
 
 /// Two sockets, with all that happened to them and all that they ever showed.
 ///
-/// Each takes the other's packets only by a step that delivers one. Where memory runs out in a call the
+/// Each takes the other's packets only by a step that delivers one, and other bytes only by an act from
+/// outside. Where memory runs out in a call the
 /// call answers `SocketFault::OutOfMemory`; the world has failed from here on, and each later call that
 /// applies something answers `SocketFault::Failed` and changes nothing. What the world shows begins
 /// then with what it showed before the call that failed.
@@ -39,9 +40,9 @@ impl<R> Model for World<R> {
         (world_of w.a w.b w.acts.items w.failed) };
 }
 
-ghost use Rattle.std.specs.Prelude.{◌≡◌, [], false, map, OnOk, IfOk, IsOkUnless};
+ghost use Rattle.std.specs.Prelude.{◌≡◌, ◌↔◌, IsTrue, [], false, map, OnOk, IfOk, IsOkUnless};
 ghost use Rattle.dcsctp_machine.specs.Settings.{IsValid};
-ghost use Rattle.dcsctp_machine.specs.Schedule.{act_content, step_content, step_act};
+ghost use Rattle.dcsctp_machine.specs.Schedule.{act_content, step_content, step_act, outside_content, outside_act, AreHonest};
 ghost use Rattle.dcsctp_machine.specs.Sockets.{of_side};
 ghost use Rattle.dcsctp_api.specs.Events.{event_content};
 ghost use Rattle.dcsctp_world.specs.Shown.{fresh_world, options_of};
@@ -123,6 +124,27 @@ impl<R: Rng + Drop> World<R> {
         })
     }
 
+    // Applies an act. The errors are those of `apply`.
+    fn apply_act(&mut self, act: Act) -> Result<Reply, SocketFault>
+        ensures call { Applies (act_content act) self.old result self.new }
+        ensures agreement { OnOk result (Agrees (options_of self.old) self.new) }
+        ensures handshake { OnOk result (HandshakeConnects (options_of self.old) self.new) }
+        ensures options { OnOk result (options_of self.new ≡ options_of self.old) }
+    {
+        // A world that has failed applies nothing.
+        if self.failed {
+            return Err(SocketFault::Failed);
+        }
+        socket_laws();
+        match work(&mut self.a, &mut self.b, &mut self.acts, act) {
+            Ok(reply) => Ok(reply),
+            Err(_) => {
+                self.failed = true;
+                Err(SocketFault::OutOfMemory)
+            }
+        }
+    }
+
     /// Applies a step: the call is made, or the packet is handed over; all events are taken from the
     /// socket, and what they show is kept.
     ///
@@ -136,26 +158,30 @@ impl<R: Rng + Drop> World<R> {
         ensures handshake { OnOk result (HandshakeConnects (options_of self.old) self.new) }
         ensures options { OnOk result (options_of self.new ≡ options_of self.old) }
     {
-        // A world that has failed applies no step.
-        if self.failed {
-            return Err(SocketFault::Failed);
-        }
-        socket_laws();
-        match work(&mut self.a, &mut self.b, &mut self.acts, Act::Step(*step)) {
-            Ok(reply) => Ok(reply),
-            Err(_) => {
-                self.failed = true;
-                Err(SocketFault::OutOfMemory)
-            }
-        }
+        self.apply_act(Act::Step(*step))
+    }
+
+    /// Applies an act from outside: the bytes are handed to the socket, whatever they say; all events are
+    /// taken from it, and what they show is kept. It answers `Reply::Done`.
+    ///
+    /// From here on `is_honest` is false, and the agreement of the two sockets is promised no more than
+    /// it was up to here. What `run` says of one socket holds on. The errors are those of `apply`.
+    pub fn outside(&mut self, outside: Outside) -> Result<Reply, SocketFault>
+        ensures call { Applies (outside_act (outside_content outside)) self.old result self.new }
+        ensures agreement { OnOk result (Agrees (options_of self.old) self.new) }
+        ensures handshake { OnOk result (HandshakeConnects (options_of self.old) self.new) }
+        ensures options { OnOk result (options_of self.new ≡ options_of self.old) }
+    {
+        self.apply_act(Act::Outside(outside))
     }
 
     /// Applies steps one after another, up to the first that fails. The errors are those of `apply`;
     /// where a growth was refused, what follows holds of the steps before it.
     ///
-    /// Over every schedule that loses, repeats, delays and reorders packets the two sockets agree:
-    /// where no side drew a verification tag twice, which `pairs` shows, each OnConnected finds that
-    /// the other side holds, or held, the crossed association with what the two have in common. Each
+    /// Over every schedule that loses, repeats, delays and reorders packets the two sockets agree, as
+    /// long as no act comes from outside, which `is_honest` tells: where no side drew a verification
+    /// tag twice, which `pairs` shows, each OnConnected finds that the other side holds, or held, the
+    /// crossed association with what the two have in common. Whatever bytes come from outside, each
     /// holding connects at most once, the numbers of requests to reset streams go up by one, and each
     /// request that was accepted is performed at most once (RFC 6525, section 4.1); an own request ends
     /// by an answer with its number (section 5.2.7). The four packets of a handshake, delivered in turn,
@@ -192,6 +218,13 @@ impl<R: Rng + Drop> World<R> {
         ensures { map act_content result.now ≡ self.now.acts }
     {
         &self.acts
+    }
+
+    /// Is each act so far a step, and none from outside? It takes no memory.
+    pub fn is_honest(&self) -> bool
+        ensures { IsTrue result ↔ AreHonest self.now.acts }
+    {
+        are_honest(&self.acts)
     }
 
     /// The bytes of every packet that this side ever emitted, in order. It takes no memory.

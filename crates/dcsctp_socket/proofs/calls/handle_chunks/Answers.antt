@@ -15,7 +15,7 @@ use Rattle.dcsctp_wire.specs.declared.chunk.Chunk.{Chunk}
 use Rattle.dcsctp_wire.specs.Content.{chunk_content, packet_content}
 use Rattle.dcsctp_socket.specs.Parts.{ChunksCut}
 use Rattle.dcsctp_socket.proofs.CallLemmas.{adds_begun, adds_cut}
-use Rattle.dcsctp_socket.proofs.ChunkLoop.{contents_of, worked_as, begun, ended, nothing_before, moves_begun, moves_ended, turns_more, turns_end, turns_whole, first_turns}
+use Rattle.dcsctp_socket.proofs.ChunkLoop.{contents_of, worked_as, begun, ended, nothing_before, moves_begun, moves_ended, turns_more, turns_end, turns_cut, moves_last, worked_keeps_ports, turns_whole, first_turns}
 use Rattle.dcsctp_socket.proofs.calls.handle_chunks.Goals as goal
 
 pub loop-chunk-preserved : goal.loop-chunk-preserved
@@ -63,6 +63,33 @@ returns-in-DroppedRest g c =
           (moves_then g.R.Rng.stream start here next done.turns (last ∷ [])
           (chunk_turns_keep_ports start.endpoint tag (contents_of (take c.loop-chunk.chunk-index chunks)) done.turns done.goes_on done.are)
           done.moves (moves_one g.R.Rng.stream here next last step.moves));
+    }
+
+-- The chunk cut the others, and then the packet ended.
+pub returns-in-PacketEnd : goal.returns-in-PacketEnd
+returns-in-PacketEnd g c =
+    let done = c.loop-chunk.invariant in
+    let step = c.in_ok-handle_chunk.ensures in
+    let start = view_of c.args.context.now in
+    let here = view_of c.loop-chunk.context in
+    let next = view_of c.handle_chunk.new.context in
+    let tag = c.args.packet.now.common_header.verification_tag in
+    let chunks = c.deref-chunk-items.result.now in
+    let contents : List Content = contents_of c.args.packet.now.chunks.items in
+    let all : chunks ≡ c.args.packet.now.chunks.items = c.deref-chunk-items.ensures.value in
+    let last : Turned = worked_as tag (content_in (chunk_content c.chunk-item.result)) step.outcome in
+    let are : ChunkTurns start.endpoint tag contents (packet_ends ∷ []) (done.turns ++ last ∷ ended next.endpoint ∷ []) =
+    subst (λ (cs : List Chunk). ChunkTurns start.endpoint tag (contents_of cs) (packet_ends ∷ []) (done.turns ++ last ∷ ended next.endpoint ∷ [])) all
+    (turns_cut start.endpoint here.endpoint tag chunks c.loop-chunk.chunk-index c.chunk-item.result done.turns step.outcome next.endpoint
+    c.loop-chunk-test.true c.chunk-item.is done.goes_on done.are done.moves.endpoint step.turn
+    (step.following ∙ ap (λ (f : Following). following_of f) c.in-PacketEnd.is) step.moves.endpoint) in
+    record {
+      turns = begun start.endpoint contents ∷ (done.turns ++ last ∷ ended next.endpoint ∷ []);
+      are = (record { is = refl; comes = nothing_before start.endpoint c.args.context.now.state (has_data contents) }, are);
+      moves = moves_begun g.R.Rng.stream start next contents (done.turns ++ last ∷ ended next.endpoint ∷ [])
+          (moves_then g.R.Rng.stream start here next done.turns (last ∷ ended next.endpoint ∷ [])
+          (chunk_turns_keep_ports start.endpoint tag (contents_of (take c.loop-chunk.chunk-index chunks)) done.turns done.goes_on done.are)
+          done.moves (moves_last g.R.Rng.stream here next last step.moves (worked_keeps_ports here.endpoint tag _ step.outcome step.turn)));
     }
 
 -- All chunks had their turns, and then the packet ended.

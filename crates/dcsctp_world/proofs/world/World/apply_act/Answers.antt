@@ -1,4 +1,4 @@
-use Rattle.dcsctp_machine.specs.Schedule.{step_content, step_act}
+use Rattle.dcsctp_machine.specs.Schedule.{act_content}
 use Rattle.dcsctp_machine.specs.declared.schedule.Side.TheVariants as sides
 use Rattle.std.proofs.Common.{true, subst}
 use Rattle.dcsctp_world.specs.Shown.{WorldView, options_of}
@@ -8,7 +8,7 @@ use Rattle.dcsctp_world.specs.Parts.{world_of}
 use Rattle.dcsctp_world.proofs.Running.{is_run_options, is_run_of_own}
 use Rattle.dcsctp_world.proofs.Applying.{applied_is_run, ran_out_in}
 use Rattle.dcsctp_world.proofs.Agreeing.{world_agrees, handshake_connects}
-use Rattle.dcsctp_world.proofs.world.World.apply.Goals as goal
+use Rattle.dcsctp_world.proofs.world.World.apply_act.Goals as goal
 
 pub work-requires-clause-a : goal.work-requires-clause-a
 work-requires-clause-a g c = ((c.self.invariant c.if-self.false).sides sides.A).waiting
@@ -21,7 +21,7 @@ returns-in-Ok-clause-agreement g c =
     let new = world_of c.work.new.a c.work.new.b c.work.new.acts.items c.self.inside.failed in
     world_agrees c.socket_laws.ensures (options_of c.args.self.now) new
     (subst (λ (w : WorldView g.row.R.Denot). IsRun (options_of w) new) c.self.view_is
-    (applied_is_run (step_act (step_content c.args.step.now)) c.in-Ok.reply c.self.inside.a c.self.inside.b c.work.new.a c.work.new.b c.self.inside.acts.items c.work.new.acts.items
+    (applied_is_run (act_content c.args.act) c.in-Ok.reply c.self.inside.a c.self.inside.b c.work.new.a c.work.new.b c.self.inside.acts.items c.work.new.acts.items
     c.self.inside.failed c.if-self.false c.self.invariant c.in-Ok.ensures))
 
 pub returns-in-Ok-clause-handshake : goal.returns-in-Ok-clause-handshake
@@ -36,8 +36,8 @@ returns-in-Ok-clause-options g c =
 pub returns-in-Err-clause-call : goal.returns-in-Err-clause-call
 returns-in-Err-clause-call g c =
     let new = world_of c.work.new.a c.work.new.b c.work.new.acts.items true in
-    subst (λ (w : WorldView g.row.R.Denot). RanOut (step_act (step_content c.args.step.now)) w new) c.self.view_is
-    (ran_out_in (step_act (step_content c.args.step.now)) _ c.self.inside.a c.self.inside.b c.work.new.a c.work.new.b c.self.inside.acts.items c.work.new.acts.items
+    subst (λ (w : WorldView g.row.R.Denot). RanOut (act_content c.args.act) w new) c.self.view_is
+    (ran_out_in (act_content c.args.act) _ c.self.inside.a c.self.inside.b c.work.new.a c.work.new.b c.self.inside.acts.items c.work.new.acts.items
     c.self.inside.failed c.if-self.false c.self.invariant c.in-Err.ensures)
 
 pub invariant_of-self : goal.invariant_of-self

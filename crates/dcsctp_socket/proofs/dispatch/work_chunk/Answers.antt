@@ -2,14 +2,17 @@ use Rattle.std.proofs.Common.{map, refl}
 use Rattle.std.proofs.lemmas.Result.{err_from_is_err_and}
 use Rattle.dcsctp_wire.specs.Content.{cause_content}
 use Rattle.dcsctp_wire.specs.Content.{init_content}
-use Rattle.dcsctp_machine.specs.Packet.{introduction_in, cookie_in, init_ack, cookie_echo}
+use Rattle.dcsctp_machine.specs.Packet.{introduction_in, cookie_in, init_ack, cookie_echo, plain}
+use Rattle.dcsctp_machine.specs.Packet as machine
 use Rattle.dcsctp_machine.proofs.FlushLemmas.{init_ack_turn_of, cookie_echo_turn_of}
-use Rattle.dcsctp_core.specs.View.{view_of, endpoint_of}
+use Rattle.dcsctp_core.specs.View.{core_of, view_of, endpoint_of}
 use Rattle.dcsctp_core.specs.Drawing.{long_word}
 use Rattle.dcsctp_handshake.specs.Handshake.{init_ack_turn, cookie_echo_turn}
 use Rattle.dcsctp_ends.specs.Ends.{abort_turn}
 use Rattle.dcsctp_socket.proofs.ChunkLemmas.{acknowledged_chunk, acknowledged_cut, init_cut, rests, works_chunk, works_whole}
-use Rattle.dcsctp_socket.proofs.calls.handle_chunk.Goals as goal
+use Rattle.dcsctp_socket.specs.Unknown.{unknown_turn}
+use Rattle.dcsctp_socket.proofs.DispatchLemmas.{none_for, ack_worked, ack_cut, complete_worked, unknown_is}
+use Rattle.dcsctp_socket.proofs.dispatch.work_chunk.Goals as goal
 
 -- An INIT whose turn was cut added nothing.
 pub returns-in_err-handle_init-in-Init : goal.returns-in_err-handle_init-in-Init
@@ -26,43 +29,57 @@ returns-in-Abort g c =
 
 -- A chunk that no handler works changes nothing.
 pub returns-in-Data : goal.returns-in-Data
-returns-in-Data g c = rw c.in-Data.is (rests g.R.Rng.stream (view_of c.args.context.now) c.args.header_tag _)
+returns-in-Data g c = rw c.in-Data.is (rests g.R.Rng.stream (view_of c.args.context.now) c.args.header_tag _ (none_for (core_of c.args.context.now.state) _ _ c.in-Data.is c.requires))
 
 pub returns-in-Sack : goal.returns-in-Sack
-returns-in-Sack g c = rw c.in-Sack.is (rests g.R.Rng.stream (view_of c.args.context.now) c.args.header_tag _)
+returns-in-Sack g c = rw c.in-Sack.is (rests g.R.Rng.stream (view_of c.args.context.now) c.args.header_tag _ (none_for (core_of c.args.context.now.state) _ _ c.in-Sack.is c.requires))
 
 pub returns-in-HeartbeatRequest : goal.returns-in-HeartbeatRequest
-returns-in-HeartbeatRequest g c = rw c.in-HeartbeatRequest.is (rests g.R.Rng.stream (view_of c.args.context.now) c.args.header_tag _)
+returns-in-HeartbeatRequest g c = rw c.in-HeartbeatRequest.is (rests g.R.Rng.stream (view_of c.args.context.now) c.args.header_tag _ (none_for (core_of c.args.context.now.state) _ _ c.in-HeartbeatRequest.is c.requires))
 
 pub returns-in-HeartbeatAck : goal.returns-in-HeartbeatAck
-returns-in-HeartbeatAck g c = rw c.in-HeartbeatAck.is (rests g.R.Rng.stream (view_of c.args.context.now) c.args.header_tag _)
+returns-in-HeartbeatAck g c = rw c.in-HeartbeatAck.is (rests g.R.Rng.stream (view_of c.args.context.now) c.args.header_tag _ (none_for (core_of c.args.context.now.state) _ _ c.in-HeartbeatAck.is c.requires))
 
 pub returns-in-Shutdown : goal.returns-in-Shutdown
-returns-in-Shutdown g c = rw c.in-Shutdown.is (rests g.R.Rng.stream (view_of c.args.context.now) c.args.header_tag _)
+returns-in-Shutdown g c = rw c.in-Shutdown.is (rests g.R.Rng.stream (view_of c.args.context.now) c.args.header_tag _ (none_for (core_of c.args.context.now.state) _ _ c.in-Shutdown.is c.requires))
 
-pub returns-in-ShutdownAck : goal.returns-in-ShutdownAck
-returns-in-ShutdownAck g c = rw c.in-ShutdownAck.is (rests g.R.Rng.stream (view_of c.args.context.now) c.args.header_tag _)
+pub returns-in_ok-handle_shutdown_ack-in-ShutdownAck : goal.returns-in_ok-handle_shutdown_ack-in-ShutdownAck
+returns-in_ok-handle_shutdown_ack-in-ShutdownAck g c =
+    rw c.in-ShutdownAck.is
+    (ack_worked g.R.Rng.stream c.args.context.now c.handle_shutdown_ack.new.context c.args.header_tag c.in_ok-handle_shutdown_ack-in-ShutdownAck.ensures)
+
+pub returns-in_err-handle_shutdown_ack-in-ShutdownAck : goal.returns-in_err-handle_shutdown_ack-in-ShutdownAck
+returns-in_err-handle_shutdown_ack-in-ShutdownAck g c =
+    rw c.in-ShutdownAck.is
+    (rw (err_from_is_err_and c.from_residual-in_err-handle_shutdown_ack-in-ShutdownAck.result c.from_residual-in_err-handle_shutdown_ack-in-ShutdownAck.ensures.1).1
+    (ack_cut c.args.context.now (view_of c.handle_shutdown_ack.new.context) c.args.header_tag c.in_err-handle_shutdown_ack-in-ShutdownAck.ensures))
 
 pub returns-in-Error : goal.returns-in-Error
-returns-in-Error g c = rw c.in-Error.is (rests g.R.Rng.stream (view_of c.args.context.now) c.args.header_tag _)
+returns-in-Error g c = rw c.in-Error.is (rests g.R.Rng.stream (view_of c.args.context.now) c.args.header_tag _ (none_for (core_of c.args.context.now.state) _ _ c.in-Error.is c.requires))
 
 pub returns-in-ShutdownComplete : goal.returns-in-ShutdownComplete
-returns-in-ShutdownComplete g c = rw c.in-ShutdownComplete.is (rests g.R.Rng.stream (view_of c.args.context.now) c.args.header_tag _)
+returns-in-ShutdownComplete g c = rw c.in-ShutdownComplete.is (complete_worked g.R.Rng.stream c.args.context.now c.args.header_tag _)
 
 pub returns-in-IData : goal.returns-in-IData
-returns-in-IData g c = rw c.in-IData.is (rests g.R.Rng.stream (view_of c.args.context.now) c.args.header_tag _)
+returns-in-IData g c = rw c.in-IData.is (rests g.R.Rng.stream (view_of c.args.context.now) c.args.header_tag _ (none_for (core_of c.args.context.now.state) _ _ c.in-IData.is c.requires))
 
 pub returns-in-ReConfig : goal.returns-in-ReConfig
-returns-in-ReConfig g c = rw c.in-ReConfig.is (rests g.R.Rng.stream (view_of c.args.context.now) c.args.header_tag _)
+returns-in-ReConfig g c = rw c.in-ReConfig.is (rests g.R.Rng.stream (view_of c.args.context.now) c.args.header_tag _ (none_for (core_of c.args.context.now.state) _ _ c.in-ReConfig.is c.requires))
 
 pub returns-in-ForwardTsn : goal.returns-in-ForwardTsn
-returns-in-ForwardTsn g c = rw c.in-ForwardTsn.is (rests g.R.Rng.stream (view_of c.args.context.now) c.args.header_tag _)
+returns-in-ForwardTsn g c = rw c.in-ForwardTsn.is (rests g.R.Rng.stream (view_of c.args.context.now) c.args.header_tag _ (none_for (core_of c.args.context.now.state) _ _ c.in-ForwardTsn.is c.requires))
 
 pub returns-in-IForwardTsn : goal.returns-in-IForwardTsn
-returns-in-IForwardTsn g c = rw c.in-IForwardTsn.is (rests g.R.Rng.stream (view_of c.args.context.now) c.args.header_tag _)
+returns-in-IForwardTsn g c = rw c.in-IForwardTsn.is (rests g.R.Rng.stream (view_of c.args.context.now) c.args.header_tag _ (none_for (core_of c.args.context.now.state) _ _ c.in-IForwardTsn.is c.requires))
 
 pub returns-in-Unknown : goal.returns-in-Unknown
-returns-in-Unknown g c = rw c.in-Unknown.is (rests g.R.Rng.stream (view_of c.args.context.now) c.args.header_tag _)
+returns-in-Unknown g c =
+    let old = c.args.context.now in
+    let unknown = c.in-Unknown.unknown in
+    rw c.in-Unknown.is
+    (works_chunk g.R.Rng.stream c.args.header_tag (plain (machine.unknown unknown.chunk_type unknown.flags unknown.value.now)) (unknown_turn unknown.chunk_type unknown.flags unknown.value.now) old
+    c.handle_unknown.result c.handle_unknown.new.context
+    (unknown_is old c.args.header_tag unknown.chunk_type unknown.flags unknown.value.now (none_for (core_of old.state) _ _ c.in-Unknown.is c.requires)) c.handle_unknown.ensures)
 
 -- The flushes of these find nothing that waits, so their answers are known.
 pub returns-in-InitAck : goal.returns-in-InitAck

@@ -1,0 +1,72 @@
+-- The turns of chunks that speak of no association leave numbers that fit their fields, and send what is read as itself.
+use Rattle.std.proofs.Common.{◌≡◌, ◌≤◌, ◌<◌, ◌-◌, ◌+◌, ◌^◌, ℕ, Bool, true, false, cond, Option, None, Some, List, [], ◌∷◌, ◌++◌, length, take, refl, sym, subst, arith}
+use Rattle.std.specs.Int.{w16, to_be_bytes}
+use Rattle.std.specs.List.{AllByRecursion}
+use Rattle.std.proofs.lemmas.List.{length-take}
+use Rattle.std.proofs.lemmas.List.Elements.{All-take, All-from_recursion, recursion_from_All}
+use Rattle.dcsctp_wire.specs.Spelling.{parameters_len}
+use Rattle.dcsctp_wire.specs.ReadsBack.{IsByte}
+use Rattle.dcsctp_machine.specs.declared.association.Held.{Held}
+use Rattle.dcsctp_machine.specs.declared.ends.Violation.{Violation}
+use Rattle.dcsctp_machine.specs.declared.ends.AbortReason.TheVariants as reasons
+use Rattle.dcsctp_machine.specs.declared.kinds.ErrorKind.TheVariants.{ParseFailed}
+use Rattle.dcsctp_machine.specs.Settings.{packet_size_limit}
+use Rattle.dcsctp_machine.specs.Event.{error}
+use Rattle.dcsctp_machine.specs.Packet.{Plain, plain, unknown, unworked}
+use Rattle.dcsctp_machine.specs.Endpoint.{Endpoint, Core, closed, cookie_wait, cookie_echoed, open_in, established, shutdown_pending, shutdown_sent, shutdown_received, shutdown_ack_sent}
+use Rattle.dcsctp_machine.specs.Outcome.{Outcome, still, sends}
+use Rattle.dcsctp_machine.specs.turns.PlainOutcomes.{PlainTurn, plain_outcome, violation_at, is_reported, after_unknown, unknown_text, unknown_bytes, unknown_error, unknown_report, unknown_told}
+use Rattle.dcsctp_machine.specs.Fitting.{FitsHeld, FitsCore, FitsEndpoint, Sendable, TurnFits}
+use Rattle.dcsctp_refinement.proofs.Aborting.{aborting_fits}
+use Rattle.dcsctp_refinement.proofs.Bytes.{both, in_two}
+
+-- ---- the report of a chunk of a type that isn't known
+
+unknown_in_bytes : (type flags : ℕ) (value : List ℕ) → IsByte type → IsByte flags → AllByRecursion IsByte value → AllByRecursion IsByte (unknown_bytes type flags value)
+unknown_in_bytes type flags value a b each = (a, (b, both (to_be_bytes w16 (4 + length value)) value (in_two (4 + length value)) each))
+
+taken_in_bytes : (n : ℕ) (bytes : List ℕ) → AllByRecursion IsByte bytes → AllByRecursion IsByte (take n bytes)
+taken_in_bytes n bytes each = recursion_from_All IsByte (take n bytes) (All-take IsByte n bytes (All-from_recursion IsByte bytes each))
+
+report_sendable : (e : Endpoint) (chunk : List ℕ) → FitsEndpoint e → AllByRecursion IsByte chunk → Sendable (plain (unknown_error e chunk))
+unfolding parameters_len
+report_sendable e chunk h each =
+    let limit : packet_size_limit e.options ≤ 65535 = omega (arith, h.valid.greatest_size) in
+    let short : length (take (packet_size_limit e.options - 20) chunk) ≤ packet_size_limit e.options - 20 = omega (arith, length-take (packet_size_limit e.options - 20) chunk) in
+    record {
+      fits = record { len_fits = omega (arith, limit, short); causes_fit = (taken_in_bytes (packet_size_limit e.options - 20) chunk each, tt) };
+      reads = refl;
+      said = tt;
+    }
+
+report_fits : (e : Endpoint) (held : Held) (type : ℕ) (chunk : List ℕ) → FitsEndpoint e → FitsHeld held → AllByRecursion IsByte chunk
+    → TurnFits (record (sends e [] (error ParseFailed (unknown_text type) ∷ []) (unknown_report e held chunk)) { following = after_unknown type })
+report_fits e held type chunk h fits each =
+    record {
+      after = record { valid = h.valid; options = h.options; core = h.core; t1 = h.t1 };
+      sends = (tt, (record { tag = fits.peer.tag; contents = (report_sendable e chunk h each, tt) }, tt));
+    }
+
+unknown_fits : (e : Endpoint) (core : Core) (type : ℕ) (chunk : List ℕ) (reported : Bool) → FitsEndpoint e → FitsCore core → AllByRecursion IsByte chunk
+    → TurnFits (record (cond reported (unknown_told e core type chunk) (still e)) { following = after_unknown type })
+unknown_fits e core type chunk false h own each = record { after = h; sends = tt }
+unknown_fits e closed type chunk true h own each = record { after = h; sends = (tt, tt) }
+unknown_fits e (cookie_wait my) type chunk true h own each = record { after = h; sends = (tt, tt) }
+unknown_fits e (cookie_echoed my held cookie) type chunk true h own each = report_fits e held type chunk h own.1 each
+unknown_fits e (open_in established my held) type chunk true h own each = report_fits e held type chunk h own.1 each
+unknown_fits e (open_in shutdown_pending my held) type chunk true h own each = absurd own
+unknown_fits e (open_in shutdown_sent my held) type chunk true h own each = absurd own
+unknown_fits e (open_in shutdown_received my held) type chunk true h own each = absurd own
+unknown_fits e (open_in shutdown_ack_sent my held) type chunk true h own each = absurd own
+
+-- ---- each
+
+outcome_fits : (e : Endpoint) (core : Core) (chunk : Plain) (violation : Option Violation) → FitsEndpoint e → FitsCore core → Sendable (plain chunk) → TurnFits (plain_outcome e core chunk violation)
+outcome_fits e core chunk (Some violation) h own good = aborting_fits e core (reasons.Violation violation) h own
+outcome_fits e core (unknown type flags value) None h own good =
+    unknown_fits e core type (unknown_bytes type flags value) (is_reported type) h own
+    (unknown_in_bytes type flags value good.fits.type_fits good.fits.flags_fit good.fits.value_in_bytes)
+outcome_fits e core (unworked chunk) None h own good = record { after = h; sends = tt }
+
+pub plain_fits : (e : Endpoint) (chunk : Plain) (o : Outcome) → PlainTurn e chunk o → FitsEndpoint e → Sendable (plain chunk) → TurnFits o
+plain_fits e chunk o turn h good = subst TurnFits (sym turn) (outcome_fits e e.core chunk (violation_at e.core chunk) h h.core good)

@@ -1,0 +1,138 @@
+-- Turns of chunks that break the protocol, of a SHUTDOWN ACK, a SHUTDOWN COMPLETE and of those that aren't known.
+use Rattle.std.proofs.Common.{◌≡◌, ℕ, Bool, Option, None, Some, List, [], ◌∷◌, refl, sym, ap, subst, ◌∙◌, Result, Ok, Err}
+use Rattle.std.proofs.lemmas.List.{append-nil}
+use Rattle.rand_core.specs.Stream.{Stream}
+use Rattle.dcsctp_wire.specs.declared.chunk.Chunk.{Chunk}
+use Rattle.dcsctp_wire.specs.declared.chunk.Chunk.TheVariants as kinds
+use Rattle.dcsctp_wire.specs.Content.{chunk_content}
+use Rattle.dcsctp_machine.specs.declared.ends.Violation.{Violation}
+use Rattle.dcsctp_machine.specs.declared.ends.AbortReason.TheVariants as reasons
+use Rattle.dcsctp_machine.specs.Event.{Event}
+use Rattle.dcsctp_machine.specs.Packet.{Plain, Content, content_in, init, init_ack, cookie_echo, cookie_ack, re_config, abort, shutdown, shutdown_ack, shutdown_complete, plain, unknown}
+use Rattle.dcsctp_machine.specs.Endpoint.{Endpoint, Core, closed, cookie_wait, cookie_echoed, open_in}
+use Rattle.dcsctp_machine.specs.Outcome.{Outcome, still}
+use Rattle.dcsctp_machine.specs.Following.{dropped_rest}
+use Rattle.dcsctp_machine.specs.Turn.{ContentTurn}
+use Rattle.dcsctp_machine.specs.CallTurns.{Turned, ChunkTurns}
+use Rattle.dcsctp_machine.specs.turns.EndOutcomes.{aborting_outcome, reflected_outcome, ShutdownAckTurn, ShutdownCompleteTurn}
+use Rattle.dcsctp_machine.specs.turns.PlainOutcomes.{violation_at, plain_outcome, unknown_outcome}
+use Rattle.dcsctp_core.specs.declared.state.State.{State}
+use Rattle.dcsctp_core.specs.declared.state.State.TheVariants.{Closed, CookieWait, CookieEchoed, Established}
+use Rattle.dcsctp_core.specs.declared.context.Context.{Context}
+use Rattle.dcsctp_core.specs.declared.following.Following.TheVariants.{NextChunk, DroppedRest}
+use Rattle.dcsctp_core.specs.View.{View, core_of, endpoint_of, view_of, Moves, MovesAll, CutTurn}
+use Rattle.dcsctp_core.specs.Handling.{Tries}
+use Rattle.dcsctp_core.proofs.Moving.{moves_one, moves_still}
+use Rattle.dcsctp_ends.specs.Ends.{violation_in, aborting_turn, shutdown_ack_turn}
+use Rattle.dcsctp_socket.specs.Parts.{ChunkMoves, ChunkCut, AckMoves}
+use Rattle.dcsctp_socket.specs.Unknown.{unknown_turn}
+use Rattle.dcsctp_socket.proofs.AckLoop.{no_ack}
+use Rattle.dcsctp_socket.proofs.ChunkLoop.{worked_as}
+
+-- ---- a violation
+
+aborting_drops : (e : Endpoint) (core : Core) (chunk : Plain) (violation : Violation) → violation_at core chunk ≡ Some violation
+    → (aborting_outcome e core (reasons.Violation violation)).following ≡ dropped_rest
+aborting_drops e closed chunk violation is = absurd (cc)
+aborting_drops e (cookie_wait my) chunk violation is = absurd (cc)
+aborting_drops e (cookie_echoed my held cookie) chunk violation is = refl
+aborting_drops e (open_in phase my held) chunk violation is = refl
+
+-- Only a chunk that speaks of no association breaks the protocol.
+violates : (e : Endpoint) (tag : ℕ) (content : Content) (violation : Violation) → violation_in e.core content ≡ Some violation
+    → ContentTurn e tag content (aborting_outcome e e.core (reasons.Violation violation)) × ((aborting_outcome e e.core (reasons.Violation violation)).following ≡ dropped_rest)
+violates e tag (init theirs) violation is = absurd (cc)
+violates e tag (init_ack theirs cookie) violation is = absurd (cc)
+violates e tag (cookie_echo cookie) violation is = absurd (cc)
+violates e tag cookie_ack violation is = absurd (cc)
+violates e tag (re_config parameters) violation is = absurd (cc)
+violates e tag (abort reflected causes) violation is = absurd (cc)
+violates e tag (shutdown tsn) violation is = absurd (cc)
+violates e tag shutdown_ack violation is = absurd (cc)
+violates e tag (shutdown_complete reflected) violation is = absurd (cc)
+violates e tag (plain chunk) violation is = (ap (plain_outcome e e.core chunk) (sym is), aborting_drops e e.core chunk violation is)
+
+-- what is known of a chunk in memory, once its kind is
+pub none_for : (core : Core) (x y : Chunk) → x ≡ y → violation_in core (content_in (chunk_content x)) ≡ None → violation_in core (content_in (chunk_content y)) ≡ None
+none_for core x y is none = subst (λ (c : Chunk). violation_in core (content_in (chunk_content c)) ≡ None) is none
+
+pub violation_worked : {R : Type 0} (stream : R → Stream) (old new : View R) (tag : ℕ) (content : Content) (violation : Violation) → violation_in old.endpoint.core content ≡ Some violation
+    → Moves stream old (aborting_turn (reasons.Violation violation) old) new → ChunkMoves stream tag content old DroppedRest new
+violation_worked stream old new tag content violation is moves =
+    let turn = violates old.endpoint tag content violation is in
+    record { outcome = aborting_turn (reasons.Violation violation) old; turn = turn.0; following = turn.1; moves = moves }
+
+pub violation_cut : {R : Type 0} (old : View R) (tag : ℕ) (content : Content) (violation : Violation) (events : List (Event (List ℕ))) → violation_in old.endpoint.core content ≡ Some violation
+    → CutTurn old (aborting_turn (reasons.Violation violation) old) events → ChunkCut tag content old events
+violation_cut old tag content violation events is cut =
+    record { outcome = aborting_turn (reasons.Violation violation) old; turn = (violates old.endpoint tag content violation is).0; cut = cut }
+
+-- ---- SHUTDOWN ACK and SHUTDOWN COMPLETE
+
+-- No phase that there is awaits one.
+acks : (e : Endpoint) (state : State) (tag : ℕ) → ShutdownAckTurn e (core_of state) tag (reflected_outcome e tag)
+acks e Closed tag = refl
+acks e (CookieWait wait) tag = refl
+acks e (CookieEchoed echoed) tag = refl
+acks e (Established tcb) tag = refl
+
+pub ack_turn : {R : Type 0} (context : Context R) (tag : ℕ) → ContentTurn (endpoint_of context) tag shutdown_ack (shutdown_ack_turn tag (view_of context))
+ack_turn context tag = acks (endpoint_of context) context.state tag
+
+pub ack_worked : {R : Type 0} (stream : R → Stream) (old new : Context R) (tag : ℕ) → Moves stream (view_of old) (shutdown_ack_turn tag (view_of old)) (view_of new)
+    → ChunkMoves stream tag shutdown_ack (view_of old) NextChunk (view_of new)
+ack_worked stream old new tag moves = record { outcome = shutdown_ack_turn tag (view_of old); turn = ack_turn old tag; following = refl; moves = moves }
+
+pub ack_cut : {R : Type 0} (old : Context R) (new : View R) (tag : ℕ) → new ≡ view_of old → ChunkCut tag shutdown_ack (view_of old) new.events
+ack_cut {R = R} old new tag same =
+    record {
+      outcome = shutdown_ack_turn tag (view_of old);
+      turn = ack_turn old tag;
+      cut = record { count = 0; added = ap (λ (v : View R). v.events) same ∙ sym (append-nil (view_of old).events) };
+    }
+
+moves_none : {R : Type 0} (stream : R → Stream) (view : View R) → MovesAll stream view [] view
+moves_none stream view = record { endpoint = refl; events = sym (append-nil view.events); words = sym (append-nil view.words); pairs = sym (append-nil view.pairs); drawn = refl }
+
+-- as a packet's one
+pub ack_done : {R : Type 0} (stream : R → Stream) (old new : Context R) (tag : ℕ) (chunk : Chunk) → chunk ≡ kinds.ShutdownAck → Moves stream (view_of old) (shutdown_ack_turn tag (view_of old)) (view_of new)
+    → AckMoves stream tag (content_in (chunk_content chunk)) (view_of old) (view_of new)
+ack_done stream old new tag chunk is moves =
+    let turn : Turned = worked_as tag shutdown_ack (shutdown_ack_turn tag (view_of old)) in
+    subst (λ (c : Chunk). AckMoves stream tag (content_in (chunk_content c)) (view_of old) (view_of new)) (sym is)
+    (record {
+      turns = turn ∷ [];
+      goes_on = (refl, tt);
+      are = (record { is = refl; comes = ack_turn old tag }, tt);
+      moves = moves_one stream (view_of old) (view_of new) turn moves;
+    })
+
+pub not_ack : {R : Type 0} (stream : R → Stream) (view : View R) (tag : ℕ) (chunk : Chunk) → (chunk ≡ kinds.ShutdownAck → ⊥) → AckMoves stream tag (content_in (chunk_content chunk)) view view
+not_ack stream view tag chunk other =
+    record {
+      turns = [];
+      goes_on = tt;
+      are = subst (λ (contents : List Content). ChunkTurns view.endpoint tag contents [] []) (sym (no_ack chunk other)) tt;
+      moves = moves_none stream view;
+    }
+
+completes : (e : Endpoint) (state : State) (tag : ℕ) (reflected : Bool) → ShutdownCompleteTurn e (core_of state) tag reflected (still e)
+completes e Closed tag reflected = refl
+completes e (CookieWait wait) tag reflected = refl
+completes e (CookieEchoed echoed) tag reflected = refl
+completes e (Established tcb) tag reflected = refl
+
+pub complete_worked : {R : Type 0} (stream : R → Stream) (context : Context R) (tag : ℕ) (reflected : Bool) → ChunkMoves stream tag (shutdown_complete reflected) (view_of context) NextChunk (view_of context)
+complete_worked stream context tag reflected =
+    record {
+      outcome = still (endpoint_of context);
+      turn = completes (endpoint_of context) context.state tag reflected;
+      following = refl;
+      moves = moves_still stream (view_of context);
+    }
+
+-- ---- one that isn't known
+
+pub unknown_is : {R : Type 0} (context : Context R) (tag type flags : ℕ) (value : List ℕ) → violation_at (core_of context.state) (unknown type flags value) ≡ None
+    → ContentTurn (endpoint_of context) tag (plain (unknown type flags value)) (unknown_turn type flags value (view_of context))
+unknown_is context tag type flags value none = ap (plain_outcome (endpoint_of context) (core_of context.state) (unknown type flags value)) (sym none)

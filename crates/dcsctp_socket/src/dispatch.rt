@@ -1,0 +1,79 @@
+//! Which handler works a chunk.
+
+ghost use Rattle.std.specs.Prelude.{◌≡◌, None};
+ghost use Rattle.dcsctp_wire.specs.Content.{chunk_content};
+ghost use Rattle.dcsctp_machine.specs.Packet.{content_in};
+ghost use Rattle.dcsctp_core.specs.View.{core_of};
+ghost use Rattle.dcsctp_ends.specs.Ends.{violation_in};
+ghost use Rattle.dcsctp_socket.specs.Parts.{WorksChunk};
+
+use crate::unknown::handle_unknown;
+use dcsctp_core::{Context, Following};
+use dcsctp_ends::{abort_association, handle_abort, handle_shutdown_ack, violation_of};
+use dcsctp_handshake::{handle_cookie_ack, handle_cookie_echo, handle_init, handle_init_ack};
+use dcsctp_machine::AbortReason;
+use dcsctp_wire::Chunk;
+use rand_core::Rng;
+use std::alloc::AllocError;
+
+/// Works a chunk of an admitted packet with this header tag, and says what follows it. One that breaks the
+/// protocol which was negotiated aborts the association. The one error is that a growth was refused.
+pub(crate) fn handle_chunk<R: Rng>(
+    context: &mut Context<R>,
+    header_tag: u32,
+    chunk: &Chunk<'_>,
+) -> Result<Following, AllocError>
+    ensures { WorksChunk R.stream header_tag (content_in (chunk_content chunk.now)) context.old
+        result context.new }
+{
+    match violation_of(&context.state, chunk) {
+        Some(violation) => {
+            abort_association(context, AbortReason::Violation(violation))?;
+            Ok(Following::DroppedRest)
+        }
+        None => work_chunk(context, header_tag, chunk),
+    }
+}
+
+// Works a chunk that breaks nothing.
+fn work_chunk<R: Rng>(
+    context: &mut Context<R>,
+    header_tag: u32,
+    chunk: &Chunk<'_>,
+) -> Result<Following, AllocError>
+    requires { violation_in (core_of context.old.state) (content_in (chunk_content chunk.now)) ≡ None }
+    ensures { WorksChunk R.stream header_tag (content_in (chunk_content chunk.now)) context.old
+        result context.new }
+{
+    match chunk {
+        Chunk::Init(init) => {
+            handle_init(context, init)?;
+            Ok(Following::NextChunk)
+        }
+        Chunk::InitAck(init_ack) => handle_init_ack(context, init_ack),
+        Chunk::Abort(abort) => handle_abort(context, abort),
+        Chunk::CookieEcho(echo) => handle_cookie_echo(context, header_tag, echo),
+        Chunk::CookieAck => {
+            handle_cookie_ack(context)?;
+            Ok(Following::NextChunk)
+        }
+        Chunk::ShutdownAck => {
+            handle_shutdown_ack(context, header_tag)?;
+            Ok(Following::NextChunk)
+        }
+        Chunk::Unknown(unknown) => handle_unknown(context, unknown),
+        // No phase that there is awaits it.
+        Chunk::ShutdownComplete(_) => Ok(Following::NextChunk),
+        // No handler works these yet.
+        Chunk::Data(_) => Ok(Following::NextChunk),
+        Chunk::Sack(_) => Ok(Following::NextChunk),
+        Chunk::HeartbeatRequest(_) => Ok(Following::NextChunk),
+        Chunk::HeartbeatAck(_) => Ok(Following::NextChunk),
+        Chunk::Shutdown(_) => Ok(Following::NextChunk),
+        Chunk::Error(_) => Ok(Following::NextChunk),
+        Chunk::IData(_) => Ok(Following::NextChunk),
+        Chunk::ReConfig(_) => Ok(Following::NextChunk),
+        Chunk::ForwardTsn(_) => Ok(Following::NextChunk),
+        Chunk::IForwardTsn(_) => Ok(Following::NextChunk),
+    }
+}
