@@ -1,5 +1,5 @@
 -- What becomes of T1 where a moment has come.
-use Rattle.std.specs.Prelude.{ℕ, Bool, true, false, if◌then◌else◌, Option, None, Some}
+use Rattle.std.specs.Prelude.{ℕ, Bool, true, false, Option, None, Some}
 use Rattle.dcsctp_machine.specs.Endpoint.{Endpoint, RunningTimer, is_due, is_restarted}
 use Rattle.dcsctp_send.specs.Timer.{TimerModel, running_after}
 use Rattle.dcsctp_core.specs.declared.expiry.Expiry.{Expiry}

@@ -1,7 +1,6 @@
 -- Turns of ends at an endpoint are turns of its association: the own abort, SHUTDOWN ACK and SHUTDOWN COMPLETE.
 use Rattle.std.proofs.Common.{◌≡◌, ℕ, Bool, true, false, List, [], ◌∷◌, refl, sym, subst, ap}
 use Rattle.std.specs.Prelude.{if◌then◌else◌}
-use Rattle.dcsctp_machine.specs.declared.association.Pair.{Pair}
 use Rattle.dcsctp_machine.specs.declared.association.Held.{Held}
 use Rattle.dcsctp_machine.specs.declared.ends.AbortReason.{AbortReason}
 use Rattle.dcsctp_machine.specs.declared.ends.AbortReason.TheVariants as reasons

@@ -3,7 +3,7 @@ use Rattle.std.proofs.Common.{◌≡◌, ◌≤◌, ◌<◌, ℕ, Bool, true, fa
 use Rattle.std.specs.Prelude.{if◌then◌else◌, max, nat_le}
 use Rattle.dcsctp_machine.specs.declared.association.Pair.{Pair}
 use Rattle.dcsctp_machine.specs.declared.association.Held.{Held}
-use Rattle.dcsctp_machine.specs.Packet.{Content, cookie_echo}
+use Rattle.dcsctp_machine.specs.Packet.{cookie_echo}
 use Rattle.dcsctp_machine.specs.Endpoint.{Endpoint, Core, closed, cookie_wait, cookie_echoed, open_in, RunningTimer, is_due, is_restarted}
 use Rattle.dcsctp_machine.specs.Outcome.{Outcome, still, quiet, sends, fits}
 use Rattle.dcsctp_machine.specs.Following.{next_chunk}
@@ -16,9 +16,9 @@ use Rattle.dcsctp_machine.specs.Controlled.{IsControlled, ControlledAct}
 use Rattle.dcsctp_machine.specs.turns.FlushOutcomes.{Answer, flush_answered, allows_packet}
 use Rattle.dcsctp_machine.specs.turns.HandshakeOutcomes.{init_emission, echo_emission}
 use Rattle.dcsctp_machine.specs.turns.TimerOutcomes.{t1_goes_on, AgainAnswers, again_by, again_outcome, t1_again_outcome, T1AgainTurn, t1_gives_up_outcome}
-use Rattle.dcsctp_machine.specs.Turn.{Input, act_input, time_passes, clock_at}
+use Rattle.dcsctp_machine.specs.Turn.{Input, act_input, clock_at}
 use Rattle.dcsctp_machine.specs.CallTurns.{Turned, Turns}
-use Rattle.dcsctp_machine.specs.TimeTurns.{deadlines_in, next_of, t1_inputs_of, t1_inputs, T1Turns, MomentTurns, TimeTurns, AdvanceTurns, AwaitsNoCookieAck, Waits, MoveClock, TimePassesQuietly}
+use Rattle.dcsctp_machine.specs.TimeTurns.{deadlines_in, next_of, t1_inputs_of, t1_inputs, T1Turns, MomentTurns, TimeTurns, AwaitsNoCookieAck, Waits, MoveClock, TimePassesQuietly}
 use Rattle.dcsctp_machine.proofs.FlushLemmas.{echo_now, echo_answers}
 use Rattle.dcsctp_machine.proofs.ControlHandshake.{no_choices, choosing, still_controlled, flush_of_one, flushes_one}
 

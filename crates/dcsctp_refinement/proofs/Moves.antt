@@ -20,7 +20,7 @@ use Rattle.dcsctp_machine.specs.control.Acts.{connect, act_change}
 use Rattle.dcsctp_machine.specs.Laws.{IsRest, dropped, ended, AreChunks, OfferReadsBack, ActsAreControlled, PacketsAreControlled, AdmittedPacketsMayBeWorked}
 use Rattle.dcsctp_machine.specs.Past.{Has}
 use Rattle.dcsctp_machine.specs.World.{SideState, after_changes, acted, ChunkChanges, PacketChanges, worked_whole, worked_acks, Move, does, receives, MoveChanges, Moved, MovesMade, after_moves}
-use Rattle.dcsctp_machine.specs.Sockets.{endpoint_after, packets_shown, DeliveryTurns, StepTurns}
+use Rattle.dcsctp_machine.specs.Sockets.{endpoint_after, packets_shown, DeliveryTurns}
 use Rattle.dcsctp_machine.specs.Fitting.{FitsCore, Sendable, SendablePacket, TurnFits}
 use Rattle.dcsctp_machine.proofs.TurnLemmas.{after_all-append}
 use Rattle.dcsctp_machine.proofs.DeliveryLemmas.{same_options_move, longest_connects}

@@ -1,5 +1,5 @@
 -- What comes of a step at one socket is moves of its side in the machine that agreement is proved on.
-use Rattle.std.proofs.Common.{◌≡◌, ℕ, Bool, true, false, zero, suc, Option, None, Some, List, [], ◌∷◌, ◌++◌, refl, sym, subst}
+use Rattle.std.proofs.Common.{ℕ, Bool, true, false, zero, suc, Option, None, Some, List, [], ◌∷◌, ◌++◌, refl, sym, subst}
 use Rattle.std.specs.Prelude.{if◌then◌else◌, nat_le}
 use Rattle.std.specs.List.{slice_get}
 use Rattle.dcsctp_machine.specs.declared.ends.AbortReason.{AbortReason}

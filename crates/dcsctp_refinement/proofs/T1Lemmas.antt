@@ -1,7 +1,6 @@
 -- T1 runs at each socket of a run that connects, whatever bytes it is handed.
-use Rattle.std.proofs.Common.{◌≡◌, ℕ, Bool, true, false, Option, None, Some, List, [], ◌∷◌, sym, subst}
+use Rattle.std.proofs.Common.{◌≡◌, ℕ, Bool, true, false, Option, List, [], ◌∷◌, sym, subst}
 use Rattle.dcsctp_wire.specs.Content.{ChunkContent, data_chunk, init_chunk, init_ack_chunk, sack_chunk, heartbeat_chunk, heartbeat_ack_chunk, abort_chunk, shutdown_chunk, shutdown_ack_chunk, error_chunk, cookie_echo_chunk, cookie_ack_chunk, shutdown_complete_chunk, i_data_chunk, re_config_chunk, forward_tsn_chunk, i_forward_tsn_chunk, unknown_chunk}
-use Rattle.dcsctp_machine.specs.declared.options.Options.{Options}
 use Rattle.dcsctp_machine.specs.Cookie.{cookie_at}
 use Rattle.dcsctp_machine.specs.Packet.{Content, init, init_ack, cookie_echo, cookie_ack, re_config, abort, shutdown, shutdown_ack, shutdown_complete, plain, Plain, content_in}
 use Rattle.dcsctp_machine.specs.Deadlines.{T1Runs}
@@ -9,7 +8,7 @@ use Rattle.dcsctp_machine.specs.Endpoint.{Endpoint, Core, closed, cookie_wait, c
 use Rattle.dcsctp_machine.specs.Outcome.{Outcome, still}
 use Rattle.dcsctp_machine.specs.Turn.{Input, arrival, refusal, packet_begins, chunk_input, packet_ends, act_input, time_passes, has_data, BeginTurn, ContentTurn, ActTurn}
 use Rattle.dcsctp_machine.specs.turns.PlainOutcomes.{PlainTurn, violation_at}
-use Rattle.dcsctp_machine.specs.turns.HandshakeOutcomes.{init_outcome, connect_outcome, init_ack_outcome}
+use Rattle.dcsctp_machine.specs.turns.HandshakeOutcomes.{init_ack_outcome}
 use Rattle.dcsctp_machine.specs.turns.TimerOutcomes.{t1_goes_on}
 use Rattle.dcsctp_machine.specs.turns.CookieEchoOutcomes.{cookie_echo_outcome}
 use Rattle.dcsctp_machine.specs.control.Acts.{Act, connect, t1_expires, shut_down, step_of_shutdown, shutdown_repeats, abort_with, hands_over, flushes, request_again}

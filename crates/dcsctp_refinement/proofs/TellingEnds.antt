@@ -10,12 +10,11 @@ use Rattle.dcsctp_machine.specs.Outcome.{Outcome, still, quiet, sends as sends_p
 use Rattle.dcsctp_machine.specs.Turn.{Input, arrival, refusal, packet_begins, chunk_input, packet_ends, act_input, time_passes, has_data}
 use Rattle.dcsctp_machine.specs.turns.HandshakeOutcomes.{pair_from, renewed_pair, init_ack_emission, init_outcome}
 use Rattle.dcsctp_machine.specs.control.Effect.{Effect, draws, sends, holds, connects, ends, begins, completes, fails, accepts, performs, Change}
-use Rattle.dcsctp_machine.specs.control.Choices.{Choices}
 use Rattle.dcsctp_machine.specs.control.Acts.{Act, act_change, shutdown_repeats}
 use Rattle.dcsctp_machine.specs.Controlled.{Sign, packet_sent, has_connected, has_ended, own_reset_performed, own_reset_failed, peer_reset_performed, signs_of_events, signs_of_effects, IsControlled, ControlledChunk, ControlledAct}
 use Rattle.dcsctp_machine.specs.CallTurns.{Turned, IsTurn}
 use Rattle.dcsctp_machine.specs.Laws.{ActsAreControlled}
-use Rattle.dcsctp_machine.specs.World.{ControlTurn, acted, worked}
+use Rattle.dcsctp_machine.specs.World.{acted, worked}
 use Rattle.dcsctp_machine.proofs.AlongLemmas.{run_along}
 use Rattle.dcsctp_machine.proofs.ControlHandshake.{init_ack_controlled, cookie_ack_controlled, abort_controlled}
 use Rattle.dcsctp_machine.proofs.ControlEnds.{shutdown_ack_controlled, shutdown_complete_controlled}

@@ -13,7 +13,7 @@ use dcsctp_machine::{
     acts_are_controlled, admitted_packets_may_be_worked, answer_keeps_agreement,
     chunks_are_controlled, cookie_reads_back, offer_reads_back, packets_are_controlled,
 };
-use dcsctp_wire::{built_packet_reads_as_itself, built_packet_reads_back};
+use dcsctp_wire_laws::{built_packet_reads_as_itself, built_packet_reads_back};
 
 /// Two sockets agree, over every schedule that loses, repeats, delays and reorders their packets, as long as
 /// no act comes from outside: each OnConnected finds that the other holds, or held, the crossed association

@@ -1,4 +1,5 @@
 pub mod Building
+pub mod CleanBlocks
 pub mod Content
 pub mod Fields
 pub mod Crc32c

@@ -7,6 +7,7 @@ ghost use Rattle.dcsctp_wire.specs.Fields.{fields_in};
 ghost use Rattle.dcsctp_wire.specs.Format.{IsChunkOf, BeginsWithChunk, AreChunks};
 
 mod abort;
+mod clean_blocks;
 mod cookie;
 mod forward_tsn;
 mod init;
@@ -22,6 +23,7 @@ use crate::packet::PacketError;
 use crate::parameter::read_parameters;
 use crate::types::chunk_type;
 pub use abort::{AbortChunk, ErrorChunk};
+pub use clean_blocks::clean_sack;
 pub use cookie::CookieEchoChunk;
 pub use forward_tsn::{ForwardTsnChunk, IForwardTsnChunk, SkippedMessages, SkippedStream};
 use forward_tsn::{read_forward_tsn, read_i_forward_tsn};

@@ -21,12 +21,9 @@ pub use chunk::{
     AbortChunk, Chunk, CookieEchoChunk, DataChunk, DataFlags, ErrorChunk, ForwardTsnChunk,
     GapAckBlock, HeartbeatAckChunk, HeartbeatRequestChunk, IDataChunk, IForwardTsnChunk, InitChunk,
     ReConfigChunk, SackChunk, ShutdownChunk, ShutdownCompleteChunk, SkippedMessages, SkippedStream,
-    UnknownChunk,
+    UnknownChunk, clean_sack,
 };
-pub use packet::{
-    CommonHeader, PacketError, SctpPacket, WireOptions, built_packet_reads_as_itself,
-    built_packet_reads_back, one_reading,
-};
+pub use packet::{CommonHeader, PacketError, SctpPacket, WireOptions, one_reading};
 pub use parameter::Parameter;
 pub use reconfiguration::{
     IncomingSsnResetRequestParameter, NextTsns, OutgoingSsnResetRequestParameter,

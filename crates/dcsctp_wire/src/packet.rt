@@ -6,7 +6,6 @@ ghost use Rattle.dcsctp_wire.specs.declared.packet.PacketError.TheVariants.{OutO
 ghost use Rattle.dcsctp_wire.specs.declared.packet.WireOptions.{WireOptions};
 ghost use Rattle.dcsctp_wire.specs.Content.{PacketContent, chunk_content, packet_content};
 ghost use Rattle.dcsctp_wire.specs.Format.{is_cookie_echo, checksum_accepted, IsPacket};
-ghost use Rattle.dcsctp_wire.specs.ReadsBack.{BuiltPacketReadsBack, BuiltPacketReadsAsItself};
 
 use crate::bytes::{u16_at, u32_at};
 use crate::chunk::{Chunk, read_chunks};
@@ -160,18 +159,4 @@ fn has_no_late_echo(chunks: &[Chunk]) -> bool
 pub fn one_reading()
     ensures { (options : WireOptions) (bytes : List ℕ) (p q : PacketContent)
         → IsPacket options p bytes → IsPacket options q bytes → p ≡ q }
-{}
-
-/// A law: the bytes of a packet, with a checksum or without, are read as that packet, where each number
-/// fits its field, INIT and INIT ACK have their minima, a COOKIE ECHO stands in front, and the reader
-/// takes a missing checksum (RFC 9260, section 3).
-pub fn built_packet_reads_back()
-    ensures { BuiltPacketReadsBack }
-{}
-
-/// A law: whatever any reader reads of the bytes of a packet is that packet, where each number fits its
-/// field (RFC 9260, section 3). What the reader takes is no premise: where it takes nothing, nothing is
-/// read.
-pub fn built_packet_reads_as_itself()
-    ensures { BuiltPacketReadsAsItself }
 {}

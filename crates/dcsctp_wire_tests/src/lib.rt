@@ -9,6 +9,8 @@ mod checks;
 #[cfg(test)]
 mod checksums;
 #[cfg(test)]
+mod gap_ack_blocks;
+#[cfg(test)]
 mod kinds;
 #[cfg(test)]
 mod numbers;

@@ -9,7 +9,7 @@ use Rattle.dcsctp_machine.specs.Cause.{Cause, reason_text, causes_of}
 use Rattle.dcsctp_machine.specs.Event.{Event, aborted}
 use Rattle.dcsctp_machine.specs.Event as events
 use Rattle.dcsctp_machine.specs.Packet.{Emission, abort, shutdown_ack, shutdown_complete}
-use Rattle.dcsctp_machine.specs.Endpoint.{Endpoint, Core, closed, cookie_wait, cookie_echoed, open_in, shutdown_sent, shutdown_ack_sent, stopped_timers}
+use Rattle.dcsctp_machine.specs.Endpoint.{Endpoint, Core, closed, cookie_echoed, open_in, shutdown_sent, shutdown_ack_sent, stopped_timers}
 use Rattle.dcsctp_machine.specs.control.Effect.{ends}
 use Rattle.dcsctp_machine.specs.Outcome.{Outcome, still, quiet, to_peer, sends, emits}
 use Rattle.dcsctp_machine.specs.Controlled.{ControlledChunk}

@@ -1,7 +1,6 @@
 -- The turns of T1-init and T1-cookie (RFC 9260, section 5.1).
-use Rattle.std.specs.Prelude.{◌≡◌, ℕ, codes, Bool, Option, List, [], ◌∷◌}
+use Rattle.std.specs.Prelude.{◌≡◌, ℕ, codes, List, []}
 use Rattle.std.specs.Option.{option_map}
-use Rattle.dcsctp_machine.specs.declared.association.Pair.{Pair}
 use Rattle.dcsctp_machine.specs.declared.kinds.ErrorKind.TheVariants.{TooManyRetries}
 use Rattle.dcsctp_machine.specs.Event.{aborted}
 use Rattle.dcsctp_machine.specs.Endpoint.{Endpoint, Core, closed, cookie_wait, cookie_echoed, open_in, going_on}

@@ -9,7 +9,7 @@ use Rattle.dcsctp_wire.specs.Content.{ParameterContent}
 use Rattle.dcsctp_wire.specs.Format.{padding_of, BeginsWith, AreItems, IsReadBy}
 use Rattle.dcsctp_wire.specs.Spelling.{zeros, parameter_type, parameter_value, parameter_len, parameter_bytes, parameters_len}
 use Rattle.dcsctp_wire.proofs.Lengths.{and_one_more, length-parameter_bytes}
-use Rattle.dcsctp_wire.proofs.ReadsBackFrames.{frame_behind}
+use Rattle.dcsctp_wire_laws.proofs.ReadsBackFrames.{frame_behind}
 
 -- An item that is written as a parameter is: its type or code fits, and with its value it is read as the item.
 pub record IsReadBack {Item : Type 0} (read : ℕ → List ℕ → Option Item) (spelled : Item → ParameterContent) (item : Item) : Type 0 where
@@ -51,7 +51,7 @@ fold_from len parameter [] = omega arith
 fold_from len parameter (other ∷ others) =
     omega (arith, fold_from (and_one_more len parameter) other others, fold_from (and_one_more 0 parameter) other others)
 
-len_of_more : (parameter other : ParameterContent) (others : List ParameterContent)
+pub len_of_more : (parameter other : ParameterContent) (others : List ParameterContent)
     → parameters_len (parameter ∷ other ∷ others) ≡ length (parameter_bytes parameter) + parameters_len (other ∷ others)
 unfolding parameters_len
 len_of_more parameter other others =

@@ -12,8 +12,8 @@ use Rattle.dcsctp_wire.specs.Fields.{u32_at, outgoing_request_in, incoming_reque
 use Rattle.dcsctp_wire.specs.Format.{AreParameters}
 use Rattle.dcsctp_wire.specs.Spelling.{result_code, parameter_type, parameter_value, parameter_bytes, parameters_len}
 use Rattle.dcsctp_wire.specs.ReadsBack.{AreEntries, FitsOutgoingRequest, FitsNextTsns, FitsParameter}
-use Rattle.dcsctp_wire.proofs.ReadsBackFields.{entries_behind}
-use Rattle.dcsctp_wire.proofs.ReadsBackItems.{IsReadBack, items_read_back}
+use Rattle.dcsctp_wire_laws.proofs.ReadsBackFields.{entries_behind}
+use Rattle.dcsctp_wire_laws.proofs.ReadsBackItems.{IsReadBack, items_read_back}
 
 -- ---- requests to reset streams, and answers
 

@@ -9,7 +9,7 @@ use Rattle.dcsctp_wire.specs.ReadsBack.{FitsInit, FitsChunk, HasMinima}
 use Rattle.dcsctp_wire.proofs.Chunks.{one_chunk}
 use Rattle.dcsctp_wire.proofs.Frames.{frame_of_nothing, same_frame}
 use Rattle.dcsctp_wire.proofs.Items.{same_item, nothing_begins}
-use Rattle.dcsctp_wire.proofs.ReadsBackChunks.{init_value, chunk_value, framed, begins}
+use Rattle.dcsctp_wire_laws.proofs.ReadsBackChunks.{init_value, chunk_value, framed, begins}
 
 -- ---- minima
 

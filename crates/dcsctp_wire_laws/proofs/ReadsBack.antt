@@ -10,10 +10,10 @@ use Rattle.dcsctp_wire.specs.Format.{checksum_accepted, IsPacket}
 use Rattle.dcsctp_wire.specs.Spelling.{chunk_bytes, header_bytes, checksum_field, packet_bytes_of, packet_bytes}
 use Rattle.dcsctp_wire.specs.ReadsBack.{FitsFields, IsWritable, BuiltPacketReadsBack, BuiltPacketReadsAsItself}
 use Rattle.dcsctp_wire.proofs.BuiltPackets.{length-header_bytes}
-use Rattle.dcsctp_wire.proofs.InBytes.{in_header, in_chunks}
-use Rattle.dcsctp_wire.proofs.ReadsBackChecksum.{field_reads_back}
-use Rattle.dcsctp_wire.proofs.ReadsBackChunks.{chunks_read_back}
-use Rattle.dcsctp_wire.proofs.ReadsBackAsItself.{chunks_read_as_themselves}
+use Rattle.dcsctp_wire_laws.proofs.InBytes.{in_header, in_chunks}
+use Rattle.dcsctp_wire_laws.proofs.ReadsBackChecksum.{field_reads_back}
+use Rattle.dcsctp_wire_laws.proofs.ReadsBackChunks.{chunks_read_back}
+use Rattle.dcsctp_wire_laws.proofs.ReadsBackAsItself.{chunks_read_as_themselves}
 
 abbrev header_of : PacketContent → List ℕ
 header_of packet = header_bytes packet.source_port packet.destination_port packet.verification_tag

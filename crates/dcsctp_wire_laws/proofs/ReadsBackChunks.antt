@@ -10,10 +10,10 @@ use Rattle.dcsctp_wire.specs.Format.{padding_of, frame_at, HasInitMinima, IsInit
 use Rattle.dcsctp_wire.specs.Spelling.{zeros, parameter_bytes, parameters_len, init_fields, as_parameter, data_fields, i_data_fields, sack_fields, Spelled, by_value, by_list, spelled, other_bytes, list_bytes, spelled_bytes, chunk_bytes}
 use Rattle.dcsctp_wire.specs.ReadsBack.{FitsList, FitsInit, FitsOther, FitsCauses, FitsChunk, HasMinima}
 use Rattle.dcsctp_wire.proofs.Lengths.{padded_parameters}
-use Rattle.dcsctp_wire.proofs.ReadsBackFields.{bit_read, data_reads, i_data_reads, sack_reads, shutdown_reads, forward_reads, i_forward_reads}
-use Rattle.dcsctp_wire.proofs.ReadsBackFrames.{frame_behind}
-use Rattle.dcsctp_wire.proofs.ReadsBackParameters.{parameters_read_back}
-use Rattle.dcsctp_wire.proofs.ReadsBackCauses.{causes_read_back}
+use Rattle.dcsctp_wire_laws.proofs.ReadsBackFields.{bit_read, data_reads, i_data_reads, sack_reads, shutdown_reads, forward_reads, i_forward_reads}
+use Rattle.dcsctp_wire_laws.proofs.ReadsBackFrames.{frame_behind}
+use Rattle.dcsctp_wire_laws.proofs.ReadsBackParameters.{parameters_read_back}
+use Rattle.dcsctp_wire_laws.proofs.ReadsBackCauses.{causes_read_back}
 
 -- ---- chunks that end in parameters or causes
 

@@ -11,7 +11,7 @@ use Rattle.dcsctp_wire.specs.Fields.{u32_at, missing_types, no_user_data_in, cau
 use Rattle.dcsctp_wire.specs.Format.{AreCauses}
 use Rattle.dcsctp_wire.specs.Spelling.{cause_code, cause_value, as_parameter, parameter_len, parameter_bytes, parameters_len}
 use Rattle.dcsctp_wire.specs.ReadsBack.{FitsCause}
-use Rattle.dcsctp_wire.proofs.ReadsBackItems.{IsReadBack, items_read_back}
+use Rattle.dcsctp_wire_laws.proofs.ReadsBackItems.{IsReadBack, items_read_back}
 
 -- the number of the types, and as many types
 types_in : (value types : List ℕ) (n : ℕ) → u32_at 0 value ≡ n → drop 4 value ≡ types → length value ≡ 4 + length types → length types ≡ 2 * n → missing_types value ≡ Some types

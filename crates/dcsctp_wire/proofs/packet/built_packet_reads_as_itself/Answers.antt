@@ -1,5 +1,0 @@
-use Rattle.dcsctp_wire.proofs.ReadsBack.{built_packet_reads_as_itself}
-use Rattle.dcsctp_wire.proofs.packet.built_packet_reads_as_itself.Goals as goal
-
-pub returns : goal.returns
-returns c = built_packet_reads_as_itself
