@@ -1,0 +1,73 @@
+-- Messages that wait, and streams by number.
+use Rattle.std.proofs.Common.{◌≡◌, ℕ, zero, suc, ◌-◌, ◌+◌, ◌<◌, ◌≤◌, Some, Ok, Err, List, [], ◌∷◌, length, set, drop, refl, sym, ap, ◌∙◌, arith}
+use Rattle.dcsctp_send_queue.specs.declared.stream.Pause.{Pause}
+use Rattle.dcsctp_send_queue.specs.declared.stream.Pause.TheVariants.{Open, Pausing, HandedOut}
+use Rattle.dcsctp_send_queue.specs.declared.turns.Turn.{Turn}
+use Rattle.dcsctp_send_queue.specs.Waiting.{Waiting, Stream, front_of, without_front}
+use Rattle.dcsctp_send_queue.specs.Ranking.{stream_at, turn_if, IsNext, IsFound, IsAscending}
+use Rattle.dcsctp_send_queue.specs.declared.backlog.Backlog.{Backlog}
+use Rattle.dcsctp_send_queue.specs.Backlog.{without_rest, IsUnderWay, HasRest}
+use Rattle.dcsctp_send_queue.specs.declared.message.UnderWay.{UnderWay}
+use Rattle.dcsctp_send_queue.proofs.StreamLemmas.{stream_at-set, length-set_at, same_place, absent_at}
+
+-- how many messages the streams have together
+abbrev pub count_messages : List Stream → ℕ
+count_messages [] = 0
+count_messages (stream ∷ streams) = length stream.messages + count_messages streams
+
+fewer_by : (messages : List Waiting) (message : Waiting) → front_of messages ≡ Some message → length (drop 1 messages) + 1 ≡ length messages
+fewer_by [] message e = cc
+fewer_by (x ∷ xs) message e = omega arith
+
+-- there are fewer once the oldest of a stream is gone
+pub count-without : (streams : List Stream) (p : ℕ) (s : Stream) (message : Waiting) → p < length streams → front_of (stream_at streams p).messages ≡ Some message → s.messages ≡ drop 1 (stream_at streams p).messages → count_messages (set streams p s) + 1 ≡ count_messages streams
+count-without [] p s message lt e is = absurd (omega arith)
+count-without (x ∷ xs) zero s message lt e is = let f = fewer_by x.messages message e in let g = ap length is in omega (arith, f, g)
+count-without (x ∷ xs) (suc p) s message lt e is = let ih = count-without xs p s message (omega arith) e is in omega (arith, ih)
+
+turn_has : (priority id : ℕ) (pause : Pause) (messages : List Waiting) (t : Turn) → turn_if priority id pause messages ≡ Some t → (m : Waiting) × (front_of messages ≡ Some m)
+turn_has priority id Open [] t e = cc
+turn_has priority id Open (m ∷ messages) t e = (m, refl)
+turn_has priority id Pausing messages t e = cc
+turn_has priority id HandedOut messages t e = cc
+
+-- a stream with a turn has a message
+pub next_front : (streams : List Stream) (place : ℕ) → IsNext streams place → (m : Waiting) × (front_of (stream_at streams place).messages ≡ Some m)
+next_front streams place next =
+    let s = stream_at streams place in
+    turn_has s.priority s.id s.pause s.messages next.turn next.is
+
+pub drop_past : (messages : List Waiting) (p : ℕ) → length messages ≤ p → drop p messages ≡ []
+drop_past [] zero le = refl
+drop_past [] (suc p) le = refl
+drop_past (x ∷ xs) zero le = absurd (omega arith)
+drop_past (x ∷ xs) (suc p) le = drop_past xs p (omega arith)
+
+count-same : (streams : List Stream) (p : ℕ) (s : Stream) → p < length streams → s.messages ≡ (stream_at streams p).messages → count_messages (set streams p s) ≡ count_messages streams
+count-same [] p s lt is = absurd (omega arith)
+count-same (x ∷ xs) zero s lt is = let g = ap length is in omega (arith, g)
+count-same (x ∷ xs) (suc p) s lt is = let ih = count-same xs p s (omega arith) is in omega (arith, ih)
+
+-- a message fewer waits once one was dropped
+pub count-without_rest : (queue : Backlog) (place sent : ℕ) (message : Waiting) → place < length queue.streams → front_of (stream_at queue.streams place).messages ≡ Some message → count_messages (without_rest place sent message queue).streams + 1 ≡ count_messages queue.streams
+count-without_rest queue place sent message lt front =
+    let less : Stream = record (stream_at queue.streams place) { amount = (stream_at queue.streams place).amount - (length message.payload - sent) } in
+    let at = stream_at-set queue.streams place less lt in
+    let len = length-set_at queue.streams place less in
+    let first = count-same queue.streams place less lt refl in
+    let second = count-without (set queue.streams place less) place (without_front (stream_at (set queue.streams place less) place)) message (omega (arith, len)) (ap (λ s. front_of s.messages) at ∙ front) refl in
+    omega (arith, first, second)
+
+-- the stream of the message under way was found
+pub under_way_at : (streams : List Stream) (under_way : UnderWay) (p : ℕ) → IsAscending streams → IsUnderWay streams under_way → IsFound streams under_way.stream_id.0 (Ok p) → HasRest streams p under_way.sent
+under_way_at streams under_way p ascending goes_on found =
+    let same = same_place streams goes_on.place p ascending goes_on.within found.0 (goes_on.is ∙ sym found.1) in
+    record {
+      within = found.0;
+      message = goes_on.message;
+      front = ap (λ k. front_of (stream_at streams k).messages) (sym same) ∙ goes_on.front;
+      rest = let u = goes_on.unfinished in omega arith;
+    }
+
+pub under_way_not_lost : (streams : List Stream) (under_way : UnderWay) (p : ℕ) → IsUnderWay streams under_way → IsFound streams under_way.stream_id.0 (Err p) → ⊥
+under_way_not_lost streams under_way p goes_on lost = absent_at streams under_way.stream_id.0 p goes_on.place lost goes_on.within goes_on.is

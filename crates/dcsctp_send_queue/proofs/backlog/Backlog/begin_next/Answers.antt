@@ -1,0 +1,32 @@
+use Rattle.std.proofs.Common.{ap, sym, ◌∙◌, arith}
+use Rattle.dcsctp_send_queue.proofs.QueueLemmas.{can_go_on-produced, drops-under_way}
+use Rattle.dcsctp_send_queue.proofs.backlog.Backlog.begin_next.Goals as goal
+
+pub returns-in_err-place-clause-can : goal.returns-in_err-place-clause-can
+returns-in_err-place-clause-can c = let e = drops-under_way _ _ _ _ c.in_err-place.ensures.err.drops ∙ c.requires.idle in rw e tt
+
+pub returns-in_default-clause-can : goal.returns-in_default-clause-can
+returns-in_default-clause-can c = let e = drops-under_way _ _ _ _ c.in_ok-place.ensures.told.drops ∙ c.requires.idle in rw e tt
+
+pub produce-requires : goal.produce-requires
+produce-requires c =
+    let may = rw c.in-Some.is at c.in_ok-place.ensures.ok in
+    let none_sent = ap (λ u. u.sent) (c.begun-under_way.ensures may.message may.front) in
+    record {
+      within = may.next.within;
+      message = may.message;
+      front = may.front;
+      rest = omega (arith, none_sent);
+    }
+
+pub returns-in_err-data-clause-can : goal.returns-in_err-data-clause-can
+returns-in_err-data-clause-can c =
+    let e = ap (λ q. q.under_way) c.in_err-data.ensures.err ∙ (drops-under_way _ _ _ _ c.in_ok-place.ensures.told.drops ∙ c.requires.idle) in
+    rw e tt
+
+pub returns-clause-can : goal.returns-clause-can
+returns-clause-can c =
+    let may = rw c.in-Some.is at c.in_ok-place.ensures.ok in
+    let is = ap (λ u. u.stream_id.0) (c.begun-under_way.ensures may.message may.front) in
+    rw (c.in_ok-data.ensures.left may.message may.front)
+    (can_go_on-produced _ _ _ may.message _ may.next.within (sym is) may.front c.requires.some)

@@ -1,0 +1,33 @@
+use Rattle.std.proofs.Common.{None, ap, sym, refl, ◌∙◌}
+use Rattle.dcsctp_send_queue.specs.declared.backlog.Backlog.{Backlog}
+use Rattle.dcsctp_send_queue.proofs.QueueLemmas.{not_named, apart_by, same_by}
+use Rattle.dcsctp_send_queue.proofs.backlog.Backlog.discard.Goals as goal
+
+pub returns-then-not-is_front_named-clause-ok : goal.returns-then-not-is_front_named-clause-ok
+returns-then-not-is_front_named-clause-ok c =
+    let rest = c.place_of-place.ensures.rest in
+    let other = apart_by rest.message.message_id c.args.message_id (sym (c.is_front_named.ensures rest.message rest.front) ∙ c.if-not-is_front_named.true) in (
+      not_named c.args.self.now c.args.stream_id.0 c.args.message_id c.place_of-place.result rest.message c.place_of-place.ensures.ascending
+          (rest.within, c.place_of-place.ensures.stream ∙ c.if-under_way-stream_id.false) rest.front other,
+      refl,
+      refl,
+    )
+
+pub returns-clause-ok : goal.returns-clause-ok
+returns-clause-ok c =
+    let rest = c.place_of-place.ensures.rest in
+    record {
+      named = record {
+        under_way = c.in-Some.under_way;
+        goes_on = c.in-Some.is;
+        place = c.place_of-place.result;
+        within = rest.within;
+        is = c.place_of-place.ensures.stream ∙ c.if-under_way-stream_id.false;
+        same = c.if-under_way-stream_id.false;
+        message = rest.message;
+        front = rest.front;
+        named = same_by rest.message.message_id c.args.message_id (sym (c.is_front_named.ensures rest.message rest.front) ∙ c.if-not-is_front_named.false);
+      };
+      left = ap {A = Backlog} (λ (q : Backlog). record q { under_way = None }) (c.in_ok-drop_front.ensures.ok rest.message rest.front);
+      events = c.in_ok-drop_front.ensures.told rest.message rest.front;
+    }

@@ -1,0 +1,36 @@
+use Rattle.std.proofs.Common.{◌++◌, [], append_assoc, ap, sym, ◌∙◌, arith, rules}
+use Rattle.dcsctp_send_queue.specs.Telling.{contents}
+use Rattle.dcsctp_send_queue.specs.Backlog.{none, more, drop_events}
+use Rattle.dcsctp_send_queue.proofs.WaitingLemmas.{count-without_rest, next_front}
+use Rattle.dcsctp_send_queue.proofs.backlog.Backlog.next_unexpired.Goals as goal
+
+pub loop-place-init : goal.loop-place-init
+loop-place-init c = record { events = []; drops = none; told = search rules }
+
+pub returns-then-not-is_front_expired-clause-ok : goal.returns-then-not-is_front_expired-clause-ok
+returns-then-not-is_front_expired-clause-ok c =
+    let next = c.in-Some.ensures.some in
+    let front = next_front _ _ next in
+    record {
+      next = next;
+      message = front.0;
+      front = front.1;
+      fresh = sym (c.is_front_expired.ensures front.0 front.1) ∙ c.if-not-is_front_expired.true;
+    }
+
+pub loop-place-smaller : goal.loop-place-smaller
+loop-place-smaller c =
+    let next = c.in-Some.ensures.some in
+    let front = next_front _ _ next in
+    let fewer = count-without_rest c.loop-place.self c.in-Some.place 0 front.0 next.within front.1 in
+    rw (c.in_ok-drop_front.ensures.ok front.0 front.1) (omega (arith, fewer))
+
+pub loop-place-preserved : goal.loop-place-preserved
+loop-place-preserved c =
+    let next = c.in-Some.ensures.some in
+    let front = next_front _ _ next in
+    record {
+      events = c.loop-place.invariant.events ++ drop_events c.in-Some.place 0 front.0 c.loop-place.self;
+      drops = rw (c.in_ok-drop_front.ensures.ok front.0 front.1) (more _ _ _ _ c.loop-place.invariant.drops next front.1 (sym (c.is_front_expired.ensures front.0 front.1) ∙ c.if-not-is_front_expired.false));
+      told = c.in_ok-drop_front.ensures.told front.0 front.1 ∙ (ap (λ z. z ++ drop_events c.in-Some.place 0 front.0 c.loop-place.self) c.loop-place.invariant.told ∙ append_assoc (contents c.args.events.now) c.loop-place.invariant.events (drop_events c.in-Some.place 0 front.0 c.loop-place.self));
+    }

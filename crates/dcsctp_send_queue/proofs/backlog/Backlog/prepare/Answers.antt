@@ -1,0 +1,49 @@
+use Rattle.std.proofs.Common.{◌++◌, ap, sym, ◌∙◌, rules}
+use Rattle.dcsctp_send_queue.specs.declared.backlog.Backlog.{Backlog}
+use Rattle.dcsctp_send_queue.specs.Telling.{contents}
+use Rattle.dcsctp_send_queue.specs.Backlog.{is_open, prepared_in, prepare_events_in}
+use Rattle.dcsctp_send_queue.proofs.QueueLemmas.{on_ok_map, found_in-at, paused_is, open_is, closed_is, open_events, closed_events, can_go_on-after_pause}
+use Rattle.dcsctp_send_queue.proofs.backlog.Backlog.prepare.Goals as goal
+
+pub returns-in-Open-clause-ok : goal.returns-in-Open-clause-ok
+returns-in-Open-clause-ok c =
+    let is = ap (λ s. s.pause) (found_in-at _ _ _ _ c.in_ok-place.ensures.ascending c.in_ok-place.ensures.place ∙ sym c.at.ensures) ∙ (sym c.pause_state.ensures ∙ c.in-Open.is) in
+    on_ok_map c.pause.result
+    (λ e. e ∙ (paused_is c.use_stream.new.self c.in_ok-place.place c.args.stream_id.0 c.in_ok-place.ensures.ascending c.in_ok-place.ensures.place
+    ∙ (open_is c.use_stream.new.self c.args.stream_id.0 (ap (λ p. is_open p) is) ∙ ap {A = Backlog} (λ (q : Backlog). prepared_in c.args.stream_id.0 q) c.in_ok-place.ensures.ok)))
+    c.pause.ensures.ok
+
+pub returns-in-Open-clause-told : goal.returns-in-Open-clause-told
+returns-in-Open-clause-told c =
+    let is = ap (λ s. s.pause) (found_in-at _ _ _ _ c.in_ok-place.ensures.ascending c.in_ok-place.ensures.place ∙ sym c.at.ensures) ∙ (sym c.pause_state.ensures ∙ c.in-Open.is) in
+    on_ok_map c.pause.result
+    (λ e. e ∙ ap (λ z. contents c.args.events.now ++ z)
+    (open_events c.use_stream.new.self c.in_ok-place.place c.args.stream_id.0 c.in_ok-place.ensures.ascending c.in_ok-place.ensures.place (ap (λ p. is_open p) is)
+    ∙ ap {A = Backlog} (λ (q : Backlog). prepare_events_in c.args.stream_id.0 q) c.in_ok-place.ensures.ok))
+    c.pause.ensures.told
+
+pub returns-in-Open-clause-can : goal.returns-in-Open-clause-can
+returns-in-Open-clause-can c can =
+    can_go_on-after_pause c.pause.result c.use_stream.new.self c.pause.new.self c.in_ok-place.place c.pause.ensures.ok c.pause.ensures.err c.in_ok-place.ensures.place.0 (c.in_ok-place.ensures.can can)
+
+pub returns-in-Pausing-clause-ok : goal.returns-in-Pausing-clause-ok
+returns-in-Pausing-clause-ok c =
+    let is = ap (λ s. s.pause) (found_in-at _ _ _ _ c.in_ok-place.ensures.ascending c.in_ok-place.ensures.place ∙ sym c.at.ensures) ∙ (sym c.pause_state.ensures ∙ c.in-Pausing.is) in
+    closed_is c.use_stream.new.self c.args.stream_id.0 (ap (λ p. is_open p) is) ∙ ap {A = Backlog} (λ (q : Backlog). prepared_in c.args.stream_id.0 q) c.in_ok-place.ensures.ok
+
+pub returns-in-Pausing-clause-told : goal.returns-in-Pausing-clause-told
+returns-in-Pausing-clause-told c =
+    let is = ap (λ s. s.pause) (found_in-at _ _ _ _ c.in_ok-place.ensures.ascending c.in_ok-place.ensures.place ∙ sym c.at.ensures) ∙ (sym c.pause_state.ensures ∙ c.in-Pausing.is) in
+    let none = ap {A = Backlog} (λ (q : Backlog). prepare_events_in c.args.stream_id.0 q) (sym c.in_ok-place.ensures.ok) ∙ closed_events c.use_stream.new.self c.args.stream_id.0 (ap (λ p. is_open p) is) in
+    rw none (search rules)
+
+pub returns-in-HandedOut-clause-ok : goal.returns-in-HandedOut-clause-ok
+returns-in-HandedOut-clause-ok c =
+    let is = ap (λ s. s.pause) (found_in-at _ _ _ _ c.in_ok-place.ensures.ascending c.in_ok-place.ensures.place ∙ sym c.at.ensures) ∙ (sym c.pause_state.ensures ∙ c.in-HandedOut.is) in
+    closed_is c.use_stream.new.self c.args.stream_id.0 (ap (λ p. is_open p) is) ∙ ap {A = Backlog} (λ (q : Backlog). prepared_in c.args.stream_id.0 q) c.in_ok-place.ensures.ok
+
+pub returns-in-HandedOut-clause-told : goal.returns-in-HandedOut-clause-told
+returns-in-HandedOut-clause-told c =
+    let is = ap (λ s. s.pause) (found_in-at _ _ _ _ c.in_ok-place.ensures.ascending c.in_ok-place.ensures.place ∙ sym c.at.ensures) ∙ (sym c.pause_state.ensures ∙ c.in-HandedOut.is) in
+    let none = ap {A = Backlog} (λ (q : Backlog). prepare_events_in c.args.stream_id.0 q) (sym c.in_ok-place.ensures.ok) ∙ closed_events c.use_stream.new.self c.args.stream_id.0 (ap (λ p. is_open p) is) in
+    rw none (search rules)

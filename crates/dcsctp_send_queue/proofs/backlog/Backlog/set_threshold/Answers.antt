@@ -1,0 +1,8 @@
+use Rattle.dcsctp_send_queue.specs.Backlog.{with_threshold}
+use Rattle.dcsctp_send_queue.proofs.QueueLemmas.{change_used}
+use Rattle.dcsctp_send_queue.proofs.backlog.Backlog.set_threshold.Goals as goal
+
+pub returns-clause-ok : goal.returns-clause-ok
+returns-clause-ok c =
+    change_used c.args.self.now c.use_stream.new.self c.in_ok-place.place c.args.stream_id.0 (with_threshold c.args.bytes) c.set_threshold.new.self
+    c.in_ok-place.ensures.ok c.in_ok-place.ensures.ascending c.in_ok-place.ensures.place c.set_threshold.ensures

@@ -1,0 +1,20 @@
+use Rattle.std.proofs.Common.{ap, ◌∙◌}
+use Rattle.std.specs.List.{insert}
+use Rattle.dcsctp_send_queue.specs.Waiting.{unused}
+use Rattle.dcsctp_send_queue.proofs.StreamLemmas.{IsAscending-insert}
+use Rattle.dcsctp_send_queue.proofs.QueueLemmas.{insert-used, can_go_on-insert}
+use Rattle.dcsctp_send_queue.proofs.backlog.Backlog.use_stream.Goals as goal
+
+pub returns-in_ok-insert-in-Err-clause-ok : goal.returns-in_ok-insert-in-Err-clause-ok
+returns-in_ok-insert-in-Err-clause-ok c =
+    ap (λ s. record c.args.self.now { streams = s })
+    (c.in_ok-insert-in-Err.ensures.ok ∙ (ap (λ u. insert c.args.self.now.streams c.in-Err.place u) c.new_stream-stream.ensures
+    ∙ insert-used c.args.self.now c.in-Err.place c.args.stream_id.0 c.in-Err.ensures.found))
+
+pub returns-in_ok-insert-in-Err-clause-ascending : goal.returns-in_ok-insert-in-Err-clause-ascending
+returns-in_ok-insert-in-Err-clause-ascending c =
+    rw (c.in_ok-insert-in-Err.ensures.ok, c.new_stream-stream.ensures)
+    (IsAscending-insert c.args.self.now.streams c.in-Err.place (unused c.args.stream_id.0 c.args.self.now.default_priority c.args.self.now.default_threshold) c.in-Err.ensures.ascending c.in-Err.ensures.found)
+
+pub returns-in_ok-insert-in-Err-clause-can : goal.returns-in_ok-insert-in-Err-clause-can
+returns-in_ok-insert-in-Err-clause-can c can = rw c.in_ok-insert-in-Err.ensures.ok (can_go_on-insert _ _ _ _ can c.in-Err.ensures.found.0)

@@ -1,0 +1,6 @@
+use Rattle.std.proofs.Common.{◌∙◌}
+use Rattle.dcsctp_send_queue.proofs.QueueLemmas.{on_err_map, stays}
+use Rattle.dcsctp_send_queue.proofs.send_queue.SendQueue.produce.Goals as goal
+
+pub returns-in-Some-clause-err : goal.returns-in-Some-clause-err
+returns-in-Some-clause-err c = on_err_map c.go_on.result (λ e. stays c.args.now c.args.self.now c.go_on.new.self (e ∙ c.self.view_is)) c.go_on.ensures.err

@@ -1,0 +1,6 @@
+pub mod Backlog
+pub mod Fragment
+pub mod Ranking
+pub mod Telling
+pub mod Turns
+pub mod Waiting

@@ -1,0 +1,48 @@
+//! What leaves a send queue.
+
+use dcsctp_api::{LifecycleId, PpId, SocketTime, StreamId};
+
+/// A fragment of a message, which goes out as one DATA chunk (RFC 9260, section 3.3.1) or I-DATA chunk
+/// (RFC 8260, section 2.1).
+#[derive(Debug, Drop)]
+pub struct DataToSend {
+    /// Counts the messages of the queue in the order in which they were added, from 0. It names the
+    /// message for `discard`.
+    pub message_id: u64,
+
+    /// The stream that it goes by.
+    pub stream_id: StreamId,
+
+    /// The stream sequence number; 0 for an unordered message.
+    pub ssn: u16,
+
+    /// The message identifier, which ordered and unordered messages of a stream count apart.
+    pub mid: u32,
+
+    /// The fragments of the message that came before this one.
+    pub fsn: u32,
+
+    /// The protocol of the payload.
+    pub ppid: PpId,
+
+    /// May the peer be given the message out of order?
+    pub is_unordered: bool,
+
+    /// Is it the first fragment?
+    pub is_beginning: bool,
+
+    /// Is it the last fragment?
+    pub is_end: bool,
+
+    /// The bytes of the fragment, of which there is one at least.
+    pub payload: Vec<u8>,
+
+    /// How often the message may be sent again; none: there is no limit.
+    pub max_retransmissions: Option<u16>,
+
+    /// The moment after which the message is given up; none: it never is.
+    pub expires_at: Option<SocketTime>,
+
+    /// The name under which events tell how the message fares.
+    pub lifecycle_id: Option<LifecycleId>,
+}

@@ -1,0 +1,249 @@
+//! The send queue: which message leaves next, in fragments, and what the user is told of it
+//! (RFC 9260, section 6.9, RFC 8260, section 2.1, RFC 3758, section 3.5 and RFC 6525, section 5.1.2).
+
+ghost use Rattle.std.specs.Prelude.{◌<◌};
+
+use crate::backlog::Backlog;
+use crate::data::DataToSend;
+use crate::message::QueuedMessage;
+use crate::streams::Streams;
+use dcsctp_api::{Events, Message, Options, SendOptions, SocketTime, StreamId};
+use std::alloc::{AllocError, Global};
+use std::marker::Model;
+
+/// The messages that wait to be sent, by stream.
+///
+/// An amount is the payload bytes that were neither produced nor dropped; it stops at `usize::MAX`. One
+/// that falls from above its threshold to it or below adds its event: the stream's, and then the
+/// total's. Where a fragment leaves or messages are dropped, these come before the events that name a
+/// message.
+#[derive(Drop)]
+pub struct SendQueue {
+    backlog: Backlog,
+}
+
+impl Model for SendQueue {
+    ghost use Rattle.dcsctp_send_queue.specs.declared.backlog.Backlog.{Backlog};
+    ghost use Rattle.dcsctp_send_queue.specs.Backlog.{CanGoOn};
+
+    ghost Value = { Backlog };
+
+    ghost view = { λ queue. queue.backlog };
+
+    ghost invariant = { λ queue. CanGoOn queue.backlog.streams queue.backlog.under_way };
+}
+
+impl SendQueue {
+    ghost use Rattle.std.specs.Prelude.{◌≡◌, ◌+◌, ◌-◌, ◌<◌, ◌≤◌, ◌++◌, ◌↔◌, ℕ, IsTrue, IsSome, OnOk, OnErr, IfOk, map, take, if◌then◌else◌, true, false};
+    ghost use Rattle.dcsctp_send_queue.specs.Telling.{contents, expiries, low_events};
+    ghost use Rattle.dcsctp_send_queue.specs.Waiting.{paused};
+    ghost use Rattle.dcsctp_send_queue.specs.Backlog.{no_backlog, queued, with_added, TakesNext, DropsSome, DiscardsNamed, restarted, changed, used, stream_of, handing_out, ready_streams, may_send, IsUsedAtMost, HasReady, with_threshold, with_priority, prepared, prepare_events};
+    ghost use Rattle.dcsctp_send_queue.specs.Waiting.{committed, rolled_back};
+    ghost use Rattle.dcsctp_api.specs.Ids.{stream_numbers};
+
+    /// A queue with no messages, which numbers them as for no interleaving. It takes no memory.
+    pub fn new(alloc: Global, options: &Options) -> SendQueue
+        ensures { result ≡ no_backlog alloc options.now }
+    {
+        SendQueue {
+            backlog: Backlog {
+                alloc,
+                streams: Streams::new(alloc),
+                under_way: None,
+                total_amount: 0,
+                total_threshold: options.total_buffered_amount_low_threshold,
+                default_priority: options.default_stream_priority,
+                default_threshold: options.default_stream_buffered_amount_low_threshold,
+                is_interleaved: false,
+                next_message_id: 0,
+            },
+        }
+    }
+
+    /// Adds a message, whose payload isn't empty, behind the others of its stream. It may be begun until
+    /// its lifetime after `now` has passed.
+    pub fn add(
+        &mut self,
+        now: SocketTime,
+        message: Message,
+        options: &SendOptions,
+    ) -> Result<(), AllocError>
+        ensures ok { OnOk result (self.new ≡ with_added message.stream_id.0 (queued now message options.now self.old) self.old) }
+        ensures err { OnErr result (self.new ≡ self.old) }
+    {
+        let stream_id = message.stream_id;
+        let size = message.payload.len();
+        let queued = QueuedMessage::new(self.backlog.next_message_id, now, message, options);
+        self.backlog.put(stream_id, queued)?;
+        self.backlog.total_amount = self.backlog.total_amount.saturating_add(size);
+        self.backlog.next_message_id = self.backlog.next_message_id.wrapping_add(1);
+        Ok(())
+    }
+
+    /// Takes the next fragment, of at most `max` payload bytes: of the message under way, or else of the
+    /// oldest message of the stream of greatest priority, and of these the one of least number, that
+    /// isn't paused and has a message. Messages there that are too old at the moment `now` to be begun
+    /// are dropped. None: no message can be taken.
+    ///
+    /// A message that was begun is never dropped here. One that fits goes out as one fragment, whose
+    /// payload is not copied.
+    pub fn produce(
+        &mut self,
+        events: &mut Events,
+        now: SocketTime,
+        max: usize,
+    ) -> Result<Option<DataToSend>, AllocError>
+        requires { 0 < max }
+        ensures ok { IfOk result (λ next. TakesNext now max self.old (contents events.old) next self.new (contents events.new)) }
+        ensures err { OnErr result (DropsSome now self.old self.new) }
+    {
+        match self.backlog.under_way {
+            Some(under_way) => self.backlog.go_on(events, under_way, max),
+            None => self.backlog.begin_next(events, now, max),
+        }
+    }
+
+    /// Drops what is left of the message under way, if it is the one of this name and stream, and
+    /// answers whether it was.
+    pub fn discard(
+        &mut self,
+        events: &mut Events,
+        stream_id: StreamId,
+        message_id: u64,
+    ) -> Result<bool, AllocError>
+        ensures ok { IfOk result (λ is_dropped. DiscardsNamed self.old stream_id.0 message_id (contents events.old) is_dropped self.new (contents events.new)) }
+        ensures err { OnErr result (self.new ≡ self.old) }
+    {
+        self.backlog.discard(events, stream_id, message_id)
+    }
+
+    /// Is a message under way, or does one wait on a stream that isn't paused? Its age isn't looked at.
+    pub fn has_data_to_send(&self) -> bool
+        ensures { result ≡ may_send self.now.under_way self.now.streams }
+    {
+        self.backlog.may_send()
+    }
+
+    /// Says whether messages are numbered as for interleaving (RFC 8260, section 2.1). Message
+    /// identifiers are counted in both cases, and no message interrupts the one under way.
+    pub fn enable_message_interleaving(&mut self, enabled: bool)
+        ensures { self.new ≡ record self.old { is_interleaved = enabled } }
+    {
+        self.backlog.is_interleaved = enabled;
+    }
+
+    /// Makes the queue ready for another association: the message that is under way begins again, all
+    /// messages are numbered from 0, and every pause ends. Messages, thresholds and priorities stay.
+    pub fn reset(&mut self)
+        ensures { self.new ≡ restarted self.old }
+    {
+        self.backlog.put_back();
+        self.backlog.streams.begin_all_anew();
+    }
+
+    /// Drops the messages of the stream that aren't begun, and pauses it until it was reset, or until
+    /// that failed. A stream that is paused stays as it is, with its messages.
+    pub fn prepare_reset_stream(
+        &mut self,
+        events: &mut Events,
+        stream_id: StreamId,
+    ) -> Result<(), AllocError>
+        ensures ok { OnOk result (self.new ≡ prepared stream_id.0 self.old) }
+        ensures told { OnOk result (contents events.new ≡ contents events.old ++ prepare_events stream_id.0 self.old) }
+        ensures err { OnErr result (IsUsedAtMost stream_id.0 self.old self.new) }
+    {
+        self.backlog.prepare(events, stream_id)
+    }
+
+    /// Can `get_streams_ready_to_reset` hand out a stream?
+    pub fn has_streams_ready_to_be_reset(&self) -> bool
+        ensures { IsTrue result ↔ HasReady self.now }
+    {
+        self.backlog.has_ready()
+    }
+
+    /// Hands out at most `max` streams that can be reset (RFC 6525, section 5.1.2): those of least
+    /// number, ascending. They stay paused until `commit_reset_streams` or `rollback_reset_streams`. If
+    /// there is no memory for the list, none is handed out.
+    pub fn get_streams_ready_to_reset(&mut self, max: usize) -> Result<Vec<StreamId>, AllocError>
+        ensures streams { IfOk result (λ ids. stream_numbers ids.items ≡ take max (ready_streams self.old)) }
+        ensures left { OnOk result (self.new ≡ record self.old { streams = handing_out (take max (ready_streams self.old)) self.old.streams }) }
+        ensures err { OnErr result (self.new ≡ self.old) }
+    {
+        let ids = self.backlog.ready_ids(max)?;
+        self.backlog.hand_out(&ids);
+        Ok(ids)
+    }
+
+    /// The streams that are handed out were reset: they number their messages from 0, and their pause
+    /// ends.
+    pub fn commit_reset_streams(&mut self)
+        ensures { self.new ≡ record self.old { streams = map committed self.old.streams } }
+    {
+        self.backlog.streams.commit_all();
+    }
+
+    /// The streams that are handed out were not reset: their pause ends.
+    pub fn rollback_reset_streams(&mut self)
+        ensures { self.new ≡ record self.old { streams = map rolled_back self.old.streams } }
+    {
+        self.backlog.streams.roll_back_all();
+    }
+
+    /// The payload bytes that wait on the stream; 0 for one that was never used.
+    pub fn buffered_amount(&self, stream_id: StreamId) -> usize
+        ensures { result ≡ (stream_of self.now stream_id.0).amount }
+    {
+        match self.backlog.streams.find(stream_id) {
+            Ok(place) => self.backlog.streams.at(place).amount(),
+            Err(_) => 0,
+        }
+    }
+
+    /// The payload bytes that wait on all streams together.
+    pub fn total_buffered_amount(&self) -> usize
+        ensures { result ≡ self.now.total_amount }
+    {
+        self.backlog.total_amount
+    }
+
+    /// The stream's threshold in bytes.
+    pub fn buffered_amount_low_threshold(&self, stream_id: StreamId) -> usize
+        ensures { result ≡ (stream_of self.now stream_id.0).threshold }
+    {
+        match self.backlog.streams.find(stream_id) {
+            Ok(place) => self.backlog.streams.at(place).threshold(),
+            Err(_) => self.backlog.default_threshold,
+        }
+    }
+
+    /// Gives the stream a threshold, in bytes. It adds no event.
+    pub fn set_buffered_amount_low_threshold(
+        &mut self,
+        stream_id: StreamId,
+        bytes: usize,
+    ) -> Result<(), AllocError>
+        ensures ok { OnOk result (self.new ≡ record self.old { streams = changed stream_id.0 (with_threshold bytes) (used self.old stream_id.0) }) }
+        ensures err { OnErr result (self.new ≡ self.old) }
+    {
+        self.backlog.set_threshold(stream_id, bytes)
+    }
+
+    /// The stream's priority; a greater one goes first.
+    pub fn get_priority(&self, stream_id: StreamId) -> u16
+        ensures { result ≡ (stream_of self.now stream_id.0).priority }
+    {
+        match self.backlog.streams.find(stream_id) {
+            Ok(place) => self.backlog.streams.at(place).priority(),
+            Err(_) => self.backlog.default_priority,
+        }
+    }
+
+    /// Gives the stream a priority.
+    pub fn set_priority(&mut self, stream_id: StreamId, priority: u16) -> Result<(), AllocError>
+        ensures ok { OnOk result (self.new ≡ record self.old { streams = changed stream_id.0 (with_priority priority) (used self.old stream_id.0) }) }
+        ensures err { OnErr result (self.new ≡ self.old) }
+    {
+        self.backlog.set_priority(stream_id, priority)
+    }
+}

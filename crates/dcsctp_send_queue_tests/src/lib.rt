@@ -1,0 +1,12 @@
+//! Tests of `dcsctp_send_queue` by its public calls. Their values were worked out by hand from the
+//! standards' rules.
+#![tactic(auto)]
+
+#[cfg(test)]
+mod amounts;
+#[cfg(test)]
+mod order;
+#[cfg(test)]
+mod queues;
+#[cfg(test)]
+mod resets;
