@@ -1,4 +1,5 @@
 pub mod Drawing
+pub mod Errors
 pub mod Flushing
 pub mod Handling
 pub mod Timing

@@ -16,6 +16,7 @@ use Rattle.dcsctp_machine.specs.turns.HandshakeOutcomes.{heartbeats_begun}
 use Rattle.dcsctp_machine.specs.control.Effect.{drawn_in}
 use Rattle.dcsctp_machine.specs.CallTurns.{Turned, after_all, words_of, effects_of, events_of}
 use Rattle.dcsctp_machine.specs.Settings.{ports_of}
+use Rattle.dcsctp_send.specs.RetransmissionTimeout.{timeout_state}
 use Rattle.dcsctp_api.specs.Events.{event_content}
 use Rattle.dcsctp_api.specs.Calls.{user_event}
 use Rattle.dcsctp_core.specs.declared.state.State.{State}
@@ -79,7 +80,7 @@ t1_of (Established tcb) = None
 
 -- what an association has of the transfer layer
 abbrev pub transfer_in : TransmissionControlBlock → Transfer
-transfer_in tcb = record { retransmission = tcb.retransmission_queue; timeout = tcb.rto; tracker = tcb.data_tracker; reassembly = tcb.reassembly_queue }
+transfer_in tcb = record { retransmission = tcb.retransmission_queue; timeout = timeout_state tcb.rto; tracker = tcb.data_tracker; reassembly = tcb.reassembly_queue }
 
 -- An association that was just made, with this peer and this tie tag.
 pub record IsNew (options : Options) (own : Pair) (peer : Peer) (tie : ℕ) (tcb : TransmissionControlBlock) : Type 0 where
@@ -101,7 +102,13 @@ endpoint_of context =
       moment = context.moment;
       core = core_of context.state;
       tie = tie_of context.state;
-      timers = record stopped_timers { t1 = t1_of context.state; heartbeat_interval = context.heartbeat_interval.running };
+      error_count = context.tx_error_counter.count;
+      heartbeat_counter = context.heartbeat_counter;
+      timers = record stopped_timers {
+        t1 = t1_of context.state;
+        heartbeat_interval = context.heartbeat_interval.running;
+        heartbeat_timeout = context.heartbeat_timeout.running;
+      };
       counts = record { packets_received = context.rx_packets_count; packets_sent = context.tx_packets_count; messages_queued = 0 };
       peer_implementation = context.peer_implementation;
       below = record { queue = context.send_queue; transfer = transfer_of context.state };

@@ -2,11 +2,13 @@
 
 ghost use Rattle.std.specs.Prelude.{◌≡◌};
 ghost use Rattle.dcsctp_machine.specs.Endpoint.{heartbeat_settings};
+ghost use Rattle.dcsctp_machine.specs.turns.HeartbeatOutcomes.{heartbeat_timeout_settings};
 ghost use Rattle.dcsctp_machine.specs.Settings.{IsValid};
 
 use crate::ending::end_event;
 use crate::flush::allows_packet;
 use crate::state::State;
+use crate::tx_error_counter::TxErrorCounter;
 use dcsctp_api::{
     ErrorKind, Events, Options, Pair, SctpImplementation, SocketEvent, SocketTime, Word,
 };
@@ -52,6 +54,15 @@ pub struct Context<R> {
     // When a HEARTBEAT goes out (RFC 9260, section 8.3).
     heartbeat_interval: Timer,
 
+    // How long the answer to a HEARTBEAT is awaited (RFC 9260, section 8.3).
+    heartbeat_timeout: Timer,
+
+    // The counter in the last HEARTBEAT.
+    heartbeat_counter: u32,
+
+    // The errors that count (RFC 9260, section 8.1).
+    tx_error_counter: TxErrorCounter,
+
     // How many packets were handed in.
     rx_packets_count: usize,
 
@@ -61,6 +72,10 @@ pub struct Context<R> {
     ghost valid: { IsValid options },
 
     ghost interval: { heartbeat_interval.settings ≡ heartbeat_settings options },
+
+    ghost timeout: { heartbeat_timeout.settings ≡ heartbeat_timeout_settings options },
+
+    ghost errors: { tx_error_counter.limit ≡ options.max_retransmissions },
 }
 
 impl<R: Rng> Context<R> {
@@ -69,6 +84,10 @@ impl<R: Rng> Context<R> {
     ghost use Rattle.dcsctp_machine.specs.declared.word.Word.TheVariants.{U32, U64};
     ghost use Rattle.dcsctp_machine.specs.Outcome.{counted};
     ghost use Rattle.dcsctp_wire.specs.Content.{chunk_content};
+    ghost use Rattle.dcsctp_machine.specs.TimeTurns.{own_timer};
+    ghost use Rattle.dcsctp_machine.specs.turns.HeartbeatOutcomes.{heartbeat_interval, heartbeat_timeout, interval_expired, beating, timeout_outcome, answered, is_exhausted};
+    ghost use Rattle.dcsctp_send.specs.Timer.{running_deadline};
+    ghost use Rattle.dcsctp_core.specs.Timing.{where_expired, is_timer_due};
     ghost use Rattle.dcsctp_core.specs.View.{Moves, view_of, endpoint_of, begun_heartbeats, fresh_view, call_start};
     ghost use Rattle.dcsctp_core.specs.Drawing.{Draws, Keeps};
     ghost use Rattle.dcsctp_core.specs.Flushing.{Flushes};
@@ -96,6 +115,14 @@ impl<R: Rng> Context<R> {
                 None,
                 None,
             ),
+            heartbeat_timeout: Timer::new(
+                options.rto_initial,
+                BackoffAlgorithm::Fixed,
+                Some(0),
+                None,
+            ),
+            heartbeat_counter: 0,
+            tx_error_counter: TxErrorCounter::new(options.max_retransmissions),
             rx_packets_count: 0,
             tx_packets_count: 0,
         }
@@ -227,6 +254,83 @@ impl<R: Rng> Context<R> {
         }
     }
 
+    /// Tells the heartbeat interval the present moment, and answers whether it expires. It goes on then.
+    pub fn expire_heartbeat_interval(&mut self) -> bool
+        ensures answer { result ≡ is_timer_due (endpoint_of self.old) (own_timer heartbeat_interval) }
+        ensures left { view_of self.new ≡ where_expired result (interval_expired
+            (endpoint_of self.old)) (view_of self.old) }
+    {
+        self.heartbeat_interval.expire(self.moment)
+    }
+
+    /// Counts the next HEARTBEAT, whose answer is awaited from now on, and gives its counter, which goes up
+    /// by one, round 2^32.
+    pub fn next_heartbeat(&mut self) -> u32
+        ensures counter { result ≡ (beating (endpoint_of self.old)).heartbeat_counter }
+        ensures view { view_of self.new ≡ record (view_of self.old) {
+          endpoint = beating
+              (endpoint_of self.old);
+        } }
+    {
+        self.heartbeat_counter = self.heartbeat_counter.wrapping_add(1);
+        self.heartbeat_timeout.start(self.moment);
+        self.heartbeat_counter
+    }
+
+    /// Tells the timer of the answer to a HEARTBEAT the present moment, and answers whether it expires. It
+    /// stops then, and an error is counted.
+    pub fn expire_heartbeat_timeout(&mut self) -> bool
+        ensures answer { result ≡ is_timer_due (endpoint_of self.old) (own_timer heartbeat_timeout) }
+        ensures left { view_of self.new ≡ where_expired result (timeout_outcome
+            (endpoint_of self.old)).after (view_of self.old) }
+    {
+        if self.heartbeat_timeout.expire(self.moment) {
+            self.tx_error_counter.increment();
+            return true;
+        }
+        false
+    }
+
+    /// The counter in the last HEARTBEAT.
+    pub fn heartbeat_counter(&self) -> u32
+        ensures { result ≡ (endpoint_of self.now).heartbeat_counter }
+    {
+        self.heartbeat_counter
+    }
+
+    /// The peer has answered the last HEARTBEAT: no answer is awaited, and no error counts.
+    pub fn end_heartbeat(&mut self)
+        ensures { view_of self.new ≡ record (view_of self.old) {
+          endpoint = answered
+              (endpoint_of self.old);
+        } }
+    {
+        self.heartbeat_timeout.stop();
+        self.tx_error_counter.reset();
+    }
+
+    /// Were more errors counted than the options allow (RFC 9260, section 8.1)?
+    pub fn has_too_many_errors(&self) -> bool
+        ensures { result ≡ is_exhausted (endpoint_of self.now).options.max_retransmissions
+            (endpoint_of self.now).error_count }
+    {
+        self.tx_error_counter.is_exhausted()
+    }
+
+    /// When the heartbeat interval expires, where it runs.
+    pub fn heartbeat_interval_deadline(&self) -> Option<SocketTime>
+        ensures { result ≡ running_deadline (endpoint_of self.now).timers.heartbeat_interval }
+    {
+        self.heartbeat_interval.next_expiry()
+    }
+
+    /// When the answer to a HEARTBEAT is awaited no longer, where one is.
+    pub fn heartbeat_timeout_deadline(&self) -> Option<SocketTime>
+        ensures { result ≡ running_deadline (endpoint_of self.now).timers.heartbeat_timeout }
+    {
+        self.heartbeat_timeout.next_expiry()
+    }
+
     /// Ends the association: with OnClosed where the error is `NoError`, else with OnAborted and this
     /// text. A closed socket stays as it is.
     ///
@@ -240,6 +344,7 @@ impl<R: Rng> Context<R> {
         }
         self.events.add(end_event(error, message))?;
         self.heartbeat_interval.stop();
+        self.heartbeat_timeout.stop();
         self.state = State::Closed;
         Ok(())
     }

@@ -8,9 +8,11 @@ mod flush;
 mod following;
 mod state;
 mod transmission_control_block;
+mod tx_error_counter;
 
 pub use context::Context;
 pub use expiry::Expiry;
 pub use following::Following;
 pub use state::{CookieEchoState, CookieWaitState, State};
 pub use transmission_control_block::{Peer, TransmissionControlBlock};
+pub use tx_error_counter::TxErrorCounter;

@@ -1,2 +1,3 @@
 mod EchoSteps
 mod InitAckSteps
+mod T1Steps

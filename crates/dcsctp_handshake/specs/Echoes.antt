@@ -13,7 +13,7 @@ use Rattle.dcsctp_machine.specs.control.Effect.{connects, link_of}
 use Rattle.dcsctp_machine.specs.control.CookieEchoChanges.{Resolution, establish_new, restart, simultaneous_init, discard, maintain_existing, invalid_tag}
 use Rattle.dcsctp_machine.specs.turns.FlushOutcomes.{flush_outcome}
 use Rattle.dcsctp_machine.specs.turns.HandshakeOutcomes.{connected_after}
-use Rattle.dcsctp_machine.specs.turns.CookieEchoOutcomes.{refused_echo_outcome, window_by_cookie, establish_new_outcome, replace_outcome, restart_outcome}
+use Rattle.dcsctp_machine.specs.turns.CookieEchoOutcomes.{refused_echo_outcome, window_by_cookie, established_by, queue_kept, establish_new_outcome, replace_outcome, restart_outcome}
 use Rattle.dcsctp_handshake.specs.declared.cookie_echo.CookieResolution.{CookieResolution}
 use Rattle.dcsctp_handshake.specs.declared.cookie_echo.CookieResolution.TheVariants.{EstablishNew, RestartDetected, SimultaneousInit, Discard, MaintainExisting, InvalidTag}
 use Rattle.dcsctp_core.specs.declared.transmission_control_block.Peer.{Peer}
@@ -50,6 +50,10 @@ acknowledgement_turn view = acknowledged view.endpoint view.endpoint.core
 abbrev pub peer_by_cookie : Options → Cookie → Peer
 peer_by_cookie options cookie =
     record { pair = cookie.addressee; a_rwnd = window_by_cookie options cookie; capabilities = negotiated (offer_of options) cookie.offer }
+
+-- the endpoint that holds its association; what waits to be sent stays
+abbrev pub established_with : Endpoint → Cookie → ℕ → Endpoint
+established_with e cookie tie = established_by e cookie (queue_kept e cookie) tie
 
 -- What waits to be sent stays.
 abbrev pub establish_turn : {R : Type 0} → (R → Stream) → Cookie → View R → Outcome

@@ -4,10 +4,10 @@ ghost use Rattle.std.specs.Prelude.{◌≡◌};
 ghost use Rattle.dcsctp_machine.specs.Settings.{IsValid};
 ghost use Rattle.dcsctp_machine.specs.control.CookieEchoChanges.{resolve};
 ghost use Rattle.dcsctp_api.specs.Cookie.{cookie_of};
-ghost use Rattle.dcsctp_core.specs.View.{core_of, tie_of};
+ghost use Rattle.dcsctp_core.specs.View.{core_of, tie_of, view_of, endpoint_of};
 ghost use Rattle.dcsctp_core.specs.Handling.{Tries, Takes, Works};
 ghost use Rattle.dcsctp_handshake.specs.Handshake.{cookie_echo_turn};
-ghost use Rattle.dcsctp_handshake.specs.Echoes.{resolution_of, peer_by_cookie, acknowledgement_turn, establish_turn, replace_turn, restart_turn, maintain_turn, refuse_turn};
+ghost use Rattle.dcsctp_handshake.specs.Echoes.{resolution_of, peer_by_cookie, established_with, acknowledgement_turn, establish_turn, replace_turn, restart_turn, maintain_turn, refuse_turn};
 
 use crate::texts::INVALID_TAG;
 use dcsctp_api::{ErrorKind, Options, Pair, SocketEvent, StateCookie};
@@ -93,6 +93,27 @@ fn peer_by_cookie(options: &Options, cookie: &StateCookie) -> Peer
     }
 }
 
+// Makes the association that a cookie shows. What waits to be sent stays.
+fn begin_association<R: Rng>(context: &mut Context<R>, cookie: &StateCookie, tie_tag: u64)
+    ensures { view_of context.new ≡ record (view_of context.old) {
+      endpoint = established_with
+          (endpoint_of context.old)
+          (cookie_of cookie.now)
+          tie_tag;
+    } }
+{
+    let peer = peer_by_cookie(&context.options, cookie);
+    let my = Pair {
+        tag: cookie.my_tag,
+        first_tsn: cookie.my_initial_tsn,
+    };
+    let interleaving = peer.capabilities.message_interleaving;
+    context.send_queue.enable_message_interleaving(interleaving);
+    let tcb = TransmissionControlBlock::new(&context.options, my, &peer, tie_tag);
+    context.state = State::Established(tcb);
+    context.start_heartbeat_interval();
+}
+
 /// Makes the association that a cookie shows, and acknowledges it. What waits to be sent stays.
 ///
 /// The one error is that a growth was refused. The first events of the turn may stand then.
@@ -100,18 +121,9 @@ fn establish<R: Rng>(context: &mut Context<R>, cookie: &StateCookie) -> Result<(
     ensures { Takes R.stream (establish_turn R.stream (cookie_of cookie.now)) context.old result
         context.new }
 {
-    let peer = peer_by_cookie(&context.options, cookie);
-    let my = Pair {
-        tag: cookie.my_tag,
-        first_tsn: cookie.my_initial_tsn,
-    };
     let tie_tag = context.draw_u64()?;
     context.events.add(SocketEvent::OnConnected())?;
-    let interleaving = peer.capabilities.message_interleaving;
-    context.send_queue.enable_message_interleaving(interleaving);
-    let tcb = TransmissionControlBlock::new(&context.options, my, &peer, tie_tag);
-    context.state = State::Established(tcb);
-    context.start_heartbeat_interval();
+    begin_association(context, cookie, tie_tag);
     send_cookie_ack(context)?;
     Ok(())
 }

@@ -1,12 +1,11 @@
 //! T1-init and T1-cookie (RFC 9260, section 5.1): a packet that isn't answered is sent again, and after
 //! its last restart the association is given up. Called where the time is told.
 
-ghost use Rattle.std.specs.Prelude.{◌≡◌, string_bytes, IsOk};
-ghost use Rattle.dcsctp_core.specs.declared.expiry.Expiry.TheVariants.{NotDue};
-ghost use Rattle.dcsctp_core.specs.Handling.{Tries, Takes};
-ghost use Rattle.dcsctp_core.specs.Timing.{t1_expiry};
-ghost use Rattle.dcsctp_core.specs.View.{endpoint_of};
-ghost use Rattle.dcsctp_handshake.specs.Timing.{again_turn, abandon_turn, give_up_turn, t1_turn};
+ghost use Rattle.std.specs.Prelude.{string_bytes};
+ghost use Rattle.dcsctp_machine.specs.TimeTurns.{t1_timer};
+ghost use Rattle.dcsctp_core.specs.Handling.{Tries};
+ghost use Rattle.dcsctp_core.specs.Timing.{Expires};
+ghost use Rattle.dcsctp_handshake.specs.Timing.{again_turn, abandon_turn, give_up_turn};
 
 use crate::connect::{send_cookie_echo, send_init};
 use crate::texts::{NO_COOKIE_ACK, NO_INIT_ACK};
@@ -56,20 +55,24 @@ fn give_up<R: Rng>(context: &mut Context<R>) -> Result<(), AllocError>
     Ok(())
 }
 
-/// Tells T1 the present moment (RFC 9260, section 5.1). Where it expires, its packet is sent again and it
-/// backs off, or, with no restart left, the association ends with OnAborted. Where it isn't due, or doesn't
-/// run, nothing happens, and want of memory is never the answer.
+/// Tells T1 the present moment, and answers whether it expires (RFC 9260, section 5.1): its packet is sent
+/// again and it backs off, or, with no restart left, the association ends with OnAborted. Where it isn't due,
+/// or doesn't run, nothing happens, and want of memory is never the answer.
 ///
 /// The one error is that a growth was refused. The first events of the turn may stand then.
-pub fn handle_t1<R: Rng>(context: &mut Context<R>) -> Result<(), AllocError>
-    ensures turn { Takes R.stream t1_turn context.old result context.new }
-    ensures idle { t1_expiry (endpoint_of context.old) ≡ NotDue → IsOk result }
+pub fn handle_t1<R: Rng>(context: &mut Context<R>) -> Result<bool, AllocError>
+    ensures { Expires R.stream t1_timer context.old result context.new }
 {
     let now = context.moment;
     match context.state.expire_t1(now) {
-        Expiry::NotDue => {}
-        Expiry::Again => send_again(context)?,
-        Expiry::GaveUp => give_up(context)?,
+        Expiry::NotDue => Ok(false),
+        Expiry::Again => {
+            send_again(context)?;
+            Ok(true)
+        }
+        Expiry::GaveUp => {
+            give_up(context)?;
+            Ok(true)
+        }
     }
-    Ok(())
 }

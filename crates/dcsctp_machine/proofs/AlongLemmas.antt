@@ -5,16 +5,18 @@ use Rattle.std.specs.List.{AllByRecursion}
 use Rattle.dcsctp_machine.specs.declared.options.Options.{Options}
 use Rattle.dcsctp_machine.specs.declared.schedule.Side.{Side}
 use Rattle.dcsctp_machine.specs.declared.schedule.Side.TheVariants as sides
-use Rattle.dcsctp_machine.specs.declared.ends.AbortReason.TheVariants.{CloseCalled}
+use Rattle.dcsctp_machine.specs.declared.ends.AbortReason.TheVariants.{CloseCalled, TooManyErrors}
+use Rattle.dcsctp_machine.specs.declared.ends.AbortReason.{AbortReason}
 use Rattle.dcsctp_machine.specs.Schedule.{connect_call, close_call, advance_call, StepContent, call_step, delivery_step, OutsideContent, input_outside, ActContent, step_act, outside_act}
 use Rattle.dcsctp_wire.specs.Content.{ChunkContent}
 use Rattle.dcsctp_machine.specs.Packet.{Content, init, init_ack, cookie_echo, cookie_ack, re_config, abort, shutdown, shutdown_ack, shutdown_complete, plain, Packet, content_in, packet_in}
 use Rattle.dcsctp_machine.specs.Admission.{Admission, all_chunks, shutdown_acks_alone, refused, admits, shutdown_acks_in}
-use Rattle.dcsctp_machine.specs.Endpoint.{Endpoint, Core, closed, cookie_wait, cookie_echoed, open_in, RunningTimer, is_due, is_restarted, fresh_endpoint}
+use Rattle.dcsctp_machine.specs.Endpoint.{Endpoint, Core, closed, cookie_wait, cookie_echoed, open_in, fresh_endpoint}
 use Rattle.dcsctp_machine.specs.Following.{Following, next_chunk, packet_end, dropped_rest}
 use Rattle.dcsctp_machine.specs.control.Acts.{connect, abort_with, t1_expires}
-use Rattle.dcsctp_machine.specs.Turn.{Input, arrival, refusal, packet_begins, chunk_input, packet_ends, act_input, time_passes, unreadable_text}
-use Rattle.dcsctp_machine.specs.TimeTurns.{t1_inputs_of, t1_inputs, MomentTurns, TimeTurns}
+use Rattle.dcsctp_machine.specs.Turn.{Input, arrival, refusal, packet_begins, chunk_input, packet_ends, act_input, timer_expires, time_passes, unreadable_text}
+use Rattle.dcsctp_machine.specs.TimeTurns.{Timer, t1_timer, own_timer, timers_in, deadline, has_come, goes_on, expiry_input, inputs_behind, after_expiries, ExpiryThen, ExpiryTurns, MomentTurns, TimeTurns}
+use Rattle.dcsctp_machine.specs.turns.HeartbeatOutcomes.{OwnTimer, is_exhausted}
 use Rattle.dcsctp_machine.specs.CallTurns.{Turned, IsTurn, Turns, AlongTurns, AfterChunk, ChunkTurns, WholeTurns, AdmittedTurns, HandleInput, unreadable, readable, after_all}
 use Rattle.dcsctp_machine.specs.Sockets.{Both, of_side, of_other, StepTurns, DeliveryTurns, numbered, with_turns, Worked, SocketRun, turns_after, endpoint_after, packets_shown, side_of_act, OutsideTurns, TurnsOfAct}
 
@@ -32,8 +34,9 @@ pub record MayCome (May : Input → Type 0) : Type 0 where
   pub is_read : (tag : ℕ) (chunk : ChunkContent) → May (chunk_input tag (content_in chunk))
   pub ends : May packet_ends
   pub connects : May (act_input connect)
-  pub closes : May (act_input (abort_with CloseCalled))
+  pub aborts : (reason : AbortReason) → May (act_input (abort_with reason))
   pub expires : (again : Bool) → May (act_input (t1_expires again))
+  pub own_expires : (timer : OwnTimer) → May (timer_expires timer)
   pub passes : (moment : ℕ) → May (time_passes moment)
 
 abbrev Anything : Input → Type 0
@@ -48,8 +51,9 @@ anything_may_come =
       is_read = λ tag chunk. tt;
       ends = tt;
       connects = tt;
-      closes = tt;
+      aborts = λ reason. tt;
       expires = λ again. tt;
+      own_expires = λ timer. tt;
       passes = λ moment. tt;
     }
 
@@ -74,19 +78,24 @@ acks_may May (shutdown_ack ∷ contents) each = (each.0, acks_may May contents e
 acks_may May (shutdown_complete reflected ∷ contents) each = acks_may May contents each.1
 acks_may May (plain chunk ∷ contents) each = acks_may May contents each.1
 
-due_may : (May : Input → Type 0) → MayCome May → (due again : Bool) → AllByRecursion May (if due then act_input (t1_expires again) ∷ [] else [])
-due_may May come true again = (come.expires again, tt)
-due_may May come false again = tt
+-- what the expiry of a timer is
+expiry_may : (May : Input → Type 0) → MayCome May → (e : Endpoint) (timer : Timer) → May (expiry_input e timer)
+expiry_may May come e t1_timer = come.expires (goes_on e.timers.t1)
+expiry_may May come e (own_timer timer) = come.own_expires timer
 
-t1_may_of : (May : Input → Type 0) → MayCome May → (moment : ℕ) (t1 : Option RunningTimer) → AllByRecursion May (t1_inputs_of moment t1)
-t1_may_of May come moment None = tt
-t1_may_of May come moment (Some timer) = due_may May come (is_due moment timer) (is_restarted timer)
+too_many_may : (May : Input → Type 0) → MayCome May → (many : Bool) → AllByRecursion May (if many then act_input (abort_with TooManyErrors) ∷ [] else [])
+too_many_may May come true = (come.aborts TooManyErrors, tt)
+too_many_may May come false = tt
 
-t1_may : (May : Input → Type 0) → MayCome May → (e : Endpoint) (core : Core) → AllByRecursion May (t1_inputs e core)
-t1_may May come e closed = tt
-t1_may May come e (cookie_wait my) = t1_may_of May come e.moment e.timers.t1
-t1_may May come e (cookie_echoed my held cookie) = t1_may_of May come e.moment e.timers.t1
-t1_may May come e (open_in phase my held) = tt
+behind_may : (May : Input → Type 0) → MayCome May → (e : Endpoint) (core : Core) → AllByRecursion May (inputs_behind e core)
+behind_may May come e closed = tt
+behind_may May come e (cookie_wait my) = tt
+behind_may May come e (cookie_echoed my held cookie) = too_many_may May come (is_exhausted e.options.max_retransmissions e.error_count)
+behind_may May come e (open_in phase my held) = too_many_may May come (is_exhausted e.options.max_retransmissions e.error_count)
+
+after_may : (May : Input → Type 0) → MayCome May → (e : Endpoint) (has_expired : Bool) → AllByRecursion May (after_expiries e has_expired)
+after_may May come e false = tt
+after_may May come e true = behind_may May come e e.core
 
 -- ---- each call
 
@@ -142,11 +151,24 @@ module _ (Good : Endpoint → Turned → Type 0) (May : Input → Type 0) (come 
   delivery_along e None ts none = none_along e ts none
   delivery_along e (Some bytes) ts turns = input_along_where e bytes ts turns
 
+  -- a timer that may be due, and what follows it
+  expiry_along : (due : Bool) (Rest : Bool → Endpoint → List Turned → Type 0)
+      → ((has_expired : Bool) (e : Endpoint) (ts : List Turned) → Rest has_expired e ts → AlongTurns Good e ts)
+      → (e : Endpoint) (has_expired : Bool) (timer : Timer) (ts : List Turned) → ExpiryThen due Rest e has_expired timer ts → AlongTurns Good e ts
+  expiry_along true Rest along e has_expired timer [] turns = absurd turns
+  expiry_along true Rest along e has_expired timer (t ∷ ts) turns = (each e (expiry_input e timer) t (expiry_may May come e timer) turns.0, along true t.outcome.after ts turns.1)
+  expiry_along false Rest along e has_expired timer ts turns = along has_expired e ts turns
+
+  expiries_along : (timers : List Timer) (has_expired : Bool) (e : Endpoint) (ts : List Turned) → ExpiryTurns timers has_expired e ts → AlongTurns Good e ts
+  expiries_along [] has_expired e ts turns = turns_along e (after_expiries e has_expired) ts (after_may May come e has_expired) turns
+  expiries_along (timer ∷ timers) has_expired e ts turns =
+      expiry_along (has_come e.moment (deadline e timer)) (ExpiryTurns timers) (expiries_along timers) e has_expired timer ts turns
+
   moment_along : (e : Endpoint) (moment : ℕ) (ts : List Turned) → MomentTurns e moment ts → AlongTurns Good e ts
   moment_along e moment [] turns = absurd turns
   moment_along e moment (t ∷ ts) turns = (
     each e (time_passes moment) t (come.passes moment) turns.0,
-    turns_along t.outcome.after (t1_inputs t.outcome.after t.outcome.after.core) ts (t1_may May come t.outcome.after t.outcome.after.core) turns.1,
+    expiries_along (timers_in t.outcome.after.core) false t.outcome.after ts turns.1,
   )
 
   time_along : (later : Bool) (e : Endpoint) (moment : ℕ) (ts : List Turned) → TimeTurns later e moment ts → AlongTurns Good e ts
@@ -155,7 +177,7 @@ module _ (Good : Endpoint → Turned → Type 0) (May : Input → Type 0) (come 
 
   step_along : (e : Endpoint) (packets : List (List ℕ)) (step : StepContent) (ts : List Turned) → StepTurns e packets step ts → AlongTurns Good e ts
   step_along e packets (call_step side connect_call) ts turns = turns_along e (act_input connect ∷ []) ts (come.connects, tt) turns
-  step_along e packets (call_step side close_call) ts turns = turns_along e (act_input (abort_with CloseCalled) ∷ []) ts (come.closes, tt) turns
+  step_along e packets (call_step side close_call) ts turns = turns_along e (act_input (abort_with CloseCalled) ∷ []) ts (come.aborts CloseCalled, tt) turns
   step_along e packets (call_step side (advance_call moment)) ts turns = time_along (nat_le e.moment moment) e moment ts turns
   step_along e packets (delivery_step side number) ts turns = delivery_along e (numbered number packets) ts turns
 

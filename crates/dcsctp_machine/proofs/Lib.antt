@@ -1,7 +1,7 @@
 pub mod AdmissionFacts
 pub mod AdmissionLemmas
-pub mod CallFacts
 pub mod AlongLemmas
+pub mod CallFacts
 pub mod ChunkFacts
 pub mod ControlEcho
 pub mod ControlEnds
@@ -14,6 +14,8 @@ pub mod FlushFacts
 pub mod FlushLemmas
 pub mod HandshakeFacts
 pub mod HandshakeTurnFacts
+pub mod HeartbeatFacts
+pub mod HeartbeatLemmas
 pub mod LawLemmas
 pub mod MayBeWorkedLemmas
 pub mod PlainLemmas

@@ -1,5 +1,5 @@
 -- The turns of chunks that speak of no association, kind by kind. No other proof of this crate goes by their kinds.
-use Rattle.std.proofs.Common.{◌≡◌, ℕ, Bool, true, false, cond, Option, None, Some, List, [], ◌∷◌, refl, sym, subst}
+use Rattle.std.proofs.Common.{◌≡◌, ◌==◌, ℕ, Bool, true, false, cond, Option, None, Some, List, [], ◌∷◌, refl, sym, subst}
 use Rattle.dcsctp_machine.specs.declared.association.Pair.{Pair}
 use Rattle.dcsctp_machine.specs.declared.association.Held.{Held}
 use Rattle.dcsctp_machine.specs.declared.ends.Violation.{Violation}
@@ -7,14 +7,18 @@ use Rattle.dcsctp_machine.specs.declared.ends.AbortReason.TheVariants as reasons
 use Rattle.dcsctp_machine.specs.declared.kinds.ErrorKind.TheVariants.{ParseFailed}
 use Rattle.dcsctp_machine.specs.Cause.{causes_of}
 use Rattle.dcsctp_machine.specs.Event.{Event, error}
-use Rattle.dcsctp_machine.specs.Packet.{Plain, plain, unknown, unworked, Emission}
+use Rattle.dcsctp_machine.specs.Packet.{Plain, plain, unknown, heartbeat, heartbeat_ack, unworked, Emission}
 use Rattle.dcsctp_machine.specs.Endpoint.{Endpoint, Core, closed, cookie_wait, cookie_echoed, open_in, OpenPhase, established, shutdown_pending, shutdown_sent, shutdown_received, shutdown_ack_sent}
-use Rattle.dcsctp_machine.specs.Outcome.{Outcome, still, sends, fits}
+use Rattle.dcsctp_machine.specs.Outcome.{Outcome, still, reports, quiet, sends, fits, to_peer}
 use Rattle.dcsctp_machine.specs.turns.EndOutcomes.{abort_to, aborting_outcome}
 use Rattle.dcsctp_machine.specs.turns.PlainOutcomes.{PlainTurn, plain_outcome, violation_at, violation_by, is_reported, after_unknown, unknown_text, unknown_bytes, unknown_error, unknown_report, unknown_told}
-use Rattle.dcsctp_machine.specs.control.Effect.{unchanged}
+use Rattle.dcsctp_machine.specs.control.Effect.{Change, unchanged}
 use Rattle.dcsctp_machine.specs.control.Effect as effects
 use Rattle.dcsctp_machine.specs.control.Choices.{Choices}
+use Rattle.dcsctp_machine.specs.control.Acts.{plain_change}
+use Rattle.dcsctp_machine.specs.Following.{next_chunk}
+use Rattle.dcsctp_machine.specs.turns.HeartbeatOutcomes.{heartbeat_outcome, heartbeat_ack_outcome, answered, info_in, counter_of, invalid_info_text}
+use Rattle.dcsctp_wire.specs.Content.{ParameterContent}
 use Rattle.dcsctp_machine.specs.Controlled.{signs_of_events, IsControlled, ControlledChunk}
 use Rattle.dcsctp_machine.proofs.ControlHandshake.{no_choices, filling_where, still_controlled, ControlledAt}
 use Rattle.dcsctp_machine.proofs.ControlEnds.{aborts_where}
@@ -81,6 +85,63 @@ unknown_at e (open_in shutdown_ack_sent my held) tag type flags value true is =
     (_, (reporting e type (unknown_bytes type flags value), tt, refl), told e (open_in shutdown_ack_sent my held) held type (unknown_bytes type flags value) is)
 unknown_at e (open_in shutdown_ack_sent my held) tag type flags value false is = (_, (follows e type, tt, refl), silent e (open_in shutdown_ack_sent my held) is type [] refl)
 
+-- ---- heartbeats
+
+-- It moves nothing of the association.
+unmoved : (e : Endpoint) (core : Core) → unchanged core ≡ plain_change core false (nothing_chosen e)
+unmoved e closed = refl
+unmoved e (cookie_wait my) = refl
+unmoved e (cookie_echoed my held cookie) = refl
+unmoved e (open_in established my held) = refl
+unmoved e (open_in shutdown_pending my held) = refl
+unmoved e (open_in shutdown_sent my held) = refl
+unmoved e (open_in shutdown_received my held) = refl
+unmoved e (open_in shutdown_ack_sent my held) = refl
+
+quietly : (e : Endpoint) (core : Core) (tag : ℕ) (chunk : Plain) (o : Outcome) → IsControlled e o (unchanged core) → ControlledAt e core tag (plain chunk) o
+quietly e core tag chunk o h = (unchanged core, (nothing_chosen e, tt, unmoved e core), h)
+
+-- It chooses the answer.
+abbrev answering : Endpoint → List ParameterContent → Choices
+answering e parameters = record (nothing_chosen e) { plain = (heartbeat_ack parameters ∷ []) ∷ [] }
+
+abbrev answer_to : Held → List ParameterContent → Emission
+answer_to held parameters = to_peer held (plain (heartbeat_ack parameters))
+
+-- the association, and one packet
+abbrev answers_with : Core → Held → List ParameterContent → Change
+answers_with core held parameters = record { core = core; effects = effects.sends (answer_to held parameters).packet ∷ []; following = next_chunk }
+
+answered_open : (e : Endpoint) (phase : OpenPhase) (my : Pair) (held : Held) (parameters : List ParameterContent)
+    → answers_with (open_in phase my held) held parameters ≡ plain_change (open_in phase my held) false (answering e parameters)
+answered_open e established my held parameters = refl
+answered_open e shutdown_pending my held parameters = refl
+answered_open e shutdown_sent my held parameters = refl
+answered_open e shutdown_received my held parameters = refl
+answered_open e shutdown_ack_sent my held parameters = refl
+
+answer_where : (b : Bool) (e : Endpoint) (core : Core) (held : Held) (tag : ℕ) (parameters : List ParameterContent) → e.core ≡ core
+    → answers_with core held parameters ≡ plain_change core false (answering e parameters)
+    → ControlledAt e core tag (plain (heartbeat parameters)) (cond b (sends e [] [] (answer_to held parameters)) (quiet e [] []))
+answer_where true e core held tag parameters is change =
+    (answers_with core held parameters, (answering e parameters, tt, change), record { core = is; options = refl; signs = refl; effects = refl; following = refl })
+answer_where false e core held tag parameters is change =
+    quietly e core tag (heartbeat parameters) (quiet e [] []) (record { core = is; options = refl; signs = refl; effects = refl; following = refl })
+
+heartbeat_at : (e : Endpoint) (core : Core) (tag : ℕ) (parameters : List ParameterContent) → e.core ≡ core → ControlledAt e core tag (plain (heartbeat parameters)) (heartbeat_outcome e core parameters)
+heartbeat_at e closed tag parameters is = rests_at e closed tag (heartbeat parameters) is
+heartbeat_at e (cookie_wait my) tag parameters is = rests_at e (cookie_wait my) tag (heartbeat parameters) is
+heartbeat_at e (cookie_echoed my held cookie) tag parameters is = answer_where (fits e (answer_to held parameters)) e (cookie_echoed my held cookie) held tag parameters is refl
+heartbeat_at e (open_in phase my held) tag parameters is = answer_where (fits e (answer_to held parameters)) e (open_in phase my held) held tag parameters is (answered_open e phase my held parameters)
+
+counted_at : (b : Bool) (e : Endpoint) (core : Core) (tag : ℕ) (chunk : Plain) → e.core ≡ core → ControlledAt e core tag (plain chunk) (cond b (still (answered e)) (still e))
+counted_at true e core tag chunk is = quietly e core tag chunk (still (answered e)) (record { core = is; options = refl; signs = refl; effects = refl; following = refl })
+counted_at false e core tag chunk is = quietly e core tag chunk (still e) (record { core = is; options = refl; signs = refl; effects = refl; following = refl })
+
+heartbeat_ack_at : (e : Endpoint) (core : Core) (tag : ℕ) (chunk : Plain) (counter : Option ℕ) → e.core ≡ core → ControlledAt e core tag (plain chunk) (heartbeat_ack_outcome e counter)
+heartbeat_ack_at e core tag chunk None is = quietly e core tag chunk (reports e ParseFailed invalid_info_text) (record { core = is; options = refl; signs = refl; effects = refl; following = refl })
+heartbeat_ack_at e core tag chunk (Some counter) is = counted_at (counter == e.heartbeat_counter) e core tag chunk is
+
 -- ---- one that breaks the protocol
 
 abbrev violating : Endpoint → Held → Violation → Choices
@@ -101,6 +162,8 @@ aborts_open e phase my held tag chunk violation =
 
 quiet_at : (e : Endpoint) (core : Core) (tag : ℕ) (chunk : Plain) → e.core ≡ core → ControlledAt e core tag (plain chunk) (plain_outcome e core chunk None)
 quiet_at e core tag (unknown type flags value) is = unknown_at e core tag type flags value (is_reported type) is
+quiet_at e core tag (heartbeat parameters) is = heartbeat_at e core tag parameters is
+quiet_at e core tag (heartbeat_ack parameters) is = heartbeat_ack_at e core tag (heartbeat_ack parameters) (counter_of (info_in parameters)) is
 quiet_at e core tag (unworked chunk) is = rests_at e core tag (unworked chunk) is
 
 echoed_at : (e : Endpoint) (my : Pair) (held : Held) (cookie : List ℕ) (tag : ℕ) (chunk : Plain) (violation : Option Violation) → e.core ≡ cookie_echoed my held cookie

@@ -8,11 +8,12 @@ use Rattle.dcsctp_machine.specs.declared.association.Held.{Held}
 use Rattle.dcsctp_machine.specs.declared.kinds.BackoffAlgorithm.TheVariants.{Fixed, Exponential}
 use Rattle.dcsctp_machine.specs.declared.kinds.ErrorKind.TheVariants.{TooManyRetries}
 use Rattle.dcsctp_machine.specs.Event.{aborted}
-use Rattle.dcsctp_machine.specs.Endpoint.{Endpoint, closed, cookie_wait, cookie_echoed, open_in, established, RunningTimer, started, expired, is_due}
-use Rattle.dcsctp_machine.specs.control.Acts.{t1_expires}
-use Rattle.dcsctp_machine.specs.Turn.{act_input, clock_at}
+use Rattle.dcsctp_machine.specs.Endpoint.{Endpoint, Core, closed, cookie_wait, cookie_echoed, open_in, established, RunningTimer, started, expired, is_due}
+use Rattle.dcsctp_machine.specs.control.Acts.{t1_expires, abort_with}
+use Rattle.dcsctp_machine.specs.declared.ends.AbortReason.TheVariants.{TooManyErrors}
+use Rattle.dcsctp_machine.specs.Turn.{act_input}
 use Rattle.dcsctp_machine.specs.turns.TimerOutcomes.{t1_gives_up_outcome}
-use Rattle.dcsctp_machine.specs.TimeTurns.{next_moment, t1_inputs}
+use Rattle.dcsctp_machine.specs.TimeTurns.{t1_timer, deadline, next_moment, has_come, expiry_input, after_expiries}
 
 -- one second, with so many restarts
 second : Option ℕ → ℕ → ℕ → ℕ → RunningTimer
@@ -92,21 +93,63 @@ never_where_closed : (e : Endpoint) → next_moment (record (connecting e (Some 
 unfolding connecting second
 never_where_closed e = refl
 
-never_where_open : (e : Endpoint) (held : Held) → next_moment (record (connecting e (Some 8) 10) { core = open_in established mine held }) ≡ max_nanos
-unfolding connecting second
-never_where_open e held = refl
+-- an open association with these timers of heartbeats
+beating_at : Endpoint → Held → Option RunningTimer → Option RunningTimer → Endpoint
+beating_at e held interval timeout =
+    record e { moment = 10; core = open_in established mine held; timers = record e.timers { t1 = Some (second (Some 8) 5 5 0); heartbeat_interval = interval; heartbeat_timeout = timeout } }
 
-nothing_before : (e : Endpoint) → t1_inputs (clock_at 999 (connecting e (Some 8) 10)) (cookie_wait mine) ≡ []
+never_without_heartbeats : (e : Endpoint) (held : Held) → next_moment (beating_at e held None None) ≡ max_nanos
+unfolding beating_at
+never_without_heartbeats e held = refl
+
+waits_for_the_interval : (e : Endpoint) (held : Held) → next_moment (beating_at e held (Some (fixed 30_000 0)) None) ≡ 30_000
+unfolding beating_at fixed
+waits_for_the_interval e held = refl
+
+waits_for_the_first : (e : Endpoint) (held : Held) → next_moment (beating_at e held (Some (fixed 30_000 0)) (Some (fixed 500 0))) ≡ 500
+unfolding beating_at fixed
+waits_for_the_first e held = refl
+
+nothing_before : (e : Endpoint) → has_come 999 (deadline (connecting e (Some 8) 10) t1_timer) ≡ false
 unfolding connecting second
 nothing_before e = refl
 
-again_at_deadline : (e : Endpoint) → t1_inputs (clock_at 1_000 (connecting e (Some 8) 10)) (cookie_wait mine) ≡ act_input (t1_expires true) ∷ []
+due_then : (e : Endpoint) → has_come 1_000 (deadline (connecting e (Some 8) 10) t1_timer) ≡ true
+unfolding connecting second
+due_then e = refl
+
+again_at_deadline : (e : Endpoint) → expiry_input (connecting e (Some 8) 10) t1_timer ≡ act_input (t1_expires true)
 unfolding connecting second
 again_at_deadline e = refl
 
-given_up_at_deadline : (e : Endpoint) → t1_inputs (clock_at 1_000 (connecting e (Some 0) 10)) (cookie_wait mine) ≡ act_input (t1_expires false) ∷ []
+given_up_at_deadline : (e : Endpoint) → expiry_input (connecting e (Some 0) 10) t1_timer ≡ act_input (t1_expires false)
 unfolding connecting second
 given_up_at_deadline e = refl
+
+-- an endpoint with so many errors, of which one is allowed
+with_errors : Endpoint → Core → ℕ → Endpoint
+with_errors e core count = record e { core = core; options = record e.options { max_retransmissions = Some 1 }; error_count = count }
+
+-- A peer that is held is given up, also one whose COOKIE ACK is awaited.
+too_many_errors : (e : Endpoint) (held : Held) (cookie : List ℕ) → after_expiries (with_errors e (cookie_echoed mine held cookie) 2) true ≡ act_input (abort_with TooManyErrors) ∷ []
+unfolding with_errors
+too_many_errors e held cookie = refl
+
+too_many_where_open : (e : Endpoint) (held : Held) → after_expiries (with_errors e (open_in established mine held) 2) true ≡ act_input (abort_with TooManyErrors) ∷ []
+unfolding with_errors
+too_many_where_open e held = refl
+
+not_without_peer : (e : Endpoint) → after_expiries (with_errors e (cookie_wait mine) 2) true ≡ []
+unfolding with_errors
+not_without_peer e = refl
+
+not_without_expiry : (e : Endpoint) (held : Held) → after_expiries (with_errors e (open_in established mine held) 2) false ≡ []
+unfolding with_errors
+not_without_expiry e held = refl
+
+an_error_that_is_allowed : (e : Endpoint) (held : Held) → after_expiries (with_errors e (open_in established mine held) 1) true ≡ []
+unfolding with_errors
+an_error_that_is_allowed e held = refl
 
 told_in_cookie_wait : (e : Endpoint) → (t1_gives_up_outcome e (cookie_wait mine)).events ≡ aborted TooManyRetries (codes "No INIT_ACK received") ∷ []
 told_in_cookie_wait e = refl

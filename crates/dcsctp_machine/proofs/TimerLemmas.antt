@@ -1,10 +1,10 @@
 -- The turns of T1 are turns of the association, and time that passes before the next deadline moves the clock alone.
 use Rattle.std.proofs.Common.{◌≡◌, ◌≤◌, ◌<◌, ℕ, Bool, true, false, Option, None, Some, List, [], ◌∷◌, ◌++◌, refl, sym, subst, ap, ◌∙◌, arith}
-use Rattle.std.specs.Prelude.{if◌then◌else◌, max, nat_le}
+use Rattle.std.specs.Prelude.{if◌then◌else◌, min, nat_le}
 use Rattle.dcsctp_machine.specs.declared.association.Pair.{Pair}
 use Rattle.dcsctp_machine.specs.declared.association.Held.{Held}
 use Rattle.dcsctp_machine.specs.Packet.{cookie_echo}
-use Rattle.dcsctp_machine.specs.Endpoint.{Endpoint, Core, closed, cookie_wait, cookie_echoed, open_in, RunningTimer, is_due, is_restarted}
+use Rattle.dcsctp_machine.specs.Endpoint.{Endpoint, Core, closed, cookie_wait, cookie_echoed, open_in}
 use Rattle.dcsctp_machine.specs.Outcome.{Outcome, still, quiet, sends, fits}
 use Rattle.dcsctp_machine.specs.Following.{next_chunk}
 use Rattle.dcsctp_machine.specs.control.Effect.{emitted_alone}
@@ -16,9 +16,10 @@ use Rattle.dcsctp_machine.specs.Controlled.{IsControlled, ControlledAct}
 use Rattle.dcsctp_machine.specs.turns.FlushOutcomes.{Answer, flush_answered, allows_packet}
 use Rattle.dcsctp_machine.specs.turns.HandshakeOutcomes.{init_emission, echo_emission}
 use Rattle.dcsctp_machine.specs.turns.TimerOutcomes.{t1_goes_on, AgainAnswers, again_by, again_outcome, t1_again_outcome, T1AgainTurn, t1_gives_up_outcome}
-use Rattle.dcsctp_machine.specs.Turn.{Input, act_input, clock_at}
+use Rattle.dcsctp_machine.specs.turns.HeartbeatOutcomes.{heartbeat_interval, heartbeat_timeout}
+use Rattle.dcsctp_machine.specs.Turn.{clock_at}
 use Rattle.dcsctp_machine.specs.CallTurns.{Turned, Turns}
-use Rattle.dcsctp_machine.specs.TimeTurns.{deadlines_in, next_of, t1_inputs_of, t1_inputs, T1Turns, MomentTurns, TimeTurns, AwaitsNoCookieAck, Waits, MoveClock, TimePassesQuietly}
+use Rattle.dcsctp_machine.specs.TimeTurns.{Timer, t1_timer, own_timer, timers_in, deadline, with_deadline, deadlines_of, earliest, next_of, has_come, ExpiryThen, ExpiryTurns, DueTurns, MomentTurns, TimeTurns, NoneIsDue, Waits, MoveClock, TimePassesQuietly}
 use Rattle.dcsctp_machine.proofs.FlushLemmas.{echo_now, echo_answers}
 use Rattle.dcsctp_machine.proofs.ControlHandshake.{no_choices, choosing, still_controlled, flush_of_one, flushes_one}
 
@@ -92,21 +93,58 @@ t1_gives_up_controlled e o turn = subst (ControlledAct e (t1_expires false)) (sy
 
 -- ---- where nothing is due
 
-pub not_due : (moment present : ℕ) (timer : RunningTimer) → present ≤ moment → moment < max timer.deadline present → is_due moment timer ≡ false
-not_due moment present timer before next = grind arith
+-- each of these deadlines lies behind the moment
+abbrev AllBehind : ℕ → List ℕ → Type 0
+AllBehind moment [] = Unit {0}
+AllBehind moment (deadline ∷ deadlines) = moment < deadline × AllBehind moment deadlines
 
-t1_rests_of : (moment present : ℕ) (t1 : Option RunningTimer) → present ≤ moment → moment < next_of present (deadlines_in (cookie_wait (record { tag = 0; first_tsn = 0 })) (record { t1 = t1; t2 = None; reconfiguration = None; heartbeat_interval = None; heartbeat_timeout = None }))
-    → t1_inputs_of moment t1 ≡ []
-t1_rests_of moment present None before next = refl
-t1_rests_of moment present (Some timer) before next =
-    ap (λ (b : Bool). if b then act_input (t1_expires (is_restarted timer)) ∷ [] else []) (not_due moment present timer before next)
+behind_earliest : (moment first : ℕ) (others : List ℕ) → moment < earliest first others → moment < first × AllBehind moment others
+behind_earliest moment first [] before = (before, tt)
+behind_earliest moment first (other ∷ others) before =
+    let rest : moment < min first other × AllBehind moment others = behind_earliest moment (min first other) others before in
+    let least : moment < min first other = rest.0 in
+    (grind arith, (grind arith, rest.1))
 
-t1_rests : (e : Endpoint) (core : Core) (moment : ℕ) → AwaitsNoCookieAck core → e.moment ≤ moment → moment < next_of e.moment (deadlines_in core e.timers)
-    → t1_inputs (clock_at moment e) core ≡ []
-t1_rests e closed moment phase before next = refl
-t1_rests e (cookie_wait mine) moment phase before next = t1_rests_of moment e.moment e.timers.t1 before next
-t1_rests e (cookie_echoed mine held cookie) moment phase before next = absurd phase
-t1_rests e (open_in phase mine held) moment none before next = refl
+behind_next : (moment present : ℕ) (deadlines : List ℕ) → present ≤ moment → moment < next_of present deadlines → AllBehind moment deadlines
+behind_next moment present [] later before = tt
+behind_next moment present (first ∷ others) later before = behind_earliest moment first others (grind arith)
+
+-- None of these timers is due at the moment.
+abbrev AllWait : ℕ → Endpoint → List Timer → Type 0
+AllWait moment e [] = Unit {0}
+AllWait moment e (timer ∷ timers) = (has_come moment (deadline e timer) ≡ false) × AllWait moment e timers
+
+first_waits : (moment : ℕ) (d : Option ℕ) (others : List ℕ) → AllBehind moment (with_deadline d others) → (has_come moment d ≡ false) × AllBehind moment others
+first_waits moment None others behind = (refl, behind)
+first_waits moment (Some d) others behind = (grind arith, behind.1)
+
+all_wait_of : (moment : ℕ) (e : Endpoint) (timers : List Timer) → AllBehind moment (deadlines_of e timers) → AllWait moment e timers
+all_wait_of moment e [] behind = tt
+all_wait_of moment e (timer ∷ timers) behind =
+    let first : (has_come moment (deadline e timer) ≡ false) × AllBehind moment (deadlines_of e timers) = first_waits moment (deadline e timer) (deadlines_of e timers) behind in
+    (first.0, all_wait_of moment e timers first.1)
+
+all_wait : (moment : ℕ) (e : Endpoint) (timers : List Timer) → e.moment ≤ moment → moment < next_of e.moment (deadlines_of e timers) → AllWait moment e timers
+all_wait moment e timers later before = all_wait_of moment e timers (behind_next moment e.moment (deadlines_of e timers) later before)
+
+-- The clock moves no deadline.
+clock_keeps : (moment : ℕ) (e : Endpoint) (timer : Timer) → deadline (clock_at moment e) timer ≡ deadline e timer
+clock_keeps moment e t1_timer = refl
+clock_keeps moment e (own_timer heartbeat_interval) = refl
+clock_keeps moment e (own_timer heartbeat_timeout) = refl
+
+none_at : (moment : ℕ) (e : Endpoint) (timers : List Timer) → AllWait moment e timers → NoneIsDue (clock_at moment e) timers
+none_at moment e [] wait = tt
+none_at moment e (timer ∷ timers) wait = (ap (has_come moment) (clock_keeps moment e timer) ∙ wait.0, none_at moment e timers wait.1)
+
+-- None of these timers is due at a moment before the next deadline.
+pub none_is_due : (moment : ℕ) (e : Endpoint) (timers : List Timer) → e.moment ≤ moment → moment < next_of e.moment (deadlines_of e timers) → NoneIsDue (clock_at moment e) timers
+none_is_due moment e timers later before = none_at moment e timers (all_wait moment e timers later before)
+
+all_rest : (e : Endpoint) (timers : List Timer) (turns : List Turned) → NoneIsDue e timers → ExpiryTurns timers false e turns → Turns e [] turns
+all_rest e [] turns wait taken = taken
+all_rest e (timer ∷ timers) turns wait taken =
+    all_rest e timers turns wait.1 (subst (λ (b : Bool). ExpiryThen b (ExpiryTurns timers) e false timer turns) wait.0 taken)
 
 moved_alone : (e : Endpoint) (moment : ℕ) (moved : Turned) (turns : List Turned) → moved.outcome ≡ still (clock_at moment e) → Turns moved.outcome.after [] turns → MoveClock e moment (moved ∷ turns)
 moved_alone e moment moved [] is rest =
@@ -121,9 +159,9 @@ moved_alone e moment moved (turn ∷ turns) is rest = absurd rest
 quiet_moment : (e : Endpoint) (moment : ℕ) (turns : List Turned) → MomentTurns e moment turns → Waits e moment → MoveClock e moment turns
 quiet_moment e moment [] taken waits = absurd taken
 quiet_moment e moment (moved ∷ turns) taken waits =
-    let due : T1Turns (clock_at moment e) turns = subst (λ (o : Outcome). T1Turns o.after turns) taken.0.comes taken.1 in
-    let none : Turns (clock_at moment e) [] turns =
-    subst (λ (inputs : List Input). Turns (clock_at moment e) inputs turns) (t1_rests e e.core moment waits.phase waits.present waits.next) due in
+    let due : DueTurns (clock_at moment e) turns = subst (λ (o : Outcome). DueTurns o.after turns) taken.0.comes taken.1 in
+    let wait : NoneIsDue (clock_at moment e) (timers_in e.core) = none_is_due moment e (timers_in e.core) waits.present waits.next in
+    let none : Turns (clock_at moment e) [] turns = all_rest (clock_at moment e) (timers_in e.core) turns wait due in
     moved_alone e moment moved turns taken.0.comes (subst (λ (o : Outcome). Turns o.after [] turns) (sym taken.0.comes) none)
 
 quiet_at : (e : Endpoint) (moment : ℕ) (b : Bool) (turns : List Turned) → b ≡ true → TimeTurns b e moment turns → Waits e moment → MoveClock e moment turns

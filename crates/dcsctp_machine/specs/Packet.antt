@@ -3,7 +3,7 @@ use Rattle.std.specs.Prelude.{ℕ, Bool, true, false, Option, None, Some, List, 
 use Rattle.dcsctp_machine.specs.declared.association.Pair.{Pair}
 use Rattle.dcsctp_machine.specs.Settings.{Ports}
 use Rattle.dcsctp_machine.specs.Offer.{Offer, offer_parameters, offer_announced}
-use Rattle.dcsctp_wire.specs.Content.{ParameterContent, state_cookie, InitContent, ChunkContent, data_chunk, init_chunk, init_ack_chunk, abort_chunk, shutdown_chunk, shutdown_ack_chunk, error_chunk, cookie_echo_chunk, cookie_ack_chunk, shutdown_complete_chunk, re_config_chunk, unknown_chunk, PacketContent}
+use Rattle.dcsctp_wire.specs.Content.{ParameterContent, state_cookie, InitContent, ChunkContent, data_chunk, init_chunk, init_ack_chunk, heartbeat_chunk, heartbeat_ack_chunk, abort_chunk, shutdown_chunk, shutdown_ack_chunk, error_chunk, cookie_echo_chunk, cookie_ack_chunk, shutdown_complete_chunk, re_config_chunk, unknown_chunk, PacketContent}
 use Rattle.dcsctp_wire.specs.Spelling.{packet_bytes}
 use Rattle.dcsctp_machine.specs.Cause.{Cause}
 use Rattle.dcsctp_machine.specs.Reconfiguration.{ResetParameter, reset_parameter_content}
@@ -21,12 +21,17 @@ pub record Introduction : Type 0 where
 pub data Plain : Type 0 where
   -- a chunk of a type that isn't known (RFC 9260, section 3.2): type, flags, value
   unknown : ℕ → ℕ → List ℕ → Plain
+  -- HEARTBEAT and HEARTBEAT ACK (RFC 9260, sections 3.3.5 and 3.3.6): their parameters
+  heartbeat : List ParameterContent → Plain
+  heartbeat_ack : List ParameterContent → Plain
   -- a kind that no handler works yet, as it stands in its packet
   unworked : ChunkContent → Plain
 
 -- is it a DATA chunk?
 abbrev pub is_data : Plain → Bool
 is_data (unknown type flags value) = false
+is_data (heartbeat parameters) = false
+is_data (heartbeat_ack parameters) = false
 is_data (unworked (data_chunk chunk)) = true
 is_data (unworked chunk) = false
 
@@ -90,6 +95,8 @@ content_in cookie_ack_chunk = cookie_ack
 content_in shutdown_ack_chunk = shutdown_ack
 content_in (shutdown_complete_chunk reflected) = shutdown_complete reflected
 content_in (unknown_chunk type flags value) = plain (unknown type flags value)
+content_in (heartbeat_chunk parameters) = plain (heartbeat parameters)
+content_in (heartbeat_ack_chunk parameters) = plain (heartbeat_ack parameters)
 content_in chunk = plain (unworked chunk)
 
 abbrev pub packet_in : PacketContent → Packet
@@ -115,6 +122,8 @@ introduction_out introduction cookie =
 
 abbrev pub plain_out : Plain → ChunkContent
 plain_out (unknown type flags value) = unknown_chunk type flags value
+plain_out (heartbeat parameters) = heartbeat_chunk parameters
+plain_out (heartbeat_ack parameters) = heartbeat_ack_chunk parameters
 plain_out (unworked chunk) = chunk
 
 abbrev pub chunk_out : Content → ChunkContent

@@ -1,28 +1,49 @@
 -- Time: the deadlines that a socket waits for, and what comes of a moment that it is told.
 use Rattle.std.specs.Prelude.{◌≡◌, ◌≤◌, ◌<◌, ℕ, min, max, Bool, true, false, nat_le, if◌then◌else◌, Option, None, Some, List, [], ◌∷◌}
 use Rattle.std.specs.Duration.{max_nanos}
-use Rattle.dcsctp_machine.specs.Endpoint.{Endpoint, Core, closed, cookie_wait, cookie_echoed, open_in, RunningTimer, Timers, is_due, is_restarted}
-use Rattle.dcsctp_machine.specs.control.Acts.{t1_expires}
-use Rattle.dcsctp_machine.specs.Turn.{Input, act_input, time_passes, clock_at}
+use Rattle.dcsctp_machine.specs.Endpoint.{Endpoint, Core, closed, cookie_wait, cookie_echoed, open_in, RunningTimer, is_restarted}
+use Rattle.dcsctp_machine.specs.control.Acts.{t1_expires, abort_with}
+use Rattle.dcsctp_machine.specs.declared.ends.AbortReason.TheVariants.{TooManyErrors}
+use Rattle.dcsctp_machine.specs.turns.HeartbeatOutcomes.{is_exhausted, OwnTimer, heartbeat_interval, heartbeat_timeout}
+use Rattle.dcsctp_machine.specs.Turn.{Input, act_input, timer_expires, time_passes, clock_at}
 use Rattle.dcsctp_machine.specs.CallTurns.{Turned, IsTurn, Turns, after_all, words_of, effects_of, events_of}
 
 -- ---- deadlines
 
+-- the timers of a socket: T1 (RFC 9260, section 5.1), and those of an open association
+pub data Timer : Type 0 where
+  t1_timer : Timer
+  own_timer : OwnTimer → Timer
+
+-- Those that are worked in a phase, in their order, and whose deadlines count.
+abbrev pub timers_in : Core → List Timer
+timers_in closed = []
+timers_in (cookie_wait mine) = t1_timer ∷ []
+timers_in (cookie_echoed mine held cookie) = t1_timer ∷ []
+timers_in (open_in phase mine held) = own_timer heartbeat_interval ∷ own_timer heartbeat_timeout ∷ []
+
 -- when a timer expires next, where it runs
-abbrev pub deadline_of : Option RunningTimer → List ℕ
-deadline_of None = []
-deadline_of (Some timer) = timer.deadline ∷ []
+abbrev pub deadline_of : Option RunningTimer → Option ℕ
+deadline_of None = None
+deadline_of (Some timer) = Some timer.deadline
 
--- The running deadlines that count in a phase: T1's alone while the association connects. Where it is open none counts
--- so far: the heartbeat interval runs, and its expiry isn't worked.
-abbrev pub deadlines_in : Core → Timers → List ℕ
-deadlines_in closed timers = []
-deadlines_in (cookie_wait mine) timers = deadline_of timers.t1
-deadlines_in (cookie_echoed mine held cookie) timers = deadline_of timers.t1
-deadlines_in (open_in phase mine held) timers = []
+abbrev pub deadline : Endpoint → Timer → Option ℕ
+deadline e t1_timer = deadline_of e.timers.t1
+deadline e (own_timer heartbeat_interval) = deadline_of e.timers.heartbeat_interval
+deadline e (own_timer heartbeat_timeout) = deadline_of e.timers.heartbeat_timeout
 
+-- these, and one more, where there is one
+abbrev pub with_deadline : Option ℕ → List ℕ → List ℕ
+with_deadline None others = others
+with_deadline (Some deadline) others = deadline ∷ others
+
+abbrev pub deadlines_of : Endpoint → List Timer → List ℕ
+deadlines_of e [] = []
+deadlines_of e (timer ∷ timers) = with_deadline (deadline e timer) (deadlines_of e timers)
+
+-- the running deadlines that count
 abbrev pub deadlines : Endpoint → List ℕ
-deadlines e = deadlines_in e.core e.timers
+deadlines e = deadlines_of e (timers_in e.core)
 
 -- the least of these
 abbrev pub earliest : ℕ → List ℕ → ℕ
@@ -40,24 +61,57 @@ next_moment e = next_of e.moment (deadlines e)
 
 -- ---- what comes of a moment
 
--- a timer's expiry, where it runs and is due
-abbrev pub t1_inputs_of : ℕ → Option RunningTimer → List Input
-t1_inputs_of moment None = []
-t1_inputs_of moment (Some timer) = if is_due moment timer then act_input (t1_expires (is_restarted timer)) ∷ [] else []
+-- Has this deadline come?
+abbrev pub has_come : ℕ → Option ℕ → Bool
+has_come moment None = false
+has_come moment (Some deadline) = nat_le deadline moment
 
-abbrev pub t1_inputs : Endpoint → Core → List Input
-t1_inputs e closed = []
-t1_inputs e (cookie_wait mine) = t1_inputs_of e.moment e.timers.t1
-t1_inputs e (cookie_echoed mine held cookie) = t1_inputs_of e.moment e.timers.t1
-t1_inputs e (open_in phase mine held) = []
+-- is a restart left to a timer that expires?
+abbrev pub goes_on : Option RunningTimer → Bool
+goes_on None = false
+goes_on (Some timer) = is_restarted timer
 
--- the turn of T1, where it is due (RFC 9260, section 5.1)
-abbrev pub T1Turns : Endpoint → List Turned → Type 0
-T1Turns e turns = Turns e (t1_inputs e e.core) turns
+-- what the expiry of a timer is
+abbrev pub expiry_input : Endpoint → Timer → Input
+expiry_input e t1_timer = act_input (t1_expires (goes_on e.timers.t1))
+expiry_input e (own_timer timer) = timer_expires timer
 
--- The turns of the timers that are due, each as it stands when its turn comes. T1 is the one that is worked so far.
+-- an own abort, where too many errors were counted (RFC 9260, section 8.1)
+abbrev pub error_inputs : Endpoint → List Input
+error_inputs e = if is_exhausted e.options.max_retransmissions e.error_count then act_input (abort_with TooManyErrors) ∷ [] else []
+
+-- What follows the timers where one has expired: a peer that is held, and that doesn't answer, is given up. Else what
+-- waits goes out, but in CookieEchoed: nothing does so far.
+abbrev pub inputs_behind : Endpoint → Core → List Input
+inputs_behind e closed = []
+inputs_behind e (cookie_wait mine) = []
+inputs_behind e (cookie_echoed mine held cookie) = error_inputs e
+inputs_behind e (open_in phase mine held) = error_inputs e
+
+abbrev pub after_expiries : Endpoint → Bool → List Input
+after_expiries e false = []
+after_expiries e true = inputs_behind e e.core
+
+-- This input has its turn, and then come these.
+abbrev pub FirstThen : (Endpoint → List Turned → Type 0) → Endpoint → Input → List Turned → Type 0
+FirstThen Rest e input [] = ⊥
+FirstThen Rest e input (first ∷ turns) = IsTurn e input first × Rest first.outcome.after turns
+
+-- A timer that is due has its turn before these.
+abbrev pub ExpiryThen : Bool → (Bool → Endpoint → List Turned → Type 0) → Endpoint → Bool → Timer → List Turned → Type 0
+ExpiryThen true Rest e has_expired timer turns = FirstThen (Rest true) e (expiry_input e timer) turns
+ExpiryThen false Rest e has_expired timer turns = Rest has_expired e turns
+
+-- The turns of the timers that are due, each as it stands when its turn comes, and what follows them; whether one has
+-- expired before them is told.
+abbrev pub ExpiryTurns : List Timer → Bool → Endpoint → List Turned → Type 0
+ExpiryTurns [] has_expired e turns = Turns e (after_expiries e has_expired) turns
+ExpiryTurns (timer ∷ timers) has_expired e turns =
+    ExpiryThen (has_come e.moment (deadline e timer)) (ExpiryTurns timers) e has_expired timer turns
+
+-- All that is due.
 abbrev pub DueTurns : Endpoint → List Turned → Type 0
-DueTurns e turns = T1Turns e turns
+DueTurns e turns = ExpiryTurns (timers_in e.core) false e turns
 
 -- The clock is moved, and what is due then has its turns.
 abbrev pub MomentTurns : Endpoint → ℕ → List Turned → Type 0
@@ -81,6 +135,11 @@ AwaitsNoCookieAck closed = Unit {0}
 AwaitsNoCookieAck (cookie_wait mine) = Unit {0}
 AwaitsNoCookieAck (cookie_echoed mine held cookie) = ⊥
 AwaitsNoCookieAck (open_in phase mine held) = Unit {0}
+
+-- None of these timers is due.
+abbrev pub NoneIsDue : Endpoint → List Timer → Type 0
+NoneIsDue e [] = Unit {0}
+NoneIsDue e (timer ∷ timers) = (has_come e.moment (deadline e timer) ≡ false) × NoneIsDue e timers
 
 -- The moment isn't before the present one, and it is before the next one at which the socket wants to be told the time.
 pub record Waits (e : Endpoint) (moment : ℕ) : Type 0 where

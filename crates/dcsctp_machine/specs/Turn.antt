@@ -7,6 +7,7 @@ use Rattle.dcsctp_machine.specs.Outcome.{Outcome, still, count_up, reports}
 use Rattle.dcsctp_machine.specs.turns.HandshakeOutcomes.{InitTurn, ConnectTurn, InitAckTurn, CookieAckTurn}
 use Rattle.dcsctp_machine.specs.turns.CookieEchoOutcomes.{CookieEchoTurn}
 use Rattle.dcsctp_machine.specs.turns.EndOutcomes.{abort_outcome, aborting_outcome, ShutdownAckTurn, ShutdownCompleteTurn}
+use Rattle.dcsctp_machine.specs.turns.HeartbeatOutcomes.{OwnTimer, timer_outcome}
 use Rattle.dcsctp_machine.specs.turns.PlainOutcomes.{PlainTurn}
 use Rattle.dcsctp_machine.specs.turns.TimerOutcomes.{T1AgainTurn, t1_gives_up_outcome}
 use Rattle.dcsctp_machine.specs.control.Acts.{Act, connect, t1_expires, shut_down, step_of_shutdown, shutdown_repeats, abort_with, hands_over, flushes, request_again}
@@ -25,6 +26,8 @@ pub data Input : Type 0 where
   packet_ends : Input
   -- what the user or a timer brings
   act_input : Act → Input
+  -- A timer of an open association expires.
+  timer_expires : OwnTimer → Input
   -- The clock is moved to this moment.
   time_passes : ℕ → Input
 
@@ -90,4 +93,5 @@ Turn e (packet_begins contents) o = BeginTurn e e.core (has_data contents) o
 Turn e (chunk_input tag content) o = ContentTurn e tag content o
 Turn e packet_ends o = EndTurn e o
 Turn e (act_input act) o = ActTurn e act o
+Turn e (timer_expires timer) o = o ≡ timer_outcome e timer
 Turn e (time_passes moment) o = o ≡ still (clock_at moment e)

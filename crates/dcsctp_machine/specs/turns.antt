@@ -2,5 +2,6 @@ pub mod CookieEchoOutcomes
 pub mod EndOutcomes
 pub mod FlushOutcomes
 pub mod HandshakeOutcomes
+pub mod HeartbeatOutcomes
 pub mod PlainOutcomes
 pub mod TimerOutcomes

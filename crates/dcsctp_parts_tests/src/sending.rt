@@ -90,6 +90,31 @@ fn the_timeout_is_half_a_second_at_first(rt: HostRuntime) {
     same(&rt, "round trip", timeout.srtt(), half);
 }
 
+/// Asserts what a timeout is once it has this round trip too, all in microseconds.
+fn measured(rt: &impl Abort, timeout: &mut RetransmissionTimeout, rtt: u64, srtt: u64, rto: u64) {
+    timeout.observe_rto(Duration::from_micros(rtt));
+    same(
+        rt,
+        "round trip",
+        timeout.srtt(),
+        Duration::from_micros(srtt),
+    );
+    same(rt, "timeout", timeout.rto(), Duration::from_micros(rto));
+}
+
+// RFC 9260, section 6.3.1, by hand. The variances are 50 ms, 87.5 ms, 87.5 ms and 15,034.375 ms.
+#[test]
+fn a_timeout_follows_its_round_trips(rt: HostRuntime) {
+    let mut timeout = RetransmissionTimeout::new(&Options::default());
+    measured(&rt, &mut timeout, 100_000, 100_000, 400_000);
+    measured(&rt, &mut timeout, 300_000, 125_000, 475_000);
+    measured(&rt, &mut timeout, 60_000_001, 125_000, 475_000);
+    measured(&rt, &mut timeout, 60_000_000, 7_609_375, 60_000_000);
+    let mut steady = RetransmissionTimeout::new(&Options::default());
+    measured(&rt, &mut steady, 1_000_000, 1_000_000, 3_000_000);
+    measured(&rt, &mut steady, 1_000_000, 1_000_000, 2_500_000);
+}
+
 /// Asserts with which windows and TSN a queue begins whose congestion window is these packets at first.
 fn begins(rt: &impl Abort, name: &str, mtus: usize, expected: usize) {
     let options = Options {

@@ -15,7 +15,7 @@ both xs ys x y = recursion_from_All IsByte (xs ++ ys) (All-append IsByte xs ys (
 pub in_two : (n : ℕ) → AllByRecursion IsByte (to_be_bytes w16 n)
 in_two n = (omega arith, (omega arith, tt))
 
-in_four : (n : ℕ) → AllByRecursion IsByte (to_be_bytes w32 n)
+pub in_four : (n : ℕ) → AllByRecursion IsByte (to_be_bytes w32 n)
 in_four n = (omega arith, (omega arith, (omega arith, (omega arith, tt))))
 
 in_eight : (n : ℕ) → AllByRecursion IsByte (to_be_bytes w64 n)

@@ -1,7 +1,8 @@
 mod Aborting
 mod Bytes
 mod Deliver
-mod Follow
+mod ExpiryMoves
+pub mod Follow
 mod Fresh
 mod HandshakeEnds
 mod HandshakeReads

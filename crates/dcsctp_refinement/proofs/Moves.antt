@@ -69,7 +69,7 @@ rests_then options turns side theirs xs ys second =
     }
 
 -- turns that are a move of it, and others behind them
-moves_then : (options : Options) (turns : List Turned) (side : SideState) (theirs : List Effect) (xs ys : List Turned) (move : Move) (changes : List Change) → MoveChanges side theirs move changes
+pub moves_then : (options : Options) (turns : List Turned) (side : SideState) (theirs : List Effect) (xs ys : List Turned) (move : Move) (changes : List Change) → MoveChanges side theirs move changes
     → SideMoves options (turns ++ xs) (after_changes side changes) theirs ys → SideMoves options turns side theirs (xs ++ ys)
 moves_then options turns side theirs xs ys move changes made second =
     record {

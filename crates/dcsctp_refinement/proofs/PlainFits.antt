@@ -1,5 +1,5 @@
 -- The turns of chunks that speak of no association leave numbers that fit their fields, and send what is read as itself.
-use Rattle.std.proofs.Common.{◌≤◌, ◌-◌, ◌+◌, ℕ, Bool, true, false, cond, Option, None, Some, List, [], ◌∷◌, length, take, refl, sym, subst, arith}
+use Rattle.std.proofs.Common.{◌==◌, ◌≤◌, ◌-◌, ◌+◌, ℕ, Bool, true, false, cond, Option, None, Some, List, [], ◌∷◌, length, take, refl, sym, subst, arith}
 use Rattle.std.specs.Int.{w16, to_be_bytes}
 use Rattle.std.specs.List.{AllByRecursion}
 use Rattle.std.proofs.lemmas.List.{length-take}
@@ -12,9 +12,12 @@ use Rattle.dcsctp_machine.specs.declared.ends.AbortReason.TheVariants as reasons
 use Rattle.dcsctp_machine.specs.declared.kinds.ErrorKind.TheVariants.{ParseFailed}
 use Rattle.dcsctp_machine.specs.Settings.{packet_size_limit}
 use Rattle.dcsctp_machine.specs.Event.{error}
-use Rattle.dcsctp_machine.specs.Packet.{Plain, plain, unknown, unworked}
+use Rattle.dcsctp_machine.specs.Packet.{Plain, plain, unknown, heartbeat, heartbeat_ack, unworked, Emission}
 use Rattle.dcsctp_machine.specs.Endpoint.{Endpoint, Core, closed, cookie_wait, cookie_echoed, open_in, established, shutdown_pending, shutdown_sent, shutdown_received, shutdown_ack_sent}
-use Rattle.dcsctp_machine.specs.Outcome.{Outcome, still, sends}
+use Rattle.dcsctp_machine.specs.Outcome.{Outcome, still, quiet, sends, to_peer}
+use Rattle.dcsctp_machine.specs.Outcome.{fits as fits_mtu}
+use Rattle.dcsctp_wire.specs.Content.{ParameterContent}
+use Rattle.dcsctp_machine.specs.turns.HeartbeatOutcomes.{heartbeat_outcome, info_in, counter_of, answered, heartbeat_ack_outcome}
 use Rattle.dcsctp_machine.specs.turns.PlainOutcomes.{PlainTurn, plain_outcome, violation_at, is_reported, after_unknown, unknown_text, unknown_bytes, unknown_error, unknown_report, unknown_told}
 use Rattle.dcsctp_machine.specs.Fitting.{FitsHeld, FitsCore, FitsEndpoint, Sendable, TurnFits}
 use Rattle.dcsctp_refinement.proofs.Aborting.{aborting_fits}
@@ -59,6 +62,42 @@ unknown_fits e (open_in shutdown_sent my held) type chunk true h own each = absu
 unknown_fits e (open_in shutdown_received my held) type chunk true h own each = absurd own
 unknown_fits e (open_in shutdown_ack_sent my held) type chunk true h own each = absurd own
 
+-- ---- heartbeats
+
+abbrev answer_to : Held → List ParameterContent → Emission
+answer_to held parameters = to_peer held (plain (heartbeat_ack parameters))
+
+-- What fits in the one fits in the other.
+answer_sendable : (parameters : List ParameterContent) → Sendable (plain (heartbeat parameters)) → Sendable (plain (heartbeat_ack parameters))
+answer_sendable parameters good = record { fits = good.fits; reads = refl; said = tt }
+
+answer_fits : (b : Bool) (e : Endpoint) (held : Held) (parameters : List ParameterContent) → FitsEndpoint e → FitsHeld held → Sendable (plain (heartbeat parameters))
+    → TurnFits (cond b (sends e [] [] (answer_to held parameters)) (quiet e [] []))
+answer_fits true e held parameters h fits good =
+    record {
+      after = record { valid = h.valid; options = h.options; core = h.core; t1 = h.t1 };
+      sends = (record { tag = fits.peer.tag; contents = (answer_sendable parameters good, tt) }, tt);
+    }
+answer_fits false e held parameters h fits good = record { after = h; sends = tt }
+
+heartbeat_fits : (e : Endpoint) (core : Core) (parameters : List ParameterContent) → FitsEndpoint e → FitsCore core → Sendable (plain (heartbeat parameters)) → TurnFits (heartbeat_outcome e core parameters)
+heartbeat_fits e closed parameters h own good = record { after = h; sends = tt }
+heartbeat_fits e (cookie_wait my) parameters h own good = record { after = h; sends = tt }
+heartbeat_fits e (cookie_echoed my held cookie) parameters h own good = answer_fits (fits_mtu e (answer_to held parameters)) e held parameters h own.1 good
+heartbeat_fits e (open_in established my held) parameters h own good = answer_fits (fits_mtu e (answer_to held parameters)) e held parameters h own.1 good
+heartbeat_fits e (open_in shutdown_pending my held) parameters h own good = absurd own
+heartbeat_fits e (open_in shutdown_sent my held) parameters h own good = absurd own
+heartbeat_fits e (open_in shutdown_received my held) parameters h own good = absurd own
+heartbeat_fits e (open_in shutdown_ack_sent my held) parameters h own good = absurd own
+
+counted_fits : (b : Bool) (e : Endpoint) → FitsEndpoint e → TurnFits (cond b (still (answered e)) (still e))
+counted_fits true e h = record { after = record { valid = h.valid; options = h.options; core = h.core; t1 = h.t1 }; sends = tt }
+counted_fits false e h = record { after = h; sends = tt }
+
+heartbeat_ack_fits : (e : Endpoint) (counter : Option ℕ) → FitsEndpoint e → TurnFits (heartbeat_ack_outcome e counter)
+heartbeat_ack_fits e None h = record { after = h; sends = (tt, tt) }
+heartbeat_ack_fits e (Some counter) h = counted_fits (counter == e.heartbeat_counter) e h
+
 -- ---- each
 
 outcome_fits : (e : Endpoint) (core : Core) (chunk : Plain) (violation : Option Violation) → FitsEndpoint e → FitsCore core → Sendable (plain chunk) → TurnFits (plain_outcome e core chunk violation)
@@ -66,6 +105,8 @@ outcome_fits e core chunk (Some violation) h own good = aborting_fits e core (re
 outcome_fits e core (unknown type flags value) None h own good =
     unknown_fits e core type (unknown_bytes type flags value) (is_reported type) h own
     (unknown_in_bytes type flags value good.fits.type_fits good.fits.flags_fit good.fits.value_in_bytes)
+outcome_fits e core (heartbeat parameters) None h own good = heartbeat_fits e core parameters h own good
+outcome_fits e core (heartbeat_ack parameters) None h own good = heartbeat_ack_fits e (counter_of (info_in parameters)) h
 outcome_fits e core (unworked chunk) None h own good = record { after = h; sends = tt }
 
 pub plain_fits : (e : Endpoint) (chunk : Plain) (o : Outcome) → PlainTurn e chunk o → FitsEndpoint e → Sendable (plain chunk) → TurnFits o

@@ -1,28 +1,29 @@
 -- What comes of a step at one socket is moves of its side in the machine that agreement is proved on.
-use Rattle.std.proofs.Common.{ℕ, Bool, true, false, zero, suc, Option, None, Some, List, [], ◌∷◌, ◌++◌, refl, sym, subst}
-use Rattle.std.specs.Prelude.{if◌then◌else◌, nat_le}
+use Rattle.std.proofs.Common.{ℕ, Bool, true, false, zero, suc, List, [], ◌∷◌, ◌++◌, refl, sym, subst}
+use Rattle.std.specs.Prelude.{nat_le}
 use Rattle.std.specs.List.{slice_get}
 use Rattle.dcsctp_machine.specs.declared.ends.AbortReason.{AbortReason}
-use Rattle.dcsctp_machine.specs.declared.ends.AbortReason.TheVariants.{CloseCalled}
+use Rattle.dcsctp_machine.specs.declared.ends.AbortReason.TheVariants.{CloseCalled, TooManyErrors}
 use Rattle.dcsctp_machine.specs.declared.options.Options.{Options}
 use Rattle.dcsctp_machine.specs.Schedule.{connect_call, close_call, advance_call, StepContent, call_step, delivery_step}
 use Rattle.dcsctp_machine.specs.Settings.{FitsOptions}
-use Rattle.dcsctp_machine.specs.Endpoint.{Endpoint, Core, closed, cookie_wait, cookie_echoed, open_in, RunningTimer, is_due, is_restarted}
+use Rattle.dcsctp_machine.specs.Endpoint.{Endpoint, Core}
 use Rattle.dcsctp_machine.specs.Turn.{ActTurn, act_input}
-use Rattle.dcsctp_machine.specs.TimeTurns.{t1_inputs_of, t1_inputs, MomentTurns, TimeTurns}
+use Rattle.dcsctp_machine.specs.TimeTurns.{timers_in, DueTurns, MomentTurns, TimeTurns}
 use Rattle.dcsctp_machine.specs.Outcome.{Outcome}
 use Rattle.dcsctp_machine.specs.Controlled.{IsControlled}
 use Rattle.dcsctp_machine.specs.control.Choices.{Choices}
 use Rattle.dcsctp_machine.specs.Fitting.{TurnFits}
 use Rattle.dcsctp_machine.specs.CallTurns.{Turned, Turns}
 use Rattle.dcsctp_machine.specs.control.Effect.{Effect, Change}
-use Rattle.dcsctp_machine.specs.control.Acts.{abort_with, t1_expires, act_change}
+use Rattle.dcsctp_machine.specs.control.Acts.{abort_with, act_change}
 use Rattle.dcsctp_machine.specs.World.{SideState, acted, does}
 use Rattle.dcsctp_machine.specs.Sockets.{endpoint_after, packets_shown, StepTurns}
 use Rattle.dcsctp_refinement.proofs.Aborting.{aborting_fits}
 use Rattle.dcsctp_refinement.proofs.Follow.{Followed, after_last, follow_turns}
-use Rattle.dcsctp_refinement.proofs.TimeMoves.{T1Follows, t1_follows, clock_follows}
-use Rattle.dcsctp_refinement.proofs.Moves.{Below, SideMoves, moves_once, nothing_happens, rests_then, none_rests, connect_moves, delivery_moves}
+use Rattle.dcsctp_refinement.proofs.TimeMoves.{clock_follows}
+use Rattle.dcsctp_refinement.proofs.ExpiryMoves.{expiries_move}
+use Rattle.dcsctp_refinement.proofs.Moves.{Below, SideMoves, moves_once, nothing_happens, rests_then, connect_moves, delivery_moves}
 
 -- ---- close
 
@@ -50,39 +51,15 @@ abort_moves law options turns side theirs reason (t ∷ next ∷ more) h turn = 
 
 -- ---- the time
 
-t1_moves : Below → (options : Options) (turns : List Turned) (side : SideState) (theirs : List Effect) (again : Bool) (more : List Turned) → Followed options turns side
-    → Turns (endpoint_after options turns) (act_input (t1_expires again) ∷ []) more → SideMoves options turns side theirs more
-t1_moves law options turns side theirs again [] h taken = absurd taken
-t1_moves law options turns side theirs again (t ∷ []) h taken =
-    let followed : T1Follows options turns side again t = t1_follows law.effects_mean law.acts law.offers options turns side again t h taken.0.comes in
-    moves_once options turns side theirs (t ∷ []) (does (t1_expires again)) (act_change side.options side.core (t1_expires again) followed.choices ∷ []) (followed.choices, refl) followed.follows
-t1_moves law options turns side theirs again (t ∷ next ∷ more) h taken = absurd taken.1
-
-due_where : Below → (options : Options) (turns : List Turned) (side : SideState) (theirs : List Effect) (due again : Bool) (more : List Turned) → Followed options turns side
-    → Turns (endpoint_after options turns) (if due then act_input (t1_expires again) ∷ [] else []) more → SideMoves options turns side theirs more
-due_where law options turns side theirs true again more h taken = t1_moves law options turns side theirs again more h taken
-due_where law options turns side theirs false again more h taken = none_rests options turns side theirs more h taken
-
-due_of : Below → (options : Options) (turns : List Turned) (side : SideState) (theirs : List Effect) (moment : ℕ) (t1 : Option RunningTimer) (more : List Turned) → Followed options turns side
-    → Turns (endpoint_after options turns) (t1_inputs_of moment t1) more → SideMoves options turns side theirs more
-due_of law options turns side theirs moment None more h taken = none_rests options turns side theirs more h taken
-due_of law options turns side theirs moment (Some timer) more h taken = due_where law options turns side theirs (is_due moment timer) (is_restarted timer) more h taken
-
-due_moves : Below → (options : Options) (turns : List Turned) (side : SideState) (theirs : List Effect) (core : Core) (more : List Turned) → Followed options turns side
-    → Turns (endpoint_after options turns) (t1_inputs (endpoint_after options turns) core) more → SideMoves options turns side theirs more
-due_moves law options turns side theirs closed more h taken = none_rests options turns side theirs more h taken
-due_moves law options turns side theirs (cookie_wait my) more h taken = due_of law options turns side theirs (endpoint_after options turns).moment (endpoint_after options turns).timers.t1 more h taken
-due_moves law options turns side theirs (cookie_echoed my held cookie) more h taken = due_of law options turns side theirs (endpoint_after options turns).moment (endpoint_after options turns).timers.t1 more h taken
-due_moves law options turns side theirs (open_in phase my held) more h taken = none_rests options turns side theirs more h taken
-
 moment_moves : Below → (options : Options) (turns : List Turned) (side : SideState) (theirs : List Effect) (moment : ℕ) (more : List Turned) → Followed options turns side
     → MomentTurns (endpoint_after options turns) moment more → SideMoves options turns side theirs more
 moment_moves law options turns side theirs moment [] h taken = absurd taken
 moment_moves law options turns side theirs moment (t ∷ more) h taken =
     let first : Followed options (turns ++ t ∷ []) side = clock_follows options turns side moment t h taken.0.comes in
     rests_then options turns side theirs (t ∷ []) more
-    (due_moves law options (turns ++ t ∷ []) side theirs (endpoint_after options (turns ++ t ∷ [])).core more first
-    (subst (λ (x : Endpoint). Turns x (t1_inputs x x.core) more) (sym (after_last _ turns t)) taken.1))
+    (expiries_move law options theirs (timers_in (endpoint_after options (turns ++ t ∷ [])).core)
+    (λ before stands behind follows turned. abort_moves law options before stands theirs TooManyErrors behind follows turned) (turns ++ t ∷ []) side false more first
+    (subst (λ (x : Endpoint). DueTurns x more) (sym (after_last _ turns t)) taken.1))
 
 advance_moves : Below → (options : Options) (turns : List Turned) (side : SideState) (theirs : List Effect) (later : Bool) (moment : ℕ) (more : List Turned) → Followed options turns side
     → TimeTurns later (endpoint_after options turns) moment more → SideMoves options turns side theirs more

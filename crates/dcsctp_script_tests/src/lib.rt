@@ -13,6 +13,8 @@ mod closing;
 #[cfg(test)]
 mod faults;
 #[cfg(test)]
+mod heartbeats;
+#[cfg(test)]
 mod options;
 #[cfg(test)]
 mod outside;

@@ -58,8 +58,8 @@ fn a_cookie_echo_is_sent_again(rt: HostRuntime) {
         B connected\n\
         B packet 2 00000007 COOKIE-ACK\n\
         A connected\n\
-        A timeout never\n\
-        B timeout never\n";
+        A timeout 31400000000\n\
+        B timeout 30000000000\n";
     prints(&rt, alloc, "cookie echo", &[WORDS, script], &[lines]);
 }
 

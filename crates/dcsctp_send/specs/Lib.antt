@@ -1,1 +1,2 @@
+pub mod RetransmissionTimeout
 pub mod Timer

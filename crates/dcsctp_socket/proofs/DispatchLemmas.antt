@@ -1,5 +1,5 @@
 -- Turns of chunks that break the protocol, of a SHUTDOWN ACK, a SHUTDOWN COMPLETE and of those that aren't known.
-use Rattle.std.proofs.Common.{◌≡◌, ℕ, Bool, Option, None, Some, List, [], ◌∷◌, refl, sym, ap, subst, ◌∙◌, Result, Ok, Err}
+use Rattle.std.proofs.Common.{◌≡◌, ◌==◌, ℕ, Bool, true, false, cond, Option, None, Some, List, [], ◌∷◌, refl, sym, ap, subst, ◌∙◌}
 use Rattle.std.proofs.lemmas.List.{append-nil}
 use Rattle.rand_core.specs.Stream.{Stream}
 use Rattle.dcsctp_wire.specs.declared.chunk.Chunk.{Chunk}
@@ -8,20 +8,22 @@ use Rattle.dcsctp_wire.specs.Content.{chunk_content}
 use Rattle.dcsctp_machine.specs.declared.ends.Violation.{Violation}
 use Rattle.dcsctp_machine.specs.declared.ends.AbortReason.TheVariants as reasons
 use Rattle.dcsctp_machine.specs.Event.{Event}
-use Rattle.dcsctp_machine.specs.Packet.{Plain, Content, content_in, init, init_ack, cookie_echo, cookie_ack, re_config, abort, shutdown, shutdown_ack, shutdown_complete, plain, unknown}
+use Rattle.dcsctp_machine.specs.Packet.{Plain, Content, content_in, init, init_ack, cookie_echo, cookie_ack, re_config, abort, shutdown, shutdown_ack, shutdown_complete, plain, unknown, heartbeat, heartbeat_ack, Emission}
+use Rattle.dcsctp_wire.specs.Content.{ParameterContent}
+use Rattle.dcsctp_machine.specs.turns.HeartbeatOutcomes.{heartbeat_outcome, heartbeat_ack_outcome, answered}
+use Rattle.dcsctp_heartbeat.specs.Heartbeats.{heartbeat_turn, heartbeat_ack_turn}
 use Rattle.dcsctp_machine.specs.Endpoint.{Endpoint, Core, closed, cookie_wait, cookie_echoed, open_in}
-use Rattle.dcsctp_machine.specs.Outcome.{Outcome, still}
-use Rattle.dcsctp_machine.specs.Following.{dropped_rest}
+use Rattle.dcsctp_machine.specs.Outcome.{Outcome, still, quiet, sends, fits, to_peer}
+use Rattle.dcsctp_machine.specs.Following.{next_chunk, dropped_rest}
 use Rattle.dcsctp_machine.specs.Turn.{ContentTurn}
 use Rattle.dcsctp_machine.specs.CallTurns.{Turned, ChunkTurns}
 use Rattle.dcsctp_machine.specs.turns.EndOutcomes.{aborting_outcome, reflected_outcome, ShutdownAckTurn, ShutdownCompleteTurn}
-use Rattle.dcsctp_machine.specs.turns.PlainOutcomes.{violation_at, plain_outcome, unknown_outcome}
+use Rattle.dcsctp_machine.specs.turns.PlainOutcomes.{violation_at, plain_outcome}
 use Rattle.dcsctp_core.specs.declared.state.State.{State}
 use Rattle.dcsctp_core.specs.declared.state.State.TheVariants.{Closed, CookieWait, CookieEchoed, Established}
 use Rattle.dcsctp_core.specs.declared.context.Context.{Context}
 use Rattle.dcsctp_core.specs.declared.following.Following.TheVariants.{NextChunk, DroppedRest}
 use Rattle.dcsctp_core.specs.View.{View, core_of, endpoint_of, view_of, Moves, MovesAll, CutTurn}
-use Rattle.dcsctp_core.specs.Handling.{Tries}
 use Rattle.dcsctp_core.proofs.Moving.{moves_one, moves_still}
 use Rattle.dcsctp_ends.specs.Ends.{violation_in, aborting_turn, shutdown_ack_turn}
 use Rattle.dcsctp_socket.specs.Parts.{ChunkMoves, ChunkCut, AckMoves}
@@ -91,7 +93,7 @@ ack_cut {R = R} old new tag same =
       cut = record { count = 0; added = ap (λ (v : View R). v.events) same ∙ sym (append-nil (view_of old).events) };
     }
 
-moves_none : {R : Type 0} (stream : R → Stream) (view : View R) → MovesAll stream view [] view
+pub moves_none : {R : Type 0} (stream : R → Stream) (view : View R) → MovesAll stream view [] view
 moves_none stream view = record { endpoint = refl; events = sym (append-nil view.events); words = sym (append-nil view.words); pairs = sym (append-nil view.pairs); drawn = refl }
 
 -- as a packet's one
@@ -136,3 +138,45 @@ complete_worked stream context tag reflected =
 pub unknown_is : {R : Type 0} (context : Context R) (tag type flags : ℕ) (value : List ℕ) → violation_at (core_of context.state) (unknown type flags value) ≡ None
     → ContentTurn (endpoint_of context) tag (plain (unknown type flags value)) (unknown_turn type flags value (view_of context))
 unknown_is context tag type flags value none = ap (plain_outcome (endpoint_of context) (core_of context.state) (unknown type flags value)) (sym none)
+
+-- ---- heartbeats
+
+-- What a handler says without naming what follows: the next chunk does.
+pub tries_worked : {R : Type 0} (stream : R → Stream) (old new : Context R) (tag : ℕ) (content : Content) (outcome : Outcome) → ContentTurn (endpoint_of old) tag content outcome
+    → outcome.following ≡ next_chunk → Moves stream (view_of old) outcome (view_of new) → ChunkMoves stream tag content (view_of old) NextChunk (view_of new)
+tries_worked stream old new tag content outcome turn follows moves = record { outcome = outcome; turn = turn; following = follows; moves = moves }
+
+pub tries_cut : {R : Type 0} (old : Context R) (new : View R) (tag : ℕ) (content : Content) (outcome : Outcome) → ContentTurn (endpoint_of old) tag content outcome → new ≡ view_of old
+    → ChunkCut tag content (view_of old) new.events
+tries_cut {R = R} old new tag content outcome turn same =
+    record {
+      outcome = outcome;
+      turn = turn;
+      cut = record { count = 0; added = ap (λ (v : View R). v.events) same ∙ sym (append-nil (view_of old).events) };
+    }
+
+sent_follows : (b : Bool) (e : Endpoint) (emission : Emission) → (cond b (sends e [] [] emission) (quiet e [] [])).following ≡ next_chunk
+sent_follows true e emission = refl
+sent_follows false e emission = refl
+
+pub heartbeat_follows : (e : Endpoint) (core : Core) (parameters : List ParameterContent) → (heartbeat_outcome e core parameters).following ≡ next_chunk
+heartbeat_follows e closed parameters = refl
+heartbeat_follows e (cookie_wait my) parameters = refl
+heartbeat_follows e (cookie_echoed my held cookie) parameters = sent_follows (fits e (to_peer held (plain (heartbeat_ack parameters)))) e (to_peer held (plain (heartbeat_ack parameters)))
+heartbeat_follows e (open_in phase my held) parameters = sent_follows (fits e (to_peer held (plain (heartbeat_ack parameters)))) e (to_peer held (plain (heartbeat_ack parameters)))
+
+counted_follows : (b : Bool) (e : Endpoint) → (cond b (still (answered e)) (still e)).following ≡ next_chunk
+counted_follows true e = refl
+counted_follows false e = refl
+
+pub heartbeat_ack_follows : (e : Endpoint) (counter : Option ℕ) → (heartbeat_ack_outcome e counter).following ≡ next_chunk
+heartbeat_ack_follows e None = refl
+heartbeat_ack_follows e (Some counter) = counted_follows (counter == e.heartbeat_counter) e
+
+pub heartbeat_is : {R : Type 0} (context : Context R) (tag : ℕ) (parameters : List ParameterContent) → violation_at (core_of context.state) (heartbeat parameters) ≡ None
+    → ContentTurn (endpoint_of context) tag (plain (heartbeat parameters)) (heartbeat_turn parameters (view_of context))
+heartbeat_is context tag parameters none = ap (plain_outcome (endpoint_of context) (core_of context.state) (heartbeat parameters)) (sym none)
+
+pub heartbeat_ack_is : {R : Type 0} (context : Context R) (tag : ℕ) (parameters : List ParameterContent) → violation_at (core_of context.state) (heartbeat_ack parameters) ≡ None
+    → ContentTurn (endpoint_of context) tag (plain (heartbeat_ack parameters)) (heartbeat_ack_turn parameters (view_of context))
+heartbeat_ack_is context tag parameters none = ap (plain_outcome (endpoint_of context) (core_of context.state) (heartbeat_ack parameters)) (sym none)

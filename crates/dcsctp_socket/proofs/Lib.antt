@@ -4,5 +4,6 @@ mod CallLemmas
 mod ChunkLemmas
 mod ChunkLoop
 mod DispatchLemmas
+mod ExpiryLemmas
 mod TimeLemmas
 mod UnknownLemmas

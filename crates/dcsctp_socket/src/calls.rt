@@ -5,7 +5,7 @@ ghost use Rattle.dcsctp_wire.specs.Content.{chunk_content, packet_content};
 ghost use Rattle.dcsctp_machine.specs.Packet.{content_in};
 ghost use Rattle.dcsctp_machine.specs.control.Acts.{abort_with};
 ghost use Rattle.dcsctp_machine.specs.Settings.{wire_options};
-ghost use Rattle.dcsctp_machine.specs.TimeTurns.{Waits, next_moment};
+ghost use Rattle.dcsctp_machine.specs.TimeTurns.{Waits};
 ghost use Rattle.dcsctp_api.specs.Calls.{is_closed};
 ghost use Rattle.dcsctp_core.specs.View.{core_of, endpoint_of};
 ghost use Rattle.dcsctp_socket.specs.Parts.{WorksChunks, WorksAck, WorksAcks, WorksPacket, WorksInput, WorksCall, ActTurns, WorksConnect};
@@ -14,10 +14,11 @@ ghost use Rattle.dcsctp_socket.specs.TimeParts.{WorksTime};
 use crate::admission::{Admission, admit};
 use crate::dispatch::handle_chunk;
 use crate::texts::UNREADABLE;
+use crate::timers::handle_timers;
 use dcsctp_api::{ErrorKind, Options, SocketTime};
 use dcsctp_core::{Context, Following};
 use dcsctp_ends::{abort_association, handle_shutdown_ack};
-use dcsctp_handshake::{do_connect, handle_t1};
+use dcsctp_handshake::do_connect;
 use dcsctp_machine::AbortReason;
 use dcsctp_wire::{Chunk, PacketError, SctpPacket, WireOptions};
 use rand_core::Rng;
@@ -134,8 +135,8 @@ pub(crate) fn close<R: Rng>(context: &mut Context<R>) -> Result<(), AllocError>
     Ok(())
 }
 
-/// Tells the time: the clock is moved, and T1 has its turn where it is due (RFC 9260, section 5.1). An
-/// earlier moment changes nothing. The one error is that a growth was refused.
+/// Tells the time: the clock is moved, and the timers that are due have their turns (RFC 9260, sections 5.1
+/// and 8.3). An earlier moment changes nothing. The one error is that a growth was refused.
 pub(crate) fn advance_time<R: Rng>(
     context: &mut Context<R>,
     now: SocketTime,
@@ -149,20 +150,8 @@ pub(crate) fn advance_time<R: Rng>(
         return Ok(());
     }
     context.moment = now;
-    handle_t1(context)?;
+    handle_timers(context)?;
     Ok(())
-}
-
-/// The moment at which time has to be told next, never before the present one; the last one where none
-/// is waited for. That is T1's deadline while the association is set up: no other timer is worked so far.
-pub(crate) fn poll_timeout<R: Rng>(context: &Context<R>) -> SocketTime
-    ensures { result ≡ next_moment (endpoint_of context.now) }
-{
-    match context.state.t1_deadline() {
-        None => SocketTime::infinite_future(),
-        Some(deadline) if deadline < context.moment => context.moment,
-        Some(deadline) => deadline,
-    }
 }
 
 // What the reader of packets needs of the options.

@@ -11,6 +11,7 @@ use crate::unknown::handle_unknown;
 use dcsctp_core::{Context, Following};
 use dcsctp_ends::{abort_association, handle_abort, handle_shutdown_ack, violation_of};
 use dcsctp_handshake::{handle_cookie_ack, handle_cookie_echo, handle_init, handle_init_ack};
+use dcsctp_heartbeat::{handle_heartbeat_ack, handle_heartbeat_request};
 use dcsctp_machine::AbortReason;
 use dcsctp_wire::Chunk;
 use rand_core::Rng;
@@ -61,14 +62,20 @@ fn work_chunk<R: Rng>(
             handle_shutdown_ack(context, header_tag)?;
             Ok(Following::NextChunk)
         }
+        Chunk::HeartbeatRequest(request) => {
+            handle_heartbeat_request(context, request)?;
+            Ok(Following::NextChunk)
+        }
+        Chunk::HeartbeatAck(ack) => {
+            handle_heartbeat_ack(context, ack)?;
+            Ok(Following::NextChunk)
+        }
         Chunk::Unknown(unknown) => handle_unknown(context, unknown),
         // No phase that there is awaits it.
         Chunk::ShutdownComplete(_) => Ok(Following::NextChunk),
         // No handler works these yet.
         Chunk::Data(_) => Ok(Following::NextChunk),
         Chunk::Sack(_) => Ok(Following::NextChunk),
-        Chunk::HeartbeatRequest(_) => Ok(Following::NextChunk),
-        Chunk::HeartbeatAck(_) => Ok(Following::NextChunk),
         Chunk::Shutdown(_) => Ok(Following::NextChunk),
         Chunk::Error(_) => Ok(Following::NextChunk),
         Chunk::IData(_) => Ok(Following::NextChunk),

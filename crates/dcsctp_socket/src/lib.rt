@@ -37,6 +37,7 @@ mod calls;
 mod dispatch;
 mod socket;
 mod texts;
+mod timers;
 mod unknown;
 
 pub use dcsctp_api as api;

@@ -2,7 +2,7 @@
 
 ghost use Rattle.dcsctp_socket.specs.SocketView.{Settles};
 
-use crate::calls;
+use crate::{calls, timers};
 use dcsctp_api::{
     Association, DcSctpSocket, Options, Pair, SocketEvent, SocketFault, SocketState, SocketTime,
 };
@@ -190,7 +190,7 @@ impl<R: Rng + Drop> DcSctpSocket for Socket<R> {
     fn poll_timeout(&self) -> SocketTime
         ensures { result ≡ next_moment self.now.view.endpoint }
     {
-        calls::poll_timeout(&self.context)
+        timers::poll_timeout(&self.context)
     }
 
     fn state(&self) -> SocketState {

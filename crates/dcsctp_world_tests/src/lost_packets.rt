@@ -2,7 +2,7 @@
 
 use crate::checks::same;
 use crate::worlds::{are_connected, new_world};
-use dcsctp_socket::{DcSctpSocket, SocketTime};
+use dcsctp_socket::{DcSctpSocket, SocketState};
 use dcsctp_testing::TwoWords;
 use dcsctp_world::{Call, Side, Step, World};
 use std::alloc::Global;
@@ -59,8 +59,8 @@ fn hand_over(
     count
 }
 
-// Hands packets back and forth, and tells A the time whenever it waits for it. When it waited last, in
-// nanoseconds.
+// Hands packets back and forth, and tells A the time whenever it waits for it while it connects. When it
+// waited last, in nanoseconds.
 fn exchange(rt: &impl Abort, world: &mut World<TwoWords>, mut losses: Losses) -> u128 {
     let mut now = 0;
     let mut from_a = 0;
@@ -68,9 +68,9 @@ fn exchange(rt: &impl Abort, world: &mut World<TwoWords>, mut losses: Losses) ->
     for _ in 0..12 {
         from_a = hand_over(rt, world, (Side::A, Side::B), from_a, &mut losses);
         from_b = hand_over(rt, world, (Side::B, Side::A), from_b, &mut losses);
-        let waits = world.socket(Side::A).poll_timeout();
         let is_idle = from_a == world.packets(Side::A).len();
-        if is_idle && waits != SocketTime::infinite_future() {
+        if is_idle && world.socket(Side::A).state() == SocketState::Connecting {
+            let waits = world.socket(Side::A).poll_timeout();
             now = waits.as_nanos();
             let step = Step::Call(Side::A, Call::AdvanceTime(waits));
             world.apply(&step).expect(rt, "no time");

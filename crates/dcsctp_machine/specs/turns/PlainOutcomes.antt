@@ -11,11 +11,12 @@ use Rattle.dcsctp_machine.specs.declared.ends.AbortReason.TheVariants as reasons
 use Rattle.dcsctp_machine.specs.declared.kinds.ErrorKind.TheVariants.{ParseFailed}
 use Rattle.dcsctp_machine.specs.Settings.{packet_size_limit}
 use Rattle.dcsctp_machine.specs.Event.{error}
-use Rattle.dcsctp_machine.specs.Packet.{Plain, unknown, unworked, plain, error_of, Emission}
+use Rattle.dcsctp_machine.specs.Packet.{Plain, unknown, heartbeat, heartbeat_ack, unworked, plain, error_of, Emission}
 use Rattle.dcsctp_machine.specs.Endpoint.{Endpoint, Core, cookie_echoed, open_in}
 use Rattle.dcsctp_machine.specs.Following.{Following, next_chunk, packet_end}
 use Rattle.dcsctp_machine.specs.Outcome.{Outcome, still, reports, sends, to_peer}
 use Rattle.dcsctp_machine.specs.turns.EndOutcomes.{aborting_outcome}
+use Rattle.dcsctp_machine.specs.turns.HeartbeatOutcomes.{heartbeat_outcome, info_in, counter_of, heartbeat_ack_outcome}
 
 -- ---- what breaks the protocol that was negotiated
 
@@ -92,6 +93,8 @@ unknown_outcome e core type flags value =
 abbrev pub plain_outcome : Endpoint → Core → Plain → Option Violation → Outcome
 plain_outcome e core chunk (Some violation) = aborting_outcome e core (reasons.Violation violation)
 plain_outcome e core (unknown type flags value) None = unknown_outcome e core type flags value
+plain_outcome e core (heartbeat parameters) None = heartbeat_outcome e core parameters
+plain_outcome e core (heartbeat_ack parameters) None = heartbeat_ack_outcome e (counter_of (info_in parameters))
 plain_outcome e core (unworked chunk) None = still e
 
 abbrev pub PlainTurn : Endpoint → Plain → Outcome → Type 0

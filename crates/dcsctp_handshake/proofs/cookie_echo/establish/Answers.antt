@@ -25,6 +25,6 @@ returns-in_err-send_cookie_ack g c =
     let old = c.args.context.now in
     rw (err_from_is_err_and c.from_residual-in_err-send_cookie_ack.result c.from_residual-in_err-send_cookie_ack.ensures.1).1
     (establish_cut (view_of old) (cookie_of c.args.cookie.now) (long_word (g.R.Rng.stream (view_of old).generator)) _
-    (ap (λ (v : View g.row.R.Denot). v.events) (c.in_err-send_cookie_ack.ensures ∙ c.start_heartbeat_interval.ensures)
+    (ap (λ (v : View g.row.R.Denot). v.events) (c.in_err-send_cookie_ack.ensures ∙ c.begin_association.ensures)
     ∙ added_one old.events c.add.new.self OnConnected
     (c.in_ok-add.ensures.ok ∙ ap (λ (x : Context g.row.R.Denot). x.events ++ OnConnected ∷ []) c.in_ok-tie_tag.ensures.only)))

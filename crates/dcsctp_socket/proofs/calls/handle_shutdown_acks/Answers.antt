@@ -1,6 +1,6 @@
 use Rattle.std.proofs.lemmas.Result.{err_from_is_err_and}
 use Rattle.std.proofs.lemmas.List.{take_all}
-use Rattle.std.proofs.Common.{◌++◌, ◌+◌, [], List, length, take, ap, subst, ◌∙◌, arith}
+use Rattle.std.proofs.Common.{◌++◌, [], List, length, take, ap, subst, ◌∙◌, arith}
 use Rattle.dcsctp_machine.proofs.TurnLemmas.{chunk_turns_keep_ports}
 use Rattle.dcsctp_machine.specs.Packet.{Content}
 use Rattle.dcsctp_machine.specs.CallTurns.{ChunkTurns, FirstTurns}

@@ -1,4 +1,3 @@
-use Rattle.std.proofs.Common.{refl, sym}
 use Rattle.std.proofs.lemmas.Result.{err_from_is_err_and}
 use Rattle.dcsctp_wire.specs.Content.{chunk_content}
 use Rattle.dcsctp_machine.specs.Packet.{content_in}

@@ -1,6 +1,8 @@
 use Rattle.std.proofs.Common.{map, refl}
 use Rattle.std.proofs.lemmas.Result.{err_from_is_err_and}
-use Rattle.dcsctp_wire.specs.Content.{cause_content}
+use Rattle.dcsctp_wire.specs.Content.{cause_content, parameter_content}
+use Rattle.dcsctp_machine.specs.turns.HeartbeatOutcomes.{counter_of, info_in}
+use Rattle.dcsctp_heartbeat.specs.Heartbeats.{heartbeat_turn, heartbeat_ack_turn}
 use Rattle.dcsctp_wire.specs.Content.{init_content}
 use Rattle.dcsctp_machine.specs.Packet.{introduction_in, cookie_in, init_ack, cookie_echo, plain}
 use Rattle.dcsctp_machine.specs.Packet as machine
@@ -11,7 +13,7 @@ use Rattle.dcsctp_handshake.specs.Handshake.{init_ack_turn, cookie_echo_turn}
 use Rattle.dcsctp_ends.specs.Ends.{abort_turn}
 use Rattle.dcsctp_socket.proofs.ChunkLemmas.{acknowledged_chunk, acknowledged_cut, init_cut, rests, works_chunk, works_whole}
 use Rattle.dcsctp_socket.specs.Unknown.{unknown_turn}
-use Rattle.dcsctp_socket.proofs.DispatchLemmas.{none_for, ack_worked, ack_cut, complete_worked, unknown_is}
+use Rattle.dcsctp_socket.proofs.DispatchLemmas.{none_for, ack_worked, ack_cut, complete_worked, unknown_is, tries_worked, tries_cut, heartbeat_follows, heartbeat_ack_follows, heartbeat_is, heartbeat_ack_is}
 use Rattle.dcsctp_socket.proofs.dispatch.work_chunk.Goals as goal
 
 -- An INIT whose turn was cut added nothing.
@@ -34,11 +36,39 @@ returns-in-Data g c = rw c.in-Data.is (rests g.R.Rng.stream (view_of c.args.cont
 pub returns-in-Sack : goal.returns-in-Sack
 returns-in-Sack g c = rw c.in-Sack.is (rests g.R.Rng.stream (view_of c.args.context.now) c.args.header_tag _ (none_for (core_of c.args.context.now.state) _ _ c.in-Sack.is c.requires))
 
-pub returns-in-HeartbeatRequest : goal.returns-in-HeartbeatRequest
-returns-in-HeartbeatRequest g c = rw c.in-HeartbeatRequest.is (rests g.R.Rng.stream (view_of c.args.context.now) c.args.header_tag _ (none_for (core_of c.args.context.now.state) _ _ c.in-HeartbeatRequest.is c.requires))
+pub returns-in_ok-handle_heartbeat_request-in-HeartbeatRequest : goal.returns-in_ok-handle_heartbeat_request-in-HeartbeatRequest
+returns-in_ok-handle_heartbeat_request-in-HeartbeatRequest g c =
+    let old = c.args.context.now in
+    let parameters = map parameter_content c.in-HeartbeatRequest.request.parameters.items in
+    rw c.in-HeartbeatRequest.is
+    (tries_worked g.R.Rng.stream old c.handle_heartbeat_request.new.context c.args.header_tag _ (heartbeat_turn parameters (view_of old))
+    (heartbeat_is old c.args.header_tag parameters (none_for (core_of old.state) _ _ c.in-HeartbeatRequest.is c.requires)) (heartbeat_follows (endpoint_of old) (core_of old.state) parameters) c.in_ok-handle_heartbeat_request-in-HeartbeatRequest.ensures)
 
-pub returns-in-HeartbeatAck : goal.returns-in-HeartbeatAck
-returns-in-HeartbeatAck g c = rw c.in-HeartbeatAck.is (rests g.R.Rng.stream (view_of c.args.context.now) c.args.header_tag _ (none_for (core_of c.args.context.now.state) _ _ c.in-HeartbeatAck.is c.requires))
+pub returns-in_err-handle_heartbeat_request-in-HeartbeatRequest : goal.returns-in_err-handle_heartbeat_request-in-HeartbeatRequest
+returns-in_err-handle_heartbeat_request-in-HeartbeatRequest g c =
+    let old = c.args.context.now in
+    let parameters = map parameter_content c.in-HeartbeatRequest.request.parameters.items in
+    rw c.in-HeartbeatRequest.is
+    (rw (err_from_is_err_and c.from_residual-in_err-handle_heartbeat_request-in-HeartbeatRequest.result c.from_residual-in_err-handle_heartbeat_request-in-HeartbeatRequest.ensures.1).1
+    (tries_cut old (view_of c.handle_heartbeat_request.new.context) c.args.header_tag _ (heartbeat_turn parameters (view_of old))
+    (heartbeat_is old c.args.header_tag parameters (none_for (core_of old.state) _ _ c.in-HeartbeatRequest.is c.requires)) c.in_err-handle_heartbeat_request-in-HeartbeatRequest.ensures))
+
+pub returns-in_ok-handle_heartbeat_ack-in-HeartbeatAck : goal.returns-in_ok-handle_heartbeat_ack-in-HeartbeatAck
+returns-in_ok-handle_heartbeat_ack-in-HeartbeatAck g c =
+    let old = c.args.context.now in
+    let parameters = map parameter_content c.in-HeartbeatAck.ack.parameters.items in
+    rw c.in-HeartbeatAck.is
+    (tries_worked g.R.Rng.stream old c.handle_heartbeat_ack.new.context c.args.header_tag _ (heartbeat_ack_turn parameters (view_of old))
+    (heartbeat_ack_is old c.args.header_tag parameters (none_for (core_of old.state) _ _ c.in-HeartbeatAck.is c.requires)) (heartbeat_ack_follows (endpoint_of old) (counter_of (info_in parameters))) c.in_ok-handle_heartbeat_ack-in-HeartbeatAck.ensures)
+
+pub returns-in_err-handle_heartbeat_ack-in-HeartbeatAck : goal.returns-in_err-handle_heartbeat_ack-in-HeartbeatAck
+returns-in_err-handle_heartbeat_ack-in-HeartbeatAck g c =
+    let old = c.args.context.now in
+    let parameters = map parameter_content c.in-HeartbeatAck.ack.parameters.items in
+    rw c.in-HeartbeatAck.is
+    (rw (err_from_is_err_and c.from_residual-in_err-handle_heartbeat_ack-in-HeartbeatAck.result c.from_residual-in_err-handle_heartbeat_ack-in-HeartbeatAck.ensures.1).1
+    (tries_cut old (view_of c.handle_heartbeat_ack.new.context) c.args.header_tag _ (heartbeat_ack_turn parameters (view_of old))
+    (heartbeat_ack_is old c.args.header_tag parameters (none_for (core_of old.state) _ _ c.in-HeartbeatAck.is c.requires)) c.in_err-handle_heartbeat_ack-in-HeartbeatAck.ensures))
 
 pub returns-in-Shutdown : goal.returns-in-Shutdown
 returns-in-Shutdown g c = rw c.in-Shutdown.is (rests g.R.Rng.stream (view_of c.args.context.now) c.args.header_tag _ (none_for (core_of c.args.context.now.state) _ _ c.in-Shutdown.is c.requires))

@@ -1,9 +1,5 @@
-use Rattle.std.proofs.Common.{rules, ◌≡◌, ◌==◌, ◌-◌, Some, ap, sym, ◌∙◌, arith}
-use Rattle.std.proofs.lemmas.Bool.Decides.{nat_tests}
-use Rattle.dcsctp_wire.specs.Content.{error_chunk}
-use Rattle.dcsctp_machine.specs.Settings.{packet_size_limit}
+use Rattle.std.proofs.Common.{rules, ◌∙◌, arith}
 use Rattle.dcsctp_machine.specs.turns.PlainOutcomes.{unknown_bytes}
-use Rattle.dcsctp_core.specs.View.{view_of, tcb_of}
 use Rattle.dcsctp_socket.proofs.UnknownLemmas.{report_moves}
 use Rattle.dcsctp_socket.proofs.unknown.report_to_peer.Goals as goal
 

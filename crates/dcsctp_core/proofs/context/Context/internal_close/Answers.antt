@@ -19,7 +19,9 @@ returns g c =
     let e = endpoint_of old in
     moves_as g.R.Rng.stream (view_of old) _ _ _ (close_where_open e (core_of old.state) (end_event c.args.error (string_bytes c.args.message)) (sym c.is_closed.ensures ∙ c.if-is_closed.false))
     (record {
-      endpoint = ap (λ (t : TimerModel). record (closed_after e) { timers = record stopped_timers { heartbeat_interval = t.running } }) c.stop.ensures;
+      endpoint =
+          ap (λ (t : TimerModel). record (closed_after e) { timers = record stopped_timers { heartbeat_interval = t.running; heartbeat_timeout = c.stop-2.new.self.running } }) c.stop.ensures
+          ∙ ap (λ (t : TimerModel). record (closed_after e) { timers = record stopped_timers { heartbeat_timeout = t.running } }) c.stop-2.ensures;
       events =
           ap (λ (es : List SocketEvent). map event_content es) c.in_ok-add.ensures.ok
           ∙ map-append event_content old.events (c.end_event.result ∷ [])

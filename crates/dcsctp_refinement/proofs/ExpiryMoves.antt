@@ -1,0 +1,140 @@
+-- What the timers of an open association bring is moves of its side in the machine that agreement is proved on.
+use Rattle.std.proofs.Common.{ℕ, Bool, true, false, List, [], ◌∷◌, ◌++◌, refl, sym, subst, arith}
+use Rattle.std.specs.Prelude.{if◌then◌else◌}
+use Rattle.std.specs.Int.{w32, to_be_bytes}
+use Rattle.dcsctp_wire.specs.Content.{heartbeat_info}
+use Rattle.dcsctp_wire.specs.Spelling.{parameters_len}
+use Rattle.dcsctp_machine.specs.declared.options.Options.{Options}
+use Rattle.dcsctp_machine.specs.declared.association.Held.{Held}
+use Rattle.dcsctp_machine.specs.declared.ends.AbortReason.TheVariants.{TooManyErrors}
+use Rattle.dcsctp_machine.specs.Packet.{heartbeat, plain}
+use Rattle.dcsctp_machine.specs.Endpoint.{Endpoint, Core, closed, cookie_wait, cookie_echoed, open_in, established, shutdown_pending, shutdown_sent, shutdown_received, shutdown_ack_sent}
+use Rattle.dcsctp_machine.specs.Outcome.{Outcome}
+use Rattle.dcsctp_machine.specs.Turn.{act_input, timer_expires}
+use Rattle.dcsctp_machine.specs.TimeTurns.{Timer, t1_timer, own_timer, deadline, has_come, goes_on, expiry_input, inputs_behind, after_expiries, ExpiryThen, ExpiryTurns}
+use Rattle.dcsctp_machine.specs.CallTurns.{Turned, IsTurn, Turns}
+use Rattle.dcsctp_machine.specs.turns.HeartbeatOutcomes.{is_exhausted, OwnTimer, heartbeat_interval, heartbeat_timeout, interval_expired, beating, heartbeat_emission, interval_outcome, timer_outcome}
+use Rattle.dcsctp_machine.specs.Controlled.{IsControlled, ControlledAct}
+use Rattle.dcsctp_machine.specs.control.Choices.{Choices}
+use Rattle.dcsctp_machine.specs.control.Effect.{Effect, Change}
+use Rattle.dcsctp_machine.specs.control.Acts.{flushes, flush_change, abort_with, t1_expires, act_change}
+use Rattle.dcsctp_machine.specs.Fitting.{FitsHeld, FitsCore, FitsEndpoint, Sendable, TurnFits}
+use Rattle.dcsctp_machine.specs.World.{SideState, after_changes, acted, does}
+use Rattle.dcsctp_machine.specs.Sockets.{endpoint_after}
+use Rattle.dcsctp_machine.proofs.HeartbeatLemmas.{timer_controlled}
+use Rattle.dcsctp_refinement.proofs.Bytes.{in_four}
+use Rattle.dcsctp_refinement.proofs.TurnsFit.{emits_fit}
+use Rattle.dcsctp_refinement.proofs.Follow.{Followed, after_last, follow_turns}
+use Rattle.dcsctp_refinement.proofs.TimeMoves.{T1Follows, t1_follows}
+use Rattle.dcsctp_refinement.proofs.Moves.{Below, SideMoves, moves_then, none_rests}
+
+-- ---- what goes out fits
+
+heartbeat_sendable : (counter : ℕ) → Sendable (plain (heartbeat (heartbeat_info (to_be_bytes w32 counter) ∷ [])))
+unfolding parameters_len
+heartbeat_sendable counter = record { fits = record { len_fits = omega arith; parameters_fit = (in_four counter, tt) }; reads = refl; said = tt }
+
+beats_fit : (e : Endpoint) (held : Held) → FitsEndpoint e → FitsHeld held → TurnFits (interval_outcome e (open_in established (record { tag = 0; first_tsn = 0 }) held))
+beats_fit e held h fits =
+    emits_fit (beating (interval_expired e)) [] (heartbeat_emission held (beating (interval_expired e)).heartbeat_counter)
+    (record { valid = h.valid; options = h.options; core = h.core; t1 = h.t1 })
+    (record { tag = fits.peer.tag; contents = (heartbeat_sendable (beating (interval_expired e)).heartbeat_counter, tt) })
+
+interval_fits : (e : Endpoint) (core : Core) → FitsEndpoint e → FitsCore core → TurnFits (interval_outcome e core)
+interval_fits e closed h own = record { after = record { valid = h.valid; options = h.options; core = h.core; t1 = h.t1 }; sends = tt }
+interval_fits e (cookie_wait my) h own = record { after = record { valid = h.valid; options = h.options; core = h.core; t1 = h.t1 }; sends = tt }
+interval_fits e (cookie_echoed my held cookie) h own = beats_fit e held h own.1
+interval_fits e (open_in established my held) h own = beats_fit e held h own.1
+interval_fits e (open_in shutdown_pending my held) h own = absurd own
+interval_fits e (open_in shutdown_sent my held) h own = absurd own
+interval_fits e (open_in shutdown_received my held) h own = absurd own
+interval_fits e (open_in shutdown_ack_sent my held) h own = absurd own
+
+timer_fits : (e : Endpoint) (timer : OwnTimer) → FitsEndpoint e → TurnFits (timer_outcome e timer)
+timer_fits e heartbeat_interval h = interval_fits e e.core h h.core
+timer_fits e heartbeat_timeout h = record { after = record { valid = h.valid; options = h.options; core = h.core; t1 = h.t1 }; sends = tt }
+
+-- ---- one expiry, and what follows it
+
+flush_at : Endpoint → Outcome → Choices → Core → Type 0
+flush_at e o choices core = IsControlled e o (flush_change core choices)
+
+-- what may come behind so many turns, from wherever the side stands then
+abbrev MovesBehind : Options → List Turned → List Effect → List Turned → Type 0
+MovesBehind options turns theirs more = (side : SideState) → Followed options turns side → SideMoves options turns side theirs more
+
+own_moves : Below → (options : Options) (turns : List Turned) (side : SideState) (theirs : List Effect) (timer : OwnTimer) (t : Turned) (more : List Turned) → Followed options turns side
+    → IsTurn (endpoint_after options turns) (timer_expires timer) t → MovesBehind options (turns ++ t ∷ []) theirs more → SideMoves options turns side theirs (t ∷ more)
+unfolding flush_at
+own_moves law options turns side theirs timer t more h turn rest =
+    let e : Endpoint = endpoint_after options turns in
+    let controlled : ControlledAct e flushes t.outcome = timer_controlled e timer t.outcome turn.comes in
+    let choices : Choices = controlled.0 in
+    let same : flush_at e t.outcome choices side.core = subst (flush_at e t.outcome choices) (sym h.core) controlled.1 in
+    let change : Change = flush_change side.core choices in
+    let fits : TurnFits t.outcome = subst TurnFits (sym turn.comes) (timer_fits e timer h.fits) in
+    moves_then options turns side theirs (t ∷ []) more (does flushes) (change ∷ []) (choices, refl)
+    (rest (after_changes side (change ∷ []))
+    (follow_turns law.effects_mean options turns side (t ∷ []) (change ∷ []) h (acted flushes choices refl, tt) (same, tt) (fits, tt)))
+
+t1_moves : Below → (options : Options) (turns : List Turned) (side : SideState) (theirs : List Effect) (again : Bool) (t : Turned) (more : List Turned) → Followed options turns side
+    → IsTurn (endpoint_after options turns) (act_input (t1_expires again)) t → MovesBehind options (turns ++ t ∷ []) theirs more → SideMoves options turns side theirs (t ∷ more)
+t1_moves law options turns side theirs again t more h turn rest =
+    let followed : T1Follows options turns side again t = t1_follows law.effects_mean law.acts law.offers options turns side again t h turn.comes in
+    let change : Change = act_change side.options side.core (t1_expires again) followed.choices in
+    moves_then options turns side theirs (t ∷ []) more (does (t1_expires again)) (change ∷ []) (followed.choices, refl)
+    (rest (after_changes side (change ∷ [])) followed.follows)
+
+expiry_moves : Below → (options : Options) (turns : List Turned) (side : SideState) (theirs : List Effect) (timer : Timer) (t : Turned) (more : List Turned) → Followed options turns side
+    → IsTurn (endpoint_after options turns) (expiry_input (endpoint_after options turns) timer) t → MovesBehind options (turns ++ t ∷ []) theirs more → SideMoves options turns side theirs (t ∷ more)
+expiry_moves law options turns side theirs t1_timer t more h turn rest = t1_moves law options turns side theirs (goes_on (endpoint_after options turns).timers.t1) t more h turn rest
+expiry_moves law options turns side theirs (own_timer timer) t more h turn rest = own_moves law options turns side theirs timer t more h turn rest
+
+-- ---- all that are due
+
+-- what comes of an own abort
+abbrev AbortMoves : Options → List Effect → Type 0
+AbortMoves options theirs =
+    (turns : List Turned) (side : SideState) (more : List Turned) → Followed options turns side
+    → Turns (endpoint_after options turns) (act_input (abort_with TooManyErrors) ∷ []) more → SideMoves options turns side theirs more
+
+many_moves : (options : Options) (turns : List Turned) (side : SideState) (theirs : List Effect) (many : Bool) (more : List Turned) → AbortMoves options theirs → Followed options turns side
+    → Turns (endpoint_after options turns) (if many then act_input (abort_with TooManyErrors) ∷ [] else []) more → SideMoves options turns side theirs more
+many_moves options turns side theirs true more aborts h taken = aborts turns side more h taken
+many_moves options turns side theirs false more aborts h taken = none_rests options turns side theirs more h taken
+
+behind_moves : (options : Options) (turns : List Turned) (side : SideState) (theirs : List Effect) (core : Core) (more : List Turned) → AbortMoves options theirs → Followed options turns side
+    → Turns (endpoint_after options turns) (inputs_behind (endpoint_after options turns) core) more → SideMoves options turns side theirs more
+behind_moves options turns side theirs closed more aborts h taken = none_rests options turns side theirs more h taken
+behind_moves options turns side theirs (cookie_wait my) more aborts h taken = none_rests options turns side theirs more h taken
+behind_moves options turns side theirs (cookie_echoed my held cookie) more aborts h taken =
+    many_moves options turns side theirs (is_exhausted (endpoint_after options turns).options.max_retransmissions (endpoint_after options turns).error_count) more aborts h taken
+behind_moves options turns side theirs (open_in phase my held) more aborts h taken =
+    many_moves options turns side theirs (is_exhausted (endpoint_after options turns).options.max_retransmissions (endpoint_after options turns).error_count) more aborts h taken
+
+after_moves_of : (options : Options) (turns : List Turned) (side : SideState) (theirs : List Effect) (has_expired : Bool) (more : List Turned) → AbortMoves options theirs → Followed options turns side
+    → Turns (endpoint_after options turns) (after_expiries (endpoint_after options turns) has_expired) more → SideMoves options turns side theirs more
+after_moves_of options turns side theirs false more aborts h taken = none_rests options turns side theirs more h taken
+after_moves_of options turns side theirs true more aborts h taken = behind_moves options turns side theirs (endpoint_after options turns).core more aborts h taken
+
+-- what comes of the timers that are left
+abbrev ExpiriesMove : Options → List Effect → List Timer → Type 0
+ExpiriesMove options theirs timers =
+    (turns : List Turned) (side : SideState) (has_expired : Bool) (more : List Turned) → Followed options turns side
+    → ExpiryTurns timers has_expired (endpoint_after options turns) more → SideMoves options turns side theirs more
+
+next_moves : Below → (options : Options) (theirs : List Effect) (timer : Timer) (timers : List Timer) → ExpiriesMove options theirs timers
+    → (due : Bool) (turns : List Turned) (side : SideState) (has_expired : Bool) (more : List Turned) → Followed options turns side
+    → ExpiryThen due (ExpiryTurns timers) (endpoint_after options turns) has_expired timer more → SideMoves options turns side theirs more
+next_moves law options theirs timer timers rest true turns side has_expired [] h taken = absurd taken
+next_moves law options theirs timer timers rest true turns side has_expired (t ∷ more) h taken =
+    expiry_moves law options turns side theirs timer t more h taken.0
+    (λ (after : SideState) (follows : Followed options (turns ++ t ∷ []) after).
+    rest (turns ++ t ∷ []) after true more follows (subst (λ (x : Endpoint). ExpiryTurns timers true x more) (sym (after_last _ turns t)) taken.1))
+next_moves law options theirs timer timers rest false turns side has_expired more h taken = rest turns side has_expired more h taken
+
+pub expiries_move : Below → (options : Options) (theirs : List Effect) (timers : List Timer) → AbortMoves options theirs → ExpiriesMove options theirs timers
+expiries_move law options theirs [] aborts turns side has_expired more h taken = after_moves_of options turns side theirs has_expired more aborts h taken
+expiries_move law options theirs (timer ∷ timers) aborts turns side has_expired more h taken =
+    let e : Endpoint = endpoint_after options turns in
+    next_moves law options theirs timer timers (expiries_move law options theirs timers aborts) (has_come e.moment (deadline e timer)) turns side has_expired more h taken

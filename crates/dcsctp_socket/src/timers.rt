@@ -1,0 +1,149 @@
+//! Which timers are due, and when the next one is.
+
+ghost use Rattle.std.specs.Prelude.{◌≡◌, true, false, [], ◌∷◌, IsOk};
+ghost use Rattle.dcsctp_machine.specs.TimeTurns.{t1_timer, own_timer, timers_in, next_moment, NoneIsDue};
+ghost use Rattle.dcsctp_machine.specs.turns.HeartbeatOutcomes.{heartbeat_interval, heartbeat_timeout};
+ghost use Rattle.dcsctp_core.specs.View.{core_of, endpoint_of};
+ghost use Rattle.dcsctp_socket.specs.TimeParts.{error_turns, expiry_turns, due_turns, WorksTurns, earlier_of, next_by};
+
+use dcsctp_api::SocketTime;
+use dcsctp_core::{Context, State};
+use dcsctp_ends::abort_association;
+use dcsctp_handshake::handle_t1;
+use dcsctp_heartbeat::{handle_heartbeat_interval, handle_heartbeat_timeout};
+use dcsctp_machine::AbortReason;
+use rand_core::Rng;
+use std::alloc::AllocError;
+
+// Gives up a peer that doesn't answer: aborts the association where too many errors were counted
+// (RFC 9260, section 8.1). The one error is that a growth was refused.
+fn end_by_errors<R: Rng>(context: &mut Context<R>) -> Result<(), AllocError>
+    ensures { WorksTurns R.stream error_turns context.old result context.new }
+{
+    if context.has_too_many_errors() {
+        abort_association(context, AbortReason::TooManyErrors)?;
+    }
+    Ok(())
+}
+
+// What follows the timers where one has expired: a peer that is held may be given up. The one error is that
+// a growth was refused.
+fn end_where_held<R: Rng>(context: &mut Context<R>) -> Result<(), AllocError>
+    ensures { WorksTurns R.stream (expiry_turns [] true) context.old result context.new }
+{
+    match context.state {
+        State::Closed => {}
+        State::CookieWait(_) => {}
+        State::CookieEchoed(_) => end_by_errors(context)?,
+        State::Established(_) => end_by_errors(context)?,
+    }
+    Ok(())
+}
+
+// What follows the timers. The one error is that a growth was refused.
+fn end_expiries<R: Rng>(context: &mut Context<R>, has_expired: bool) -> Result<(), AllocError>
+    ensures turns { WorksTurns R.stream (expiry_turns [] has_expired) context.old result context.new }
+    ensures waits { has_expired ≡ false → IsOk result }
+{
+    if has_expired {
+        end_where_held(context)?;
+    }
+    Ok(())
+}
+
+// Works T1, and what follows it. The one error is that a growth was refused.
+fn handle_t1_alone<R: Rng>(context: &mut Context<R>) -> Result<(), AllocError>
+    ensures turns { WorksTurns R.stream (expiry_turns (t1_timer ∷ []) false) context.old result
+        context.new }
+    ensures waits { NoneIsDue (endpoint_of context.old) (t1_timer ∷ []) → IsOk result }
+{
+    let expired = handle_t1(context)?;
+    end_expiries(context, expired)
+}
+
+// Works the timer of the answer to a HEARTBEAT, and what follows all timers. The one error is that a growth
+// was refused.
+fn handle_last_timers<R: Rng>(context: &mut Context<R>, has_expired: bool) -> Result<(), AllocError>
+    ensures turns { WorksTurns R.stream (expiry_turns (own_timer heartbeat_timeout ∷ []) has_expired)
+        context.old result context.new }
+    ensures waits { has_expired ≡ false → NoneIsDue (endpoint_of context.old)
+        (own_timer heartbeat_timeout ∷ []) → IsOk result }
+{
+    let expired = handle_heartbeat_timeout(context);
+    end_expiries(context, expired || has_expired)
+}
+
+// Works the timers of an open association, each as it stands when its turn comes, and what follows them. The
+// one error is that a growth was refused.
+fn handle_own_timers<R: Rng>(context: &mut Context<R>) -> Result<(), AllocError>
+    ensures turns { WorksTurns R.stream (expiry_turns
+        (own_timer heartbeat_interval ∷ own_timer heartbeat_timeout ∷ []) false) context.old result
+        context.new }
+    ensures waits { NoneIsDue (endpoint_of context.old)
+        (own_timer heartbeat_interval ∷ own_timer heartbeat_timeout ∷ []) → IsOk result }
+{
+    let expired = handle_heartbeat_interval(context)?;
+    handle_last_timers(context, expired)
+}
+
+/// Works the timers that are due at the present moment: T1 while the association is set up, and its own
+/// timers where it is open (RFC 9260, sections 5.1 and 8.3). The one error is that a growth was refused.
+pub(crate) fn handle_timers<R: Rng>(context: &mut Context<R>) -> Result<(), AllocError>
+    ensures turns { WorksTurns R.stream due_turns context.old result context.new }
+    ensures waits { NoneIsDue (endpoint_of context.old) (timers_in (core_of context.old.state))
+        → IsOk result }
+{
+    match context.state {
+        State::Closed => {}
+        State::CookieWait(_) => handle_t1_alone(context)?,
+        State::CookieEchoed(_) => handle_t1_alone(context)?,
+        State::Established(_) => handle_own_timers(context)?,
+    }
+    Ok(())
+}
+
+// The earlier of two moments, of which each may be missing.
+fn earlier(first: Option<SocketTime>, second: Option<SocketTime>) -> Option<SocketTime>
+    ensures { result ≡ earlier_of first second }
+{
+    let Some(first) = first else {
+        return second;
+    };
+    let Some(second) = second else {
+        return Some(first);
+    };
+    if second < first {
+        Some(second)
+    } else {
+        Some(first)
+    }
+}
+
+// A deadline, but not before the present moment; the last moment where there is none.
+fn not_before(moment: SocketTime, deadline: Option<SocketTime>) -> SocketTime
+    ensures { result ≡ next_by moment deadline }
+{
+    match deadline {
+        None => SocketTime::infinite_future(),
+        Some(deadline) if deadline < moment => moment,
+        Some(deadline) => deadline,
+    }
+}
+
+/// The moment at which time has to be told next, never before the present one; the last one where none
+/// is waited for. That is T1's deadline while the association is set up, and the first of its own timers'
+/// where it is open.
+pub(crate) fn poll_timeout<R: Rng>(context: &Context<R>) -> SocketTime
+    ensures { result ≡ next_moment (endpoint_of context.now) }
+{
+    match context.state {
+        State::Established(_) => {
+            let interval = context.heartbeat_interval_deadline();
+            let timeout = context.heartbeat_timeout_deadline();
+            not_before(context.moment, earlier(interval, timeout))
+        }
+        State::Closed => not_before(context.moment, context.state.t1_deadline()),
+        State::CookieWait(_) => not_before(context.moment, context.state.t1_deadline()),
+        State::CookieEchoed(_) => not_before(context.moment, context.state.t1_deadline()),
+    }
+}
