@@ -49,7 +49,11 @@ pub trait DcSctpSocket {
 
     /// Tells the time: `now` is the present moment, and what is due has its turn. Where T1 has expired
     /// (RFC 9260, section 5.1), the INIT or COOKIE ECHO goes out again, or, with no restart left, the
-    /// association ends with `SocketEvent::OnAborted`.
+    /// association ends with `SocketEvent::OnAborted`. Where it is open, a HEARTBEAT goes out each
+    /// `heartbeat_interval`, and one whose answer doesn't come in time counts an error (RFC 9260, section
+    /// 8.3). Where a timer has expired, a peer is held and more errors were counted than
+    /// `max_retransmissions`, an ABORT goes out, and the association ends with `SocketEvent::OnAborted`
+    /// (RFC 9260, section 8.1).
     ///
     /// A moment before the present one changes nothing, and takes no memory. One that isn't, and that
     /// comes before the answer of `poll_timeout`, moves the clock alone, but while a COOKIE ACK is
@@ -63,7 +67,7 @@ pub trait DcSctpSocket {
 
     /// The moment at which the socket wants to be told the time next, never before the present one;
     /// `SocketTime::infinite_future()` where it waits for none. While an association is set up that is
-    /// T1's deadline. It takes no memory.
+    /// T1's deadline, and where it is open the first of its heartbeats'. It takes no memory.
     fn poll_timeout(&self) -> SocketTime
         ensures { result ≡ next_moment (user_view self.now).endpoint };
 

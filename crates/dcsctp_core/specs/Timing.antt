@@ -3,7 +3,7 @@ use Rattle.std.specs.Prelude.{◌≡◌, ℕ, Bool, true, false, Option, None, S
 use Rattle.rand_core.specs.Stream.{Stream}
 use Rattle.dcsctp_machine.specs.Endpoint.{Endpoint, RunningTimer, is_due, is_restarted}
 use Rattle.dcsctp_machine.specs.Outcome.{Outcome}
-use Rattle.dcsctp_machine.specs.TimeTurns.{Timer, t1_timer, own_timer, deadline, has_come, goes_on}
+use Rattle.dcsctp_machine.specs.TimeTurns.{Timer, t1_timer, own_timer, deadline, has_come, has_restart}
 use Rattle.dcsctp_machine.specs.turns.HeartbeatOutcomes.{timer_outcome}
 use Rattle.dcsctp_machine.specs.turns.TimerOutcomes.{t1_again_outcome, t1_gives_up_outcome}
 use Rattle.dcsctp_send.specs.Timer.{TimerModel, running_after}
@@ -54,7 +54,7 @@ t1_outcome e false = t1_gives_up_outcome e e.core
 
 -- what comes of a timer that expires
 abbrev pub expiry_outcome : Endpoint → Timer → Outcome
-expiry_outcome e t1_timer = t1_outcome e (goes_on e.timers.t1)
+expiry_outcome e t1_timer = t1_outcome e (has_restart e.timers.t1)
 expiry_outcome e (own_timer timer) = timer_outcome e timer
 
 -- The timer expired, and its turn took place; or it isn't due, and nothing has changed; or a growth was refused in its turn.

@@ -12,8 +12,9 @@ use crate::tx_error_counter::TxErrorCounter;
 use dcsctp_api::{
     ErrorKind, Events, Options, Pair, SctpImplementation, SocketEvent, SocketTime, Word,
 };
+use dcsctp_build::SctpPacketBuilder;
 use dcsctp_send::{BackoffAlgorithm, SendQueue, Timer};
-use dcsctp_wire::{Chunk, SctpPacketBuilder};
+use dcsctp_wire::Chunk;
 use rand_core::Rng;
 use std::alloc::{AllocError, Global};
 
@@ -332,7 +333,8 @@ impl<R: Rng> Context<R> {
     }
 
     /// Ends the association: with OnClosed where the error is `NoError`, else with OnAborted and this
-    /// text. A closed socket stays as it is.
+    /// text. A closed socket stays as it is. The count of errors stays (docs/DECISIONS.md, The count of
+    /// errors).
     ///
     /// The one error is that there is no memory for the event. Nothing has changed then.
     pub fn internal_close(&mut self, error: ErrorKind, message: String) -> Result<(), AllocError>

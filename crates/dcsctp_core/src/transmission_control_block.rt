@@ -8,9 +8,9 @@ ghost use Rattle.dcsctp_core.specs.Flushing.{empty_packet};
 use dcsctp_api::{
     Association, Capabilities, Held, Options, Pair, Phase, ReconfigurationResponseResult,
 };
+use dcsctp_build::SctpPacketBuilder;
 use dcsctp_receive::{DataTracker, ReassemblyQueue};
 use dcsctp_send::{RetransmissionQueue, RetransmissionTimeout};
-use dcsctp_wire::SctpPacketBuilder;
 use std::alloc::{AllocError, Global};
 
 /// What an INIT ACK or a cookie tells of the peer.

@@ -2,8 +2,8 @@
 
 use std::marker::Model;
 
-/// Counts the errors of an association, up to one beyond its limit; without a limit it counts none. It takes
-/// no memory.
+/// Counts the errors since the peer last answered, up to one beyond its limit; without a limit it counts
+/// none. The count outlasts an association. It takes no memory.
 ///
 /// A contract sees its limit and its count.
 #[derive(Debug, Drop)]

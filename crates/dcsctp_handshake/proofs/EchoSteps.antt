@@ -4,7 +4,7 @@ use Rattle.std.proofs.lemmas.List.{append-nil}
 use Rattle.rand_core.specs.Stream.{Stream}
 use Rattle.dcsctp_wire.specs.Content.{cookie_ack_chunk}
 use Rattle.dcsctp_wire.specs.Spelling.{chunk_bytes, other_bytes}
-use Rattle.dcsctp_wire.specs.Building.{Building, bytes_remaining}
+use Rattle.dcsctp_build.specs.Building.{Building, bytes_remaining}
 use Rattle.dcsctp_machine.specs.declared.options.Options.{Options}
 use Rattle.dcsctp_machine.specs.declared.association.Held.{Held}
 use Rattle.dcsctp_machine.specs.declared.word.Word.TheVariants.{U64}

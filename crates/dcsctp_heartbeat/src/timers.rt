@@ -34,8 +34,8 @@ fn emit_heartbeat<R: Rng>(
     Ok(())
 }
 
-// Sends the next HEARTBEAT to the peer, where one is held. The one error is that a growth was refused; no
-// event was added then.
+// Sends the next HEARTBEAT to the peer, where one is held. The one error is that a growth was refused. The
+// first events of the turn may stand then.
 fn send_heartbeat<R: Rng>(context: &mut Context<R>) -> Result<(), AllocError>
     ensures { Takes R.stream beat_turn context.old result context.new }
 {
@@ -54,7 +54,7 @@ fn send_heartbeat<R: Rng>(context: &mut Context<R>) -> Result<(), AllocError>
 /// Tells the heartbeat interval the present moment, and answers whether it expires: it goes on, and a
 /// HEARTBEAT goes out to the peer, where one is held.
 ///
-/// The one error is that a growth was refused; no event was added then.
+/// The one error is that a growth was refused. The first events of the turn may stand then.
 pub fn handle_heartbeat_interval<R: Rng>(context: &mut Context<R>) -> Result<bool, AllocError>
     ensures { Expires R.stream (own_timer heartbeat_interval) context.old result context.new }
 {

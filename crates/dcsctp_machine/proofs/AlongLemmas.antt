@@ -15,7 +15,7 @@ use Rattle.dcsctp_machine.specs.Endpoint.{Endpoint, Core, closed, cookie_wait, c
 use Rattle.dcsctp_machine.specs.Following.{Following, next_chunk, packet_end, dropped_rest}
 use Rattle.dcsctp_machine.specs.control.Acts.{connect, abort_with, t1_expires}
 use Rattle.dcsctp_machine.specs.Turn.{Input, arrival, refusal, packet_begins, chunk_input, packet_ends, act_input, timer_expires, time_passes, unreadable_text}
-use Rattle.dcsctp_machine.specs.TimeTurns.{Timer, t1_timer, own_timer, timers_in, deadline, has_come, goes_on, expiry_input, inputs_behind, after_expiries, ExpiryThen, ExpiryTurns, MomentTurns, TimeTurns}
+use Rattle.dcsctp_machine.specs.TimeTurns.{Timer, t1_timer, own_timer, timers_in, deadline, has_come, has_restart, expiry_input, inputs_behind, after_expiries, ExpiryThen, ExpiryTurns, MomentTurns, TimeTurns}
 use Rattle.dcsctp_machine.specs.turns.HeartbeatOutcomes.{OwnTimer, is_exhausted}
 use Rattle.dcsctp_machine.specs.CallTurns.{Turned, IsTurn, Turns, AlongTurns, AfterChunk, ChunkTurns, WholeTurns, AdmittedTurns, HandleInput, unreadable, readable, after_all}
 use Rattle.dcsctp_machine.specs.Sockets.{Both, of_side, of_other, StepTurns, DeliveryTurns, numbered, with_turns, Worked, SocketRun, turns_after, endpoint_after, packets_shown, side_of_act, OutsideTurns, TurnsOfAct}
@@ -80,7 +80,7 @@ acks_may May (plain chunk ∷ contents) each = acks_may May contents each.1
 
 -- what the expiry of a timer is
 expiry_may : (May : Input → Type 0) → MayCome May → (e : Endpoint) (timer : Timer) → May (expiry_input e timer)
-expiry_may May come e t1_timer = come.expires (goes_on e.timers.t1)
+expiry_may May come e t1_timer = come.expires (has_restart e.timers.t1)
 expiry_may May come e (own_timer timer) = come.own_expires timer
 
 too_many_may : (May : Input → Type 0) → MayCome May → (many : Bool) → AllByRecursion May (if many then act_input (abort_with TooManyErrors) ∷ [] else [])

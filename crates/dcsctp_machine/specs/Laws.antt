@@ -11,7 +11,7 @@ use Rattle.dcsctp_machine.specs.Schedule.{ActContent}
 use Rattle.dcsctp_machine.specs.Sockets.{Both, of_side, TurnsOfAct, Worked, SocketRun, turns_after, endpoint_after}
 use Rattle.dcsctp_machine.specs.CallTurns.{Turned, Turns, ChunkTurns, AdmittedTurns, HandleInput, after_all, words_of, effects_of, events_of}
 use Rattle.dcsctp_machine.specs.Event.{Event, sent, error}
-use Rattle.dcsctp_machine.specs.Turn.{Input, packet_ends, unreadable_text, refusal_outcome, ContentTurn, ActTurn}
+use Rattle.dcsctp_machine.specs.Turn.{Input, packet_ends, timer_expires, unreadable_text, refusal_outcome, ContentTurn, ActTurn, Turn}
 use Rattle.dcsctp_machine.specs.Controlled.{IsControlled, ControlledChunk, ControlledAct}
 use Rattle.dcsctp_machine.specs.control.Effect.{Change, unchanged}
 use Rattle.dcsctp_wire.specs.Content.{PacketContent}
@@ -21,11 +21,12 @@ use Rattle.dcsctp_machine.specs.Cookie.{Cookie, cookie_bytes, cookie_at}
 use Rattle.dcsctp_machine.specs.Packet.{Introduction, Content, init, shutdown_ack, Packet, Emission, cookie_parameters, packet_in}
 use Rattle.dcsctp_machine.specs.Endpoint.{Endpoint, Core, closed, cookie_wait, cookie_echoed, open_in}
 use Rattle.dcsctp_machine.specs.World.{MayBeWorked, ChunkChanges}
-use Rattle.dcsctp_machine.specs.control.Acts.{Act, shutdown_repeats, act_change, chunk_change}
+use Rattle.dcsctp_machine.specs.control.Acts.{Act, shutdown_repeats, flushes, act_change, chunk_change}
 use Rattle.dcsctp_machine.specs.control.Choices.{Choices}
 use Rattle.dcsctp_machine.specs.control.ShutdownChanges.{reflected_change}
 use Rattle.dcsctp_machine.specs.Outcome.{Outcome, count_up}
 use Rattle.dcsctp_machine.specs.turns.HandshakeOutcomes.{InitTurn}
+use Rattle.dcsctp_machine.specs.turns.HeartbeatOutcomes.{OwnTimer}
 use Rattle.dcsctp_machine.specs.turns.FlushOutcomes.{Answer, FlushAnswers, flush_of, IsWithin, KeepsLimits}
 
 -- Two ends hold the same: the features are equal, and what comes in at one goes out at the other.
@@ -152,6 +153,10 @@ ChunksAreControlled =
 -- Each turn that the user or a timer brings is one of the association too.
 abbrev pub ActsAreControlled : Type 0
 ActsAreControlled = (e : Endpoint) (act : Act) (o : Outcome) → ActTurn e act o → ControlledAct e act o
+
+-- The timers of an open association send packets that speak of none, as a flush does.
+abbrev pub TimersAreControlled : Type 0
+TimersAreControlled = (e : Endpoint) (timer : OwnTimer) (o : Outcome) → Turn e (timer_expires timer) o → ControlledAct e flushes o
 
 -- where each of a packet's chunks fits at its turn
 abbrev pub FitsTurns : Endpoint → List Content → List Turned → Type 0

@@ -67,13 +67,13 @@ has_come moment None = false
 has_come moment (Some deadline) = nat_le deadline moment
 
 -- is a restart left to a timer that expires?
-abbrev pub goes_on : Option RunningTimer → Bool
-goes_on None = false
-goes_on (Some timer) = is_restarted timer
+abbrev pub has_restart : Option RunningTimer → Bool
+has_restart None = false
+has_restart (Some timer) = is_restarted timer
 
 -- what the expiry of a timer is
 abbrev pub expiry_input : Endpoint → Timer → Input
-expiry_input e t1_timer = act_input (t1_expires (goes_on e.timers.t1))
+expiry_input e t1_timer = act_input (t1_expires (has_restart e.timers.t1))
 expiry_input e (own_timer timer) = timer_expires timer
 
 -- an own abort, where too many errors were counted (RFC 9260, section 8.1)

@@ -2,7 +2,7 @@
 
 ghost use Rattle.std.specs.Prelude.{◌<◌, ◌^◌};
 ghost use Rattle.dcsctp_machine.specs.Settings.{FitsOptions};
-ghost use Rattle.dcsctp_machine.specs.Laws.{NegotiationIsMutual, AnswerKeepsAgreement, CookieReadsBack, InitLeavesAssociation, InitBringsOnePacket, OfferReadsBack, CapabilitiesHoldOffer, RefusedPacketAddsOneError, AdmittedPacketsMayBeWorked, ChunksAreControlled, ActsAreControlled, PacketsAreControlled, DeliveriesAreControlled, FlushKeepsLimits, SocketsKeepOptions};
+ghost use Rattle.dcsctp_machine.specs.Laws.{NegotiationIsMutual, AnswerKeepsAgreement, CookieReadsBack, InitLeavesAssociation, InitBringsOnePacket, OfferReadsBack, CapabilitiesHoldOffer, RefusedPacketAddsOneError, AdmittedPacketsMayBeWorked, ChunksAreControlled, ActsAreControlled, TimersAreControlled, PacketsAreControlled, DeliveriesAreControlled, FlushKeepsLimits, SocketsKeepOptions};
 ghost use Rattle.dcsctp_machine.specs.TimeTurns.{TimePassesQuietly};
 
 use crate::options::Options;
@@ -87,6 +87,11 @@ pub fn chunks_are_controlled()
 /// Each turn that the user or a timer brings is a turn of the association (RFC 9260, sections 5.1 and 9).
 pub fn acts_are_controlled()
     ensures { ActsAreControlled }
+{}
+
+/// Each turn of a timer of an open association is a turn of the association: a flush (RFC 9260, section 8.3).
+pub fn timers_are_controlled()
+    ensures { TimersAreControlled }
 {}
 
 /// The turns of a packet's chunks are a delivery to the association.

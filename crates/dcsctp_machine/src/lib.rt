@@ -26,7 +26,7 @@ pub use laws::{
     chunks_are_controlled, cookie_reads_back, deliveries_are_controlled, flush_keeps_limits,
     init_brings_one_packet, init_leaves_association, negotiation_is_mutual, offer_reads_back,
     options_fit, packets_are_controlled, refused_packet_adds_one_error, sockets_keep_options,
-    time_passes_quietly,
+    time_passes_quietly, timers_are_controlled,
 };
 pub use options::Options;
 pub use schedule::{Act, Call, Outside, Side, Step};

@@ -70,7 +70,7 @@ pub struct Options {
     /// The bound on the backoff of the retransmission timer.
     pub max_timer_backoff_duration: Option<Duration>,
 
-    /// How often a HEARTBEAT goes out where nothing else does; zero switches it off.
+    /// How often a HEARTBEAT goes out, counted from OnConnected; zero switches it off.
     pub heartbeat_interval: Duration,
 
     /// The longest that an acknowledgement is delayed.

@@ -115,6 +115,31 @@ fn a_timeout_follows_its_round_trips(rt: HostRuntime) {
     measured(&rt, &mut steady, 1_000_000, 1_000_000, 2_500_000);
 }
 
+// Variances of 150, 112.5, 84.375, 63.28125 and 47.4609375 ms: four of the last would be less than 220 ms.
+#[test]
+fn four_variances_are_never_short(rt: HostRuntime) {
+    let mut timeout = RetransmissionTimeout::new(&Options::default());
+    measured(&rt, &mut timeout, 300_000, 300_000, 900_000);
+    measured(&rt, &mut timeout, 300_000, 300_000, 750_000);
+    measured(&rt, &mut timeout, 300_000, 300_000, 637_500);
+    measured(&rt, &mut timeout, 300_000, 300_000, 553_125);
+    measured(&rt, &mut timeout, 300_000, 300_000, 520_000);
+}
+
+// Raised to the least, and then cut to the greatest. A fraction of a nanosecond is dropped.
+#[test]
+fn a_timeout_has_bounds(rt: HostRuntime) {
+    let mut options = Options::default();
+    options.rto_min = Duration::from_secs(3);
+    options.rto_max = Duration::from_secs(2);
+    let mut timeout = RetransmissionTimeout::new(&options);
+    measured(&rt, &mut timeout, 1_000, 1_000, 2_000_000);
+    let mut small = RetransmissionTimeout::new(&Options::default());
+    small.observe_rto(Duration::from_nanos(3));
+    small.observe_rto(Duration::from_nanos(10));
+    same(&rt, "31 by 8", small.srtt(), Duration::from_nanos(3));
+}
+
 /// Asserts with which windows and TSN a queue begins whose congestion window is these packets at first.
 fn begins(rt: &impl Abort, name: &str, mtus: usize, expected: usize) {
     let options = Options {

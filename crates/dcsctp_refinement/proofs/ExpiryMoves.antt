@@ -11,7 +11,7 @@ use Rattle.dcsctp_machine.specs.Packet.{heartbeat, plain}
 use Rattle.dcsctp_machine.specs.Endpoint.{Endpoint, Core, closed, cookie_wait, cookie_echoed, open_in, established, shutdown_pending, shutdown_sent, shutdown_received, shutdown_ack_sent}
 use Rattle.dcsctp_machine.specs.Outcome.{Outcome}
 use Rattle.dcsctp_machine.specs.Turn.{act_input, timer_expires}
-use Rattle.dcsctp_machine.specs.TimeTurns.{Timer, t1_timer, own_timer, deadline, has_come, goes_on, expiry_input, inputs_behind, after_expiries, ExpiryThen, ExpiryTurns}
+use Rattle.dcsctp_machine.specs.TimeTurns.{Timer, t1_timer, own_timer, deadline, has_come, has_restart, expiry_input, inputs_behind, after_expiries, ExpiryThen, ExpiryTurns}
 use Rattle.dcsctp_machine.specs.CallTurns.{Turned, IsTurn, Turns}
 use Rattle.dcsctp_machine.specs.turns.HeartbeatOutcomes.{is_exhausted, OwnTimer, heartbeat_interval, heartbeat_timeout, interval_expired, beating, heartbeat_emission, interval_outcome, timer_outcome}
 use Rattle.dcsctp_machine.specs.Controlled.{IsControlled, ControlledAct}
@@ -87,7 +87,7 @@ t1_moves law options turns side theirs again t more h turn rest =
 
 expiry_moves : Below → (options : Options) (turns : List Turned) (side : SideState) (theirs : List Effect) (timer : Timer) (t : Turned) (more : List Turned) → Followed options turns side
     → IsTurn (endpoint_after options turns) (expiry_input (endpoint_after options turns) timer) t → MovesBehind options (turns ++ t ∷ []) theirs more → SideMoves options turns side theirs (t ∷ more)
-expiry_moves law options turns side theirs t1_timer t more h turn rest = t1_moves law options turns side theirs (goes_on (endpoint_after options turns).timers.t1) t more h turn rest
+expiry_moves law options turns side theirs t1_timer t more h turn rest = t1_moves law options turns side theirs (has_restart (endpoint_after options turns).timers.t1) t more h turn rest
 expiry_moves law options turns side theirs (own_timer timer) t more h turn rest = own_moves law options turns side theirs timer t more h turn rest
 
 -- ---- all that are due

@@ -136,20 +136,72 @@ fn an_interval_of_zero_is_off(rt: HostRuntime) {
     );
 }
 
-// The interval goes on from the moment at which it is worked, and both timers may be due in one call.
+// The interval goes on from the moment at which it is worked. At 80 s both timers are due: the interval's turn
+// comes first, and begins the timeout anew, so that no error is counted.
 #[test]
 fn an_interval_may_be_worked_late(rt: HostRuntime) {
+    let alloc = rt.alloc();
     let script = "time A 45000\ntimeout A\ntime A 80000\ntimeout A\n";
     let lines = "A packet 3 00000009 HEARTBEAT\n\
         A timeout 45500000000\n\
         A packet 4 00000009 HEARTBEAT\n\
         A timeout 80500000000\n";
+    let none = "opt A max_retransmissions 0\n";
     prints(
         &rt,
-        rt.alloc(),
+        alloc,
         "late",
-        &[WORDS, HANDSHAKE, script],
+        &[none, WORDS, HANDSHAKE, script],
         &[CONNECTED, lines],
+    );
+    let at_once = "opt A rto_initial 0\n";
+    let lines = "A packet 3 00000009 HEARTBEAT\n\
+        A packet 4 00000009 ABORT\n\
+        A aborted TooManyRetries Too many retransmissions\n";
+    prints(
+        &rt,
+        alloc,
+        "due in the same call",
+        &[none, at_once, WORDS, HANDSHAKE, "time A 30000\n"],
+        &[CONNECTED, lines],
+    );
+}
+
+// The counter is in four bytes, the first one is 1, and before it 0 is the present one.
+#[test]
+fn an_answer_bears_the_counter(rt: HostRuntime) {
+    let alloc = rt.alloc();
+    let options = "opt A disable_checksum_verification true\nopt A max_retransmissions 0\n";
+    let one = "input A 13881388 00000007 00000000 0500000c 00010008 00000001\n";
+    let other = "input A 13881388 00000007 00000000 0500000c 00010008 01000000\n";
+    let beat = "A packet 3 00000009 HEARTBEAT\n";
+    prints(
+        &rt,
+        alloc,
+        "the first",
+        &[
+            options,
+            WORDS,
+            HANDSHAKE,
+            "time A 30000\n",
+            one,
+            "timeout A\n",
+        ],
+        &[CONNECTED, beat, "A timeout 60000000000\n"],
+    );
+    prints(
+        &rt,
+        alloc,
+        "another",
+        &[
+            options,
+            WORDS,
+            HANDSHAKE,
+            "time A 30000\n",
+            other,
+            "timeout A\n",
+        ],
+        &[CONNECTED, beat, "A timeout 30500000000\n"],
     );
 }
 

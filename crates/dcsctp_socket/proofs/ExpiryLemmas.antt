@@ -12,7 +12,7 @@ use Rattle.dcsctp_machine.specs.Turn.{act_input, Turn}
 use Rattle.dcsctp_machine.specs.control.Acts.{Act, abort_with, t1_expires, flushes}
 use Rattle.dcsctp_machine.specs.Controlled.{ControlledAct}
 use Rattle.dcsctp_machine.specs.CallTurns.{Turned, Turns, events_of}
-use Rattle.dcsctp_machine.specs.TimeTurns.{Timer, t1_timer, own_timer, deadline, has_come, goes_on, expiry_input, inputs_behind, after_expiries, ExpiryThen, ExpiryTurns}
+use Rattle.dcsctp_machine.specs.TimeTurns.{Timer, t1_timer, own_timer, deadline, has_come, has_restart, expiry_input, inputs_behind, after_expiries, ExpiryThen, ExpiryTurns}
 use Rattle.dcsctp_machine.specs.turns.HeartbeatOutcomes.{is_exhausted, timer_outcome}
 use Rattle.dcsctp_machine.proofs.TurnLemmas.{events_of-append}
 use Rattle.dcsctp_machine.proofs.TimerLemmas.{t1_again_turn_of}
@@ -48,7 +48,7 @@ t1_is e true = t1_again_turn_of e
 t1_is e false = refl
 
 timer_is : (e : Endpoint) (timer : Timer) → Turn e (expiry_input e timer) (expiry_outcome e timer)
-timer_is e t1_timer = t1_is e (goes_on e.timers.t1)
+timer_is e t1_timer = t1_is e (has_restart e.timers.t1)
 timer_is e (own_timer timer) = refl
 
 expiry_is : (due : Bool) (e : Endpoint) (has_expired : Bool) (timer : Timer) (timers : List Timer)
@@ -70,8 +70,8 @@ act_keeps e act o controlled = ap ports_of controlled.1.options
 
 timer_keeps : (e : Endpoint) (timer : Timer) → ports_of (expiry_outcome e timer).after.options ≡ ports_of e.options
 timer_keeps e t1_timer =
-    act_keeps e (t1_expires (goes_on e.timers.t1)) (expiry_outcome e t1_timer)
-    (acts_are_controlled e (t1_expires (goes_on e.timers.t1)) (expiry_outcome e t1_timer) (t1_is e (goes_on e.timers.t1)))
+    act_keeps e (t1_expires (has_restart e.timers.t1)) (expiry_outcome e t1_timer)
+    (acts_are_controlled e (t1_expires (has_restart e.timers.t1)) (expiry_outcome e t1_timer) (t1_is e (has_restart e.timers.t1)))
 timer_keeps e (own_timer timer) = act_keeps e flushes (timer_outcome e timer) (timer_controlled e timer (timer_outcome e timer) refl)
 
 -- ---- one timer, and those behind it

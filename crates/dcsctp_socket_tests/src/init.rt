@@ -3,8 +3,9 @@
 use crate::checks::{holds, same};
 use crate::packets::{INIT, INIT_ACK};
 use crate::sockets::{is_in_state, only_packet, reports, sends, socket_with, takes, unchecked};
+use dcsctp_build::SctpPacketBuilder;
 use dcsctp_socket::{DcSctpSocket, Options, SocketState};
-use dcsctp_wire::{Chunk, InitChunk, Parameter, SctpPacketBuilder};
+use dcsctp_wire::{Chunk, InitChunk, Parameter};
 use std::alloc::Global;
 use std::process::Abort;
 

@@ -1,12 +1,6 @@
-pub mod BuiltPackets
 pub mod Chunks
 pub mod CleanBlockLemmas
-pub mod Crc32cBlocks
-pub mod Crc32cFacts
-pub mod Crc32cLemmas
-pub mod Crc32cTable
 pub mod Frames
 pub mod Items
 pub mod Lengths
 pub mod Packets
-pub mod Putting

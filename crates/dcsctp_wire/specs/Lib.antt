@@ -1,8 +1,6 @@
-pub mod Building
 pub mod CleanBlocks
 pub mod Content
 pub mod Fields
-pub mod Crc32c
 pub mod Format
 pub mod Numbers
 pub mod Reading

@@ -44,7 +44,7 @@ pub(crate) fn has_entries(value: &[u8], fields: usize, entry: usize) -> bool
 }
 
 /// How many bytes of padding follow `len` bytes, to a multiple of 4.
-pub(crate) fn padding_of(len: usize) -> usize
+pub fn padding_of(len: usize) -> usize
     ensures { result ≡ padding_of len }
 {
     (4 - len % 4) % 4

@@ -1,21 +1,18 @@
 //! SCTP packets on the wire (RFC 9260, section 3): what bytes say, and the bytes that say it.
 //!
-//! `SctpPacket::from_bytes` reads a packet, whose chunks borrow its bytes; `SctpPacketBuilder` writes
-//! one, never longer than its size.
+//! `SctpPacket::from_bytes` reads a packet, whose chunks borrow its bytes. `dcsctp_build` writes one.
 #![tactic(auto)]
 
-mod builder;
 mod bytes;
 mod cause;
 mod chunk;
-pub mod crc32c;
 mod packet;
 mod parameter;
 mod reconfiguration;
+mod size;
 mod types;
 
-pub use builder::{SctpPacketBuilder, parameters_serialized_size, sizes};
-pub use bytes::{u16_at, u32_at};
+pub use bytes::{padding_of, u16_at, u32_at};
 pub use cause::{ErrorCause, causes_text};
 pub use chunk::{
     AbortChunk, Chunk, CookieEchoChunk, DataChunk, DataFlags, ErrorChunk, ForwardTsnChunk,
@@ -29,4 +26,5 @@ pub use reconfiguration::{
     IncomingSsnResetRequestParameter, NextTsns, OutgoingSsnResetRequestParameter,
     ReconfigurationResponseParameter, ReconfigurationResponseResult,
 };
+pub use size::{causes_len, parameters_len, parameters_serialized_size, sizes};
 pub use types::{cause_code, chunk_type, parameter_type};

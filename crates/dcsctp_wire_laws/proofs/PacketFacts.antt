@@ -1,8 +1,7 @@
 -- Outside examples of packets, written by hand from RFC 9260, section 3.1, computed by the definitions.
 use Rattle.std.proofs.Common.{◌≡◌, ℕ, Bool, true, false, List, [], ◌∷◌, refl, arith}
 use Rattle.dcsctp_wire.specs.declared.packet.WireOptions.{WireOptions}
-use Rattle.dcsctp_wire.specs.Building.{bytes_remaining}
-use Rattle.dcsctp_wire.specs.Crc32c.{bit_step, eight_bit_steps, byte_step, register_after, crc32c_of, packet_checksum_of}
+use Rattle.dcsctp_checksum.specs.Crc32c.{bit_step, eight_bit_steps, byte_step, register_after, crc32c_of, packet_checksum_of}
 use Rattle.dcsctp_wire.specs.Content.{cookie_echo_chunk, cookie_ack_chunk, PacketContent}
 use Rattle.dcsctp_wire.specs.Fields.{fields_in}
 use Rattle.dcsctp_wire.specs.Format.{frame_at, form_of, checksum_accepted, IsPacket}
@@ -101,9 +100,3 @@ echo_first_is_read =
       );
       echo_in_front = (refl, tt);
     }
-
--- ---- building
-
--- 12 bytes of header and a chunk of 8 leave 12 of 32.
-room_is_left : bytes_remaining (record { source_port = 0; destination_port = 0; verification_tag = 0; size = 32; with_checksum = true; body = 6 ∷ 1 ∷ 0 ∷ 5 ∷ 0xaa ∷ 0 ∷ 0 ∷ 0 ∷ [] }) ≡ 12
-room_is_left = refl

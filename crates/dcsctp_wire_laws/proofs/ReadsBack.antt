@@ -9,7 +9,7 @@ use Rattle.dcsctp_wire.specs.Content.{PacketContent}
 use Rattle.dcsctp_wire.specs.Format.{checksum_accepted, IsPacket}
 use Rattle.dcsctp_wire.specs.Spelling.{chunk_bytes, header_bytes, checksum_field, packet_bytes_of, packet_bytes}
 use Rattle.dcsctp_wire.specs.ReadsBack.{FitsFields, IsWritable, BuiltPacketReadsBack, BuiltPacketReadsAsItself}
-use Rattle.dcsctp_wire.proofs.BuiltPackets.{length-header_bytes}
+use Rattle.dcsctp_wire.proofs.Lengths.{length-header_bytes}
 use Rattle.dcsctp_wire_laws.proofs.InBytes.{in_header, in_chunks}
 use Rattle.dcsctp_wire_laws.proofs.ReadsBackChecksum.{field_reads_back}
 use Rattle.dcsctp_wire_laws.proofs.ReadsBackChunks.{chunks_read_back}

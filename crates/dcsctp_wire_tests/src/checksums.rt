@@ -1,7 +1,7 @@
 //! Checksums, with the values that others publish (RFC 9260, appendix A).
 
 use crate::checks::{holds, same};
-use dcsctp_wire::crc32c::{crc32c, packet_checksum};
+use dcsctp_checksum::{crc32c, packet_checksum};
 use std::process::Abort;
 
 #[rattlefmt::skip]

@@ -3,13 +3,14 @@
 //! and I-FORWARD-TSN as in RFC 8260, section 2.
 
 use crate::checks::{same, shows};
+use dcsctp_build::SctpPacketBuilder;
 use dcsctp_wire::{
     Chunk, DataChunk, DataFlags, ErrorCause, ErrorChunk, ForwardTsnChunk, GapAckBlock,
     HeartbeatAckChunk, HeartbeatRequestChunk, IDataChunk, IForwardTsnChunk,
     IncomingSsnResetRequestParameter, NextTsns, OutgoingSsnResetRequestParameter, PacketError,
     Parameter, ReConfigChunk, ReconfigurationResponseParameter, ReconfigurationResponseResult,
-    SackChunk, SctpPacket, SctpPacketBuilder, ShutdownChunk, SkippedMessages, SkippedStream,
-    UnknownChunk, WireOptions, parameters_serialized_size,
+    SackChunk, SctpPacket, ShutdownChunk, SkippedMessages, SkippedStream, UnknownChunk,
+    WireOptions, parameters_serialized_size,
 };
 use std::alloc::Global;
 use std::process::Abort;

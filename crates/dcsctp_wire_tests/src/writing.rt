@@ -5,9 +5,9 @@ ghost use Rattle.dcsctp_wire.specs.Content.{chunk_content};
 ghost use Rattle.dcsctp_wire.specs.Spelling.{chunk_bytes, packet_bytes};
 
 use crate::checks::{holds, same};
+use dcsctp_build::SctpPacketBuilder;
 use dcsctp_wire::{
-    AbortChunk, Chunk, CookieEchoChunk, ErrorCause, InitChunk, Parameter, SctpPacketBuilder,
-    ShutdownCompleteChunk,
+    AbortChunk, Chunk, CookieEchoChunk, ErrorCause, InitChunk, Parameter, ShutdownCompleteChunk,
 };
 use std::alloc::{AllocError, Global};
 use std::process::Abort;

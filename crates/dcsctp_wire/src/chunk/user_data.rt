@@ -88,7 +88,7 @@ pub struct IDataChunk<'a> {
 
 impl DataFlags {
     /// The flags as the byte of a chunk header.
-    pub(crate) fn byte(self) -> u8
+    pub fn byte(self) -> u8
         ensures { result ≡ data_flags self }
     {
         u8::from(self.is_end)

@@ -1,6 +1,6 @@
 use Rattle.std.proofs.Common.{◌≡◌, ◌≤◌, ◌+◌, length, ℕ, true, List, [], ◌∷◌, ◌++◌, sym, ap, ◌∙◌, arith}
 use Rattle.std.proofs.lemmas.List.{append-nil}
-use Rattle.dcsctp_wire.specs.Building.{Building}
+use Rattle.dcsctp_build.specs.Building.{Building}
 use Rattle.dcsctp_wire.specs.Content.{cookie_echo_chunk}
 use Rattle.dcsctp_wire.specs.Spelling.{chunk_bytes}
 use Rattle.dcsctp_machine.specs.Settings.{packet_size_limit}

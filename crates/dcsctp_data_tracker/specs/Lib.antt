@@ -1,0 +1,3 @@
+pub mod Acknowledging
+pub mod Received
+pub mod TrackerFields

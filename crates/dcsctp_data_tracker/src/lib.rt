@@ -1,0 +1,8 @@
+//! The data tracker of the transfer layer: which TSNs came in, and when that is acknowledged (RFC 9260,
+//! sections 6.2 and 6.7).
+#![tactic(auto)]
+
+mod data_tracker;
+mod received;
+
+pub use data_tracker::{DataTracker, SelectiveAck};

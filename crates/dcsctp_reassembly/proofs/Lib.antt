@@ -1,0 +1,11 @@
+pub mod PartBytes
+pub mod ReassemblyLemmas
+pub mod ResultFacts
+pub mod RunDropLemmas
+pub mod RunsLemmas
+pub mod SkippingLemmas
+pub mod StreamBytes
+pub mod StreamSums
+pub mod StreamsLemmas
+pub mod WorkLemmas
+pub mod WrittenLemmas

@@ -1,0 +1,9 @@
+pub mod Held
+pub mod Numbers
+pub mod Queue
+pub mod QueueFields
+pub mod QueuedBytes
+pub mod Reassembly
+pub mod Runs
+pub mod Skipping
+pub mod Streams

@@ -1,0 +1,29 @@
+-- Running numbers that wrap, numbered without wrap: the nearest to a reference (RFC 9260, section 1.6). They stop at 2^64 - 1.
+use Rattle.std.specs.Prelude.{ℕ, ◌+◌, ◌-◌, ◌*◌, ◌%◌, ◌^◌, min, nat_lt, Bool, ◌&&◌, if◌then◌else◌}
+
+-- how far ahead of the reference a number of so many values is, modulo that
+abbrev pub ahead_of : ℕ → ℕ → ℕ → ℕ
+ahead_of values reference number = (number + (values - reference % values)) % values
+
+-- the number that agrees with this modulo so many values, nearest to the reference; half of them is ahead of it
+abbrev pub nearest : ℕ → ℕ → ℕ → ℕ → ℕ
+nearest values half reference number =
+    if nat_lt (ahead_of values reference number) half
+    then min (reference + ahead_of values reference number) (2 ^ 64 - 1)
+    else reference - (values - ahead_of values reference number)
+
+-- of a TSN or a message identifier
+abbrev pub number_near : ℕ → ℕ → ℕ
+number_near reference number = nearest (2 ^ 32) (2 ^ 31) reference number
+
+-- of a stream sequence number
+abbrev pub short_number_near : ℕ → ℕ → ℕ
+short_number_near reference number = nearest (2 ^ 16) (2 ^ 15) reference number
+
+-- Is the TSN beyond the other one?
+abbrev pub is_tsn_beyond : ℕ → ℕ → Bool
+is_tsn_beyond tsn other = nat_lt 0 (ahead_of (2 ^ 32) other tsn) && nat_lt (ahead_of (2 ^ 32) other tsn) (2 ^ 31)
+
+-- the place of a part of an I-DATA message
+abbrev pub fragment_place : ℕ → ℕ → ℕ
+fragment_place number fsn = number * 2 ^ 32 + fsn

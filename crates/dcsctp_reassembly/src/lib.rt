@@ -1,0 +1,15 @@
+//! The reassembly queue of the transfer layer: what of the data that came in waits to be taken (RFC 9260,
+//! sections 6.5, 6.6 and 6.9).
+#![tactic(auto)]
+
+mod arrivals;
+mod incoming;
+mod joining;
+mod numbers;
+mod reassembly_queue;
+mod runs;
+mod skipping;
+mod stream;
+
+pub use arrivals::{Data, Numbering, SkippedTo};
+pub use reassembly_queue::ReassemblyQueue;

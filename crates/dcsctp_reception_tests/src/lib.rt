@@ -1,0 +1,14 @@
+//! Tests of `dcsctp_data_tracker` and `dcsctp_reassembly` by their public calls. Their values were worked
+//! out by hand from the rules.
+#![tactic(auto)]
+
+#[cfg(test)]
+mod messages;
+#[cfg(test)]
+mod receiver;
+#[cfg(test)]
+mod resets;
+#[cfg(test)]
+mod tracker;
+#[cfg(test)]
+mod tracking;
