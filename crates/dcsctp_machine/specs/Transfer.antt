@@ -34,18 +34,18 @@ abbrev pub empty_queue : SendQueueState
 empty_queue =
     record { is_interleaved = false; total_buffered_amount = 0; buffered_amounts = []; thresholds = []; priorities = []; under_way = None; ready_streams = [] }
 
--- the numbers with this much more at its stream
+-- the numbers with this much more at its stream; each stops at the greatest number of 64 bits
 abbrev pub with_more : StreamNumber → List StreamNumber → List StreamNumber
 with_more more [] = more ∷ []
 with_more more (first ∷ numbers) =
-    if first.stream == more.stream then record first { number = first.number + more.number } ∷ numbers else first ∷ with_more more numbers
+    if first.stream == more.stream then record first { number = min (first.number + more.number) (2 ^ 64 - 1) } ∷ numbers else first ∷ with_more more numbers
 
 -- the amounts once a message has begun again
 abbrev pub begun_again : SendQueueState → Option StreamNumber → SendQueueState
 begun_again queue None = queue
 begun_again queue (Some message) =
     record queue {
-      total_buffered_amount = queue.total_buffered_amount + message.number;
+      total_buffered_amount = min (queue.total_buffered_amount + message.number) (2 ^ 64 - 1);
       buffered_amounts = with_more message queue.buffered_amounts;
       under_way = None;
     }

@@ -6,9 +6,11 @@ use Rattle.dcsctp_send_queue.specs.declared.turns.Turn.{Turn}
 use Rattle.dcsctp_send_queue.specs.Waiting.{Waiting, Stream, front_of, without_front}
 use Rattle.dcsctp_send_queue.specs.Ranking.{stream_at, turn_if, IsNext, IsFound, IsAscending}
 use Rattle.dcsctp_send_queue.specs.declared.backlog.Backlog.{Backlog}
-use Rattle.dcsctp_send_queue.specs.Backlog.{without_rest, IsUnderWay, HasRest}
+use Rattle.dcsctp_send_queue.specs.Leaving.{without_rest, HasRest, HasMore}
+use Rattle.dcsctp_send_queue.specs.Backlog.{IsUnderWay}
 use Rattle.dcsctp_send_queue.specs.declared.message.UnderWay.{UnderWay}
-use Rattle.dcsctp_send_queue.proofs.StreamLemmas.{stream_at-set, length-set_at, same_place, absent_at}
+use Rattle.dcsctp_send_queue.proofs.StreamLemmas.{stream_at-set, length-set_at}
+use Rattle.dcsctp_send_queue.proofs.NextLemmas.{same_place, absent_at}
 
 -- how many messages the streams have together
 abbrev pub count_messages : List Stream → ℕ
@@ -67,6 +69,16 @@ under_way_at streams under_way p ascending goes_on found =
       message = goes_on.message;
       front = ap (λ k. front_of (stream_at streams k).messages) (sym same) ∙ goes_on.front;
       rest = let u = goes_on.unfinished in omega arith;
+    }
+
+pub under_way_more : (streams : List Stream) (under_way : UnderWay) (p : ℕ) → IsAscending streams → IsUnderWay streams under_way → IsFound streams under_way.stream_id.0 (Ok p) → HasMore streams p under_way.sent
+under_way_more streams under_way p ascending goes_on found =
+    let same = same_place streams goes_on.place p ascending goes_on.within found.0 (goes_on.is ∙ sym found.1) in
+    record {
+      within = found.0;
+      message = goes_on.message;
+      front = ap (λ k. front_of (stream_at streams k).messages) (sym same) ∙ goes_on.front;
+      more = goes_on.unfinished;
     }
 
 pub under_way_not_lost : (streams : List Stream) (under_way : UnderWay) (p : ℕ) → IsUnderWay streams under_way → IsFound streams under_way.stream_id.0 (Err p) → ⊥

@@ -1,5 +1,5 @@
 -- What leaves a send queue: fragments of messages.
-use Rattle.std.specs.Prelude.{◌≡◌, ℕ, ◌+◌, ◌==◌, Bool, Option, None, Some, List, take, drop, length, Vec}
+use Rattle.std.specs.Prelude.{◌≡◌, ◌<◌, ◌≤◌, ℕ, ◌+◌, ◌==◌, Bool, Option, None, Some, List, take, drop, length, Vec, vec_len}
 use Rattle.std.specs.Option.{option_map}
 use Rattle.std.specs.declared.alloc.Global.{Global}
 use Rattle.dcsctp_api.specs.Ids.{lifecycle_number}
@@ -59,6 +59,10 @@ fragment under_way message size =
       expires_at = message.expires_at;
       lifecycle = message.lifecycle;
     }
+
+-- a fragment of one byte at least, and of at most so many
+abbrev pub HasSize : ℕ → DataToSend → Type 0
+HasSize max part = (0 < vec_len part.payload) × (vec_len part.payload ≤ max)
 
 -- the rest of a payload of which so much went out, or none where nothing did
 abbrev pub CopiesRest : ℕ → List ℕ → Option (Vec ℕ Global) → Type 0

@@ -19,7 +19,7 @@ pub struct UnderWay {
     pub sent: usize,
 }
 
-/// A message that waits whole, or of which some fragments went out.
+/// A message that waits whole, or of which some fragments went out. Its payload isn't empty.
 ///
 /// A contract sees its payload as the list of its bytes, and the moment in nanoseconds.
 #[derive(Debug, Drop)]
@@ -37,6 +37,7 @@ pub struct QueuedMessage {
 }
 
 impl Model for QueuedMessage {
+    ghost use Rattle.std.specs.Prelude.{◌<◌, vec_len};
     ghost use Rattle.std.specs.Option.{option_map};
     ghost use Rattle.dcsctp_api.specs.Ids.{lifecycle_number};
     ghost use Rattle.dcsctp_send_queue.specs.Waiting.{Waiting};
@@ -52,10 +53,12 @@ impl Model for QueuedMessage {
       expires_at = message.expires_at;
       lifecycle = option_map lifecycle_number message.lifecycle_id;
     } };
+
+    ghost invariant = { λ message. 0 < vec_len message.payload };
 }
 
 impl QueuedMessage {
-    ghost use Rattle.std.specs.Prelude.{◌≡◌, ◌+◌, ◌-◌, ◌^◌, ◌<◌, ◌≤◌, ◌++◌, min, length, IfOk, OnOk};
+    ghost use Rattle.std.specs.Prelude.{◌≡◌, ◌+◌, ◌-◌, ◌^◌, ◌<◌, ◌≤◌, ◌++◌, min, length, vec_len, IfOk, OnOk};
     ghost use Rattle.dcsctp_send_queue.specs.Telling.{contents, expiry_events, sent_events};
     ghost use Rattle.std.specs.Duration.{as_nanos, max_nanos};
     ghost use Rattle.std.specs.Option.{option_map};
@@ -70,6 +73,7 @@ impl QueuedMessage {
         message: Message,
         options: &SendOptions,
     ) -> QueuedMessage
+        requires { 0 < vec_len message.payload }
         ensures { result ≡ record {
           message_id = message_id;
           ppid = message.ppid.0;
@@ -91,9 +95,10 @@ impl QueuedMessage {
         }
     }
 
-    /// The bytes of its payload.
+    /// The bytes of its payload, of which there is one at least.
     pub fn size(&self) -> usize
-        ensures { result ≡ length self.now.payload }
+        ensures value { result ≡ length self.now.payload }
+        ensures some { 0 < result }
     {
         self.payload.len()
     }

@@ -34,16 +34,22 @@ impl Model for SendQueue {
 }
 
 impl SendQueue {
-    ghost use Rattle.std.specs.Prelude.{◌≡◌, ◌+◌, ◌-◌, ◌<◌, ◌≤◌, ◌++◌, ◌↔◌, ℕ, IsTrue, IsSome, OnOk, OnErr, IfOk, map, take, if◌then◌else◌, true, false};
-    ghost use Rattle.dcsctp_send_queue.specs.Telling.{contents, expiries, low_events};
+    ghost use Rattle.std.specs.Prelude.{◌≡◌, ◌+◌, ◌-◌, ◌<◌, ◌≤◌, ◌++◌, ◌↔◌, ℕ, vec_len, IsTrue, IsSome, IfSome, OnOk, OnErr, IfOk, map, take, if◌then◌else◌, true, false};
+    ghost use Rattle.dcsctp_machine.specs.Transfer.{empty_queue, queue_after_reset};
+    ghost use Rattle.dcsctp_send_queue.specs.Telling.{contents};
+    ghost use Rattle.dcsctp_send_queue.specs.Fragment.{HasSize};
     ghost use Rattle.dcsctp_send_queue.specs.Waiting.{paused};
-    ghost use Rattle.dcsctp_send_queue.specs.Backlog.{no_backlog, queued, with_added, TakesNext, DropsSome, DiscardsNamed, restarted, changed, used, stream_of, handing_out, ready_streams, may_send, IsUsedAtMost, HasReady, with_threshold, with_priority, prepared, prepare_events};
+    ghost use Rattle.dcsctp_send_queue.specs.Backlog.{queue_state, changed, used, stream_of, ready_streams};
+    ghost use Rattle.dcsctp_send_queue.specs.Calls.{no_backlog, queued, with_added, TakesNext, DiscardsNamed};
+    ghost use Rattle.dcsctp_send_queue.specs.Leaving.{DropsSome};
+    ghost use Rattle.dcsctp_send_queue.specs.Resets.{restarted, handing_out, may_send, IsUsedAtMost, HasReady, with_threshold, with_priority, prepared, prepare_events};
     ghost use Rattle.dcsctp_send_queue.specs.Waiting.{committed, rolled_back};
     ghost use Rattle.dcsctp_api.specs.Ids.{stream_numbers};
 
     /// A queue with no messages, which numbers them as for no interleaving. It takes no memory.
     pub fn new(alloc: Global, options: &Options) -> SendQueue
-        ensures { result ≡ no_backlog alloc options.now }
+        ensures whole { result ≡ no_backlog alloc options.now }
+        ensures shown { queue_state result ≡ empty_queue }
     {
         SendQueue {
             backlog: Backlog {
@@ -61,13 +67,14 @@ impl SendQueue {
     }
 
     /// Adds a message, whose payload isn't empty, behind the others of its stream. It may be begun until
-    /// its lifetime after `now` has passed.
+    /// its lifetime after `now` has passed. If there is no memory for it, nothing changes.
     pub fn add(
         &mut self,
         now: SocketTime,
         message: Message,
         options: &SendOptions,
     ) -> Result<(), AllocError>
+        requires { 0 < vec_len message.payload }
         ensures ok { OnOk result (self.new ≡ with_added message.stream_id.0 (queued now message options.now self.old) self.old) }
         ensures err { OnErr result (self.new ≡ self.old) }
     {
@@ -95,6 +102,7 @@ impl SendQueue {
     ) -> Result<Option<DataToSend>, AllocError>
         requires { 0 < max }
         ensures ok { IfOk result (λ next. TakesNext now max self.old (contents events.old) next self.new (contents events.new)) }
+        ensures size { IfOk result (λ next. IfSome next (HasSize max)) }
         ensures err { OnErr result (DropsSome now self.old self.new) }
     {
         match self.backlog.under_way {
@@ -135,7 +143,8 @@ impl SendQueue {
     /// Makes the queue ready for another association: the message that is under way begins again, all
     /// messages are numbered from 0, and every pause ends. Messages, thresholds and priorities stay.
     pub fn reset(&mut self)
-        ensures { self.new ≡ restarted self.old }
+        ensures whole { self.new ≡ restarted self.old }
+        ensures shown { queue_state self.new ≡ queue_after_reset (queue_state self.old) }
     {
         self.backlog.put_back();
         self.backlog.streams.begin_all_anew();

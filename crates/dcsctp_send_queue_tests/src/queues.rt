@@ -54,6 +54,7 @@ impl Sender {
         options: &SendOptions,
     ) {
         let payload = Vec::from_slice(self.alloc, bytes).expect(rt, "memory for the payload");
+        assert!(rt; !payload.is_empty(), "a message has a payload");
         let message = Message::new(StreamId(stream), PpId(53), payload);
         self.queue
             .add(at(millis), message, options)

@@ -1,5 +1,6 @@
 use Rattle.std.proofs.Common.{ap, sym, ◌∙◌, arith}
-use Rattle.dcsctp_send_queue.proofs.QueueLemmas.{can_go_on-produced, drops-under_way}
+use Rattle.dcsctp_send_queue.proofs.GoingOnLemmas.{can_go_on-produced, drops-under_way}
+use Rattle.dcsctp_send_queue.proofs.FragmentLemmas.{has_size}
 use Rattle.dcsctp_send_queue.proofs.backlog.Backlog.begin_next.Goals as goal
 
 pub returns-in_err-place-clause-can : goal.returns-in_err-place-clause-can
@@ -30,3 +31,10 @@ returns-clause-can c =
     let is = ap (λ u. u.stream_id.0) (c.begun-under_way.ensures may.message may.front) in
     rw (c.in_ok-data.ensures.left may.message may.front)
     (can_go_on-produced _ _ _ may.message _ may.next.within (sym is) may.front c.requires.some)
+
+pub returns-clause-size : goal.returns-clause-size
+returns-clause-size c =
+    let may = rw c.in-Some.is at c.in_ok-place.ensures.ok in
+    let none_sent = ap (λ u. u.sent) (c.begun-under_way.ensures may.message may.front) in
+    let some = c.in_ok-data.ensures.some may.message may.front in
+    has_size c.in_ok-data.data may.message c.begun-under_way.result c.args.max (c.in_ok-data.ensures.ok may.message may.front) (omega (arith, none_sent)) c.requires.some

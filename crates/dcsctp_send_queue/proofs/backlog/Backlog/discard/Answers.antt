@@ -1,6 +1,7 @@
 use Rattle.std.proofs.Common.{None, ap, sym, refl, ◌∙◌}
 use Rattle.dcsctp_send_queue.specs.declared.backlog.Backlog.{Backlog}
-use Rattle.dcsctp_send_queue.proofs.QueueLemmas.{not_named, apart_by, same_by}
+use Rattle.dcsctp_send_queue.proofs.GoingOnLemmas.{not_named}
+use Rattle.dcsctp_send_queue.proofs.ResetLemmas.{apart_by, same_by}
 use Rattle.dcsctp_send_queue.proofs.backlog.Backlog.discard.Goals as goal
 
 pub returns-then-not-is_front_named-clause-ok : goal.returns-then-not-is_front_named-clause-ok

@@ -1,7 +1,8 @@
 use Rattle.std.proofs.Common.{[], rules}
 use Rattle.dcsctp_send_queue.specs.Telling.{contents}
-use Rattle.dcsctp_send_queue.specs.Backlog.{none}
-use Rattle.dcsctp_send_queue.proofs.QueueLemmas.{can_go_on-produced, chosen_going}
+use Rattle.dcsctp_send_queue.specs.Leaving.{none}
+use Rattle.dcsctp_send_queue.proofs.GoingOnLemmas.{can_go_on-produced, chosen_going}
+use Rattle.dcsctp_send_queue.proofs.FragmentLemmas.{has_size}
 use Rattle.dcsctp_send_queue.proofs.backlog.Backlog.go_on.Goals as goal
 
 pub returns-clause-ok : goal.returns-clause-ok
@@ -26,3 +27,8 @@ returns-clause-can c =
     let rest = c.place_of-place.ensures.rest in
     rw (c.in_ok-data.ensures.left rest.message rest.front)
     (can_go_on-produced _ _ _ rest.message c.args.under_way rest.within c.place_of-place.ensures.stream rest.front c.requires.some)
+
+pub returns-clause-size : goal.returns-clause-size
+returns-clause-size c =
+    let more = c.place_of-place.ensures.more in
+    has_size c.in_ok-data.data more.message c.args.under_way c.args.max (c.in_ok-data.ensures.ok more.message more.front) more.more c.requires.some

@@ -1,6 +1,6 @@
 use Rattle.std.proofs.Common.{◌≡◌, take}
 use Rattle.dcsctp_api.specs.Ids.{stream_numbers}
-use Rattle.dcsctp_send_queue.specs.Backlog.{handing_out}
+use Rattle.dcsctp_send_queue.specs.Resets.{handing_out}
 use Rattle.dcsctp_send_queue.proofs.backlog.Backlog.hand_out.Given as goal
 
 abbrev pub invariant-loop-id : goal.invariant-loop-id

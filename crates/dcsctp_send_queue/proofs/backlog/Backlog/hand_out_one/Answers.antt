@@ -1,6 +1,7 @@
 use Rattle.std.proofs.Common.{ap, sym, ◌∙◌, List}
 use Rattle.dcsctp_send_queue.specs.Waiting.{Stream, handed_out}
-use Rattle.dcsctp_send_queue.proofs.QueueLemmas.{changed_at, changed_lost}
+use Rattle.dcsctp_send_queue.proofs.QueueLemmas.{changed_at}
+use Rattle.dcsctp_send_queue.proofs.ReadyLemmas.{changed_lost}
 use Rattle.dcsctp_send_queue.proofs.backlog.Backlog.hand_out_one.Goals as goal
 
 pub returns-in-Ok : goal.returns-in-Ok

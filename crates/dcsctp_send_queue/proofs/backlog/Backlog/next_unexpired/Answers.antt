@@ -1,6 +1,6 @@
 use Rattle.std.proofs.Common.{◌++◌, [], append_assoc, ap, sym, ◌∙◌, arith, rules}
 use Rattle.dcsctp_send_queue.specs.Telling.{contents}
-use Rattle.dcsctp_send_queue.specs.Backlog.{none, more, drop_events}
+use Rattle.dcsctp_send_queue.specs.Leaving.{none, more, drop_events}
 use Rattle.dcsctp_send_queue.proofs.WaitingLemmas.{count-without_rest, next_front}
 use Rattle.dcsctp_send_queue.proofs.backlog.Backlog.next_unexpired.Goals as goal
 

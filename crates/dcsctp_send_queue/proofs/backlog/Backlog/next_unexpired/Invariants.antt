@@ -1,5 +1,5 @@
 use Rattle.dcsctp_send_queue.specs.Telling.{contents}
-use Rattle.dcsctp_send_queue.specs.Backlog.{DropsAll}
+use Rattle.dcsctp_send_queue.specs.Leaving.{DropsAll}
 use Rattle.dcsctp_send_queue.proofs.WaitingLemmas.{count_messages}
 use Rattle.dcsctp_send_queue.proofs.backlog.Backlog.next_unexpired.Given as goal
 

@@ -1,7 +1,7 @@
 use Rattle.std.proofs.Common.{ap, ◌∙◌}
 use Rattle.std.specs.List.{insert}
 use Rattle.dcsctp_send_queue.specs.Waiting.{with_message}
-use Rattle.dcsctp_send_queue.proofs.QueueLemmas.{set-changed, insert-changed, can_go_on-insert}
+use Rattle.dcsctp_send_queue.proofs.GoingOnLemmas.{set-changed, insert-changed, can_go_on-insert}
 use Rattle.dcsctp_send_queue.proofs.backlog.Backlog.put.Goals as goal
 
 pub returns-in_ok-push-in-Ok-clause-ok : goal.returns-in_ok-push-in-Ok-clause-ok

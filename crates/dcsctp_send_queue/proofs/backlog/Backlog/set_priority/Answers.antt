@@ -1,5 +1,5 @@
-use Rattle.dcsctp_send_queue.specs.Backlog.{with_priority}
-use Rattle.dcsctp_send_queue.proofs.QueueLemmas.{change_used}
+use Rattle.dcsctp_send_queue.specs.Resets.{with_priority}
+use Rattle.dcsctp_send_queue.proofs.ResetLemmas.{change_used}
 use Rattle.dcsctp_send_queue.proofs.backlog.Backlog.set_priority.Goals as goal
 
 pub returns-clause-ok : goal.returns-clause-ok

@@ -1,5 +1,5 @@
-use Rattle.dcsctp_send_queue.specs.Backlog.{with_threshold}
-use Rattle.dcsctp_send_queue.proofs.QueueLemmas.{change_used}
+use Rattle.dcsctp_send_queue.specs.Resets.{with_threshold}
+use Rattle.dcsctp_send_queue.proofs.ResetLemmas.{change_used}
 use Rattle.dcsctp_send_queue.proofs.backlog.Backlog.set_threshold.Goals as goal
 
 pub returns-clause-ok : goal.returns-clause-ok

@@ -1,8 +1,8 @@
 use Rattle.std.proofs.Common.{ap, ◌∙◌}
 use Rattle.std.specs.List.{insert}
 use Rattle.dcsctp_send_queue.specs.Waiting.{unused}
-use Rattle.dcsctp_send_queue.proofs.StreamLemmas.{IsAscending-insert}
-use Rattle.dcsctp_send_queue.proofs.QueueLemmas.{insert-used, can_go_on-insert}
+use Rattle.dcsctp_send_queue.proofs.PlaceLemmas.{IsAscending-insert}
+use Rattle.dcsctp_send_queue.proofs.GoingOnLemmas.{insert-used, can_go_on-insert}
 use Rattle.dcsctp_send_queue.proofs.backlog.Backlog.use_stream.Goals as goal
 
 pub returns-in_ok-insert-in-Err-clause-ok : goal.returns-in_ok-insert-in-Err-clause-ok

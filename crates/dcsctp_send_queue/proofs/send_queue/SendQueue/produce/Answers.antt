@@ -1,5 +1,5 @@
 use Rattle.std.proofs.Common.{◌∙◌}
-use Rattle.dcsctp_send_queue.proofs.QueueLemmas.{on_err_map, stays}
+use Rattle.dcsctp_send_queue.proofs.ResetLemmas.{on_err_map, stays}
 use Rattle.dcsctp_send_queue.proofs.send_queue.SendQueue.produce.Goals as goal
 
 pub returns-in-Some-clause-err : goal.returns-in-Some-clause-err

@@ -1,5 +1,6 @@
 use Rattle.std.proofs.Common.{◌<◌, length}
-use Rattle.dcsctp_send_queue.proofs.StreamLemmas.{holds_read, ranked_read, committed-id}
+use Rattle.dcsctp_send_queue.proofs.StreamLemmas.{holds_read, ranked_read}
+use Rattle.dcsctp_send_queue.proofs.NextLemmas.{committed-id}
 use Rattle.dcsctp_send_queue.proofs.streams.Streams.commit.Goals as goal
 
 pub move_turn-requires : goal.move_turn-requires

@@ -1,6 +1,7 @@
 use Rattle.std.proofs.Common.{◌≡◌, length, arith}
 use Rattle.dcsctp_send_queue.specs.Ranking.{IsAscending}
-use Rattle.dcsctp_send_queue.proofs.StreamLemmas.{id_read, lesser_through, greater_from, above_from}
+use Rattle.dcsctp_send_queue.proofs.StreamLemmas.{id_read}
+use Rattle.dcsctp_send_queue.proofs.PlaceLemmas.{lesser_through, greater_from, above_from}
 use Rattle.dcsctp_send_queue.proofs.streams.Streams.find.Goals as goal
 use Rattle.dcsctp_send_queue.proofs.streams.Streams.find.Goals.{else-low-len-via-then-low-len+else-id-2, else-low-len-via-else-low-len}
 

@@ -1,4 +1,4 @@
-use Rattle.dcsctp_send_queue.proofs.StreamLemmas.{next_any, none_any}
+use Rattle.dcsctp_send_queue.proofs.NextLemmas.{next_any, none_any}
 use Rattle.dcsctp_send_queue.proofs.streams.Streams.has_turn.Goals as goal
 
 pub returns-in-Some : goal.returns-in-Some

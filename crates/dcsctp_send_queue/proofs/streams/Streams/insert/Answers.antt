@@ -1,5 +1,6 @@
 use Rattle.std.proofs.Common.{length, arith, refl, ap, ◌∙◌}
-use Rattle.dcsctp_send_queue.proofs.StreamLemmas.{ranked-insert, IsOrdered-turns_of, length-turns_of}
+use Rattle.dcsctp_send_queue.proofs.PlaceLemmas.{ranked-insert}
+use Rattle.dcsctp_send_queue.proofs.StreamLemmas.{IsOrdered-turns_of, length-turns_of}
 use Rattle.dcsctp_send_queue.proofs.streams.Streams.insert.Goals as goal
 
 pub move_turn-requires : goal.move_turn-requires

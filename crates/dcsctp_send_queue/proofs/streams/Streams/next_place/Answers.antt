@@ -1,4 +1,4 @@
-use Rattle.dcsctp_send_queue.proofs.StreamLemmas.{next_at, not_lost}
+use Rattle.dcsctp_send_queue.proofs.NextLemmas.{next_at, not_lost}
 use Rattle.dcsctp_send_queue.proofs.streams.Streams.next_place.Goals as goal
 
 pub returns-in-Ok-clause-some : goal.returns-in-Ok-clause-some

@@ -1,0 +1,244 @@
+//! Taking fragments, and dropping messages that are too old (RFC 3758, section 3.5).
+
+ghost use Rattle.std.specs.Prelude.{◌≡◌, ◌&&◌, nat_lt, nat_le};
+ghost use Rattle.dcsctp_send_queue.specs.Telling.{falls_low};
+
+use super::Backlog;
+use crate::data::DataToSend;
+use crate::message::{QueuedMessage, UnderWay};
+use crate::stream::{OutgoingStream, Pause};
+use crate::streams::Streams;
+use dcsctp_api::{Events, SocketEvent, SocketTime, StreamId};
+use std::alloc::{AllocError, Global};
+
+impl Backlog {
+    ghost use Rattle.std.specs.Prelude.{◌≡◌, ◌==◌, ◌+◌, ◌-◌, ◌<◌, ◌≤◌, ◌++◌, ℕ, List, length, take, drop, Some, None, Ok, Err, OnOk, OnErr, IfOk, IfSome, IsOk, IsTrue, ◌↔◌};
+    ghost use Rattle.dcsctp_machine.specs.Event.{Event};
+    ghost use Rattle.dcsctp_send_queue.specs.Waiting.{Waiting, unused, front_of, is_expired, with_message, handed_out};
+    ghost use Rattle.dcsctp_api.specs.Ids.{stream_numbers};
+    ghost use Rattle.dcsctp_send_queue.specs.Telling.{contents, low_events};
+    ghost use Rattle.dcsctp_send_queue.specs.Ranking.{stream_at, IsFound, IsAscending};
+    ghost use Rattle.dcsctp_send_queue.specs.Fragment.{fragment_of, fragment, HasSize};
+    ghost use Rattle.dcsctp_send_queue.specs.Leaving.{reduced, without_rest, drop_events, after_part, part_events, after_last, last_events, HasMore, HasRest, DropsAll, DropsSome, NextUnexpired, size_produced, produced, produced_events, count_under_way, after_pause, pause_events};
+    ghost use Rattle.dcsctp_send_queue.specs.Backlog.{CanGoOn, begun, changed, used, ready_streams, is_ready, IsUnderWay};
+    ghost use Rattle.dcsctp_send_queue.specs.Calls.{TakesNext, DiscardsNamed};
+    ghost use Rattle.dcsctp_send_queue.specs.Resets.{put_back, prepared, prepare_events, IsUsedAtMost, with_threshold, with_priority, may_send, HasReady, handing_out};
+
+    /// The oldest message of the stream as it is begun, before its first fragment.
+    pub fn begun(&self, place: usize) -> UnderWay
+        requires { place < length self.now.streams }
+        ensures { (message : Waiting) → front_of (stream_at self.now.streams place).messages ≡ Some message → result ≡ begun message (stream_at self.now.streams place) }
+    {
+        let stream = self.streams.at(place);
+        let is_unordered = match stream.front() {
+            None => false,
+            Some(message) => message.is_unordered(),
+        };
+        let (ssn, mid) = stream.next_numbers(is_unordered);
+        UnderWay {
+            stream_id: stream.id(),
+            ssn,
+            mid,
+            next_fsn: 0,
+            sent: 0,
+        }
+    }
+
+    // Is the oldest message of the stream too old to be begun?
+    fn is_front_expired(&self, place: usize, now: SocketTime) -> bool
+        requires { place < length self.now.streams }
+        ensures { (message : Waiting) → front_of (stream_at self.now.streams place).messages ≡ Some message → result ≡ is_expired now message }
+    {
+        match self.streams.at(place).front() {
+            None => false,
+            Some(message) => message.is_expired(now),
+        }
+    }
+
+    /// The place of the stream whose turn it is, once the messages in front that are too old to be begun
+    /// are dropped; none where no message can be begun.
+    pub fn next_unexpired(
+        &mut self,
+        events: &mut Events,
+        now: SocketTime,
+    ) -> Result<Option<usize>, AllocError>
+        ensures ok { IfOk result (NextUnexpired now self.new.streams) }
+        ensures told { OnOk result (DropsAll now self.old (contents events.old) self.new (contents events.new)) }
+        ensures err { OnErr result (DropsSome now self.old self.new) }
+    {
+        while let Some(place) = self.streams.next_place() {
+            if !self.is_front_expired(place, now) {
+                return Ok(Some(place));
+            }
+            self.drop_front(events, place, 0)?;
+        }
+        Ok(None)
+    }
+
+    /// Takes the next fragment of the oldest message of the stream, of at most `max` bytes.
+    pub fn produce(
+        &mut self,
+        events: &mut Events,
+        place: usize,
+        under_way: UnderWay,
+        max: usize,
+    ) -> Result<DataToSend, AllocError>
+        requires { HasRest self.old.streams place under_way.sent }
+        ensures ok { (message : Waiting) → front_of (stream_at self.old.streams place).messages ≡ Some message → IfOk result (λ part. fragment_of part ≡ fragment under_way message (size_produced max message under_way)) }
+        ensures some { (message : Waiting) → front_of (stream_at self.old.streams place).messages ≡ Some message → 0 < length message.payload }
+        ensures left { (message : Waiting) → front_of (stream_at self.old.streams place).messages ≡ Some message → OnOk result (self.new ≡ produced place max message under_way self.old) }
+        ensures told { (message : Waiting) → front_of (stream_at self.old.streams place).messages ≡ Some message → OnOk result (contents events.new ≡ contents events.old ++ produced_events place max message under_way self.old) }
+        ensures err { OnErr result (self.new ≡ self.old) }
+    {
+        let message = self.streams.at(place).front().unwrap();
+        let left = message.size().saturating_sub(under_way.sent);
+        if left <= max {
+            self.produce_last(events, place, under_way)
+        } else {
+            self.produce_part(events, place, under_way, max)
+        }
+    }
+
+    // Is this the name of the oldest message of the stream?
+    fn is_front_named(&self, place: usize, message_id: u64) -> bool
+        requires { place < length self.now.streams }
+        ensures { (message : Waiting) → front_of (stream_at self.now.streams place).messages ≡ Some message → result ≡ (message.message_id == message_id) }
+    {
+        match self.streams.at(place).front() {
+            None => false,
+            Some(message) => message.message_id() == message_id,
+        }
+    }
+
+    /// Drops what is left of the message under way, if it is the one of this name and stream, and
+    /// answers whether it was.
+    pub fn discard(
+        &mut self,
+        events: &mut Events,
+        stream_id: StreamId,
+        message_id: u64,
+    ) -> Result<bool, AllocError>
+        requires { CanGoOn self.old.streams self.old.under_way }
+        ensures ok { IfOk result (λ is_dropped. DiscardsNamed self.old stream_id.0 message_id (contents events.old) is_dropped self.new (contents events.new)) }
+        ensures can { CanGoOn self.new.streams self.new.under_way }
+        ensures err { OnErr result (self.new ≡ self.old) }
+    {
+        let under_way = match self.under_way {
+            Some(under_way) => under_way,
+            None => return Ok(false),
+        };
+        if under_way.stream_id.0 != stream_id.0 {
+            return Ok(false);
+        }
+        let place = self.place_of(under_way);
+        if !self.is_front_named(place, message_id) {
+            return Ok(false);
+        }
+        self.drop_front(events, place, under_way.sent)?;
+        self.under_way = None;
+        Ok(true)
+    }
+
+    /// Takes the next fragment of the message under way, of at most `max` bytes.
+    pub fn go_on(
+        &mut self,
+        events: &mut Events,
+        under_way: UnderWay,
+        max: usize,
+    ) -> Result<Option<DataToSend>, AllocError>
+        requires goes_on { self.old.under_way ≡ Some under_way }
+        requires can { IsUnderWay self.old.streams under_way }
+        requires some { 0 < max }
+        ensures ok { (now : ℕ) → IfOk result (λ next. TakesNext now max self.old (contents events.old) next self.new (contents events.new)) }
+        ensures size { IfOk result (λ next. IfSome next (HasSize max)) }
+        ensures can { CanGoOn self.new.streams self.new.under_way }
+        ensures err { OnErr result (self.new ≡ self.old) }
+    {
+        let place = self.place_of(under_way);
+        let data = self.produce(events, place, under_way, max)?;
+        Ok(Some(data))
+    }
+
+    /// Takes the first fragment, of at most `max` bytes, of the message that is next in turn; none where
+    /// no message can be begun.
+    pub fn begin_next(
+        &mut self,
+        events: &mut Events,
+        now: SocketTime,
+        max: usize,
+    ) -> Result<Option<DataToSend>, AllocError>
+        requires idle { self.old.under_way ≡ None }
+        requires some { 0 < max }
+        ensures ok { IfOk result (λ next. TakesNext now max self.old (contents events.old) next self.new (contents events.new)) }
+        ensures size { IfOk result (λ next. IfSome next (HasSize max)) }
+        ensures can { CanGoOn self.new.streams self.new.under_way }
+        ensures err { OnErr result (DropsSome now self.old self.new) }
+    {
+        let Some(place) = self.next_unexpired(events, now)? else {
+            return Ok(None);
+        };
+        let under_way = self.begun(place);
+        let data = self.produce(events, place, under_way, max)?;
+        Ok(Some(data))
+    }
+
+    // Takes a fragment of so many bytes, which isn't the last.
+    fn produce_part(
+        &mut self,
+        events: &mut Events,
+        place: usize,
+        under_way: UnderWay,
+        size: usize,
+    ) -> Result<DataToSend, AllocError>
+        requires { HasMore self.old.streams place (under_way.sent + size) }
+        ensures ok { (message : Waiting) → front_of (stream_at self.old.streams place).messages ≡ Some message → IfOk result (λ part. fragment_of part ≡ fragment under_way message size) }
+        ensures left { (message : Waiting) → front_of (stream_at self.old.streams place).messages ≡ Some message → OnOk result (self.new ≡ after_part place size message under_way self.old) }
+        ensures told { OnOk result (contents events.new ≡ contents events.old ++ part_events place size self.old) }
+        ensures err { OnErr result (self.new ≡ self.old) }
+    {
+        let message = self.streams.at(place).front().unwrap();
+        let data = message.part(self.alloc, under_way, size)?;
+        let is_unordered = message.is_unordered();
+        self.tell_low(events, place, size)?;
+        self.reduce(place, size);
+        if under_way.sent == 0 {
+            self.streams.count_begun(place, is_unordered);
+        }
+        self.under_way = Some(UnderWay {
+            stream_id: under_way.stream_id,
+            ssn: under_way.ssn,
+            mid: under_way.mid,
+            next_fsn: under_way.next_fsn.wrapping_add(1),
+            sent: under_way.sent + size,
+        });
+        Ok(data)
+    }
+
+    // Takes the last fragment.
+    fn produce_last(
+        &mut self,
+        events: &mut Events,
+        place: usize,
+        under_way: UnderWay,
+    ) -> Result<DataToSend, AllocError>
+        requires { HasRest self.old.streams place under_way.sent }
+        ensures ok { (message : Waiting) → front_of (stream_at self.old.streams place).messages ≡ Some message → IfOk result (λ part. fragment_of part ≡ fragment under_way message (length message.payload - under_way.sent)) }
+        ensures left { (message : Waiting) → front_of (stream_at self.old.streams place).messages ≡ Some message → OnOk result (self.new ≡ after_last place message under_way self.old) }
+        ensures told { (message : Waiting) → front_of (stream_at self.old.streams place).messages ≡ Some message → OnOk result (contents events.new ≡ contents events.old ++ last_events place message under_way self.old) }
+        ensures err { OnErr result (self.new ≡ self.old) }
+    {
+        let message = self.streams.at(place).front().unwrap();
+        let rest = message.copied_rest(self.alloc, under_way.sent)?;
+        let left = message.size().saturating_sub(under_way.sent);
+        let is_unordered = message.is_unordered();
+        self.tell_low(events, place, left)?;
+        message.tell_fully_sent(events)?;
+        self.reduce(place, left);
+        if under_way.sent == 0 {
+            self.streams.count_begun(place, is_unordered);
+        }
+        self.under_way = None;
+        let message = self.streams.pop(place).unwrap();
+        Ok(message.last_part(under_way, rest))
+    }
+}

@@ -1,0 +1,111 @@
+//! Pausing streams, and handing them out to be reset (RFC 6525, section 5.1.2).
+
+ghost use Rattle.std.specs.Prelude.{◌≡◌, ◌&&◌, nat_lt, nat_le};
+ghost use Rattle.dcsctp_send_queue.specs.Telling.{falls_low};
+
+use super::Backlog;
+use crate::data::DataToSend;
+use crate::message::{QueuedMessage, UnderWay};
+use crate::stream::{OutgoingStream, Pause};
+use crate::streams::Streams;
+use dcsctp_api::{Events, SocketEvent, SocketTime, StreamId};
+use std::alloc::{AllocError, Global};
+
+impl Backlog {
+    ghost use Rattle.std.specs.Prelude.{◌≡◌, ◌==◌, ◌+◌, ◌-◌, ◌<◌, ◌≤◌, ◌++◌, ℕ, List, length, take, drop, Some, None, Ok, Err, OnOk, OnErr, IfOk, IfSome, IsOk, IsTrue, ◌↔◌};
+    ghost use Rattle.dcsctp_machine.specs.Event.{Event};
+    ghost use Rattle.dcsctp_send_queue.specs.Waiting.{Waiting, unused, front_of, is_expired, with_message, handed_out};
+    ghost use Rattle.dcsctp_api.specs.Ids.{stream_numbers};
+    ghost use Rattle.dcsctp_send_queue.specs.Telling.{contents, low_events};
+    ghost use Rattle.dcsctp_send_queue.specs.Ranking.{stream_at, IsFound, IsAscending};
+    ghost use Rattle.dcsctp_send_queue.specs.Fragment.{fragment_of, fragment, HasSize};
+    ghost use Rattle.dcsctp_send_queue.specs.Leaving.{reduced, without_rest, drop_events, after_part, part_events, after_last, last_events, HasMore, HasRest, DropsAll, DropsSome, NextUnexpired, size_produced, produced, produced_events, count_under_way, after_pause, pause_events};
+    ghost use Rattle.dcsctp_send_queue.specs.Backlog.{CanGoOn, begun, changed, used, ready_streams, is_ready, IsUnderWay};
+    ghost use Rattle.dcsctp_send_queue.specs.Calls.{TakesNext, DiscardsNamed};
+    ghost use Rattle.dcsctp_send_queue.specs.Resets.{put_back, prepared, prepare_events, IsUsedAtMost, with_threshold, with_priority, may_send, HasReady, handing_out};
+
+    /// Drops the messages of the stream that aren't begun, and pauses it.
+    pub fn pause(&mut self, events: &mut Events, place: usize) -> Result<(), AllocError>
+        requires { place < length self.old.streams }
+        ensures ok { OnOk result (self.new ≡ after_pause place self.old) }
+        ensures told { OnOk result (contents events.new ≡ contents events.old ++ pause_events place self.old) }
+        ensures err { OnErr result (self.new ≡ self.old) }
+    {
+        let kept = self.count_under_way(self.streams.at(place).id());
+        let size = self.streams.at(place).size_from(kept);
+        self.tell_low(events, place, size)?;
+        self.streams.at(place).tell_dropped(events, kept)?;
+        self.reduce(place, size);
+        self.streams.pause(place, kept);
+        Ok(())
+    }
+
+    /// Drops the messages of the stream that aren't begun, and pauses it, where it isn't paused yet.
+    pub fn prepare(&mut self, events: &mut Events, stream_id: StreamId) -> Result<(), AllocError>
+        ensures ok { OnOk result (self.new ≡ prepared stream_id.0 self.old) }
+        ensures told { OnOk result (contents events.new ≡ contents events.old ++ prepare_events stream_id.0 self.old) }
+        ensures can { CanGoOn self.old.streams self.old.under_way → CanGoOn self.new.streams self.new.under_way }
+        ensures err { OnErr result (IsUsedAtMost stream_id.0 self.old self.new) }
+    {
+        let place = self.use_stream(stream_id)?;
+        match self.streams.at(place).pause_state() {
+            Pause::Open => self.pause(events, place),
+            Pause::Pausing => Ok(()),
+            Pause::HandedOut => Ok(()),
+        }
+    }
+
+    /// Can the stream be handed out to be reset?
+    pub fn is_ready(&self, place: usize) -> bool
+        requires { place < length self.now.streams }
+        ensures { result ≡ is_ready self.now.under_way (stream_at self.now.streams place) }
+    {
+        let stream = self.streams.at(place);
+        stream.pause_state() == Pause::Pausing && self.count_under_way(stream.id()) == 0
+    }
+
+    /// The numbers of at most `max` of the streams that can be handed out, the least first.
+    pub fn ready_ids(&self, max: usize) -> Result<Vec<StreamId>, AllocError>
+        ensures { IfOk result (λ ids. stream_numbers ids.items ≡ take max (ready_streams self.now)) }
+    {
+        let mut ids = Vec::new(self.alloc);
+        for place in 0..self.streams.len() {
+            if ids.len() < max && self.is_ready(place) {
+                ids.push(self.streams.at(place).id())?;
+            }
+        }
+        Ok(ids)
+    }
+
+    /// Hands these streams out to be reset.
+    pub fn hand_out(&mut self, ids: &[StreamId])
+        ensures left { self.new ≡ record self.old { streams = handing_out (stream_numbers ids.now) self.old.streams } }
+        ensures can { CanGoOn self.old.streams self.old.under_way → CanGoOn self.new.streams self.new.under_way }
+    {
+        for id in ids {
+            self.hand_out_one(*id);
+        }
+    }
+
+    // Hands this stream out to be reset.
+    fn hand_out_one(&mut self, id: StreamId)
+        ensures { self.new ≡ record self.old { streams = changed id.0 handed_out self.old.streams } }
+    {
+        match self.streams.find(id) {
+            Ok(place) => self.streams.hand_out(place),
+            Err(_) => {}
+        }
+    }
+
+    /// Can a stream be handed out to be reset?
+    pub fn has_ready(&self) -> bool
+        ensures { IsTrue result ↔ HasReady self.now }
+    {
+        for place in 0..self.streams.len() {
+            if self.is_ready(place) {
+                return true;
+            }
+        }
+        false
+    }
+}
