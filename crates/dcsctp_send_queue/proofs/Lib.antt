@@ -1,12 +1,7 @@
 pub mod FragmentLemmas
 pub mod GoingOnLemmas
-pub mod Mapped
-pub mod NextLemmas
-pub mod PlaceLemmas
 pub mod QueueLemmas
 pub mod ReadyLemmas
 pub mod ResetLemmas
 pub mod ShownLemmas
-pub mod StreamLemmas
-pub mod TurnLemmas
 pub mod WaitingLemmas

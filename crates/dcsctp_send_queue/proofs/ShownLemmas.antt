@@ -2,9 +2,9 @@
 use Rattle.std.proofs.Common.{◌≡◌, ◌==◌, ℕ, zero, suc, Bool, true, false, if◌then◌else◌, Option, None, Some, IfSome, Ok, List, [], ◌∷◌, filter, map, refl, ap, ◌∙◌, arith}
 use Rattle.dcsctp_machine.specs.Transfer.{with_more, queue_after_reset}
 use Rattle.dcsctp_send_queue.specs.declared.backlog.Backlog.{Backlog}
-use Rattle.dcsctp_send_queue.specs.declared.message.UnderWay.{UnderWay}
-use Rattle.dcsctp_send_queue.specs.Waiting.{Stream, begun_anew, raised}
-use Rattle.dcsctp_send_queue.specs.Ranking.{IsAscending, IsFound}
+use Rattle.dcsctp_streams.specs.declared.message.UnderWay.{UnderWay}
+use Rattle.dcsctp_streams.specs.Waiting.{Stream, begun_anew, raised}
+use Rattle.dcsctp_streams.specs.Ranking.{IsAscending, IsFound}
 use Rattle.dcsctp_send_queue.specs.Backlog.{changed, amount_of, threshold_of, priority_of, is_ready, queue_state, CanGoOn}
 use Rattle.dcsctp_send_queue.specs.Resets.{restarted}
 use Rattle.dcsctp_send_queue.proofs.QueueLemmas.{same_test, other_test, changed-none, IsBelow-out}

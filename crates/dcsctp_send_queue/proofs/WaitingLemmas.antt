@@ -1,16 +1,16 @@
 -- Messages that wait, and streams by number.
-use Rattle.std.proofs.Common.{◌≡◌, ℕ, zero, suc, ◌-◌, ◌+◌, ◌<◌, ◌≤◌, Some, Ok, Err, List, [], ◌∷◌, length, set, drop, refl, sym, ap, ◌∙◌, arith}
-use Rattle.dcsctp_send_queue.specs.declared.stream.Pause.{Pause}
-use Rattle.dcsctp_send_queue.specs.declared.stream.Pause.TheVariants.{Open, Pausing, HandedOut}
-use Rattle.dcsctp_send_queue.specs.declared.turns.Turn.{Turn}
-use Rattle.dcsctp_send_queue.specs.Waiting.{Waiting, Stream, front_of, without_front}
-use Rattle.dcsctp_send_queue.specs.Ranking.{stream_at, turn_if, IsNext, IsFound, IsAscending}
+use Rattle.std.proofs.Common.{◌≡◌, ℕ, zero, suc, ◌-◌, ◌+◌, ◌<◌, Some, Ok, Err, List, [], ◌∷◌, length, set, drop, refl, sym, ap, ◌∙◌, arith}
+use Rattle.dcsctp_streams.specs.declared.stream.Pause.{Pause}
+use Rattle.dcsctp_streams.specs.declared.stream.Pause.TheVariants.{Open, Pausing, HandedOut}
+use Rattle.dcsctp_streams.specs.declared.turns.Turn.{Turn}
+use Rattle.dcsctp_streams.specs.Waiting.{Waiting, Stream, front_of, without_front}
+use Rattle.dcsctp_streams.specs.Ranking.{stream_at, turn_if, IsNext, IsFound, IsAscending}
 use Rattle.dcsctp_send_queue.specs.declared.backlog.Backlog.{Backlog}
 use Rattle.dcsctp_send_queue.specs.Leaving.{without_rest, HasRest, HasMore}
 use Rattle.dcsctp_send_queue.specs.Backlog.{IsUnderWay}
-use Rattle.dcsctp_send_queue.specs.declared.message.UnderWay.{UnderWay}
-use Rattle.dcsctp_send_queue.proofs.StreamLemmas.{stream_at-set, length-set_at}
-use Rattle.dcsctp_send_queue.proofs.NextLemmas.{same_place, absent_at}
+use Rattle.dcsctp_streams.specs.declared.message.UnderWay.{UnderWay}
+use Rattle.dcsctp_streams.proofs.StreamLemmas.{stream_at-set, length-set_at}
+use Rattle.dcsctp_streams.proofs.NextLemmas.{same_place, absent_at}
 
 -- how many messages the streams have together
 abbrev pub count_messages : List Stream → ℕ
@@ -38,12 +38,6 @@ pub next_front : (streams : List Stream) (place : ℕ) → IsNext streams place 
 next_front streams place next =
     let s = stream_at streams place in
     turn_has s.priority s.id s.pause s.messages next.turn next.is
-
-pub drop_past : (messages : List Waiting) (p : ℕ) → length messages ≤ p → drop p messages ≡ []
-drop_past [] zero le = refl
-drop_past [] (suc p) le = refl
-drop_past (x ∷ xs) zero le = absurd (omega arith)
-drop_past (x ∷ xs) (suc p) le = drop_past xs p (omega arith)
 
 count-same : (streams : List Stream) (p : ℕ) (s : Stream) → p < length streams → s.messages ≡ (stream_at streams p).messages → count_messages (set streams p s) ≡ count_messages streams
 count-same [] p s lt is = absurd (omega arith)

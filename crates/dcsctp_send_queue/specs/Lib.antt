@@ -1,9 +1,4 @@
 pub mod Backlog
 pub mod Calls
-pub mod Fragment
 pub mod Leaving
-pub mod Ranking
 pub mod Resets
-pub mod Telling
-pub mod Turns
-pub mod Waiting

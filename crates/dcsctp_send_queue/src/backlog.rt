@@ -1,16 +1,13 @@
 //! What a send queue holds, and the steps of its calls.
 
-ghost use Rattle.std.specs.Prelude.{◌≡◌, ◌&&◌, nat_lt, nat_le};
-ghost use Rattle.dcsctp_send_queue.specs.Telling.{falls_low};
+ghost use Rattle.std.specs.Prelude.{◌≡◌, ◌&&◌};
+ghost use Rattle.dcsctp_streams.specs.Telling.{falls_low};
 
 mod producing;
 mod resetting;
 
-use crate::data::DataToSend;
-use crate::message::{QueuedMessage, UnderWay};
-use crate::stream::{OutgoingStream, Pause};
-use crate::streams::Streams;
-use dcsctp_api::{Events, SocketEvent, SocketTime, StreamId};
+use dcsctp_api::{Events, SocketEvent, StreamId};
+use dcsctp_streams::{OutgoingStream, QueuedMessage, Streams, UnderWay};
 use std::alloc::{AllocError, Global};
 
 // Does an amount that falls by so much fall from above its threshold to it or below?
@@ -41,17 +38,13 @@ pub struct Backlog {
 }
 
 impl Backlog {
-    ghost use Rattle.std.specs.Prelude.{◌≡◌, ◌==◌, ◌+◌, ◌-◌, ◌<◌, ◌≤◌, ◌++◌, ℕ, List, length, take, drop, Some, None, Ok, Err, OnOk, OnErr, IfOk, IfSome, IsOk, IsTrue, ◌↔◌};
-    ghost use Rattle.dcsctp_machine.specs.Event.{Event};
-    ghost use Rattle.dcsctp_send_queue.specs.Waiting.{Waiting, unused, front_of, is_expired, with_message, handed_out};
-    ghost use Rattle.dcsctp_api.specs.Ids.{stream_numbers};
-    ghost use Rattle.dcsctp_send_queue.specs.Telling.{contents, low_events};
-    ghost use Rattle.dcsctp_send_queue.specs.Ranking.{stream_at, IsFound, IsAscending};
-    ghost use Rattle.dcsctp_send_queue.specs.Fragment.{fragment_of, fragment, HasSize};
-    ghost use Rattle.dcsctp_send_queue.specs.Leaving.{reduced, without_rest, drop_events, after_part, part_events, after_last, last_events, HasMore, HasRest, DropsAll, DropsSome, NextUnexpired, size_produced, produced, produced_events, count_under_way, after_pause, pause_events};
-    ghost use Rattle.dcsctp_send_queue.specs.Backlog.{CanGoOn, begun, changed, used, ready_streams, is_ready, IsUnderWay};
-    ghost use Rattle.dcsctp_send_queue.specs.Calls.{TakesNext, DiscardsNamed};
-    ghost use Rattle.dcsctp_send_queue.specs.Resets.{put_back, prepared, prepare_events, IsUsedAtMost, with_threshold, with_priority, may_send, HasReady, handing_out};
+    ghost use Rattle.std.specs.Prelude.{◌≡◌, ◌==◌, ◌+◌, ◌-◌, ◌<◌, ◌++◌, length, Some, None, Ok, Err, OnOk, OnErr, IfOk, IfSome};
+    ghost use Rattle.dcsctp_streams.specs.Waiting.{Waiting, unused, front_of, with_message};
+    ghost use Rattle.dcsctp_streams.specs.Telling.{contents};
+    ghost use Rattle.dcsctp_streams.specs.Ranking.{stream_at, IsFound, IsAscending};
+    ghost use Rattle.dcsctp_send_queue.specs.Leaving.{reduced, without_rest, drop_events, part_events, HasMore, HasRest, count_under_way};
+    ghost use Rattle.dcsctp_send_queue.specs.Backlog.{CanGoOn, changed, used, IsUnderWay};
+    ghost use Rattle.dcsctp_send_queue.specs.Resets.{put_back, with_threshold, with_priority, may_send};
 
     /// A stream that was never used.
     pub fn new_stream(&self, stream_id: StreamId) -> OutgoingStream

@@ -3,12 +3,7 @@
 #![tactic(auto)]
 
 mod backlog;
-mod data;
-mod message;
 mod send_queue;
-mod stream;
-mod streams;
-mod turns;
 
-pub use data::DataToSend;
+pub use dcsctp_streams::DataToSend;
 pub use send_queue::SendQueue;

@@ -4,10 +4,8 @@
 ghost use Rattle.std.specs.Prelude.{◌<◌};
 
 use crate::backlog::Backlog;
-use crate::data::DataToSend;
-use crate::message::QueuedMessage;
-use crate::streams::Streams;
 use dcsctp_api::{Events, Message, Options, SendOptions, SocketTime, StreamId};
+use dcsctp_streams::{DataToSend, QueuedMessage, Streams};
 use std::alloc::{AllocError, Global};
 use std::marker::Model;
 
@@ -34,16 +32,16 @@ impl Model for SendQueue {
 }
 
 impl SendQueue {
-    ghost use Rattle.std.specs.Prelude.{◌≡◌, ◌+◌, ◌-◌, ◌<◌, ◌≤◌, ◌++◌, ◌↔◌, ℕ, vec_len, IsTrue, IsSome, IfSome, OnOk, OnErr, IfOk, map, take, if◌then◌else◌, true, false};
+    ghost use Rattle.std.specs.Prelude.{◌≡◌, ◌+◌, ◌-◌, ◌<◌, ◌++◌, ◌↔◌, vec_len, IsTrue, IfSome, OnOk, OnErr, IfOk, map, take, if◌then◌else◌, false};
     ghost use Rattle.dcsctp_machine.specs.Transfer.{empty_queue, queue_after_reset};
-    ghost use Rattle.dcsctp_send_queue.specs.Telling.{contents};
-    ghost use Rattle.dcsctp_send_queue.specs.Fragment.{HasSize};
-    ghost use Rattle.dcsctp_send_queue.specs.Waiting.{paused};
+    ghost use Rattle.dcsctp_streams.specs.Telling.{contents};
+    ghost use Rattle.dcsctp_streams.specs.Fragment.{HasSize};
+    ghost use Rattle.dcsctp_streams.specs.Waiting.{paused};
     ghost use Rattle.dcsctp_send_queue.specs.Backlog.{queue_state, changed, used, stream_of, ready_streams};
     ghost use Rattle.dcsctp_send_queue.specs.Calls.{no_backlog, queued, with_added, TakesNext, DiscardsNamed};
     ghost use Rattle.dcsctp_send_queue.specs.Leaving.{DropsSome};
     ghost use Rattle.dcsctp_send_queue.specs.Resets.{restarted, handing_out, may_send, IsUsedAtMost, HasReady, with_threshold, with_priority, prepared, prepare_events};
-    ghost use Rattle.dcsctp_send_queue.specs.Waiting.{committed, rolled_back};
+    ghost use Rattle.dcsctp_streams.specs.Waiting.{committed, rolled_back};
     ghost use Rattle.dcsctp_api.specs.Ids.{stream_numbers};
 
     /// A queue with no messages, which numbers them as for no interleaving. It takes no memory.

@@ -1,28 +1,21 @@
 //! Pausing streams, and handing them out to be reset (RFC 6525, section 5.1.2).
 
-ghost use Rattle.std.specs.Prelude.{◌≡◌, ◌&&◌, nat_lt, nat_le};
-ghost use Rattle.dcsctp_send_queue.specs.Telling.{falls_low};
+ghost use Rattle.std.specs.Prelude.{◌≡◌, ◌&&◌};
 
 use super::Backlog;
-use crate::data::DataToSend;
-use crate::message::{QueuedMessage, UnderWay};
-use crate::stream::{OutgoingStream, Pause};
-use crate::streams::Streams;
-use dcsctp_api::{Events, SocketEvent, SocketTime, StreamId};
-use std::alloc::{AllocError, Global};
+use dcsctp_api::{Events, StreamId};
+use dcsctp_streams::Pause;
+use std::alloc::AllocError;
 
 impl Backlog {
-    ghost use Rattle.std.specs.Prelude.{◌≡◌, ◌==◌, ◌+◌, ◌-◌, ◌<◌, ◌≤◌, ◌++◌, ℕ, List, length, take, drop, Some, None, Ok, Err, OnOk, OnErr, IfOk, IfSome, IsOk, IsTrue, ◌↔◌};
-    ghost use Rattle.dcsctp_machine.specs.Event.{Event};
-    ghost use Rattle.dcsctp_send_queue.specs.Waiting.{Waiting, unused, front_of, is_expired, with_message, handed_out};
+    ghost use Rattle.std.specs.Prelude.{◌≡◌, ◌==◌, ◌+◌, ◌-◌, ◌<◌, ◌++◌, length, take, Ok, Err, OnOk, OnErr, IfOk, IsTrue, ◌↔◌};
+    ghost use Rattle.dcsctp_streams.specs.Waiting.{handed_out};
     ghost use Rattle.dcsctp_api.specs.Ids.{stream_numbers};
-    ghost use Rattle.dcsctp_send_queue.specs.Telling.{contents, low_events};
-    ghost use Rattle.dcsctp_send_queue.specs.Ranking.{stream_at, IsFound, IsAscending};
-    ghost use Rattle.dcsctp_send_queue.specs.Fragment.{fragment_of, fragment, HasSize};
-    ghost use Rattle.dcsctp_send_queue.specs.Leaving.{reduced, without_rest, drop_events, after_part, part_events, after_last, last_events, HasMore, HasRest, DropsAll, DropsSome, NextUnexpired, size_produced, produced, produced_events, count_under_way, after_pause, pause_events};
-    ghost use Rattle.dcsctp_send_queue.specs.Backlog.{CanGoOn, begun, changed, used, ready_streams, is_ready, IsUnderWay};
-    ghost use Rattle.dcsctp_send_queue.specs.Calls.{TakesNext, DiscardsNamed};
-    ghost use Rattle.dcsctp_send_queue.specs.Resets.{put_back, prepared, prepare_events, IsUsedAtMost, with_threshold, with_priority, may_send, HasReady, handing_out};
+    ghost use Rattle.dcsctp_streams.specs.Telling.{contents};
+    ghost use Rattle.dcsctp_streams.specs.Ranking.{stream_at};
+    ghost use Rattle.dcsctp_send_queue.specs.Leaving.{count_under_way, after_pause, pause_events};
+    ghost use Rattle.dcsctp_send_queue.specs.Backlog.{CanGoOn, begun, changed, ready_streams, is_ready};
+    ghost use Rattle.dcsctp_send_queue.specs.Resets.{prepared, prepare_events, IsUsedAtMost, HasReady, handing_out};
 
     /// Drops the messages of the stream that aren't begun, and pauses it.
     pub fn pause(&mut self, events: &mut Events, place: usize) -> Result<(), AllocError>

@@ -1,5 +1,5 @@
 use Rattle.std.proofs.Common.{[], rules}
-use Rattle.dcsctp_send_queue.specs.Telling.{contents}
+use Rattle.dcsctp_streams.specs.Telling.{contents}
 use Rattle.dcsctp_send_queue.specs.Leaving.{none}
 use Rattle.dcsctp_send_queue.proofs.GoingOnLemmas.{can_go_on-produced, chosen_going}
 use Rattle.dcsctp_send_queue.proofs.FragmentLemmas.{has_size}

@@ -1,5 +1,5 @@
 use Rattle.std.proofs.Common.{◌≡◌, ℕ, ◌<◌, false}
-use Rattle.dcsctp_send_queue.specs.Ranking.{stream_at}
+use Rattle.dcsctp_streams.specs.Ranking.{stream_at}
 use Rattle.dcsctp_send_queue.specs.Backlog.{is_ready}
 use Rattle.dcsctp_send_queue.proofs.backlog.Backlog.has_ready.Given as goal
 

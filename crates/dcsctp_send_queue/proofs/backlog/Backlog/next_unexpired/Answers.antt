@@ -1,5 +1,5 @@
 use Rattle.std.proofs.Common.{◌++◌, [], append_assoc, ap, sym, ◌∙◌, arith, rules}
-use Rattle.dcsctp_send_queue.specs.Telling.{contents}
+use Rattle.dcsctp_streams.specs.Telling.{contents}
 use Rattle.dcsctp_send_queue.specs.Leaving.{none, more, drop_events}
 use Rattle.dcsctp_send_queue.proofs.WaitingLemmas.{count-without_rest, next_front}
 use Rattle.dcsctp_send_queue.proofs.backlog.Backlog.next_unexpired.Goals as goal

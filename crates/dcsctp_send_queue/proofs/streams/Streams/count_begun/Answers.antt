@@ -1,9 +1,0 @@
-use Rattle.std.proofs.Common.{◌<◌, length}
-use Rattle.dcsctp_send_queue.proofs.StreamLemmas.{ranked_read_same, counted-id, counted-turn}
-use Rattle.dcsctp_send_queue.proofs.streams.Streams.count_begun.Goals as goal
-
-pub invariant_of-self : goal.invariant_of-self
-invariant_of-self c =
-    let lt : c.args.place < length c.self.inside.items.items = rw c.self.view_is c.requires in
-    ranked_read_same _ _ _ c.args.place _ _ c.self.invariant lt c.index_mut-stream.ensures.value
-    (rw c.count_begun.ensures (counted-id _ _)) (rw c.count_begun.ensures (counted-turn _ _))

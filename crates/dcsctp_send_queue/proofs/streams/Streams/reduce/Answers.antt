@@ -1,9 +1,0 @@
-use Rattle.std.proofs.Common.{◌<◌, length, refl}
-use Rattle.dcsctp_send_queue.proofs.StreamLemmas.{ranked_read_same}
-use Rattle.dcsctp_send_queue.proofs.streams.Streams.reduce.Goals as goal
-
-pub invariant_of-self : goal.invariant_of-self
-invariant_of-self c =
-    let lt : c.args.place < length c.self.inside.items.items = rw c.self.view_is c.requires in
-    ranked_read_same _ _ _ c.args.place _ _ c.self.invariant lt c.index_mut-stream.ensures.value
-    (rw c.reduce.ensures refl) (rw c.reduce.ensures refl)

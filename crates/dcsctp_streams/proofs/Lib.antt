@@ -1,0 +1,5 @@
+pub mod Mapped
+pub mod NextLemmas
+pub mod PlaceLemmas
+pub mod StreamLemmas
+pub mod TurnLemmas

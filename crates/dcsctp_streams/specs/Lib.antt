@@ -1,0 +1,5 @@
+pub mod Fragment
+pub mod Ranking
+pub mod Telling
+pub mod Turns
+pub mod Waiting

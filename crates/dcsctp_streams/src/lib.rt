@@ -1,0 +1,15 @@
+//! Streams of messages that wait to be sent, by number: which of them has its turn, and the fragments of a
+//! message.
+#![tactic(auto)]
+
+mod data;
+mod message;
+mod stream;
+mod streams;
+mod turns;
+
+pub use data::DataToSend;
+pub use message::{QueuedMessage, UnderWay};
+pub use stream::{OutgoingStream, Pause};
+pub use streams::Streams;
+pub use turns::Turn;
