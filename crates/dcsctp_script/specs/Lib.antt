@@ -1,5 +1,3 @@
-pub mod Bytes
 pub mod Ending
-pub mod Number
 pub mod Script
 pub mod Words

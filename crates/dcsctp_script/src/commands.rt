@@ -1,13 +1,12 @@
 //! The commands of a script, run on two sockets.
 
 use crate::failure::{Failure, written};
-use crate::line::{Command, Line, parse_line};
-use crate::printing::print_event;
 use crate::script::Script;
-use crate::showing::{print_association, print_state, print_timeout};
 use crate::words::Words;
 use dcsctp_api::{DcSctpSocket, SocketEvent};
+use dcsctp_lines::{Command, Line, parse_line};
 use dcsctp_machine::{Call, Outside, Side, Step};
+use dcsctp_printing::{print_association, print_event, print_state, print_timeout};
 use dcsctp_world::World;
 use std::alloc::Global;
 use std::io::{self, BufRead, Write};

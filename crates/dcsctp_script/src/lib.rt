@@ -6,21 +6,14 @@
 //! that is none of these, or comes at the wrong place, ends the run.
 #![tactic(auto)]
 
-mod bytes;
 mod commands;
 mod failure;
-mod line;
-mod number;
-mod packet_text;
-mod printing;
 mod run;
 mod script;
-mod settings;
 mod setup;
-mod showing;
 mod words;
 
+pub use dcsctp_lines::set_option;
+pub use dcsctp_printing::print_event;
 pub use failure::Status;
-pub use printing::print_event;
 pub use run::run_script;
-pub use settings::set_option;

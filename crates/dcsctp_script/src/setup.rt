@@ -4,11 +4,9 @@ ghost use Rattle.std.specs.Prelude.{◌≡◌, true, false};
 ghost use Rattle.dcsctp_machine.specs.Settings.{IsValid};
 
 use crate::failure::Failure;
-use crate::line::{Command, Line, parse_line};
-use crate::number::number;
 use crate::script::Script;
-use crate::settings::set_option;
 use crate::words::Words;
+use dcsctp_lines::{Command, Line, number, parse_line, set_option};
 use dcsctp_machine::{Options, Side};
 use dcsctp_world::World;
 use std::alloc::{AllocError, Global};

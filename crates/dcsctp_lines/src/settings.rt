@@ -6,7 +6,7 @@
 ghost use Rattle.std.specs.Prelude.{◌≡◌};
 ghost use Rattle.std.specs.Bool.{OnFalse};
 
-use crate::number::{limit, number, signed_number};
+use crate::numbers::{limit, number, signed_number};
 use dcsctp_machine::{Options, ZeroChecksumAlternateErrorDetectionMethod};
 use std::time::Duration;
 

@@ -1,7 +1,7 @@
 //! Bytes in a line: hexadecimal digits, two a byte, with spaces anywhere.
 
 ghost use Rattle.std.specs.Prelude.{◌≡◌, [], ◌∷◌, ◌++◌, IfOk};
-ghost use Rattle.dcsctp_script.specs.Bytes.{digits_in, ReadsBytes};
+ghost use Rattle.dcsctp_lines.specs.Bytes.{digits_in, ReadsBytes};
 
 use std::alloc::{AllocError, Global};
 

@@ -1,7 +1,7 @@
 -- The digits of a text, from its front on.
 use Rattle.std.proofs.Common.{◌≡◌, ◌==◌, ℕ, ◌+◌, ◌<◌, Bool, true, false, cond, take, get_or, length, List, [], ◌∷◌, ◌++◌, refl, ap, ◌∙◌}
 use Rattle.std.proofs.lemmas.List.{take_more}
-use Rattle.dcsctp_script.specs.Bytes.{digits_in}
+use Rattle.dcsctp_lines.specs.Bytes.{digits_in}
 
 abbrev kept : Bool → ℕ → List ℕ → List ℕ
 kept is_space byte digits = cond is_space digits (byte ∷ digits)

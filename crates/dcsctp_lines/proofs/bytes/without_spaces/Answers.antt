@@ -1,7 +1,7 @@
 use Rattle.std.proofs.Common.{◌≡◌, ℕ, ◌+◌, take, get_or, List, [], ◌∷◌, ◌++◌, sym, subst, ap, ◌∙◌}
-use Rattle.dcsctp_script.specs.Bytes.{digits_in}
-use Rattle.dcsctp_script.proofs.DigitLemmas.{digits_more}
-use Rattle.dcsctp_script.proofs.bytes.without_spaces.Goals as goal
+use Rattle.dcsctp_lines.specs.Bytes.{digits_in}
+use Rattle.dcsctp_lines.proofs.DigitLemmas.{digits_more}
+use Rattle.dcsctp_lines.proofs.bytes.without_spaces.Goals as goal
 
 pub loop-byte-preserved : goal.loop-byte-preserved
 loop-byte-preserved c =

@@ -1,7 +1,7 @@
 //! Numbers in a line: decimal digits, leading zeros too, within a range.
 
 ghost use Rattle.std.specs.Prelude.{◌↔◌, IsTrue};
-ghost use Rattle.dcsctp_script.specs.Number.{HasPlus, ReadsNumber, ReadsSignedNumber, ReadsLimit};
+ghost use Rattle.dcsctp_lines.specs.Number.{HasPlus, ReadsNumber, ReadsSignedNumber, ReadsLimit};
 
 /// The number that the digits write. None where the text isn't digits alone, has none, or writes
 /// a number above `most`.

@@ -3,7 +3,7 @@
 ghost use Rattle.std.specs.Prelude.{◌≡◌, ◌↔◌, ◌*◌, Some, codes};
 
 use crate::bytes::bytes_of;
-use crate::number::number;
+use crate::numbers::number;
 use dcsctp_machine::{Side, SocketTime};
 use std::alloc::{AllocError, Global};
 use std::time::Duration;

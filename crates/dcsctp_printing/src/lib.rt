@@ -1,0 +1,10 @@
+//! What a script prints, a line each: the events of a socket, its packets among them, and what it shows
+//! of itself.
+#![tactic(auto)]
+
+mod packet_text;
+mod printing;
+mod showing;
+
+pub use printing::print_event;
+pub use showing::{print_association, print_state, print_timeout};
