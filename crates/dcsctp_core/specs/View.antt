@@ -16,7 +16,6 @@ use Rattle.dcsctp_machine.specs.turns.HandshakeOutcomes.{heartbeats_begun}
 use Rattle.dcsctp_machine.specs.control.Effect.{drawn_in}
 use Rattle.dcsctp_machine.specs.CallTurns.{Turned, after_all, words_of, effects_of, events_of}
 use Rattle.dcsctp_machine.specs.Settings.{ports_of}
-use Rattle.dcsctp_send.specs.RetransmissionTimeout.{timeout_state}
 use Rattle.dcsctp_api.specs.Events.{event_content}
 use Rattle.dcsctp_api.specs.Calls.{user_event}
 use Rattle.dcsctp_core.specs.declared.state.State.{State}
@@ -78,22 +77,18 @@ t1_of (CookieWait wait) = wait.t1_init.running
 t1_of (CookieEchoed echoed) = echoed.t1_cookie.running
 t1_of (Established tcb) = None
 
--- what an association has of the transfer layer
-abbrev pub transfer_in : TransmissionControlBlock → Transfer
-transfer_in tcb = record { retransmission = tcb.retransmission_queue; timeout = timeout_state tcb.rto; tracker = tcb.data_tracker; reassembly = tcb.reassembly_queue }
-
 -- An association that was just made, with this peer and this tie tag.
 pub record IsNew (options : Options) (own : Pair) (peer : Peer) (tie : ℕ) (tcb : TransmissionControlBlock) : Type 0 where
   pub my : tcb.my ≡ own
   pub held : held_of tcb ≡ new_held own peer.pair peer.capabilities
   pub tie_tag : tcb.tie_tag ≡ tie
-  pub transfer : transfer_in tcb ≡ new_transfer options own.first_tsn peer.pair.first_tsn peer.a_rwnd
+  pub transfer : tcb.transfer ≡ new_transfer options own.first_tsn peer.pair.first_tsn peer.a_rwnd
 
 abbrev pub transfer_of : State → Option Transfer
 transfer_of Closed = None
 transfer_of (CookieWait wait) = None
-transfer_of (CookieEchoed echoed) = Some (transfer_in echoed.tcb)
-transfer_of (Established tcb) = Some (transfer_in tcb)
+transfer_of (CookieEchoed echoed) = Some echoed.tcb.transfer
+transfer_of (Established tcb) = Some tcb.transfer
 
 -- What has no place in the parts is as in a socket that was just made.
 abbrev pub endpoint_of : {R : Type 0} → Context R → Endpoint

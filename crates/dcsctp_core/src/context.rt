@@ -13,7 +13,8 @@ use dcsctp_api::{
     ErrorKind, Events, Options, Pair, SctpImplementation, SocketEvent, SocketTime, Word,
 };
 use dcsctp_build::SctpPacketBuilder;
-use dcsctp_send::{BackoffAlgorithm, SendQueue, Timer};
+use dcsctp_send::{BackoffAlgorithm, Timer};
+use dcsctp_transfer::QueuedMessages;
 use dcsctp_wire::Chunk;
 use rand_core::Rng;
 use std::alloc::{AllocError, Global};
@@ -38,7 +39,7 @@ pub struct Context<R> {
     pub events: Events,
 
     /// What waits to be sent.
-    pub send_queue: SendQueue,
+    pub send_queue: QueuedMessages,
 
     /// What the peer is, by its state cookie.
     pub peer_implementation: SctpImplementation,
@@ -105,7 +106,7 @@ impl<R: Rng> Context<R> {
             options,
             state: State::Closed,
             events: Events::new(alloc),
-            send_queue: SendQueue::new(),
+            send_queue: QueuedMessages::new(alloc, &options),
             peer_implementation: SctpImplementation::Unknown,
             generator,
             words: Vec::new(alloc),

@@ -16,7 +16,7 @@ pub struct CookieWaitState {
 }
 
 /// A COOKIE ACK is awaited.
-#[derive(Debug, Drop)]
+#[derive(Drop)]
 pub struct CookieEchoState {
     /// When the COOKIE ECHO is sent again. It runs.
     pub t1_cookie: Timer,
@@ -38,7 +38,7 @@ pub struct CookieEchoState {
 /// CookieEchoed, Established --ABORT--> Closed
 /// CookieWait, CookieEchoed --T1 without restarts--> Closed
 /// ```
-#[derive(Debug, Drop)]
+#[derive(Drop)]
 pub enum State {
     /// There is no association.
     Closed,

@@ -9,8 +9,7 @@ use dcsctp_api::{
     Association, Capabilities, Held, Options, Pair, Phase, ReconfigurationResponseResult,
 };
 use dcsctp_build::SctpPacketBuilder;
-use dcsctp_receive::{DataTracker, ReassemblyQueue};
-use dcsctp_send::{RetransmissionQueue, RetransmissionTimeout};
+use dcsctp_transfer::Transfer;
 use std::alloc::{AllocError, Global};
 
 /// What an INIT ACK or a cookie tells of the peer.
@@ -27,7 +26,7 @@ pub struct Peer {
 }
 
 /// An association, from the moment at which the peer is known.
-#[derive(Debug, Drop)]
+#[derive(Drop)]
 pub struct TransmissionControlBlock {
     /// The own pair.
     pub my: Pair,
@@ -41,17 +40,8 @@ pub struct TransmissionControlBlock {
     /// Stands in the cookies that are made while the association is open (RFC 9260, section 5.2.2).
     pub tie_tag: u64,
 
-    /// Which TSNs were received.
-    pub data_tracker: DataTracker,
-
-    /// What was received and not taken.
-    pub reassembly_queue: ReassemblyQueue,
-
-    /// What is in flight.
-    pub retransmission_queue: RetransmissionQueue,
-
-    /// The retransmission timeout.
-    pub rto: RetransmissionTimeout,
+    /// What is in flight, and what was received.
+    pub transfer: Transfer,
 
     /// The number of the next own request to reset streams (RFC 6525, section 4.1).
     pub next_outgoing_reset_req_seq_nbr: u32,
@@ -64,8 +54,14 @@ pub struct TransmissionControlBlock {
 }
 
 impl TransmissionControlBlock {
-    /// An association with this peer, with nothing sent and nothing received.
-    pub fn new(options: &Options, my: Pair, peer: &Peer, tie_tag: u64) -> TransmissionControlBlock
+    /// An association with this peer, with nothing sent and nothing received. It takes no memory.
+    pub fn new(
+        alloc: Global,
+        options: &Options,
+        my: Pair,
+        peer: &Peer,
+        tie_tag: u64,
+    ) -> TransmissionControlBlock
         ensures { IsNew options.now my peer.now tie_tag result }
     {
         TransmissionControlBlock {
@@ -73,10 +69,14 @@ impl TransmissionControlBlock {
             peer: peer.pair,
             capabilities: peer.capabilities,
             tie_tag,
-            data_tracker: DataTracker::new(peer.pair.first_tsn),
-            reassembly_queue: ReassemblyQueue::new(options.max_receiver_window_buffer_size),
-            retransmission_queue: RetransmissionQueue::new(options, my.first_tsn, peer.a_rwnd),
-            rto: RetransmissionTimeout::new(options),
+            transfer: Transfer::new(
+                alloc,
+                options,
+                my.first_tsn,
+                peer.pair.first_tsn,
+                peer.a_rwnd,
+                &peer.capabilities,
+            ),
             next_outgoing_reset_req_seq_nbr: my.first_tsn,
             last_processed_req_seq_nbr: peer.pair.first_tsn.wrapping_sub(1),
             last_processed_req_result: ReconfigurationResponseResult::SuccessNothingToDo,

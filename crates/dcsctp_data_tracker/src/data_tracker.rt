@@ -204,8 +204,10 @@ impl Model for DataTracker {
 
 impl DataTracker {
     ghost use Rattle.std.specs.Prelude.{OnOk, OnErr, ◌%◌, []};
+    ghost use Rattle.dcsctp_machine.specs.Transfer.{new_tracker};
     ghost use Rattle.dcsctp_data_tracker.specs.Acknowledging.{
       new_tracker_model,
+      tracker_state,
       is_valid_tsn,
       Observes,
       Forwards,
@@ -221,7 +223,8 @@ impl DataTracker {
     /// counts as received (RFC 9260, section 6.2), which is 2^32 - 1 where the first is 0. It takes no
     /// memory.
     pub fn new(alloc: Global, options: &Options, peer_initial_tsn: u32) -> DataTracker
-        ensures { result ≡ new_tracker_model options.now peer_initial_tsn }
+        ensures whole { result ≡ new_tracker_model options.now peer_initial_tsn }
+        ensures shown { tracker_state result ≡ new_tracker peer_initial_tsn }
     {
         let longest_delay = options.delayed_ack_max_timeout;
         DataTracker {

@@ -1,5 +1,5 @@
 -- What the handlers of the handshake do, as turns of a socket's view.
-use Rattle.std.specs.Prelude.{◌≡◌, ℕ, Option, Some, Result, Ok, Err, List, [], ◌∷◌, ◌++◌, map}
+use Rattle.std.specs.Prelude.{◌≡◌, ℕ, Option, None, Some, Result, Ok, Err, List, [], ◌∷◌, ◌++◌, map}
 use Rattle.rand_core.specs.Stream.{Stream, next_u32}
 use Rattle.dcsctp_machine.specs.declared.association.Pair.{Pair}
 use Rattle.dcsctp_machine.specs.declared.options.Options.{Options}
@@ -9,7 +9,7 @@ use Rattle.dcsctp_machine.specs.Cookie.{cookie_at}
 use Rattle.dcsctp_machine.specs.Packet.{Introduction}
 use Rattle.dcsctp_machine.specs.Endpoint.{Endpoint, Core, closed, cookie_wait, cookie_echoed, open_in}
 use Rattle.dcsctp_machine.specs.Outcome.{Outcome, still, emits}
-use Rattle.dcsctp_machine.specs.turns.HandshakeOutcomes.{tag_from, pair_from, init_outcome, answer_outcome, connect_outcome, init_emission, init_ack_outcome, send_echo_outcome, accepted_init_ack_outcome, abort_emission, refused_init_ack_outcome, cookie_ack_outcome}
+use Rattle.dcsctp_machine.specs.turns.HandshakeOutcomes.{tag_from, pair_from, init_outcome, answer_outcome, awaits_init_ack, connect_outcome, init_emission, init_ack_outcome, send_echo_outcome, accepted_init_ack_outcome, abort_emission, refused_init_ack_outcome, cookie_ack_outcome}
 use Rattle.dcsctp_machine.specs.turns.CookieEchoOutcomes.{cookie_echo_outcome}
 use Rattle.dcsctp_core.specs.declared.context.Context.{Context}
 use Rattle.dcsctp_core.specs.declared.transmission_control_block.Peer.{Peer}
@@ -54,6 +54,10 @@ init_turn stream theirs view = init_outcome view.endpoint theirs view.endpoint.c
 
 abbrev pub send_init_turn : {R : Type 0} → Pair → View R → Outcome
 send_init_turn mine view = emits view.endpoint [] (init_emission view.endpoint mine)
+
+-- the endpoint that awaits an INIT ACK, with nothing held of a peer
+abbrev pub awaiting : Endpoint → Pair → Endpoint
+awaiting e mine = record (awaits_init_ack e mine) { tie = 0; below = record e.below { transfer = None } }
 
 abbrev pub connect_turn : {R : Type 0} → (R → Stream) → View R → Outcome
 connect_turn stream view = connect_outcome view.endpoint view.endpoint.core (first_word (stream view.generator)) (second_word (stream view.generator))

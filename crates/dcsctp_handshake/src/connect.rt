@@ -7,9 +7,9 @@ ghost use Rattle.dcsctp_machine.specs.Endpoint.{started, t1_settings};
 ghost use Rattle.dcsctp_machine.specs.Packet.{introduction_in, cookie_in};
 ghost use Rattle.dcsctp_machine.specs.turns.HandshakeOutcomes.{implementation_of};
 ghost use Rattle.dcsctp_api.specs.Calls.{is_closed};
-ghost use Rattle.dcsctp_core.specs.View.{core_of};
+ghost use Rattle.dcsctp_core.specs.View.{core_of, view_of, endpoint_of};
 ghost use Rattle.dcsctp_core.specs.Handling.{Tries, TriesDrawing, Takes, Works};
-ghost use Rattle.dcsctp_handshake.specs.Handshake.{send_init_turn, connect_turn, missing_cookie_turn, refusal_turn, echo_turn, acceptance_turn, init_ack_turn, cookie_ack_turn, peer_by_init_ack};
+ghost use Rattle.dcsctp_handshake.specs.Handshake.{send_init_turn, awaiting, connect_turn, missing_cookie_turn, refusal_turn, echo_turn, acceptance_turn, init_ack_turn, cookie_ack_turn, peer_by_init_ack};
 
 use crate::init::draw_pair;
 use crate::parameters::{introduction, state_cookie};
@@ -56,6 +56,19 @@ pub(crate) fn send_init<R: Rng>(context: &mut Context<R>, my: Pair) -> Result<()
     Ok(())
 }
 
+/// Awaits the INIT ACK to an INIT with this pair, with T1-init from now on. Nothing is held of a peer then.
+fn await_init_ack<R: Rng>(context: &mut Context<R>, my: Pair)
+    ensures { view_of context.new ≡ record (view_of context.old) {
+      endpoint = awaiting
+          (endpoint_of context.old)
+          my;
+    } }
+{
+    let duration = context.options.t1_init_timeout;
+    let t1_init = started_t1(&context.options, context.moment, duration);
+    context.state = State::CookieWait(CookieWaitState { t1_init, my });
+}
+
 /// Begins an association where there is none: draws a pair, sends an INIT and starts T1-init. A socket
 /// that isn't closed stays as it is, and want of memory is never the answer.
 ///
@@ -68,9 +81,7 @@ pub fn do_connect<R: Rng>(context: &mut Context<R>) -> Result<(), AllocError>
         State::Closed => {
             let my = draw_pair(context)?;
             send_init(context, my)?;
-            let duration = context.options.t1_init_timeout;
-            let t1_init = started_t1(&context.options, context.moment, duration);
-            context.state = State::CookieWait(CookieWaitState { t1_init, my });
+            await_init_ack(context, my);
         }
         State::CookieWait(_) => {}
         State::CookieEchoed(_) => {}
@@ -192,7 +203,7 @@ fn echo_cookie<R: Rng>(
     context.state = State::CookieEchoed(CookieEchoState {
         t1_cookie: started_t1(&context.options, context.moment, duration),
         cookie: echoed,
-        tcb: TransmissionControlBlock::new(&context.options, my, &peer, tie_tag),
+        tcb: TransmissionControlBlock::new(context.alloc, &context.options, my, &peer, tie_tag),
     });
     send_cookie_echo(context)?;
     Ok(())

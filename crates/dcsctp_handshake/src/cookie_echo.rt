@@ -109,7 +109,7 @@ fn begin_association<R: Rng>(context: &mut Context<R>, cookie: &StateCookie, tie
     };
     let interleaving = peer.capabilities.message_interleaving;
     context.send_queue.enable_message_interleaving(interleaving);
-    let tcb = TransmissionControlBlock::new(&context.options, my, &peer, tie_tag);
+    let tcb = TransmissionControlBlock::new(context.alloc, &context.options, my, &peer, tie_tag);
     context.state = State::Established(tcb);
     context.start_heartbeat_interval();
 }

@@ -95,7 +95,7 @@ pub fn handle_init<R: Rng>(context: &mut Context<R>, init: &InitChunk<'_>) -> Re
             send_init_ack(context, init, my, 0)?;
         }
         State::Established(tcb) => {
-            let first_tsn = tcb.retransmission_queue.next_tsn().wrapping_add(TSN_GAP);
+            let first_tsn = tcb.transfer.next_tsn().wrapping_add(TSN_GAP);
             let tie_tag = tcb.tie_tag;
             let renewed = draw_tag(context, first_tsn)?;
             send_init_ack(context, init, renewed, tie_tag)?;

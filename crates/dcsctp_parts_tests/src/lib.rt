@@ -1,5 +1,4 @@
-//! Tests of `dcsctp_send`, `dcsctp_receive` and `dcsctp_api` by their public calls: what a socket is
-//! made of. Their values come from outside, or were worked out by hand.
+//! Tests of `dcsctp_send` and `dcsctp_api` by their public calls: what a socket is made of. Their values come from outside, or were worked out by hand.
 #![tactic(auto)]
 
 #[cfg(test)]
@@ -14,7 +13,5 @@ mod identifiers;
 mod moments;
 #[cfg(test)]
 mod options;
-#[cfg(test)]
-mod receiving;
 #[cfg(test)]
 mod sending;

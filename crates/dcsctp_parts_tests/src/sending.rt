@@ -1,9 +1,8 @@
-//! Timers, the retransmission timeout, windows, and the send queue.
+//! Timers and the retransmission timeout.
 
-use crate::checks::{holds, same, shows};
+use crate::checks::{holds, same};
 use dcsctp_machine::{Options, SocketTime};
-use dcsctp_send::{BackoffAlgorithm, RetransmissionQueue, RetransmissionTimeout, SendQueue, Timer};
-use std::alloc::Global;
+use dcsctp_send::{BackoffAlgorithm, RetransmissionTimeout, Timer};
 use std::process::Abort;
 use std::time::Duration;
 
@@ -138,43 +137,4 @@ fn a_timeout_has_bounds(rt: HostRuntime) {
     small.observe_rto(Duration::from_nanos(3));
     small.observe_rto(Duration::from_nanos(10));
     same(&rt, "31 by 8", small.srtt(), Duration::from_nanos(3));
-}
-
-/// Asserts with which windows and TSN a queue begins whose congestion window is these packets at first.
-fn begins(rt: &impl Abort, name: &str, mtus: usize, expected: usize) {
-    let options = Options {
-        cwnd_mtus_initial: mtus,
-        ..Options::default()
-    };
-    let queue = RetransmissionQueue::new(&options, 0xffff_ffff, 131_072);
-    same(rt, name, queue.cwnd(), expected);
-    same(rt, name, queue.next_tsn(), 0xffff_ffff);
-    same(rt, name, queue.rwnd(), 131_072);
-}
-
-#[test]
-fn windows_begin_as_options_and_peer_say(rt: HostRuntime) {
-    begins(&rt, "default", 10, 11_910);
-    begins(&rt, "none", 0, 0);
-    begins(&rt, "greatest", usize::MAX, usize::MAX);
-}
-
-// The text of a queue, as `Debug` writes it, is all that shows whether it numbers for interleaving.
-const ON: &str = "SendQueue { is_interleaved: true }";
-
-const OFF: &str = "SendQueue { is_interleaved: false }";
-
-/// Asserts that the queue has this text once interleaving is on or off and the queue is reset.
-fn keeps(rt: &impl Abort, alloc: Global, queue: &mut SendQueue, enabled: bool, expected: &str) {
-    queue.enable_message_interleaving(enabled);
-    queue.reset();
-    shows(rt, alloc, "reset", queue, expected);
-}
-
-#[test]
-fn a_reset_leaves_interleaving_as_it_is(rt: HostRuntime) {
-    let mut queue = SendQueue::new();
-    shows(&rt, rt.alloc(), "new", &queue, OFF);
-    keeps(&rt, rt.alloc(), &mut queue, true, ON);
-    keeps(&rt, rt.alloc(), &mut queue, false, OFF);
 }

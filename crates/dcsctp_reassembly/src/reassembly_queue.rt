@@ -100,7 +100,12 @@ impl ReassemblyQueue {
 
     /// Nothing came in yet, and at most `max_size` bytes are kept. It takes no memory.
     pub fn new(alloc: Global, max_size: usize) -> ReassemblyQueue
-        ensures { result ≡ new_queue max_size }
+        ensures whole { result ≡ new_queue max_size }
+        ensures shown { reassembly_state result ≡ record {
+          messages = [];
+          messages_received = 0;
+          remaining_bytes = max_size;
+        } }
     {
         ReassemblyQueue {
             incoming: Incoming::new(alloc),

@@ -5,6 +5,14 @@ use dcsctp_api::StreamId;
 use dcsctp_reassembly::{Numbering, SkippedTo};
 
 #[test]
+fn the_whole_window_is_open_at_first(rt: HostRuntime) {
+    for window in [5_242_880, 0] {
+        let receiver = make_receiver(rt.alloc(), window);
+        same(&rt, "open", receiver.queue.remaining_bytes(), window);
+    }
+}
+
+#[test]
 fn what_comes_behind_a_deferred_reset_waits(rt: HostRuntime) {
     let mut receiver = make_receiver(rt.alloc(), 100);
     receiver.add(&rt, 1, (1, ordered(0)), "BE", "a");

@@ -6,6 +6,20 @@ use dcsctp_machine::SocketTime;
 use std::time::Duration;
 
 #[test]
+fn the_tsn_before_the_first_is_acknowledged(rt: HostRuntime) {
+    let rows = [(1, 0), (0, 0xffff_ffff), (0xffff_ffff, 0xffff_fffe)];
+    for (first, cumulative) in rows {
+        let tracker = make_tracker(rt.alloc(), first);
+        same(
+            &rt,
+            "before the first",
+            tracker.last_cumulative_acked_tsn(),
+            cumulative,
+        );
+    }
+}
+
+#[test]
 fn tsns_move_the_cumulative_one(rt: HostRuntime) {
     let mut tracker = make_tracker(rt.alloc(), 0xffff_fffe);
     let rows = [

@@ -1,4 +1,5 @@
 pub mod FragmentLemmas
+pub mod FrontLemmas
 pub mod GoingOnLemmas
 pub mod QueueLemmas
 pub mod ReadyLemmas

@@ -1,5 +1,5 @@
 -- What is added to a send queue, and which fragment is taken.
-use Rattle.std.specs.Prelude.{◌≡◌, ℕ, ◌+◌, ◌-◌, ◌^◌, ◌%◌, ◌<◌, min, Bool, true, false, Option, None, Some, List, [], ◌++◌, length}
+use Rattle.std.specs.Prelude.{◌≡◌, ◌⊎◌, ℕ, ◌+◌, ◌-◌, ◌^◌, ◌%◌, ◌<◌, min, Bool, true, false, Option, None, Some, List, [], ◌++◌, length}
 use Rattle.std.specs.Option.{option_map}
 use Rattle.std.specs.Duration.{as_nanos, max_nanos}
 use Rattle.std.specs.declared.alloc.Global.{Global}
@@ -12,10 +12,11 @@ use Rattle.dcsctp_streams.specs.declared.data.DataToSend.{DataToSend}
 use Rattle.dcsctp_streams.specs.Fragment.{fragment_of, fragment}
 use Rattle.dcsctp_send_queue.specs.declared.backlog.Backlog.{Backlog}
 use Rattle.dcsctp_streams.specs.declared.message.UnderWay.{UnderWay}
+use Rattle.dcsctp_streams.specs.Telling.{TellsFront}
 use Rattle.dcsctp_streams.specs.Waiting.{Waiting, front_of, is_expired, with_message}
 use Rattle.dcsctp_streams.specs.Ranking.{stream_at, turns_of, IsNext}
 use Rattle.dcsctp_send_queue.specs.Backlog.{changed, used, begun}
-use Rattle.dcsctp_send_queue.specs.Leaving.{without_rest, drop_events, DropsAll, size_produced, produced, produced_events}
+use Rattle.dcsctp_send_queue.specs.Leaving.{Drops, without_rest, drop_events, DropsAll, size_produced, produced, produced_events}
 
 -- a queue with no messages
 abbrev pub no_backlog : Global → Options → Backlog
@@ -87,6 +88,32 @@ abbrev pub TakesNext : ℕ → ℕ → Backlog → List (Event (List ℕ)) → O
 TakesNext now max old told_before None new told_after = TakesNone now old told_before new told_after
 TakesNext now max old told_before (Some part) new told_after = Takes now max old told_before part new told_after
 
+-- The message that is dropped next, and what is told of it.
+pub record DropsNext (now : ℕ) (queue : Backlog) (events : List (Event (List ℕ))) : Type 0 where
+  pub place : ℕ
+  pub message : Waiting
+  pub next : IsNext queue.streams place
+  pub front : front_of (stream_at queue.streams place).messages ≡ Some message
+  pub expired : is_expired now message ≡ true
+  pub is : events ≡ drop_events place 0 message queue
+
+-- The fragment that is taken next, and what is told of it.
+pub record PartNext (now max : ℕ) (old queue : Backlog) (events : List (Event (List ℕ))) : Type 0 where
+  pub place : ℕ
+  pub message : Waiting
+  pub under_way : UnderWay
+  pub front : front_of (stream_at queue.streams place).messages ≡ Some message
+  pub chosen : Chooses now old old.under_way queue place message under_way
+  pub is : events ≡ produced_events place max message under_way queue
+
+-- Memory is refused, once messages are dropped that are too old to be begun: a front part is told of what would be told next.
+pub record StopsTaking (now max : ℕ) (old : Backlog) (told_before : List (Event (List ℕ))) (new : Backlog) (told_after : List (Event (List ℕ))) : Type 0 where
+  pub events : List (Event (List ℕ))
+  pub drops : Drops now old events new
+  pub coming : List (Event (List ℕ))
+  pub next : DropsNext now new coming ⊎ PartNext now max old new coming
+  pub tells : TellsFront (told_before ++ events) coming told_after
+
 -- The message under way is this one of this stream.
 pub record IsNamed (queue : Backlog) (stream message_id : ℕ) : Type 0 where
   pub under_way : UnderWay
@@ -104,6 +131,11 @@ pub record Discards (old : Backlog) (stream message_id : ℕ) (told_before : Lis
   pub named : IsNamed old stream message_id
   pub left : new ≡ record (without_rest named.place named.under_way.sent named.message old) { under_way = None }
   pub events : told_after ≡ told_before ++ drop_events named.place named.under_way.sent named.message old
+
+-- Memory is refused, and a front part is told of what would be dropped.
+pub record StopsDiscarding (queue : Backlog) (stream message_id : ℕ) (told_before told_after : List (Event (List ℕ))) : Type 0 where
+  pub named : IsNamed queue stream message_id
+  pub tells : TellsFront told_before (drop_events named.place named.under_way.sent named.message queue) told_after
 
 abbrev pub DiscardsNamed : Backlog → ℕ → ℕ → List (Event (List ℕ)) → Bool → Backlog → List (Event (List ℕ)) → Type 0
 DiscardsNamed old stream message_id told_before true new told_after = Discards old stream message_id told_before new told_after

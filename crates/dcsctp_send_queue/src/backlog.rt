@@ -40,7 +40,7 @@ pub struct Backlog {
 impl Backlog {
     ghost use Rattle.std.specs.Prelude.{◌≡◌, ◌==◌, ◌+◌, ◌-◌, ◌<◌, ◌++◌, length, Some, None, Ok, Err, OnOk, OnErr, IfOk, IfSome};
     ghost use Rattle.dcsctp_streams.specs.Waiting.{Waiting, unused, front_of, with_message};
-    ghost use Rattle.dcsctp_streams.specs.Telling.{contents};
+    ghost use Rattle.dcsctp_streams.specs.Telling.{contents, TellsFront};
     ghost use Rattle.dcsctp_streams.specs.Ranking.{stream_at, IsFound, IsAscending};
     ghost use Rattle.dcsctp_send_queue.specs.Leaving.{reduced, without_rest, drop_events, part_events, HasMore, HasRest, count_under_way};
     ghost use Rattle.dcsctp_send_queue.specs.Backlog.{CanGoOn, changed, used, IsUnderWay};
@@ -146,7 +146,8 @@ impl Backlog {
     /// Tells which amounts fall to their thresholds where so much leaves the stream.
     pub fn tell_low(&self, events: &mut Events, place: usize, size: usize) -> Result<(), AllocError>
         requires { place < length self.now.streams }
-        ensures { OnOk result (contents events.new ≡ contents events.old ++ part_events place size self.now) }
+        ensures ok { OnOk result (contents events.new ≡ contents events.old ++ part_events place size self.now) }
+        ensures err { OnErr result (TellsFront (contents events.old) (part_events place size self.now) (contents events.new)) }
     {
         let stream = self.streams.at(place);
         if falls_low(stream.threshold(), stream.amount(), size) {
@@ -178,6 +179,7 @@ impl Backlog {
         ensures ok { (message : Waiting) → front_of (stream_at self.old.streams place).messages ≡ Some message → OnOk result (self.new ≡ without_rest place sent message self.old) }
         ensures told { (message : Waiting) → front_of (stream_at self.old.streams place).messages ≡ Some message → OnOk result (contents events.new ≡ contents events.old ++ drop_events place sent message self.old) }
         ensures err { OnErr result (self.new ≡ self.old) }
+        ensures front { (message : Waiting) → front_of (stream_at self.old.streams place).messages ≡ Some message → OnErr result (TellsFront (contents events.old) (drop_events place sent message self.old) (contents events.new)) }
     {
         let Some(message) = self.streams.at(place).front() else {
             return Ok(());

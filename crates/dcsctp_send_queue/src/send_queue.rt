@@ -38,7 +38,7 @@ impl SendQueue {
     ghost use Rattle.dcsctp_streams.specs.Fragment.{HasSize};
     ghost use Rattle.dcsctp_streams.specs.Waiting.{paused};
     ghost use Rattle.dcsctp_send_queue.specs.Backlog.{queue_state, changed, used, stream_of, ready_streams};
-    ghost use Rattle.dcsctp_send_queue.specs.Calls.{no_backlog, queued, with_added, TakesNext, DiscardsNamed};
+    ghost use Rattle.dcsctp_send_queue.specs.Calls.{no_backlog, queued, with_added, TakesNext, StopsTaking, StopsDiscarding, DiscardsNamed};
     ghost use Rattle.dcsctp_send_queue.specs.Leaving.{DropsSome};
     ghost use Rattle.dcsctp_send_queue.specs.Resets.{restarted, handing_out, may_send, IsUsedAtMost, HasReady, with_threshold, with_priority, prepared, prepare_events};
     ghost use Rattle.dcsctp_streams.specs.Waiting.{committed, rolled_back};
@@ -102,6 +102,7 @@ impl SendQueue {
         ensures ok { IfOk result (λ next. TakesNext now max self.old (contents events.old) next self.new (contents events.new)) }
         ensures size { IfOk result (λ next. IfSome next (HasSize max)) }
         ensures err { OnErr result (DropsSome now self.old self.new) }
+        ensures front { OnErr result (StopsTaking now max self.old (contents events.old) self.new (contents events.new)) }
     {
         match self.backlog.under_way {
             Some(under_way) => self.backlog.go_on(events, under_way, max),
@@ -119,6 +120,7 @@ impl SendQueue {
     ) -> Result<bool, AllocError>
         ensures ok { IfOk result (λ is_dropped. DiscardsNamed self.old stream_id.0 message_id (contents events.old) is_dropped self.new (contents events.new)) }
         ensures err { OnErr result (self.new ≡ self.old) }
+        ensures front { OnErr result (StopsDiscarding self.old stream_id.0 message_id (contents events.old) (contents events.new)) }
     {
         self.backlog.discard(events, stream_id, message_id)
     }

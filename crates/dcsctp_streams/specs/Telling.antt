@@ -1,5 +1,5 @@
 -- What a queue tells the user.
-use Rattle.std.specs.Prelude.{ℕ, ◌+◌, ◌-◌, ◌&&◌, nat_lt, nat_le, length, Bool, Option, None, Some, List, [], ◌∷◌, ◌++◌, map, if◌then◌else◌}
+use Rattle.std.specs.Prelude.{◌≡◌, ℕ, ◌+◌, ◌-◌, ◌&&◌, nat_lt, nat_le, length, Bool, Option, None, Some, List, [], ◌∷◌, ◌++◌, map, if◌then◌else◌}
 use Rattle.dcsctp_machine.specs.Event.{Event, buffered_amount_low, total_buffered_amount_low, lifecycle_message_fully_sent, lifecycle_message_expired, lifecycle_end}
 use Rattle.dcsctp_api.specs.declared.events.SocketEvent.{SocketEvent}
 use Rattle.dcsctp_api.specs.Events.{event_content}
@@ -8,6 +8,13 @@ use Rattle.dcsctp_streams.specs.Waiting.{Waiting, Stream}
 -- what events say
 abbrev pub contents : List SocketEvent → List (Event (List ℕ))
 contents events = map event_content events
+
+-- Where memory is refused, a front part is told of the whole.
+pub record TellsFront (before whole after : List (Event (List ℕ))) : Type 0 where
+  pub front : List (Event (List ℕ))
+  pub rest : List (Event (List ℕ))
+  pub parts : whole ≡ front ++ rest
+  pub told : after ≡ before ++ front
 
 -- A message with a name was given up before it was fully sent.
 abbrev pub expiry_events : Waiting → List (Event (List ℕ))

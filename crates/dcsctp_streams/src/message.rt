@@ -58,8 +58,8 @@ impl Model for QueuedMessage {
 }
 
 impl QueuedMessage {
-    ghost use Rattle.std.specs.Prelude.{◌≡◌, ◌+◌, ◌-◌, ◌^◌, ◌<◌, ◌≤◌, ◌++◌, min, length, vec_len, IfOk, OnOk};
-    ghost use Rattle.dcsctp_streams.specs.Telling.{contents, expiry_events, sent_events};
+    ghost use Rattle.std.specs.Prelude.{◌≡◌, ◌+◌, ◌-◌, ◌^◌, ◌<◌, ◌≤◌, ◌++◌, min, length, vec_len, IfOk, OnOk, OnErr};
+    ghost use Rattle.dcsctp_streams.specs.Telling.{contents, expiry_events, sent_events, TellsFront};
     ghost use Rattle.std.specs.Duration.{as_nanos, max_nanos};
     ghost use Rattle.std.specs.Option.{option_map};
     ghost use Rattle.dcsctp_api.specs.Ids.{lifecycle_number};
@@ -136,7 +136,8 @@ impl QueuedMessage {
 
     /// Tells that it was given up before it was fully sent, where it has a name.
     pub fn tell_expired(&self, events: &mut Events) -> Result<(), AllocError>
-        ensures { OnOk result (contents events.new ≡ contents events.old ++ expiry_events self.now) }
+        ensures ok { OnOk result (contents events.new ≡ contents events.old ++ expiry_events self.now) }
+        ensures err { OnErr result (TellsFront (contents events.old) (expiry_events self.now) (contents events.new)) }
     {
         if let Some(id) = self.lifecycle_id {
             events.add(SocketEvent::OnLifecycleMessageExpired(id))?;
@@ -147,7 +148,8 @@ impl QueuedMessage {
 
     /// Tells that it was fully sent, where it has a name.
     pub fn tell_fully_sent(&self, events: &mut Events) -> Result<(), AllocError>
-        ensures { OnOk result (contents events.new ≡ contents events.old ++ sent_events self.now) }
+        ensures ok { OnOk result (contents events.new ≡ contents events.old ++ sent_events self.now) }
+        ensures err { OnErr result (TellsFront (contents events.old) (sent_events self.now) (contents events.new)) }
     {
         if let Some(id) = self.lifecycle_id {
             events.add(SocketEvent::OnLifecycleMessageFullySent(id))?;

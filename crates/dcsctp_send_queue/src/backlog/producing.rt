@@ -10,12 +10,12 @@ use std::alloc::AllocError;
 impl Backlog {
     ghost use Rattle.std.specs.Prelude.{◌≡◌, ◌==◌, ◌+◌, ◌-◌, ◌<◌, ◌++◌, ℕ, length, Some, None, Ok, OnOk, OnErr, IfOk, IfSome};
     ghost use Rattle.dcsctp_streams.specs.Waiting.{Waiting, front_of, is_expired};
-    ghost use Rattle.dcsctp_streams.specs.Telling.{contents};
+    ghost use Rattle.dcsctp_streams.specs.Telling.{contents, TellsFront};
     ghost use Rattle.dcsctp_streams.specs.Ranking.{stream_at};
     ghost use Rattle.dcsctp_streams.specs.Fragment.{fragment_of, fragment, HasSize};
     ghost use Rattle.dcsctp_send_queue.specs.Leaving.{after_part, part_events, after_last, last_events, HasMore, HasRest, DropsAll, DropsSome, NextUnexpired, size_produced, produced, produced_events};
     ghost use Rattle.dcsctp_send_queue.specs.Backlog.{CanGoOn, begun, IsUnderWay};
-    ghost use Rattle.dcsctp_send_queue.specs.Calls.{TakesNext, DiscardsNamed};
+    ghost use Rattle.dcsctp_send_queue.specs.Calls.{StopsTaking, StopsDiscarding, TakesNext, DiscardsNamed};
 
     /// The oldest message of the stream as it is begun, before its first fragment.
     pub fn begun(&self, place: usize) -> UnderWay
@@ -58,6 +58,7 @@ impl Backlog {
         ensures ok { IfOk result (NextUnexpired now self.new.streams) }
         ensures told { OnOk result (DropsAll now self.old (contents events.old) self.new (contents events.new)) }
         ensures err { OnErr result (DropsSome now self.old self.new) }
+        ensures front { (max : ℕ) → OnErr result (StopsTaking now max self.old (contents events.old) self.new (contents events.new)) }
     {
         while let Some(place) = self.streams.next_place() {
             if !self.is_front_expired(place, now) {
@@ -82,6 +83,7 @@ impl Backlog {
         ensures left { (message : Waiting) → front_of (stream_at self.old.streams place).messages ≡ Some message → OnOk result (self.new ≡ produced place max message under_way self.old) }
         ensures told { (message : Waiting) → front_of (stream_at self.old.streams place).messages ≡ Some message → OnOk result (contents events.new ≡ contents events.old ++ produced_events place max message under_way self.old) }
         ensures err { OnErr result (self.new ≡ self.old) }
+        ensures front { (message : Waiting) → front_of (stream_at self.old.streams place).messages ≡ Some message → OnErr result (TellsFront (contents events.old) (produced_events place max message under_way self.old) (contents events.new)) }
     {
         let message = self.streams.at(place).front().unwrap();
         let left = message.size().saturating_sub(under_way.sent);
@@ -115,6 +117,7 @@ impl Backlog {
         ensures ok { IfOk result (λ is_dropped. DiscardsNamed self.old stream_id.0 message_id (contents events.old) is_dropped self.new (contents events.new)) }
         ensures can { CanGoOn self.new.streams self.new.under_way }
         ensures err { OnErr result (self.new ≡ self.old) }
+        ensures front { OnErr result (StopsDiscarding self.old stream_id.0 message_id (contents events.old) (contents events.new)) }
     {
         let under_way = match self.under_way {
             Some(under_way) => under_way,
@@ -146,6 +149,7 @@ impl Backlog {
         ensures size { IfOk result (λ next. IfSome next (HasSize max)) }
         ensures can { CanGoOn self.new.streams self.new.under_way }
         ensures err { OnErr result (self.new ≡ self.old) }
+        ensures front { (now : ℕ) → OnErr result (StopsTaking now max self.old (contents events.old) self.new (contents events.new)) }
     {
         let place = self.place_of(under_way);
         let data = self.produce(events, place, under_way, max)?;
@@ -166,6 +170,7 @@ impl Backlog {
         ensures size { IfOk result (λ next. IfSome next (HasSize max)) }
         ensures can { CanGoOn self.new.streams self.new.under_way }
         ensures err { OnErr result (DropsSome now self.old self.new) }
+        ensures front { OnErr result (StopsTaking now max self.old (contents events.old) self.new (contents events.new)) }
     {
         let Some(place) = self.next_unexpired(events, now)? else {
             return Ok(None);
@@ -188,6 +193,7 @@ impl Backlog {
         ensures left { (message : Waiting) → front_of (stream_at self.old.streams place).messages ≡ Some message → OnOk result (self.new ≡ after_part place size message under_way self.old) }
         ensures told { OnOk result (contents events.new ≡ contents events.old ++ part_events place size self.old) }
         ensures err { OnErr result (self.new ≡ self.old) }
+        ensures front { OnErr result (TellsFront (contents events.old) (part_events place size self.old) (contents events.new)) }
     {
         let message = self.streams.at(place).front().unwrap();
         let data = message.part(self.alloc, under_way, size)?;
@@ -219,6 +225,7 @@ impl Backlog {
         ensures left { (message : Waiting) → front_of (stream_at self.old.streams place).messages ≡ Some message → OnOk result (self.new ≡ after_last place message under_way self.old) }
         ensures told { (message : Waiting) → front_of (stream_at self.old.streams place).messages ≡ Some message → OnOk result (contents events.new ≡ contents events.old ++ last_events place message under_way self.old) }
         ensures err { OnErr result (self.new ≡ self.old) }
+        ensures front { (message : Waiting) → front_of (stream_at self.old.streams place).messages ≡ Some message → OnErr result (TellsFront (contents events.old) (last_events place message under_way self.old) (contents events.new)) }
     {
         let message = self.streams.at(place).front().unwrap();
         let rest = message.copied_rest(self.alloc, under_way.sent)?;

@@ -1,4 +1,8 @@
-use Rattle.std.proofs.Common.{ap, sym, ◌∙◌, arith}
+use Rattle.std.proofs.Common.{◌++◌, inr, refl, ap, sym, ◌∙◌, arith}
+use Rattle.std.proofs.lemmas.Result.{err_from_is_err_and}
+use Rattle.dcsctp_streams.specs.Telling.{contents}
+use Rattle.dcsctp_send_queue.specs.Leaving.{produced_events}
+use Rattle.dcsctp_send_queue.proofs.FrontLemmas.{front_from}
 use Rattle.dcsctp_send_queue.proofs.GoingOnLemmas.{can_go_on-produced, drops-under_way}
 use Rattle.dcsctp_send_queue.proofs.FragmentLemmas.{has_size}
 use Rattle.dcsctp_send_queue.proofs.backlog.Backlog.begin_next.Goals as goal
@@ -38,3 +42,22 @@ returns-clause-size c =
     let none_sent = ap (λ u. u.sent) (c.begun-under_way.ensures may.message may.front) in
     let some = c.in_ok-data.ensures.some may.message may.front in
     has_size c.in_ok-data.data may.message c.begun-under_way.result c.args.max (c.in_ok-data.ensures.ok may.message may.front) (omega (arith, none_sent)) c.requires.some
+
+pub returns-in_err-data-clause-front : goal.returns-in_err-data-clause-front
+returns-in_err-data-clause-front c =
+    let may = rw c.in-Some.is at c.in_ok-place.ensures.ok in
+    let told = c.in_ok-place.ensures.told in
+    rw (err_from_is_err_and c.from_residual-in_err-data.result c.from_residual-in_err-data.ensures.1).1 (rw c.in_err-data.ensures.err (record {
+      events = told.events;
+      drops = told.drops;
+      coming = produced_events c.in-Some.place c.args.max may.message c.begun-under_way.result c.next_unexpired.new.self;
+      next = inr (record {
+        place = c.in-Some.place;
+        message = may.message;
+        under_way = c.begun-under_way.result;
+        front = may.front;
+        chosen = rw c.requires.idle (may.next, may.fresh, c.begun-under_way.ensures may.message may.front);
+        is = refl;
+      });
+      tells = front_from (contents c.next_unexpired.new.events) (contents c.args.events.now ++ told.events) _ _ told.told (c.in_err-data.ensures.front may.message may.front);
+    }))

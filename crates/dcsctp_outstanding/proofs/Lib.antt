@@ -1,0 +1,4 @@
+pub mod ItemsLemmas
+pub mod MessageLemmas
+pub mod NextLemmas
+pub mod ReportLemmas

@@ -1,0 +1,10 @@
+pub mod Fresh
+pub mod Handing
+pub mod Items
+pub mod Messages
+pub mod Missing
+pub mod Next
+pub mod Outstanding
+pub mod Progress
+pub mod Reports
+pub mod Totals

@@ -1,0 +1,73 @@
+-- How far an item is, and what changes that (RFC 9260, section 7.2.4; RFC 3758, section 3.5).
+use Rattle.std.specs.Prelude.{◌+◌, ◌==◌, min, Bool, true, false, nat_lt, if◌then◌else◌}
+use Rattle.dcsctp_outstanding.specs.declared.progress.ItemState.{ItemState}
+use Rattle.dcsctp_outstanding.specs.declared.progress.ItemState.TheVariants.{InFlight, Marked, Acknowledged, Abandoned}
+use Rattle.dcsctp_outstanding.specs.declared.progress.Progress.{Progress}
+use Rattle.dcsctp_outstanding.specs.declared.progress.Change.{Change}
+use Rattle.dcsctp_outstanding.specs.declared.progress.Change.TheVariants.{SendAgain, Miss, Mark, Acknowledge, Abandon}
+
+abbrev pub is_in_flight : ItemState → Bool
+is_in_flight InFlight = true
+is_in_flight Marked = false
+is_in_flight Acknowledged = false
+is_in_flight Abandoned = false
+
+-- It waits to be sent again.
+abbrev pub is_marked : ItemState → Bool
+is_marked InFlight = false
+is_marked Marked = true
+is_marked Acknowledged = false
+is_marked Abandoned = false
+
+-- It was neither acknowledged nor abandoned.
+abbrev pub is_unacknowledged : ItemState → Bool
+is_unacknowledged InFlight = true
+is_unacknowledged Marked = true
+is_unacknowledged Acknowledged = false
+is_unacknowledged Abandoned = false
+
+abbrev pub is_abandoned : ItemState → Bool
+is_abandoned InFlight = false
+is_abandoned Marked = false
+is_abandoned Acknowledged = false
+is_abandoned Abandoned = true
+
+-- in flight, once more
+abbrev pub sent_again : Progress → Progress
+sent_again progress =
+    record {
+      state = InFlight;
+      times_sent_again = min (progress.times_sent_again + 1) 65535;
+      misses = if nat_lt progress.misses 3 then 0 else progress.misses;
+    }
+
+-- one more miss of an item in flight; the third marks it, and later ones don't count
+abbrev pub missed : ItemState → Progress → Progress
+missed InFlight progress =
+    if progress.misses == 2 then record progress { state = Marked; misses = 3 }
+    else if nat_lt progress.misses 2 then record progress { misses = progress.misses + 1 }
+    else progress
+missed Marked progress = progress
+missed Acknowledged progress = progress
+missed Abandoned progress = progress
+
+-- what was in flight is lost
+abbrev pub marked : ItemState → Progress → Progress
+marked InFlight progress = record progress { state = Marked }
+marked Marked progress = progress
+marked Acknowledged progress = progress
+marked Abandoned progress = progress
+
+-- what was abandoned stays so
+abbrev pub acknowledged : ItemState → Progress → Progress
+acknowledged InFlight progress = record progress { state = Acknowledged }
+acknowledged Marked progress = record progress { state = Acknowledged }
+acknowledged Acknowledged progress = progress
+acknowledged Abandoned progress = progress
+
+abbrev pub changed : Change → Progress → Progress
+changed SendAgain progress = sent_again progress
+changed Miss progress = missed progress.state progress
+changed Mark progress = marked progress.state progress
+changed Acknowledge progress = acknowledged progress.state progress
+changed Abandon progress = record progress { state = Abandoned }

@@ -1,0 +1,12 @@
+//! What was sent and isn't acknowledged cumulatively yet, by TSN: its items, what becomes of them, and their sums.
+#![tactic(auto)]
+
+mod item;
+mod outstanding;
+mod progress;
+mod totals;
+
+pub use item::Item;
+pub use outstanding::Outstanding;
+pub use progress::{Change, ItemState, Progress};
+pub use totals::Totals;

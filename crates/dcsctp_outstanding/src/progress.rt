@@ -1,0 +1,194 @@
+//! How far an item is, and what changes that.
+
+ghost use Rattle.std.specs.Prelude.{◌≡◌};
+ghost use Rattle.dcsctp_outstanding.specs.declared.progress.ItemState.TheVariants.{InFlight};
+ghost use Rattle.dcsctp_outstanding.specs.Progress.{is_in_flight, is_marked, is_unacknowledged, is_abandoned, sent_again, missed, marked, acknowledged, changed};
+
+/// How far an item is.
+#[derive(Clone, Copy, Debug, PartialEq, Eq)]
+pub enum ItemState {
+    /// It was sent, and may still arrive.
+    InFlight,
+
+    /// It was lost, and waits to be sent again.
+    Marked,
+
+    /// A gap ack block has reported it. That isn't taken back, whatever later blocks say.
+    Acknowledged,
+
+    /// Its message was given up (RFC 3758, section 3.5).
+    Abandoned,
+}
+
+/// How far an item is, and what led there.
+#[derive(Clone, Copy, Debug)]
+pub struct Progress {
+    /// How far it is.
+    pub state: ItemState,
+
+    /// How often it was sent again.
+    pub times_sent_again: u16,
+
+    /// How often it was reported missing since it was sent. At three it was marked for that, which happens
+    /// once at most (RFC 9260, section 7.2.4).
+    pub misses: u8,
+}
+
+/// What may happen to an item.
+#[derive(Clone, Copy, Debug)]
+pub enum Change {
+    /// It is sent again.
+    SendAgain,
+
+    /// It is reported missing, while later ones have arrived.
+    Miss,
+
+    /// The retransmission timer has expired.
+    Mark,
+
+    /// It is acknowledged.
+    Acknowledge,
+
+    /// Its message is given up.
+    Abandon,
+}
+
+impl ItemState {
+    /// Does it count as in flight?
+    pub fn is_in_flight(self) -> bool
+        ensures { result ≡ is_in_flight self }
+    {
+        match self {
+            ItemState::InFlight => true,
+            ItemState::Marked | ItemState::Acknowledged | ItemState::Abandoned => false,
+        }
+    }
+
+    /// Does it wait to be sent again?
+    pub fn is_marked(self) -> bool
+        ensures { result ≡ is_marked self }
+    {
+        match self {
+            ItemState::Marked => true,
+            ItemState::InFlight | ItemState::Acknowledged | ItemState::Abandoned => false,
+        }
+    }
+
+    /// Was its message given up?
+    pub fn is_abandoned(self) -> bool
+        ensures { result ≡ is_abandoned self }
+    {
+        match self {
+            ItemState::Abandoned => true,
+            ItemState::InFlight | ItemState::Marked | ItemState::Acknowledged => false,
+        }
+    }
+
+    /// Was it neither acknowledged nor abandoned?
+    pub fn is_unacknowledged(self) -> bool
+        ensures { result ≡ is_unacknowledged self }
+    {
+        match self {
+            ItemState::InFlight | ItemState::Marked => true,
+            ItemState::Acknowledged | ItemState::Abandoned => false,
+        }
+    }
+}
+
+impl Progress {
+    /// That of an item that was just sent.
+    pub fn new() -> Progress
+        ensures { result ≡ record {
+          state = InFlight;
+          times_sent_again = 0;
+          misses = 0;
+        } }
+    {
+        Progress {
+            state: ItemState::InFlight,
+            times_sent_again: 0,
+            misses: 0,
+        }
+    }
+
+    // Sent again.
+    fn sent_again(self) -> Progress
+        ensures { result ≡ sent_again self }
+    {
+        Progress {
+            state: ItemState::InFlight,
+            times_sent_again: self.times_sent_again.saturating_add(1),
+            misses: if self.misses < 3 { 0 } else { self.misses },
+        }
+    }
+
+    // Reported missing.
+    fn missed(self) -> Progress
+        ensures { result ≡ missed self.state self }
+    {
+        match self.state {
+            ItemState::InFlight => {
+                if self.misses == 2 {
+                    Progress {
+                        state: ItemState::Marked,
+                        times_sent_again: self.times_sent_again,
+                        misses: 3,
+                    }
+                } else if self.misses < 2 {
+                    Progress {
+                        state: self.state,
+                        times_sent_again: self.times_sent_again,
+                        misses: self.misses + 1,
+                    }
+                } else {
+                    self
+                }
+            }
+            ItemState::Marked | ItemState::Acknowledged | ItemState::Abandoned => self,
+        }
+    }
+
+    // In this state, with the same counts.
+    fn in_state(self, state: ItemState) -> Progress
+        ensures { result ≡ record self { state = state } }
+    {
+        Progress {
+            state,
+            times_sent_again: self.times_sent_again,
+            misses: self.misses,
+        }
+    }
+
+    // Lost, where it was in flight.
+    fn marked(self) -> Progress
+        ensures { result ≡ marked self.state self }
+    {
+        match self.state {
+            ItemState::InFlight => self.in_state(ItemState::Marked),
+            ItemState::Marked | ItemState::Acknowledged | ItemState::Abandoned => self,
+        }
+    }
+
+    // Acknowledged, where it wasn't abandoned.
+    fn acknowledged(self) -> Progress
+        ensures { result ≡ acknowledged self.state self }
+    {
+        match self.state {
+            ItemState::InFlight | ItemState::Marked => self.in_state(ItemState::Acknowledged),
+            ItemState::Acknowledged | ItemState::Abandoned => self,
+        }
+    }
+
+    /// How far it is after the change.
+    pub fn changed(self, change: Change) -> Progress
+        ensures { result ≡ changed change self }
+    {
+        match change {
+            Change::SendAgain => self.sent_again(),
+            Change::Miss => self.missed(),
+            Change::Mark => self.marked(),
+            Change::Acknowledge => self.acknowledged(),
+            Change::Abandon => self.in_state(ItemState::Abandoned),
+        }
+    }
+}

@@ -1,0 +1,66 @@
+//! The sums over all items that are asked for with each packet.
+
+ghost use Rattle.std.specs.Prelude.{◌≡◌};
+ghost use Rattle.dcsctp_outstanding.specs.Items.{counted};
+
+use crate::progress::ItemState;
+
+/// The sums.
+#[derive(Clone, Copy, Debug)]
+pub struct Totals {
+    /// The bytes in flight.
+    pub in_flight_bytes: usize,
+
+    /// The bytes that are neither acknowledged nor abandoned.
+    pub unacknowledged_bytes: usize,
+
+    /// How many items are neither acknowledged nor abandoned.
+    pub unacknowledged_items: usize,
+
+    /// How many items wait to be sent again.
+    pub marked_items: usize,
+}
+
+fn counted(test: bool, number: usize) -> usize
+    ensures { result ≡ counted test number }
+{
+    if test { number } else { 0 }
+}
+
+impl Totals {
+    ghost use Rattle.dcsctp_outstanding.specs.Totals.{no_totals, HasOne, HasRoom, total_with, total_without};
+
+    /// Those of no items.
+    pub fn none() -> Totals
+        ensures { result ≡ no_totals }
+    {
+        Totals {
+            in_flight_bytes: 0,
+            unacknowledged_bytes: 0,
+            unacknowledged_items: 0,
+            marked_items: 0,
+        }
+    }
+
+    /// Counts an item in this state and of this size.
+    pub fn add(&mut self, state: ItemState, size: usize)
+        requires { HasRoom size self.old }
+        ensures { self.new ≡ total_with state size self.old }
+    {
+        self.in_flight_bytes += counted(state.is_in_flight(), size);
+        self.unacknowledged_bytes += counted(state.is_unacknowledged(), size);
+        self.unacknowledged_items += counted(state.is_unacknowledged(), 1);
+        self.marked_items += counted(state.is_marked(), 1);
+    }
+
+    /// Counts such an item no more.
+    pub fn remove(&mut self, state: ItemState, size: usize)
+        requires { HasOne state size self.old }
+        ensures { self.new ≡ total_without state size self.old }
+    {
+        self.in_flight_bytes -= counted(state.is_in_flight(), size);
+        self.unacknowledged_bytes -= counted(state.is_unacknowledged(), size);
+        self.unacknowledged_items -= counted(state.is_unacknowledged(), 1);
+        self.marked_items -= counted(state.is_marked(), 1);
+    }
+}

@@ -1,0 +1,6 @@
+pub mod FreshLemmas
+pub mod HaltingLemmas
+pub mod QueueLemmas
+pub mod SendingLemmas
+pub mod SkippingLemmas
+pub mod StatesLemmas

@@ -1,0 +1,9 @@
+pub mod Congestion
+pub mod Forwarding
+pub mod Halting
+pub mod Queue
+pub mod RoundTrip
+pub mod Sending
+pub mod Skipping
+pub mod States
+pub mod Telling

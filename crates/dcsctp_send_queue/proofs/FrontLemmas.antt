@@ -1,0 +1,28 @@
+-- Lemmas on a front part of what is told.
+use Rattle.std.proofs.Common.{◌≡◌, ◌∙◌, ℕ, List, [], ◌++◌, append_assoc, append-nil, refl, sym, ap}
+use Rattle.dcsctp_machine.specs.Event.{Event}
+use Rattle.dcsctp_streams.specs.Telling.{TellsFront}
+
+-- more was to follow
+pub front_left : (before whole more after : List (Event (List ℕ))) → TellsFront before whole after → TellsFront before (whole ++ more) after
+front_left before whole more after tells =
+    record {
+      front = tells.front;
+      rest = tells.rest ++ more;
+      parts = ap (λ (es : List (Event (List ℕ))). es ++ more) tells.parts ∙ append_assoc tells.front tells.rest more;
+      told = tells.told;
+    }
+
+-- something was told before
+pub front_right : (before first between whole after : List (Event (List ℕ))) → between ≡ before ++ first → TellsFront between whole after → TellsFront before (first ++ whole) after
+front_right before first between whole after is tells =
+    record {
+      front = first ++ tells.front;
+      rest = tells.rest;
+      parts = ap (λ (es : List (Event (List ℕ))). first ++ es) tells.parts ∙ sym (append_assoc first tells.front tells.rest);
+      told = tells.told ∙ (ap (λ (es : List (Event (List ℕ))). es ++ tells.front) is ∙ append_assoc before first tells.front);
+    }
+
+pub front_from : (before other whole after : List (Event (List ℕ))) → before ≡ other → TellsFront before whole after → TellsFront other whole after
+front_from before other whole after is tells =
+    record { front = tells.front; rest = tells.rest; parts = tells.parts; told = tells.told ∙ ap (λ (es : List (Event (List ℕ))). es ++ tells.front) is }

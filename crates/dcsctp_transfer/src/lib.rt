@@ -1,0 +1,10 @@
+//! The transfer layer as the rest of a socket sees it: what waits to be sent, and what an association has in
+//! flight and has received. Contracts speak of the values that the machine's definitions name, and not of
+//! what stands behind them in the crates below.
+#![tactic(auto)]
+
+mod queued_messages;
+mod transfer;
+
+pub use queued_messages::QueuedMessages;
+pub use transfer::Transfer;

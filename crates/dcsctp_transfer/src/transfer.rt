@@ -1,0 +1,86 @@
+//! What belongs to an association: what is in flight, and what was received.
+
+use dcsctp_data_tracker::DataTracker;
+use dcsctp_machine::{Capabilities, Options};
+use dcsctp_reassembly::ReassemblyQueue;
+use dcsctp_retransmission::RetransmissionQueue;
+use dcsctp_send::RetransmissionTimeout;
+use std::alloc::Global;
+use std::marker::Model;
+
+/// What an association has in flight and has received, and how long it awaits an acknowledgement.
+pub struct Transfer {
+    retransmission_queue: RetransmissionQueue,
+    rto: RetransmissionTimeout,
+    data_tracker: DataTracker,
+    reassembly_queue: ReassemblyQueue,
+}
+
+// Written out, so that the drops of all that is in the queues are proved here once, and not in each crate
+// that drops a state.
+impl Drop for Transfer {
+    fn drop(self) {
+        let Transfer {
+            retransmission_queue: _,
+            rto: _,
+            data_tracker: _,
+            reassembly_queue: _,
+        } = self;
+    }
+}
+
+impl Model for Transfer {
+    ghost use Rattle.dcsctp_machine.specs.Transfer.{Transfer};
+    ghost use Rattle.dcsctp_send.specs.RetransmissionTimeout.{timeout_state};
+    ghost use Rattle.dcsctp_retransmission.specs.Queue.{retransmission_state};
+    ghost use Rattle.dcsctp_data_tracker.specs.Acknowledging.{tracker_state};
+    ghost use Rattle.dcsctp_reassembly.specs.Queue.{reassembly_state};
+
+    ghost Value = { Transfer };
+
+    ghost view = { λ transfer. record {
+      retransmission = retransmission_state transfer.retransmission_queue;
+      timeout = timeout_state transfer.rto;
+      tracker = tracker_state transfer.data_tracker;
+      reassembly = reassembly_state transfer.reassembly_queue;
+    } };
+}
+
+impl Transfer {
+    ghost use Rattle.std.specs.Prelude.{◌≡◌};
+    ghost use Rattle.dcsctp_machine.specs.Transfer.{new_transfer};
+
+    /// Nothing was sent or received yet. `first_tsn` goes out first and `peer_first_tsn` comes in first, and
+    /// `a_rwnd` is the receive window in bytes that the peer announced. It takes no memory.
+    pub fn new(
+        alloc: Global,
+        options: &Options,
+        first_tsn: u32,
+        peer_first_tsn: u32,
+        a_rwnd: u32,
+        capabilities: &Capabilities,
+    ) -> Transfer
+        ensures { result ≡ new_transfer options.now first_tsn peer_first_tsn a_rwnd }
+    {
+        Transfer {
+            retransmission_queue: RetransmissionQueue::new(
+                alloc,
+                options,
+                first_tsn,
+                a_rwnd,
+                capabilities.partial_reliability,
+                capabilities.message_interleaving,
+            ),
+            rto: RetransmissionTimeout::new(options),
+            data_tracker: DataTracker::new(alloc, options, peer_first_tsn),
+            reassembly_queue: ReassemblyQueue::new(alloc, options.max_receiver_window_buffer_size),
+        }
+    }
+
+    /// The TSN that goes out next.
+    pub fn next_tsn(&self) -> u32
+        ensures { result ≡ self.now.retransmission.next_tsn }
+    {
+        self.retransmission_queue.next_tsn()
+    }
+}
