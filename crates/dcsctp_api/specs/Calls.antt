@@ -7,7 +7,9 @@ use Rattle.dcsctp_machine.specs.declared.ends.AbortReason.TheVariants.{CloseCall
 use Rattle.dcsctp_machine.specs.Event.{Event, event_map}
 use Rattle.dcsctp_machine.specs.Packet.{Emission, emission_bytes}
 use Rattle.dcsctp_machine.specs.Endpoint.{Endpoint, Core, closed, cookie_wait, cookie_echoed, open_in, OpenPhase, established, shutdown_pending, shutdown_sent, shutdown_received, shutdown_ack_sent}
+use Rattle.dcsctp_machine.specs.Transfer.{QueuedStream, queued_stream}
 use Rattle.dcsctp_machine.specs.Turn.{act_input}
+use Rattle.dcsctp_machine.specs.turns.SettingOutcomes.{Setting, endpoint_with}
 use Rattle.dcsctp_machine.specs.control.Acts.{Act, connect, abort_with}
 use Rattle.dcsctp_machine.specs.CallTurns.{Turned, Turns, HandleInput, CutInput, after_all, words_of, pairs_of, events_of}
 use Rattle.dcsctp_api.specs.declared.errors.SocketFault.{SocketFault}
@@ -85,6 +87,20 @@ abbrev pub Closes : UserView → Result (Unit {0}) SocketFault → UserView → 
 Closes old (Ok done) new = Makes (abort_with CloseCalled) old new
 Closes old (Err OutOfMemory) new = RanOut old (Turns old.endpoint (act_input (abort_with CloseCalled) ∷ [])) new
 Closes old (Err Failed) new = StaysFailed old new
+
+-- what a socket is to its user once this is set; no word is drawn
+abbrev pub with_setting : Setting → UserView → UserView
+with_setting setting view = record view { endpoint = endpoint_with setting view.endpoint; words = []; pairs = [] }
+
+-- It is set, and nothing else changes.
+abbrev pub Sets : Setting → UserView → Result (Unit {0}) SocketFault → UserView → Type 0
+Sets setting old (Ok done) new = (old.failed ≡ false) × (new ≡ with_setting setting old)
+Sets setting old (Err OutOfMemory) new = FailsWhole old new
+Sets setting old (Err Failed) new = StaysFailed old new
+
+-- what waits to be sent on this stream, and how it is set
+abbrev pub stream_shown : UserView → ℕ → QueuedStream
+stream_shown view id = queued_stream view.endpoint.below.queue id
 
 -- The event that was added first is taken, and nothing else changes.
 abbrev pub PollsEvent : UserView → Option SocketEvent → UserView → Type 0

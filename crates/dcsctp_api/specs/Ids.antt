@@ -1,7 +1,7 @@
 -- The numbers behind the identifiers.
 use Rattle.std.specs.Prelude.{ℕ, List, map}
 use Rattle.dcsctp_api.specs.declared.ids.LifecycleId.{LifecycleId}
-use Rattle.dcsctp_api.specs.declared.ids.StreamId.{StreamId}
+use Rattle.dcsctp_machine.specs.declared.ids.StreamId.{StreamId}
 
 -- the number of a message's name; it is not 0
 abbrev pub lifecycle_number : LifecycleId → ℕ

@@ -1,14 +1,15 @@
 //! The calls of a socket.
 
 ghost use Rattle.std.specs.Prelude.{◌≡◌, true, false, IsOk, ◌<◌};
-ghost use Rattle.dcsctp_api.specs.Calls.{UserView, PollsEvent, HandlesInput, Connects, Closes, is_closed, socket_state_of};
+ghost use Rattle.dcsctp_api.specs.Calls.{UserView, PollsEvent, HandlesInput, Connects, Closes, Sets, with_setting, stream_shown, is_closed, socket_state_of};
+ghost use Rattle.dcsctp_machine.specs.turns.SettingOutcomes.{stream_priority, stream_low_threshold, longest_message};
 ghost use Rattle.dcsctp_machine.specs.TimeTurns.{Waits, next_moment};
 ghost use Rattle.dcsctp_api.specs.Time.{Advances, OnlyMovesClock};
 
 use crate::errors::SocketFault;
 use crate::events::SocketEvent;
 use crate::state::SocketState;
-use dcsctp_machine::SocketTime;
+use dcsctp_machine::{Options, SocketTime, StreamId};
 
 /// The calls of an SCTP socket that makes no system call: packets go in, events come out.
 ///
@@ -74,4 +75,45 @@ pub trait DcSctpSocket {
     /// The state of the association.
     fn state(&self) -> SocketState
         ensures { result ≡ socket_state_of (user_view self.now).endpoint.core };
+
+    /// The options that the socket was made with, and the longest message as it was set since. It takes no
+    /// memory.
+    fn options(&self) -> &Options
+        ensures { result.now ≡ (user_view self.now).endpoint.options };
+
+    /// Says how many bytes a message may have that is given to the socket from now on. It takes no memory,
+    /// and does so on a socket that has failed, too.
+    fn set_max_message_size(&mut self, max_message_size: usize)
+        ensures { user_view self.new ≡ with_setting (longest_message max_message_size) (user_view self.old) };
+
+    /// Gives a stream a priority: of the streams with messages that wait, one of the greatest is sent first.
+    /// It outlasts an association. A stream that isn't set has `default_stream_priority`.
+    fn set_stream_priority(
+        &mut self,
+        stream_id: StreamId,
+        priority: u16,
+    ) -> Result<(), SocketFault>
+        ensures { Sets (stream_priority stream_id.0 priority) (user_view self.old) result (user_view self.new) };
+
+    /// The priority of a stream. It takes no memory.
+    fn get_stream_priority(&self, stream_id: StreamId) -> u16
+        ensures { result ≡ (stream_shown (user_view self.now) stream_id.0).priority };
+
+    /// The payload bytes that wait to be sent on a stream. It takes no memory.
+    fn buffered_amount(&self, stream_id: StreamId) -> usize
+        ensures { result ≡ (stream_shown (user_view self.now) stream_id.0).buffered_amount };
+
+    /// The amount of bytes at which `SocketEvent::OnBufferedAmountLow` tells that little waits to be sent on
+    /// a stream: it comes when the buffered amount falls to it from above. It takes no memory.
+    fn buffered_amount_low_threshold(&self, stream_id: StreamId) -> usize
+        ensures { result ≡ (stream_shown (user_view self.now) stream_id.0).low_threshold };
+
+    /// Gives a stream such an amount, and adds no event. It outlasts an association. A stream that isn't set
+    /// has `default_stream_buffered_amount_low_threshold`.
+    fn set_buffered_amount_low_threshold(
+        &mut self,
+        stream_id: StreamId,
+        bytes: usize,
+    ) -> Result<(), SocketFault>
+        ensures { Sets (stream_low_threshold stream_id.0 bytes) (user_view self.old) result (user_view self.new) };
 }

@@ -1,7 +1,7 @@
 //! What a socket has to tell its user, and the queue in which that waits.
 
-use crate::ids::{LifecycleId, StreamId};
-use dcsctp_machine::ErrorKind;
+use crate::ids::LifecycleId;
+use dcsctp_machine::{ErrorKind, StreamId};
 use std::alloc::{AllocError, Global};
 use std::collections::VecDeque;
 use std::marker::Model;

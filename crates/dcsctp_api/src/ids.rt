@@ -1,4 +1,4 @@
-//! The numbers by which messages, streams and protocols are named.
+//! The numbers by which messages and protocols are named.
 
 ghost use Rattle.std.specs.Prelude.{◌≡◌, ◌<◌, ◌↔◌, IsSome, IfSome};
 
@@ -63,34 +63,6 @@ impl fmt::Debug for LifecycleId {
     ghost use Rattle.dcsctp_api.specs.Ids.{lifecycle_number};
 
     ghost debug_output = { λ id. Some (decimal (lifecycle_number id)) };
-
-    fn fmt<W: fmt::Write>(&self, f: &mut fmt::Formatter<W>) -> fmt::Result {
-        fmt::Display::fmt(self, f)
-    }
-}
-
-/// The number of a stream (RFC 9260, section 3.3.1).
-#[derive(Clone, Copy, PartialEq, Eq, PartialOrd, Ord, Hash)]
-pub struct StreamId(pub u16);
-
-/// Writes the number.
-impl fmt::Display for StreamId {
-    ghost use Rattle.std.specs.Prelude.{Some};
-    ghost use Rattle.std.specs.Fmt.{decimal};
-
-    ghost output = { λ id. Some (decimal id.0) };
-
-    fn fmt<W: fmt::Write>(&self, f: &mut fmt::Formatter<W>) -> fmt::Result {
-        write!(f, "{}", self.0)
-    }
-}
-
-/// Writes the number.
-impl fmt::Debug for StreamId {
-    ghost use Rattle.std.specs.Prelude.{Some};
-    ghost use Rattle.std.specs.Fmt.{decimal};
-
-    ghost debug_output = { λ id. Some (decimal id.0) };
 
     fn fmt<W: fmt::Write>(&self, f: &mut fmt::Formatter<W>) -> fmt::Result {
         fmt::Display::fmt(self, f)

@@ -15,13 +15,13 @@ mod state_cookie;
 pub use calls::DcSctpSocket;
 pub use dcsctp_machine::{
     Association, Capabilities, ErrorKind, Held, Options, Pair, Phase,
-    ReconfigurationResponseResult, SctpImplementation, SocketTime, Word,
+    ReconfigurationResponseResult, SctpImplementation, SocketTime, StreamId, Word,
     ZERO_CHECKSUM_ALTERNATE_ERROR_DETECTION_METHOD_LOWER_LAYER_DTLS,
     ZERO_CHECKSUM_ALTERNATE_ERROR_DETECTION_METHOD_NONE, ZeroChecksumAlternateErrorDetectionMethod,
 };
 pub use errors::SocketFault;
 pub use events::{Events, SocketEvent};
-pub use ids::{LifecycleId, PpId, StreamId};
+pub use ids::{LifecycleId, PpId};
 pub use laws::{
     lifecycle_id_hash, lifecycle_id_order, pp_id_hash, send_options_default, socket_time_order,
     state_cookie_reads_back, stream_id_hash, stream_id_order,

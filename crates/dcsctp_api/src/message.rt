@@ -2,7 +2,8 @@
 
 ghost use Rattle.std.specs.Prelude.{◌≡◌};
 
-use crate::ids::{LifecycleId, PpId, StreamId};
+use crate::ids::{LifecycleId, PpId};
+use dcsctp_machine::StreamId;
 use std::time::Duration;
 
 /// How a message is to be sent. By default it is sent in order and until it is acknowledged, and no

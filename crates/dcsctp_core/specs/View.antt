@@ -82,7 +82,7 @@ pub record IsNew (options : Options) (own : Pair) (peer : Peer) (tie : ℕ) (tcb
   pub my : tcb.my ≡ own
   pub held : held_of tcb ≡ new_held own peer.pair peer.capabilities
   pub tie_tag : tcb.tie_tag ≡ tie
-  pub transfer : tcb.transfer ≡ new_transfer options own.first_tsn peer.pair.first_tsn peer.a_rwnd
+  pub transfer : tcb.transfer ≡ new_transfer options peer.capabilities own.first_tsn peer.pair.first_tsn peer.a_rwnd
 
 abbrev pub transfer_of : State → Option Transfer
 transfer_of Closed = None

@@ -7,16 +7,17 @@ use Rattle.dcsctp_machine.specs.declared.schedule.Side.{Side}
 use Rattle.dcsctp_machine.specs.declared.schedule.Side.TheVariants as sides
 use Rattle.dcsctp_machine.specs.declared.ends.AbortReason.TheVariants.{CloseCalled, TooManyErrors}
 use Rattle.dcsctp_machine.specs.declared.ends.AbortReason.{AbortReason}
-use Rattle.dcsctp_machine.specs.Schedule.{connect_call, close_call, advance_call, StepContent, call_step, delivery_step, OutsideContent, input_outside, ActContent, step_act, outside_act}
+use Rattle.dcsctp_machine.specs.Schedule.{connect_call, close_call, advance_call, set_call, StepContent, call_step, delivery_step, OutsideContent, input_outside, ActContent, step_act, outside_act}
 use Rattle.dcsctp_wire.specs.Content.{ChunkContent}
 use Rattle.dcsctp_machine.specs.Packet.{Content, init, init_ack, cookie_echo, cookie_ack, re_config, abort, shutdown, shutdown_ack, shutdown_complete, plain, Packet, content_in, packet_in}
 use Rattle.dcsctp_machine.specs.Admission.{Admission, all_chunks, shutdown_acks_alone, refused, admits, shutdown_acks_in}
 use Rattle.dcsctp_machine.specs.Endpoint.{Endpoint, Core, closed, cookie_wait, cookie_echoed, open_in, fresh_endpoint}
 use Rattle.dcsctp_machine.specs.Following.{Following, next_chunk, packet_end, dropped_rest}
 use Rattle.dcsctp_machine.specs.control.Acts.{connect, abort_with, t1_expires}
-use Rattle.dcsctp_machine.specs.Turn.{Input, arrival, refusal, packet_begins, chunk_input, packet_ends, act_input, timer_expires, time_passes, unreadable_text}
+use Rattle.dcsctp_machine.specs.Turn.{Input, arrival, refusal, packet_begins, chunk_input, packet_ends, act_input, user_sets, timer_expires, time_passes, unreadable_text}
 use Rattle.dcsctp_machine.specs.TimeTurns.{Timer, t1_timer, own_timer, timers_in, deadline, has_come, has_restart, expiry_input, inputs_behind, after_expiries, ExpiryThen, ExpiryTurns, MomentTurns, TimeTurns}
 use Rattle.dcsctp_machine.specs.turns.HeartbeatOutcomes.{OwnTimer, is_exhausted}
+use Rattle.dcsctp_machine.specs.turns.SettingOutcomes.{Setting}
 use Rattle.dcsctp_machine.specs.CallTurns.{Turned, IsTurn, Turns, AlongTurns, AfterChunk, ChunkTurns, WholeTurns, AdmittedTurns, HandleInput, unreadable, readable, after_all}
 use Rattle.dcsctp_machine.specs.Sockets.{Both, of_side, of_other, StepTurns, DeliveryTurns, numbered, with_turns, Worked, SocketRun, turns_after, endpoint_after, packets_shown, side_of_act, OutsideTurns, TurnsOfAct}
 
@@ -36,6 +37,7 @@ pub record MayCome (May : Input → Type 0) : Type 0 where
   pub connects : May (act_input connect)
   pub aborts : (reason : AbortReason) → May (act_input (abort_with reason))
   pub expires : (again : Bool) → May (act_input (t1_expires again))
+  pub sets : (setting : Setting) → May (user_sets setting)
   pub own_expires : (timer : OwnTimer) → May (timer_expires timer)
   pub passes : (moment : ℕ) → May (time_passes moment)
 
@@ -53,6 +55,7 @@ anything_may_come =
       connects = tt;
       aborts = λ reason. tt;
       expires = λ again. tt;
+      sets = λ setting. tt;
       own_expires = λ timer. tt;
       passes = λ moment. tt;
     }
@@ -179,6 +182,7 @@ module _ (Good : Endpoint → Turned → Type 0) (May : Input → Type 0) (come 
   step_along e packets (call_step side connect_call) ts turns = turns_along e (act_input connect ∷ []) ts (come.connects, tt) turns
   step_along e packets (call_step side close_call) ts turns = turns_along e (act_input (abort_with CloseCalled) ∷ []) ts (come.aborts CloseCalled, tt) turns
   step_along e packets (call_step side (advance_call moment)) ts turns = time_along (nat_le e.moment moment) e moment ts turns
+  step_along e packets (call_step side (set_call setting)) ts turns = turns_along e (user_sets setting ∷ []) ts (come.sets setting, tt) turns
   step_along e packets (delivery_step side number) ts turns = delivery_along e (numbered number packets) ts turns
 
   outside_along : (e : Endpoint) (outside : OutsideContent) (ts : List Turned) → OutsideTurns e outside ts → AlongTurns Good e ts

@@ -20,6 +20,7 @@ pub mod LawLemmas
 pub mod MayBeWorkedLemmas
 pub mod PlainLemmas
 pub mod ReadBackLemmas
+pub mod SettingFacts
 pub mod SocketLemmas
 pub mod StandardFacts
 pub mod TimerFacts

@@ -1,5 +1,5 @@
 -- Two sockets: what no step changes.
-use Rattle.std.proofs.Common.{ℕ, Bool, List, [], ◌∷◌, inl, inr, refl, ap}
+use Rattle.std.proofs.Common.{ℕ, Bool, List, [], ◌∷◌, inl, inr, refl, ap, sym, subst}
 use Rattle.dcsctp_machine.specs.declared.options.Options.{Options}
 use Rattle.dcsctp_machine.specs.declared.schedule.Side.{Side}
 use Rattle.dcsctp_machine.specs.Schedule.{ActContent}
@@ -8,7 +8,7 @@ use Rattle.dcsctp_machine.specs.Endpoint.{Endpoint, Core, fresh_endpoint}
 use Rattle.dcsctp_machine.specs.Outcome.{Outcome}
 use Rattle.dcsctp_machine.specs.control.Acts.{Act, shutdown_repeats, flushes}
 use Rattle.dcsctp_machine.specs.Controlled.{ControlledAct}
-use Rattle.dcsctp_machine.specs.Turn.{Input, arrival, refusal, packet_begins, chunk_input, packet_ends, act_input, timer_expires, time_passes, Turn, BeginTurn, has_data}
+use Rattle.dcsctp_machine.specs.Turn.{Input, arrival, refusal, packet_begins, chunk_input, packet_ends, act_input, user_sets, timer_expires, time_passes, Turn, BeginTurn, has_data}
 use Rattle.dcsctp_machine.specs.CallTurns.{Turned, IsTurn, AlongTurns, after_all}
 use Rattle.dcsctp_machine.specs.Sockets.{Both, of_side, Worked, SocketRun, turns_after, endpoint_after, TurnsOfAct}
 use Rattle.dcsctp_machine.specs.Laws.{SocketsKeepOptions}
@@ -32,6 +32,7 @@ turn_keeps e (packet_begins contents) o turn = begin_keeps e e.core (has_data co
 turn_keeps e (chunk_input tag content) o turn = content_keeps_options e tag content o turn
 turn_keeps e packet_ends o turn = same_of_equal e.options o.after.options (ap (λ (x : Outcome). x.after.options) turn)
 turn_keeps e (act_input act) o turn = kept_by_act e act o (acts_are_controlled e act o turn)
+turn_keeps e (user_sets setting) o turn = subst (λ (x : Outcome). SameOptions e.options x.after.options) (sym turn) refl
 turn_keeps e (timer_expires timer) o turn = kept_by_act e flushes o (timer_controlled e timer o turn)
 turn_keeps e (time_passes moment) o turn = same_of_equal e.options o.after.options (ap (λ (x : Outcome). x.after.options) turn)
 

@@ -6,6 +6,7 @@ use Rattle.dcsctp_wire.specs.Spelling.{parameter_bytes, parameters_len, init_fie
 use Rattle.dcsctp_machine.specs.declared.association.Pair.{Pair}
 use Rattle.dcsctp_machine.specs.declared.association.Held.{Held}
 use Rattle.dcsctp_machine.specs.declared.association.Phase.TheVariants as phases
+use Rattle.dcsctp_machine.specs.declared.capabilities.Capabilities.{Capabilities}
 use Rattle.dcsctp_machine.specs.declared.kinds.ErrorKind.TheVariants.{ParseFailed}
 use Rattle.dcsctp_machine.specs.declared.options.Options.{Options}
 use Rattle.dcsctp_machine.specs.declared.word.Word.TheVariants.{U32}
@@ -108,6 +109,17 @@ theirs =
       window = 1500;
     }
 
+nothing_negotiated : Capabilities
+nothing_negotiated =
+    record {
+      partial_reliability = false;
+      message_interleaving = false;
+      reconfig = false;
+      zero_checksum_method = record { 0 = 0 };
+      negotiated_maximum_incoming_streams = 0;
+      negotiated_maximum_outgoing_streams = 0;
+    }
+
 -- a socket that has sent four packets
 socket : Endpoint → ℕ → ℕ → Endpoint
 socket e mtu packets_sent =
@@ -115,7 +127,7 @@ socket e mtu packets_sent =
       options = configured e.options mtu;
       tie = 77;
       counts = record { packets_received = 3; packets_sent = packets_sent; messages_queued = 5 };
-      below = record { queue = empty_queue; transfer = Some (record (new_transfer e.options 0 0 0) { retransmission = new_retransmission e.options 0xffffffff 0 }) };
+      below = record { queue = empty_queue e.options; transfer = Some (record (new_transfer e.options nothing_negotiated 0 0 0) { retransmission = new_retransmission e.options false false 0xffffffff 0 }) };
     }
 
 -- the answer without a checksum, of this pair and with this tie tag in the cookie

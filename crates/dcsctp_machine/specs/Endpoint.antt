@@ -187,5 +187,5 @@ fresh_endpoint options =
       no_forward_tsn_before = 0;
       counts = record { packets_received = 0; packets_sent = 0; messages_queued = 0 };
       peer_implementation = Unknown;
-      below = nothing_below;
+      below = nothing_below options;
     }

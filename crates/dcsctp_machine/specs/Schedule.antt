@@ -10,6 +10,7 @@ use Rattle.dcsctp_machine.specs.declared.schedule.Outside.{Outside}
 use Rattle.dcsctp_machine.specs.declared.schedule.Outside.TheVariants as outsides
 use Rattle.dcsctp_machine.specs.declared.schedule.Act.{Act}
 use Rattle.dcsctp_machine.specs.declared.schedule.Act.TheVariants as acts
+use Rattle.dcsctp_machine.specs.turns.SettingOutcomes.{Setting, stream_priority, stream_low_threshold, longest_message}
 
 -- a call of a socket's user, with what it hands over
 pub data CallContent : Type 0 where
@@ -17,6 +18,7 @@ pub data CallContent : Type 0 where
   close_call : CallContent
   -- the present moment
   advance_call : ℕ → CallContent
+  set_call : Setting → CallContent
 
 -- a step of a schedule
 pub data StepContent : Type 0 where
@@ -40,6 +42,9 @@ abbrev pub call_content : Call → CallContent
 call_content calls.Connect = connect_call
 call_content calls.Close = close_call
 call_content (calls.AdvanceTime moment) = advance_call moment
+call_content (calls.SetStreamPriority id priority) = set_call (stream_priority id.0 priority)
+call_content (calls.SetBufferedAmountLowThreshold id bytes) = set_call (stream_low_threshold id.0 bytes)
+call_content (calls.SetMaxMessageSize bytes) = set_call (longest_message bytes)
 
 abbrev pub step_content : Step → StepContent
 step_content (steps.Call side call) = call_step side (call_content call)

@@ -1,6 +1,7 @@
 -- The public values of the transfer layer: what waits to be sent, what is in flight, and what was received.
-use Rattle.std.specs.Prelude.{◌==◌, ℕ, ◌+◌, ◌-◌, ◌*◌, ◌%◌, ◌^◌, min, Bool, false, Option, None, Some, List, [], ◌∷◌, if◌then◌else◌}
+use Rattle.std.specs.Prelude.{◌==◌, ℕ, ◌+◌, ◌-◌, ◌*◌, ◌%◌, ◌^◌, min, nat_lt, Bool, false, Option, None, Some, List, [], ◌∷◌, if◌then◌else◌}
 use Rattle.std.specs.Duration.{as_nanos}
+use Rattle.dcsctp_machine.specs.declared.capabilities.Capabilities.{Capabilities}
 use Rattle.dcsctp_machine.specs.declared.options.Options.{Options}
 
 -- a number that goes with a stream
@@ -16,37 +17,82 @@ pub record ReadyMessage : Type 0 where
 
 -- ---- what outlasts an association
 
+-- A stream that was used, as its user sees it.
+pub record QueuedStream : Type 0 where
+  pub stream : ℕ
+  -- the payload bytes that wait to be sent
+  pub buffered_amount : ℕ
+  -- The user is told where the amount falls to this.
+  pub low_threshold : ℕ
+  pub priority : ℕ
+
 -- What waits to be sent.
 pub record SendQueueState : Type 0 where
   -- Are messages numbered as for interleaving (RFC 8260, section 2.1)?
   pub is_interleaved : Bool
   pub total_buffered_amount : ℕ
-  pub buffered_amounts : List StreamNumber
-  pub thresholds : List StreamNumber
-  pub priorities : List StreamNumber
+  -- what a stream begins with
+  pub default_threshold : ℕ
+  pub default_priority : ℕ
+  -- the streams that were used, ascending
+  pub streams : List QueuedStream
   -- the message that is under way: its stream, and how many of its bytes went out
   pub under_way : Option StreamNumber
   -- the streams that are ready to be reset, ascending
   pub ready_streams : List ℕ
 
 -- as it is before any message
-abbrev pub empty_queue : SendQueueState
-empty_queue =
-    record { is_interleaved = false; total_buffered_amount = 0; buffered_amounts = []; thresholds = []; priorities = []; under_way = None; ready_streams = [] }
+abbrev pub empty_queue : Options → SendQueueState
+empty_queue options =
+    record {
+      is_interleaved = false;
+      total_buffered_amount = 0;
+      default_threshold = options.default_stream_buffered_amount_low_threshold;
+      default_priority = options.default_stream_priority;
+      streams = [];
+      under_way = None;
+      ready_streams = [];
+    }
 
--- the numbers with this much more at its stream; each stops at the greatest number of 64 bits
-abbrev pub with_more : StreamNumber → List StreamNumber → List StreamNumber
-with_more more [] = more ∷ []
-with_more more (first ∷ numbers) =
-    if first.stream == more.stream then record first { number = min (first.number + more.number) (2 ^ 64 - 1) } ∷ numbers else first ∷ with_more more numbers
+-- ---- a stream of it
 
--- the amounts once a message has begun again
+-- a stream that was never used
+abbrev pub unused_stream : SendQueueState → ℕ → QueuedStream
+unused_stream queue id = record { stream = id; buffered_amount = 0; low_threshold = queue.default_threshold; priority = queue.default_priority }
+
+-- the stream of this number among these, or else this one
+abbrev pub stream_among : QueuedStream → ℕ → List QueuedStream → QueuedStream
+stream_among other id [] = other
+stream_among other id (first ∷ streams) = if first.stream == id then first else stream_among other id streams
+
+abbrev pub queued_stream : SendQueueState → ℕ → QueuedStream
+queued_stream queue id = stream_among (unused_stream queue id) id queue.streams
+
+-- the streams with this one in its place
+abbrev pub with_queued : QueuedStream → List QueuedStream → List QueuedStream
+with_queued stream [] = stream ∷ []
+with_queued stream (first ∷ streams) =
+    if first.stream == stream.stream then stream ∷ streams
+    else if nat_lt first.stream stream.stream then first ∷ with_queued stream streams
+    else stream ∷ first ∷ streams
+
+-- the queue with this stream as it is now
+abbrev pub queue_with : QueuedStream → SendQueueState → SendQueueState
+queue_with stream queue = record queue { streams = with_queued stream queue.streams }
+
+-- a sum of bytes, which stops at the greatest number of 64 bits
+abbrev pub more_bytes : ℕ → ℕ → ℕ
+more_bytes bytes more = min (bytes + more) (2 ^ 64 - 1)
+
+abbrev pub with_more : ℕ → QueuedStream → QueuedStream
+with_more more stream = record stream { buffered_amount = more_bytes stream.buffered_amount more }
+
+-- the queue once a message has begun again
 abbrev pub begun_again : SendQueueState → Option StreamNumber → SendQueueState
 begun_again queue None = queue
 begun_again queue (Some message) =
-    record queue {
-      total_buffered_amount = min (queue.total_buffered_amount + message.number) (2 ^ 64 - 1);
-      buffered_amounts = with_more message queue.buffered_amounts;
+    record (queue_with (with_more message.number (queued_stream queue message.stream)) queue) {
+      total_buffered_amount = more_bytes queue.total_buffered_amount message.number;
       under_way = None;
     }
 
@@ -58,6 +104,10 @@ queue_after_reset queue = record (begun_again queue queue.under_way) { ready_str
 
 -- What is in flight.
 pub record RetransmissionState : Type 0 where
+  -- May messages be given up (RFC 3758)?
+  pub partial_reliability : Bool
+  -- Do they go out as I-DATA (RFC 8260)?
+  pub message_interleaving : Bool
   pub next_tsn : ℕ
   -- sent, and neither acknowledged nor abandoned
   pub unacknowledged_items : ℕ
@@ -70,9 +120,11 @@ pub record RetransmissionState : Type 0 where
   pub bytes_retransmitted : ℕ
 
 -- nothing was sent yet (RFC 9260, section 7.2.1)
-abbrev pub new_retransmission : Options → ℕ → ℕ → RetransmissionState
-new_retransmission options first_tsn window =
+abbrev pub new_retransmission : Options → Bool → Bool → ℕ → ℕ → RetransmissionState
+new_retransmission options partial_reliability message_interleaving first_tsn window =
     record {
+      partial_reliability = partial_reliability;
+      message_interleaving = message_interleaving;
       next_tsn = first_tsn;
       unacknowledged_items = 0;
       deadline = None;
@@ -117,11 +169,11 @@ pub record Transfer : Type 0 where
   pub tracker : TrackerState
   pub reassembly : ReassemblyState
 
--- that of a new association: the own first TSN, the peer's, and its window
-abbrev pub new_transfer : Options → ℕ → ℕ → ℕ → Transfer
-new_transfer options first_tsn peer_first_tsn window =
+-- that of a new association: what was negotiated, the own first TSN, the peer's, and its window
+abbrev pub new_transfer : Options → Capabilities → ℕ → ℕ → ℕ → Transfer
+new_transfer options capabilities first_tsn peer_first_tsn window =
     record {
-      retransmission = new_retransmission options first_tsn window;
+      retransmission = new_retransmission options capabilities.partial_reliability capabilities.message_interleaving first_tsn window;
       timeout = new_timeout options;
       tracker = new_tracker peer_first_tsn;
       reassembly = new_reassembly options;
@@ -140,5 +192,5 @@ pub record Below : Type 0 where
   pub transfer : Option Transfer
 
 -- as it is before any association or message
-abbrev pub nothing_below : Below
-nothing_below = record { queue = empty_queue; transfer = None }
+abbrev pub nothing_below : Options → Below
+nothing_below options = record { queue = empty_queue options; transfer = None }

@@ -9,6 +9,7 @@ use Rattle.dcsctp_machine.specs.turns.CookieEchoOutcomes.{CookieEchoTurn}
 use Rattle.dcsctp_machine.specs.turns.EndOutcomes.{abort_outcome, aborting_outcome, ShutdownAckTurn, ShutdownCompleteTurn}
 use Rattle.dcsctp_machine.specs.turns.HeartbeatOutcomes.{OwnTimer, timer_outcome}
 use Rattle.dcsctp_machine.specs.turns.PlainOutcomes.{PlainTurn}
+use Rattle.dcsctp_machine.specs.turns.SettingOutcomes.{Setting, setting_outcome}
 use Rattle.dcsctp_machine.specs.turns.TimerOutcomes.{T1AgainTurn, t1_gives_up_outcome}
 use Rattle.dcsctp_machine.specs.control.Acts.{Act, connect, t1_expires, shut_down, step_of_shutdown, shutdown_repeats, abort_with, hands_over, flushes, request_again}
 use Rattle.dcsctp_machine.specs.Controlled.{ControlledChunk, ControlledAct}
@@ -26,6 +27,8 @@ pub data Input : Type 0 where
   packet_ends : Input
   -- what the user or a timer brings
   act_input : Act → Input
+  -- The user sets something that the peer isn't told.
+  user_sets : Setting → Input
   -- A timer of an open association expires.
   timer_expires : OwnTimer → Input
   -- The clock is moved to this moment.
@@ -93,5 +96,6 @@ Turn e (packet_begins contents) o = BeginTurn e e.core (has_data contents) o
 Turn e (chunk_input tag content) o = ContentTurn e tag content o
 Turn e packet_ends o = EndTurn e o
 Turn e (act_input act) o = ActTurn e act o
+Turn e (user_sets setting) o = o ≡ setting_outcome e setting
 Turn e (timer_expires timer) o = o ≡ timer_outcome e timer
 Turn e (time_passes moment) o = o ≡ still (clock_at moment e)

@@ -4,4 +4,5 @@ pub mod FlushOutcomes
 pub mod HandshakeOutcomes
 pub mod HeartbeatOutcomes
 pub mod PlainOutcomes
+pub mod SettingOutcomes
 pub mod TimerOutcomes

@@ -5,6 +5,7 @@
 mod association;
 mod capabilities;
 mod ends;
+mod ids;
 mod kinds;
 mod laws;
 mod options;
@@ -16,6 +17,7 @@ pub use association::{Association, Held, Pair, Phase};
 pub use capabilities::Capabilities;
 pub use dcsctp_wire::ReconfigurationResponseResult;
 pub use ends::{AbortReason, Violation};
+pub use ids::StreamId;
 pub use kinds::{
     BackoffAlgorithm, ErrorKind, SctpImplementation,
     ZERO_CHECKSUM_ALTERNATE_ERROR_DETECTION_METHOD_LOWER_LAYER_DTLS,

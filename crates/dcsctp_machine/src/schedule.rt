@@ -1,5 +1,6 @@
 //! What happens to two sockets: calls of their users, deliveries, and what comes from outside.
 
+use crate::ids::StreamId;
 use crate::time::SocketTime;
 
 /// One of two sockets.
@@ -23,6 +24,15 @@ pub enum Call {
 
     /// It tells the time: this is the present moment.
     AdvanceTime(SocketTime),
+
+    /// It gives a stream a priority.
+    SetStreamPriority(StreamId, u16),
+
+    /// It gives a stream the buffered amount, in bytes, at which it is to be told that the amount is low.
+    SetBufferedAmountLowThreshold(StreamId, usize),
+
+    /// It says how many bytes a message may have.
+    SetMaxMessageSize(usize),
 }
 
 /// A step of a schedule.

@@ -8,7 +8,7 @@ use Rattle.std.specs.Ordering.{nat_cmp, is_eq}
 use Rattle.std.specs.declared.cmp.Ordering.TheVariants.{Less, Equal, Greater}
 use Rattle.std.proofs.lemmas.Map.Lookups.{exact_unsigned}
 use Rattle.std.specs.List.{list_any}
-use Rattle.dcsctp_api.specs.declared.ids.StreamId.{StreamId}
+use Rattle.dcsctp_machine.specs.declared.ids.StreamId.{StreamId}
 use Rattle.dcsctp_api.specs.Ids.{stream_numbers}
 use Rattle.dcsctp_reassembly.specs.Queue.{names_stream}
 use Rattle.dcsctp_reassembly.specs.declared.stream.Stream.{Stream}

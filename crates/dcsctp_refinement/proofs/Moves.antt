@@ -45,7 +45,7 @@ pub record SideMoves (options : Options) (turns : List Turned) (side : SideState
   pub made : MovesMade side theirs moves
   pub follows : Followed options (turns ++ more) (after_moves side moves)
 
-rests : (options : Options) (turns : List Turned) (side : SideState) (theirs : List Effect) (more : List Turned) → Followed options (turns ++ more) side → SideMoves options turns side theirs more
+pub rests : (options : Options) (turns : List Turned) (side : SideState) (theirs : List Effect) (more : List Turned) → Followed options (turns ++ more) side → SideMoves options turns side theirs more
 rests options turns side theirs more follows = record { moves = []; made = tt; follows = follows }
 
 pub moves_once : (options : Options) (turns : List Turned) (side : SideState) (theirs : List Effect) (more : List Turned) (move : Move) (changes : List Change) → MoveChanges side theirs move changes

@@ -6,7 +6,7 @@ use Rattle.dcsctp_machine.specs.Packet.{Content, init, init_ack, cookie_echo, co
 use Rattle.dcsctp_machine.specs.Endpoint.{Endpoint, Core, fresh_endpoint}
 use Rattle.dcsctp_machine.specs.Outcome.{Outcome}
 use Rattle.dcsctp_machine.proofs.HeartbeatLemmas.{timer_controlled}
-use Rattle.dcsctp_machine.specs.Turn.{Input, arrival, refusal, packet_begins, chunk_input, packet_ends, act_input, timer_expires, time_passes, has_data}
+use Rattle.dcsctp_machine.specs.Turn.{Input, arrival, refusal, packet_begins, chunk_input, packet_ends, act_input, user_sets, timer_expires, time_passes, has_data}
 use Rattle.dcsctp_machine.specs.control.Effect.{Effect, noted, Change}
 use Rattle.dcsctp_machine.specs.control.Choices.{Choices}
 use Rattle.dcsctp_machine.specs.control.Acts.{Act, connect, t1_expires, shut_down, step_of_shutdown, shutdown_repeats, abort_with, hands_over, flushes, request_again, act_change, chunk_change}
@@ -74,6 +74,7 @@ turn_moves law e (packet_begins contents) t h valid =
 turn_moves law e (chunk_input tag content) t h valid = chunk_moves law.chunks e tag content t h valid
 turn_moves law e packet_ends t h valid = rests_as e t _ h.comes refl refl refl
 turn_moves law e (act_input act) t h valid = moves_by_act e act t (law.acts e act t.outcome h.comes)
+turn_moves law e (user_sets setting) t h valid = rests_as e t _ h.comes refl refl refl
 turn_moves law e (timer_expires timer) t h valid = moves_by_act e flushes t (timer_controlled e timer t.outcome h.comes)
 turn_moves law e (time_passes moment) t h valid = rests_as e t _ h.comes refl refl refl
 

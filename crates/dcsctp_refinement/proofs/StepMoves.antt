@@ -1,29 +1,30 @@
 -- What comes of a step at one socket is moves of its side in the machine that agreement is proved on.
-use Rattle.std.proofs.Common.{ℕ, Bool, true, false, zero, suc, List, [], ◌∷◌, ◌++◌, refl, sym, subst}
+use Rattle.std.proofs.Common.{◌≡◌, ℕ, Bool, true, false, zero, suc, List, [], ◌∷◌, ◌++◌, refl, sym, subst}
 use Rattle.std.specs.Prelude.{nat_le}
 use Rattle.std.specs.List.{slice_get}
 use Rattle.dcsctp_machine.specs.declared.ends.AbortReason.{AbortReason}
 use Rattle.dcsctp_machine.specs.declared.ends.AbortReason.TheVariants.{CloseCalled, TooManyErrors}
 use Rattle.dcsctp_machine.specs.declared.options.Options.{Options}
-use Rattle.dcsctp_machine.specs.Schedule.{connect_call, close_call, advance_call, StepContent, call_step, delivery_step}
+use Rattle.dcsctp_machine.specs.Schedule.{connect_call, close_call, advance_call, set_call, StepContent, call_step, delivery_step}
 use Rattle.dcsctp_machine.specs.Settings.{FitsOptions}
 use Rattle.dcsctp_machine.specs.Endpoint.{Endpoint, Core}
-use Rattle.dcsctp_machine.specs.Turn.{ActTurn, act_input}
+use Rattle.dcsctp_machine.specs.Turn.{ActTurn, act_input, user_sets}
 use Rattle.dcsctp_machine.specs.TimeTurns.{timers_in, DueTurns, MomentTurns, TimeTurns}
 use Rattle.dcsctp_machine.specs.Outcome.{Outcome}
 use Rattle.dcsctp_machine.specs.Controlled.{IsControlled}
 use Rattle.dcsctp_machine.specs.control.Choices.{Choices}
-use Rattle.dcsctp_machine.specs.Fitting.{TurnFits}
+use Rattle.dcsctp_machine.specs.turns.SettingOutcomes.{Setting, setting_outcome}
+use Rattle.dcsctp_machine.specs.Fitting.{FitsEndpoint, TurnFits}
 use Rattle.dcsctp_machine.specs.CallTurns.{Turned, Turns}
-use Rattle.dcsctp_machine.specs.control.Effect.{Effect, Change}
+use Rattle.dcsctp_machine.specs.control.Effect.{Effect, Change, unchanged}
 use Rattle.dcsctp_machine.specs.control.Acts.{abort_with, act_change}
 use Rattle.dcsctp_machine.specs.World.{SideState, acted, does}
 use Rattle.dcsctp_machine.specs.Sockets.{endpoint_after, packets_shown, StepTurns}
 use Rattle.dcsctp_refinement.proofs.Aborting.{aborting_fits}
-use Rattle.dcsctp_refinement.proofs.Follow.{Followed, after_last, follow_turns}
+use Rattle.dcsctp_refinement.proofs.Follow.{Followed, after_last, follow_turns, follow_idle}
 use Rattle.dcsctp_refinement.proofs.TimeMoves.{clock_follows}
 use Rattle.dcsctp_refinement.proofs.ExpiryMoves.{expiries_move}
-use Rattle.dcsctp_refinement.proofs.Moves.{Below, SideMoves, moves_once, nothing_happens, rests_then, connect_moves, delivery_moves}
+use Rattle.dcsctp_refinement.proofs.Moves.{Below, SideMoves, rests, moves_once, nothing_happens, rests_then, connect_moves, delivery_moves}
 
 -- ---- close
 
@@ -66,6 +67,44 @@ advance_moves : Below → (options : Options) (turns : List Turned) (side : Side
 advance_moves law options turns side theirs true moment more h taken = moment_moves law options turns side theirs moment more h taken
 advance_moves law options turns side theirs false moment more h none = nothing_happens options turns side theirs more h none
 
+-- ---- what the user sets
+
+setting_fits : (e : Endpoint) (setting : Setting) → FitsEndpoint e → TurnFits (setting_outcome e setting)
+setting_fits e setting fits =
+    record {
+      after = record {
+        valid = record {
+          least_size = fits.valid.least_size;
+          greatest_size = fits.valid.greatest_size;
+          receive_window = fits.valid.receive_window;
+          send_buffer = fits.valid.send_buffer;
+        };
+        options = record {
+          local_port = fits.options.local_port;
+          remote_port = fits.options.remote_port;
+          inbound_streams = fits.options.inbound_streams;
+          outbound_streams = fits.options.outbound_streams;
+          zero_checksum_method = fits.options.zero_checksum_method;
+        };
+        core = fits.core;
+        t1 = fits.t1;
+      };
+      sends = tt;
+    }
+
+setting_follows : (options : Options) (turns : List Turned) (side : SideState) (setting : Setting) (t : Turned) → Followed options turns side
+    → t.outcome ≡ setting_outcome (endpoint_after options turns) setting → Followed options (turns ++ t ∷ []) side
+setting_follows options turns side setting t h is =
+    let e : Endpoint = endpoint_after options turns in
+    let controlled : IsControlled e (setting_outcome e setting) (unchanged e.core) = record { core = refl; options = refl; signs = refl; effects = refl; following = refl } in
+    follow_idle options turns side t h (subst (λ (o : Outcome). IsControlled e o (unchanged e.core)) (sym is) controlled) (subst TurnFits (sym is) (setting_fits e setting h.fits))
+
+setting_moves : (options : Options) (turns : List Turned) (side : SideState) (theirs : List Effect) (setting : Setting) (more : List Turned) → Followed options turns side
+    → Turns (endpoint_after options turns) (user_sets setting ∷ []) more → SideMoves options turns side theirs more
+setting_moves options turns side theirs setting [] h turn = absurd turn
+setting_moves options turns side theirs setting (t ∷ []) h turn = rests options turns side theirs (t ∷ []) (setting_follows options turns side setting t h turn.0.comes)
+setting_moves options turns side theirs setting (t ∷ next ∷ more) h turn = absurd turn.1
+
 -- ---- a step
 
 pub step_moves : Below → (options other : Options) (turns others : List Turned) (side theirs : SideState) (step : StepContent) (more : List Turned)
@@ -75,6 +114,7 @@ step_moves law options other turns others side theirs (call_step which connect_c
 step_moves law options other turns others side theirs (call_step which close_call) more h k fits done = abort_moves law options turns side theirs.past CloseCalled more h done
 step_moves law options other turns others side theirs (call_step which (advance_call moment)) more h k fits done =
     advance_moves law options turns side theirs.past (nat_le (endpoint_after options turns).moment moment) moment more h done
+step_moves law options other turns others side theirs (call_step which (set_call setting)) more h k fits done = setting_moves options turns side theirs.past setting more h done
 step_moves law options other turns others side theirs (delivery_step which zero) more h k fits done = nothing_happens options turns side theirs.past more h done
 step_moves law options other turns others side theirs (delivery_step which (suc index)) more h k fits done =
     delivery_moves law options other turns others side theirs index (slice_get (packets_shown other others) index) more h k fits refl done

@@ -6,7 +6,7 @@ use Rattle.dcsctp_machine.specs.Packet.{Content, init, init_ack, cookie_echo, co
 use Rattle.dcsctp_machine.specs.Deadlines.{T1Runs}
 use Rattle.dcsctp_machine.specs.Endpoint.{Endpoint, Core, closed, cookie_wait, cookie_echoed, open_in, established, shutdown_pending, shutdown_sent, shutdown_received, shutdown_ack_sent, RunningTimer, going_on, fresh_endpoint}
 use Rattle.dcsctp_machine.specs.Outcome.{Outcome, still}
-use Rattle.dcsctp_machine.specs.Turn.{Input, arrival, refusal, packet_begins, chunk_input, packet_ends, act_input, timer_expires, time_passes, has_data, BeginTurn, ContentTurn, ActTurn}
+use Rattle.dcsctp_machine.specs.Turn.{Input, arrival, refusal, packet_begins, chunk_input, packet_ends, act_input, user_sets, timer_expires, time_passes, has_data, BeginTurn, ContentTurn, ActTurn}
 use Rattle.dcsctp_machine.specs.turns.PlainOutcomes.{PlainTurn, violation_at}
 use Rattle.dcsctp_machine.specs.turns.HandshakeOutcomes.{init_ack_outcome}
 use Rattle.dcsctp_machine.specs.turns.TimerOutcomes.{t1_goes_on}
@@ -72,6 +72,7 @@ these_may_come =
       connects = tt;
       aborts = λ reason. tt;
       expires = λ again. tt;
+      sets = λ setting. tt;
       own_expires = λ timer. tt;
       passes = λ moment. tt;
     }
@@ -131,6 +132,7 @@ turn_up e (packet_begins contents) t may turn h = subst UpAfter (sym (nothing_be
 turn_up e (chunk_input tag content) t may turn h = chunk_up e tag content t.outcome may turn.comes h
 turn_up e packet_ends t may turn h = subst UpAfter (sym turn.comes) h
 turn_up e (act_input act) t may turn h = act_up e act t.outcome may turn.comes h
+turn_up e (user_sets setting) t may turn h = subst UpAfter (sym turn.comes) h
 turn_up e (timer_expires timer) t may turn h = subst UpAfter (sym turn.comes) (timer_up e timer h)
 turn_up e (time_passes moment) t may turn h = subst UpAfter (sym turn.comes) h
 

@@ -8,7 +8,7 @@ use Rattle.dcsctp_machine.specs.Endpoint.{Endpoint, Core, cookie_wait, cookie_ec
 use Rattle.dcsctp_machine.specs.Endpoint as machine
 use Rattle.dcsctp_machine.specs.Outcome.{Outcome, still, quiet, sends as sends_packet, fits, to_peer, emits}
 use Rattle.dcsctp_machine.proofs.HeartbeatLemmas.{timer_controlled}
-use Rattle.dcsctp_machine.specs.Turn.{Input, arrival, refusal, packet_begins, chunk_input, packet_ends, act_input, timer_expires, time_passes, has_data}
+use Rattle.dcsctp_machine.specs.Turn.{Input, arrival, refusal, packet_begins, chunk_input, packet_ends, act_input, user_sets, timer_expires, time_passes, has_data}
 use Rattle.dcsctp_machine.specs.turns.HandshakeOutcomes.{pair_from, renewed_pair, init_ack_emission, init_outcome}
 use Rattle.dcsctp_machine.specs.control.Effect.{Effect, draws, sends, holds, connects, ends, begins, completes, fails, accepts, performs, Change}
 use Rattle.dcsctp_machine.specs.control.Acts.{Act, act_change, shutdown_repeats, flushes}
@@ -150,6 +150,7 @@ turn_tells law e (packet_begins contents) t h =
 turn_tells law e (chunk_input tag content) t h = chunk_tells law.once e tag content t h
 turn_tells law e packet_ends t h = rests e t _ h.comes (still_rests e)
 turn_tells law e (act_input act) t h = by_act law.once e act t (law.acts e act t.outcome h.comes)
+turn_tells law e (user_sets setting) t h = rests e t _ h.comes (record { core = refl; none = refl })
 turn_tells law e (timer_expires timer) t h = by_act law.once e flushes t (timer_controlled e timer t.outcome h.comes)
 turn_tells law e (time_passes moment) t h = rests e t _ h.comes (record { core = refl; none = refl })
 

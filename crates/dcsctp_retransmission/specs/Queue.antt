@@ -48,6 +48,8 @@ window_left queue = queue.peer_window - bytes_in_flight queue.outstanding.header
 abbrev pub retransmission_state : QueueModel → RetransmissionState
 retransmission_state queue =
     record {
+      partial_reliability = queue.partial_reliability;
+      message_interleaving = queue.interleaving;
       next_tsn = next_tsn queue.outstanding;
       unacknowledged_items = unacknowledged_items queue.outstanding.items;
       deadline = running_deadline queue.timer.running;

@@ -83,7 +83,7 @@ impl RetransmissionQueue {
         partial_reliability: bool,
         interleaving: bool,
     ) -> RetransmissionQueue
-        ensures seen { retransmission_state result ≡ new_retransmission options.now my_initial_tsn a_rwnd }
+        ensures seen { retransmission_state result ≡ new_retransmission options.now partial_reliability interleaving my_initial_tsn a_rwnd }
         ensures whole { result ≡ new_queue options.now my_initial_tsn a_rwnd partial_reliability interleaving }
     {
         RetransmissionQueue {

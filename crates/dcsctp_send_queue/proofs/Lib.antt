@@ -2,6 +2,7 @@ pub mod FragmentLemmas
 pub mod FrontLemmas
 pub mod GoingOnLemmas
 pub mod QueueLemmas
+pub mod QueuedLemmas
 pub mod ReadyLemmas
 pub mod ResetLemmas
 pub mod ShownLemmas

@@ -1,7 +1,7 @@
 -- What a send queue holds, and what a socket shows of it.
 use Rattle.std.specs.Prelude.{◌≡◌, ℕ, ◌==◌, ◌<◌, nat_lt, Bool, true, false, Option, None, Some, List, [], ◌∷◌, length, map, filter, if◌then◌else◌}
 use Rattle.std.specs.List.{list_any}
-use Rattle.dcsctp_machine.specs.Transfer.{StreamNumber, SendQueueState}
+use Rattle.dcsctp_machine.specs.Transfer.{StreamNumber, QueuedStream, SendQueueState}
 use Rattle.dcsctp_send_queue.specs.declared.backlog.Backlog.{Backlog}
 use Rattle.dcsctp_streams.specs.declared.message.UnderWay.{UnderWay}
 use Rattle.dcsctp_streams.specs.declared.stream.Pause.{Pause}
@@ -37,14 +37,8 @@ stream_of queue id = found_in (unused id queue.default_priority queue.default_th
 
 -- ---- what a socket shows of it
 
-abbrev pub amount_of : Stream → StreamNumber
-amount_of stream = record { stream = stream.id; number = stream.amount }
-
-abbrev pub threshold_of : Stream → StreamNumber
-threshold_of stream = record { stream = stream.id; number = stream.threshold }
-
-abbrev pub priority_of : Stream → StreamNumber
-priority_of stream = record { stream = stream.id; number = stream.priority }
+abbrev pub queued_of : Stream → QueuedStream
+queued_of stream = record { stream = stream.id; buffered_amount = stream.amount; low_threshold = stream.threshold; priority = stream.priority }
 
 abbrev pub sent_of : Option UnderWay → Option StreamNumber
 sent_of None = None
@@ -73,9 +67,9 @@ queue_state queue =
     record {
       is_interleaved = queue.is_interleaved;
       total_buffered_amount = queue.total_amount;
-      buffered_amounts = map amount_of queue.streams;
-      thresholds = map threshold_of queue.streams;
-      priorities = map priority_of queue.streams;
+      default_threshold = queue.default_threshold;
+      default_priority = queue.default_priority;
+      streams = map queued_of queue.streams;
       under_way = sent_of queue.under_way;
       ready_streams = ready_streams queue;
     }

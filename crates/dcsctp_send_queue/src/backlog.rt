@@ -84,6 +84,7 @@ impl Backlog {
         ensures ok { OnOk result (self.new ≡ record self.old { streams = used self.old stream_id.0 }) }
         ensures place { IfOk result (λ place. IsFound self.new.streams stream_id.0 (Ok place)) }
         ensures ascending { IsAscending self.new.streams }
+        ensures was_ascending { IsAscending self.old.streams }
         ensures can { CanGoOn self.old.streams self.old.under_way → CanGoOn self.new.streams self.new.under_way }
         ensures err { OnErr result (self.new ≡ self.old) }
     {
@@ -100,6 +101,7 @@ impl Backlog {
     /// Gives the stream a threshold, in bytes. If there is no memory for it, nothing changes.
     pub fn set_threshold(&mut self, stream_id: StreamId, bytes: usize) -> Result<(), AllocError>
         ensures ok { OnOk result (self.new ≡ record self.old { streams = changed stream_id.0 (with_threshold bytes) (used self.old stream_id.0) }) }
+        ensures was_ascending { IsAscending self.old.streams }
         ensures can { CanGoOn self.old.streams self.old.under_way → CanGoOn self.new.streams self.new.under_way }
         ensures err { OnErr result (self.new ≡ self.old) }
     {
@@ -111,6 +113,7 @@ impl Backlog {
     /// Gives the stream a priority. If there is no memory for it, nothing changes.
     pub fn set_priority(&mut self, stream_id: StreamId, priority: u16) -> Result<(), AllocError>
         ensures ok { OnOk result (self.new ≡ record self.old { streams = changed stream_id.0 (with_priority priority) (used self.old stream_id.0) }) }
+        ensures was_ascending { IsAscending self.old.streams }
         ensures can { CanGoOn self.old.streams self.old.under_way → CanGoOn self.new.streams self.new.under_way }
         ensures err { OnErr result (self.new ≡ self.old) }
     {

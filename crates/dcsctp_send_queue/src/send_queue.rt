@@ -34,6 +34,7 @@ impl Model for SendQueue {
 impl SendQueue {
     ghost use Rattle.std.specs.Prelude.{◌≡◌, ◌+◌, ◌-◌, ◌<◌, ◌++◌, ◌↔◌, vec_len, IsTrue, IfSome, OnOk, OnErr, IfOk, map, take, if◌then◌else◌, false};
     ghost use Rattle.dcsctp_machine.specs.Transfer.{empty_queue, queue_after_reset};
+    ghost use Rattle.dcsctp_machine.specs.turns.SettingOutcomes.{stream_priority, stream_low_threshold, set_in_queue};
     ghost use Rattle.dcsctp_streams.specs.Telling.{contents};
     ghost use Rattle.dcsctp_streams.specs.Fragment.{HasSize};
     ghost use Rattle.dcsctp_streams.specs.Waiting.{paused};
@@ -47,7 +48,7 @@ impl SendQueue {
     /// A queue with no messages, which numbers them as for no interleaving. It takes no memory.
     pub fn new(alloc: Global, options: &Options) -> SendQueue
         ensures whole { result ≡ no_backlog alloc options.now }
-        ensures shown { queue_state result ≡ empty_queue }
+        ensures shown { queue_state result ≡ empty_queue options.now }
     {
         SendQueue {
             backlog: Backlog {
@@ -233,6 +234,7 @@ impl SendQueue {
         bytes: usize,
     ) -> Result<(), AllocError>
         ensures ok { OnOk result (self.new ≡ record self.old { streams = changed stream_id.0 (with_threshold bytes) (used self.old stream_id.0) }) }
+        ensures shown { OnOk result (queue_state self.new ≡ set_in_queue (stream_low_threshold stream_id.0 bytes) (queue_state self.old)) }
         ensures err { OnErr result (self.new ≡ self.old) }
     {
         self.backlog.set_threshold(stream_id, bytes)
@@ -251,6 +253,7 @@ impl SendQueue {
     /// Gives the stream a priority.
     pub fn set_priority(&mut self, stream_id: StreamId, priority: u16) -> Result<(), AllocError>
         ensures ok { OnOk result (self.new ≡ record self.old { streams = changed stream_id.0 (with_priority priority) (used self.old stream_id.0) }) }
+        ensures shown { OnOk result (queue_state self.new ≡ set_in_queue (stream_priority stream_id.0 priority) (queue_state self.old)) }
         ensures err { OnErr result (self.new ≡ self.old) }
     {
         self.backlog.set_priority(stream_id, priority)

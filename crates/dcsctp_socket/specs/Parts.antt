@@ -12,6 +12,7 @@ use Rattle.dcsctp_machine.specs.Settings.{ports_of}
 use Rattle.dcsctp_machine.specs.Event.{Event}
 use Rattle.dcsctp_machine.specs.Turn.{ContentTurn, act_input}
 use Rattle.dcsctp_machine.specs.control.Acts.{Act, connect}
+use Rattle.dcsctp_machine.specs.turns.SettingOutcomes.{Setting, endpoint_with}
 use Rattle.dcsctp_machine.specs.CallTurns.{Turned, Turns, ChunkTurns, WholeTurns, AdmittedTurns, HandleInput, FirstTurns, FirstOfWhole, FirstAdmitted, CutInput}
 use Rattle.dcsctp_api.specs.Calls.{AddsFront}
 use Rattle.dcsctp_core.specs.declared.context.Context.{Context}
@@ -111,6 +112,10 @@ pub record CallCut {R : Type 0} (CallTurns : Endpoint → List Turned → Type 0
   pub are : CallTurns old.endpoint turns
   pub adds : AddsFront (ports_of old.endpoint.options) turns old.events events
 
+-- the view once this is set; no word is drawn
+abbrev pub set_view : {R : Type 0} → Setting → View R → View R
+set_view setting view = record view { endpoint = endpoint_with setting view.endpoint; words = []; pairs = [] }
+
 -- ---- by the result of a function
 
 abbrev pub WorksChunk : {R E : Type 0} → (R → Stream) → ℕ → Content → Context R → Result Following E → Context R → Type 0
@@ -142,6 +147,11 @@ WorksInput stream bytes old (Err error) new = InputCut bytes (view_of old) (view
 abbrev pub WorksCall : {R E : Type 0} → (R → Stream) → (Endpoint → List Turned → Type 0) → Context R → Result (Unit {0}) E → Context R → Type 0
 WorksCall stream CallTurns old (Ok done) new = CallMoved stream CallTurns (view_of old) (view_of new)
 WorksCall stream CallTurns old (Err error) new = CallCut CallTurns (view_of old) (view_of new).events
+
+-- It is set; or a growth was refused, and nothing has changed.
+abbrev pub WorksSetting : {R E : Type 0} → Setting → Context R → Result (Unit {0}) E → Context R → Type 0
+WorksSetting setting old (Ok done) new = view_of new ≡ set_view setting (view_of old)
+WorksSetting setting old (Err error) new = view_of new ≡ call_start (view_of old)
 
 -- Where a growth was refused, nothing has changed but what words were drawn.
 abbrev pub WorksConnect : {R E : Type 0} → (R → Stream) → Context R → Result (Unit {0}) E → Context R → Type 0

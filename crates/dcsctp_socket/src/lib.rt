@@ -35,6 +35,7 @@
 mod admission;
 mod calls;
 mod dispatch;
+mod settings;
 mod socket;
 mod texts;
 mod timers;

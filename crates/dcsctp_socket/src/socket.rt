@@ -2,9 +2,10 @@
 
 ghost use Rattle.dcsctp_socket.specs.SocketView.{Settles};
 
-use crate::{calls, timers};
+use crate::{calls, settings, timers};
 use dcsctp_api::{
     Association, DcSctpSocket, Options, Pair, SocketEvent, SocketFault, SocketState, SocketTime,
+    StreamId,
 };
 use dcsctp_core::Context;
 use dcsctp_machine::time_passes_quietly;
@@ -103,7 +104,8 @@ impl<R: Rng + Drop> Socket<R> {
 
 impl<R: Rng + Drop> DcSctpSocket for Socket<R> {
     ghost use Rattle.std.specs.Prelude.{◌≡◌, ◌<◌, true, false, IsOk, OnOk, IsErrOf};
-    ghost use Rattle.dcsctp_api.specs.Calls.{PollsEvent, HandlesInput, Connects, Closes, is_closed};
+    ghost use Rattle.dcsctp_api.specs.Calls.{PollsEvent, HandlesInput, Connects, Closes, Sets, with_setting, is_closed};
+    ghost use Rattle.dcsctp_machine.specs.turns.SettingOutcomes.{stream_priority, stream_low_threshold, longest_message};
     ghost use Rattle.dcsctp_machine.specs.TimeTurns.{Waits, next_moment};
     ghost use Rattle.dcsctp_api.specs.Time.{Advances, OnlyMovesClock};
     ghost use Rattle.dcsctp_core.specs.View.{Drawn};
@@ -195,5 +197,65 @@ impl<R: Rng + Drop> DcSctpSocket for Socket<R> {
 
     fn state(&self) -> SocketState {
         self.context.state.socket_state()
+    }
+
+    fn options(&self) -> &Options {
+        &self.context.options
+    }
+
+    fn set_max_message_size(&mut self, max_message_size: usize)
+        ensures call { user_view_of self.new ≡ with_setting (longest_message max_message_size) (user_view_of self.old) }
+        ensures generator { self.new.view.generator ≡ self.old.view.generator }
+    {
+        settings::set_max_message_size(&mut self.context, max_message_size);
+    }
+
+    fn set_stream_priority(
+        &mut self,
+        stream_id: StreamId,
+        priority: u16,
+    ) -> Result<(), SocketFault>
+        ensures call { Sets (stream_priority stream_id.0 priority) (user_view_of self.old) result (user_view_of self.new) }
+        ensures generator { self.new.view.generator ≡ self.old.view.generator }
+        ensures failed { IsErrOf result SocketFault.Failed → self.new ≡ self.old }
+    {
+        // A socket that has failed stays as it is.
+        if self.failed {
+            return Err(SocketFault::Failed);
+        }
+        let outcome = settings::set_stream_priority(&mut self.context, stream_id, priority);
+        settled(&mut self.failed, outcome)
+    }
+
+    fn get_stream_priority(&self, stream_id: StreamId) -> u16 {
+        self.context.send_queue.priority(stream_id)
+    }
+
+    fn buffered_amount(&self, stream_id: StreamId) -> usize {
+        self.context.send_queue.buffered_amount(stream_id)
+    }
+
+    fn buffered_amount_low_threshold(&self, stream_id: StreamId) -> usize {
+        self.context
+            .send_queue
+            .buffered_amount_low_threshold(stream_id)
+    }
+
+    fn set_buffered_amount_low_threshold(
+        &mut self,
+        stream_id: StreamId,
+        bytes: usize,
+    ) -> Result<(), SocketFault>
+        ensures call { Sets (stream_low_threshold stream_id.0 bytes) (user_view_of self.old) result (user_view_of self.new) }
+        ensures generator { self.new.view.generator ≡ self.old.view.generator }
+        ensures failed { IsErrOf result SocketFault.Failed → self.new ≡ self.old }
+    {
+        // Its threshold stays, too.
+        if self.failed {
+            return Err(SocketFault::Failed);
+        }
+        let outcome =
+            settings::set_buffered_amount_low_threshold(&mut self.context, stream_id, bytes);
+        settled(&mut self.failed, outcome)
     }
 }

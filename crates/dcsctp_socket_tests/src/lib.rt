@@ -28,4 +28,6 @@ mod pairs;
 #[cfg(test)]
 mod plenty;
 #[cfg(test)]
+mod settings;
+#[cfg(test)]
 mod sockets;

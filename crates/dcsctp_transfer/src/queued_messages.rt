@@ -1,8 +1,8 @@
 //! What waits to be sent. It outlasts an association.
 
-use dcsctp_machine::Options;
+use dcsctp_machine::{Options, StreamId};
 use dcsctp_send_queue::SendQueue;
-use std::alloc::Global;
+use std::alloc::{AllocError, Global};
 use std::marker::Model;
 
 /// The messages that wait to be sent, by stream.
@@ -27,12 +27,13 @@ impl Model for QueuedMessages {
 }
 
 impl QueuedMessages {
-    ghost use Rattle.std.specs.Prelude.{◌≡◌};
-    ghost use Rattle.dcsctp_machine.specs.Transfer.{empty_queue, queue_after_reset};
+    ghost use Rattle.std.specs.Prelude.{◌≡◌, OnOk, OnErr};
+    ghost use Rattle.dcsctp_machine.specs.Transfer.{empty_queue, queue_after_reset, queued_stream};
+    ghost use Rattle.dcsctp_machine.specs.turns.SettingOutcomes.{stream_priority, stream_low_threshold, set_in_queue};
 
     /// No messages, which are numbered as for no interleaving. It takes no memory.
     pub fn new(alloc: Global, options: &Options) -> QueuedMessages
-        ensures { result ≡ empty_queue }
+        ensures { result ≡ empty_queue options.now }
     {
         QueuedMessages {
             queue: SendQueue::new(alloc, options),
@@ -52,5 +53,48 @@ impl QueuedMessages {
         ensures { self.new ≡ record self.old { is_interleaved = enabled } }
     {
         self.queue.enable_message_interleaving(enabled);
+    }
+
+    /// The payload bytes that wait to be sent on this stream.
+    pub fn buffered_amount(&self, stream_id: StreamId) -> usize
+        ensures { result ≡ (queued_stream self.now stream_id.0).buffered_amount }
+    {
+        self.queue.buffered_amount(stream_id)
+    }
+
+    /// The buffered amount of this stream, in bytes, at which it is told that the amount is low.
+    pub fn buffered_amount_low_threshold(&self, stream_id: StreamId) -> usize
+        ensures { result ≡ (queued_stream self.now stream_id.0).low_threshold }
+    {
+        self.queue.buffered_amount_low_threshold(stream_id)
+    }
+
+    /// Gives a stream such an amount. The one error is that there is no memory for a stream that wasn't
+    /// used before; then nothing has changed.
+    pub fn set_buffered_amount_low_threshold(
+        &mut self,
+        stream_id: StreamId,
+        bytes: usize,
+    ) -> Result<(), AllocError>
+        ensures ok { OnOk result (self.new ≡ set_in_queue (stream_low_threshold stream_id.0 bytes) self.old) }
+        ensures err { OnErr result (self.new ≡ self.old) }
+    {
+        self.queue
+            .set_buffered_amount_low_threshold(stream_id, bytes)
+    }
+
+    /// The priority of this stream: the greatest goes first.
+    pub fn priority(&self, stream_id: StreamId) -> u16
+        ensures { result ≡ (queued_stream self.now stream_id.0).priority }
+    {
+        self.queue.get_priority(stream_id)
+    }
+
+    /// Gives a stream a priority. The one error is that of `set_buffered_amount_low_threshold`.
+    pub fn set_priority(&mut self, stream_id: StreamId, priority: u16) -> Result<(), AllocError>
+        ensures ok { OnOk result (self.new ≡ set_in_queue (stream_priority stream_id.0 priority) self.old) }
+        ensures err { OnErr result (self.new ≡ self.old) }
+    {
+        self.queue.set_priority(stream_id, priority)
     }
 }

@@ -60,7 +60,7 @@ impl Transfer {
         a_rwnd: u32,
         capabilities: &Capabilities,
     ) -> Transfer
-        ensures { result ≡ new_transfer options.now first_tsn peer_first_tsn a_rwnd }
+        ensures { result ≡ new_transfer options.now capabilities.now first_tsn peer_first_tsn a_rwnd }
     {
         Transfer {
             retransmission_queue: RetransmissionQueue::new(

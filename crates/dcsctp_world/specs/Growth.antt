@@ -1,6 +1,6 @@
 -- How one side grows in an act.
 use Rattle.std.specs.Prelude.{◌≡◌, ℕ, true, false, Option, None, Some, Result, Ok, Err, List, [], ◌∷◌, ◌++◌, ◌⊎◌, map}
-use Rattle.dcsctp_machine.specs.Schedule.{CallContent, connect_call, close_call, ActContent, call_step, delivery_step, step_act, advance_call, OutsideContent, input_outside, outside_act}
+use Rattle.dcsctp_machine.specs.Schedule.{CallContent, connect_call, close_call, ActContent, call_step, delivery_step, step_act, advance_call, set_call, OutsideContent, input_outside, outside_act}
 use Rattle.dcsctp_machine.specs.Event.{Event, packets_in}
 use Rattle.dcsctp_machine.specs.Endpoint.{Endpoint, association_of}
 use Rattle.dcsctp_machine.specs.Settings.{ports_of}
@@ -172,6 +172,7 @@ abbrev pub IsCallReply : Endpoint → CallContent → Reply → Type 0
 IsCallReply e connect_call reply = reply ≡ Done
 IsCallReply e close_call reply = reply ≡ Done
 IsCallReply e (advance_call moment) reply = reply ≡ Done
+IsCallReply e (set_call setting) reply = reply ≡ Done
 
 -- It is what an act from outside answers.
 abbrev pub IsOutsideReply : OutsideContent → Reply → Type 0

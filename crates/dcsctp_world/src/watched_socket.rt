@@ -93,6 +93,21 @@ fn make_call<R: Rng + Drop>(socket: &mut Socket<R>, call: Call) -> Result<(), So
             socket.advance_time(now)?;
             Ok(())
         }
+        Call::SetStreamPriority(stream_id, priority) => {
+            socket.set_stream_priority(stream_id, priority)?;
+            Ok(())
+        }
+        Call::SetBufferedAmountLowThreshold(stream_id, bytes) => {
+            socket.set_buffered_amount_low_threshold(stream_id, bytes)?;
+            Ok(())
+        }
+        Call::SetMaxMessageSize(bytes) => {
+            if socket.has_failed() {
+                return Err(SocketFault::Failed);
+            }
+            socket.set_max_message_size(bytes);
+            Ok(())
+        }
     }
 }
 

@@ -1,7 +1,7 @@
 //! Two sockets that find each other, whatever the schedule.
 
 use crate::checks::{holds, same};
-use dcsctp_socket::{DcSctpSocket, Options, SocketEvent, SocketState};
+use dcsctp_socket::{DcSctpSocket, Options, SocketEvent, SocketState, StreamId};
 use dcsctp_testing::TwoWords;
 use dcsctp_world::{Act, Call, Reply, Side, Step, World};
 use std::alloc::Global;
@@ -273,6 +273,27 @@ fn a_side_that_closes_holds_no_association(rt: HostRuntime) {
         world.socket(Side::B).state(),
         SocketState::Connected,
     );
+    drop(world);
+}
+
+#[test]
+fn a_side_keeps_what_its_user_sets(rt: HostRuntime) {
+    let mut world = world_behind_handshake(&rt, rt.alloc(), 0);
+    let id = StreamId(1);
+    let calls = [
+        Step::Call(Side::A, Call::SetStreamPriority(id, 5)),
+        Step::Call(Side::A, Call::SetBufferedAmountLowThreshold(id, 7)),
+        Step::Call(Side::A, Call::SetMaxMessageSize(12)),
+    ];
+    world.run(&calls).expect(&rt, "the calls");
+    let a = world.socket(Side::A);
+    same(&rt, "priority", a.get_stream_priority(id), 5);
+    same(&rt, "threshold", a.buffered_amount_low_threshold(id), 7);
+    same(&rt, "longest message", a.options().max_message_size, 12);
+    let b = world.socket(Side::B);
+    same(&rt, "priority at B", b.get_stream_priority(id), 256);
+    are_connected(&rt, &world, "nothing else has changed");
+    same(&rt, "packets and pairs", counts(&world), [2, 2, 1]);
     drop(world);
 }
 

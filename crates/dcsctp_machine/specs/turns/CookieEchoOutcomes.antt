@@ -67,7 +67,7 @@ established_by e cookie queue tie =
       timers = heartbeats_begun e (record stopped_timers { heartbeat_interval = e.timers.heartbeat_interval; heartbeat_timeout = e.timers.heartbeat_timeout });
       below = record {
         queue = queue;
-        transfer = Some (new_transfer e.options cookie.maker.first_tsn cookie.addressee.first_tsn (window_by_cookie e.options cookie));
+        transfer = Some (new_transfer e.options (held_by_cookie e.options cookie).capabilities cookie.maker.first_tsn cookie.addressee.first_tsn (window_by_cookie e.options cookie));
       };
     }
 

@@ -156,7 +156,7 @@ awaits_cookie_ack e mine theirs cookie tie =
       peer_implementation = implementation_of cookie;
       below = record {
         queue = queue_anew e.below.queue held.capabilities.message_interleaving;
-        transfer = Some (new_transfer e.options mine.first_tsn theirs.pair.first_tsn theirs.window);
+        transfer = Some (new_transfer e.options held.capabilities mine.first_tsn theirs.pair.first_tsn theirs.window);
       };
     }
 

@@ -1,0 +1,36 @@
+-- What the user sets of a socket, and no packet tells the peer.
+use Rattle.std.specs.Prelude.{ℕ}
+use Rattle.dcsctp_machine.specs.Transfer.{SendQueueState, queued_stream, queue_with}
+use Rattle.dcsctp_machine.specs.Endpoint.{Endpoint}
+use Rattle.dcsctp_machine.specs.Outcome.{Outcome, still}
+
+pub data Setting : Type 0 where
+  -- the priority of a stream
+  stream_priority : ℕ → ℕ → Setting
+  -- the buffered amount of a stream at which the user is told that it is low
+  stream_low_threshold : ℕ → ℕ → Setting
+  -- how long a message may be
+  longest_message : ℕ → Setting
+
+-- the queue once this is set
+abbrev pub set_in_queue : Setting → SendQueueState → SendQueueState
+set_in_queue (stream_priority id priority) queue = queue_with (record (queued_stream queue id) { priority = priority }) queue
+set_in_queue (stream_low_threshold id bytes) queue = queue_with (record (queued_stream queue id) { low_threshold = bytes }) queue
+set_in_queue (longest_message bytes) queue = queue
+
+-- the longest message once this is set
+abbrev pub longest_after : Setting → ℕ → ℕ
+longest_after (stream_priority id priority) before = before
+longest_after (stream_low_threshold id bytes) before = before
+longest_after (longest_message bytes) before = bytes
+
+-- Nothing else changes, and the user is told nothing.
+abbrev pub endpoint_with : Setting → Endpoint → Endpoint
+endpoint_with setting e =
+    record e {
+      options = record e.options { max_message_size = longest_after setting e.options.max_message_size };
+      below = record e.below { queue = set_in_queue setting e.below.queue };
+    }
+
+abbrev pub setting_outcome : Endpoint → Setting → Outcome
+setting_outcome e setting = still (endpoint_with setting e)

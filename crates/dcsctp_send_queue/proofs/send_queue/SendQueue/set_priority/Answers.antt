@@ -1,0 +1,16 @@
+use Rattle.std.proofs.Common.{◌≡◌, ◌∙◌, ap, subst}
+use Rattle.dcsctp_machine.specs.turns.SettingOutcomes.{stream_priority, set_in_queue}
+use Rattle.dcsctp_send_queue.specs.declared.backlog.Backlog.{Backlog}
+use Rattle.dcsctp_send_queue.specs.Backlog.{changed, used, queue_state}
+use Rattle.dcsctp_send_queue.specs.Resets.{with_priority}
+use Rattle.dcsctp_send_queue.proofs.ResetLemmas.{on_ok_map}
+use Rattle.dcsctp_send_queue.proofs.QueuedLemmas.{shown_after_priority}
+use Rattle.dcsctp_send_queue.proofs.send_queue.SendQueue.set_priority.Goals as goal
+
+pub returns-clause-shown : goal.returns-clause-shown
+returns-clause-shown c =
+    let inside : Backlog = c.self.inside.backlog in
+    on_ok_map c.set_priority.result
+    (λ (is : c.set_priority.new.self ≡ record inside { streams = changed c.args.stream_id.0 (with_priority c.args.priority) (used inside c.args.stream_id.0) }).
+    ap queue_state is ∙ (shown_after_priority inside c.args.stream_id.0 c.args.priority c.set_priority.ensures.was_ascending ∙ ap (λ (q : Backlog). set_in_queue (stream_priority c.args.stream_id.0 c.args.priority) (queue_state q)) c.self.view_is))
+    c.set_priority.ensures.ok
