@@ -1,4 +1,5 @@
 pub mod FreshLemmas
+pub mod GivingUpLemmas
 pub mod HaltingLemmas
 pub mod QueueLemmas
 pub mod SendingLemmas

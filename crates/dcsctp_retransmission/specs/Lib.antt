@@ -1,5 +1,6 @@
 pub mod Congestion
 pub mod Forwarding
+pub mod GivingUp
 pub mod Halting
 pub mod Queue
 pub mod RoundTrip

@@ -11,12 +11,14 @@ use dcsctp_send_queue::SendQueue;
 use std::alloc::AllocError;
 
 impl RetransmissionQueue {
-    ghost use Rattle.std.specs.Prelude.{ℕ, List, ◌&&◌, ◌+◌, ◌-◌, ◌/◌, ◌<◌, ◌≤◌, IfOk, length};
+    ghost use Rattle.std.specs.Prelude.{ℕ, List, [], ◌&&◌, ◌+◌, ◌-◌, ◌/◌, ◌<◌, ◌≤◌, IfOk, length};
     ghost use Rattle.dcsctp_send.specs.Timer.{expires_at};
     ghost use Rattle.dcsctp_outstanding.specs.Items.{is_first_abandoned};
     ghost use Rattle.dcsctp_retransmission.specs.Queue.{MayGrow, GivesUp};
     ghost use Rattle.dcsctp_outstanding.specs.Messages.{AtPlace};
+    ghost use Rattle.dcsctp_outstanding.specs.Progress.{is_unacknowledged};
     ghost use Rattle.dcsctp_retransmission.specs.States.{RefusesUpAt, RefusesClosing, GivesUpAt, Closes, stage};
+    ghost use Rattle.dcsctp_retransmission.specs.GivingUp.{GivesUpDue, GivesUpIf};
 
     // Is the message of the item at the place to be given up in place of being sent again?
     pub(super) fn is_to_be_given_up(&self, place: usize, now: SocketTime) -> bool
@@ -72,8 +74,8 @@ impl RetransmissionQueue {
     }
 
     /// Is a FORWARD-TSN due at the moment `now`? That is so where partial reliability was negotiated and the
-    /// first item that is outstanding was given up. First what is lost from there on is given up, as
-    /// `get_chunks_to_send` does.
+    /// first item that is outstanding was given up. First what is lost is given up, as `get_chunks_to_send` does,
+    /// up to the first item that is awaited still.
     ///
     /// `Err`: memory was refused. Some messages may have been given up.
     pub fn should_send_forward_tsn(
@@ -83,17 +85,31 @@ impl RetransmissionQueue {
         now: SocketTime,
     ) -> Result<bool, AllocError>
         ensures due { IfOk result (λ due. due ≡ (self.old.partial_reliability && is_first_abandoned self.new.outstanding.items)) }
+        ensures gives_up { GivesUpDue now (stage self.old queue.old events.old [] 0) (stage self.new queue.new events.new [] 0) result }
     {
         if !self.partial_reliability {
             return Ok(false);
         }
+        self.give_up_first(events, queue, now)?;
+        Ok(self.is_first_abandoned())
+    }
+
+    // Gives up what is due, from the first item on up to one that is awaited still.
+    fn give_up_first(
+        &mut self,
+        events: &mut Events,
+        queue: &mut SendQueue,
+        now: SocketTime,
+    ) -> Result<(), AllocError>
+        ensures { GivesUpDue now (stage self.old queue.old events.old [] 0) (stage self.new queue.new events.new [] 0) result }
+    {
         for place in 0..self.outstanding.len() {
             self.give_up_if_due(events, queue, now, place)?;
             if self.is_awaited(place) {
-                break;
+                return Ok(());
             }
         }
-        Ok(self.is_first_abandoned())
+        Ok(())
     }
 
     // Gives up the message of the item at the place, where it is to be.
@@ -105,17 +121,18 @@ impl RetransmissionQueue {
         place: usize,
     ) -> Result<(), AllocError>
         requires { place < length self.old.outstanding.items }
-        ensures { OnOk result (length self.old.outstanding.items ≤ length self.new.outstanding.items) }
+        ensures { AtPlace self.old.outstanding.items place (λ item. GivesUpIf now place (stage self.old queue.old events.old [] 0) (stage self.new queue.new events.new [] 0) (is_due now self.old.partial_reliability item) result) }
     {
-        if self.is_to_be_given_up(place, now) {
-            self.give_up(events, queue, now, place)?;
+        if !self.is_to_be_given_up(place, now) {
+            return Ok(());
         }
-        Ok(())
+        self.give_up(events, queue, now, place)
     }
 
     // Was the item at the place neither acknowledged nor given up?
     fn is_awaited(&self, place: usize) -> bool
         requires { place < length self.now.outstanding.items }
+        ensures { AtPlace self.now.outstanding.items place (λ item. result ≡ is_unacknowledged item.progress.state) }
     {
         let item = self.outstanding.item(place);
         item.progress.state.is_unacknowledged()
