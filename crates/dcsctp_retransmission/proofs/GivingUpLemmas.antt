@@ -14,7 +14,7 @@ use Rattle.dcsctp_outstanding.specs.Messages.{EndsDropped}
 use Rattle.dcsctp_outstanding.proofs.ItemsLemmas.{le_or_lt, slice_get_pushed}
 use Rattle.dcsctp_retransmission.specs.Queue.{QueueModel, MayGrow, GivesUp}
 use Rattle.dcsctp_retransmission.specs.States.{Stage, is_due, Closes, GivesUpAt, Steps, none, more}
-use Rattle.dcsctp_retransmission.specs.GivingUp.{NoneAwaitedBefore, IsDueAt, NoneDue, GivesUpFirst, StopsGivingUp, GivesUpIf, RefusesAt}
+use Rattle.dcsctp_retransmission.specs.GivingUp.{NoneAwaitedBefore, NoneDue, GivesUpFirst, StopsGivingUp, GivesUpIf, RefusesAt}
 use Rattle.dcsctp_retransmission.proofs.QueueLemmas.{gives_up_grows}
 
 -- ---- items that aren't awaited

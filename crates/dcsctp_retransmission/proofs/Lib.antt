@@ -3,5 +3,6 @@ pub mod GivingUpLemmas
 pub mod HaltingLemmas
 pub mod QueueLemmas
 pub mod SendingLemmas
+pub mod SkippedLemmas
 pub mod SkippingLemmas
 pub mod StatesLemmas

@@ -5,6 +5,7 @@ pub mod Halting
 pub mod Queue
 pub mod RoundTrip
 pub mod Sending
+pub mod SkippedBytes
 pub mod Skipping
 pub mod States
 pub mod Telling

@@ -2,7 +2,7 @@ use Rattle.std.proofs.Common.{[], ◌∙◌, ◌<◌, length, refl, ap, sym, ari
 use Rattle.std.proofs.lemmas.Result.{err_from_is_err_and}
 use Rattle.dcsctp_retransmission.specs.Queue.{QueueModel}
 use Rattle.dcsctp_retransmission.specs.States.{is_due, stage}
-use Rattle.dcsctp_retransmission.proofs.StatesLemmas.{found, same_at}
+use Rattle.dcsctp_retransmission.proofs.StatesLemmas.{found}
 use Rattle.dcsctp_retransmission.proofs.GivingUpLemmas.{if_grows, scans_none, scans_at, scans_stop, scans_on, scanned_to}
 use Rattle.dcsctp_retransmission.proofs.retransmission_queue.RetransmissionQueue.give_up_first.Goals as goal
 
