@@ -88,11 +88,7 @@ pub trait DcSctpSocket {
 
     /// Gives a stream a priority: of the streams with messages that wait, one of the greatest is sent first.
     /// It outlasts an association. A stream that isn't set has `default_stream_priority`.
-    fn set_stream_priority(
-        &mut self,
-        stream_id: StreamId,
-        priority: u16,
-    ) -> Result<(), SocketFault>
+    fn set_stream_priority(&mut self, stream_id: StreamId, priority: u16) -> Result<(), SocketFault>
         ensures { Sets (stream_priority stream_id.0 priority) (user_view self.old) result (user_view self.new) };
 
     /// The priority of a stream. It takes no memory.

@@ -131,10 +131,10 @@ module _ (u : Stream) (id : ℕ) (f : Stream → Stream) (g : QueuedStream → Q
       let differs = differs_of x.id id e in
       let less = less_of x.id id l in
       let code : changed id f (used_with u id (x ∷ xs)) ≡ x ∷ changed id f (used_with u id xs) =
-          ap (λ (ts : List Stream). changed id f ts) (used_behind u x id xs e (less_test x.id u.id (omega (arith, less, is)))) ∙ changed_behind id f x (used_with u id xs) e in
+      ap (λ (ts : List Stream). changed id f ts) (used_behind u x id xs e (less_test x.id u.id (omega (arith, less, is)))) ∙ changed_behind id f x (used_with u id xs) e in
       let found : stream_among (queued_of u) id (queued_of x ∷ qs) ≡ stream_among (queued_of u) id qs = among_behind (queued_of u) (queued_of x) id qs e in
       let placed : with_queued s (queued_of x ∷ qs) ≡ queued_of x ∷ with_queued s qs =
-          with_behind s (queued_of x) qs (other_test x.id s.stream (apart x.id id s.stream differs number)) (less_test x.id s.stream (omega (arith, less, number))) in
+      with_behind s (queued_of x) qs (other_test x.id s.stream (apart x.id id s.stream differs number)) (less_test x.id s.stream (omega (arith, less, number))) in
       ap (λ (ts : List Stream). map queued_of ts) code
       ∙ (ap (λ (ts : List QueuedStream). queued_of x ∷ ts) ih ∙ sym (ap (λ (q : QueuedStream). with_queued (g q) (queued_of x ∷ qs)) found ∙ placed))
     where
@@ -149,12 +149,12 @@ module _ (u : Stream) (id : ℕ) (f : Stream → Stream) (g : QueuedStream → Q
       let all : (k : ℕ) → k < length (x ∷ xs) → id < (stream_at (x ∷ xs) k).id = all_above x xs id above below in
       let lost : IsFound (x ∷ xs) id (Err zero) = lost_above (x ∷ xs) id all in
       let code : changed id f (used_with u id (x ∷ xs)) ≡ f u ∷ x ∷ xs =
-          ap (λ (ts : List Stream). changed id f ts) (used_if u id (x ∷ xs) false (used_lost (x ∷ xs) zero id lost) ∙ with_stream_in_front u x xs (not_less_test x.id u.id (omega (arith, above, is))))
-          ∙ (changed_here id f u (x ∷ xs) (same_test u.id id is) ∙ ap (λ (ts : List Stream). f u ∷ ts) (changed-none id f (x ∷ xs) all)) in
+      ap (λ (ts : List Stream). changed id f ts) (used_if u id (x ∷ xs) false (used_lost (x ∷ xs) zero id lost) ∙ with_stream_in_front u x xs (not_less_test x.id u.id (omega (arith, above, is))))
+      ∙ (changed_here id f u (x ∷ xs) (same_test u.id id is) ∙ ap (λ (ts : List Stream). f u ∷ ts) (changed-none id f (x ∷ xs) all)) in
       let found : stream_among (queued_of u) id qs ≡ queued_of u = among_found u id (x ∷ xs) ∙ ap queued_of (found_in-none u (x ∷ xs) zero id lost) in
       let number : (g (queued_of u)).stream ≡ id = keeps (queued_of u) ∙ is in
       let placed : with_queued (g (queued_of u)) qs ≡ g (queued_of u) ∷ qs =
-          with_in_front (g (queued_of u)) (queued_of x) (map queued_of xs) (other_test x.id (g (queued_of u)).stream (omega (arith, above, number))) (not_less_test x.id (g (queued_of u)).stream (omega (arith, above, number))) in
+      with_in_front (g (queued_of u)) (queued_of x) (map queued_of xs) (other_test x.id (g (queued_of u)).stream (omega (arith, above, number))) (not_less_test x.id (g (queued_of u)).stream (omega (arith, above, number))) in
       ap (λ (ts : List Stream). map queued_of ts) code
       ∙ (ap (λ (q : QueuedStream). q ∷ qs) (sees u) ∙ sym (ap (λ (q : QueuedStream). with_queued (g q) qs) found ∙ placed))
 
@@ -187,6 +187,7 @@ ready-changed under_way id f number ready (x ∷ xs) =
     same : (x : Stream) (b : Bool) → (if b then f x else x).id ≡ x.id
     same x true = number x
     same x false = refl
+
     kept : (x : Stream) (b : Bool) → is_ready under_way (if b then f x else x) ≡ is_ready under_way x
     kept x true = ready x
     kept x false = refl

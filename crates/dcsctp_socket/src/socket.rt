@@ -210,11 +210,7 @@ impl<R: Rng + Drop> DcSctpSocket for Socket<R> {
         settings::set_max_message_size(&mut self.context, max_message_size);
     }
 
-    fn set_stream_priority(
-        &mut self,
-        stream_id: StreamId,
-        priority: u16,
-    ) -> Result<(), SocketFault>
+    fn set_stream_priority(&mut self, stream_id: StreamId, priority: u16) -> Result<(), SocketFault>
         ensures call { Sets (stream_priority stream_id.0 priority) (user_view_of self.old) result (user_view_of self.new) }
         ensures generator { self.new.view.generator ≡ self.old.view.generator }
         ensures failed { IsErrOf result SocketFault.Failed → self.new ≡ self.old }
@@ -254,8 +250,11 @@ impl<R: Rng + Drop> DcSctpSocket for Socket<R> {
         if self.failed {
             return Err(SocketFault::Failed);
         }
-        let outcome =
-            settings::set_buffered_amount_low_threshold(&mut self.context, stream_id, bytes);
+        let outcome = settings::set_buffered_amount_low_threshold(
+            &mut self.context,
+            stream_id,
+            bytes,
+        );
         settled(&mut self.failed, outcome)
     }
 }
