@@ -33,10 +33,11 @@ pub record EndsMessage (place end : ℕ) (items : List Item) : Type 0 where
 abbrev pub IsMessage : ℕ → ℕ → ℕ → List Item → Type 0
 IsMessage place start end items = StartsMessage place start items × EndsMessage place end items
 
--- the end of a message, whose last item is this one so far: it is abandoned, and has no payload
+-- the end of a message, whose last item is this one so far: it is abandoned, has no payload, and no reset lies between them
 pub record IsEndOf (now : ℕ) (last item : Item) : Type 0 where
   pub is_abandoned : item.progress.state ≡ Abandoned
   pub sent_at : item.sent_at ≡ now
+  pub begins : item.begins_after_reset ≡ false
   pub is : fragment_of item.fragment ≡ record (fragment_of last.fragment) {
     fsn = (last.fragment.fsn + 1) % 2 ^ 32;
     is_beginning = false;

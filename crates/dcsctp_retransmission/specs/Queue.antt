@@ -14,6 +14,7 @@ use Rattle.dcsctp_retransmission.specs.declared.congestion.CongestionControl.{Co
 use Rattle.dcsctp_retransmission.specs.declared.congestion.Acknowledged.{Acknowledged}
 use Rattle.dcsctp_retransmission.specs.declared.handle_sack_result.HandleSackResult.{HandleSackResult}
 use Rattle.dcsctp_retransmission.specs.declared.handle_sack_result.HandleSackResult.TheVariants.{Invalid, Valid}
+use Rattle.dcsctp_streams.specs.Telling.{contents, TellsFront}
 use Rattle.dcsctp_retransmission.specs.Telling.{delivered}
 use Rattle.dcsctp_outstanding.specs.declared.item.Item.{Item}
 use Rattle.dcsctp_outstanding.specs.declared.progress.Change.TheVariants.{Mark, Miss, Acknowledge, Abandon}
@@ -208,7 +209,10 @@ HandlesSack now cumulative window blocks old told new telling (Ok (Valid rtt res
     × (telling ≡ told ++ delivered (take (acknowledged_by old.outstanding cumulative) old.outstanding.items))
     × MeasuresRoundTrip now (acknowledged_by old.outstanding cumulative) blocks old.outstanding.items (option_map as_nanos rtt)
     × (reset_error_counter ≡ nat_lt (unacknowledged_items new.outstanding.items) (unacknowledged_items old.outstanding.items))
-HandlesSack now cumulative window blocks old told new telling (Err error) = new ≡ old
+HandlesSack now cumulative window blocks old told new telling (Err error) =
+    (acknowledged_by old.outstanding cumulative ≤ length old.outstanding.items)
+    × (new ≡ old)
+    × TellsFront (contents told) (contents (delivered (take (acknowledged_by old.outstanding cumulative) old.outstanding.items))) (contents telling)
 
 -- ---- what is given up
 

@@ -1,7 +1,8 @@
 //! Taking SACKs into account (RFC 9260, sections 6.2.1, 6.3 and 7.2).
 
-ghost use Rattle.std.specs.Prelude.{◌≡◌, ◌++◌, ◌∷◌, [], OnOk};
+ghost use Rattle.std.specs.Prelude.{◌≡◌, ◌++◌, ◌∷◌, [], OnOk, OnErr};
 ghost use Rattle.dcsctp_api.specs.declared.events.SocketEvent.TheVariants.{OnLifecycleMessageDelivered, OnLifecycleEnd};
+ghost use Rattle.dcsctp_streams.specs.Telling.{contents, TellsFront};
 ghost use Rattle.dcsctp_retransmission.specs.Telling.{told_of, delivered};
 
 use super::RetransmissionQueue;
@@ -29,7 +30,7 @@ impl RetransmissionQueue {
     /// message whose last item the cumulative TSN passes, unless it was given up, two events tell that it was
     /// delivered.
     ///
-    /// `Err`: there is no memory for an event. Some of the events may stand, and the queue hasn't changed.
+    /// `Err`: there is no memory for an event. A front part of the events stands, and the queue hasn't changed.
     pub fn handle_sack(
         &mut self,
         events: &mut Events,
@@ -75,7 +76,8 @@ impl RetransmissionQueue {
     // Tells which messages the peer has, once the first items, so many, are acknowledged.
     fn tell_delivered(&self, events: &mut Events, count: usize) -> Result<(), AllocError>
         requires { count ≤ length self.now.outstanding.items }
-        ensures { OnOk result (events.new ≡ events.old ++ delivered (take count self.now.outstanding.items)) }
+        ensures ok { OnOk result (events.new ≡ events.old ++ delivered (take count self.now.outstanding.items)) }
+        ensures err { OnErr result (TellsFront (contents events.old) (contents (delivered (take count self.now.outstanding.items))) (contents events.new)) }
     {
         for place in 0..count {
             tell_of(events, self.outstanding.item(place))?;
@@ -158,7 +160,8 @@ impl RetransmissionQueue {
 
 // Tells of an item that the cumulative TSN passes.
 fn tell_of(events: &mut Events, item: &Item) -> Result<(), AllocError>
-    ensures { OnOk result (events.new ≡ events.old ++ told_of item.now) }
+    ensures ok { OnOk result (events.new ≡ events.old ++ told_of item.now) }
+    ensures err { OnErr result (TellsFront (contents events.old) (contents (told_of item.now)) (contents events.new)) }
 {
     match item.fragment.lifecycle_id {
         None => Ok(()),
@@ -174,7 +177,8 @@ fn tell_of(events: &mut Events, item: &Item) -> Result<(), AllocError>
 
 // Tells that the peer has a message.
 fn tell_delivered(events: &mut Events, id: LifecycleId) -> Result<(), AllocError>
-    ensures { OnOk result (events.new ≡ events.old ++ OnLifecycleMessageDelivered id ∷ OnLifecycleEnd id ∷ []) }
+    ensures ok { OnOk result (events.new ≡ events.old ++ OnLifecycleMessageDelivered id ∷ OnLifecycleEnd id ∷ []) }
+    ensures err { OnErr result (TellsFront (contents events.old) (contents (OnLifecycleMessageDelivered id ∷ OnLifecycleEnd id ∷ [])) (contents events.new)) }
 {
     events.add(SocketEvent::OnLifecycleMessageDelivered(id))?;
     events.add(SocketEvent::OnLifecycleEnd(id))

@@ -28,7 +28,7 @@ returns c =
         missing = rw (← count_is) (subst Misses is_stage (let at_stage : Misses stage = c.miss_limit-limit.ensures in at_stage));
         is = rw (← count_is) (c.settle.ensures ∙ ap (settled_at c.args.now c.args.a_rwnd c.distance_to-count.result) (c.acknowledge.ensures ∙ ap (acknowledged_until c.distance_to-count.result c.args.blocks.now c.miss_limit-limit.result) is_stage));
       },
-      rw (← count_is) c.in_ok-tell_delivered.ensures,
+      rw (← count_is) c.in_ok-tell_delivered.ensures.ok,
       record {
         newest = c.newest_reported-newest.result;
         is_newest = rw (← count_is, ← c.self.view_is) c.newest_reported-newest.ensures;
