@@ -1,5 +1,5 @@
 -- Lemmas on a front part of what is told.
-use Rattle.std.proofs.Common.{◌≡◌, ◌∙◌, ℕ, List, [], ◌++◌, append_assoc, append-nil, refl, sym, ap}
+use Rattle.std.proofs.Common.{◌≡◌, ◌∙◌, ℕ, List, ◌++◌, append_assoc, sym, ap}
 use Rattle.dcsctp_machine.specs.Event.{Event}
 use Rattle.dcsctp_streams.specs.Telling.{TellsFront}
 

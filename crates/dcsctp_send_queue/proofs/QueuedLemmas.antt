@@ -1,5 +1,5 @@
 -- What a socket shows of a stream that is set, and of the others.
-use Rattle.std.proofs.Common.{◌≡◌, ◌≢◌, ◌==◌, nat_lt, ℕ, zero, suc, ◌+◌, ◌<◌, ◌≤◌, Bool, true, false, if◌then◌else◌, Option, Err, List, [], ◌∷◌, length, filter, map, refl, sym, ap, ◌∙◌, arith}
+use Rattle.std.proofs.Common.{◌≡◌, ◌≢◌, ◌==◌, nat_lt, ℕ, zero, suc, ◌<◌, Bool, true, false, if◌then◌else◌, Option, Err, List, [], ◌∷◌, length, filter, map, refl, sym, ap, ◌∙◌, arith}
 use Rattle.std.proofs.lemmas.Bool.Decides.{nat_tests}
 use Rattle.dcsctp_machine.specs.Transfer.{QueuedStream, stream_among, with_queued, queued_stream, queue_with}
 use Rattle.dcsctp_send_queue.specs.declared.backlog.Backlog.{Backlog}

@@ -1,5 +1,5 @@
 -- What a socket shows of a queue that is made ready for another association.
-use Rattle.std.proofs.Common.{◌≡◌, ◌==◌, ℕ, zero, suc, Bool, true, false, if◌then◌else◌, Option, None, Some, IfSome, Ok, List, [], ◌∷◌, filter, map, refl, sym, ap, ◌∙◌}
+use Rattle.std.proofs.Common.{◌≡◌, ℕ, Option, None, Some, IfSome, List, [], ◌∷◌, filter, map, refl, sym, ap, ◌∙◌}
 use Rattle.dcsctp_machine.specs.Transfer.{queued_stream, queue_with, with_more, queue_after_reset}
 use Rattle.dcsctp_send_queue.specs.declared.backlog.Backlog.{Backlog}
 use Rattle.dcsctp_streams.specs.declared.message.UnderWay.{UnderWay}

@@ -3,4 +3,5 @@ mod Applying
 mod Honest
 mod Keeping
 mod Running
+mod Setting
 mod Stopping

@@ -1,9 +1,6 @@
-use Rattle.std.proofs.Common.{ℕ, Option, Ok, Result, List, refl, sym, subst}
-use Rattle.dcsctp_api.specs.declared.errors.SocketFault.{SocketFault}
-use Rattle.dcsctp_machine.specs.CallTurns.{HandleInput}
+use Rattle.std.proofs.Common.{ℕ, Option, Ok, List, refl, sym, subst}
 use Rattle.dcsctp_machine.specs.Sockets.{DeliveryTurns}
-use Rattle.dcsctp_world.specs.declared.act.Reply.{Reply}
-use Rattle.dcsctp_world.specs.declared.act.Reply.TheVariants.{NoCall, Done}
+use Rattle.dcsctp_world.specs.declared.act.Reply.TheVariants.{NoCall}
 use Rattle.dcsctp_world.specs.Growth.{Works, IsDeliveryReply}
 use Rattle.dcsctp_world.specs.Parts.{shown}
 use Rattle.dcsctp_world.proofs.Stopping.{grows_by_nothing}
