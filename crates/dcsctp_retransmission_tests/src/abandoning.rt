@@ -1,204 +1,168 @@
 //! Messages that are given up (RFC 3758).
 
-use crate::line::{Line, at, block, limited, options};
-use dcsctp_api::{LifecycleId, SendOptions};
-use dcsctp_retransmission::{ForwardTsn, RetransmissionQueue, Skipped};
-use dcsctp_send_queue::SendQueue;
-use std::alloc::AllocError;
-use std::process::Abort;
-use std::test::Fail;
-use std::time::Duration;
+use crate::steps::How::{Limited, Lives, Plain, Unordered};
+use crate::steps::Negotiated::{Interleaving, Nothing, PartialReliability};
+use crate::steps::Number::{NextTsn, UnackedItems};
+use crate::steps::Step::{
+    Acknowledges, AcknowledgesBlock, Add, Begins, BeginsReset, Expires, Has, IsDue, Sends, Skips,
+    SkipsBytes, SkipsMessages, Tells, TellsNothing, TimesOut,
+};
+use crate::steps::{Step, run};
+use dcsctp_wire::SkippedMessages;
 
-// Asks whether a FORWARD-TSN is due.
-fn is_due(line: &mut Line, millis: u64) -> Result<bool, AllocError> {
-    line.sent
-        .should_send_forward_tsn(&mut line.events, &mut line.queue, at(millis))
-}
-
-// Asserts what a FORWARD-TSN says: streams and the numbers up to which they are skipped.
-fn says(rt: &impl Abort, name: &str, chunk: &ForwardTsn, tsn: u32, streams: &[(u16, u16)]) {
-    assert_eq!(rt; chunk.new_cumulative_tsn, tsn, "{name}");
-    match &chunk.skipped {
-        Skipped::Messages(_) => panic!(rt; "{name}: messages"),
-        Skipped::Streams(skipped) => {
-            assert_eq!(rt; skipped.len(), streams.len(), "{name}");
-            for (entry, expected) in skipped.iter().zip(streams) {
-                assert_eq!(rt; entry.stream_id, expected.0, "{name}");
-                assert_eq!(rt; entry.ssn, expected.1, "{name}");
-            }
-        }
-    }
+#[test]
+fn a_message_is_sent_again_as_often_as_it_may(rt: HostRuntime) {
+    static STEPS: &[(&str, Step)] = &[
+        ("once", Begins(10, 8000, PartialReliability)),
+        ("once", Add(3, 100, Limited(1, 41))),
+        ("once", Sends(0, 1000, &[10])),
+        ("once", TimesOut(1000, true)),
+        ("once", IsDue(1000, false)),
+        ("twice", Sends(1000, 1000, &[10])),
+        ("twice", TimesOut(3000, true)),
+        ("no more", Sends(3000, 1000, &[])),
+        ("no more", Has(UnackedItems, 0)),
+        ("once", Tells("fully sent", 41)),
+        ("given up", Tells("maybe expired", 41)),
+        ("given up", Tells("end", 41)),
+        ("given up", IsDue(3000, true)),
+        ("given up", Skips(10, 3, 0)),
+        ("skipped", Acknowledges(3100, 10)),
+        ("skipped", TellsNothing),
+        ("skipped", IsDue(3100, false)),
+        ("skipped", Expires(None)),
+    ];
+    run(&rt, STEPS);
 }
 
 #[test]
-fn a_message_is_sent_again_as_often_as_it_may(rt: HostRuntime) -> Result<(), Fail> {
-    let mut line = Line::new(rt.alloc(), &options(), 10, 8000, false);
-    line.add(3, 100, &limited(1, 41))?;
-    line.sends(&rt, "once", 0, 1000, &[10])?;
-    assert!(rt; line.sent.handle_timeout(at(1000)));
-    assert!(rt; !is_due(&mut line, 1000)?);
-    line.sends(&rt, "twice", 1000, 1000, &[10])?;
-    assert!(rt; line.sent.handle_timeout(at(3000)));
-    line.sends(&rt, "no more", 3000, 1000, &[])?;
-    assert_eq!(rt; line.sent.unacked_items(), 0);
-    line.tells(&rt, "once", Some(("fully sent", 41)));
-    line.tells(&rt, "given up", Some(("maybe expired", 41)));
-    line.tells(&rt, "given up", Some(("end", 41)));
-    assert!(rt; is_due(&mut line, 3000)?);
-    says(
-        &rt,
-        "given up",
-        &line.sent.create_forward_tsn()?,
-        10,
-        &[(3, 0)],
-    );
-    line.acknowledges(&rt, "skipped", 3100, 10, &[])?;
-    line.tells(&rt, "skipped", None);
-    assert!(rt; !is_due(&mut line, 3100)?);
-    line.expires(&rt, "skipped", None);
-    Ok(())
+fn a_message_is_given_up_with_its_rest(rt: HostRuntime) {
+    static STEPS: &[(&str, Step)] = &[
+        ("first message", Begins(10, 8000, PartialReliability)),
+        ("first message", Add(3, 3000, Limited(0, 41))),
+        ("next message", Add(4, 100, Plain)),
+        ("the first fragment alone", Sends(0, 1000, &[10])),
+        ("the first fragment alone", TimesOut(1000, true)),
+        ("the first fragment alone", IsDue(1000, true)),
+        // The rest never went out: 11 stands for the end of the message.
+        ("not fully sent", Tells("expired", 41)),
+        ("not fully sent", Tells("end", 41)),
+        ("not fully sent", TellsNothing),
+        ("the end too", Has(NextTsn, 12)),
+        ("the end too", Has(UnackedItems, 0)),
+        ("the end too", Skips(11, 3, 0)),
+        ("the next message", Sends(1000, 1000, &[12])),
+    ];
+    run(&rt, STEPS);
 }
 
 #[test]
-fn a_message_is_given_up_with_its_rest(rt: HostRuntime) -> Result<(), Fail> {
-    let mut line = Line::new(rt.alloc(), &options(), 10, 8000, false);
-    line.add(3, 3000, &limited(0, 41))?;
-    line.add(4, 100, &SendOptions::default())?;
-    line.sends(&rt, "the first fragment alone", 0, 1000, &[10])?;
-    assert!(rt; line.sent.handle_timeout(at(1000)));
-    assert!(rt; is_due(&mut line, 1000)?);
-    // The rest never went out: 11 stands for the end of the message.
-    line.tells(&rt, "not fully sent", Some(("expired", 41)));
-    line.tells(&rt, "not fully sent", Some(("end", 41)));
-    line.tells(&rt, "not fully sent", None);
-    assert_eq!(rt; line.sent.next_tsn(), 12);
-    assert_eq!(rt; line.sent.unacked_items(), 0);
-    says(
-        &rt,
-        "the end too",
-        &line.sent.create_forward_tsn()?,
-        11,
-        &[(3, 0)],
-    );
-    line.sends(&rt, "the next message", 1000, 1000, &[12])?;
-    Ok(())
+fn a_message_is_given_up_after_its_lifetime(rt: HostRuntime) {
+    static STEPS: &[(&str, Step)] = &[
+        ("at the end", Begins(10, 8000, PartialReliability)),
+        ("at the end", Add(3, 100, Lives(1000, 5))),
+        ("at the end", Sends(0, 1000, &[10])),
+        ("at the end: it may be there yet", IsDue(5000, false)),
+        ("at the end", TimesOut(1000, true)),
+        ("at the end", IsDue(1000, false)),
+        ("later", Begins(10, 8000, PartialReliability)),
+        ("later", Add(3, 100, Lives(999, 5))),
+        ("later", Sends(0, 1000, &[10])),
+        ("later: it may be there yet", IsDue(5000, false)),
+        ("later", TimesOut(1000, true)),
+        ("later", IsDue(1000, true)),
+    ];
+    run(&rt, STEPS);
 }
 
 #[test]
-fn a_message_is_given_up_after_its_lifetime(rt: HostRuntime) -> Result<(), Fail> {
-    for (name, lifetime, is_given_up) in [("at the end", 1000, false), ("later", 999, true)] {
-        let mut line = Line::new(rt.alloc(), &options(), 10, 8000, false);
-        let mut how = SendOptions::default();
-        how.lifetime = Some(Duration::from_millis(lifetime));
-        how.lifecycle_id = LifecycleId::new(5);
-        line.add(3, 100, &how)?;
-        line.sends(&rt, name, 0, 1000, &[10])?;
-        assert!(rt; !is_due(&mut line, 5000)?, "{name}: it may be there yet");
-        assert!(rt; line.sent.handle_timeout(at(1000)), "{name}");
-        assert_eq!(rt; is_due(&mut line, 1000)?, is_given_up, "{name}");
-    }
-    Ok(())
+fn nothing_is_given_up_unless_it_was_negotiated(rt: HostRuntime) {
+    static STEPS: &[(&str, Step)] = &[
+        ("once", Begins(10, 8000, Nothing)),
+        ("once", Add(3, 100, Limited(0, 41))),
+        ("once", Sends(0, 1000, &[10])),
+        ("once", TimesOut(1000, true)),
+        ("once", IsDue(1000, false)),
+        ("again", Sends(1000, 1000, &[10])),
+    ];
+    run(&rt, STEPS);
 }
 
 #[test]
-fn nothing_is_given_up_unless_it_was_negotiated(rt: HostRuntime) -> Result<(), Fail> {
-    let mut line = Line::new(rt.alloc(), &options(), 10, 8000, false);
-    line.sent = RetransmissionQueue::new(rt.alloc(), &options(), 10, 8000, false, false);
-    line.queue = SendQueue::new(rt.alloc(), &options());
-    line.add(3, 100, &limited(0, 41))?;
-    line.sends(&rt, "once", 0, 1000, &[10])?;
-    assert!(rt; line.sent.handle_timeout(at(1000)));
-    assert!(rt; !is_due(&mut line, 1000)?);
-    line.sends(&rt, "again", 1000, 1000, &[10])?;
-    Ok(())
+fn a_row_of_skipped_items_ends_at_one_that_is_awaited(rt: HostRuntime) {
+    static STEPS: &[(&str, Step)] = &[
+        ("10", Begins(10, 8000, PartialReliability)),
+        ("10", Add(3, 100, Limited(0, 41))),
+        ("11", Add(5, 100, Limited(0, 42))),
+        ("12", Add(3, 100, Limited(0, 43))),
+        ("13", Add(4, 100, Plain)),
+        ("14", Add(3, 100, Limited(0, 44))),
+        ("all", Sends(0, 1000, &[10, 11, 12, 13, 14])),
+        // 13 has arrived: the row of those that are given up ends before it.
+        ("13", AcknowledgesBlock(10, 9, 4, 4)),
+        ("up to 12", TimesOut(1000, true)),
+        ("up to 12", IsDue(1000, true)),
+        ("up to 12", Skips(12, 3, 2)),
+        ("up to 12", SkipsBytes(&[0, 3, 0, 2])),
+        ("up to 13", Acknowledges(1010, 13)),
+        ("the last", IsDue(1010, true)),
+        ("the last", Skips(14, 5, 0)),
+    ];
+    run(&rt, STEPS);
 }
 
 #[test]
-fn a_row_of_skipped_items_ends_at_one_that_is_awaited(rt: HostRuntime) -> Result<(), Fail> {
-    let mut line = Line::new(rt.alloc(), &options(), 10, 8000, false);
-    line.add(3, 100, &limited(0, 41))?;
-    line.add(5, 100, &limited(0, 42))?;
-    line.add(3, 100, &limited(0, 43))?;
-    line.add(4, 100, &SendOptions::default())?;
-    line.add(3, 100, &limited(0, 44))?;
-    line.sends(&rt, "all", 0, 1000, &[10, 11, 12, 13, 14])?;
-    // 13 has arrived: the row of those that are given up ends before it.
-    line.acknowledges(&rt, "13", 10, 9, &[block(4, 4)])?;
-    assert!(rt; line.sent.handle_timeout(at(1000)));
-    assert!(rt; is_due(&mut line, 1000)?);
-    says(
-        &rt,
-        "up to 12",
-        &line.sent.create_forward_tsn()?,
-        12,
-        &[(3, 2)],
-    );
-    let bytes = line.sent.create_forward_tsn()?.skipped_bytes(rt.alloc())?;
-    assert_eq!(rt; bytes.as_slice(), [0, 3, 0, 2].as_slice());
-    line.acknowledges(&rt, "up to 13", 1010, 13, &[])?;
-    assert!(rt; is_due(&mut line, 1010)?);
-    says(
-        &rt,
-        "the last",
-        &line.sent.create_forward_tsn()?,
-        14,
-        &[(5, 0)],
-    );
-    Ok(())
+fn no_forward_tsn_reaches_across_a_reset(rt: HostRuntime) {
+    static STEPS: &[(&str, Step)] = &[
+        ("before", Begins(10, 8000, PartialReliability)),
+        ("before", Add(3, 100, Limited(0, 41))),
+        ("before", Sends(0, 1000, &[10])),
+        ("reset", BeginsReset),
+        ("behind", Add(3, 100, Limited(0, 42))),
+        ("behind", Sends(0, 1000, &[11])),
+        ("up to the reset", TimesOut(1000, true)),
+        ("up to the reset", IsDue(1000, true)),
+        ("up to the reset", Skips(10, 3, 0)),
+        ("up to the reset", Acknowledges(1010, 10)),
+        ("behind it", IsDue(1010, true)),
+        ("behind it", Skips(11, 3, 1)),
+    ];
+    run(&rt, STEPS);
 }
 
 #[test]
-fn no_forward_tsn_reaches_across_a_reset(rt: HostRuntime) -> Result<(), Fail> {
-    let mut line = Line::new(rt.alloc(), &options(), 10, 8000, false);
-    line.add(3, 100, &limited(0, 41))?;
-    line.sends(&rt, "before", 0, 1000, &[10])?;
-    line.sent.begin_reset_streams();
-    line.add(3, 100, &limited(0, 42))?;
-    line.sends(&rt, "behind", 0, 1000, &[11])?;
-    assert!(rt; line.sent.handle_timeout(at(1000)));
-    assert!(rt; is_due(&mut line, 1000)?);
-    says(
-        &rt,
-        "up to the reset",
-        &line.sent.create_forward_tsn()?,
-        10,
-        &[(3, 0)],
-    );
-    line.acknowledges(&rt, "up to the reset", 1010, 10, &[])?;
-    assert!(rt; is_due(&mut line, 1010)?);
-    says(
-        &rt,
-        "behind it",
-        &line.sent.create_forward_tsn()?,
-        11,
-        &[(3, 1)],
-    );
-    Ok(())
-}
-
-#[test]
-fn interleaved_messages_are_skipped_by_their_identifiers(rt: HostRuntime) -> Result<(), Fail> {
-    let mut line = Line::new(rt.alloc(), &options(), 10, 8000, true);
-    let mut unordered = limited(0, 42);
-    unordered.unordered = true;
-    line.add(3, 100, &limited(0, 41))?;
-    line.add(3, 100, &unordered)?;
-    line.sends(&rt, "both", 0, 1000, &[10, 11])?;
-    assert!(rt; line.sent.handle_timeout(at(1000)));
-    assert!(rt; is_due(&mut line, 1000)?);
-    let chunk = line.sent.create_forward_tsn()?;
-    assert_eq!(rt; chunk.new_cumulative_tsn, 11);
-    match &chunk.skipped {
-        Skipped::Streams(_) => panic!(&rt; "streams"),
-        Skipped::Messages(skipped) => {
-            assert_eq!(rt; skipped.len(), 2);
-            for (entry, is_unordered) in skipped.iter().zip([false, true]) {
-                assert_eq!(rt; entry.stream_id, 3);
-                assert_eq!(rt; entry.is_unordered, is_unordered);
-            }
-        }
-    }
-    let bytes = chunk.skipped_bytes(rt.alloc())?;
-    assert_eq!(rt; bytes.len(), 16);
-    Ok(())
+fn interleaved_messages_are_skipped_by_their_identifiers(rt: HostRuntime) {
+    static STEPS: &[(&str, Step)] = &[
+        ("ordered", Begins(10, 8000, Interleaving)),
+        ("ordered", Add(3, 100, Limited(0, 41))),
+        ("unordered", Add(3, 100, Unordered(0, 42))),
+        ("both", Sends(0, 1000, &[10, 11])),
+        ("both", TimesOut(1000, true)),
+        ("both", IsDue(1000, true)),
+        // Stream, U and message identifier: ordered and unordered messages are counted apart, from 0.
+        (
+            "both",
+            SkipsMessages(
+                11,
+                &[
+                    SkippedMessages {
+                        stream_id: 3,
+                        is_unordered: false,
+                        mid: 0,
+                    },
+                    SkippedMessages {
+                        stream_id: 3,
+                        is_unordered: true,
+                        mid: 0,
+                    },
+                ],
+            ),
+        ),
+        // The same in eight bytes each (RFC 8260, section 2.3.1).
+        (
+            "both",
+            SkipsBytes(&[0, 3, 0, 0, 0, 0, 0, 0, 0, 3, 0, 1, 0, 0, 0, 0]),
+        ),
+    ];
+    run(&rt, STEPS);
 }

@@ -1,129 +1,139 @@
 //! SACKs: those that are taken and those that aren't, gaps, and the wrap of TSNs.
 
-use crate::line::{Line, at, block, limited, options};
-use dcsctp_retransmission::HandleSackResult;
-use std::test::Fail;
+use crate::steps::How::Limited;
+use crate::steps::Negotiated::PartialReliability;
+use crate::steps::Number::{LastAssignedTsn, NextTsn, Rwnd, UnackedItems};
+use crate::steps::Question::IsNew;
+use crate::steps::Step::{
+    Acknowledges, AcknowledgesBlock, Add, AddMany, Begins, Expires, Fills, Has, Holds, HoldsNone,
+    Is, IsValid, Measured, Sends, Tells, TellsNothing, TimesOut,
+};
+use crate::steps::{Step, run};
+
+// Three packets from this TSN on, and then a SACK of this cumulative TSN: is it taken? Then how many packets
+// are unacknowledged, and the peer's window less those.
+macro_rules! sack {
+    ($name:literal, $first:literal, $cumulative:literal, $is_taken:literal, $items:literal,
+     $rwnd:literal) => {
+        [
+            ($name, Begins($first, 8000, PartialReliability)),
+            ($name, AddMany(3, 984)),
+            ($name, Fills(3)),
+            ($name, IsValid(5, $cumulative, 5000, $is_taken)),
+            ($name, Has(UnackedItems, $items)),
+            ($name, Has(Rwnd, $rwnd)),
+        ]
+    };
+}
+
+// After one that is taken the peer's window is the 5,000 bytes that it tells. After one that isn't it stays
+// 8,000 bytes, and 3,000 are in flight.
+static SACKS: [[(&str, Step); 6]; 8] = [
+    sack!("the one before the first", 1000, 999, true, 3, 2000),
+    sack!("behind", 1000, 998, false, 3, 5000),
+    sack!("the last", 1000, 1002, true, 0, 5000),
+    sack!("never sent", 1000, 1003, false, 3, 5000),
+    sack!("far ahead", 1000, 0x8000_0000, false, 3, 5000),
+    sack!("across the wrap", 0xffff_ffff, 1, true, 0, 5000),
+    sack!("behind the wrap", 0, 0xffff_ffff, true, 3, 2000),
+    sack!("two behind the wrap", 0, 0xffff_fffe, false, 3, 5000),
+];
 
 #[test]
-fn stale_and_impossible_ones_change_nothing(rt: HostRuntime) -> Result<(), Fail> {
-    // The first TSN, and cumulative TSNs with three sent: is it taken?
-    let rows = [
-        ("the one before the first", 1000, 999, true),
-        ("behind", 1000, 998, false),
-        ("the last", 1000, 1002, true),
-        ("never sent", 1000, 1003, false),
-        ("far ahead", 1000, 0x8000_0000, false),
-        ("across the wrap", 0xffff_ffff, 1, true),
-        ("behind the wrap", 0, 0xffff_ffff, true),
-        ("two behind the wrap", 0, 0xffff_fffe, false),
+fn stale_and_impossible_ones_change_nothing(rt: HostRuntime) {
+    for steps in &SACKS {
+        run(&rt, steps);
+    }
+}
+
+#[test]
+fn gaps_are_acknowledged_for_good(rt: HostRuntime) {
+    static STEPS: &[(&str, Step)] = &[
+        ("four", Begins(0xffff_fffe, 8000, PartialReliability)),
+        ("four", AddMany(4, 984)),
+        ("four", Fills(4)),
+        ("four", Has(NextTsn, 2)),
+        ("four", Has(LastAssignedTsn, 1)),
+        // TSNs -2, -1, 0, 1: 0 arrives first.
+        ("gap", AcknowledgesBlock(30, 0xffff_fffd, 3, 3)),
+        ("gap", Measured(Some(30_000_000))),
+        ("gap", Is(IsNew, true)),
+        ("gap", Has(UnackedItems, 3)),
+        ("gap", Has(Rwnd, 97_000)),
+        ("the first one is missing still", Expires(Some(1000))),
+        ("the same again", AcknowledgesBlock(40, 0xffff_fffd, 3, 3)),
+        ("the same again", Measured(None)),
+        ("the same again", Is(IsNew, false)),
+        ("taken back", Acknowledges(50, 0xffff_fffd)),
+        ("taken back", Has(UnackedItems, 3)),
+        (
+            "beyond what was sent",
+            AcknowledgesBlock(60, 0xffff_fffe, 2, 900),
+        ),
+        ("beyond what was sent", Has(UnackedItems, 1)),
+        ("the first one is another", Expires(Some(1060))),
+        ("all", Acknowledges(70, 1)),
+        ("all", Has(UnackedItems, 0)),
+        ("all", Expires(None)),
     ];
-    for (name, first, cumulative, is_taken) in rows {
-        let mut line = Line::new(rt.alloc(), &options(), first, 8000, false);
-        line.add_plain(3, 984)?;
-        line.fills(&rt, name, 3)?;
-        let outcome = line
-            .sent
-            .handle_sack(&mut line.events, at(5), cumulative, 5000, &[])?;
-        let was_taken = match outcome {
-            HandleSackResult::Invalid => false,
-            HandleSackResult::Valid { .. } => true,
-        };
-        assert_eq!(rt; was_taken, is_taken, "{name}");
-        if !is_taken {
-            assert_eq!(rt; line.sent.unacked_items(), 3, "{name}");
-            assert_eq!(rt; line.sent.rwnd(), 5000, "{name}");
-        }
-    }
-    Ok(())
+    run(&rt, STEPS);
 }
 
 #[test]
-fn gaps_are_acknowledged_for_good(rt: HostRuntime) -> Result<(), Fail> {
-    let mut line = Line::new(rt.alloc(), &options(), 0xffff_fffe, 8000, false);
-    line.add_plain(4, 984)?;
-    line.fills(&rt, "four", 4)?;
-    assert_eq!(rt; line.sent.next_tsn(), 2);
-    assert_eq!(rt; line.sent.last_assigned_tsn(), 1);
-    // TSNs -2, -1, 0, 1: 0 arrives first.
-    let (rtt, is_new) = line.acknowledges(&rt, "gap", 30, 0xffff_fffd, &[block(3, 3)])?;
-    assert_eq!(rt; rtt, Some(30_000_000));
-    assert!(rt; is_new);
-    assert_eq!(rt; line.sent.unacked_items(), 3);
-    assert_eq!(rt; line.sent.rwnd(), 97_000);
-    line.expires(&rt, "the first one is missing still", Some(1000));
-    let (rtt, is_new) = line.acknowledges(&rt, "the same again", 40, 0xffff_fffd, &[block(3, 3)])?;
-    assert_eq!(rt; rtt, None);
-    assert!(rt; !is_new);
-    line.acknowledges(&rt, "taken back", 50, 0xffff_fffd, &[])?;
-    assert_eq!(rt; line.sent.unacked_items(), 3);
-    line.acknowledges(
-        &rt,
-        "beyond what was sent",
-        60,
-        0xffff_fffe,
-        &[block(2, 900)],
-    )?;
-    assert_eq!(rt; line.sent.unacked_items(), 1);
-    line.expires(&rt, "the first one is another", Some(1060));
-    line.acknowledges(&rt, "all", 70, 1, &[])?;
-    assert_eq!(rt; line.sent.unacked_items(), 0);
-    line.expires(&rt, "all", None);
-    Ok(())
+fn round_trips_are_those_of_chunks_sent_once(rt: HostRuntime) {
+    static STEPS: &[(&str, Step)] = &[
+        ("three", Begins(1, 8000, PartialReliability)),
+        ("three", AddMany(3, 984)),
+        ("three", Fills(3)),
+        ("sent once", Acknowledges(300, 1)),
+        ("sent once", Measured(Some(300_000_000))),
+        ("again", TimesOut(2000, true)),
+        ("again", Sends(2000, 1000, &[2])),
+        ("sent twice", Acknowledges(2200, 2)),
+        ("sent twice", Measured(None)),
+        ("sent twice", Is(IsNew, true)),
+        ("to be sent again", Acknowledges(2300, 3)),
+        ("to be sent again", Measured(None)),
+    ];
+    run(&rt, STEPS);
 }
 
 #[test]
-fn round_trips_are_those_of_chunks_sent_once(rt: HostRuntime) -> Result<(), Fail> {
-    let mut line = Line::new(rt.alloc(), &options(), 1, 8000, false);
-    line.add_plain(3, 984)?;
-    line.fills(&rt, "three", 3)?;
-    let (rtt, _) = line.acknowledges(&rt, "sent once", 300, 1, &[])?;
-    assert_eq!(rt; rtt, Some(300_000_000));
-    assert!(rt; line.sent.handle_timeout(at(2000)));
-    line.sends(&rt, "again", 2000, 1000, &[2])?;
-    let (rtt, is_new) = line.acknowledges(&rt, "sent twice", 2200, 2, &[])?;
-    assert_eq!(rt; rtt, None);
-    assert!(rt; is_new);
-    let (rtt, _) = line.acknowledges(&rt, "to be sent again", 2300, 3, &[])?;
-    assert_eq!(rt; rtt, None);
-    Ok(())
+fn the_end_of_a_message_tells_that_it_was_delivered(rt: HostRuntime) {
+    static STEPS: &[(&str, Step)] = &[
+        ("two fragments", Begins(1, 8000, PartialReliability)),
+        ("two fragments", Add(1, 1500, Limited(9, 41))),
+        ("next message", Add(1, 100, Limited(9, 42))),
+        ("first fragment", Sends(0, 1000, &[1])),
+        ("second fragment and next message", Sends(0, 1000, &[2, 3])),
+        ("sent", Tells("fully sent", 41)),
+        ("sent", Tells("fully sent", 42)),
+        ("first fragment", AcknowledgesBlock(10, 1, 2, 2)),
+        ("none is whole", TellsNothing),
+        ("all", Acknowledges(20, 3)),
+        ("all", Tells("delivered", 41)),
+        ("all", Tells("end", 41)),
+        ("all", Tells("delivered", 42)),
+        ("all", Tells("end", 42)),
+        ("all", TellsNothing),
+    ];
+    run(&rt, STEPS);
 }
 
 #[test]
-fn the_end_of_a_message_tells_that_it_was_delivered(rt: HostRuntime) -> Result<(), Fail> {
-    let mut line = Line::new(rt.alloc(), &options(), 1, 8000, false);
-    line.add(1, 1500, &limited(9, 41))?;
-    line.add(1, 100, &limited(9, 42))?;
-    line.sends(&rt, "first fragment", 0, 1000, &[1])?;
-    line.sends(&rt, "second fragment and next message", 0, 1000, &[2, 3])?;
-    line.tells(&rt, "sent", Some(("fully sent", 41)));
-    line.tells(&rt, "sent", Some(("fully sent", 42)));
-    line.acknowledges(&rt, "first fragment", 10, 1, &[block(2, 2)])?;
-    line.tells(&rt, "none is whole", None);
-    line.acknowledges(&rt, "all", 20, 3, &[])?;
-    line.tells(&rt, "all", Some(("delivered", 41)));
-    line.tells(&rt, "all", Some(("end", 41)));
-    line.tells(&rt, "all", Some(("delivered", 42)));
-    line.tells(&rt, "all", Some(("end", 42)));
-    line.tells(&rt, "all", None);
-    Ok(())
-}
-
-#[test]
-fn chunks_are_what_was_given(rt: HostRuntime) -> Result<(), Fail> {
-    let mut line = Line::new(rt.alloc(), &options(), 0xffff_ffff, 8000, false);
-    line.add(7, 1500, &limited(9, 41))?;
-    line.sends(&rt, "first fragment", 0, 1000, &[0xffff_ffff])?;
-    line.sends(&rt, "second fragment", 0, 1000, &[0])?;
-    let rows = [(0xffff_ffff, true, false, 0, 984), (0, false, true, 1, 516)];
-    for (tsn, is_beginning, is_end, fsn, size) in rows {
-        let fragment = line.sent.chunk(tsn).expect(&rt, "outstanding");
-        assert_eq!(rt; fragment.stream_id.0, 7, "{tsn}");
-        assert_eq!(rt; fragment.is_beginning, is_beginning, "{tsn}");
-        assert_eq!(rt; fragment.is_end, is_end, "{tsn}");
-        assert_eq!(rt; fragment.fsn, fsn, "{tsn}");
-        assert_eq!(rt; fragment.payload.len(), size, "{tsn}");
-    }
-    assert!(rt; line.sent.chunk(1).is_none());
-    assert!(rt; line.sent.chunk(0xffff_fffe).is_none());
-    Ok(())
+fn chunks_are_what_was_given(rt: HostRuntime) {
+    static STEPS: &[(&str, Step)] = &[
+        (
+            "both fragments",
+            Begins(0xffff_ffff, 8000, PartialReliability),
+        ),
+        ("both fragments", Add(7, 1500, Limited(9, 41))),
+        ("first fragment", Sends(0, 1000, &[0xffff_ffff])),
+        ("second fragment", Sends(0, 1000, &[0])),
+        ("first fragment", Holds(0xffff_ffff, 0, 984, true, false)),
+        ("second fragment", Holds(0, 1, 516, false, true)),
+        ("behind them", HoldsNone(1)),
+        ("before them", HoldsNone(0xffff_fffe)),
+    ];
+    run(&rt, STEPS);
 }

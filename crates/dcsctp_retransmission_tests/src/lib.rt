@@ -7,7 +7,11 @@ mod abandoning;
 #[cfg(test)]
 mod acknowledging;
 #[cfg(test)]
+mod checks;
+#[cfg(test)]
 mod line;
+#[cfg(test)]
+mod steps;
 #[cfg(test)]
 mod timeouts;
 #[cfg(test)]
