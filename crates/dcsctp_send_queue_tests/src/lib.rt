@@ -5,8 +5,12 @@
 #[cfg(test)]
 mod amounts;
 #[cfg(test)]
+mod checks;
+#[cfg(test)]
 mod order;
 #[cfg(test)]
-mod queues;
-#[cfg(test)]
 mod resets;
+#[cfg(test)]
+mod sender;
+#[cfg(test)]
+mod steps;
