@@ -11,7 +11,6 @@ use Rattle.dcsctp_machine.specs.Endpoint.{Endpoint}
 use Rattle.dcsctp_machine.specs.Outcome.{Outcome, noting, quiet, sends}
 use Rattle.dcsctp_machine.specs.Following.{next_chunk}
 use Rattle.dcsctp_machine.specs.control.Effect.{Effect, drawn_in}
-use Rattle.dcsctp_machine.specs.turns.FlushOutcomes.{allows_packet, flush_outcome}
 use Rattle.dcsctp_api.specs.Calls.{user_event}
 use Rattle.dcsctp_api.specs.Events.{event_content}
 use Rattle.dcsctp_api.specs.declared.events.SocketEvent.{SocketEvent}
@@ -36,7 +35,7 @@ pub record Draws {R : Type 0} (stream : R → Stream) (old : View R) (taken : Li
 -- ---- a turn behind them
 
 -- The events after a turn, or after a part of it, are those that were had before, and its own.
-events_behind : (ports later : Ports) (old mid new : List (Event (List ℕ))) (events more : List (Event Emission)) → later ≡ ports
+pub events_behind : (ports later : Ports) (old mid new : List (Event (List ℕ))) (events more : List (Event Emission)) → later ≡ ports
     → mid ≡ old ++ map (user_event ports) events → new ≡ mid ++ map (user_event later) more → new ≡ old ++ map (user_event ports) (events ++ more)
 events_behind ports later old mid new events more same before after =
     after
@@ -55,22 +54,6 @@ moves_behind stream a b c words events o added drawn m =
       pairs = m.pairs ∙ ap (λ (ps : List Pair). ps ++ drawn_in o.effects) drawn.pairs;
       drawn = Drawn-append (stream a.generator) (stream b.generator) (stream c.generator) words o.words drawn.drawn m.drawn;
     }
-
--- ---- a flush behind them
-
-flush_where : (b : Bool) (e : Endpoint) (words more : List Word) (events others : List (Event Emission)) (emission : Emission)
-    → behind words events (cond b (sends e more others emission) (quiet e more others))
-    ≡ cond b (sends e (words ++ more) (events ++ others) emission) (quiet e (words ++ more) (events ++ others))
-flush_where true e words more events others emission =
-    ap (λ (es : List (Event Emission)). record { words = words ++ more; effects = []; after = (sends e more others emission).after; events = es; following = next_chunk })
-    (sym (append_assoc events others ((sends e [] [] emission).events)))
-flush_where false e words more events others emission = refl
-
-pub flush_behind : (e : Endpoint) (words more : List Word) (events others : List (Event Emission)) (with_checksum : Bool) (tag : ℕ) (contents : List Content)
-    → behind words events (flush_outcome e more others with_checksum tag contents) ≡ flush_outcome e (words ++ more) (events ++ others) with_checksum tag contents
-flush_behind e words more events others with_checksum tag [] = refl
-flush_behind e words more events others with_checksum tag (content ∷ contents) =
-    flush_where (allows_packet e.options.max_burst) e words more events others (record { with_checksum = with_checksum; packet = record { tag = tag; contents = content ∷ contents } })
 
 -- ---- the same outcome in another form
 
@@ -120,15 +103,6 @@ cut_after old o events front rest is added =
 -- one event, as it is seen
 pub added_one : (old new : List SocketEvent) (event : SocketEvent) → new ≡ old ++ event ∷ [] → map event_content new ≡ map event_content old ++ event_content event ∷ []
 added_one old new event is = ap (map event_content) is ∙ map-append event_content old (event ∷ [])
-
--- A flush was cut behind these events.
-pub flush_cut : {R : Type 0} (old : View R) (e : Endpoint) (words : List Word) (events : List (Event Emission)) (with_checksum : Bool) (tag : ℕ) (contents : List Content) (es : List (Event (List ℕ)))
-    → es ≡ old.events ++ map (user_event (ports_of old.endpoint.options)) events → CutTurn old (flush_outcome e words events with_checksum tag contents) es
-flush_cut old e words events with_checksum tag contents es is =
-    subst (λ (o : Outcome). CutTurn old o es)
-    (flush_behind e [] words events [] with_checksum tag contents ∙ ap (λ (before : List (Event Emission)). flush_outcome e words before with_checksum tag contents) (append-nil events))
-    (cut_behind old (record old { events = es }) [] events (flush_outcome e words [] with_checksum tag contents) es (record { ports = refl; events = is })
-    (cut_first (record old { events = es }) (flush_outcome e words [] with_checksum tag contents) es refl))
 
 -- ---- the same turn with what it notes
 

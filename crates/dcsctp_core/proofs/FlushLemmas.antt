@@ -1,175 +1,218 @@
--- What a flush does by its cases: nothing is held, or a packet goes out.
-use Rattle.std.proofs.Common.{◌≡◌, ◌+◌, ◌≤◌, ℕ, ℤ, pos, negsuc, zero, suc, Bool, true, false, cond, List, [], ◌∷◌, ◌++◌, length, map, refl, sym, ap, ◌∙◌, arith}
-use Rattle.std.specs.Prelude.{nat_le}
-use Rattle.std.proofs.lemmas.List.{append-nil}
-use Rattle.std.specs.List.{flat_map}
-use Rattle.dcsctp_wire.specs.Content.{ChunkContent}
-use Rattle.dcsctp_wire.specs.Spelling.{Spelled, by_value, by_list, spelled, other_bytes, list_bytes, spelled_bytes, chunk_bytes, header_bytes, packet_bytes_of}
-use Rattle.dcsctp_build.specs.Building.{Building}
+-- A flush out of its packets, one after another.
+use Rattle.std.proofs.Common.{◌≡◌, ◌⊎◌, ◌+◌, ◌≤◌, not, ℕ, zero, suc, Bool, true, false, Option, None, Some, List, [], ◌∷◌, ◌++◌, length, map, refl, sym, ap, subst, ◌∙◌, append_assoc, inl, inr, arith}
+use Rattle.std.proofs.lemmas.List.{append-nil, map-append}
 use Rattle.rand_core.specs.Stream.{Stream}
+use Rattle.dcsctp_build.specs.Building.{Building}
+use Rattle.dcsctp_wire.specs.Spelling.{header_bytes, packet_bytes_of}
 use Rattle.dcsctp_machine.specs.declared.options.Options.{Options}
-use Rattle.dcsctp_machine.specs.Settings.{ports_of, packet_size_limit}
-use Rattle.dcsctp_machine.specs.Event.{sent}
-use Rattle.dcsctp_machine.specs.Packet.{Content, Emission, chunk_out, emission_bytes}
-use Rattle.dcsctp_machine.specs.Endpoint.{Endpoint}
-use Rattle.dcsctp_machine.specs.Outcome.{quiet, counted, sends}
-use Rattle.dcsctp_machine.specs.turns.FlushOutcomes.{allows_packet, flush_outcome}
-use Rattle.dcsctp_core.specs.declared.context.Context.{Context}
-use Rattle.dcsctp_core.specs.View.{View, endpoint_of, view_of, Moves}
-use Rattle.dcsctp_core.specs.Handling.{emitted}
-use Rattle.dcsctp_core.specs.Flushing.{packet_of, burst_limit, sent_as_built, flushed, Flushed}
-use Rattle.dcsctp_core.proofs.Moving.{moves_still}
-use Rattle.dcsctp_core.proofs.Composing.{moves_as}
+use Rattle.dcsctp_machine.specs.declared.association.Held.{Held}
+use Rattle.dcsctp_machine.specs.declared.association.Pair.{Pair}
+use Rattle.dcsctp_machine.specs.declared.word.Word.{Word}
+use Rattle.dcsctp_machine.specs.Settings.{Ports, ports_of, packet_size_limit}
+use Rattle.dcsctp_machine.specs.Event.{Event, sent}
+use Rattle.dcsctp_machine.specs.Packet.{Content, Emission, emission_bytes}
+use Rattle.dcsctp_machine.specs.Endpoint.{Endpoint, Core, closed, cookie_wait, cookie_echoed, open_in, held_in}
+use Rattle.dcsctp_machine.specs.Outcome.{Outcome, still, counted, contents_len, then_outcome}
+use Rattle.dcsctp_machine.specs.control.Effect.{Effect, drawn_in}
+use Rattle.dcsctp_machine.specs.turns.FlushOutcomes.{told_event, Answer, answer_contents, filled, goes_out, asked, next_draft, draft_to, flush_of, Ask, first_ask, later_ask, IsWithin, Answered, Answers, at_limit, at_empty, after_packet, is_none}
+use Rattle.dcsctp_machine.proofs.AnswerLemmas.{any_answers, answers_from}
+use Rattle.dcsctp_machine.proofs.FlushKeeps.{Keeps, asked_keeps}
+use Rattle.dcsctp_machine.proofs.TurnLemmas.{drawn_in-append}
+use Rattle.dcsctp_api.specs.Calls.{user_event}
+use Rattle.dcsctp_core.specs.View.{View, Moves}
+use Rattle.dcsctp_core.specs.Flushing.{packet_for, Fills, AskCut, AsksFor, FlushesFor, FlushCut, sent_as_built, sent_where, KeepsSize}
+use Rattle.dcsctp_core.proofs.Moving.{Drawn-append, moves_still}
+use Rattle.dcsctp_core.proofs.Composing.{events_behind}
+use Rattle.dcsctp_core.proofs.SentLemmas.{body_of, body_len, none_as_bytes, built_bytes}
+use Rattle.dcsctp_core.proofs.FirstLemmas.{told_first}
 
--- A chunk has bytes.
-spelled_is_not_empty : (s : Spelled) (rest : List ℕ) → spelled_bytes s ++ rest ≡ [] → ⊥
-unfolding list_bytes other_bytes
-spelled_is_not_empty (by_value chunk_type flags value) rest none = cc none
-spelled_is_not_empty (by_list chunk_type flags fields parameters) rest none = cc none
+-- ---- a packet that was filled goes out
 
-chunk_is_not_empty : (chunk : ChunkContent) (rest : List ℕ) → chunk_bytes chunk ++ rest ≡ [] → ⊥
-chunk_is_not_empty chunk rest none = spelled_is_not_empty (spelled chunk) rest none
+-- what it holds is within the limit
+pub fits_by : (e : Endpoint) (draft : Emission) (answer : Answer) (packet : Building) → packet ≡ packet_for e.options (filled draft (answer_contents answer)) → KeepsSize packet
+    → IsWithin e draft → IsWithin e (filled draft (answer_contents answer))
+fits_by e draft answer packet is size within =
+    let contents : List Content = (filled draft (answer_contents answer)).packet.contents in
+    let len : length packet.body ≡ contents_len contents = ap (λ (b : Building). length b.body) is ∙ body_len contents in
+    let limit : packet.size ≡ packet_size_limit e.options = ap (λ (b : Building). b.size) is in
+    elim size [ inl empty ↦ let none : length packet.body ≡ 0 = ap length empty in omega (arith, within, len, none) | inr small ↦ omega (arith, small, len, limit) ]
 
--- Nothing goes out where nothing is held.
-pub flush_of_nothing : (e : Endpoint) (with_checksum : Bool) (tag : ℕ) (contents : List Content) → flat_map chunk_bytes (map chunk_out contents) ≡ []
-    → flush_outcome e [] [] with_checksum tag contents ≡ quiet e [] []
-flush_of_nothing e with_checksum tag [] empty = refl
-flush_of_nothing e with_checksum tag (content ∷ contents) empty = absurd (chunk_is_not_empty (chunk_out content) (flat_map chunk_bytes (map chunk_out contents)) empty)
+pub answered_by : {R : Type 0} (ask : Ask) (old mid : View R) (draft : Emission) (packet : Building) (f : Fills ask old draft mid packet) → KeepsSize packet → Answered ask old.endpoint draft f.answer
+answered_by ask old mid draft packet f size =
+    record { kept = f.kept; within = fits_by old.endpoint draft f.answer packet f.packet size; by_transfer = f.by_transfer }
 
--- Else the packet goes out.
-pub flush_of_packet : (e : Endpoint) (with_checksum : Bool) (tag : ℕ) (contents : List Content) → allows_packet e.options.max_burst ≡ true
-    → (flat_map chunk_bytes (map chunk_out contents) ≡ [] → ⊥)
-    → flush_outcome e [] [] with_checksum tag contents ≡ sends e [] [] (record { with_checksum = with_checksum; packet = record { tag = tag; contents = contents } })
-flush_of_packet e with_checksum tag [] some not_empty = absurd (not_empty refl)
-flush_of_packet e with_checksum tag (content ∷ contents) some not_empty =
-    ap (λ (b : Bool). cond b (sends e [] [] (record { with_checksum = with_checksum; packet = record { tag = tag; contents = content ∷ contents } })) (quiet e [] [])) some
-
--- and where no packet is allowed
-flush_unallowed : (e : Endpoint) (with_checksum : Bool) (tag : ℕ) (contents : List Content) → allows_packet e.options.max_burst ≡ false
-    → flush_outcome e [] [] with_checksum tag contents ≡ quiet e [] []
-flush_unallowed e with_checksum tag [] none = refl
-flush_unallowed e with_checksum tag (content ∷ contents) none =
-    ap (λ (b : Bool). cond b (sends e [] [] (record { with_checksum = with_checksum; packet = record { tag = tag; contents = content ∷ contents } })) (quiet e [] [])) none
-
--- ---- a packet that goes out
-
-sent_moves : {R : Type 0} (stream : R → Stream) (a b : View R) (emission : Emission) (bytes : List ℕ)
-    → b ≡ record a { endpoint = counted a.endpoint; events = a.events ++ sent bytes ∷ [] }
-    → bytes ≡ emission_bytes (ports_of a.endpoint.options) emission
-    → Moves stream a (sends a.endpoint [] [] emission) b
-sent_moves {R = R} stream a b emission bytes here is =
+-- the turn, by what the packet holds
+out_moves : {R : Type 0} (stream : R → Stream) (ask : Ask) (old mid : View R) (draft : Emission) (packet : Building) (f : Fills ask old draft mid packet) (contents : List Content)
+    → (filled draft (answer_contents f.answer)).packet.contents ≡ contents
+    → Moves stream old (goes_out f.answer.after (map told_event f.answer.told) draft.with_checksum draft.packet.tag contents) (sent_where (not (is_none contents)) packet mid)
+out_moves {R = R} stream ask old mid draft packet f [] is =
     record {
-      endpoint = ap (λ (v : View R). v.endpoint) here;
-      events = ap (λ (v : View R). v.events) here ∙ ap (λ (bs : List ℕ). a.events ++ sent bs ∷ []) is;
-      words = ap (λ (v : View R). v.words) here ∙ sym (append-nil a.words);
-      pairs = ap (λ (v : View R). v.pairs) here ∙ sym (append-nil a.pairs);
-      drawn = ap (λ (v : View R). stream v.generator) here;
+      endpoint = f.endpoint;
+      events = f.events;
+      words = ap (λ (v : View R). v.words) f.rest ∙ sym (append-nil old.words);
+      pairs = ap (λ (v : View R). v.pairs) f.rest ∙ sym (append-nil old.pairs);
+      drawn = ap (λ (v : View R). stream v.generator) f.rest;
+    }
+out_moves {R = R} stream ask old mid draft packet f (content ∷ contents) is =
+    let options : Options = old.endpoint.options in
+    let emission : Emission = record { with_checksum = draft.with_checksum; packet = record { tag = draft.packet.tag; contents = content ∷ contents } } in
+    let here : packet ≡ packet_for options emission =
+    f.packet ∙ ap (λ (cs : List Content). packet_for options (record { with_checksum = draft.with_checksum; packet = record { tag = draft.packet.tag; contents = cs } })) is in
+    let bytes : packet_bytes_of packet.with_checksum (header_bytes packet.source_port packet.destination_port packet.verification_tag) packet.body ≡ emission_bytes (ports_of options) emission =
+    built_bytes options packet draft.with_checksum draft.packet.tag (content ∷ contents) _ here refl in
+    let told : List (Event Emission) = map told_event f.answer.told in
+    record {
+      endpoint = ap counted f.endpoint;
+      events = ap (λ (es : List (Event (List ℕ))). es ++ sent (packet_bytes_of packet.with_checksum (header_bytes packet.source_port packet.destination_port packet.verification_tag) packet.body) ∷ []) f.events
+          ∙ append_assoc old.events (map (user_event (ports_of options)) told) (sent (packet_bytes_of packet.with_checksum (header_bytes packet.source_port packet.destination_port packet.verification_tag) packet.body) ∷ [])
+          ∙ ap (λ (bs : List ℕ). old.events ++ (map (user_event (ports_of options)) told ++ sent bs ∷ [])) bytes
+          ∙ ap (λ (es : List (Event (List ℕ))). old.events ++ es) (sym (map-append (user_event (ports_of options)) told (sent emission ∷ [])));
+      words = ap (λ (v : View R). v.words) f.rest ∙ sym (append-nil old.words);
+      pairs = ap (λ (v : View R). v.pairs) f.rest ∙ sym (append-nil old.pairs);
+      drawn = ap (λ (v : View R). stream v.generator) f.rest;
     }
 
--- the bytes of a packet that was built
-built_bytes : (options : Options) (builder : Building) (with_checksum : Bool) (tag : ℕ) (contents : List Content) (bytes : List ℕ)
-    → builder ≡ packet_of options with_checksum tag contents
-    → bytes ≡ packet_bytes_of builder.with_checksum (header_bytes builder.source_port builder.destination_port builder.verification_tag) builder.body
-    → bytes ≡ emission_bytes (ports_of options) (record { with_checksum = with_checksum; packet = record { tag = tag; contents = contents } })
-built_bytes options builder with_checksum tag contents bytes is built =
-    built ∙ ap (λ (b : Building). packet_bytes_of b.with_checksum (header_bytes b.source_port b.destination_port b.verification_tag) b.body) is
+body_none : (options : Options) (draft : Emission) (contents : List Content) (packet : Building) → packet ≡ packet_for options (filled draft contents)
+    → is_none packet.body ≡ is_none (filled draft contents).packet.contents
+body_none options draft contents packet is = ap (λ (b : Building). is_none b.body) is ∙ none_as_bytes (filled draft contents).packet.contents
 
--- ---- its limits
-
-burst_allows : (burst : ℤ) → allows_packet burst ≡ true → 1 ≤ burst_limit burst
-burst_allows (pos zero) allowed = absurd (cc allowed)
-burst_allows (pos (suc more)) allowed = omega arith
-burst_allows (negsuc below) allowed = absurd (cc allowed)
-
--- ---- what goes out, by the bytes of the chunks
-
-none_allowed : {R : Type 0} (packet : Building) (body : List ℕ) (view : View R) → allows_packet view.endpoint.options.max_burst ≡ false → view ≡ flushed packet body view
-none_allowed packet [] view none = refl
-none_allowed packet (byte ∷ bytes) view none = ap (λ (b : Bool). cond b (sent_as_built packet view) view) (sym none)
-
-none_held : {R : Type 0} (packet : Building) (body : List ℕ) (view : View R) → body ≡ [] → view ≡ flushed packet body view
-none_held packet [] view empty = refl
-none_held packet (byte ∷ bytes) view empty = absurd (cc empty)
-
-one_sent : {R : Type 0} (packet : Building) (body : List ℕ) (view : View R) → allows_packet view.endpoint.options.max_burst ≡ true → (body ≡ [] → ⊥)
-    → sent_as_built packet view ≡ flushed packet body view
-one_sent packet [] view allowed not_empty = absurd (not_empty refl)
-one_sent packet (byte ∷ bytes) view allowed not_empty = ap (λ (b : Bool). cond b (sent_as_built packet view) view) (sym allowed)
-
--- No packet is allowed.
-pub flushed_unallowed : {R : Type 0} (stream : R → Stream) (context : Context R) (packet : Building) → allows_packet context.options.max_burst ≡ false
-    → (view_of context ≡ flushed packet packet.body (view_of context))
-    × ((with_checksum : Bool) (tag : ℕ) (contents : List Content) → packet ≡ packet_of context.options with_checksum tag contents → Flushed stream context with_checksum tag contents context)
-flushed_unallowed stream context packet none =
-    let v = view_of context in (
-      none_allowed packet packet.body v none,
-      λ with_checksum tag contents is. record {
-        moves = moves_as stream v v _ _ (flush_unallowed (endpoint_of context) with_checksum tag contents none) (moves_still stream v);
-        limits = record { packets = []; behind = sym (append-nil v.events); burst = omega arith; sizes = tt };
-      },
-    )
-
--- A flush that sends nothing.
-pub flushed_nothing : {R : Type 0} (stream : R → Stream) (context : Context R) (packet : Building) → packet.body ≡ []
-    → (view_of context ≡ flushed packet packet.body (view_of context))
-    × ((with_checksum : Bool) (tag : ℕ) (contents : List Content) → packet ≡ packet_of context.options with_checksum tag contents → Flushed stream context with_checksum tag contents context)
-flushed_nothing stream context packet empty =
-    let v = view_of context in (
-      none_held packet packet.body v empty,
-      λ with_checksum tag contents is. record {
-        moves =
-            moves_as stream v v _ _ (flush_of_nothing (endpoint_of context) with_checksum tag contents (sym (ap (λ (b : Building). b.body) is) ∙ empty)) (moves_still stream v);
-        limits = record { packets = []; behind = sym (append-nil v.events); burst = omega arith; sizes = tt };
-      },
-    )
-
--- A flush that sends its packet.
-sent_within : {R : Type 0} (stream : R → Stream) (old new : Context R) (packet : Building) (bytes : List ℕ)
-    → allows_packet old.options.max_burst ≡ true → (packet.body ≡ [] → ⊥)
-    → bytes ≡ packet_bytes_of packet.with_checksum (header_bytes packet.source_port packet.destination_port packet.verification_tag) packet.body
-    → length bytes ≤ packet.size
-    → view_of new ≡ record (view_of old) { endpoint = counted (endpoint_of old); events = (view_of old).events ++ sent bytes ∷ [] }
-    → (with_checksum : Bool) (tag : ℕ) (contents : List Content) → packet ≡ packet_of old.options with_checksum tag contents
-    → Flushed stream old with_checksum tag contents new
-sent_within {R = R} stream old new packet bytes allowed not_empty built within here with_checksum tag contents is =
+pub asks_for : {R : Type 0} (stream : R → Stream) (ask : Ask) (old mid new : View R) (draft : Emission) (packet : Building) (is_sent : Bool) → Fills ask old draft mid packet → KeepsSize packet
+    → is_sent ≡ not (is_none packet.body) → new ≡ sent_where is_sent packet mid → AsksFor stream ask old draft is_sent new
+asks_for {R = R} stream ask old mid new draft packet is_sent f size goes is =
+    let contents : List Content = (filled draft (answer_contents f.answer)).packet.contents in
+    let same : is_sent ≡ not (is_none contents) = goes ∙ ap not (body_none old.endpoint.options draft (answer_contents f.answer) packet f.packet) in
     record {
-      moves =
-          moves_as stream (view_of old) (view_of new) _ _
-          (flush_of_packet (endpoint_of old) with_checksum tag contents allowed (λ none. not_empty (ap (λ (b : Building). b.body) is ∙ none)))
-          (sent_moves stream (view_of old) (view_of new) (record { with_checksum = with_checksum; packet = record { tag = tag; contents = contents } }) bytes here
-          (built_bytes old.options packet with_checksum tag contents bytes is built));
-      limits = record {
-        packets = sent bytes ∷ [];
-        behind = ap (λ (v : View R). v.events) here;
-        burst = burst_allows old.options.max_burst allowed;
-        sizes = (omega (arith, within, ap (λ (b : Building). b.size) is), tt);
-      };
+      answer = f.answer;
+      allowed = answered_by ask old mid draft packet f size;
+      goes = same;
+      moves = subst (λ (v : View R). Moves stream old (asked old.endpoint draft f.answer) v) (sym (is ∙ ap (λ (b : Bool). sent_where b packet mid) same)) (out_moves stream ask old mid draft packet f contents refl);
     }
 
-pub flushed_packet : {R : Type 0} (stream : R → Stream) (old new : Context R) (packet : Building) (bytes : List ℕ)
-    → allows_packet old.options.max_burst ≡ true → (packet.body ≡ [] → ⊥)
-    → bytes ≡ packet_bytes_of packet.with_checksum (header_bytes packet.source_port packet.destination_port packet.verification_tag) packet.body
-    → length bytes ≤ packet.size
-    → view_of new ≡ record (view_of old) { endpoint = counted (endpoint_of old); events = (view_of old).events ++ sent bytes ∷ [] }
-    → (view_of new ≡ flushed packet packet.body (view_of old))
-    × ((with_checksum : Bool) (tag : ℕ) (contents : List Content) → packet ≡ packet_of old.options with_checksum tag contents → Flushed stream old with_checksum tag contents new)
-flushed_packet {R = R} stream old new packet bytes allowed not_empty built within here = (
-  here
-      ∙ ap (λ (bs : List ℕ). record (view_of old) { endpoint = counted (endpoint_of old); events = (view_of old).events ++ sent bs ∷ [] }) built
-      ∙ one_sent packet packet.body (view_of old) allowed not_empty,
-  sent_within stream old new packet bytes allowed not_empty built within here,
-)
+-- the packet found no place among the events
+pub ask_cut : {R : Type 0} (ask : Ask) (old mid new : View R) (draft : Emission) (packet : Building) → Fills ask old draft mid packet → KeepsSize packet → new ≡ mid → AskCut ask old draft new.events
+ask_cut {R = R} ask old mid new draft packet f size is =
+    let out = told_first f.answer.after (map told_event f.answer.told) draft.with_checksum draft.packet.tag (filled draft (answer_contents f.answer)).packet.contents in
+    record {
+      answer = f.answer;
+      allowed = answered_by ask old mid draft packet f size;
+      front = map told_event f.answer.told;
+      rest = out.0;
+      parts = out.1;
+      added = ap (λ (v : View R). v.events) is ∙ f.events;
+    }
 
--- ---- a packet of one chunk that fits
+-- ---- one after another
 
-pub emitted_sends : {R : Type 0} (stream : R → Stream) (a b : View R) (with_checksum : Bool) (tag : ℕ) (content : Content)
-    → nat_le (12 + length (chunk_bytes (chunk_out content))) (packet_size_limit a.endpoint.options) ≡ true → b ≡ emitted with_checksum tag (chunk_out content) a
-    → Moves stream a (sends a.endpoint [] [] (record { with_checksum = with_checksum; packet = record { tag = tag; contents = content ∷ [] } })) b
-emitted_sends {R = R} stream a b with_checksum tag content fits here =
-    let options : Options = a.endpoint.options in
-    let header : List ℕ = header_bytes options.local_port options.remote_port tag in
-    let bytes : List ℕ = packet_bytes_of with_checksum header (chunk_bytes (chunk_out content)) in
-    let out : View R = record a { endpoint = counted a.endpoint; events = a.events ++ sent bytes ∷ [] } in
-    sent_moves stream a b (record { with_checksum = with_checksum; packet = record { tag = tag; contents = content ∷ [] } }) bytes
-    (here ∙ ap (λ (test : Bool). cond test out a) fits)
-    (ap (packet_bytes_of with_checksum header) (sym (append-nil (chunk_bytes (chunk_out content)))))
+pub moves_next : {R : Type 0} (stream : R → Stream) (a b c : View R) (o p : Outcome) → o.after.options ≡ a.endpoint.options → Moves stream a o b → Moves stream b p c → Moves stream a (then_outcome o p) c
+moves_next stream a b c o p same m n =
+    let ports : ports_of b.endpoint.options ≡ ports_of a.endpoint.options = ap (λ (e : Endpoint). ports_of e.options) m.endpoint ∙ ap ports_of same in
+    record {
+      endpoint = n.endpoint;
+      events = events_behind (ports_of a.endpoint.options) (ports_of b.endpoint.options) a.events b.events c.events o.events p.events ports m.events n.events;
+      words = n.words ∙ ap (λ (ws : List Word). ws ++ p.words) m.words ∙ append_assoc a.words o.words p.words;
+      pairs = n.pairs ∙ ap (λ (ps : List Pair). ps ++ drawn_in p.effects) m.pairs ∙ append_assoc a.pairs (drawn_in o.effects) (drawn_in p.effects) ∙ ap (λ (ps : List Pair). a.pairs ++ ps) (sym (drawn_in-append o.effects p.effects));
+      drawn = Drawn-append (stream a.generator) (stream b.generator) (stream c.generator) o.words p.words m.drawn n.drawn;
+    }
+
+-- none is left
+pub flushes_none : {R : Type 0} (stream : R → Stream) (ask : Ask) (view : View R) (draft : Emission) → FlushesFor stream ask 0 view draft view
+flushes_none stream ask view draft = record { answers = []; allowed = at_limit ask view.endpoint draft; moves = moves_still stream view }
+
+none_is : (contents : List Content) (is_sent : Bool) → is_sent ≡ not (is_none contents) → is_sent ≡ false → contents ≡ []
+none_is [] is_sent is not_sent = refl
+none_is (content ∷ contents) is_sent is not_sent = absurd (cc)
+
+some_is : (contents : List Content) (is_sent : Bool) → is_sent ≡ not (is_none contents) → is_sent ≡ true → contents ≡ [] → ⊥
+some_is [] is_sent is was_sent none = cc
+some_is (content ∷ contents) is_sent is was_sent none = cc
+
+-- The flush ends at a packet that is empty.
+pub flushes_last : {R : Type 0} (stream : R → Stream) (ask : Ask) (n : ℕ) (old new : View R) (draft : Emission) (is_sent : Bool) → is_sent ≡ false → AsksFor stream ask old draft is_sent new
+    → FlushesFor stream ask (suc n) old draft new
+flushes_last stream ask n old new draft is_sent not_sent h =
+    let o : Outcome = asked old.endpoint draft h.answer in
+    let empty : (filled draft (answer_contents h.answer)).packet.contents ≡ [] = none_is (filled draft (answer_contents h.answer)).packet.contents is_sent h.goes not_sent in
+    let keeps : Keeps old.endpoint o = asked_keeps ask old.endpoint draft h.answer h.allowed in
+    record {
+      answers = h.answer ∷ [];
+      allowed = at_empty ask n old.endpoint draft h.answer h.allowed empty;
+      moves = moves_next stream old new new o (still o.after) keeps.options h.moves
+          (subst (λ (e : Endpoint). Moves stream new (still e) new) h.moves.endpoint (moves_still stream new));
+    }
+
+-- what comes behind a packet that went out
+pub flushes_further : {R : Type 0} (stream : R → Stream) (ask : Ask) (n : ℕ) (old mid new : View R) (draft next : Emission) (is_sent : Bool) → is_sent ≡ true → AsksFor stream ask old draft is_sent mid
+    → next_draft old.endpoint.core draft ≡ next → FlushesFor stream later_ask n mid next new → FlushesFor stream ask (suc n) old draft new
+flushes_further stream ask n old mid new draft next is_sent was_sent h follows rest =
+    let e : Endpoint = old.endpoint in
+    let o : Outcome = asked e draft h.answer in
+    let keeps : Keeps e o = asked_keeps ask e draft h.answer h.allowed in
+    let answers : Answers later_ask n o.after (next_draft e.core draft) rest.answers =
+    subst (λ (x : Endpoint). Answers later_ask n x (next_draft e.core draft) rest.answers) h.moves.endpoint
+    (subst (λ (d : Emission). Answers later_ask n mid.endpoint d rest.answers) (sym follows) rest.allowed) in
+    let moves : Moves stream mid (flush_of o.after (next_draft e.core draft) rest.answers) new =
+    subst (λ (x : Endpoint). Moves stream mid (flush_of x (next_draft e.core draft) rest.answers) new) h.moves.endpoint
+    (subst (λ (d : Emission). Moves stream mid (flush_of mid.endpoint d rest.answers) new) (sym follows) rest.moves) in
+    record {
+      answers = h.answer ∷ rest.answers;
+      allowed = after_packet ask n e draft h.answer rest.answers h.allowed (some_is (filled draft (answer_contents h.answer)).packet.contents is_sent h.goes was_sent) answers;
+      moves = moves_next stream old mid new o (flush_of o.after (next_draft e.core draft) rest.answers) keeps.options h.moves moves;
+    }
+
+-- ---- cut
+
+pub flush_cut_here : {R : Type 0} (ask : Ask) (n : ℕ) (old : View R) (draft : Emission) (events : List (Event (List ℕ))) → AskCut ask old draft events → FlushCut ask (suc n) old draft events
+flush_cut_here ask n old draft events h =
+    let e : Endpoint = old.endpoint in
+    let all = answers_from ask n e draft h.answer h.allowed in
+    let more : List (Event Emission) = (flush_of (asked e draft h.answer).after (next_draft e.core draft) all.0).events in
+    record {
+      answers = h.answer ∷ all.0;
+      allowed = all.1;
+      front = h.front;
+      rest = h.rest ++ more;
+      parts = ap (λ (es : List (Event Emission)). es ++ more) h.parts ∙ append_assoc h.front h.rest more;
+      added = h.added;
+    }
+
+pub flush_cut_further : {R : Type 0} (stream : R → Stream) (ask : Ask) (n : ℕ) (old mid : View R) (draft next : Emission) (events : List (Event (List ℕ))) (is_sent : Bool) → is_sent ≡ true → AsksFor stream ask old draft is_sent mid
+    → next_draft old.endpoint.core draft ≡ next → FlushCut later_ask n mid next events → FlushCut ask (suc n) old draft events
+flush_cut_further stream ask n old mid draft next events is_sent was_sent h follows rest =
+    let e : Endpoint = old.endpoint in
+    let o : Outcome = asked e draft h.answer in
+    let keeps : Keeps e o = asked_keeps ask e draft h.answer h.allowed in
+    let same : mid.endpoint ≡ o.after = h.moves.endpoint in
+    let answers : Answers later_ask n o.after (next_draft e.core draft) rest.answers =
+    subst (λ (x : Endpoint). Answers later_ask n x (next_draft e.core draft) rest.answers) same (subst (λ (d : Emission). Answers later_ask n mid.endpoint d rest.answers) (sym follows) rest.allowed) in
+    let parts : (flush_of o.after (next_draft e.core draft) rest.answers).events ≡ rest.front ++ rest.rest =
+    subst (λ (x : Endpoint). (flush_of x (next_draft e.core draft) rest.answers).events ≡ rest.front ++ rest.rest) same
+    (subst (λ (d : Emission). (flush_of mid.endpoint d rest.answers).events ≡ rest.front ++ rest.rest) (sym follows) rest.parts) in
+    let ports : ports_of mid.endpoint.options ≡ ports_of e.options = ap (λ (x : Endpoint). ports_of x.options) same ∙ ap ports_of keeps.options in
+    record {
+      answers = h.answer ∷ rest.answers;
+      allowed = after_packet ask n e draft h.answer rest.answers h.allowed (some_is (filled draft (answer_contents h.answer)).packet.contents is_sent h.goes was_sent) answers;
+      front = o.events ++ rest.front;
+      rest = rest.rest;
+      parts = ap (λ (es : List (Event Emission)). o.events ++ es) parts ∙ sym (append_assoc o.events rest.front rest.rest);
+      added = events_behind (ports_of e.options) (ports_of mid.endpoint.options) old.events mid.events events o.events rest.front ports h.moves.events rest.added;
+    }
+
+-- ---- to the peer that is held
+
+pub next_to : (core : Core) (draft : Emission) (held : Held) → held_in core ≡ Some held → next_draft core draft ≡ draft_to held
+next_to closed draft held holds = absurd (cc)
+next_to (cookie_wait my) draft held holds = absurd (cc)
+next_to (cookie_echoed my own cookie) draft held holds = ap draft_to (of_some own held holds)
+  where
+    of_some : (a b : Held) → Some a ≡ Some b → a ≡ b
+    of_some a b is = cc
+next_to (open_in phase my own) draft held holds = ap draft_to (of_some own held holds)
+  where
+    of_some : (a b : Held) → Some a ≡ Some b → a ≡ b
+    of_some a b is = cc
+
+-- before its first event
+pub flush_cut_before : {R : Type 0} (ask : Ask) (n : ℕ) (old : View R) (draft : Emission) → FlushCut ask n old draft old.events
+flush_cut_before ask n old draft =
+    let some = any_answers ask n old.endpoint draft in
+    record { answers = some.0; allowed = some.1; front = []; rest = (flush_of old.endpoint draft some.0).events; parts = refl; added = sym (append-nil old.events) }

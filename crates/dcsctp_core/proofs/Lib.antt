@@ -1,4 +1,11 @@
+pub mod AskLemmas
+pub mod AtOnceLemmas
+pub mod BelowLemmas
 pub mod Composing
 pub mod EndLemmas
+pub mod FillLemmas
+pub mod FirstLemmas
 pub mod FlushLemmas
+pub mod LoopLemmas
 pub mod Moving
+pub mod SentLemmas

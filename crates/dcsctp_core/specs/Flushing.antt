@@ -1,17 +1,24 @@
 -- What goes out in a flush.
-use Rattle.std.specs.Prelude.{◌≡◌, ◌≤◌, ℕ, ℤ, pos, negsuc, Bool, Result, Ok, Err, List, [], ◌∷◌, ◌++◌, length, map, if◌then◌else◌}
-use Rattle.std.specs.List.{flat_map, AllByRecursion}
+use Rattle.std.specs.Prelude.{◌≡◌, ◌⊎◌, ◌≤◌, ◌+◌, ℕ, length, Bool, true, false, not, Option, None, Some, Result, Ok, Err, List, [], ◌∷◌, ◌++◌, map}
+use Rattle.std.specs.List.{flat_map}
 use Rattle.rand_core.specs.Stream.{Stream}
 use Rattle.dcsctp_build.specs.Building.{Building}
 use Rattle.dcsctp_wire.specs.Spelling.{chunk_bytes, header_bytes, packet_bytes_of}
 use Rattle.dcsctp_machine.specs.declared.options.Options.{Options}
-use Rattle.dcsctp_machine.specs.Settings.{packet_size_limit}
-use Rattle.dcsctp_machine.specs.Packet.{Content, chunk_out}
-use Rattle.dcsctp_machine.specs.Outcome.{counted}
-use Rattle.dcsctp_machine.specs.turns.FlushOutcomes.{allows_packet, flush_outcome}
+use Rattle.dcsctp_machine.specs.Settings.{ports_of, packet_size_limit}
 use Rattle.dcsctp_machine.specs.Event.{Event, sent}
+use Rattle.dcsctp_machine.specs.Packet.{Content, chunk_out, Emission}
+use Rattle.dcsctp_machine.specs.Transfer.{SendQueueState, Transfer, has_data, can_send}
+use Rattle.dcsctp_machine.specs.Endpoint.{Endpoint, Timers, heartbeats_begun, held_in}
+use Rattle.dcsctp_machine.specs.declared.association.Held.{Held}
+use Rattle.dcsctp_machine.specs.Outcome.{counted}
+use Rattle.dcsctp_machine.specs.turns.FlushOutcomes.{told_event, Answer, answer_contents, filled, asked, flush_of, packets_allowed, Ask, first_ask, AnsweredBelow, timers_with, Answered, Answers, is_none, later_ask, draft_to}
+use Rattle.dcsctp_api.specs.Calls.{user_event}
+use Rattle.dcsctp_transfer.specs.Filling.{TellsMore, FillsPacket, Acknowledges, is_sack_wanted}
 use Rattle.dcsctp_core.specs.declared.context.Context.{Context}
-use Rattle.dcsctp_core.specs.View.{View, endpoint_of, view_of, Moves}
+use Rattle.dcsctp_core.specs.declared.state.State.{State}
+use Rattle.dcsctp_core.specs.declared.state.State.TheVariants.{Closed, CookieWait, CookieEchoed, Established}
+use Rattle.dcsctp_core.specs.View.{View, core_of, endpoint_of, view_of, transfer_of, Moves}
 
 -- a packet of these chunks that is being built, under this tag
 abbrev pub packet_of : Options → Bool → ℕ → List Content → Building
@@ -28,28 +35,148 @@ packet_of options with_checksum tag contents =
 abbrev pub empty_packet : Options → Bool → ℕ → Building
 empty_packet options with_checksum tag = packet_of options with_checksum tag []
 
--- ---- its limits
+-- the same of what goes out
+abbrev pub packet_for : Options → Emission → Building
+packet_for options draft = packet_of options draft.with_checksum draft.packet.tag draft.packet.contents
 
--- how many packets `max_burst` allows
-abbrev pub burst_limit : ℤ → ℕ
-burst_limit (pos n) = n
-burst_limit (negsuc n) = 0
+-- ---- below an association
 
--- a packet of so many bytes at most
-abbrev pub IsPacketWithin : ℕ → Event (List ℕ) → Type 0
-IsPacketWithin size (sent bytes) = length bytes ≤ size
-IsPacketWithin size event = ⊥
+-- the state with this below its association, where a peer is held
+abbrev pub state_with : State → Transfer → State
+state_with Closed transfer = Closed
+state_with (CookieWait wait) transfer = CookieWait wait
+state_with (CookieEchoed echoed) transfer = CookieEchoed (record echoed { tcb = record echoed.tcb { transfer = transfer } })
+state_with (Established tcb) transfer = Established (record tcb { transfer = transfer })
 
--- What was added is packets, none of them longer than `mtu`, and no more of them than `max_burst` (RFC 9260, section 6.1).
-pub record WithinLimits (options : Options) (old new : List (Event (List ℕ))) : Type 0 where
-  pub packets : List (Event (List ℕ))
-  pub behind : new ≡ old ++ packets
-  pub burst : length packets ≤ burst_limit options.max_burst
-  pub sizes : AllByRecursion (IsPacketWithin options.mtu) packets
+-- A packet was filled with data, where a peer is held; whether any went in is told.
+abbrev pub FillsBelow : Option Transfer → SendQueueState → List (Event (List ℕ)) → Building → State → State → SendQueueState → List (Event (List ℕ)) → Building → Bool → Type 0
+FillsBelow None waiting events packet old new left telling filled any = (new ≡ old) × (left ≡ waiting) × (telling ≡ events) × (filled ≡ packet) × (any ≡ false)
+FillsBelow (Some transfer) waiting events packet old new left telling filled any =
+    (after : Transfer) × (new ≡ state_with old after) × FillsPacket transfer waiting events packet after left telling filled any
 
--- ---- a flush of a packet that is begun
+-- What came in is acknowledged, where that is asked for.
+abbrev pub AcknowledgesBelow : Option Transfer → Bool → State → Building → State → Building → Type 0
+AcknowledgesBelow None along old packet new filled = (new ≡ old) × (filled ≡ packet)
+AcknowledgesBelow (Some transfer) along old packet new filled =
+    (after : Transfer) × (new ≡ state_with old after) × Acknowledges (is_sack_wanted along transfer) transfer packet after filled
 
--- The packet's bytes are one event more, and it is counted.
+-- Without a peer, and where nothing waits and nothing is outstanding, there is no data.
+abbrev pub HasNoData : SendQueueState → Option Transfer → Type 0
+HasNoData queue None = Unit {0}
+HasNoData queue (Some transfer) = (has_data queue ≡ false) × (transfer.retransmission.outstanding_items ≡ 0)
+
+-- No SACK is asked for.
+abbrev pub WantsNone : Option Transfer → Bool → Type 0
+WantsNone None along = Unit {0}
+WantsNone (Some transfer) along = is_sack_wanted along transfer ≡ false
+
+-- may data be sent to the peer that is held, where one is?
+abbrev pub can_send_below : Option Transfer → Bool
+can_send_below None = false
+can_send_below (Some transfer) = can_send transfer.retransmission
+
+-- ---- one packet of it
+
+-- the heartbeat interval begins anew where data went in
+abbrev pub timers_where : Bool → Endpoint → Timers
+timers_where true e = heartbeats_begun e e.timers
+timers_where false e = e.timers
+
+-- A packet was filled with data, and nothing else has moved.
+abbrev pub FillsData : {R : Type 0} → Option Transfer → View R → Building → View R → Building → Type 0
+FillsData None old packet new filled = (new ≡ old) × (filled ≡ packet)
+FillsData (Some transfer) old packet new filled =
+    (any : Bool) × (after : Transfer) × (left : SendQueueState)
+    × FillsPacket transfer old.endpoint.below.queue old.events packet after left new.events filled any
+    × (new ≡ record old {
+      endpoint = record old.endpoint { timers = timers_where any old.endpoint; below = record { queue = left; transfer = Some after } };
+      events = new.events;
+    })
+
+-- A packet that was asked to be filled: what it holds now, and what else has moved.
+pub record Fills {R : Type 0} (ask : Ask) (old : View R) (draft : Emission) (new : View R) (filled_packet : Building) : Type 0 where
+  pub answer : Answer
+  pub kept : answer.after
+      ≡ record old.endpoint {
+        timers = timers_with old.endpoint answer.data_chunks;
+        no_forward_tsn_before = answer.after.no_forward_tsn_before;
+        below = answer.after.below;
+      }
+  pub by_transfer : AnsweredBelow ask old.endpoint draft answer old.endpoint.below.transfer
+  pub endpoint : new.endpoint ≡ answer.after
+  pub events : new.events ≡ old.events ++ map (user_event (ports_of old.endpoint.options)) (map told_event answer.told)
+  pub rest : new ≡ record old { endpoint = new.endpoint; events = new.events }
+  pub packet : filled_packet ≡ packet_for old.endpoint.options (filled draft (answer_contents answer))
+
+-- The turn of a packet that is asked to be filled was cut.
+pub record AskCut {R : Type 0} (ask : Ask) (old : View R) (draft : Emission) (events : List (Event (List ℕ))) : Type 0 where
+  pub answer : Answer
+  pub allowed : Answered ask old.endpoint draft answer
+  -- what was added of it
+  pub front : List (Event Emission)
+  pub rest : List (Event Emission)
+  pub parts : (asked old.endpoint draft answer).events ≡ front ++ rest
+  pub added : events ≡ old.events ++ map (user_event (ports_of old.endpoint.options)) front
+
+-- whatever the machine calls the chunks that the packet holds
+abbrev pub FillsWith : {R E : Type 0} → Ask → Building → Context R → Result (Unit {0}) E → Context R → Building → Type 0
+FillsWith ask packet old (Ok done) new filled_packet =
+    (draft : Emission) → packet ≡ packet_for old.options draft → Fills ask (view_of old) draft (view_of new) filled_packet
+FillsWith ask packet old (Err error) new filled_packet =
+    (draft : Emission) → packet ≡ packet_for old.options draft → AskCut ask (view_of old) draft (view_of new).events
+
+-- Its turn took place; whether the packet went out is told.
+pub record AsksFor {R : Type 0} (stream : R → Stream) (ask : Ask) (old : View R) (draft : Emission) (is_sent : Bool) (new : View R) : Type 0 where
+  pub answer : Answer
+  pub allowed : Answered ask old.endpoint draft answer
+  pub goes : is_sent ≡ not (is_none (filled draft (answer_contents answer)).packet.contents)
+  pub moves : Moves stream old (asked old.endpoint draft answer) new
+
+abbrev pub AsksWith : {R E : Type 0} → (R → Stream) → Ask → Building → Context R → Result Bool E → Context R → Type 0
+AsksWith stream ask packet old (Ok is_sent) new =
+    (draft : Emission) → packet ≡ packet_for old.options draft → AsksFor stream ask (view_of old) draft is_sent (view_of new)
+AsksWith stream ask packet old (Err error) new =
+    (draft : Emission) → packet ≡ packet_for old.options draft → AskCut ask (view_of old) draft (view_of new).events
+
+-- What fills a packet with data does, by whether a growth was refused.
+abbrev pub TriesData : {R E : Type 0} → Building → Context R → Result (Unit {0}) E → Context R → Building → Type 0
+TriesData packet old (Ok done) new filled = FillsData (transfer_of old.state) (view_of old) packet (view_of new) filled
+TriesData packet old (Err error) new filled = TellsMore (view_of old).events (view_of new).events
+
+-- ---- as many as may be
+
+-- A flush of so many packets at most took place, of which this is the first.
+pub record FlushesFor {R : Type 0} (stream : R → Stream) (ask : Ask) (count : ℕ) (old : View R) (draft : Emission) (new : View R) : Type 0 where
+  pub answers : List Answer
+  pub allowed : Answers ask count old.endpoint draft answers
+  pub moves : Moves stream old (flush_of old.endpoint draft answers) new
+
+-- The same, cut.
+pub record FlushCut {R : Type 0} (ask : Ask) (count : ℕ) (old : View R) (draft : Emission) (events : List (Event (List ℕ))) : Type 0 where
+  pub answers : List Answer
+  pub allowed : Answers ask count old.endpoint draft answers
+  pub front : List (Event Emission)
+  pub rest : List (Event Emission)
+  pub parts : (flush_of old.endpoint draft answers).events ≡ front ++ rest
+  pub added : events ≡ old.events ++ map (user_event (ports_of old.endpoint.options)) front
+
+-- by whether a growth was refused
+abbrev pub FlushesBy : {R E : Type 0} → (R → Stream) → Ask → ℕ → Emission → View R → Result (Unit {0}) E → View R → Type 0
+FlushesBy stream ask count draft old (Ok done) new = FlushesFor stream ask count old draft new
+FlushesBy stream ask count draft old (Err error) new = FlushCut ask count old draft new.events
+
+-- Later packets of it, to the peer that is held.
+abbrev pub FurtherAt : {R E : Type 0} → (R → Stream) → ℕ → Context R → Result (Unit {0}) E → Context R → Type 0
+FurtherAt stream count old result new =
+    (held : Held) → held_in (core_of old.state) ≡ Some held → FlushesBy stream later_ask count (draft_to held) (view_of old) result (view_of new)
+
+-- A flush to the peer that is held, whose first packet is this one, whatever the machine calls the chunks that it holds.
+abbrev pub Flushes : {R E : Type 0} → (R → Stream) → Building → Context R → Result (Unit {0}) E → Context R → Type 0
+Flushes stream packet old result new =
+    (draft : Emission) → packet ≡ packet_for old.options draft → (held : Held) → held_in (core_of old.state) ≡ Some held
+    → FlushesBy stream first_ask (packets_allowed old.options.max_burst (endpoint_of old).core) draft (view_of old) result (view_of new)
+
+-- Its bytes are one event more, and it is counted.
 abbrev pub sent_as_built : {R : Type 0} → Building → View R → View R
 sent_as_built packet view =
     record view {
@@ -58,21 +185,15 @@ sent_as_built packet view =
           ++ sent (packet_bytes_of packet.with_checksum (header_bytes packet.source_port packet.destination_port packet.verification_tag) packet.body) ∷ [];
     }
 
--- by the bytes of its chunks: it goes out where it has one, and where `max_burst` allows a packet
-abbrev pub flushed : {R : Type 0} → Building → List ℕ → View R → View R
-flushed packet [] view = view
-flushed packet (byte ∷ bytes) view = if allows_packet view.endpoint.options.max_burst then sent_as_built packet view else view
+abbrev pub sent_where : {R : Type 0} → Bool → Building → View R → View R
+sent_where true packet view = sent_as_built packet view
+sent_where false packet view = view
 
--- It is a turn, whatever the machine calls the chunks that the packet holds, and keeps its limits.
-pub record Flushed {R : Type 0} (stream : R → Stream) (old : Context R) (with_checksum : Bool) (tag : ℕ) (contents : List Content)
-    (new : Context R) : Type 0 where
-  pub moves : Moves stream (view_of old) (flush_outcome (endpoint_of old) [] [] with_checksum tag contents) (view_of new)
-  pub limits : WithinLimits old.options (view_of old).events (view_of new).events
+-- It is empty, or no longer than it may be.
+abbrev pub KeepsSize : Building → Type 0
+KeepsSize packet = (packet.body ≡ []) ⊎ (12 + length packet.body ≤ packet.size)
 
--- The flush took place: this packet went out, if any; or a growth was refused, and nothing has changed.
-abbrev pub Flushes : {R E : Type 0} → (R → Stream) → Building → Context R → Result (Unit {0}) E → Context R → Type 0
-Flushes stream packet old (Ok done) new =
-    (view_of new ≡ flushed packet packet.body (view_of old))
-    × ((with_checksum : Bool) (tag : ℕ) (contents : List Content) → packet ≡ packet_of old.options with_checksum tag contents
-    → Flushed stream old with_checksum tag contents new)
-Flushes stream packet old (Err error) new = view_of new ≡ view_of old
+-- A packet that isn't empty went out.
+abbrev pub SendsUnlessEmpty : {R E : Type 0} → Building → Context R → Result Bool E → Context R → Type 0
+SendsUnlessEmpty packet old (Ok is_sent) new = (is_sent ≡ not (is_none packet.body)) × (view_of new ≡ sent_where is_sent packet (view_of old))
+SendsUnlessEmpty packet old (Err error) new = view_of new ≡ view_of old

@@ -13,6 +13,7 @@ use Rattle.dcsctp_machine.specs.Outcome.{Outcome, still, counted, reports}
 use Rattle.dcsctp_machine.specs.Following.{next_chunk, packet_end, dropped_rest}
 use Rattle.dcsctp_machine.specs.Following as machine
 use Rattle.dcsctp_machine.specs.Turn.{arrival_outcome}
+use Rattle.dcsctp_machine.specs.turns.DataOutcomes.{FlushTurn}
 use Rattle.dcsctp_machine.specs.turns.EndOutcomes.{close_outcome}
 use Rattle.dcsctp_core.specs.declared.following.Following.{Following}
 use Rattle.dcsctp_core.specs.declared.following.Following.TheVariants.{NextChunk, PacketEnd, DroppedRest}
@@ -40,6 +41,21 @@ abbrev pub Takes : {R E : Type 0} → (R → Stream) → (View R → Outcome) �
 Takes stream turn old (Ok done) new = Moves stream (view_of old) (turn (view_of old)) (view_of new)
 Takes stream turn old (Err error) new = CutTurn (view_of old) (turn (view_of old)) (view_of new).events
 
+-- A turn that may turn out in more than one way took place; or a growth was refused, and the first of its events may stand.
+pub record TakesIn {R : Type 0} (stream : R → Stream) (Turn : View R → Outcome → Type 0) (old new : View R) : Type 0 where
+  pub outcome : Outcome
+  pub turn : Turn old outcome
+  pub moves : Moves stream old outcome new
+
+pub record CutIn {R : Type 0} (Turn : View R → Outcome → Type 0) (old : View R) (events : List (Event (List ℕ))) : Type 0 where
+  pub outcome : Outcome
+  pub turn : Turn old outcome
+  pub cut : CutTurn old outcome events
+
+abbrev pub TakesOne : {R E : Type 0} → (R → Stream) → (View R → Outcome → Type 0) → Context R → Result (Unit {0}) E → Context R → Type 0
+TakesOne stream Turn old (Ok done) new = TakesIn stream Turn (view_of old) (view_of new)
+TakesOne stream Turn old (Err error) new = CutIn Turn (view_of old) (view_of new).events
+
 -- ---- a chunk's turn, with what follows in its packet
 
 abbrev pub following_of : Following → machine.Following
@@ -62,11 +78,26 @@ abbrev pub WorksWhole : {R E : Type 0} → (R → Stream) → (View R → Outcom
 WorksWhole stream turn old (Ok next) new = Handles stream (view_of old) (turn (view_of old)) next (view_of new)
 WorksWhole stream turn old (Err error) new = view_of new ≡ view_of old
 
+-- the same of a chunk's turn that may turn out in more than one way
+pub record HandlesIn {R : Type 0} (stream : R → Stream) (Turn : View R → Outcome → Type 0) (old : View R) (next : Following) (new : View R) : Type 0 where
+  pub outcome : Outcome
+  pub turn : Turn old outcome
+  pub moves : Moves stream old outcome new
+  pub following : outcome.following ≡ following_of next
+
+abbrev pub WorksOne : {R E : Type 0} → (R → Stream) → (View R → Outcome → Type 0) → Context R → Result Following E → Context R → Type 0
+WorksOne stream Turn old (Ok next) new = HandlesIn stream Turn (view_of old) next (view_of new)
+WorksOne stream Turn old (Err error) new = CutIn Turn (view_of old) (view_of new).events
+
 -- ---- the turns of what all handlers share
 
 -- Nothing happens.
 abbrev pub still_turn : {R : Type 0} → View R → Outcome
 still_turn view = still view.endpoint
+
+-- What waits goes out.
+abbrev pub FlushAt : {R : Type 0} → View R → Outcome → Type 0
+FlushAt view o = FlushTurn view.endpoint o
 
 -- One packet more was counted.
 abbrev pub arrival_turn : {R : Type 0} → View R → Outcome

@@ -1,3 +1,4 @@
+pub mod Below
 pub mod Drawing
 pub mod Errors
 pub mod Flushing

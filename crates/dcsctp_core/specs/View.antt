@@ -8,11 +8,10 @@ use Rattle.dcsctp_machine.specs.declared.word.Word.TheVariants.{U32, U64}
 use Rattle.dcsctp_machine.specs.Event.{Event}
 use Rattle.dcsctp_machine.specs.declared.association.Held.{Held}
 use Rattle.dcsctp_machine.specs.Transfer.{Transfer, new_transfer}
-use Rattle.dcsctp_machine.specs.Endpoint.{Endpoint, Core, closed, cookie_wait, cookie_echoed, open_in, established, RunningTimer, stopped_timers, fresh_endpoint}
+use Rattle.dcsctp_machine.specs.Endpoint.{Endpoint, Core, closed, cookie_wait, cookie_echoed, open_in, established, RunningTimer, stopped_timers, heartbeats_begun, fresh_endpoint}
 use Rattle.dcsctp_machine.specs.Outcome.{Outcome}
 use Rattle.dcsctp_machine.specs.Following.{next_chunk}
 use Rattle.dcsctp_machine.specs.control.HandshakeChanges.{new_held}
-use Rattle.dcsctp_machine.specs.turns.HandshakeOutcomes.{heartbeats_begun}
 use Rattle.dcsctp_machine.specs.control.Effect.{drawn_in}
 use Rattle.dcsctp_machine.specs.CallTurns.{Turned, after_all, words_of, effects_of, events_of}
 use Rattle.dcsctp_machine.specs.Settings.{ports_of}

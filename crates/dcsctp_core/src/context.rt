@@ -6,7 +6,6 @@ ghost use Rattle.dcsctp_machine.specs.turns.HeartbeatOutcomes.{heartbeat_timeout
 ghost use Rattle.dcsctp_machine.specs.Settings.{IsValid};
 
 use crate::ending::end_event;
-use crate::flush::allows_packet;
 use crate::state::State;
 use crate::tx_error_counter::TxErrorCounter;
 use dcsctp_api::{
@@ -87,13 +86,13 @@ impl<R: Rng> Context<R> {
     ghost use Rattle.dcsctp_machine.specs.Outcome.{counted};
     ghost use Rattle.dcsctp_wire.specs.Content.{chunk_content};
     ghost use Rattle.dcsctp_machine.specs.TimeTurns.{own_timer};
-    ghost use Rattle.dcsctp_machine.specs.turns.HeartbeatOutcomes.{heartbeat_interval, heartbeat_timeout, interval_expired, beating, timeout_outcome, answered, is_exhausted};
+    ghost use Rattle.dcsctp_machine.specs.turns.OwnTimers.{heartbeat_interval, heartbeat_timeout, retransmission};
+    ghost use Rattle.dcsctp_machine.specs.turns.HeartbeatOutcomes.{interval_expired, beating, timeout_outcome, answered, is_exhausted};
     ghost use Rattle.dcsctp_send.specs.Timer.{running_deadline};
-    ghost use Rattle.dcsctp_core.specs.Timing.{where_expired, is_timer_due};
+    ghost use Rattle.dcsctp_core.specs.Timing.{where_expired, is_timer_due, ExpiresAlways};
     ghost use Rattle.dcsctp_core.specs.View.{Moves, view_of, endpoint_of, begun_heartbeats, fresh_view, call_start};
     ghost use Rattle.dcsctp_core.specs.Drawing.{Draws, Keeps};
-    ghost use Rattle.dcsctp_core.specs.Flushing.{Flushes};
-    ghost use Rattle.dcsctp_core.specs.Handling.{Tries, Emits, arrival_turn, report_turn, close_turn, end_event, still_turn};
+    ghost use Rattle.dcsctp_core.specs.Handling.{Tries, Emits, arrival_turn, report_turn, close_turn, end_event};
 
     /// A closed socket with these options, at moment zero.
     pub fn new(alloc: Global, options: Options, generator: R) -> Context<R>
@@ -198,50 +197,13 @@ impl<R: Rng> Context<R> {
     }
 
     // Counts a packet that was emitted, up to the greatest number.
-    fn count_emitted(&mut self)
+    pub(crate) fn count_emitted(&mut self)
         ensures { view_of self.new ≡ record (view_of self.old) {
           endpoint = counted
               (endpoint_of self.old);
         } }
     {
         self.tx_packets_count = self.tx_packets_count.saturating_add(1);
-    }
-
-    /// A flush whose first packet is this one, with the chunks that it holds (RFC 9260, section 6.1). So
-    /// far nothing else waits to be sent. At most `max_burst` packets go out.
-    ///
-    /// The one error is that there is no memory for the event. Nothing has changed then.
-    pub fn send_buffered_packets_with(
-        &mut self,
-        builder: SctpPacketBuilder,
-    ) -> Result<(), AllocError>
-        ensures { Flushes R.stream builder self.old result self.new }
-    {
-        if !allows_packet(&self.options) {
-            return Ok(());
-        }
-        if builder.is_empty() {
-            return Ok(());
-        }
-        self.events.add(SocketEvent::SendPacket(builder.build()))?;
-        self.count_emitted();
-        Ok(())
-    }
-
-    /// A flush: what waits to be sent goes out under the peer's tag. So far nothing waits.
-    ///
-    /// The one error is that there is no memory for a packet. Nothing has changed then.
-    pub fn send_buffered_packets(&mut self) -> Result<(), AllocError>
-        ensures { Tries R.stream still_turn self.old result self.new }
-    {
-        match self.state.tcb() {
-            None => {}
-            Some(tcb) => {
-                let packet = tcb.new_packet(self.alloc, &self.options)?;
-                self.send_buffered_packets_with(packet)?;
-            }
-        }
-        Ok(())
     }
 
     /// Starts the heartbeat interval anew, unless it is zero, which switches heartbeats off.
@@ -309,6 +271,28 @@ impl<R: Rng> Context<R> {
     {
         self.heartbeat_timeout.stop();
         self.tx_error_counter.reset();
+    }
+
+    /// The peer has acknowledged something that it hadn't before: no error counts (RFC 9260, section 8.1).
+    pub fn reset_errors(&mut self)
+        ensures { view_of self.new ≡ record (view_of self.old) {
+          endpoint = record
+              (endpoint_of self.old) { error_count = 0 };
+        } }
+    {
+        self.tx_error_counter.reset();
+    }
+
+    /// Tells the retransmission timer the present moment, and answers whether it expires: what is in flight is
+    /// lost then, and an error is counted (RFC 9260, sections 6.3.3 and 8.1). It takes no memory.
+    pub fn expire_retransmission(&mut self) -> bool
+        ensures { ExpiresAlways R.stream (own_timer retransmission) self.old result self.new }
+    {
+        if self.state.expire_retransmission(self.moment) {
+            self.tx_error_counter.increment();
+            return true;
+        }
+        false
     }
 
     /// Were more errors counted than the options allow (RFC 9260, section 8.1)?

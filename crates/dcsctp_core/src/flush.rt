@@ -1,13 +1,180 @@
-//! How much goes out at once.
+//! A flush: what waits goes out, in as many packets as may be (RFC 9260, section 6.1).
 
-ghost use Rattle.std.specs.Prelude.{◌≡◌};
-ghost use Rattle.dcsctp_machine.specs.turns.FlushOutcomes.{allows_packet};
+ghost use Rattle.std.specs.Prelude.{◌≡◌, ◌||◌, IsOk};
+ghost use Rattle.dcsctp_machine.specs.Transfer.{has_data};
+ghost use Rattle.dcsctp_machine.specs.turns.FlushOutcomes.{packets_allowed, first_ask, later_ask};
+ghost use Rattle.dcsctp_core.specs.View.{core_of, transfer_of};
+ghost use Rattle.dcsctp_core.specs.Below.{AtOnceAt};
+ghost use Rattle.dcsctp_core.specs.Flushing.{Flushes, FurtherAt, AsksWith, FillsWith, TriesData, HasNoData, can_send_below, SendsUnlessEmpty, KeepsSize};
+ghost use Rattle.dcsctp_core.specs.Handling.{TakesOne, FlushAt};
 
-use dcsctp_api::Options;
+use crate::context::Context;
+use crate::state::State;
+use dcsctp_api::{Options, SocketEvent};
+use dcsctp_build::SctpPacketBuilder;
+use rand_core::Rng;
+use std::alloc::AllocError;
 
-/// Do these options allow a packet in a flush?
-pub(crate) fn allows_packet(options: &Options) -> bool
-    ensures { result ≡ allows_packet options.now.max_burst }
+// How many packets a flush may send: one at most while the COOKIE ECHO isn't answered (RFC 9260, section 5.1).
+fn packets_allowed(options: &Options, state: &State) -> u32
+    ensures { result ≡ packets_allowed options.now.max_burst (core_of state.now) }
 {
-    options.max_burst > 0
+    if options.max_burst <= 0 {
+        return 0;
+    }
+    match state {
+        State::CookieEchoed(_) => 1,
+        State::Closed | State::CookieWait(_) | State::Established(_) => {
+            options.max_burst.unsigned_abs()
+        }
+    }
+}
+
+impl<R: Rng> Context<R> {
+    /// A flush: what waits to be sent goes out under the peer's tag, where a peer is held.
+    ///
+    /// The one error is that a growth was refused. The first events of the turn may stand then.
+    pub fn send_buffered_packets(&mut self) -> Result<(), AllocError>
+        ensures { TakesOne R.stream FlushAt self.old result self.new }
+    {
+        match self.state.tcb() {
+            None => {}
+            Some(tcb) => {
+                let packet = tcb.new_packet(self.alloc, &self.options)?;
+                self.send_buffered_packets_with(packet)?;
+            }
+        }
+        Ok(())
+    }
+
+    /// A flush whose first packet is this one, with the chunks that it holds; what acknowledges goes behind
+    /// them. At most `max_burst` packets go out, and one at most while the COOKIE ECHO isn't answered.
+    ///
+    /// The one error is that a growth was refused. The first events of the turn may stand then.
+    pub fn send_buffered_packets_with(
+        &mut self,
+        packet: SctpPacketBuilder,
+    ) -> Result<(), AllocError>
+        ensures { Flushes R.stream packet self.old result self.new }
+    {
+        let allowed = packets_allowed(&self.options, &self.state);
+        if allowed == 0 {
+            return Ok(());
+        }
+        if !self.send_first(packet)? {
+            return Ok(());
+        }
+        self.send_further(allowed - 1)
+    }
+
+    /// One packet of what was lost goes out to the peer that is held, where it is to go out at once, whatever
+    /// the congestion window is (RFC 9260, section 7.2.4).
+    ///
+    /// The one error is that a growth was refused. No event was added then.
+    pub fn send_at_once(&mut self) -> Result<(), AllocError>
+        ensures { TakesOne R.stream AtOnceAt self.old result self.new }
+    {
+        if !self.state.has_data_at_once() {
+            return Ok(());
+        }
+        match self.state.tcb() {
+            None => {}
+            Some(tcb) => {
+                let mut packet = tcb.new_packet(self.alloc, &self.options)?;
+                self.state.fill_at_once(self.moment, &mut packet)?;
+                self.send_unless_empty(packet)?;
+            }
+        }
+        Ok(())
+    }
+
+    // Packets go out to the peer that is held, at most so many, until one is empty once it was filled.
+    fn send_further(&mut self, allowed: u32) -> Result<(), AllocError>
+        ensures { FurtherAt R.stream allowed self.old result self.new }
+    {
+        let mut left = allowed;
+        while 0 < left {
+            let Some(tcb) = self.state.tcb() else {
+                return Ok(());
+            };
+            let packet = tcb.new_packet(self.alloc, &self.options)?;
+            if !self.send_later(packet)? {
+                return Ok(());
+            }
+            left -= 1;
+        }
+        Ok(())
+    }
+
+    // The first packet of a flush goes out, unless it is empty once it was filled, and whether it did is
+    // answered.
+    fn send_first(&mut self, packet: SctpPacketBuilder) -> Result<bool, AllocError>
+        ensures { AsksWith R.stream first_ask packet self.old result self.new }
+    {
+        let mut packet = packet;
+        self.fill_first(&mut packet)?;
+        self.send_unless_empty(packet)
+    }
+
+    // The same of a later one.
+    fn send_later(&mut self, packet: SctpPacketBuilder) -> Result<bool, AllocError>
+        ensures { AsksWith R.stream later_ask packet self.old result self.new }
+    {
+        let mut packet = packet;
+        self.fill_later(&mut packet)?;
+        self.send_unless_empty(packet)
+    }
+
+    // Puts into the first packet what acknowledges, and then data.
+    fn fill_first(&mut self, packet: &mut SctpPacketBuilder) -> Result<(), AllocError>
+        ensures { FillsWith first_ask packet.old self.old result self.new packet.new }
+    {
+        let may_follow = self.may_send_data();
+        self.state.acknowledge(may_follow, packet)?;
+        self.fill_with_data(packet)
+    }
+
+    // May data follow: does some wait, or do the windows allow it?
+    fn may_send_data(&self) -> bool
+        ensures { result ≡ (has_data self.now.send_queue || can_send_below (transfer_of self.now.state)) }
+    {
+        self.send_queue.has_data_to_send() || self.state.can_send_data()
+    }
+
+    // Puts data into a later packet.
+    fn fill_later(&mut self, packet: &mut SctpPacketBuilder) -> Result<(), AllocError>
+        ensures { FillsWith later_ask packet.old self.old result self.new packet.new }
+    {
+        self.fill_with_data(packet)
+    }
+
+    // Puts data into a packet; with some the heartbeat interval begins anew (RFC 9260, section 8.3).
+    fn fill_with_data(&mut self, packet: &mut SctpPacketBuilder) -> Result<(), AllocError>
+        ensures turn { TriesData packet.old self.old result self.new packet.new }
+        ensures idle { HasNoData self.old.send_queue (transfer_of self.old.state) → IsOk result }
+    {
+        let has_some = self.state.fill_packet(
+            &mut self.events,
+            &mut self.send_queue,
+            self.moment,
+            packet,
+        )?;
+        if has_some {
+            self.start_heartbeat_interval();
+        }
+        Ok(())
+    }
+
+    // A packet goes out, unless it is empty, and whether it did is answered.
+    fn send_unless_empty(&mut self, packet: SctpPacketBuilder) -> Result<bool, AllocError>
+        ensures sends { SendsUnlessEmpty packet self.old result self.new }
+        ensures size { KeepsSize packet }
+    {
+        if packet.is_empty() {
+            return Ok(false);
+        }
+        self.events.add(SocketEvent::SendPacket(packet.build()))?;
+        self.count_emitted();
+        Ok(true)
+    }
 }

@@ -7,6 +7,7 @@ mod expiry;
 mod flush;
 mod following;
 mod state;
+mod transferring;
 mod transmission_control_block;
 mod tx_error_counter;
 

@@ -1,13 +1,13 @@
 -- Which TSNs came in, and when that is acknowledged (RFC 9260, sections 6.2 and 6.7; RFC 3758, section 3.6). Moments and
 -- durations are nanoseconds. TSNs are numbered without wrap: the number of a TSN modulo 2^32 is the TSN.
-use Rattle.std.specs.Prelude.{◌≡◌, ◌==◌, ℕ, ◌+◌, ◌-◌, ◌/◌, ◌%◌, ◌^◌, ◌≤◌, min, nat_le, nat_lt, Bool, true, false, not, ◌&&◌, ◌||◌, if◌then◌else◌, None, Some, List, [], ◌∷◌, ◌++◌, length}
+use Rattle.std.specs.Prelude.{◌≡◌, ◌==◌, ℕ, ◌+◌, ◌-◌, ◌/◌, ◌%◌, ◌^◌, ◌≤◌, min, nat_le, nat_lt, Bool, true, false, not, ◌&&◌, ◌||◌, if◌then◌else◌, Option, None, Some, IfSome, IsSome, List, [], ◌∷◌, ◌++◌, length}
 use Rattle.std.specs.Int.{w16, to_be_bytes}
 use Rattle.std.specs.Duration.{as_nanos}
 use Rattle.dcsctp_machine.specs.declared.options.Options.{Options}
 use Rattle.dcsctp_machine.specs.declared.kinds.BackoffAlgorithm.TheVariants.{Fixed}
-use Rattle.dcsctp_machine.specs.Endpoint.{started}
+use Rattle.dcsctp_machine.specs.Endpoint.{RunningTimer, started}
 use Rattle.dcsctp_machine.specs.Transfer.{TrackerState}
-use Rattle.dcsctp_send.specs.Timer.{TimerModel, running_deadline, running_after, expires_at}
+use Rattle.dcsctp_send.specs.Timer.{TimerModel, running_deadline, expires_at}
 use Rattle.dcsctp_data_tracker.specs.declared.received.TsnRange.{TsnRange}
 use Rattle.dcsctp_data_tracker.specs.declared.data_tracker.AckState.{AckState}
 use Rattle.dcsctp_data_tracker.specs.declared.data_tracker.AckState.TheVariants.{Idle, BecomingDelayed, Delayed, Immediate}
@@ -25,10 +25,6 @@ pub record TrackerModel : Type 0 where
   -- runs while an acknowledgement is delayed
   pub delay : TimerModel
   pub longest_delay : ℕ
-
--- the public values
-abbrev pub tracker_state : TrackerModel → TrackerState
-tracker_state tracker = record { cumulative_tsn = tracker.cumulative % 2 ^ 32; delayed_acknowledgement = running_deadline tracker.delay.running }
 
 -- Was the TSN of this number received?
 abbrev pub has_received : TrackerModel → ℕ → Bool
@@ -60,6 +56,11 @@ IsWithinReach cumulative ranges = (number : ℕ) → is_in number ranges ≡ tru
 
 -- ---- when it is acknowledged
 
+-- The timer doesn't go on once it has expired.
+pub record RunsOnce (timer : TimerModel) : Type 0 where
+  pub next : timer.settings.terms.max_restarts ≡ Some 0
+  pub present : IfSome timer.running (λ running. running.terms.max_restarts ≡ Some 0)
+
 -- the shorter of half the retransmission timeout and the longest delay
 abbrev pub acknowledgement_delay : ℕ → ℕ → ℕ
 acknowledgement_delay rto longest = min (rto / 2) longest
@@ -75,12 +76,30 @@ after_arrival BecomingDelayed false = BecomingDelayed
 after_arrival Delayed false = Immediate
 after_arrival Immediate false = Immediate
 
+-- While an acknowledgement is delayed, its timer runs.
+abbrev pub RunsWhereDelayed : AckState → Option RunningTimer → Type 0
+RunsWhereDelayed Idle running = Unit {0}
+RunsWhereDelayed BecomingDelayed running = Unit {0}
+RunsWhereDelayed Delayed running = IsSome running
+RunsWhereDelayed Immediate running = Unit {0}
+
 -- Is a SACK due, or may it go along with other chunks?
 abbrev pub is_due : AckState → Bool → Bool
 is_due Idle along = false
 is_due BecomingDelayed along = along
 is_due Delayed along = along
 is_due Immediate along = true
+
+-- the public values
+abbrev pub tracker_state : TrackerModel → TrackerState
+tracker_state tracker =
+    record {
+      cumulative_tsn = tracker.cumulative % 2 ^ 32;
+      has_numbers_left = has_numbers_left tracker.cumulative;
+      delayed_acknowledgement = running_deadline tracker.delay.running;
+      is_acknowledgement_due = is_due tracker.acknowledgement false;
+      owes_acknowledgement = is_due tracker.acknowledgement true;
+    }
 
 abbrev pub stopped : TimerModel → TimerModel
 stopped timer = record timer { running = None }
@@ -169,11 +188,11 @@ abbrev pub acknowledged : Bool → TrackerModel → TrackerModel
 acknowledged along tracker =
     if is_acknowledgement_due along tracker then record tracker { acknowledgement = Idle; delay = stopped tracker.delay } else tracker
 
--- a moment has come
+-- A moment has come. A delay that is over doesn't begin again.
 abbrev pub after_moment : ℕ → TrackerModel → TrackerModel
 after_moment moment tracker =
     if expires_at moment tracker.delay.running
-    then record tracker { acknowledgement = Immediate; delay = record tracker.delay { running = running_after moment tracker.delay.running } }
+    then record tracker { acknowledgement = Immediate; delay = stopped tracker.delay }
     else tracker
 
 -- ---- the SACK

@@ -216,6 +216,7 @@ impl DataTracker {
       acknowledged,
       after_moment,
       stopped,
+      RunsWhereDelayed,
     };
     ghost use Rattle.dcsctp_send.specs.Timer.{running_deadline, expires_at};
 
@@ -294,12 +295,20 @@ impl DataTracker {
     /// Tells the tracker that a packet was worked whole. Data that came with it and needn't be acknowledged
     /// at once is acknowledged after the delay (RFC 9260, section 6.2).
     pub fn observe_packet_end(&mut self, now: SocketTime)
-        ensures { self.new ≡ after_packet_end now self.old }
+        ensures left { self.new ≡ after_packet_end now self.old }
+        ensures runs { RunsWhereDelayed self.new.acknowledgement self.new.delay.running }
     {
         if self.acknowledgement == AckState::BecomingDelayed {
             self.acknowledgement = AckState::Delayed;
             self.delay.start(now);
         }
+    }
+
+    /// Is a SACK due, whatever else goes out?
+    pub fn is_acknowledgement_due(&self) -> bool
+        ensures { result ≡ (tracker_state self.now).is_acknowledgement_due }
+    {
+        is_due(self.acknowledgement, false)
     }
 
     /// Is a SACK to be sent now? One that is delayed counts where other chunks go out that it can go along
@@ -326,6 +335,7 @@ impl DataTracker {
         ensures window { IfOk result (λ sack. sack.a_rwnd ≡ a_rwnd) }
         ensures blocks { IfOk result (λ sack. sack.gap_ack_blocks.items ≡ flat_map (block_bytes self.old.cumulative) (take 20 self.old.ranges)) }
         ensures duplicates { IfOk result (λ sack. sack.duplicate_tsns.items ≡ flat_map (to_be_bytes w32) self.old.duplicates) }
+        ensures few { length self.old.duplicates ≤ 20 }
         ensures ok { OnOk result (self.new ≡ record self.old { duplicates = [] }) }
         ensures err { OnErr result (self.new ≡ self.old) }
     {

@@ -1,113 +1,234 @@
--- The steps of a COOKIE ECHO's turns.
-use Rattle.std.proofs.Common.{◌≡◌, ◌==◌, ◌≤◌, ℕ, Bool, Some, List, [], ◌∷◌, ◌++◌, length, refl, sym, ap, subst, ◌∙◌, arith}
-use Rattle.std.proofs.lemmas.List.{append-nil}
+-- A COOKIE ECHO's turn, by which case it is.
+use Rattle.std.proofs.Common.{◌≡◌, ◌==◌, ℕ, Bool, true, false, List, [], ◌∷◌, ◌++◌, refl, sym, ap, subst, ◌∙◌, arith}
+use Rattle.std.specs.Prelude.{Result, Ok, Err}
+use Rattle.std.proofs.lemmas.Bool.Decides.{nat_tests}
 use Rattle.rand_core.specs.Stream.{Stream}
-use Rattle.dcsctp_wire.specs.Content.{cookie_ack_chunk}
-use Rattle.dcsctp_wire.specs.Spelling.{chunk_bytes, other_bytes}
-use Rattle.dcsctp_build.specs.Building.{Building, bytes_remaining}
-use Rattle.dcsctp_machine.specs.declared.options.Options.{Options}
+use Rattle.dcsctp_machine.specs.declared.association.Pair.{Pair}
 use Rattle.dcsctp_machine.specs.declared.association.Held.{Held}
-use Rattle.dcsctp_machine.specs.declared.word.Word.TheVariants.{U64}
-use Rattle.dcsctp_machine.specs.Settings.{IsValid}
-use Rattle.dcsctp_machine.specs.Cookie.{Cookie}
-use Rattle.dcsctp_machine.specs.Event.{Event, connected, connection_restarted}
-use Rattle.dcsctp_machine.specs.Packet.{cookie_ack}
+use Rattle.dcsctp_machine.specs.Cookie.{Cookie, cookie_at}
+use Rattle.dcsctp_machine.specs.Event.{Event, connected}
+use Rattle.dcsctp_machine.specs.Packet.{Emission, cookie_ack}
 use Rattle.dcsctp_machine.specs.Transfer.{SendQueueState}
-use Rattle.dcsctp_machine.specs.Endpoint.{Endpoint}
-use Rattle.dcsctp_machine.specs.Outcome.{Outcome, noting}
-use Rattle.dcsctp_machine.specs.control.Effect.{Link, holds, connects, link_of}
-use Rattle.dcsctp_machine.specs.control.CookieEchoChanges.{held_by_cookie}
-use Rattle.dcsctp_machine.specs.turns.HandshakeOutcomes.{queue_anew, connected_after}
-use Rattle.dcsctp_machine.specs.turns.CookieEchoOutcomes.{established_by, interleaves, replace_outcome, restart_outcome, establish_new_outcome}
+use Rattle.dcsctp_machine.specs.Endpoint.{Endpoint, Core, closed, cookie_wait, cookie_echoed, open_in}
+use Rattle.dcsctp_machine.specs.Outcome.{Outcome, noting, still}
+use Rattle.dcsctp_machine.specs.Following.{next_chunk}
+use Rattle.dcsctp_machine.specs.control.Effect.{connects, link_of}
+use Rattle.dcsctp_machine.specs.control.CookieEchoChanges.{Resolution, establish_new, restart, simultaneous_init, discard, maintain_existing, invalid_tag, case_by, case_with_peer, resolve}
+use Rattle.dcsctp_machine.specs.turns.FlushOutcomes.{Answer, FlushAnswers, FlushKind, flush_of, flush_answered, next_draft, asked}
+use Rattle.dcsctp_machine.specs.turns.HandshakeOutcomes.{connected_after}
+use Rattle.dcsctp_machine.specs.turns.CookieEchoOutcomes.{establish_by, restart_by, restart_by_where, maintain_by, resolved_by, cookie_echo_by, discard_outcome, refused_echo_outcome, queue_begun, EstablishAnswers, RestartAnswers, MaintainAnswers, ResolvedAnswers, EchoedAnswers, CookieEchoTurn}
+use Rattle.dcsctp_core.specs.declared.context.Context.{Context}
+use Rattle.dcsctp_core.specs.declared.following.Following.TheVariants.{NextChunk, DroppedRest}
 use Rattle.dcsctp_core.specs.declared.state.State.{State}
-use Rattle.dcsctp_core.specs.declared.state.CookieEchoState.{CookieEchoState}
 use Rattle.dcsctp_core.specs.declared.state.State.TheVariants.{Closed, CookieWait, CookieEchoed, Established}
-use Rattle.dcsctp_core.specs.declared.transmission_control_block.TransmissionControlBlock.{TransmissionControlBlock}
-use Rattle.dcsctp_core.specs.View.{View, core_of, tcb_of, held_of, Moves, CutTurn}
-use Rattle.dcsctp_core.specs.Flushing.{packet_of, empty_packet}
-use Rattle.dcsctp_core.proofs.Composing.{behind, moves_behind, cut_behind, cut_noting, flush_behind, flush_cut}
-use Rattle.dcsctp_handshake.specs.Echoes.{acknowledged, acknowledges_peer, maintained}
+use Rattle.dcsctp_core.specs.View.{View, Moves, CutTurn, core_of, tie_of, view_of, endpoint_of}
+use Rattle.dcsctp_core.specs.Drawing.{long_word}
+use Rattle.dcsctp_core.specs.Handling.{TakesIn, CutIn, HandlesIn}
+use Rattle.dcsctp_core.proofs.Composing.{cut_first}
+use Rattle.dcsctp_core.proofs.Moving.{moves_still}
+use Rattle.dcsctp_handshake.specs.Handshake.{CookieEchoAt}
+use Rattle.dcsctp_handshake.specs.Echoes.{EstablishAt, ReplaceAt, RestartAt, MaintainAt, maintained_by, MaintainedAnswers}
+use Rattle.dcsctp_handshake.proofs.FlushSteps.{flush_following}
 
--- ---- COOKIE ACK
+-- ---- which case it is
 
--- There is room for it in every packet.
-pub ack_fits : (options : Options) (with_checksum : Bool) (tag : ℕ) (packet : Building) → IsValid options → packet ≡ empty_packet options with_checksum tag
-    → length (chunk_bytes cookie_ack_chunk) ≤ bytes_remaining packet
-unfolding other_bytes
-ack_fits options with_checksum tag packet valid is = subst (λ (p : Building). length (chunk_bytes cookie_ack_chunk) ≤ bytes_remaining p) (sym is) (omega (arith, valid.least_size))
+-- What the bytes read as, and what that is to the association.
+pub record IsCase (e : Endpoint) (header : ℕ) (bytes : List ℕ) (cookie : Cookie) (resolution : Resolution) : Type 0 where
+  pub reads : cookie_at bytes ≡ Ok cookie
+  pub is : resolution ≡ resolve e.core e.tie header cookie
 
--- a packet that holds COOKIE ACK alone
-pub ack_packet : (options : Options) (tcb : TransmissionControlBlock) (empty packet : Building)
-    → empty ≡ empty_packet options (tcb.capabilities.zero_checksum_method.0 == 0) tcb.peer.tag
-    → packet ≡ record empty { body = empty.body ++ chunk_bytes cookie_ack_chunk }
-    → packet ≡ packet_of options (tcb.capabilities.zero_checksum_method.0 == 0) tcb.peer.tag (cookie_ack ∷ [])
-ack_packet options tcb empty packet was added =
-    added
-    ∙ ap (λ (b : Building). record b { body = b.body ++ chunk_bytes cookie_ack_chunk }) was
-    ∙ ap (λ (body : List ℕ). record (empty_packet options (tcb.capabilities.zero_checksum_method.0 == 0) tcb.peer.tag) { body = body }) (sym (append-nil (chunk_bytes cookie_ack_chunk)))
+-- the turn of that case
+resolved : (e : Endpoint) (header : ℕ) (bytes : List ℕ) (cookie : Cookie) (word : ℕ) (resolution : Resolution) (answers : List Answer) → IsCase e header bytes cookie resolution
+    → ResolvedAnswers e cookie e.core word resolution answers → CookieEchoTurn e header bytes (resolved_by (flush_answered answers) e cookie e.core word resolution)
+resolved e header bytes cookie word resolution answers c allowed = (
+  word,
+  answers,
+  subst (λ (read : Result Cookie (List ℕ)). EchoedAnswers e e.core header read word answers) (sym c.reads)
+      (subst (λ (r : Resolution). ResolvedAnswers e cookie e.core word r answers) c.is allowed),
+  ap (λ (r : Resolution). resolved_by (flush_answered answers) e cookie e.core word r) c.is
+      ∙ ap (λ (read : Result Cookie (List ℕ)). cookie_echo_by (flush_answered answers) e e.core header read word) (sym c.reads),
+)
 
--- A flush of that packet is the turn, whichever state holds the peer.
-pub acknowledged_is : (e : Endpoint) (state : State) (tcb : TransmissionControlBlock) → Some tcb ≡ tcb_of state
-    → acknowledged e (core_of state) ≡ acknowledges_peer e (held_of tcb) []
-acknowledged_is e Closed tcb kept = absurd (cc kept)
-acknowledged_is e (CookieWait wait) tcb kept = absurd (cc kept)
-acknowledged_is e (CookieEchoed echoed) tcb kept =
-    let same : echoed.tcb ≡ tcb = cc kept in
-    ap (λ (t : TransmissionControlBlock). acknowledges_peer e (held_of t) []) same
-acknowledged_is e (Established held) tcb kept =
-    let same : held ≡ tcb = cc kept in
-    ap (λ (t : TransmissionControlBlock). acknowledges_peer e (held_of t) []) same
+turn_of : (e : Endpoint) (header : ℕ) (bytes : List ℕ) (cookie : Cookie) (word : ℕ) (resolution : Resolution) (answers : List Answer) (o : Outcome) → IsCase e header bytes cookie resolution
+    → ResolvedAnswers e cookie e.core word resolution answers → o ≡ resolved_by (flush_answered answers) e cookie e.core word resolution → CookieEchoTurn e header bytes o
+turn_of e header bytes cookie word resolution answers o c allowed is = subst (CookieEchoTurn e header bytes) (sym is) (resolved e header bytes cookie word resolution answers c allowed)
 
--- ---- what stands where a growth was refused
+-- ---- an association is made
 
--- of an association that a cookie makes
-pub establish_cut : {R : Type 0} (old : View R) (cookie : Cookie) (tie : ℕ) (es : List (Event (List ℕ)))
-    → es ≡ old.events ++ connected ∷ [] → CutTurn old (establish_new_outcome old.endpoint cookie tie) es
-establish_cut old cookie tie es is =
-    let link : Link = link_of cookie.maker (held_by_cookie old.endpoint.options cookie) in
-    cut_noting old (holds link ∷ connects link ∷ []) _ es
-    (flush_cut old (established_by old.endpoint cookie (record old.endpoint.below.queue { is_interleaved = interleaves old.endpoint cookie }) tie) (U64 tie ∷ []) (connected ∷ [])
-    ((held_by_cookie old.endpoint.options cookie).capabilities.zero_checksum_method.0 == 0) cookie.addressee.tag (cookie_ack ∷ []) es is)
+pub works_new : {R : Type 0} (stream : R → Stream) (old new : View R) (header : ℕ) (bytes : List ℕ) (cookie : Cookie) → IsCase old.endpoint header bytes cookie establish_new
+    → TakesIn stream (EstablishAt stream cookie) old new → HandlesIn stream (CookieEchoAt header bytes) old NextChunk new
+works_new stream old new header bytes cookie c t =
+    record {
+      outcome = t.outcome;
+      turn = turn_of old.endpoint header bytes cookie (long_word (stream old.generator)) establish_new t.turn.0 t.outcome c t.turn.1 t.turn.2;
+      moves = t.moves;
+      following = ap (λ (o : Outcome). o.following) t.turn.2 ∙ flush_following _ _ t.turn.0;
+    }
 
--- of one that is established
-pub maintain_cut : {R : Type 0} (old : View R) (state : State) (echoed : CookieEchoState) (es : List (Event (List ℕ)))
-    → state ≡ CookieEchoed echoed → es ≡ old.events ++ connected ∷ [] → CutTurn old (maintained old.endpoint (core_of state)) es
-maintain_cut old state echoed es was is =
-    subst (λ (s : State). CutTurn old (maintained old.endpoint (core_of s)) es) (sym was)
-    (cut_noting old (connects (link_of echoed.tcb.my (held_of echoed.tcb)) ∷ []) _ es
-    (flush_cut old (connected_after old.endpoint echoed.tcb.my (held_of echoed.tcb)) [] (connected ∷ [])
-    (echoed.tcb.capabilities.zero_checksum_method.0 == 0) echoed.tcb.peer.tag (cookie_ack ∷ []) es is))
+pub works_new_cut : {R : Type 0} (stream : R → Stream) (old : View R) (es : List (Event (List ℕ))) (header : ℕ) (bytes : List ℕ) (cookie : Cookie) → IsCase old.endpoint header bytes cookie establish_new
+    → CutIn (EstablishAt stream cookie) old es → CutIn (CookieEchoAt header bytes) old es
+works_new_cut stream old es header bytes cookie c t =
+    record {
+      outcome = t.outcome;
+      turn = turn_of old.endpoint header bytes cookie (long_word (stream old.generator)) establish_new t.turn.0 t.outcome c t.turn.1 t.turn.2;
+      cut = t.cut;
+    }
 
--- ---- a restart
+pub works_replacing : {R : Type 0} (stream : R → Stream) (old new : View R) (header : ℕ) (bytes : List ℕ) (cookie : Cookie) → IsCase old.endpoint header bytes cookie simultaneous_init
+    → TakesIn stream (ReplaceAt stream cookie) old new → HandlesIn stream (CookieEchoAt header bytes) old NextChunk new
+works_replacing stream old new header bytes cookie c t =
+    record {
+      outcome = t.outcome;
+      turn = turn_of old.endpoint header bytes cookie (long_word (stream old.generator)) simultaneous_init t.turn.0 t.outcome c t.turn.1 t.turn.2;
+      moves = t.moves;
+      following = ap (λ (o : Outcome). o.following) t.turn.2 ∙ flush_following _ _ t.turn.0;
+    }
 
--- The events of a restart are OnConnectionRestarted and then those of an association that replaces another.
-restart_is : (e : Endpoint) (cookie : Cookie) (tie : ℕ) → behind [] (connection_restarted ∷ []) (replace_outcome e cookie tie (connected ∷ [])) ≡ restart_outcome e cookie tie
-restart_is e cookie tie =
-    let queue : SendQueueState = queue_anew e.below.queue (interleaves e cookie) in
-    let held : Held = held_by_cookie e.options cookie in
-    let link : Link = link_of cookie.maker held in
-    ap (noting (holds link ∷ connects link ∷ []))
-    (flush_behind (established_by e cookie queue tie) [] (U64 tie ∷ []) (connection_restarted ∷ []) (connected ∷ []) (held.capabilities.zero_checksum_method.0 == 0) cookie.addressee.tag (cookie_ack ∷ []))
+pub works_replacing_cut : {R : Type 0} (stream : R → Stream) (old : View R) (es : List (Event (List ℕ))) (header : ℕ) (bytes : List ℕ) (cookie : Cookie) → IsCase old.endpoint header bytes cookie simultaneous_init
+    → CutIn (ReplaceAt stream cookie) old es → CutIn (CookieEchoAt header bytes) old es
+works_replacing_cut stream old es header bytes cookie c t =
+    record {
+      outcome = t.outcome;
+      turn = turn_of old.endpoint header bytes cookie (long_word (stream old.generator)) simultaneous_init t.turn.0 t.outcome c t.turn.1 t.turn.2;
+      cut = t.cut;
+    }
 
--- the turn that replaces the association, behind its event
-pub restarts_behind : {R : Type 0} (stream : R → Stream) (old mid new : View R) (cookie : Cookie) (tie : ℕ)
-    → mid ≡ record old { events = old.events ++ connection_restarted ∷ [] }
-    → Moves stream mid (replace_outcome mid.endpoint cookie tie (connected ∷ [])) new
-    → Moves stream old (restart_outcome old.endpoint cookie tie) new
-restarts_behind {R = R} stream old mid new cookie tie is m =
-    let here : View R = record old { events = old.events ++ connection_restarted ∷ [] } in
-    subst (λ (o : Outcome). Moves stream old o new) (restart_is old.endpoint cookie tie)
-    (moves_behind stream old here new [] (connection_restarted ∷ []) (replace_outcome old.endpoint cookie tie (connected ∷ []))
-    (record { ports = refl; events = refl }) (record { words = sym (append-nil old.words); pairs = refl; drawn = refl })
-    (subst (λ (v : View R). Moves stream v (replace_outcome v.endpoint cookie tie (connected ∷ [])) new) is m))
+-- ---- a restart: no SHUTDOWN ACK was sent
 
--- the same, cut
-pub restart_cut : {R : Type 0} (old mid : View R) (cookie : Cookie) (tie : ℕ) (es : List (Event (List ℕ)))
-    → mid ≡ record old { events = old.events ++ connection_restarted ∷ [] }
-    → CutTurn mid (replace_outcome mid.endpoint cookie tie (connected ∷ [])) es
-    → CutTurn old (restart_outcome old.endpoint cookie tie) es
-restart_cut {R = R} old mid cookie tie es is cut =
-    let here : View R = record old { events = old.events ++ connection_restarted ∷ [] } in
-    subst (λ (o : Outcome). CutTurn old o es) (restart_is old.endpoint cookie tie)
-    (cut_behind old here [] (connection_restarted ∷ []) (replace_outcome old.endpoint cookie tie (connected ∷ [])) es (record { ports = refl; events = refl })
-    (subst (λ (v : View R). CutTurn v (replace_outcome v.endpoint cookie tie (connected ∷ [])) es) is cut))
+restart_answers : (e : Endpoint) (cookie : Cookie) (tie : ℕ) (state : State) (answers : List Answer) → EstablishAnswers e cookie (queue_begun e cookie) tie answers
+    → RestartAnswers e cookie tie (core_of state) answers
+restart_answers e cookie tie Closed answers h = h
+restart_answers e cookie tie (CookieWait wait) answers h = h
+restart_answers e cookie tie (CookieEchoed echoed) answers h = h
+restart_answers e cookie tie (Established tcb) answers h = h
+
+restart_is : (flush : FlushKind) (e : Endpoint) (cookie : Cookie) (tie : ℕ) (state : State) → restart_by flush e cookie tie ≡ restart_by_where flush e cookie tie (core_of state)
+restart_is flush e cookie tie Closed = refl
+restart_is flush e cookie tie (CookieWait wait) = refl
+restart_is flush e cookie tie (CookieEchoed echoed) = refl
+restart_is flush e cookie tie (Established tcb) = refl
+
+restart_turn : {R : Type 0} (stream : R → Stream) (old : Context R) (header : ℕ) (bytes : List ℕ) (cookie : Cookie) (o : Outcome) → IsCase (endpoint_of old) header bytes cookie restart
+    → RestartAt stream cookie (view_of old) o → CookieEchoAt header bytes (view_of old) o
+restart_turn stream old header bytes cookie o c turn =
+    let e : Endpoint = endpoint_of old in
+    let tie : ℕ = long_word (stream (view_of old).generator) in
+    turn_of e header bytes cookie tie restart turn.0 o c (restart_answers e cookie tie old.state turn.0 turn.1) (turn.2 ∙ restart_is (flush_answered turn.0) e cookie tie old.state)
+
+pub works_restart : {R : Type 0} (stream : R → Stream) (old : Context R) (new : View R) (header : ℕ) (bytes : List ℕ) (cookie : Cookie) → IsCase (endpoint_of old) header bytes cookie restart
+    → TakesIn stream (RestartAt stream cookie) (view_of old) new → HandlesIn stream (CookieEchoAt header bytes) (view_of old) NextChunk new
+works_restart stream old new header bytes cookie c t =
+    record {
+      outcome = t.outcome;
+      turn = restart_turn stream old header bytes cookie t.outcome c t.turn;
+      moves = t.moves;
+      following = ap (λ (o : Outcome). o.following) t.turn.2 ∙ flush_following _ _ t.turn.0;
+    }
+
+pub works_restart_cut : {R : Type 0} (stream : R → Stream) (old : Context R) (es : List (Event (List ℕ))) (header : ℕ) (bytes : List ℕ) (cookie : Cookie) → IsCase (endpoint_of old) header bytes cookie restart
+    → CutIn (RestartAt stream cookie) (view_of old) es → CutIn (CookieEchoAt header bytes) (view_of old) es
+works_restart_cut stream old es header bytes cookie c t =
+    record { outcome = t.outcome; turn = restart_turn stream old header bytes cookie t.outcome c t.turn; cut = t.cut }
+
+-- ---- the association is held: the cookie's addressee is the peer
+
+is_of_peer : (a b c d : Bool) → maintain_existing ≡ case_by a b c d → b ≡ true
+is_of_peer false false true zero is = absurd (cc)
+is_of_peer false false false zero is = absurd (cc)
+is_of_peer true false tie zero is = absurd (cc)
+is_of_peer false true tie true is = absurd (cc)
+is_of_peer false true tie false is = absurd (cc)
+is_of_peer true true tie zero is = refl
+
+same_of : (a b : ℕ) → (a == b) ≡ true → a ≡ b
+same_of a b is = grind (arith, nat_tests)
+
+peer_of : (my : Pair) (held : Held) (tie header : ℕ) (cookie : Cookie) → maintain_existing ≡ case_with_peer my held tie header cookie → held.peer.tag ≡ cookie.addressee.tag
+peer_of my held tie header cookie is =
+    sym (same_of cookie.addressee.tag held.peer.tag (is_of_peer (header == my.tag) (cookie.addressee.tag == held.peer.tag) (cookie.tie == tie) (cookie.tie == 0) is))
+
+-- a packet that begins with COOKIE ACK, under this tag
+abbrev ack_under : Held → ℕ → Emission
+ack_under held tag = record { with_checksum = held.capabilities.zero_checksum_method.0 == 0; packet = record { tag = tag; contents = cookie_ack ∷ [] } }
+
+abbrev acks_under : List Answer → Endpoint → List (Event Emission) → Held → ℕ → Outcome
+acks_under answers e events held tag = flush_answered answers e [] events (held.capabilities.zero_checksum_method.0 == 0) tag (cookie_ack ∷ [])
+
+maintain_is : (e : Endpoint) (cookie : Cookie) (core : Core) (tie header : ℕ) (answers : List Answer) → maintain_existing ≡ resolve core tie header cookie → MaintainedAnswers e core answers
+    → MaintainAnswers e cookie core answers × (maintained_by (flush_answered answers) e core ≡ maintain_by (flush_answered answers) e cookie core)
+maintain_is e cookie closed tie header answers is h = (h, refl)
+maintain_is e cookie (cookie_wait mine) tie header answers is h = (h, refl)
+maintain_is e cookie (cookie_echoed mine held echoed) tie header answers is h =
+    let same : held.peer.tag ≡ cookie.addressee.tag = peer_of mine held tie header cookie is in (
+      subst (λ (tag : ℕ). FlushAnswers (connected_after e mine held) (ack_under held tag) answers) same h,
+      ap (λ (tag : ℕ). noting (connects (link_of mine held) ∷ []) (acks_under answers (connected_after e mine held) (connected ∷ []) held tag)) same,
+    )
+maintain_is e cookie (open_in phase mine held) tie header answers is h =
+    let same : held.peer.tag ≡ cookie.addressee.tag = peer_of mine held tie header cookie is in (
+      subst (λ (tag : ℕ). FlushAnswers e (ack_under held tag) answers) same h,
+      ap (acks_under answers e [] held) same,
+    )
+
+maintain_following : (e : Endpoint) (core : Core) (answers : List Answer) → (maintained_by (flush_answered answers) e core).following ≡ next_chunk
+maintain_following e closed answers = refl
+maintain_following e (cookie_wait mine) answers = refl
+maintain_following e (cookie_echoed mine held echoed) answers = flush_following _ _ answers
+maintain_following e (open_in phase mine held) answers = flush_following _ _ answers
+
+maintain_turn : {R : Type 0} (old : View R) (header : ℕ) (bytes : List ℕ) (cookie : Cookie) (o : Outcome) → IsCase old.endpoint header bytes cookie maintain_existing
+    → MaintainAt old o → CookieEchoAt header bytes old o
+maintain_turn old header bytes cookie o c turn =
+    let e : Endpoint = old.endpoint in
+    let here = maintain_is e cookie e.core e.tie header turn.0 c.is turn.1 in
+    turn_of e header bytes cookie 0 maintain_existing turn.0 o c here.0 (turn.2 ∙ here.1)
+
+pub works_maintain : {R : Type 0} (stream : R → Stream) (old new : View R) (header : ℕ) (bytes : List ℕ) (cookie : Cookie) → IsCase old.endpoint header bytes cookie maintain_existing
+    → TakesIn stream MaintainAt old new → HandlesIn stream (CookieEchoAt header bytes) old NextChunk new
+works_maintain stream old new header bytes cookie c t =
+    record {
+      outcome = t.outcome;
+      turn = maintain_turn old header bytes cookie t.outcome c t.turn;
+      moves = t.moves;
+      following = ap (λ (o : Outcome). o.following) t.turn.2 ∙ maintain_following old.endpoint old.endpoint.core t.turn.0;
+    }
+
+pub works_maintain_cut : {R : Type 0} (old : View R) (es : List (Event (List ℕ))) (header : ℕ) (bytes : List ℕ) (cookie : Cookie) → IsCase old.endpoint header bytes cookie maintain_existing
+    → CutIn MaintainAt old es → CutIn (CookieEchoAt header bytes) old es
+works_maintain_cut old es header bytes cookie c t = record { outcome = t.outcome; turn = maintain_turn old header bytes cookie t.outcome c t.turn; cut = t.cut }
+
+-- ---- the rest of the packet is dropped
+
+pub works_discard : {R : Type 0} (stream : R → Stream) (old : View R) (header : ℕ) (bytes : List ℕ) (cookie : Cookie) → IsCase old.endpoint header bytes cookie discard
+    → HandlesIn stream (CookieEchoAt header bytes) old DroppedRest old
+works_discard stream old header bytes cookie c =
+    let m = moves_still stream old in
+    record {
+      outcome = discard_outcome old.endpoint;
+      turn = turn_of old.endpoint header bytes cookie 0 discard [] (discard_outcome old.endpoint) c refl refl;
+      moves = record { endpoint = m.endpoint; events = m.events; words = m.words; pairs = m.pairs; drawn = m.drawn };
+      following = refl;
+    }
+
+-- with this text
+pub works_refused : {R : Type 0} (stream : R → Stream) (old new : View R) (header : ℕ) (bytes text : List ℕ) → CookieEchoAt header bytes old (refused_echo_outcome old.endpoint text)
+    → Moves stream old (refused_echo_outcome old.endpoint text) new → HandlesIn stream (CookieEchoAt header bytes) old DroppedRest new
+works_refused stream old new header bytes text turn m = record { outcome = refused_echo_outcome old.endpoint text; turn = turn; moves = m; following = refl }
+
+pub refused_cut : {R : Type 0} (old : View R) (es : List (Event (List ℕ))) (header : ℕ) (bytes text : List ℕ) → CookieEchoAt header bytes old (refused_echo_outcome old.endpoint text)
+    → es ≡ old.events → CutIn (CookieEchoAt header bytes) old es
+refused_cut old es header bytes text turn same =
+    record { outcome = refused_echo_outcome old.endpoint text; turn = turn; cut = cut_first old (refused_echo_outcome old.endpoint text) es same }
+
+-- since the bytes are no cookie
+pub unread_turn : {R : Type 0} (old : View R) (header : ℕ) (bytes text : List ℕ) → cookie_at bytes ≡ Err text → CookieEchoAt header bytes old (refused_echo_outcome old.endpoint text)
+unread_turn old header bytes text reads = (
+  0,
+  [],
+  subst (λ (read : Result Cookie (List ℕ)). EchoedAnswers old.endpoint old.endpoint.core header read 0 []) (sym reads) refl,
+  ap (λ (read : Result Cookie (List ℕ)). cookie_echo_by (flush_answered []) old.endpoint old.endpoint.core header read 0) (sym reads),
+)
+
+-- since the tags are those of no association
+pub untagged_turn : {R : Type 0} (old : View R) (header : ℕ) (bytes : List ℕ) (cookie : Cookie) → IsCase old.endpoint header bytes cookie invalid_tag
+    → CookieEchoAt header bytes old (resolved_by (flush_answered []) old.endpoint cookie old.endpoint.core 0 invalid_tag)
+untagged_turn old header bytes cookie c = resolved old.endpoint header bytes cookie 0 invalid_tag [] c refl

@@ -1,19 +1,20 @@
 -- What a COOKIE ECHO brings, as turns of a socket's view.
-use Rattle.std.specs.Prelude.{◌==◌, ℕ, List, [], ◌∷◌}
+use Rattle.std.specs.Prelude.{◌≡◌, ◌==◌, ℕ, Option, None, Some, List, [], ◌∷◌}
 use Rattle.rand_core.specs.Stream.{Stream}
 use Rattle.dcsctp_machine.specs.declared.association.Held.{Held}
 use Rattle.dcsctp_machine.specs.declared.options.Options.{Options}
 use Rattle.dcsctp_machine.specs.Offer.{offer_of, negotiated}
 use Rattle.dcsctp_machine.specs.Cookie.{Cookie}
-use Rattle.dcsctp_machine.specs.Event.{Event, connected}
+use Rattle.dcsctp_machine.specs.Event.{Event, connected, connection_restarted}
 use Rattle.dcsctp_machine.specs.Packet.{Emission, cookie_ack}
-use Rattle.dcsctp_machine.specs.Endpoint.{Endpoint, Core, closed, cookie_wait, cookie_echoed, open_in}
+use Rattle.dcsctp_machine.specs.Transfer.{SendQueueState}
+use Rattle.dcsctp_machine.specs.Endpoint.{Endpoint, Core, closed, cookie_wait, cookie_echoed, open_in, held_in}
 use Rattle.dcsctp_machine.specs.Outcome.{Outcome, still, noting}
 use Rattle.dcsctp_machine.specs.control.Effect.{connects, link_of}
 use Rattle.dcsctp_machine.specs.control.CookieEchoChanges.{Resolution, establish_new, restart, simultaneous_init, discard, maintain_existing, invalid_tag}
-use Rattle.dcsctp_machine.specs.turns.FlushOutcomes.{flush_outcome}
+use Rattle.dcsctp_machine.specs.turns.FlushOutcomes.{Answer, FlushAnswers, FlushKind, flush_answered}
 use Rattle.dcsctp_machine.specs.turns.HandshakeOutcomes.{connected_after}
-use Rattle.dcsctp_machine.specs.turns.CookieEchoOutcomes.{refused_echo_outcome, window_by_cookie, established_by, queue_kept, establish_new_outcome, replace_outcome, restart_outcome}
+use Rattle.dcsctp_machine.specs.turns.CookieEchoOutcomes.{refused_echo_outcome, window_by_cookie, established_by, queue_kept, queue_begun, establish_by, EstablishAnswers}
 use Rattle.dcsctp_handshake.specs.declared.cookie_echo.CookieResolution.{CookieResolution}
 use Rattle.dcsctp_handshake.specs.declared.cookie_echo.CookieResolution.TheVariants.{EstablishNew, RestartDetected, SimultaneousInit, Discard, MaintainExisting, InvalidTag}
 use Rattle.dcsctp_core.specs.declared.transmission_control_block.Peer.{Peer}
@@ -30,19 +31,28 @@ resolution_of InvalidTag = invalid_tag
 
 -- ---- COOKIE ACK
 
--- these events, and a flush that begins with COOKIE ACK to this peer
-abbrev pub acknowledges_peer : Endpoint → Held → List (Event Emission) → Outcome
-acknowledges_peer e held events = flush_outcome e [] events (held.capabilities.zero_checksum_method.0 == 0) held.peer.tag (cookie_ack ∷ [])
+-- a packet to this peer that begins with it
+abbrev pub cookie_ack_to : Held → Emission
+cookie_ack_to held =
+    record { with_checksum = held.capabilities.zero_checksum_method.0 == 0; packet = record { tag = held.peer.tag; contents = cookie_ack ∷ [] } }
 
--- the same to the peer that is held, where one is
-abbrev pub acknowledged : Endpoint → Core → Outcome
-acknowledged e closed = still e
-acknowledged e (cookie_wait mine) = still e
-acknowledged e (cookie_echoed mine held cookie) = acknowledges_peer e held []
-acknowledged e (open_in phase mine held) = acknowledges_peer e held []
+-- these events, and a flush that begins with this packet
+abbrev pub acknowledges_by : FlushKind → Endpoint → Held → List (Event Emission) → Outcome
+acknowledges_by flush e held events = flush e [] events (held.capabilities.zero_checksum_method.0 == 0) held.peer.tag (cookie_ack ∷ [])
 
-abbrev pub acknowledgement_turn : {R : Type 0} → View R → Outcome
-acknowledgement_turn view = acknowledged view.endpoint view.endpoint.core
+-- to the peer that is held, where one is
+abbrev pub acknowledged_by : FlushKind → Endpoint → Option Held → Outcome
+acknowledged_by flush e None = still e
+acknowledged_by flush e (Some held) = acknowledges_by flush e held []
+
+abbrev pub AcknowledgedAnswers : Endpoint → Option Held → List Answer → Type 0
+AcknowledgedAnswers e None answers = answers ≡ []
+AcknowledgedAnswers e (Some held) answers = FlushAnswers e (cookie_ack_to held) answers
+
+abbrev pub AcknowledgementAt : {R : Type 0} → View R → Outcome → Type 0
+AcknowledgementAt view o =
+    (answers : List Answer) × AcknowledgedAnswers view.endpoint (held_in view.endpoint.core) answers
+    × (o ≡ acknowledged_by (flush_answered answers) view.endpoint (held_in view.endpoint.core))
 
 -- ---- a cookie that makes an association
 
@@ -55,30 +65,44 @@ peer_by_cookie options cookie =
 abbrev pub established_with : Endpoint → Cookie → ℕ → Endpoint
 established_with e cookie tie = established_by e cookie (queue_kept e cookie) tie
 
+-- An association is made of a cookie, with this queue and after these events. The tie tag is the word that the generator gives next.
+abbrev pub AssociationAt : {R : Type 0} → (R → Stream) → Cookie → SendQueueState → List (Event Emission) → View R → Outcome → Type 0
+AssociationAt stream cookie queue events view o =
+    let tie : ℕ = long_word (stream view.generator) in
+    (answers : List Answer) × EstablishAnswers view.endpoint cookie queue tie answers
+    × (o ≡ establish_by (flush_answered answers) view.endpoint cookie queue tie events)
+
 -- What waits to be sent stays.
-abbrev pub establish_turn : {R : Type 0} → (R → Stream) → Cookie → View R → Outcome
-establish_turn stream cookie view = establish_new_outcome view.endpoint cookie (long_word (stream view.generator))
+abbrev pub EstablishAt : {R : Type 0} → (R → Stream) → Cookie → View R → Outcome → Type 0
+EstablishAt stream cookie view o = AssociationAt stream cookie (queue_kept view.endpoint cookie) (connected ∷ []) view o
 
 -- in place of the one that is held
-abbrev pub replace_turn : {R : Type 0} → (R → Stream) → Cookie → View R → Outcome
-replace_turn stream cookie view = replace_outcome view.endpoint cookie (long_word (stream view.generator)) (connected ∷ [])
+abbrev pub ReplaceAt : {R : Type 0} → (R → Stream) → Cookie → View R → Outcome → Type 0
+ReplaceAt stream cookie view o = AssociationAt stream cookie (queue_begun view.endpoint cookie) (connected ∷ []) view o
 
 -- since the peer began anew
-abbrev pub restart_turn : {R : Type 0} → (R → Stream) → Cookie → View R → Outcome
-restart_turn stream cookie view = restart_outcome view.endpoint cookie (long_word (stream view.generator))
+abbrev pub RestartAt : {R : Type 0} → (R → Stream) → Cookie → View R → Outcome → Type 0
+RestartAt stream cookie view o = AssociationAt stream cookie (queue_begun view.endpoint cookie) (connection_restarted ∷ connected ∷ []) view o
 
 -- ---- the others
 
 -- a cookie whose association is held: the peer is its addressee
-abbrev pub maintained : Endpoint → Core → Outcome
-maintained e closed = still e
-maintained e (cookie_wait mine) = still e
-maintained e (cookie_echoed mine held echoed) =
-    noting (connects (link_of mine held) ∷ []) (acknowledges_peer (connected_after e mine held) held (connected ∷ []))
-maintained e (open_in phase mine held) = acknowledges_peer e held []
+abbrev pub maintained_by : FlushKind → Endpoint → Core → Outcome
+maintained_by flush e closed = still e
+maintained_by flush e (cookie_wait mine) = still e
+maintained_by flush e (cookie_echoed mine held echoed) =
+    noting (connects (link_of mine held) ∷ []) (acknowledges_by flush (connected_after e mine held) held (connected ∷ []))
+maintained_by flush e (open_in phase mine held) = acknowledges_by flush e held []
 
-abbrev pub maintain_turn : {R : Type 0} → View R → Outcome
-maintain_turn view = maintained view.endpoint view.endpoint.core
+abbrev pub MaintainedAnswers : Endpoint → Core → List Answer → Type 0
+MaintainedAnswers e (cookie_echoed mine held echoed) answers = FlushAnswers (connected_after e mine held) (cookie_ack_to held) answers
+MaintainedAnswers e (open_in phase mine held) answers = FlushAnswers e (cookie_ack_to held) answers
+MaintainedAnswers e core answers = answers ≡ []
+
+abbrev pub MaintainAt : {R : Type 0} → View R → Outcome → Type 0
+MaintainAt view o =
+    (answers : List Answer) × MaintainedAnswers view.endpoint view.endpoint.core answers
+    × (o ≡ maintained_by (flush_answered answers) view.endpoint view.endpoint.core)
 
 -- A COOKIE ECHO is refused with this text.
 abbrev pub refuse_turn : {R : Type 0} → List ℕ → View R → Outcome

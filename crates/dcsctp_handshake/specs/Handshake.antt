@@ -5,12 +5,13 @@ use Rattle.dcsctp_machine.specs.declared.association.Pair.{Pair}
 use Rattle.dcsctp_machine.specs.declared.options.Options.{Options}
 use Rattle.dcsctp_machine.specs.declared.word.Word.TheVariants.{U32}
 use Rattle.dcsctp_machine.specs.Offer.{offer_of, negotiated}
-use Rattle.dcsctp_machine.specs.Cookie.{cookie_at}
 use Rattle.dcsctp_machine.specs.Packet.{Introduction}
 use Rattle.dcsctp_machine.specs.Endpoint.{Endpoint, Core, closed, cookie_wait, cookie_echoed, open_in}
 use Rattle.dcsctp_machine.specs.Outcome.{Outcome, still, emits}
-use Rattle.dcsctp_machine.specs.turns.HandshakeOutcomes.{tag_from, pair_from, init_outcome, answer_outcome, awaits_init_ack, connect_outcome, init_emission, init_ack_outcome, send_echo_outcome, accepted_init_ack_outcome, abort_emission, refused_init_ack_outcome, cookie_ack_outcome}
-use Rattle.dcsctp_machine.specs.turns.CookieEchoOutcomes.{cookie_echo_outcome}
+use Rattle.dcsctp_machine.specs.turns.HandshakeOutcomes.{tag_from, pair_from, init_outcome, answer_outcome, awaits_init_ack, connect_outcome, init_emission, send_echo_by, accepted_init_ack_by, abort_emission, refused_init_ack_outcome, InitAckAnswers, InitAckTurn, CookieAckTurn}
+use Rattle.dcsctp_machine.specs.turns.CookieEchoOutcomes.{CookieEchoTurn}
+use Rattle.dcsctp_machine.specs.turns.FlushOutcomes.{Answer, FlushKind, flush_answered}
+use Rattle.dcsctp_machine.specs.turns.TimerOutcomes.{AgainAnswers}
 use Rattle.dcsctp_core.specs.declared.context.Context.{Context}
 use Rattle.dcsctp_core.specs.declared.transmission_control_block.Peer.{Peer}
 use Rattle.dcsctp_core.specs.View.{View, view_of}
@@ -72,31 +73,37 @@ missing_cookie_turn tag view = emits view.endpoint [] (abort_emission tag)
 abbrev pub refusal_turn : {R : Type 0} → ℕ → View R → Outcome
 refusal_turn tag view = refused_init_ack_outcome view.endpoint tag
 
--- The cookie that is echoed, where one is, goes out.
-abbrev pub echo_outcome : Endpoint → Core → Outcome
-echo_outcome e closed = still e
-echo_outcome e (cookie_wait mine) = still e
-echo_outcome e (cookie_echoed mine held cookie) = send_echo_outcome e [] held.peer.tag cookie
-echo_outcome e (open_in phase mine held) = still e
+-- The cookie that is echoed, where one is, goes out in front of a flush.
+abbrev pub echo_by : FlushKind → Endpoint → Core → Outcome
+echo_by flush e closed = still e
+echo_by flush e (cookie_wait mine) = still e
+echo_by flush e (cookie_echoed mine held cookie) = send_echo_by flush e [] held.peer.tag cookie
+echo_by flush e (open_in phase mine held) = still e
 
-abbrev pub echo_turn : {R : Type 0} → View R → Outcome
-echo_turn view = echo_outcome view.endpoint view.endpoint.core
+abbrev pub EchoAt : {R : Type 0} → View R → Outcome → Type 0
+EchoAt view o =
+    (answers : List Answer) × AgainAnswers view.endpoint view.endpoint.core answers × (o ≡ echo_by (flush_answered answers) view.endpoint view.endpoint.core)
 
 -- the peer that an INIT ACK shows
 abbrev pub peer_by_init_ack : Options → Introduction → Peer
 peer_by_init_ack options theirs = record { pair = theirs.pair; a_rwnd = theirs.window; capabilities = negotiated (offer_of options) theirs.offer }
 
--- An INIT ACK of this peer shows the association, and its cookie is echoed.
-abbrev pub acceptance_turn : {R : Type 0} → (R → Stream) → Pair → Introduction → List ℕ → View R → Outcome
-acceptance_turn stream mine theirs cookie view = accepted_init_ack_outcome view.endpoint mine theirs (Some cookie) (long_word (stream view.generator))
+-- An INIT ACK of this peer shows the association, and its cookie is echoed. The tie tag is the word that the generator gives next.
+abbrev pub AcceptanceAt : {R : Type 0} → (R → Stream) → Pair → Introduction → List ℕ → View R → Outcome → Type 0
+AcceptanceAt stream mine theirs cookie view o =
+    let tie : ℕ = long_word (stream view.generator) in
+    (answers : List Answer) × InitAckAnswers view.endpoint theirs (Some cookie) (cookie_wait mine) tie answers
+    × (o ≡ accepted_init_ack_by (flush_answered answers) view.endpoint mine theirs (Some cookie) tie)
 
-abbrev pub init_ack_turn : {R : Type 0} → (R → Stream) → Introduction → Option (List ℕ) → View R → Outcome
-init_ack_turn stream theirs cookie view = init_ack_outcome view.endpoint theirs cookie view.endpoint.core (long_word (stream view.generator))
+-- An INIT ACK with this cookie came.
+abbrev pub InitAckAt : {R : Type 0} → Introduction → Option (List ℕ) → View R → Outcome → Type 0
+InitAckAt theirs cookie view o = InitAckTurn view.endpoint theirs cookie o
 
 -- ---- COOKIE ACK and COOKIE ECHO
 
-abbrev pub cookie_ack_turn : {R : Type 0} → View R → Outcome
-cookie_ack_turn view = cookie_ack_outcome view.endpoint view.endpoint.core
+abbrev pub CookieAckAt : {R : Type 0} → View R → Outcome → Type 0
+CookieAckAt view o = CookieAckTurn view.endpoint o
 
-abbrev pub cookie_echo_turn : {R : Type 0} → (R → Stream) → ℕ → List ℕ → View R → Outcome
-cookie_echo_turn stream header bytes view = cookie_echo_outcome view.endpoint view.endpoint.core header (cookie_at bytes) (long_word (stream view.generator))
+-- A COOKIE ECHO of these bytes came in a packet with this header tag.
+abbrev pub CookieEchoAt : {R : Type 0} → ℕ → List ℕ → View R → Outcome → Type 0
+CookieEchoAt header bytes view o = CookieEchoTurn view.endpoint header bytes o

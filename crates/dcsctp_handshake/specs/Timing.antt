@@ -1,15 +1,17 @@
 -- What T1 brings, as turns of a socket's view.
-use Rattle.std.specs.Prelude.{ℕ, List}
+use Rattle.std.specs.Prelude.{◌≡◌, ℕ, List}
 use Rattle.dcsctp_machine.specs.declared.kinds.ErrorKind.TheVariants.{TooManyRetries}
 use Rattle.dcsctp_machine.specs.Event.{aborted}
 use Rattle.dcsctp_machine.specs.Outcome.{Outcome}
 use Rattle.dcsctp_machine.specs.turns.EndOutcomes.{close_outcome}
-use Rattle.dcsctp_machine.specs.turns.TimerOutcomes.{again_outcome, t1_gives_up_outcome}
+use Rattle.dcsctp_machine.specs.turns.FlushOutcomes.{Answer, flush_answered}
+use Rattle.dcsctp_machine.specs.turns.TimerOutcomes.{again_by, AgainAnswers, t1_gives_up_outcome}
 use Rattle.dcsctp_core.specs.View.{View}
 
 -- The packet that isn't answered goes out again.
-abbrev pub again_turn : {R : Type 0} → View R → Outcome
-again_turn view = again_outcome view.endpoint view.endpoint.core
+abbrev pub AgainAt : {R : Type 0} → View R → Outcome → Type 0
+AgainAt view o =
+    (answers : List Answer) × AgainAnswers view.endpoint view.endpoint.core answers × (o ≡ again_by (flush_answered answers) view.endpoint view.endpoint.core)
 
 -- The association ends for want of an answer, with this text.
 abbrev pub abandon_turn : {R : Type 0} → List ℕ → View R → Outcome

@@ -8,8 +8,8 @@ ghost use Rattle.dcsctp_machine.specs.Packet.{introduction_in, cookie_in};
 ghost use Rattle.dcsctp_machine.specs.turns.HandshakeOutcomes.{implementation_of};
 ghost use Rattle.dcsctp_api.specs.Calls.{is_closed};
 ghost use Rattle.dcsctp_core.specs.View.{core_of, view_of, endpoint_of};
-ghost use Rattle.dcsctp_core.specs.Handling.{Tries, TriesDrawing, Takes, Works};
-ghost use Rattle.dcsctp_handshake.specs.Handshake.{send_init_turn, awaiting, connect_turn, missing_cookie_turn, refusal_turn, echo_turn, acceptance_turn, init_ack_turn, cookie_ack_turn, peer_by_init_ack};
+ghost use Rattle.dcsctp_core.specs.Handling.{Tries, TriesDrawing, Takes, TakesOne, WorksOne};
+ghost use Rattle.dcsctp_handshake.specs.Handshake.{send_init_turn, awaiting, connect_turn, missing_cookie_turn, refusal_turn, EchoAt, AcceptanceAt, InitAckAt, CookieAckAt, peer_by_init_ack};
 
 use crate::init::draw_pair;
 use crate::parameters::{introduction, state_cookie};
@@ -140,9 +140,9 @@ fn implementation_of(cookie: &[u8]) -> SctpImplementation
 /// Sends the cookie that is echoed, where it fits `mtu`: it is in front of a flush. In another state
 /// nothing is sent.
 ///
-/// The one error is that a growth was refused. Nothing has changed then.
+/// The one error is that a growth was refused. The first events of the turn may stand then.
 pub(crate) fn send_cookie_echo<R: Rng>(context: &mut Context<R>) -> Result<(), AllocError>
-    ensures { Tries R.stream echo_turn context.old result context.new }
+    ensures { TakesOne R.stream EchoAt context.old result context.new }
 {
     let State::CookieEchoed(echoed) = &context.state else {
         return Ok(());
@@ -188,7 +188,7 @@ fn echo_cookie<R: Rng>(
     init_ack: &InitChunk<'_>,
     cookie: &[u8],
 ) -> Result<(), AllocError>
-    ensures { Takes R.stream (acceptance_turn R.stream my (introduction_in
+    ensures { TakesOne R.stream (AcceptanceAt R.stream my (introduction_in
         (init_content init_ack.now)) cookie.now) context.old result context.new }
 {
     let peer = peer_by_init_ack(&context.options, init_ack);
@@ -218,7 +218,7 @@ pub fn handle_init_ack<R: Rng>(
     context: &mut Context<R>,
     init_ack: &InitChunk<'_>,
 ) -> Result<Following, AllocError>
-    ensures { Works R.stream (init_ack_turn R.stream (introduction_in (init_content init_ack.now))
+    ensures { WorksOne R.stream (InitAckAt (introduction_in (init_content init_ack.now))
         (cookie_in (init_content init_ack.now).parameters)) context.old result context.new }
 {
     let my = match &context.state {
@@ -244,7 +244,7 @@ pub fn handle_init_ack<R: Rng>(
 ///
 /// The one error is that a growth was refused. The first events of the turn may stand then.
 pub fn handle_cookie_ack<R: Rng>(context: &mut Context<R>) -> Result<(), AllocError>
-    ensures { Takes R.stream cookie_ack_turn context.old result context.new }
+    ensures { TakesOne R.stream CookieAckAt context.old result context.new }
 {
     match context.state {
         State::CookieEchoed(_) => {

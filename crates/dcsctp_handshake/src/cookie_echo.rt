@@ -5,9 +5,9 @@ ghost use Rattle.dcsctp_machine.specs.Settings.{IsValid};
 ghost use Rattle.dcsctp_machine.specs.control.CookieEchoChanges.{resolve};
 ghost use Rattle.dcsctp_api.specs.Cookie.{cookie_of};
 ghost use Rattle.dcsctp_core.specs.View.{core_of, tie_of, view_of, endpoint_of};
-ghost use Rattle.dcsctp_core.specs.Handling.{Tries, Takes, Works};
-ghost use Rattle.dcsctp_handshake.specs.Handshake.{cookie_echo_turn};
-ghost use Rattle.dcsctp_handshake.specs.Echoes.{resolution_of, peer_by_cookie, established_with, acknowledgement_turn, establish_turn, replace_turn, restart_turn, maintain_turn, refuse_turn};
+ghost use Rattle.dcsctp_core.specs.Handling.{Tries, TakesOne, WorksOne};
+ghost use Rattle.dcsctp_handshake.specs.Handshake.{CookieEchoAt};
+ghost use Rattle.dcsctp_handshake.specs.Echoes.{resolution_of, peer_by_cookie, established_with, AcknowledgementAt, EstablishAt, ReplaceAt, RestartAt, MaintainAt, refuse_turn};
 
 use crate::texts::INVALID_TAG;
 use dcsctp_api::{ErrorKind, Options, Pair, SocketEvent, StateCookie};
@@ -64,9 +64,9 @@ fn resolve(state: &State, header_tag: u32, cookie: &StateCookie) -> CookieResolu
 
 /// Sends COOKIE ACK to the peer that is held: it is in front of a flush.
 ///
-/// The one error is that a growth was refused. Nothing has changed then.
+/// The one error is that a growth was refused. The first events of the turn may stand then.
 fn send_cookie_ack<R: Rng>(context: &mut Context<R>) -> Result<(), AllocError>
-    ensures { Tries R.stream acknowledgement_turn context.old result context.new }
+    ensures { TakesOne R.stream AcknowledgementAt context.old result context.new }
 {
     let Some(tcb) = context.state.tcb() else {
         return Ok(());
@@ -118,7 +118,7 @@ fn begin_association<R: Rng>(context: &mut Context<R>, cookie: &StateCookie, tie
 ///
 /// The one error is that a growth was refused. The first events of the turn may stand then.
 fn establish<R: Rng>(context: &mut Context<R>, cookie: &StateCookie) -> Result<(), AllocError>
-    ensures { Takes R.stream (establish_turn R.stream (cookie_of cookie.now)) context.old result
+    ensures { TakesOne R.stream (EstablishAt R.stream (cookie_of cookie.now)) context.old result
         context.new }
 {
     let tie_tag = context.draw_u64()?;
@@ -133,7 +133,7 @@ fn establish<R: Rng>(context: &mut Context<R>, cookie: &StateCookie) -> Result<(
 ///
 /// The one error is that a growth was refused. The first events of the turn may stand then.
 fn replace<R: Rng>(context: &mut Context<R>, cookie: &StateCookie) -> Result<(), AllocError>
-    ensures { Takes R.stream (replace_turn R.stream (cookie_of cookie.now)) context.old result
+    ensures { TakesOne R.stream (ReplaceAt R.stream (cookie_of cookie.now)) context.old result
         context.new }
 {
     context.send_queue.reset();
@@ -145,7 +145,7 @@ fn replace<R: Rng>(context: &mut Context<R>, cookie: &StateCookie) -> Result<(),
 ///
 /// The one error is that a growth was refused. The first events of the turn may stand then.
 fn restart<R: Rng>(context: &mut Context<R>, cookie: &StateCookie) -> Result<(), AllocError>
-    ensures { Takes R.stream (restart_turn R.stream (cookie_of cookie.now)) context.old result
+    ensures { TakesOne R.stream (RestartAt R.stream (cookie_of cookie.now)) context.old result
         context.new }
 {
     context.events.add(SocketEvent::OnConnectionRestarted())?;
@@ -157,7 +157,7 @@ fn restart<R: Rng>(context: &mut Context<R>, cookie: &StateCookie) -> Result<(),
 ///
 /// The one error is that a growth was refused. The first events of the turn may stand then.
 fn maintain<R: Rng>(context: &mut Context<R>) -> Result<(), AllocError>
-    ensures { Takes R.stream maintain_turn context.old result context.new }
+    ensures { TakesOne R.stream MaintainAt context.old result context.new }
 {
     match context.state {
         State::CookieEchoed(_) => {
@@ -182,8 +182,8 @@ pub fn handle_cookie_echo<R: Rng>(
     header_tag: u32,
     chunk: &CookieEchoChunk<'_>,
 ) -> Result<Following, AllocError>
-    ensures { Works R.stream (cookie_echo_turn R.stream header_tag chunk.now.cookie.now) context.old
-        result context.new }
+    ensures { WorksOne R.stream (CookieEchoAt header_tag chunk.now.cookie.now) context.old result
+        context.new }
 {
     let cookie = match StateCookie::from_bytes(chunk.cookie) {
         Ok(cookie) => cookie,

@@ -3,9 +3,9 @@
 
 ghost use Rattle.std.specs.Prelude.{string_bytes};
 ghost use Rattle.dcsctp_machine.specs.TimeTurns.{t1_timer};
-ghost use Rattle.dcsctp_core.specs.Handling.{Tries};
+ghost use Rattle.dcsctp_core.specs.Handling.{Tries, TakesOne};
 ghost use Rattle.dcsctp_core.specs.Timing.{Expires};
-ghost use Rattle.dcsctp_handshake.specs.Timing.{again_turn, abandon_turn, give_up_turn};
+ghost use Rattle.dcsctp_handshake.specs.Timing.{AgainAt, abandon_turn, give_up_turn};
 
 use crate::connect::{send_cookie_echo, send_init};
 use crate::texts::{NO_COOKIE_ACK, NO_INIT_ACK};
@@ -15,9 +15,9 @@ use rand_core::Rng;
 use std::alloc::AllocError;
 
 // Sends the packet again that isn't answered yet, where it fits `mtu`: INIT, or COOKIE ECHO in front of a
-// flush. The one error is that a growth was refused. Nothing has changed then.
+// flush. The one error is that a growth was refused. The first events of the turn may stand then.
 fn send_again<R: Rng>(context: &mut Context<R>) -> Result<(), AllocError>
-    ensures { Tries R.stream again_turn context.old result context.new }
+    ensures { TakesOne R.stream AgainAt context.old result context.new }
 {
     match &context.state {
         State::CookieWait(wait) => {

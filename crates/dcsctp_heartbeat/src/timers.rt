@@ -4,7 +4,7 @@ ghost use Rattle.std.specs.Prelude.{[], ◌∷◌};
 ghost use Rattle.std.specs.Int.{w32, to_be_bytes};
 ghost use Rattle.dcsctp_wire.specs.Content.{heartbeat_chunk, heartbeat_info};
 ghost use Rattle.dcsctp_machine.specs.TimeTurns.{own_timer};
-ghost use Rattle.dcsctp_machine.specs.turns.HeartbeatOutcomes.{heartbeat_interval, heartbeat_timeout};
+ghost use Rattle.dcsctp_machine.specs.turns.OwnTimers.{heartbeat_interval, heartbeat_timeout};
 ghost use Rattle.dcsctp_core.specs.Handling.{Takes, Emits};
 ghost use Rattle.dcsctp_core.specs.Timing.{Expires, ExpiresAlways};
 ghost use Rattle.dcsctp_heartbeat.specs.Heartbeats.{beat_turn};

@@ -13,10 +13,12 @@ use Rattle.dcsctp_machine.specs.Packet.{Content, init, init_ack, cookie_echo, co
 use Rattle.dcsctp_machine.specs.Admission.{Admission, all_chunks, shutdown_acks_alone, refused, admits, shutdown_acks_in}
 use Rattle.dcsctp_machine.specs.Endpoint.{Endpoint, Core, closed, cookie_wait, cookie_echoed, open_in, fresh_endpoint}
 use Rattle.dcsctp_machine.specs.Following.{Following, next_chunk, packet_end, dropped_rest}
-use Rattle.dcsctp_machine.specs.control.Acts.{connect, abort_with, t1_expires}
-use Rattle.dcsctp_machine.specs.Turn.{Input, arrival, refusal, packet_begins, chunk_input, packet_ends, act_input, user_sets, timer_expires, time_passes, unreadable_text}
+use Rattle.dcsctp_machine.specs.control.Acts.{connect, abort_with, t1_expires, flushes}
+use Rattle.dcsctp_machine.specs.Turn.{Input, arrival, refusal, packet_begins, chunk_input, packet_ends, act_input, user_sets, user_sends, user_takes, timer_expires, time_passes, unreadable_text}
 use Rattle.dcsctp_machine.specs.TimeTurns.{Timer, t1_timer, own_timer, timers_in, deadline, has_come, has_restart, expiry_input, inputs_behind, after_expiries, ExpiryThen, ExpiryTurns, MomentTurns, TimeTurns}
-use Rattle.dcsctp_machine.specs.turns.HeartbeatOutcomes.{OwnTimer, is_exhausted}
+use Rattle.dcsctp_machine.specs.turns.HeartbeatOutcomes.{is_exhausted}
+use Rattle.dcsctp_machine.specs.turns.MessageOutcomes.{Sending}
+use Rattle.dcsctp_machine.specs.turns.OwnTimers.{OwnTimer}
 use Rattle.dcsctp_machine.specs.turns.SettingOutcomes.{Setting}
 use Rattle.dcsctp_machine.specs.CallTurns.{Turned, IsTurn, Turns, AlongTurns, AfterChunk, ChunkTurns, WholeTurns, AdmittedTurns, HandleInput, unreadable, readable, after_all}
 use Rattle.dcsctp_machine.specs.Sockets.{Both, of_side, of_other, StepTurns, DeliveryTurns, numbered, with_turns, Worked, SocketRun, turns_after, endpoint_after, packets_shown, side_of_act, OutsideTurns, TurnsOfAct}
@@ -37,7 +39,10 @@ pub record MayCome (May : Input → Type 0) : Type 0 where
   pub connects : May (act_input connect)
   pub aborts : (reason : AbortReason) → May (act_input (abort_with reason))
   pub expires : (again : Bool) → May (act_input (t1_expires again))
+  pub flushed : May (act_input flushes)
   pub sets : (setting : Setting) → May (user_sets setting)
+  pub sends : (messages : List Sending) → May (user_sends messages)
+  pub takes : May user_takes
   pub own_expires : (timer : OwnTimer) → May (timer_expires timer)
   pub passes : (moment : ℕ) → May (time_passes moment)
 
@@ -55,7 +60,10 @@ anything_may_come =
       connects = tt;
       aborts = λ reason. tt;
       expires = λ again. tt;
+      flushed = tt;
       sets = λ setting. tt;
+      sends = λ messages. tt;
+      takes = tt;
       own_expires = λ timer. tt;
       passes = λ moment. tt;
     }
@@ -86,15 +94,16 @@ expiry_may : (May : Input → Type 0) → MayCome May → (e : Endpoint) (timer 
 expiry_may May come e t1_timer = come.expires (has_restart e.timers.t1)
 expiry_may May come e (own_timer timer) = come.own_expires timer
 
-too_many_may : (May : Input → Type 0) → MayCome May → (many : Bool) → AllByRecursion May (if many then act_input (abort_with TooManyErrors) ∷ [] else [])
-too_many_may May come true = (come.aborts TooManyErrors, tt)
-too_many_may May come false = tt
+too_many_may : (May : Input → Type 0) → MayCome May → (many : Bool) (inputs : List Input) → AllByRecursion May inputs
+    → AllByRecursion May (if many then act_input (abort_with TooManyErrors) ∷ [] else inputs)
+too_many_may May come true inputs may = (come.aborts TooManyErrors, tt)
+too_many_may May come false inputs may = may
 
 behind_may : (May : Input → Type 0) → MayCome May → (e : Endpoint) (core : Core) → AllByRecursion May (inputs_behind e core)
 behind_may May come e closed = tt
 behind_may May come e (cookie_wait my) = tt
-behind_may May come e (cookie_echoed my held cookie) = too_many_may May come (is_exhausted e.options.max_retransmissions e.error_count)
-behind_may May come e (open_in phase my held) = too_many_may May come (is_exhausted e.options.max_retransmissions e.error_count)
+behind_may May come e (cookie_echoed my held cookie) = too_many_may May come (is_exhausted e.options.max_retransmissions e.error_count) [] tt
+behind_may May come e (open_in phase my held) = too_many_may May come (is_exhausted e.options.max_retransmissions e.error_count) (act_input flushes ∷ []) (come.flushed, tt)
 
 after_may : (May : Input → Type 0) → MayCome May → (e : Endpoint) (has_expired : Bool) → AllByRecursion May (after_expiries e has_expired)
 after_may May come e false = tt

@@ -22,6 +22,7 @@ use Rattle.dcsctp_machine.specs.control.HandshakeChanges.{IsCookieOf}
 use Rattle.dcsctp_machine.specs.control.Acts.{act_change, connect, t1_expires, shut_down, step_of_shutdown, shutdown_repeats, abort_with, hands_over, flushes, request_again}
 use Rattle.dcsctp_machine.specs.Controlled.{IsControlled, ControlledChunk, ControlledAct}
 use Rattle.dcsctp_machine.specs.Laws.{FitsPair, FitsOwn, FitsAnswer, ChunksAreControlled, ActsAreControlled, StandsBefore}
+use Rattle.dcsctp_machine.proofs.DataLemmas.{flushed_act, flush_turn_at}
 use Rattle.dcsctp_machine.proofs.PlainLemmas.{plain_controlled}
 use Rattle.dcsctp_machine.proofs.LawLemmas.{names_read_back}
 use Rattle.dcsctp_machine.proofs.ControlHandshake.{choices_of, ControlledAt, still_controlled, init_ack_controlled, cookie_ack_controlled, abort_controlled, connect_controlled}
@@ -185,5 +186,5 @@ acts_are_controlled e step_of_shutdown o turn = turn
 acts_are_controlled e shutdown_repeats o turn = turn
 acts_are_controlled e (abort_with reason) o turn = aborting_controlled e o reason turn
 acts_are_controlled e hands_over o turn = turn
-acts_are_controlled e flushes o turn = turn
+acts_are_controlled e flushes o turn = flushed_act e o (flush_turn_at e o turn)
 acts_are_controlled e (request_again reset) o turn = turn

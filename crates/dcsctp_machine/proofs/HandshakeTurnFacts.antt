@@ -52,7 +52,7 @@ queue is_interleaved =
       total_buffered_amount = 30;
       default_threshold = 0;
       default_priority = 256;
-      streams = record { stream = 3; buffered_amount = 30; low_threshold = 7; priority = 5 } ∷ [];
+      streams = record { stream = 3; buffered_amount = 30; low_threshold = 7; priority = 5; messages = 1; is_paused = false } ∷ record { stream = 4; buffered_amount = 0; low_threshold = 0; priority = 256; messages = 0; is_paused = true } ∷ [];
       under_way = Some (record { stream = 3; number = 12 });
       ready_streams = 4 ∷ [];
     }
@@ -60,7 +60,7 @@ queue is_interleaved =
 -- and with the message before its first byte again
 abbrev pub queue_at_start : SendQueueState
 queue_at_start =
-    record (queue true) { total_buffered_amount = 42; streams = record { stream = 3; buffered_amount = 42; low_threshold = 7; priority = 5 } ∷ []; under_way = None; ready_streams = [] }
+    record (queue true) { total_buffered_amount = 42; streams = record { stream = 3; buffered_amount = 42; low_threshold = 7; priority = 5; messages = 1; is_paused = false } ∷ record { stream = 4; buffered_amount = 0; low_threshold = 0; priority = 256; messages = 0; is_paused = false } ∷ []; under_way = None; ready_streams = [] }
 
 -- 5 seconds after it was made
 abbrev pub socket : Endpoint → ℕ → ℤ → Core → ℕ → Endpoint
@@ -116,10 +116,10 @@ held =
 abbrev pub transfer_begun : ℕ → Option Transfer
 transfer_begun cwnd =
     Some (record {
-      retransmission = record { partial_reliability = false; message_interleaving = true; next_tsn = 100; unacknowledged_items = 0; deadline = None; cwnd = cwnd; rwnd = 1500; packets_retransmitted = 0; bytes_retransmitted = 0 };
+      retransmission = record { partial_reliability = false; message_interleaving = true; next_tsn = 100; outstanding_items = 0; unacknowledged_items = 0; marked_items = 0; bytes_in_flight = 0; has_fast_retransmit = false; deadline = None; cwnd = cwnd; rwnd = 1500; packets_retransmitted = 0; bytes_retransmitted = 0 };
       timeout = record { rto = 500_000_000; srtt = 500_000_000 };
-      tracker = record { cumulative_tsn = 199; delayed_acknowledgement = None };
-      reassembly = record { messages = []; messages_received = 0; remaining_bytes = 5242880 };
+      tracker = record { cumulative_tsn = 199; has_numbers_left = true; delayed_acknowledgement = None; is_acknowledgement_due = false; owes_acknowledgement = false };
+      reassembly = record { messages = []; messages_received = 0; window = 5242880; remaining_bytes = 5242880 };
     })
 
 -- the association that the two hold

@@ -9,7 +9,9 @@ use Rattle.dcsctp_machine.specs.Outcome.{Outcome, quiet, sends, fits}
 use Rattle.dcsctp_machine.specs.control.Acts.{flushes, flush_change}
 use Rattle.dcsctp_machine.specs.control.Choices.{Choices}
 use Rattle.dcsctp_machine.specs.Controlled.{IsControlled, ControlledAct}
-use Rattle.dcsctp_machine.specs.turns.HeartbeatOutcomes.{OwnTimer, heartbeat_interval, heartbeat_timeout, interval_expired, beating, heartbeat_emission, interval_outcome, timeout_outcome, timer_outcome}
+use Rattle.dcsctp_machine.specs.turns.HeartbeatOutcomes.{interval_expired, beating, heartbeat_emission, interval_outcome, timeout_outcome}
+use Rattle.dcsctp_machine.specs.turns.OwnTimers.{OwnTimer, acknowledgement_delay, retransmission, heartbeat_interval, heartbeat_timeout, TimerTurn}
+use Rattle.dcsctp_machine.proofs.DataLemmas.{FlushedAt, flushed_act, delay_at, loss_at}
 use Rattle.dcsctp_machine.proofs.ControlHandshake.{no_choices, filling_where}
 
 -- what a timer chooses: these packets, and no flush
@@ -45,9 +47,8 @@ timeout_at e (cookie_wait my) is = (sending e [], record { core = is; options = 
 timeout_at e (cookie_echoed my held cookie) is = (sending e [], record { core = is; options = refl; signs = refl; effects = refl; following = refl })
 timeout_at e (open_in phase my held) is = (sending e [], record { core = is; options = refl; signs = refl; effects = refl; following = refl })
 
-timer_at : (e : Endpoint) (timer : OwnTimer) → ControlledAct e flushes (timer_outcome e timer)
-timer_at e heartbeat_interval = interval_at e e.core refl
-timer_at e heartbeat_timeout = timeout_at e e.core refl
-
-pub timer_controlled : (e : Endpoint) (timer : OwnTimer) (o : Outcome) → o ≡ timer_outcome e timer → ControlledAct e flushes o
-timer_controlled e timer o turn = subst (ControlledAct e flushes) (sym turn) (timer_at e timer)
+pub timer_controlled : (e : Endpoint) (timer : OwnTimer) (o : Outcome) → TimerTurn e timer o → ControlledAct e flushes o
+timer_controlled e acknowledgement_delay o turn = flushed_act e o (subst (FlushedAt e e.core) (sym turn) (delay_at e e.below.transfer))
+timer_controlled e retransmission o turn = flushed_act e o (loss_at e e.below.transfer o turn)
+timer_controlled e heartbeat_interval o turn = subst (ControlledAct e flushes) (sym turn) (interval_at e e.core refl)
+timer_controlled e heartbeat_timeout o turn = subst (ControlledAct e flushes) (sym turn) (timeout_at e e.core refl)

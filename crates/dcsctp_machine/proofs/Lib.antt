@@ -1,6 +1,7 @@
 pub mod AdmissionFacts
 pub mod AdmissionLemmas
 pub mod AlongLemmas
+pub mod AnswerLemmas
 pub mod CallFacts
 pub mod ChunkFacts
 pub mod ControlEcho
@@ -9,15 +10,19 @@ pub mod ControlHandshake
 pub mod ControlInit
 pub mod ControlLemmas
 pub mod CookieEchoFacts
+pub mod DataLemmas
 pub mod DeliveryLemmas
 pub mod FlushFacts
+pub mod FlushKeeps
 pub mod FlushLemmas
 pub mod HandshakeFacts
 pub mod HandshakeTurnFacts
 pub mod HeartbeatFacts
 pub mod HeartbeatLemmas
 pub mod LawLemmas
+pub mod LimitLemmas
 pub mod MayBeWorkedLemmas
+pub mod MessageFacts
 pub mod PlainLemmas
 pub mod ReadBackLemmas
 pub mod SettingFacts

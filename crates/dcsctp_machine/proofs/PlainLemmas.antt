@@ -11,14 +11,15 @@ use Rattle.dcsctp_machine.specs.Packet.{Plain, plain, unknown, heartbeat, heartb
 use Rattle.dcsctp_machine.specs.Endpoint.{Endpoint, Core, closed, cookie_wait, cookie_echoed, open_in, OpenPhase, established, shutdown_pending, shutdown_sent, shutdown_received, shutdown_ack_sent}
 use Rattle.dcsctp_machine.specs.Outcome.{Outcome, still, reports, quiet, sends, fits, to_peer}
 use Rattle.dcsctp_machine.specs.turns.EndOutcomes.{abort_to, aborting_outcome}
-use Rattle.dcsctp_machine.specs.turns.PlainOutcomes.{PlainTurn, plain_outcome, violation_at, violation_by, is_reported, after_unknown, unknown_text, unknown_bytes, unknown_error, unknown_report, unknown_told}
+use Rattle.dcsctp_machine.specs.turns.PlainOutcomes.{PlainTurn, PlainTurnBy, violation_at, is_reported, after_unknown, unknown_text, unknown_bytes, unknown_error, unknown_report, unknown_told}
 use Rattle.dcsctp_machine.specs.control.Effect.{Change, unchanged}
 use Rattle.dcsctp_machine.specs.control.Effect as effects
 use Rattle.dcsctp_machine.specs.control.Choices.{Choices}
 use Rattle.dcsctp_machine.specs.control.Acts.{plain_change}
 use Rattle.dcsctp_machine.specs.Following.{next_chunk}
 use Rattle.dcsctp_machine.specs.turns.HeartbeatOutcomes.{heartbeat_outcome, heartbeat_ack_outcome, answered, info_in, counter_of, invalid_info_text}
-use Rattle.dcsctp_wire.specs.Content.{ParameterContent}
+use Rattle.dcsctp_wire.specs.Content.{ParameterContent, data_chunk, init_chunk, init_ack_chunk, sack_chunk, heartbeat_chunk, heartbeat_ack_chunk, abort_chunk, shutdown_chunk, shutdown_ack_chunk, error_chunk, cookie_echo_chunk, cookie_ack_chunk, shutdown_complete_chunk, i_data_chunk, re_config_chunk, forward_tsn_chunk, i_forward_tsn_chunk, unknown_chunk}
+use Rattle.dcsctp_machine.proofs.DataLemmas.{flushed_chunk, data_at, forward_at, sack_at}
 use Rattle.dcsctp_machine.specs.Controlled.{signs_of_events, IsControlled, ControlledChunk}
 use Rattle.dcsctp_machine.proofs.ControlHandshake.{no_choices, filling_where, still_controlled, ControlledAt}
 use Rattle.dcsctp_machine.proofs.ControlEnds.{aborts_where}
@@ -160,27 +161,43 @@ aborts_open e phase my held tag chunk violation =
 
 -- ---- each
 
-quiet_at : (e : Endpoint) (core : Core) (tag : ℕ) (chunk : Plain) → e.core ≡ core → ControlledAt e core tag (plain chunk) (plain_outcome e core chunk None)
-quiet_at e core tag (unknown type flags value) is = unknown_at e core tag type flags value (is_reported type) is
-quiet_at e core tag (heartbeat parameters) is = heartbeat_at e core tag parameters is
-quiet_at e core tag (heartbeat_ack parameters) is = heartbeat_ack_at e core tag (heartbeat_ack parameters) (counter_of (info_in parameters)) is
-quiet_at e core tag (unworked chunk) is = rests_at e core tag (unworked chunk) is
+aborts_at : (e : Endpoint) (core : Core) (tag : ℕ) (chunk : Plain) (violation : Violation) → e.core ≡ core → violation_at core chunk ≡ Some violation
+    → ControlledAt e core tag (plain chunk) (aborting_outcome e core (reasons.Violation violation))
+aborts_at e closed tag chunk violation is breaks = absurd (cc)
+aborts_at e (cookie_wait my) tag chunk violation is breaks = absurd (cc)
+aborts_at e (cookie_echoed my held cookie) tag chunk violation is breaks = aborts_echoed e my held cookie tag chunk violation
+aborts_at e (open_in phase my held) tag chunk violation is breaks = aborts_open e phase my held tag chunk violation
 
-echoed_at : (e : Endpoint) (my : Pair) (held : Held) (cookie : List ℕ) (tag : ℕ) (chunk : Plain) (violation : Option Violation) → e.core ≡ cookie_echoed my held cookie
-    → ControlledAt e (cookie_echoed my held cookie) tag (plain chunk) (plain_outcome e (cookie_echoed my held cookie) chunk violation)
-echoed_at e my held cookie tag chunk (Some violation) is = aborts_echoed e my held cookie tag chunk violation
-echoed_at e my held cookie tag chunk None is = quiet_at e (cookie_echoed my held cookie) tag chunk is
+abbrev At : Endpoint → ℕ → Plain → Outcome → Type 0
+At e tag chunk o = ControlledAt e e.core tag (plain chunk) o
 
-open_at : (e : Endpoint) (phase : OpenPhase) (my : Pair) (held : Held) (tag : ℕ) (chunk : Plain) (violation : Option Violation) → e.core ≡ open_in phase my held
-    → ControlledAt e (open_in phase my held) tag (plain chunk) (plain_outcome e (open_in phase my held) chunk violation)
-open_at e phase my held tag chunk (Some violation) is = aborts_open e phase my held tag chunk violation
-open_at e phase my held tag chunk None is = quiet_at e (open_in phase my held) tag chunk is
+rests : (e : Endpoint) (tag : ℕ) (chunk : Plain) (o : Outcome) → o ≡ still e → At e tag chunk o
+rests e tag chunk o turn = subst (At e tag chunk) (sym turn) (rests_at e e.core tag chunk refl)
 
-plain_at : (e : Endpoint) (core : Core) (tag : ℕ) (chunk : Plain) → e.core ≡ core → ControlledAt e core tag (plain chunk) (plain_outcome e core chunk (violation_at core chunk))
-plain_at e closed tag chunk is = quiet_at e closed tag chunk is
-plain_at e (cookie_wait my) tag chunk is = quiet_at e (cookie_wait my) tag chunk is
-plain_at e (cookie_echoed my held cookie) tag chunk is = echoed_at e my held cookie tag chunk (violation_by held.capabilities chunk) is
-plain_at e (open_in phase my held) tag chunk is = open_at e phase my held tag chunk (violation_by held.capabilities chunk) is
+plain_by : (e : Endpoint) (tag : ℕ) (chunk : Plain) (violation : Option Violation) (o : Outcome) → violation_at e.core chunk ≡ violation → PlainTurnBy e chunk violation o → At e tag chunk o
+plain_by e tag chunk (Some violation) o is turn = subst (At e tag chunk) (sym turn) (aborts_at e e.core tag chunk violation refl is)
+plain_by e tag (unknown type flags value) None o is turn = subst (At e tag (unknown type flags value)) (sym turn) (unknown_at e e.core tag type flags value (is_reported type) refl)
+plain_by e tag (heartbeat parameters) None o is turn = subst (At e tag (heartbeat parameters)) (sym turn) (heartbeat_at e e.core tag parameters refl)
+plain_by e tag (heartbeat_ack parameters) None o is turn =
+    subst (At e tag (heartbeat_ack parameters)) (sym turn) (heartbeat_ack_at e e.core tag (heartbeat_ack parameters) (counter_of (info_in parameters)) refl)
+plain_by e tag (unworked (data_chunk chunk)) None o is turn = flushed_chunk e e.core tag (unworked (data_chunk chunk)) o (data_at e chunk.flags.immediate_ack chunk.tsn chunk.payload o turn)
+plain_by e tag (unworked (i_data_chunk chunk)) None o is turn = flushed_chunk e e.core tag (unworked (i_data_chunk chunk)) o (data_at e chunk.flags.immediate_ack chunk.tsn chunk.payload o turn)
+plain_by e tag (unworked (sack_chunk chunk)) None o is turn = flushed_chunk e e.core tag (unworked (sack_chunk chunk)) o (sack_at e e.below.transfer chunk.cumulative_tsn_ack o turn)
+plain_by e tag (unworked (forward_tsn_chunk tsn streams)) None o is turn = flushed_chunk e e.core tag (unworked (forward_tsn_chunk tsn streams)) o (forward_at e e.below.transfer tsn o turn)
+plain_by e tag (unworked (i_forward_tsn_chunk tsn streams)) None o is turn = flushed_chunk e e.core tag (unworked (i_forward_tsn_chunk tsn streams)) o (forward_at e e.below.transfer tsn o turn)
+plain_by e tag (unworked (init_chunk chunk)) None o is turn = rests e tag (unworked (init_chunk chunk)) o turn
+plain_by e tag (unworked (init_ack_chunk chunk)) None o is turn = rests e tag (unworked (init_ack_chunk chunk)) o turn
+plain_by e tag (unworked (heartbeat_chunk parameters)) None o is turn = rests e tag (unworked (heartbeat_chunk parameters)) o turn
+plain_by e tag (unworked (heartbeat_ack_chunk parameters)) None o is turn = rests e tag (unworked (heartbeat_ack_chunk parameters)) o turn
+plain_by e tag (unworked (abort_chunk reflected causes)) None o is turn = rests e tag (unworked (abort_chunk reflected causes)) o turn
+plain_by e tag (unworked (shutdown_chunk tsn)) None o is turn = rests e tag (unworked (shutdown_chunk tsn)) o turn
+plain_by e tag (unworked shutdown_ack_chunk) None o is turn = rests e tag (unworked shutdown_ack_chunk) o turn
+plain_by e tag (unworked (error_chunk causes)) None o is turn = rests e tag (unworked (error_chunk causes)) o turn
+plain_by e tag (unworked (cookie_echo_chunk cookie)) None o is turn = rests e tag (unworked (cookie_echo_chunk cookie)) o turn
+plain_by e tag (unworked cookie_ack_chunk) None o is turn = rests e tag (unworked cookie_ack_chunk) o turn
+plain_by e tag (unworked (shutdown_complete_chunk reflected)) None o is turn = rests e tag (unworked (shutdown_complete_chunk reflected)) o turn
+plain_by e tag (unworked (re_config_chunk parameters)) None o is turn = rests e tag (unworked (re_config_chunk parameters)) o turn
+plain_by e tag (unworked (unknown_chunk type flags value)) None o is turn = rests e tag (unworked (unknown_chunk type flags value)) o turn
 
 pub plain_controlled : (e : Endpoint) (tag : ℕ) (chunk : Plain) (o : Outcome) → PlainTurn e chunk o → ControlledChunk e tag (plain chunk) o
-plain_controlled e tag chunk o turn = subst (ControlledChunk e tag (plain chunk)) (sym turn) (plain_at e e.core tag chunk refl)
+plain_controlled e tag chunk o turn = plain_by e tag chunk (violation_at e.core chunk) o refl turn

@@ -1,11 +1,11 @@
 -- Outside examples of what the user sets, computed by the definitions.
-use Rattle.std.proofs.Common.{◌≡◌, ℕ, false, None, List, [], ◌∷◌, refl}
-use Rattle.dcsctp_machine.specs.Transfer.{QueuedStream, SendQueueState, queued_stream}
+use Rattle.std.proofs.Common.{◌≡◌, ℕ, true, false, None, List, [], ◌∷◌, refl}
+use Rattle.dcsctp_machine.specs.Transfer.{QueuedStream, SendQueueState, queued_stream, queue_added, has_data}
 use Rattle.dcsctp_machine.specs.Endpoint.{Endpoint}
 use Rattle.dcsctp_machine.specs.turns.SettingOutcomes.{stream_priority, stream_low_threshold, longest_message, set_in_queue, endpoint_with}
 
 stream : ℕ → ℕ → ℕ → QueuedStream
-stream id threshold priority = record { stream = id; buffered_amount = 0; low_threshold = threshold; priority = priority }
+stream id threshold priority = record { stream = id; buffered_amount = 0; low_threshold = threshold; priority = priority; messages = 0; is_paused = false }
 
 -- a queue of these streams, with the defaults of the options
 queue : List QueuedStream → SendQueueState
@@ -44,3 +44,27 @@ streams_stay e = refl
 
 longest_stays : (e : Endpoint) → (endpoint_with (stream_priority 1 5) e).options ≡ e.options
 longest_stays e = refl
+
+-- ---- messages
+
+-- 12 bytes on a stream that was never used, and 3 behind them
+first_waits : queue_added 1 12 (queue []) ≡ record (queue (record (stream 1 0 256) { buffered_amount = 12; messages = 1 } ∷ [])) { total_buffered_amount = 12 }
+unfolding queue stream
+first_waits = refl
+
+second_waits : queue_added 1 3 (queue_added 1 12 (queue [])) ≡ record (queue (record (stream 1 0 256) { buffered_amount = 15; messages = 2 } ∷ [])) { total_buffered_amount = 15 }
+unfolding queue stream
+second_waits = refl
+
+-- There is data to send once a message waits, unless its stream is paused.
+none_to_send : has_data (queue (stream 1 0 5 ∷ [])) ≡ false
+unfolding queue stream
+none_to_send = refl
+
+one_to_send : has_data (queue_added 1 12 (queue [])) ≡ true
+unfolding queue stream
+one_to_send = refl
+
+none_while_paused : has_data (queue (record (stream 1 0 5) { buffered_amount = 12; messages = 1; is_paused = true } ∷ [])) ≡ false
+unfolding queue stream
+none_while_paused = refl

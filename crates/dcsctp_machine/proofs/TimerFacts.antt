@@ -8,8 +8,9 @@ use Rattle.dcsctp_machine.specs.declared.association.Held.{Held}
 use Rattle.dcsctp_machine.specs.declared.kinds.BackoffAlgorithm.TheVariants.{Fixed, Exponential}
 use Rattle.dcsctp_machine.specs.declared.kinds.ErrorKind.TheVariants.{TooManyRetries}
 use Rattle.dcsctp_machine.specs.Event.{aborted}
+use Rattle.dcsctp_machine.specs.Transfer.{nothing_below}
 use Rattle.dcsctp_machine.specs.Endpoint.{Endpoint, Core, closed, cookie_wait, cookie_echoed, open_in, established, RunningTimer, started, expired, is_due}
-use Rattle.dcsctp_machine.specs.control.Acts.{t1_expires, abort_with}
+use Rattle.dcsctp_machine.specs.control.Acts.{t1_expires, abort_with, flushes}
 use Rattle.dcsctp_machine.specs.declared.ends.AbortReason.TheVariants.{TooManyErrors}
 use Rattle.dcsctp_machine.specs.Turn.{act_input}
 use Rattle.dcsctp_machine.specs.turns.TimerOutcomes.{t1_gives_up_outcome}
@@ -96,7 +97,7 @@ never_where_closed e = refl
 -- an open association with these timers of heartbeats
 beating_at : Endpoint → Held → Option RunningTimer → Option RunningTimer → Endpoint
 beating_at e held interval timeout =
-    record e { moment = 10; core = open_in established mine held; timers = record e.timers { t1 = Some (second (Some 8) 5 5 0); heartbeat_interval = interval; heartbeat_timeout = timeout } }
+    record e { moment = 10; core = open_in established mine held; timers = record e.timers { t1 = Some (second (Some 8) 5 5 0); heartbeat_interval = interval; heartbeat_timeout = timeout }; below = nothing_below e.options }
 
 never_without_heartbeats : (e : Endpoint) (held : Held) → next_moment (beating_at e held None None) ≡ max_nanos
 unfolding beating_at
@@ -147,9 +148,14 @@ not_without_expiry : (e : Endpoint) (held : Held) → after_expiries (with_error
 unfolding with_errors
 not_without_expiry e held = refl
 
-an_error_that_is_allowed : (e : Endpoint) (held : Held) → after_expiries (with_errors e (open_in established mine held) 1) true ≡ []
+-- What waits goes out where the errors are allowed, but not while the COOKIE ECHO isn't answered.
+an_error_that_is_allowed : (e : Endpoint) (held : Held) → after_expiries (with_errors e (open_in established mine held) 1) true ≡ act_input flushes ∷ []
 unfolding with_errors
 an_error_that_is_allowed e held = refl
+
+one_while_connecting : (e : Endpoint) (held : Held) (cookie : List ℕ) → after_expiries (with_errors e (cookie_echoed mine held cookie) 1) true ≡ []
+unfolding with_errors
+one_while_connecting e held cookie = refl
 
 told_in_cookie_wait : (e : Endpoint) → (t1_gives_up_outcome e (cookie_wait mine)).events ≡ aborted TooManyRetries (codes "No INIT_ACK received") ∷ []
 told_in_cookie_wait e = refl

@@ -7,43 +7,20 @@ use Rattle.dcsctp_machine.specs.Packet.{cookie_echo}
 use Rattle.dcsctp_machine.specs.Endpoint.{Endpoint, Core, closed, cookie_wait, cookie_echoed, open_in}
 use Rattle.dcsctp_machine.specs.Outcome.{Outcome, still, quiet, sends, fits}
 use Rattle.dcsctp_machine.specs.Following.{next_chunk}
-use Rattle.dcsctp_machine.specs.control.Effect.{emitted_alone}
 use Rattle.dcsctp_machine.specs.control.FlushChanges.{Flushed}
 use Rattle.dcsctp_machine.specs.control.Acts.{t1_expires}
 use Rattle.dcsctp_machine.specs.control.Choices.{Choices}
 use Rattle.dcsctp_machine.specs.control.HandshakeChanges.{t1_again_change, t1_gives_up_change}
 use Rattle.dcsctp_machine.specs.Controlled.{IsControlled, ControlledAct}
-use Rattle.dcsctp_machine.specs.turns.FlushOutcomes.{Answer, flush_answered, allows_packet}
-use Rattle.dcsctp_machine.specs.turns.HandshakeOutcomes.{init_emission, echo_emission}
-use Rattle.dcsctp_machine.specs.turns.TimerOutcomes.{t1_goes_on, AgainAnswers, again_by, again_outcome, t1_again_outcome, T1AgainTurn, t1_gives_up_outcome}
-use Rattle.dcsctp_machine.specs.turns.HeartbeatOutcomes.{heartbeat_interval, heartbeat_timeout}
+use Rattle.dcsctp_machine.specs.turns.FlushOutcomes.{Answer, flush_answered}
+use Rattle.dcsctp_machine.specs.turns.HandshakeOutcomes.{init_emission, echo_emission, EchoAnswers}
+use Rattle.dcsctp_machine.specs.turns.TimerOutcomes.{t1_goes_on, AgainAnswers, t1_again_by, T1AgainTurn, t1_gives_up_outcome}
+use Rattle.dcsctp_machine.specs.turns.OwnTimers.{acknowledgement_delay, retransmission, heartbeat_interval, heartbeat_timeout}
 use Rattle.dcsctp_machine.specs.Turn.{clock_at}
 use Rattle.dcsctp_machine.specs.CallTurns.{Turned, Turns}
-use Rattle.dcsctp_machine.specs.TimeTurns.{Timer, t1_timer, own_timer, timers_in, deadline, with_deadline, deadlines_of, earliest, next_of, has_come, ExpiryThen, ExpiryTurns, DueTurns, MomentTurns, TimeTurns, NoneIsDue, Waits, MoveClock, TimePassesQuietly}
-use Rattle.dcsctp_machine.proofs.FlushLemmas.{echo_now, echo_answers}
-use Rattle.dcsctp_machine.proofs.ControlHandshake.{no_choices, choosing, still_controlled, flush_of_one, flushes_one}
-
--- ---- where nothing waits to be sent
-
-again_now : (e : Endpoint) (core : Core) (answers : List Answer) → AgainAnswers e core answers → again_by (flush_answered answers) e core ≡ again_outcome e core
-again_now e closed answers h = refl
-again_now e (cookie_wait mine) answers h = refl
-again_now e (cookie_echoed mine held cookie) answers h = echo_now (fits e (echo_emission held.peer.tag cookie)) e [] held.peer.tag cookie answers h
-again_now e (open_in phase mine held) answers h = refl
-
-pub t1_again_turn_now : (e : Endpoint) (o : Outcome) → T1AgainTurn e o → o ≡ t1_again_outcome e e.core
-t1_again_turn_now e o turn = turn.2 ∙ again_now (t1_goes_on e) e.core turn.0 turn.1
-
-again_answers : (e : Endpoint) (core : Core) → (answers : List Answer) × AgainAnswers e core answers
-again_answers e closed = ([], refl)
-again_answers e (cookie_wait mine) = ([], refl)
-again_answers e (cookie_echoed mine held cookie) = echo_answers (fits e (echo_emission held.peer.tag cookie)) e held.peer.tag cookie
-again_answers e (open_in phase mine held) = ([], refl)
-
-pub t1_again_turn_of : (e : Endpoint) → T1AgainTurn e (t1_again_outcome e e.core)
-t1_again_turn_of e =
-    let h : (answers : List Answer) × AgainAnswers (t1_goes_on e) e.core answers = again_answers (t1_goes_on e) e.core in
-    (h.0, h.1, sym (again_now (t1_goes_on e) e.core h.0 h.1))
+use Rattle.dcsctp_machine.specs.TimeTurns.{Timer, t1_timer, own_timer, timers_in, timers_told, AwaitsNoCookieAck, deadline, with_deadline, deadlines_of, earliest, next_of, has_come, ExpiryThen, ExpiryTurns, DueTurns, MomentTurns, TimeTurns, NoneIsDue, Waits, MoveClock, TimePassesQuietly}
+use Rattle.dcsctp_machine.proofs.FlushKeeps.{IsPeerTag, flush_is, flush_controlled}
+use Rattle.dcsctp_machine.proofs.ControlHandshake.{no_choices, choosing, still_controlled}
 
 -- ---- as a turn of the association
 
@@ -53,31 +30,30 @@ init_where true e mine is = record { core = is; options = refl; signs = refl; ef
 init_where false e mine is = record { core = is; options = refl; signs = refl; effects = refl; following = refl }
 
 -- by what the flush makes of the peer
-abbrev EchoedBy : Endpoint → Pair → List ℕ → Outcome → Flushed → Type 0
-EchoedBy e mine cookie o after = IsControlled e o (record { core = cookie_echoed mine after.held cookie; effects = after.effects; following = next_chunk })
+abbrev EchoedBy : Endpoint → Pair → Held → List ℕ → List Answer → Flushed → Type 0
+EchoedBy e mine held cookie answers after =
+    IsControlled e (flush_answered answers (t1_goes_on e) [] [] true held.peer.tag (cookie_echo cookie ∷ []))
+    (record { core = cookie_echoed mine after.held cookie; effects = after.effects; following = next_chunk })
 
-echo_allowed : (allowed : Bool) (e : Endpoint) (mine : Pair) (held : Held) (cookie : List ℕ) → e.core ≡ cookie_echoed mine held cookie
-    → EchoedBy e mine cookie (flushes_one allowed (t1_goes_on e) [] [] true held.peer.tag (cookie_echo cookie)) (record { held = held; effects = emitted_alone allowed held.peer.tag (cookie_echo cookie) })
-echo_allowed true e mine held cookie is = record { core = is; options = refl; signs = refl; effects = refl; following = refl }
-echo_allowed false e mine held cookie is = record { core = is; options = refl; signs = refl; effects = refl; following = refl }
+echo_where : (b : Bool) (e : Endpoint) (mine : Pair) (held : Held) (cookie : List ℕ) (answers : List Answer) → e.core ≡ cookie_echoed mine held cookie
+    → EchoAnswers b (t1_goes_on e) held.peer.tag cookie answers
+    → IsControlled e (if b then flush_answered answers (t1_goes_on e) [] [] true held.peer.tag (cookie_echo cookie ∷ []) else quiet (t1_goes_on e) [] [])
+    (t1_again_change e.options (cookie_echoed mine held cookie) (choosing e b answers))
+echo_where true e mine held cookie answers is h =
+    subst (EchoedBy e mine held cookie answers) (sym (flush_is held.peer.tag held (cookie_echo cookie ∷ []) answers))
+    (flush_controlled e (t1_goes_on e) [] [] (echo_emission held.peer.tag cookie) held.own_next answers (cookie_echoed mine held cookie) [] []
+    is refl (subst (λ (core : Core). IsPeerTag core held.peer.tag) (sym is) refl) h refl refl refl)
+echo_where false e mine held cookie answers is h = record { core = is; options = refl; signs = refl; effects = refl; following = refl }
 
-echo_where : (b allowed : Bool) (e : Endpoint) (mine : Pair) (held : Held) (cookie : List ℕ) → e.core ≡ cookie_echoed mine held cookie
-    → IsControlled e (if b then flushes_one allowed (t1_goes_on e) [] [] true held.peer.tag (cookie_echo cookie) else quiet (t1_goes_on e) [] [])
-    (t1_again_change e.options (cookie_echoed mine held cookie) (choosing e b allowed))
-echo_where true allowed e mine held cookie is =
-    subst (EchoedBy e mine cookie (flushes_one allowed (t1_goes_on e) [] [] true held.peer.tag (cookie_echo cookie)))
-    (sym (flush_of_one allowed held.peer.tag held (cookie_echo cookie))) (echo_allowed allowed e mine held cookie is)
-echo_where false allowed e mine held cookie is = record { core = is; options = refl; signs = refl; effects = refl; following = refl }
-
-again_at : (e : Endpoint) (core : Core) → e.core ≡ core → (choices : Choices) × IsControlled e (t1_again_outcome e core) (t1_again_change e.options core choices)
-again_at e closed is = (no_choices e true, record { core = is; options = refl; signs = refl; effects = refl; following = refl })
-again_at e (cookie_wait mine) is =
+again_at : (e : Endpoint) (core : Core) (answers : List Answer) → e.core ≡ core → AgainAnswers (t1_goes_on e) core answers
+    → (choices : Choices) × IsControlled e (t1_again_by (flush_answered answers) e core) (t1_again_change e.options core choices)
+again_at e closed answers is h = (no_choices e true, record { core = is; options = refl; signs = refl; effects = refl; following = refl })
+again_at e (cookie_wait mine) answers is h =
     let b = fits (t1_goes_on e) (init_emission (t1_goes_on e) mine) in (no_choices e b, init_where b e mine is)
-again_at e (cookie_echoed mine held cookie) is =
+again_at e (cookie_echoed mine held cookie) answers is h =
     let b = fits (t1_goes_on e) (echo_emission held.peer.tag cookie) in
-    let allowed = allows_packet e.options.max_burst in
-    (choosing e b allowed, echo_where b allowed e mine held cookie is)
-again_at e (open_in phase mine held) is = (no_choices e true, record { core = is; options = refl; signs = refl; effects = refl; following = refl })
+    (choosing e b answers, echo_where b e mine held cookie answers is h)
+again_at e (open_in phase mine held) answers is h = (no_choices e true, record { core = is; options = refl; signs = refl; effects = refl; following = refl })
 
 gives_up_at : (e : Endpoint) (core : Core) → e.core ≡ core → IsControlled e (t1_gives_up_outcome e core) (t1_gives_up_change core)
 gives_up_at e closed is = still_controlled e closed is
@@ -86,7 +62,7 @@ gives_up_at e (cookie_echoed mine held cookie) is = record { core = refl; option
 gives_up_at e (open_in phase mine held) is = still_controlled e (open_in phase mine held) is
 
 pub t1_again_controlled : (e : Endpoint) (o : Outcome) → T1AgainTurn e o → ControlledAct e (t1_expires true) o
-t1_again_controlled e o turn = subst (ControlledAct e (t1_expires true)) (sym (t1_again_turn_now e o turn)) (again_at e e.core refl)
+t1_again_controlled e o turn = subst (ControlledAct e (t1_expires true)) (sym turn.2) (again_at e e.core turn.0 refl turn.1)
 
 pub t1_gives_up_controlled : (e : Endpoint) (o : Outcome) → o ≡ t1_gives_up_outcome e e.core → ControlledAct e (t1_expires false) o
 t1_gives_up_controlled e o turn = subst (ControlledAct e (t1_expires false)) (sym turn) (no_choices e true, gives_up_at e e.core refl)
@@ -130,6 +106,8 @@ all_wait moment e timers later before = all_wait_of moment e timers (behind_next
 -- The clock moves no deadline.
 clock_keeps : (moment : ℕ) (e : Endpoint) (timer : Timer) → deadline (clock_at moment e) timer ≡ deadline e timer
 clock_keeps moment e t1_timer = refl
+clock_keeps moment e (own_timer acknowledgement_delay) = refl
+clock_keeps moment e (own_timer retransmission) = refl
 clock_keeps moment e (own_timer heartbeat_interval) = refl
 clock_keeps moment e (own_timer heartbeat_timeout) = refl
 
@@ -156,11 +134,19 @@ moved_alone e moment moved [] is rest =
     }
 moved_alone e moment moved (turn ∷ turns) is rest = absurd rest
 
+-- All that are worked have deadlines that count.
+all_told : (core : Core) → AwaitsNoCookieAck core → timers_told core ≡ timers_in core
+all_told closed awaits = refl
+all_told (cookie_wait mine) awaits = refl
+all_told (cookie_echoed mine held cookie) awaits = absurd awaits
+all_told (open_in phase mine held) awaits = refl
+
 quiet_moment : (e : Endpoint) (moment : ℕ) (turns : List Turned) → MomentTurns e moment turns → Waits e moment → MoveClock e moment turns
 quiet_moment e moment [] taken waits = absurd taken
 quiet_moment e moment (moved ∷ turns) taken waits =
     let due : DueTurns (clock_at moment e) turns = subst (λ (o : Outcome). DueTurns o.after turns) taken.0.comes taken.1 in
-    let wait : NoneIsDue (clock_at moment e) (timers_in e.core) = none_is_due moment e (timers_in e.core) waits.present waits.next in
+    let wait : NoneIsDue (clock_at moment e) (timers_in e.core) = none_is_due moment e (timers_in e.core) waits.present
+    (subst (λ (timers : List Timer). moment < next_of e.moment (deadlines_of e timers)) (all_told e.core waits.phase) waits.next) in
     let none : Turns (clock_at moment e) [] turns = all_rest (clock_at moment e) (timers_in e.core) turns wait due in
     moved_alone e moment moved turns taken.0.comes (subst (λ (o : Outcome). Turns o.after [] turns) (sym taken.0.comes) none)
 

@@ -1,5 +1,5 @@
 -- What a socket is between two turns (RFC 9260, sections 4 and 5).
-use Rattle.std.specs.Prelude.{ℕ, ◌+◌, ◌-◌, ◌*◌, ◌^◌, min, Bool, true, nat_le, if◌then◌else◌, Option, None, Some, List}
+use Rattle.std.specs.Prelude.{◌==◌, ℕ, ◌+◌, ◌-◌, ◌*◌, ◌^◌, min, Bool, true, nat_le, if◌then◌else◌, Option, None, Some, List}
 use Rattle.std.specs.Duration.{max_nanos, as_nanos}
 use Rattle.dcsctp_machine.specs.Transfer.{Below, nothing_below}
 use Rattle.dcsctp_machine.specs.declared.association.Pair.{Pair}
@@ -49,6 +49,13 @@ own_tag closed = 0
 own_tag (cookie_wait my) = my.tag
 own_tag (cookie_echoed my held cookie) = my.tag
 own_tag (open_in phase my held) = my.tag
+
+-- what is held of a peer
+abbrev pub held_in : Core → Option Held
+held_in closed = None
+held_in (cookie_wait my) = None
+held_in (cookie_echoed my held cookie) = Some held
+held_in (open_in phase my held) = Some held
 
 -- How a timer goes on once it has expired (RFC 9260, section 6.3.3). Durations are nanoseconds.
 pub record BackoffTerms : Type 0 where
@@ -171,6 +178,12 @@ pub record Endpoint : Type 0 where
   pub counts : Counts
   pub peer_implementation : SctpImplementation
   pub below : Below
+
+-- The heartbeat interval begins anew. One of zero switches heartbeats off.
+abbrev pub heartbeats_begun : Endpoint → Timers → Timers
+heartbeats_begun e timers =
+    if as_nanos e.options.heartbeat_interval == 0 then timers
+    else record timers { heartbeat_interval = started e.moment (heartbeat_settings e.options) }
 
 -- a socket that was just made
 abbrev pub fresh_endpoint : Options → Endpoint

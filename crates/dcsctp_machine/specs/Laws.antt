@@ -26,7 +26,7 @@ use Rattle.dcsctp_machine.specs.control.Choices.{Choices}
 use Rattle.dcsctp_machine.specs.control.ShutdownChanges.{reflected_change}
 use Rattle.dcsctp_machine.specs.Outcome.{Outcome, count_up}
 use Rattle.dcsctp_machine.specs.turns.HandshakeOutcomes.{InitTurn}
-use Rattle.dcsctp_machine.specs.turns.HeartbeatOutcomes.{OwnTimer}
+use Rattle.dcsctp_machine.specs.turns.OwnTimers.{OwnTimer}
 use Rattle.dcsctp_machine.specs.turns.FlushOutcomes.{Answer, FlushAnswers, flush_of, IsWithin, KeepsLimits}
 
 -- Two ends hold the same: the features are equal, and what comes in at one goes out at the other.

@@ -2,9 +2,11 @@
 use Rattle.std.specs.Prelude.{◌≡◌, ◌≤◌, ◌<◌, ℕ, min, max, Bool, true, false, nat_le, if◌then◌else◌, Option, None, Some, List, [], ◌∷◌}
 use Rattle.std.specs.Duration.{max_nanos}
 use Rattle.dcsctp_machine.specs.Endpoint.{Endpoint, Core, closed, cookie_wait, cookie_echoed, open_in, RunningTimer, is_restarted}
-use Rattle.dcsctp_machine.specs.control.Acts.{t1_expires, abort_with}
+use Rattle.dcsctp_machine.specs.control.Acts.{t1_expires, abort_with, flushes}
 use Rattle.dcsctp_machine.specs.declared.ends.AbortReason.TheVariants.{TooManyErrors}
-use Rattle.dcsctp_machine.specs.turns.HeartbeatOutcomes.{is_exhausted, OwnTimer, heartbeat_interval, heartbeat_timeout}
+use Rattle.dcsctp_machine.specs.Transfer.{Transfer}
+use Rattle.dcsctp_machine.specs.turns.HeartbeatOutcomes.{is_exhausted}
+use Rattle.dcsctp_machine.specs.turns.OwnTimers.{OwnTimer, acknowledgement_delay, retransmission, heartbeat_interval, heartbeat_timeout}
 use Rattle.dcsctp_machine.specs.Turn.{Input, act_input, timer_expires, time_passes, clock_at}
 use Rattle.dcsctp_machine.specs.CallTurns.{Turned, IsTurn, Turns, after_all, words_of, effects_of, events_of}
 
@@ -15,20 +17,39 @@ pub data Timer : Type 0 where
   t1_timer : Timer
   own_timer : OwnTimer → Timer
 
--- Those that are worked in a phase, in their order, and whose deadlines count.
+-- Those that are worked in a phase, in their order.
 abbrev pub timers_in : Core → List Timer
 timers_in closed = []
 timers_in (cookie_wait mine) = t1_timer ∷ []
-timers_in (cookie_echoed mine held cookie) = t1_timer ∷ []
-timers_in (open_in phase mine held) = own_timer heartbeat_interval ∷ own_timer heartbeat_timeout ∷ []
+timers_in (cookie_echoed mine held cookie) = own_timer acknowledgement_delay ∷ t1_timer ∷ []
+timers_in (open_in phase mine held) =
+    own_timer acknowledgement_delay ∷ own_timer retransmission ∷ own_timer heartbeat_interval ∷ own_timer heartbeat_timeout ∷ []
+
+-- Those whose deadlines count. While the COOKIE ECHO isn't answered it is T1 alone.
+abbrev pub timers_told : Core → List Timer
+timers_told closed = []
+timers_told (cookie_wait mine) = t1_timer ∷ []
+timers_told (cookie_echoed mine held cookie) = t1_timer ∷ []
+timers_told (open_in phase mine held) = timers_in (open_in phase mine held)
 
 -- when a timer expires next, where it runs
 abbrev pub deadline_of : Option RunningTimer → Option ℕ
 deadline_of None = None
 deadline_of (Some timer) = Some timer.deadline
 
+-- when an acknowledgement is delayed no longer, and when what is in flight is lost
+abbrev pub delay_deadline : Option Transfer → Option ℕ
+delay_deadline None = None
+delay_deadline (Some transfer) = transfer.tracker.delayed_acknowledgement
+
+abbrev pub loss_deadline : Option Transfer → Option ℕ
+loss_deadline None = None
+loss_deadline (Some transfer) = transfer.retransmission.deadline
+
 abbrev pub deadline : Endpoint → Timer → Option ℕ
 deadline e t1_timer = deadline_of e.timers.t1
+deadline e (own_timer acknowledgement_delay) = delay_deadline e.below.transfer
+deadline e (own_timer retransmission) = loss_deadline e.below.transfer
 deadline e (own_timer heartbeat_interval) = deadline_of e.timers.heartbeat_interval
 deadline e (own_timer heartbeat_timeout) = deadline_of e.timers.heartbeat_timeout
 
@@ -43,7 +64,7 @@ deadlines_of e (timer ∷ timers) = with_deadline (deadline e timer) (deadlines_
 
 -- the running deadlines that count
 abbrev pub deadlines : Endpoint → List ℕ
-deadlines e = deadlines_of e (timers_in e.core)
+deadlines e = deadlines_of e (timers_told e.core)
 
 -- the least of these
 abbrev pub earliest : ℕ → List ℕ → ℕ
@@ -76,17 +97,17 @@ abbrev pub expiry_input : Endpoint → Timer → Input
 expiry_input e t1_timer = act_input (t1_expires (has_restart e.timers.t1))
 expiry_input e (own_timer timer) = timer_expires timer
 
--- an own abort, where too many errors were counted (RFC 9260, section 8.1)
-abbrev pub error_inputs : Endpoint → List Input
-error_inputs e = if is_exhausted e.options.max_retransmissions e.error_count then act_input (abort_with TooManyErrors) ∷ [] else []
+-- an own abort, where too many errors were counted (RFC 9260, section 8.1); else these
+abbrev pub unless_exhausted : Endpoint → List Input → List Input
+unless_exhausted e inputs = if is_exhausted e.options.max_retransmissions e.error_count then act_input (abort_with TooManyErrors) ∷ [] else inputs
 
 -- What follows the timers where one has expired: a peer that is held, and that doesn't answer, is given up. Else what
--- waits goes out, but in CookieEchoed: nothing does so far.
+-- waits goes out, but in CookieEchoed.
 abbrev pub inputs_behind : Endpoint → Core → List Input
 inputs_behind e closed = []
 inputs_behind e (cookie_wait mine) = []
-inputs_behind e (cookie_echoed mine held cookie) = error_inputs e
-inputs_behind e (open_in phase mine held) = error_inputs e
+inputs_behind e (cookie_echoed mine held cookie) = unless_exhausted e []
+inputs_behind e (open_in phase mine held) = unless_exhausted e (act_input flushes ∷ [])
 
 abbrev pub after_expiries : Endpoint → Bool → List Input
 after_expiries e false = []
@@ -129,7 +150,7 @@ AdvanceTurns e moment turns = TimeTurns (nat_le e.moment moment) e moment turns
 
 -- ---- where nothing is due
 
--- No COOKIE ACK is awaited: where one is, what acknowledges data is to have a deadline that isn't told.
+-- No COOKIE ACK is awaited: where one is, what acknowledges data has a deadline that isn't told.
 abbrev pub AwaitsNoCookieAck : Core → Type 0
 AwaitsNoCookieAck closed = Unit {0}
 AwaitsNoCookieAck (cookie_wait mine) = Unit {0}

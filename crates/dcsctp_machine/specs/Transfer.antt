@@ -1,5 +1,6 @@
 -- The public values of the transfer layer: what waits to be sent, what is in flight, and what was received.
-use Rattle.std.specs.Prelude.{◌==◌, ℕ, ◌+◌, ◌-◌, ◌*◌, ◌%◌, ◌^◌, min, nat_lt, Bool, false, Option, None, Some, List, [], ◌∷◌, if◌then◌else◌}
+use Rattle.std.specs.List.{list_any}
+use Rattle.std.specs.Prelude.{◌==◌, ℕ, ◌+◌, ◌-◌, ◌*◌, ◌%◌, ◌^◌, min, nat_le, nat_lt, not, ◌&&◌, ◌||◌, Bool, true, false, Option, None, Some, is_some, List, [], ◌∷◌, map, if◌then◌else◌}
 use Rattle.std.specs.Duration.{as_nanos}
 use Rattle.dcsctp_machine.specs.declared.capabilities.Capabilities.{Capabilities}
 use Rattle.dcsctp_machine.specs.declared.options.Options.{Options}
@@ -25,6 +26,10 @@ pub record QueuedStream : Type 0 where
   -- The user is told where the amount falls to this.
   pub low_threshold : ℕ
   pub priority : ℕ
+  -- how many messages wait, with the one that is under way
+  pub messages : ℕ
+  -- Is it to be reset (RFC 6525, section 5.1.2)? Then none of its messages is begun.
+  pub is_paused : Bool
 
 -- What waits to be sent.
 pub record SendQueueState : Type 0 where
@@ -58,7 +63,8 @@ empty_queue options =
 
 -- a stream that was never used
 abbrev pub unused_stream : SendQueueState → ℕ → QueuedStream
-unused_stream queue id = record { stream = id; buffered_amount = 0; low_threshold = queue.default_threshold; priority = queue.default_priority }
+unused_stream queue id =
+    record { stream = id; buffered_amount = 0; low_threshold = queue.default_threshold; priority = queue.default_priority; messages = 0; is_paused = false }
 
 -- the stream of this number among these, or else this one
 abbrev pub stream_among : QueuedStream → ℕ → List QueuedStream → QueuedStream
@@ -96,9 +102,32 @@ begun_again queue (Some message) =
       under_way = None;
     }
 
+abbrev pub resumed : QueuedStream → QueuedStream
+resumed stream = record stream { is_paused = false }
+
 -- The message under way begins again, and no stream waits for a reset.
 abbrev pub queue_after_reset : SendQueueState → SendQueueState
-queue_after_reset queue = record (begun_again queue queue.under_way) { ready_streams = [] }
+queue_after_reset queue =
+    record (begun_again queue queue.under_way) { streams = map resumed (begun_again queue queue.under_way).streams; ready_streams = [] }
+
+-- ---- messages of it
+
+-- the stream with one more message, of so many bytes
+abbrev pub with_message : ℕ → QueuedStream → QueuedStream
+with_message bytes stream = record (with_more bytes stream) { messages = stream.messages + 1 }
+
+-- the queue with one more message of this stream
+abbrev pub queue_added : ℕ → ℕ → SendQueueState → SendQueueState
+queue_added id bytes queue =
+    record (queue_with (with_message bytes (queued_stream queue id)) queue) { total_buffered_amount = more_bytes queue.total_buffered_amount bytes }
+
+-- May a message of the stream be begun?
+abbrev pub may_begin : QueuedStream → Bool
+may_begin stream = if stream.is_paused then false else nat_lt 0 stream.messages
+
+-- Is there data to send: a message under way, or one that may be begun?
+abbrev pub has_data : SendQueueState → Bool
+has_data queue = if is_some queue.under_way then true else list_any may_begin queue.streams
 
 -- ---- what belongs to an association
 
@@ -109,8 +138,16 @@ pub record RetransmissionState : Type 0 where
   -- Do they go out as I-DATA (RFC 8260)?
   pub message_interleaving : Bool
   pub next_tsn : ℕ
-  -- sent, and neither acknowledged nor abandoned
+  -- sent, and the cumulative TSN ack hasn't passed them
+  pub outstanding_items : ℕ
+  -- of these, neither acknowledged nor abandoned
   pub unacknowledged_items : ℕ
+  -- of these, found lost: they wait to be sent again
+  pub marked_items : ℕ
+  -- chunk headers and padding included
+  pub bytes_in_flight : ℕ
+  -- Do lost items wait that are to go out at once (RFC 9260, section 7.2.4)?
+  pub has_fast_retransmit : Bool
   -- when the retransmission timer expires, where it runs
   pub deadline : Option ℕ
   -- the congestion window and the peer's receive window, in bytes
@@ -126,13 +163,30 @@ new_retransmission options partial_reliability message_interleaving first_tsn wi
       partial_reliability = partial_reliability;
       message_interleaving = message_interleaving;
       next_tsn = first_tsn;
+      outstanding_items = 0;
       unacknowledged_items = 0;
+      marked_items = 0;
+      bytes_in_flight = 0;
+      has_fast_retransmit = false;
       deadline = None;
       cwnd = min (options.cwnd_mtus_initial * options.mtu) (2 ^ 64 - 1);
       rwnd = window;
       packets_retransmitted = 0;
       bytes_retransmitted = 0;
     }
+
+-- May data be sent? So it may where less than the congestion window is in flight and something is left of the peer's window,
+-- or where nothing is in flight (RFC 9260, section 6.1).
+abbrev pub can_send : RetransmissionState → Bool
+can_send state = state.bytes_in_flight == 0 || (nat_lt state.bytes_in_flight state.cwnd && nat_lt 0 state.rwnd)
+
+-- the least that a chunk with data takes up: its header and one byte, padded (RFC 9260, section 3.3.1; RFC 8260, section 2.1)
+abbrev pub least_chunk : Bool → ℕ
+least_chunk message_interleaving = if message_interleaving then 24 else 20
+
+-- Is there a TSN that can still be told from those that are outstanding (RFC 9260, section 1.6)?
+abbrev pub has_free_tsn : RetransmissionState → Bool
+has_free_tsn state = nat_lt (state.outstanding_items + 1) (2 ^ 31)
 
 -- the retransmission timeout and the smoothed round trip, in nanoseconds (RFC 9260, section 6.3.1)
 pub record TimeoutState : Type 0 where
@@ -146,22 +200,42 @@ new_timeout options = record { rto = as_nanos options.rto_initial; srtt = as_nan
 -- Which TSNs were received.
 pub record TrackerState : Type 0 where
   pub cumulative_tsn : ℕ
+  -- An association takes 2^64 - 2^32 TSNs at most.
+  pub has_numbers_left : Bool
   -- when a delayed acknowledgement is due, where one is
   pub delayed_acknowledgement : Option ℕ
+  -- Is a SACK due at once?
+  pub is_acknowledgement_due : Bool
+  -- Did data come in that isn't acknowledged yet? Then a SACK may go along with other chunks (RFC 9260, section 6.1).
+  pub owes_acknowledgement : Bool
 
 -- nothing was received yet
 abbrev pub new_tracker : ℕ → TrackerState
-new_tracker peer_first_tsn = record { cumulative_tsn = (peer_first_tsn + (2 ^ 32 - 1)) % 2 ^ 32; delayed_acknowledgement = None }
+new_tracker peer_first_tsn =
+    record {
+      cumulative_tsn = (peer_first_tsn + (2 ^ 32 - 1)) % 2 ^ 32;
+      has_numbers_left = true;
+      delayed_acknowledgement = None;
+      is_acknowledgement_due = false;
+      owes_acknowledgement = false;
+    }
 
 -- What was received and not taken.
 pub record ReassemblyState : Type 0 where
   pub messages : List ReadyMessage
   pub messages_received : ℕ
-  -- what is left of the receive window, in bytes
+  -- the receive window, and what is left of it, in bytes
+  pub window : ℕ
   pub remaining_bytes : ℕ
 
 abbrev pub new_reassembly : Options → ReassemblyState
-new_reassembly options = record { messages = []; messages_received = 0; remaining_bytes = options.max_receiver_window_buffer_size }
+new_reassembly options =
+    record {
+      messages = [];
+      messages_received = 0;
+      window = options.max_receiver_window_buffer_size;
+      remaining_bytes = options.max_receiver_window_buffer_size;
+    }
 
 pub record Transfer : Type 0 where
   pub retransmission : RetransmissionState
@@ -190,6 +264,18 @@ pub record Below : Type 0 where
   pub queue : SendQueueState
   -- None: no peer is held
   pub transfer : Option Transfer
+
+-- Does data have to go into a packet that has so many bytes of room? Not where the windows don't allow, where a chunk that is
+-- sent again is too long for it, or where nothing waits that may go out.
+abbrev pub must_give : ℕ → SendQueueState → RetransmissionState → Bool
+must_give room queue state =
+    can_send state && state.marked_items == 0 && nat_le (least_chunk state.message_interleaving) room && has_free_tsn state && has_data queue
+
+-- Nothing waits, nothing is in flight, and nothing is to be acknowledged.
+abbrev pub is_idle : SendQueueState → Transfer → Bool
+is_idle queue transfer =
+    not (has_data queue) && transfer.retransmission.outstanding_items == 0
+    && not transfer.tracker.owes_acknowledgement && not transfer.tracker.is_acknowledgement_due
 
 -- as it is before any association or message
 abbrev pub nothing_below : Options → Below

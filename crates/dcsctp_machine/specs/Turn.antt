@@ -7,7 +7,9 @@ use Rattle.dcsctp_machine.specs.Outcome.{Outcome, still, count_up, reports}
 use Rattle.dcsctp_machine.specs.turns.HandshakeOutcomes.{InitTurn, ConnectTurn, InitAckTurn, CookieAckTurn}
 use Rattle.dcsctp_machine.specs.turns.CookieEchoOutcomes.{CookieEchoTurn}
 use Rattle.dcsctp_machine.specs.turns.EndOutcomes.{abort_outcome, aborting_outcome, ShutdownAckTurn, ShutdownCompleteTurn}
-use Rattle.dcsctp_machine.specs.turns.HeartbeatOutcomes.{OwnTimer, timer_outcome}
+use Rattle.dcsctp_machine.specs.turns.DataOutcomes.{FlushTurn, EndsBy, TakeTurn}
+use Rattle.dcsctp_machine.specs.turns.MessageOutcomes.{Sending, SendTurn}
+use Rattle.dcsctp_machine.specs.turns.OwnTimers.{OwnTimer, TimerTurn}
 use Rattle.dcsctp_machine.specs.turns.PlainOutcomes.{PlainTurn}
 use Rattle.dcsctp_machine.specs.turns.SettingOutcomes.{Setting, setting_outcome}
 use Rattle.dcsctp_machine.specs.turns.TimerOutcomes.{T1AgainTurn, t1_gives_up_outcome}
@@ -29,7 +31,11 @@ pub data Input : Type 0 where
   act_input : Act → Input
   -- The user sets something that the peer isn't told.
   user_sets : Setting → Input
-  -- A timer of an open association expires.
+  -- The user sends these messages.
+  user_sends : List Sending → Input
+  -- The user takes a message that came in.
+  user_takes : Input
+  -- A timer of an association expires.
   timer_expires : OwnTimer → Input
   -- The clock is moved to this moment.
   time_passes : ℕ → Input
@@ -55,9 +61,9 @@ abbrev pub BeginTurn : Endpoint → Core → Bool → Outcome → Type 0
 BeginTurn e (open_in shutdown_sent my held) true o = ControlledAct e shutdown_repeats o
 BeginTurn e core has o = o ≡ still e
 
--- The end of a packet: here what it acknowledges goes out, once data is received. Nothing does so far.
+-- The end of a packet: what came with it is acknowledged.
 abbrev pub EndTurn : Endpoint → Outcome → Type 0
-EndTurn e o = o ≡ still e
+EndTurn e o = EndsBy e e.below.transfer o
 
 -- What a chunk does. Where a chunk is said by the association alone, the rest of the endpoint is open.
 abbrev pub ContentTurn : Endpoint → ℕ → Content → Outcome → Type 0
@@ -82,7 +88,7 @@ ActTurn e step_of_shutdown o = ControlledAct e step_of_shutdown o
 ActTurn e shutdown_repeats o = ControlledAct e shutdown_repeats o
 ActTurn e (abort_with reason) o = o ≡ aborting_outcome e e.core reason
 ActTurn e hands_over o = ControlledAct e hands_over o
-ActTurn e flushes o = ControlledAct e flushes o
+ActTurn e flushes o = FlushTurn e o
 ActTurn e (request_again reset) o = ControlledAct e (request_again reset) o
 
 -- The clock stands at this moment, and nothing else happens.
@@ -97,5 +103,7 @@ Turn e (chunk_input tag content) o = ContentTurn e tag content o
 Turn e packet_ends o = EndTurn e o
 Turn e (act_input act) o = ActTurn e act o
 Turn e (user_sets setting) o = o ≡ setting_outcome e setting
-Turn e (timer_expires timer) o = o ≡ timer_outcome e timer
+Turn e (user_sends messages) o = SendTurn e messages o
+Turn e user_takes o = TakeTurn e e.below.transfer o
+Turn e (timer_expires timer) o = TimerTurn e timer o
 Turn e (time_passes moment) o = o ≡ still (clock_at moment e)

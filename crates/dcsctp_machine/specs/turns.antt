@@ -1,8 +1,12 @@
 pub mod CookieEchoOutcomes
+pub mod DataOutcomes
 pub mod EndOutcomes
 pub mod FlushOutcomes
 pub mod HandshakeOutcomes
 pub mod HeartbeatOutcomes
+pub mod MessageOutcomes
+pub mod OwnTimers
 pub mod PlainOutcomes
 pub mod SettingOutcomes
 pub mod TimerOutcomes
+pub mod TransferMoves

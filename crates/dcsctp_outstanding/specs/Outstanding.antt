@@ -29,6 +29,10 @@ next_tsn outstanding = tsn_at outstanding (length outstanding.items)
 abbrev pub distance_to : OutstandingModel → ℕ → ℕ
 distance_to outstanding tsn = (tsn + (2 ^ 32 - outstanding.first_tsn)) % 2 ^ 32
 
+-- The TSN of each item leads to its place.
+abbrev pub FindsPlaces : OutstandingModel → Type 0
+FindsPlaces outstanding = (place : ℕ) → place < length outstanding.items → distance_to outstanding (tsn_at outstanding place) ≡ place
+
 -- how many items the cumulative TSN acknowledges: 0 for the one before the first
 abbrev pub acknowledged_by : OutstandingModel → ℕ → ℕ
 acknowledged_by outstanding cumulative = distance_to outstanding ((cumulative + 1) % 2 ^ 32)

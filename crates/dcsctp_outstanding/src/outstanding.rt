@@ -49,11 +49,11 @@ impl Model for Outstanding {
 }
 
 impl Outstanding {
-    ghost use Rattle.std.specs.Prelude.{◌-◌, ◌%◌, ◌^◌, ◌↔◌, [], IsTrue, IfSome, IfNone, IfOk, Some, None, length, drop, slice_get};
+    ghost use Rattle.std.specs.Prelude.{◌<◌, ◌-◌, ◌%◌, ◌^◌, ◌↔◌, [], IsTrue, IfSome, IfNone, IfOk, Some, None, length, drop, slice_get};
     ghost use Rattle.dcsctp_outstanding.specs.Items.{size_of, bytes_in_flight, unacknowledged_bytes, unacknowledged_items, marked_items, changed_between};
     ghost use Rattle.dcsctp_outstanding.specs.Progress.{is_marked};
     ghost use Rattle.dcsctp_outstanding.specs.Next.{IsNextMarked, HasNone};
-    ghost use Rattle.dcsctp_outstanding.specs.Outstanding.{next_tsn, tsn_at, distance_to, TriesNext, IsMarkedAt, NoneMarkedBetween};
+    ghost use Rattle.dcsctp_outstanding.specs.Outstanding.{next_tsn, tsn_at, distance_to, FindsPlaces, TriesNext, IsMarkedAt, NoneMarkedBetween};
     ghost use Rattle.dcsctp_outstanding.specs.Handing.{TriesItem};
     ghost use Rattle.dcsctp_streams.specs.Telling.{contents};
 
@@ -127,8 +127,12 @@ impl Outstanding {
 
     /// How many places behind the first TSN this one is.
     pub fn distance_to(&self, tsn: u32) -> usize
-        ensures { result ≡ distance_to self.now tsn }
+        ensures value { result ≡ distance_to self.now tsn }
+        ensures places { FindsPlaces self.now }
+        ensures start { self.now.first_tsn < 2 ^ 32 }
     {
+        let len = self.items.len();
+        let _ = len;
         tsn.wrapping_sub(self.first_tsn) as usize
     }
 

@@ -61,7 +61,12 @@ can_count size queue = nat_lt (queued_bytes queue + size) (2 ^ 64)
 -- the public values
 abbrev pub reassembly_state : QueueModel → ReassemblyState
 reassembly_state queue =
-    record { messages = queue.incoming.ready; messages_received = queue.incoming.messages_received; remaining_bytes = queue.max_size - queued_bytes queue }
+    record {
+      messages = queue.incoming.ready;
+      messages_received = queue.incoming.messages_received;
+      window = queue.max_size;
+      remaining_bytes = queue.max_size - queued_bytes queue;
+    }
 
 -- nothing came in yet
 abbrev pub new_queue : ℕ → QueueModel

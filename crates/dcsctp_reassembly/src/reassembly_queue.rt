@@ -104,6 +104,7 @@ impl ReassemblyQueue {
         ensures shown { reassembly_state result ≡ record {
           messages = [];
           messages_received = 0;
+          window = max_size;
           remaining_bytes = max_size;
         } }
     {

@@ -15,7 +15,8 @@ use Rattle.dcsctp_machine.specs.CallTurns.{Turned, Turns, AfterChunk, ChunkTurns
 use Rattle.dcsctp_machine.specs.Admission.{shutdown_acks_in}
 use Rattle.dcsctp_machine.specs.Laws.{OfferReadsBack, FitsOwn, FitsContent, FitsTurns}
 use Rattle.dcsctp_machine.specs.Fitting.{AllSent, FitsCore, FitsEndpoint, Sendable, SendablePacket, TurnFits}
-use Rattle.dcsctp_refinement.proofs.TurnsFit.{still_fits, turn_fits}
+use Rattle.dcsctp_refinement.proofs.DataFits.{end_fits}
+use Rattle.dcsctp_refinement.proofs.TurnsFit.{turn_fits}
 
 -- ---- a packet in bytes
 
@@ -150,7 +151,7 @@ nothing_ends e (t ∷ ts) taken h = absurd taken
 
 pub packet_end_fits : EndFits (packet_ends ∷ [])
 packet_end_fits e [] taken h = absurd taken
-packet_end_fits e (t ∷ []) taken h = (subst TurnFits (sym taken.0.comes) (still_fits e h), tt)
+packet_end_fits e (t ∷ []) taken h = (end_fits e e.below.transfer t.outcome taken.0.comes h, tt)
 packet_end_fits e (t ∷ u ∷ ts) taken h = absurd taken.1
 
 -- the SHUTDOWN ACK chunks of a packet are among its chunks

@@ -10,23 +10,25 @@ use Rattle.dcsctp_machine.specs.declared.ends.AbortReason.TheVariants.{TooManyEr
 use Rattle.dcsctp_machine.specs.Packet.{heartbeat, plain}
 use Rattle.dcsctp_machine.specs.Endpoint.{Endpoint, Core, closed, cookie_wait, cookie_echoed, open_in, established, shutdown_pending, shutdown_sent, shutdown_received, shutdown_ack_sent}
 use Rattle.dcsctp_machine.specs.Outcome.{Outcome}
-use Rattle.dcsctp_machine.specs.Turn.{act_input, timer_expires}
+use Rattle.dcsctp_machine.specs.Turn.{Input, act_input, timer_expires}
 use Rattle.dcsctp_machine.specs.TimeTurns.{Timer, t1_timer, own_timer, deadline, has_come, has_restart, expiry_input, inputs_behind, after_expiries, ExpiryThen, ExpiryTurns}
 use Rattle.dcsctp_machine.specs.CallTurns.{Turned, IsTurn, Turns}
-use Rattle.dcsctp_machine.specs.turns.HeartbeatOutcomes.{is_exhausted, OwnTimer, heartbeat_interval, heartbeat_timeout, interval_expired, beating, heartbeat_emission, interval_outcome, timer_outcome}
-use Rattle.dcsctp_machine.specs.Controlled.{IsControlled, ControlledAct}
-use Rattle.dcsctp_machine.specs.control.Choices.{Choices}
+use Rattle.dcsctp_machine.specs.turns.HeartbeatOutcomes.{is_exhausted, interval_expired, beating, heartbeat_emission, interval_outcome}
+use Rattle.dcsctp_machine.specs.turns.OwnTimers.{OwnTimer, acknowledgement_delay, retransmission, heartbeat_interval, heartbeat_timeout, TimerTurn}
 use Rattle.dcsctp_machine.specs.control.Effect.{Effect, Change}
 use Rattle.dcsctp_machine.specs.control.Acts.{flushes, flush_change, abort_with, t1_expires, act_change}
 use Rattle.dcsctp_machine.specs.Fitting.{FitsHeld, FitsCore, FitsEndpoint, Sendable, TurnFits}
-use Rattle.dcsctp_machine.specs.World.{SideState, after_changes, acted, does}
+use Rattle.dcsctp_machine.specs.World.{SideState, after_changes, does}
 use Rattle.dcsctp_machine.specs.Sockets.{endpoint_after}
+use Rattle.dcsctp_machine.proofs.DataLemmas.{flushed_act, flush_turn_at}
 use Rattle.dcsctp_machine.proofs.HeartbeatLemmas.{timer_controlled}
 use Rattle.dcsctp_refinement.proofs.Bytes.{in_four}
+use Rattle.dcsctp_refinement.proofs.DataFits.{flush_turn_fits, delay_fits, loss_fits}
+use Rattle.dcsctp_refinement.proofs.FlushMoves.{FlushFollows, flush_follows}
 use Rattle.dcsctp_refinement.proofs.TurnsFit.{emits_fit}
-use Rattle.dcsctp_refinement.proofs.Follow.{Followed, after_last, follow_turns}
+use Rattle.dcsctp_refinement.proofs.Follow.{Followed, after_last}
 use Rattle.dcsctp_refinement.proofs.TimeMoves.{T1Follows, t1_follows}
-use Rattle.dcsctp_refinement.proofs.Moves.{Below, SideMoves, moves_then, none_rests}
+use Rattle.dcsctp_refinement.proofs.Moves.{Below, SideMoves, moves_then, flush_moves, none_rests}
 
 -- ---- what goes out fits
 
@@ -50,14 +52,13 @@ interval_fits e (open_in shutdown_sent my held) h own = absurd own
 interval_fits e (open_in shutdown_received my held) h own = absurd own
 interval_fits e (open_in shutdown_ack_sent my held) h own = absurd own
 
-timer_fits : (e : Endpoint) (timer : OwnTimer) → FitsEndpoint e → TurnFits (timer_outcome e timer)
-timer_fits e heartbeat_interval h = interval_fits e e.core h h.core
-timer_fits e heartbeat_timeout h = record { after = record { valid = h.valid; options = h.options; core = h.core; t1 = h.t1 }; sends = tt }
+timer_fits : (e : Endpoint) (timer : OwnTimer) (o : Outcome) → TimerTurn e timer o → FitsEndpoint e → TurnFits o
+timer_fits e acknowledgement_delay o turn h = subst TurnFits (sym turn) (delay_fits e e.below.transfer h)
+timer_fits e retransmission o turn h = loss_fits e e.below.transfer o turn h
+timer_fits e heartbeat_interval o turn h = subst TurnFits (sym turn) (interval_fits e e.core h h.core)
+timer_fits e heartbeat_timeout o turn h = subst TurnFits (sym turn) (record { after = record { valid = h.valid; options = h.options; core = h.core; t1 = h.t1 }; sends = tt })
 
 -- ---- one expiry, and what follows it
-
-flush_at : Endpoint → Outcome → Choices → Core → Type 0
-flush_at e o choices core = IsControlled e o (flush_change core choices)
 
 -- what may come behind so many turns, from wherever the side stands then
 abbrev MovesBehind : Options → List Turned → List Effect → List Turned → Type 0
@@ -65,17 +66,12 @@ MovesBehind options turns theirs more = (side : SideState) → Followed options 
 
 own_moves : Below → (options : Options) (turns : List Turned) (side : SideState) (theirs : List Effect) (timer : OwnTimer) (t : Turned) (more : List Turned) → Followed options turns side
     → IsTurn (endpoint_after options turns) (timer_expires timer) t → MovesBehind options (turns ++ t ∷ []) theirs more → SideMoves options turns side theirs (t ∷ more)
-unfolding flush_at
 own_moves law options turns side theirs timer t more h turn rest =
     let e : Endpoint = endpoint_after options turns in
-    let controlled : ControlledAct e flushes t.outcome = timer_controlled e timer t.outcome turn.comes in
-    let choices : Choices = controlled.0 in
-    let same : flush_at e t.outcome choices side.core = subst (flush_at e t.outcome choices) (sym h.core) controlled.1 in
-    let change : Change = flush_change side.core choices in
-    let fits : TurnFits t.outcome = subst TurnFits (sym turn.comes) (timer_fits e timer h.fits) in
-    moves_then options turns side theirs (t ∷ []) more (does flushes) (change ∷ []) (choices, refl)
-    (rest (after_changes side (change ∷ []))
-    (follow_turns law.effects_mean options turns side (t ∷ []) (change ∷ []) h (acted flushes choices refl, tt) (same, tt) (fits, tt)))
+    let followed : FlushFollows options turns side t =
+    flush_follows law.effects_mean options turns side t h (timer_controlled e timer t.outcome turn.comes) (timer_fits e timer t.outcome turn.comes h.fits) in
+    let change : Change = flush_change side.core followed.choices in
+    moves_then options turns side theirs (t ∷ []) more (does flushes) (change ∷ []) (followed.choices, refl) (rest (after_changes side (change ∷ [])) followed.follows)
 
 t1_moves : Below → (options : Options) (turns : List Turned) (side : SideState) (theirs : List Effect) (again : Bool) (t : Turned) (more : List Turned) → Followed options turns side
     → IsTurn (endpoint_after options turns) (act_input (t1_expires again)) t → MovesBehind options (turns ++ t ∷ []) theirs more → SideMoves options turns side theirs (t ∷ more)
@@ -98,24 +94,37 @@ AbortMoves options theirs =
     (turns : List Turned) (side : SideState) (more : List Turned) → Followed options turns side
     → Turns (endpoint_after options turns) (act_input (abort_with TooManyErrors) ∷ []) more → SideMoves options turns side theirs more
 
-many_moves : (options : Options) (turns : List Turned) (side : SideState) (theirs : List Effect) (many : Bool) (more : List Turned) → AbortMoves options theirs → Followed options turns side
-    → Turns (endpoint_after options turns) (if many then act_input (abort_with TooManyErrors) ∷ [] else []) more → SideMoves options turns side theirs more
-many_moves options turns side theirs true more aborts h taken = aborts turns side more h taken
-many_moves options turns side theirs false more aborts h taken = none_rests options turns side theirs more h taken
+-- a flush behind the timers
+flush_behind : Below → (options : Options) (turns : List Turned) (side : SideState) (theirs : List Effect) (more : List Turned) → Followed options turns side
+    → Turns (endpoint_after options turns) (act_input flushes ∷ []) more → SideMoves options turns side theirs more
+flush_behind law options turns side theirs [] h taken = absurd taken
+flush_behind law options turns side theirs (t ∷ []) h taken =
+    let e : Endpoint = endpoint_after options turns in
+    flush_moves law options turns side theirs t h (flushed_act e t.outcome (flush_turn_at e t.outcome taken.0.comes)) (flush_turn_fits e t.outcome taken.0.comes h.fits)
+flush_behind law options turns side theirs (t ∷ next ∷ more) h taken = absurd taken.1
 
-behind_moves : (options : Options) (turns : List Turned) (side : SideState) (theirs : List Effect) (core : Core) (more : List Turned) → AbortMoves options theirs → Followed options turns side
+-- These inputs, unless too many errors were counted.
+many_moves : (options : Options) (turns : List Turned) (side : SideState) (theirs : List Effect) (many : Bool) (inputs : List Input) (more : List Turned) → AbortMoves options theirs
+    → Followed options turns side → (Turns (endpoint_after options turns) inputs more → SideMoves options turns side theirs more)
+    → Turns (endpoint_after options turns) (if many then act_input (abort_with TooManyErrors) ∷ [] else inputs) more → SideMoves options turns side theirs more
+many_moves options turns side theirs true inputs more aborts h others taken = aborts turns side more h taken
+many_moves options turns side theirs false inputs more aborts h others taken = others taken
+
+behind_moves : Below → (options : Options) (turns : List Turned) (side : SideState) (theirs : List Effect) (core : Core) (more : List Turned) → AbortMoves options theirs → Followed options turns side
     → Turns (endpoint_after options turns) (inputs_behind (endpoint_after options turns) core) more → SideMoves options turns side theirs more
-behind_moves options turns side theirs closed more aborts h taken = none_rests options turns side theirs more h taken
-behind_moves options turns side theirs (cookie_wait my) more aborts h taken = none_rests options turns side theirs more h taken
-behind_moves options turns side theirs (cookie_echoed my held cookie) more aborts h taken =
-    many_moves options turns side theirs (is_exhausted (endpoint_after options turns).options.max_retransmissions (endpoint_after options turns).error_count) more aborts h taken
-behind_moves options turns side theirs (open_in phase my held) more aborts h taken =
-    many_moves options turns side theirs (is_exhausted (endpoint_after options turns).options.max_retransmissions (endpoint_after options turns).error_count) more aborts h taken
+behind_moves law options turns side theirs closed more aborts h taken = none_rests options turns side theirs more h taken
+behind_moves law options turns side theirs (cookie_wait my) more aborts h taken = none_rests options turns side theirs more h taken
+behind_moves law options turns side theirs (cookie_echoed my held cookie) more aborts h taken =
+    many_moves options turns side theirs (is_exhausted (endpoint_after options turns).options.max_retransmissions (endpoint_after options turns).error_count) [] more aborts h
+    (none_rests options turns side theirs more h) taken
+behind_moves law options turns side theirs (open_in phase my held) more aborts h taken =
+    many_moves options turns side theirs (is_exhausted (endpoint_after options turns).options.max_retransmissions (endpoint_after options turns).error_count) (act_input flushes ∷ []) more aborts h
+    (flush_behind law options turns side theirs more h) taken
 
-after_moves_of : (options : Options) (turns : List Turned) (side : SideState) (theirs : List Effect) (has_expired : Bool) (more : List Turned) → AbortMoves options theirs → Followed options turns side
+after_moves_of : Below → (options : Options) (turns : List Turned) (side : SideState) (theirs : List Effect) (has_expired : Bool) (more : List Turned) → AbortMoves options theirs → Followed options turns side
     → Turns (endpoint_after options turns) (after_expiries (endpoint_after options turns) has_expired) more → SideMoves options turns side theirs more
-after_moves_of options turns side theirs false more aborts h taken = none_rests options turns side theirs more h taken
-after_moves_of options turns side theirs true more aborts h taken = behind_moves options turns side theirs (endpoint_after options turns).core more aborts h taken
+after_moves_of law options turns side theirs false more aborts h taken = none_rests options turns side theirs more h taken
+after_moves_of law options turns side theirs true more aborts h taken = behind_moves law options turns side theirs (endpoint_after options turns).core more aborts h taken
 
 -- what comes of the timers that are left
 abbrev ExpiriesMove : Options → List Effect → List Timer → Type 0
@@ -134,7 +143,7 @@ next_moves law options theirs timer timers rest true turns side has_expired (t �
 next_moves law options theirs timer timers rest false turns side has_expired more h taken = rest turns side has_expired more h taken
 
 pub expiries_move : Below → (options : Options) (theirs : List Effect) (timers : List Timer) → AbortMoves options theirs → ExpiriesMove options theirs timers
-expiries_move law options theirs [] aborts turns side has_expired more h taken = after_moves_of options turns side theirs has_expired more aborts h taken
+expiries_move law options theirs [] aborts turns side has_expired more h taken = after_moves_of law options turns side theirs has_expired more aborts h taken
 expiries_move law options theirs (timer ∷ timers) aborts turns side has_expired more h taken =
     let e : Endpoint = endpoint_after options turns in
     next_moves law options theirs timer timers (expiries_move law options theirs timers aborts) (has_come e.moment (deadline e timer)) turns side has_expired more h taken

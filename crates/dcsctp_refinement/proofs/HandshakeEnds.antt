@@ -15,7 +15,8 @@ use Rattle.dcsctp_machine.specs.Endpoint.{Endpoint, Core, closed, cookie_echoed,
 use Rattle.dcsctp_machine.specs.Outcome.{Outcome, noting, quiet, sends, counted}
 use Rattle.dcsctp_machine.specs.Turn.{act_input}
 use Rattle.dcsctp_machine.specs.turns.HandshakeOutcomes.{pair_from, echo_emission, connected_after}
-use Rattle.dcsctp_machine.specs.turns.CookieEchoOutcomes.{established_by, interleaves, resolved_outcome, cookie_echo_outcome}
+use Rattle.dcsctp_machine.specs.turns.CookieEchoOutcomes.{established_by, interleaves, queue_kept, EstablishAnswers, ResolvedAnswers, EchoedAnswers, resolved_by, cookie_echo_by, establish_outcome}
+use Rattle.dcsctp_machine.specs.turns.FlushOutcomes.{FlushKind, flush_answered}
 use Rattle.dcsctp_machine.specs.control.CookieEchoChanges.{held_by_cookie, case_without_peer}
 use Rattle.dcsctp_machine.specs.control.HandshakeChanges.{introduction_of, new_held, held_by_init_ack}
 use Rattle.dcsctp_machine.specs.control.Acts.{connect}
@@ -24,7 +25,7 @@ use Rattle.dcsctp_machine.specs.CallTurns.{Turned, turned, Turns, HandleInput}
 use Rattle.dcsctp_machine.specs.Admission.{all_chunks, admits, admitted_where, admits_by, wrong_tag_text}
 use Rattle.dcsctp_machine.specs.Laws.{FitsPair}
 use Rattle.dcsctp_machine.specs.Sockets.{endpoint_after, packets_shown, numbered, DeliveryTurns}
-use Rattle.dcsctp_machine.proofs.FlushLemmas.{cookie_echo_turn_now, cookie_ack_turn_now}
+use Rattle.dcsctp_machine.proofs.FlushLemmas.{establish_now, cookie_ack_turn_now}
 use Rattle.dcsctp_refinement.specs.Handshake.{IsConnected}
 use Rattle.dcsctp_refinement.proofs.Bytes.{length_of_cookie, in_cookie}
 use Rattle.dcsctp_refinement.proofs.HandshakeReads.{counted_at, delivered, IsTaken, Taken, taken}
@@ -62,7 +63,7 @@ pub record Establishes (a b : Options) (p q : Pair) (turns : List Turned) : Type
   pub tie : ℕ
   pub only : turns ≡ delivered (answered b) q.tag (cookie_echo (cookie_bytes (made_cookie a p q))) (establishing a b p q tie)
 
-cookie_reads : HandshakeLaws → (a : Options) (p q : Pair) → Good a → FitsPair p → FitsPair q → cookie_at (cookie_bytes (made_cookie a p q)) ≡ Ok (made_cookie a p q)
+pub cookie_reads : HandshakeLaws → (a : Options) (p q : Pair) → Good a → FitsPair p → FitsPair q → cookie_at (cookie_bytes (made_cookie a p q)) ≡ Ok (made_cookie a p q)
 cookie_reads law a p q good mine own =
     law.cookies (made_cookie a p q)
     (record {
@@ -75,23 +76,33 @@ cookie_reads law a p q good mine own =
       tie = omega arith;
     })
 
-pub establish_sends : HandshakeLaws → (a b : Options) (p q : Pair) (tie : ℕ) → Good a → Good b → FitsPair p → FitsPair q
-    → cookie_echo_outcome (echoed b) closed q.tag (cookie_at (cookie_bytes (made_cookie a p q))) tie ≡ establishing a b p q tie
-establish_sends law a b p q tie good_a good_b mine own =
+-- its COOKIE ACK goes out
+pub established_sends : (a b : Options) (p q : Pair) (tie : ℕ) → Good b
+    → establish_outcome (echoed b) (made_cookie a p q) (queue_kept (echoed b) (made_cookie a p q)) tie (connected ∷ []) ≡ establishing a b p q tie
+established_sends a b p q tie good =
     let e : Endpoint = echoed b in
     let cookie : Cookie = made_cookie a p q in
-    let after : Endpoint = established_by e cookie (record e.below.queue { is_interleaved = interleaves e cookie }) tie in
-    ap (λ (found : Result Cookie (List ℕ)). cookie_echo_outcome e closed q.tag found tie) (cookie_reads law a p q good_a mine own)
-    ∙ ap (λ (x : Bool). resolved_outcome e cookie closed tie (case_without_peer x)) (same_tag q.tag)
-    ∙ ap (λ (x : Bool). noting (established_effects a b p q) (cond x (sends after (U64 tie ∷ []) (connected ∷ []) (acknowledgement a b p q)) (quiet after (U64 tie ∷ []) (connected ∷ [])))) good_b.allow.burst
+    let after : Endpoint = established_by e cookie (queue_kept e cookie) tie in
+    ap (λ (x : Bool). noting (established_effects a b p q) (cond x (sends after (U64 tie ∷ []) (connected ∷ []) (acknowledgement a b p q)) (quiet after (U64 tie ∷ []) (connected ∷ [])))) good.allow.burst
 
 establishes_by : HandshakeLaws → (a b : Options) (p q : Pair) (turns : List Turned) → Good a → Good b → FitsPair p → FitsPair q
     → Taken (answered b) q.tag (cookie_echo (cookie_bytes (made_cookie a p q))) turns → Establishes a b p q turns
 establishes_by law a b p q turns good_a good_b mine own h =
     let e : Endpoint = echoed b in
-    let bytes : List ℕ = cookie_bytes (made_cookie a p q) in
-    let now : (word : ℕ) × (h.outcome ≡ cookie_echo_outcome e e.core q.tag (cookie_at bytes) word) = cookie_echo_turn_now e q.tag bytes h.outcome h.comes in
-    record { tie = now.0; only = taken_as (answered b) q.tag (cookie_echo bytes) turns h _ (now.1 ∙ establish_sends law a b p q now.0 good_a good_b mine own) refl }
+    let cookie : Cookie = made_cookie a p q in
+    let bytes : List ℕ = cookie_bytes cookie in
+    let word : ℕ = h.comes.0 in
+    let flush : FlushKind = flush_answered h.comes.1 in
+    let reads : cookie_at bytes ≡ Ok cookie = cookie_reads law a p q good_a mine own in
+    let allowed : EstablishAnswers e cookie (queue_kept e cookie) word h.comes.1 =
+    subst (λ (x : Bool). ResolvedAnswers e cookie closed word (case_without_peer x) h.comes.1) (same_tag q.tag)
+    (subst (λ (found : Result Cookie (List ℕ)). EchoedAnswers e closed q.tag found word h.comes.1) reads h.comes.2) in
+    let is : h.outcome ≡ establish_outcome e cookie (queue_kept e cookie) word (connected ∷ []) =
+    h.comes.3
+    ∙ ap (λ (found : Result Cookie (List ℕ)). cookie_echo_by flush e closed q.tag found word) reads
+    ∙ ap (λ (x : Bool). resolved_by flush e cookie closed word (case_without_peer x)) (same_tag q.tag)
+    ∙ establish_now e cookie (queue_kept e cookie) word (connected ∷ []) h.comes.1 refl allowed in
+    record { tie = word; only = taken_as (answered b) q.tag (cookie_echo bytes) turns h _ (is ∙ established_sends a b p q word good_b) refl (refl, refl) }
 
 pub echo_is_taken : (a b : Options) (p q : Pair) → Good a → FitsPair q → a.remote_port ≡ b.local_port → IsTaken b a true q.tag (cookie_echo (cookie_bytes (made_cookie a p q)))
 echo_is_taken a b p q good own port =
@@ -145,7 +156,8 @@ connects_last law a b p q tie turns good mine port input =
     let h : Taken (awaited a b p q tie) p.tag cookie_ack turns =
     taken law.wire (awaited a b p q tie) b (acknowledgement a b p q).with_checksum p.tag cookie_ack turns (ack_is_taken a b p q good mine port)
     (ack_admitted (cookie_echoed p (held_here a b p q) (cookie_bytes (made_cookie a p q))) p.tag refl mine.tag_is_not_zero) (λ e o rests. rests) input in
-    taken_as (awaited a b p q tie) p.tag cookie_ack turns h _ (cookie_ack_turn_now (counted_at (awaited a b p q tie)) h.outcome h.comes) refl
+    taken_as (awaited a b p q tie) p.tag cookie_ack turns h _
+    (cookie_ack_turn_now (counted_at (awaited a b p q tie)) p (held_here a b p q) (cookie_bytes (made_cookie a p q)) h.outcome refl refl h.comes) refl (refl, refl)
 
 -- ---- in turn
 

@@ -13,6 +13,7 @@ use Rattle.dcsctp_machine.specs.CallTurns.{Turned, turned, Turns, AfterChunk, Ch
 use Rattle.dcsctp_machine.specs.Admission.{Admission, all_chunks, admits}
 use Rattle.dcsctp_machine.specs.Fitting.{SendablePacket}
 use Rattle.dcsctp_refinement.proofs.Deliver.{built, fields_fit, reads_as_sent}
+use Rattle.dcsctp_refinement.proofs.Idle.{OwesNothing, ends_still}
 
 -- the laws of the wire
 pub record Wire : Type 0 where
@@ -54,30 +55,31 @@ delivered e tag content o =
     ∷ turned packet_ends (still o.after)
     ∷ []
 
--- What comes of the packet: the chunk's turn among them, with the others as they have to be, where its rest isn't dropped.
+-- What comes of the packet: the chunk's turn among them, with the others as they have to be, where its rest isn't dropped and
+-- nothing is to be acknowledged.
 pub record Taken (e : Endpoint) (tag : ℕ) (content : Content) (turns : List Turned) : Type 0 where
   pub outcome : Outcome
   pub comes : ContentTurn (counted_at e) tag content outcome
-  pub only : outcome.following ≡ next_chunk → turns ≡ delivered e tag content outcome
+  pub only : outcome.following ≡ next_chunk → OwesNothing outcome.after.below.transfer → turns ≡ delivered e tag content outcome
 
-ended_as : (e : Endpoint) (turns : List Turned) → Turns e (packet_ends ∷ []) turns → turns ≡ turned packet_ends (still e) ∷ []
-ended_as e [] turns = absurd turns
-ended_as e (t ∷ []) turns = ap (λ (x : Turned). x ∷ []) (turned_as t packet_ends (still e) turns.0.is turns.0.comes)
-ended_as e (t ∷ u ∷ ts) turns = absurd turns.1
+ended_as : (e : Endpoint) (turns : List Turned) → OwesNothing e.below.transfer → Turns e (packet_ends ∷ []) turns → turns ≡ turned packet_ends (still e) ∷ []
+ended_as e [] owes turns = absurd turns
+ended_as e (t ∷ []) owes turns = ap (λ (x : Turned). x ∷ []) (turned_as t packet_ends (still e) turns.0.is (ends_still e t.outcome owes turns.0.comes))
+ended_as e (t ∷ u ∷ ts) owes turns = absurd turns.1
 
 -- the end of the packet behind the one chunk
-behind_chunk : (t : Turned) (tag : ℕ) (turns : List Turned) → t.outcome.following ≡ next_chunk
+behind_chunk : (t : Turned) (tag : ℕ) (turns : List Turned) → t.outcome.following ≡ next_chunk → OwesNothing t.outcome.after.below.transfer
     → AfterChunk t.outcome.following (ChunkTurns t.outcome.after tag [] (packet_ends ∷ []) turns) (Turns t.outcome.after (packet_ends ∷ []) turns) (turns ≡ [])
     → turns ≡ turned packet_ends (still t.outcome.after) ∷ []
-behind_chunk t tag turns goes_on rest =
-    ended_as t.outcome.after turns
+behind_chunk t tag turns goes_on owes rest =
+    ended_as t.outcome.after turns owes
     (subst (λ (f : Following). AfterChunk f (ChunkTurns t.outcome.after tag [] (packet_ends ∷ []) turns) (Turns t.outcome.after (packet_ends ∷ []) turns) (turns ≡ [])) goes_on rest)
 
 -- one chunk, and the end
 pub record OneChunk (e : Endpoint) (tag : ℕ) (content : Content) (turns : List Turned) : Type 0 where
   pub outcome : Outcome
   pub comes : ContentTurn e tag content outcome
-  pub only : outcome.following ≡ next_chunk → turns ≡ turned (chunk_input tag content) outcome ∷ turned packet_ends (still outcome.after) ∷ []
+  pub only : outcome.following ≡ next_chunk → OwesNothing outcome.after.below.transfer → turns ≡ turned (chunk_input tag content) outcome ∷ turned packet_ends (still outcome.after) ∷ []
 
 one_chunk : (e : Endpoint) (tag : ℕ) (content : Content) (turns : List Turned) → ChunkTurns e tag (content ∷ []) (packet_ends ∷ []) turns → OneChunk e tag content turns
 one_chunk e tag content [] turns = absurd turns
@@ -85,8 +87,8 @@ one_chunk e tag content (t ∷ ts) turns =
     record {
       outcome = t.outcome;
       comes = turns.0.comes;
-      only = λ goes_on. ap (λ (x : Turned). x ∷ ts) (turned_as t (chunk_input tag content) t.outcome turns.0.is refl)
-          ∙ ap (λ (xs : List Turned). turned (chunk_input tag content) t.outcome ∷ xs) (behind_chunk t tag ts goes_on turns.1);
+      only = λ goes_on owes. ap (λ (x : Turned). x ∷ ts) (turned_as t (chunk_input tag content) t.outcome turns.0.is refl)
+          ∙ ap (λ (xs : List Turned). turned (chunk_input tag content) t.outcome ∷ xs) (behind_chunk t tag ts goes_on owes turns.1);
     }
 
 -- nothing stands before the chunk
@@ -104,8 +106,8 @@ worked_alone e tag content counted (begun ∷ ts) is rests turns =
     record {
       outcome = h.outcome;
       comes = subst (λ (t : Turned). ContentTurn t.outcome.after tag content h.outcome) is h.comes;
-      only = λ goes_on.
-          ap (λ (xs : List Turned). counted ∷ begun ∷ xs) (h.only goes_on)
+      only = λ goes_on owes.
+          ap (λ (xs : List Turned). counted ∷ begun ∷ xs) (h.only goes_on owes)
           ∙ ap (λ (t : Turned). counted ∷ t ∷ turned (chunk_input tag content) h.outcome ∷ turned packet_ends (still h.outcome.after) ∷ []) first
           ∙ ap (λ (t : Turned). t ∷ turned (packet_begins (content ∷ [])) (still t.outcome.after) ∷ turned (chunk_input tag content) h.outcome ∷ turned packet_ends (still h.outcome.after) ∷ []) is;
     }

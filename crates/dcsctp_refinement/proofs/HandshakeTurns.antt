@@ -1,6 +1,6 @@
 -- The five calls of a handshake between two fitting sockets, one after another. The one that connects has the options
 -- a and the pair p, the other the options b and the pair q.
-use Rattle.std.proofs.Common.{◌≡◌, ◌≢◌, ◌≤◌, ℕ, Bool, true, false, cond, eqb, Option, None, Some, List, [], ◌∷◌, ◌⊎◌, inl, inr, refl, sym, ap, ◌∙◌, arith}
+use Rattle.std.proofs.Common.{◌≡◌, ◌≢◌, ◌≤◌, ℕ, Bool, true, false, cond, eqb, None, Some, List, [], ◌∷◌, ◌⊎◌, inl, inr, refl, sym, subst, ap, ◌∙◌, arith}
 use Rattle.std.proofs.lemmas.Bool.Decides.{nat_tests}
 use Rattle.dcsctp_machine.specs.declared.association.Pair.{Pair}
 use Rattle.dcsctp_machine.specs.declared.options.Options.{Options}
@@ -25,6 +25,7 @@ use Rattle.dcsctp_machine.specs.Laws.{FitsPair, AnswerKeepsAgreement, CookieRead
 use Rattle.dcsctp_machine.proofs.FlushLemmas.{init_ack_turn_now}
 use Rattle.dcsctp_refinement.specs.Handshake.{AllowHandshake}
 use Rattle.dcsctp_refinement.proofs.HandshakeReads.{counted_at, delivered, turned_as, Wire, IsTaken, Taken, taken}
+use Rattle.dcsctp_refinement.proofs.Idle.{OwesNothing}
 use Rattle.dcsctp_refinement.proofs.HandshakeSizes.{init_fits, init_ack_fits, echo_fits}
 use Rattle.dcsctp_refinement.proofs.Sendable.{init_sendable, init_ack_sendable}
 
@@ -115,16 +116,16 @@ answer_sends a b p word next large =
 
 -- where the chunk's outcome is known
 pub taken_as : (e : Endpoint) (tag : ℕ) (content : Content) (turns : List Turned) (h : Taken e tag content turns) (o : Outcome) → h.outcome ≡ o → o.following ≡ next_chunk
-    → turns ≡ delivered e tag content o
-taken_as e tag content turns h o is goes_on =
-    h.only (ap (λ (x : Outcome). x.following) is ∙ goes_on) ∙ ap (λ (x : Outcome). delivered e tag content x) is
+    → OwesNothing o.after.below.transfer → turns ≡ delivered e tag content o
+taken_as e tag content turns h o is goes_on owes =
+    h.only (ap (λ (x : Outcome). x.following) is ∙ goes_on) (subst (λ (x : Outcome). OwesNothing x.after.below.transfer) (sym is) owes) ∙ ap (λ (x : Outcome). delivered e tag content x) is
 
 answers_by : (a b : Options) (p : Pair) (turns : List Turned) → Good b → Taken (fresh_endpoint b) 0 (init (introduction_of a p)) turns → Answers a b p turns
 answers_by a b p turns good h =
     record {
       word = h.comes.0;
       next = h.comes.1;
-      only = taken_as (fresh_endpoint b) 0 (init (introduction_of a p)) turns h _ (h.comes.2 ∙ answer_sends a b p h.comes.0 h.comes.1 good.allow.mtu) refl;
+      only = taken_as (fresh_endpoint b) 0 (init (introduction_of a p)) turns h _ (h.comes.2 ∙ answer_sends a b p h.comes.0 h.comes.1 good.allow.mtu) refl tt;
     }
 
 pub init_is_taken : HandshakeLaws → (a b : Options) (p : Pair) → Good a → FitsPair p → a.remote_port ≡ b.local_port → IsTaken b a true 0 (init (introduction_of a p))
@@ -181,9 +182,10 @@ echoes_by : (a b : Options) (p q : Pair) (turns : List Turned) → Good a
     → Taken (waiting a p) p.tag (init_ack (answer_to a b p q) (Some (cookie_bytes (made_cookie a p q)))) turns → Echoes a b p q turns
 echoes_by a b p q turns good h =
     let e : Endpoint = counted_at (waiting a p) in
-    let cookie : Option (List ℕ) = Some (cookie_bytes (made_cookie a p q)) in
-    let now : (word : ℕ) × (h.outcome ≡ init_ack_outcome e (answer_to a b p q) cookie e.core word) = init_ack_turn_now e (answer_to a b p q) cookie h.outcome h.comes in
-    record { tie = now.0; only = taken_as (waiting a p) p.tag (init_ack (answer_to a b p q) cookie) turns h _ (now.1 ∙ echo_sends a b p q now.0 good) refl }
+    let cookie : List ℕ = cookie_bytes (made_cookie a p q) in
+    let now : (word : ℕ) × (h.outcome ≡ init_ack_outcome e (answer_to a b p q) (Some cookie) (cookie_wait p) word) =
+    init_ack_turn_now e (answer_to a b p q) cookie p h.outcome refl (λ word. refl) h.comes in
+    record { tie = now.0; only = taken_as (waiting a p) p.tag (init_ack (answer_to a b p q) (Some cookie)) turns h _ (now.1 ∙ echo_sends a b p q now.0 good) refl (refl, refl) }
 
 pub answer_is_taken : HandshakeLaws → (a b : Options) (p q : Pair) → Good b → FitsPair p → FitsPair q → b.remote_port ≡ a.local_port
     → IsTaken a b (eqb (agreed_method (offer_of b) (offer_of a)) 0) p.tag (init_ack (answer_to a b p q) (Some (cookie_bytes (made_cookie a p q))))

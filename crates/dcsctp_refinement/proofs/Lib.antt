@@ -1,14 +1,19 @@
 mod Aborting
 mod Bytes
+mod DataFits
 mod Deliver
 mod ExpiryMoves
 pub mod Follow
+mod FlushFits
+mod FlushMoves
 mod Fresh
 mod HandshakeEnds
 mod HandshakeReads
 mod HandshakeRuns
 mod HandshakeSizes
 mod HandshakeTurns
+mod Idle
+mod IdleTurns
 mod Moves
 mod PlainFits
 mod Sendable
@@ -27,3 +32,4 @@ mod T1Turns
 pub mod TimerFits
 pub mod StepMoves
 mod T1Chunks
+mod T1Data

@@ -13,21 +13,24 @@ use Rattle.dcsctp_machine.specs.Turn.{Input, arrival, refusal, packet_ends, act_
 use Rattle.dcsctp_machine.specs.turns.HandshakeOutcomes.{ConnectTurn}
 use Rattle.dcsctp_machine.specs.CallTurns.{Turned, Turns, ChunkTurns, WholeTurns, AdmittedTurns, HandleInput, unreadable, readable, events_of}
 use Rattle.dcsctp_machine.specs.Admission.{Admission, all_chunks, shutdown_acks_alone, refused, admits, shutdown_acks_in}
-use Rattle.dcsctp_machine.specs.Controlled.{IsControlled}
+use Rattle.dcsctp_machine.specs.Controlled.{IsControlled, ControlledAct}
 use Rattle.dcsctp_machine.specs.control.Effect.{Effect, sends, Change, unchanged}
 use Rattle.dcsctp_machine.specs.control.Choices.{Choices}
-use Rattle.dcsctp_machine.specs.control.Acts.{connect, act_change}
+use Rattle.dcsctp_machine.specs.control.Acts.{connect, act_change, flushes, flush_change}
 use Rattle.dcsctp_machine.specs.Laws.{IsRest, dropped, ended, AreChunks, OfferReadsBack, ActsAreControlled, PacketsAreControlled, AdmittedPacketsMayBeWorked}
 use Rattle.dcsctp_machine.specs.Past.{Has}
 use Rattle.dcsctp_machine.specs.World.{SideState, after_changes, acted, ChunkChanges, PacketChanges, worked_whole, worked_acks, Move, does, receives, MoveChanges, Moved, MovesMade, after_moves}
 use Rattle.dcsctp_machine.specs.Sockets.{endpoint_after, packets_shown, DeliveryTurns}
 use Rattle.dcsctp_machine.specs.Fitting.{FitsCore, Sendable, SendablePacket, TurnFits}
 use Rattle.dcsctp_machine.proofs.TurnLemmas.{after_all-append}
+use Rattle.dcsctp_machine.proofs.DataLemmas.{flushed_act, end_at}
 use Rattle.dcsctp_machine.proofs.DeliveryLemmas.{same_options_move, longest_connects}
 use Rattle.dcsctp_agreement.specs.OneSide.{EffectsMean}
 use Rattle.dcsctp_agreement.proofs.Alone.{packet_turns}
+use Rattle.dcsctp_refinement.proofs.DataFits.{end_fits}
 use Rattle.dcsctp_refinement.proofs.Deliver.{IsSent, sent_at, reads_as_sent, Fits, ChunksFit, EndFits, chunk_turns_fit, nothing_ends, packet_end_fits, acks_sendable}
 use Rattle.dcsctp_refinement.proofs.Follow.{Went, Followed, after_last, follow_turns, follow_idle}
+use Rattle.dcsctp_refinement.proofs.FlushMoves.{FlushFollows, flush_follows}
 use Rattle.dcsctp_refinement.proofs.TurnsFit.{connect_fits}
 
 -- the laws below that the runs of sockets rest on
@@ -161,15 +164,24 @@ begin_rests e (open_in shutdown_sent my held) has o fits turn = absurd fits
 begin_rests e (open_in shutdown_received my held) has o fits turn = absurd fits
 begin_rests e (open_in shutdown_ack_sent my held) has o fits turn = absurd fits
 
--- The turns of the packet's end, or none.
-end_rests : (options : Options) (turns : List Turned) (side : SideState) (theirs : List Effect) (more : List Turned) → Followed options turns side
-    → Turns (endpoint_after options turns) (packet_ends ∷ []) more → SideMoves options turns side theirs more
-end_rests options turns side theirs [] h taken = absurd taken
-end_rests options turns side theirs (t ∷ []) h taken = rests options turns side theirs (t ∷ []) (follow_nothing options turns side t h taken.0.comes)
-end_rests options turns side theirs (t ∷ next ∷ more) h taken = absurd taken.1
+-- a turn that is a flush of the association
+pub flush_moves : Below → (options : Options) (turns : List Turned) (side : SideState) (theirs : List Effect) (t : Turned) → Followed options turns side
+    → ControlledAct (endpoint_after options turns) flushes t.outcome → TurnFits t.outcome → SideMoves options turns side theirs (t ∷ [])
+flush_moves law options turns side theirs t h controlled fits =
+    let followed : FlushFollows options turns side t = flush_follows law.effects_mean options turns side t h controlled fits in
+    moves_once options turns side theirs (t ∷ []) (does flushes) (flush_change side.core followed.choices ∷ []) (followed.choices, refl) followed.follows
 
-abbrev EndRests : List Input → Type 0
-EndRests tail = (options : Options) (turns : List Turned) (side : SideState) (theirs : List Effect) (more : List Turned) → Followed options turns side
+-- The end of a packet is one.
+end_moves : Below → (options : Options) (turns : List Turned) (side : SideState) (theirs : List Effect) (more : List Turned) → Followed options turns side
+    → Turns (endpoint_after options turns) (packet_ends ∷ []) more → SideMoves options turns side theirs more
+end_moves law options turns side theirs [] h taken = absurd taken
+end_moves law options turns side theirs (t ∷ []) h taken =
+    let e : Endpoint = endpoint_after options turns in
+    flush_moves law options turns side theirs t h (flushed_act e t.outcome (end_at e e.below.transfer t.outcome taken.0.comes)) (end_fits e e.below.transfer t.outcome taken.0.comes h.fits)
+end_moves law options turns side theirs (t ∷ next ∷ more) h taken = absurd taken.1
+
+abbrev EndMoves : List Input → Type 0
+EndMoves tail = (options : Options) (turns : List Turned) (side : SideState) (theirs : List Effect) (more : List Turned) → Followed options turns side
     → Turns (endpoint_after options turns) tail more → SideMoves options turns side theirs more
 
 pub none_rests : (options : Options) (turns : List Turned) (side : SideState) (theirs : List Effect) (more : List Turned) → Followed options turns side
@@ -177,7 +189,7 @@ pub none_rests : (options : Options) (turns : List Turned) (side : SideState) (t
 none_rests options turns side theirs [] h taken = nothing_happens options turns side theirs [] h refl
 none_rests options turns side theirs (t ∷ more) h taken = absurd taken
 
-rest_moves : (tail : List Input) (options : Options) (turns : List Turned) (side : SideState) (theirs : List Effect) (more : List Turned) → EndRests tail → Followed options turns side
+rest_moves : (tail : List Input) (options : Options) (turns : List Turned) (side : SideState) (theirs : List Effect) (more : List Turned) → EndMoves tail → Followed options turns side
     → IsRest (endpoint_after options turns) tail more → SideMoves options turns side theirs more
 rest_moves tail options turns side theirs more end h (dropped none) = nothing_happens options turns side theirs more h none
 rest_moves tail options turns side theirs more end h (ended taken) = end options turns side theirs more h taken
@@ -198,7 +210,7 @@ front_fits [] ys each = tt
 front_fits (x ∷ xs) ys each = (each.0, front_fits xs ys each.1)
 
 chunks_move : Below → (options : Options) (turns : List Turned) (side : SideState) (theirs : List Effect) (packet : Packet) (contents : List Content) (tail : List Input) (more : List Turned)
-    → Followed options turns side → Has (sends packet) theirs → packet.tag < 2 ^ 32 → AllByRecursion Sendable contents → EndFits tail → EndRests tail
+    → Followed options turns side → Has (sends packet) theirs → packet.tag < 2 ^ 32 → AllByRecursion Sendable contents → EndFits tail → EndMoves tail
     → ((changes : List Change) → ChunkChanges side.options side.core packet.tag contents changes → PacketChanges side.options side.core packet changes)
     → ChunkTurns (endpoint_after options turns) packet.tag contents tail more → SideMoves options turns side theirs more
 chunks_move law options turns side theirs packet contents tail more h was_sent tagged good end_fits end to_packet taken =
@@ -223,7 +235,7 @@ whole_moves law options turns side theirs packet (begun ∷ more) is h was_sent 
     let first : Followed options (turns ++ begun ∷ []) side =
     follow_nothing options turns side begun h (begin_rests e e.core (has_data packet.contents) begun.outcome h.fits.core taken.0.comes) in
     rests_then options turns side theirs (begun ∷ []) more
-    (chunks_move law options (turns ++ begun ∷ []) side theirs packet packet.contents (packet_ends ∷ []) more first was_sent good.tag good.contents packet_end_fits end_rests
+    (chunks_move law options (turns ++ begun ∷ []) side theirs packet packet.contents (packet_ends ∷ []) more first was_sent good.tag good.contents packet_end_fits (end_moves law)
     (λ changes moves. worked_whole (law.admitted.whole side.core packet is) moves)
     (subst (λ (x : Endpoint). ChunkTurns x packet.tag packet.contents (packet_ends ∷ []) more) (sym (after_last _ turns begun)) taken.1))
 

@@ -16,12 +16,14 @@ use Rattle.dcsctp_machine.specs.Packet.{Plain, plain, unknown, heartbeat, heartb
 use Rattle.dcsctp_machine.specs.Endpoint.{Endpoint, Core, closed, cookie_wait, cookie_echoed, open_in, established, shutdown_pending, shutdown_sent, shutdown_received, shutdown_ack_sent}
 use Rattle.dcsctp_machine.specs.Outcome.{Outcome, still, quiet, sends, to_peer}
 use Rattle.dcsctp_machine.specs.Outcome.{fits as fits_mtu}
-use Rattle.dcsctp_wire.specs.Content.{ParameterContent}
+use Rattle.dcsctp_wire.specs.Content.{ParameterContent, data_chunk, sack_chunk, i_data_chunk, forward_tsn_chunk, i_forward_tsn_chunk}
 use Rattle.dcsctp_machine.specs.turns.HeartbeatOutcomes.{heartbeat_outcome, info_in, counter_of, answered, heartbeat_ack_outcome}
-use Rattle.dcsctp_machine.specs.turns.PlainOutcomes.{PlainTurn, plain_outcome, violation_at, is_reported, after_unknown, unknown_text, unknown_bytes, unknown_error, unknown_report, unknown_told}
+use Rattle.dcsctp_machine.specs.turns.PlainOutcomes.{PlainTurn, PlainTurnBy, violation_at, is_reported, after_unknown, unknown_text, unknown_bytes, unknown_error, unknown_report, unknown_told}
 use Rattle.dcsctp_machine.specs.Fitting.{FitsHeld, FitsCore, FitsEndpoint, Sendable, TurnFits}
 use Rattle.dcsctp_refinement.proofs.Aborting.{aborting_fits}
 use Rattle.dcsctp_refinement.proofs.Bytes.{both, in_two}
+use Rattle.dcsctp_refinement.proofs.DataFits.{data_fits, sack_fits, forward_fits}
+use Rattle.dcsctp_refinement.proofs.FlushFits.{still_fits}
 
 -- ---- the report of a chunk of a type that isn't known
 
@@ -100,14 +102,20 @@ heartbeat_ack_fits e (Some counter) h = counted_fits (counter == e.heartbeat_cou
 
 -- ---- each
 
-outcome_fits : (e : Endpoint) (core : Core) (chunk : Plain) (violation : Option Violation) → FitsEndpoint e → FitsCore core → Sendable (plain chunk) → TurnFits (plain_outcome e core chunk violation)
-outcome_fits e core chunk (Some violation) h own good = aborting_fits e core (reasons.Violation violation) h own
-outcome_fits e core (unknown type flags value) None h own good =
-    unknown_fits e core type (unknown_bytes type flags value) (is_reported type) h own
-    (unknown_in_bytes type flags value good.fits.type_fits good.fits.flags_fit good.fits.value_in_bytes)
-outcome_fits e core (heartbeat parameters) None h own good = heartbeat_fits e core parameters h own good
-outcome_fits e core (heartbeat_ack parameters) None h own good = heartbeat_ack_fits e (counter_of (info_in parameters)) h
-outcome_fits e core (unworked chunk) None h own good = record { after = h; sends = tt }
+plain_by : (e : Endpoint) (chunk : Plain) (violation : Option Violation) (o : Outcome) → PlainTurnBy e chunk violation o → FitsEndpoint e → Sendable (plain chunk) → TurnFits o
+plain_by e chunk (Some violation) o turn h good = subst TurnFits (sym turn) (aborting_fits e e.core (reasons.Violation violation) h h.core)
+plain_by e (unknown type flags value) None o turn h good =
+    subst TurnFits (sym turn)
+    (unknown_fits e e.core type (unknown_bytes type flags value) (is_reported type) h h.core
+    (unknown_in_bytes type flags value good.fits.type_fits good.fits.flags_fit good.fits.value_in_bytes))
+plain_by e (heartbeat parameters) None o turn h good = subst TurnFits (sym turn) (heartbeat_fits e e.core parameters h h.core good)
+plain_by e (heartbeat_ack parameters) None o turn h good = subst TurnFits (sym turn) (heartbeat_ack_fits e (counter_of (info_in parameters)) h)
+plain_by e (unworked (data_chunk chunk)) None o turn h good = data_fits e chunk.flags.immediate_ack chunk.tsn chunk.payload o turn h good.fits.tsn
+plain_by e (unworked (i_data_chunk chunk)) None o turn h good = data_fits e chunk.flags.immediate_ack chunk.tsn chunk.payload o turn h good.fits.tsn
+plain_by e (unworked (sack_chunk chunk)) None o turn h good = sack_fits e e.below.transfer chunk.cumulative_tsn_ack o turn h
+plain_by e (unworked (forward_tsn_chunk tsn streams)) None o turn h good = forward_fits e e.below.transfer tsn o turn h
+plain_by e (unworked (i_forward_tsn_chunk tsn streams)) None o turn h good = forward_fits e e.below.transfer tsn o turn h
+plain_by e (unworked chunk) None o turn h good = subst TurnFits (sym turn) (still_fits e h)
 
 pub plain_fits : (e : Endpoint) (chunk : Plain) (o : Outcome) → PlainTurn e chunk o → FitsEndpoint e → Sendable (plain chunk) → TurnFits o
-plain_fits e chunk o turn h good = subst TurnFits (sym turn) (outcome_fits e e.core chunk (violation_at e.core chunk) h h.core good)
+plain_fits e chunk o turn h good = plain_by e chunk (violation_at e.core chunk) o turn h good

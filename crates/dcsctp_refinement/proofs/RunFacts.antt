@@ -1,6 +1,6 @@
 -- Runs of two sockets with their inputs and numbers, worked by hand and computed by the definitions: a wrong rule in specs/ would
 -- not check here.
-use Rattle.std.proofs.Common.{◌≡◌, ℕ, Bool, true, eqb, None, Some, List, [], ◌∷◌, ◌++◌, map, inl, inr, refl, sym, subst}
+use Rattle.std.proofs.Common.{◌≡◌, ℕ, Bool, true, eqb, None, Some, List, [], ◌∷◌, ◌++◌, map, inl, inr, refl, sym, subst, ap}
 use Rattle.dcsctp_wire.specs.declared.reconfiguration.ReconfigurationResponseResult.TheVariants.{SuccessPerformed, InProgress}
 use Rattle.dcsctp_machine.specs.declared.association.Pair.{Pair}
 use Rattle.dcsctp_machine.specs.declared.options.Options.{Options}
@@ -15,6 +15,7 @@ use Rattle.dcsctp_machine.specs.Offer.{offer_of, agreed_method}
 use Rattle.dcsctp_machine.specs.Laws.{FitsPair}
 use Rattle.dcsctp_machine.specs.turns.HandshakeOutcomes.{pair_from}
 use Rattle.dcsctp_machine.specs.control.HandshakeChanges.{introduction_of}
+use Rattle.dcsctp_machine.specs.control.CookieEchoChanges.{case_without_peer}
 use Rattle.dcsctp_machine.specs.Outcome.{Outcome, still}
 use Rattle.dcsctp_machine.specs.Following.{Following, next_chunk}
 use Rattle.dcsctp_machine.specs.Turn.{Input, arrival, packet_begins, chunk_input, packet_ends, act_input, has_data, BeginTurn, ContentTurn, arrival_outcome}
@@ -24,15 +25,16 @@ use Rattle.dcsctp_machine.specs.control.Acts.{connect}
 use Rattle.dcsctp_machine.specs.Admission.{Admission, all_chunks, admits}
 use Rattle.dcsctp_machine.specs.Past.{Each, InPlace}
 use Rattle.dcsctp_machine.specs.Sockets.{Worked, Both, SocketRun, turns_after, endpoint_after}
-use Rattle.dcsctp_machine.proofs.FlushLemmas.{init_ack_turn_of, cookie_echo_turn_of, cookie_ack_turn_of}
 use Rattle.dcsctp_refinement.specs.Agreement.{IsUsable, AreUsable, noted_past}
 use Rattle.dcsctp_refinement.specs.OneSocket.{EndsByAnswer}
 use Rattle.dcsctp_refinement.specs.Handshake.{AreFitting, AreConnected}
 use Rattle.dcsctp_refinement.proofs.Deliver.{built, built_reads}
 use Rattle.dcsctp_refinement.proofs.HandshakeReads.{Wire, IsTaken, alone, counted_at, delivered, is_read}
-use Rattle.dcsctp_refinement.proofs.HandshakeTurns.{HandshakeLaws, Good, connect_sends, answering, answer_sends, init_is_taken, waiting, made_cookie, answer_to, echoing, echo_sends, answer_is_taken, ack_admitted}
-use Rattle.dcsctp_refinement.proofs.HandshakeEnds.{begun_by, answered_by, echoed_by, acknowledged_by, connected_by, answered as answered_once, acknowledgement, establishing, establish_sends, echo_is_taken, awaited, held_here, connecting_last, ack_admitted as cookie_ack_admitted, ack_is_taken}
+use Rattle.dcsctp_refinement.proofs.HandshakeTurns.{HandshakeLaws, Good, same_tag, connect_sends, answering, answer_sends, init_is_taken, waiting, made_cookie, answer_to, echoing, echo_sends, answer_is_taken, ack_admitted}
+use Rattle.dcsctp_refinement.proofs.HandshakeEnds.{begun_by, answered_by, echoed_by, acknowledged_by, connected_by, answered as answered_once, acknowledgement, establishing, cookie_reads, established_sends, echo_is_taken, awaited, held_here, connecting_last, ack_admitted as cookie_ack_admitted, ack_is_taken}
 use Rattle.dcsctp_refinement.proofs.HandshakeRuns.{run_of, fitting_sockets_connect}
+use Rattle.dcsctp_refinement.proofs.Idle.{OwesNothing, still_ends}
+use Rattle.dcsctp_refinement.proofs.IdleTurns.{init_ack_turn_of, cookie_echo_turn_of, cookie_ack_turn_of}
 use Rattle.dcsctp_refinement.proofs.TurnsFit.{drawn_fits}
 
 -- ---- numbers
@@ -98,14 +100,14 @@ ended_in_progress e h = elim (h.completed mine 1 (inl refl)) [ inl is ↦ is.1 |
 -- It is a call of its turns.
 gives : Wire → (e : Endpoint) (other : Options) (with_checksum : Bool) (tag : ℕ) (content : Content) (o : Outcome) → IsTaken e.options other with_checksum tag content
     → admits e.core (record { tag = tag; contents = content ∷ [] }) ≡ all_chunks → BeginTurn (counted_at e) e.core (has_data (content ∷ [])) (still (counted_at e))
-    → ContentTurn (counted_at e) tag content o → o.following ≡ next_chunk → HandleInput e (emission_bytes (ports_of other) (alone with_checksum tag content)) (delivered e tag content o)
-gives law e other with_checksum tag content o h admitted begun comes goes_on =
+    → ContentTurn (counted_at e) tag content o → o.following ≡ next_chunk → OwesNothing o.after.below.transfer → HandleInput e (emission_bytes (ports_of other) (alone with_checksum tag content)) (delivered e tag content o)
+gives law e other with_checksum tag content o h admitted begun comes goes_on owes =
     let packet : Packet = record { tag = tag; contents = content ∷ [] } in
     let last : List Turned = turned packet_ends (still o.after) ∷ [] in
     let rest : List Turned = turned (packet_begins (content ∷ [])) (still (counted_at e)) ∷ turned (chunk_input tag content) o ∷ last in
     let behind : AfterChunk o.following (ChunkTurns o.after tag [] (packet_ends ∷ []) last) (Turns o.after (packet_ends ∷ []) last) (last ≡ []) =
     subst (λ (f : Following). AfterChunk f (ChunkTurns o.after tag [] (packet_ends ∷ []) last) (Turns o.after (packet_ends ∷ []) last) (last ≡ [])) (sym goes_on)
-    (record { is = refl; comes = refl }, tt) in
+    (record { is = refl; comes = still_ends o.after owes }, tt) in
     let whole : WholeTurns (counted_at e) packet rest = (record { is = refl; comes = begun }, (record { is = refl; comes = comes }, behind)) in
     readable (built (ports_of other) packet) (turned arrival (arrival_outcome e)) rest (is_read law e.options other with_checksum tag content h) (record { is = refl; comes = refl })
     (subst (λ (p : Packet). AdmittedTurns (counted_at e) p (admits e.core p) rest) (sym (built_reads (ports_of other) packet h.sendable))
@@ -148,15 +150,16 @@ handshake_runs law a b w good_a good_b to_b to_a =
     let first : Turns (fresh_endpoint a) (act_input connect ∷ []) (begun_by a w.word w.next) =
     (record { is = refl; comes = (w.word, w.next, sym (connect_sends a w.word w.next good_a.allow.mtu)) }, tt) in
     let second = gives law.wire (fresh_endpoint b) a true 0 (init (introduction_of a p)) (answering a b p w.word' w.next') (init_is_taken law a b p good_a own to_b) refl refl
-    (w.word', w.next', sym (answer_sends a b p w.word' w.next' good_b.allow.mtu)) refl in
+    (w.word', w.next', sym (answer_sends a b p w.word' w.next' good_b.allow.mtu)) refl tt in
     let third = gives law.wire (waiting a p) b (eqb (agreed_method (offer_of b) (offer_of a)) 0) p.tag (init_ack (answer_to a b p q) (Some bytes)) (echoing a b p q w.tie)
     (answer_is_taken law a b p q good_b own other to_a) (ack_admitted (cookie_wait p) (answer_to a b p q) bytes p.tag refl own.tag_is_not_zero) refl
-    (init_ack_turn_of (counted_at (waiting a p)) (answer_to a b p q) (Some bytes) _ w.tie (sym (echo_sends a b p q w.tie good_a))) refl in
+    (init_ack_turn_of (counted_at (waiting a p)) (answer_to a b p q) bytes p w.tie (echoing a b p q w.tie) refl refl (sym (echo_sends a b p q w.tie good_a))) refl (refl, refl) in
     let fourth = gives law.wire (answered_once b) a true q.tag (cookie_echo bytes) (establishing a b p q w.tie') (echo_is_taken a b p q good_a other to_b) refl refl
-    (cookie_echo_turn_of (counted_at (answered_once b)) q.tag bytes _ w.tie' (sym (establish_sends law a b p q w.tie' good_a good_b own other))) refl in
+    (cookie_echo_turn_of (counted_at (answered_once b)) q.tag bytes (made_cookie a p q) w.tie' (establishing a b p q w.tie') refl (cookie_reads law a p q good_a own other)
+    (ap case_without_peer (same_tag q.tag)) refl (sym (established_sends a b p q w.tie' good_b))) refl (refl, refl) in
     let fifth = gives law.wire (awaited a b p q w.tie) b (acknowledgement a b p q).with_checksum p.tag cookie_ack (connecting_last a b p q w.tie) (ack_is_taken a b p q good_b own to_a)
     (cookie_ack_admitted (cookie_echoed p (held_here a b p q) bytes) p.tag refl own.tag_is_not_zero) refl
-    (cookie_ack_turn_of (counted_at (awaited a b p q w.tie)) _ refl) refl in
+    (cookie_ack_turn_of (counted_at (awaited a b p q w.tie)) p (held_here a b p q) bytes (connecting_last a b p q w.tie) refl refl refl) refl (refl, refl) in
     (fifth, (fourth, (third, (second, (first, tt)))))
 
 six_run : HandshakeLaws → (a b : Options) (w : Words) → Good a → Good b → a.remote_port ≡ b.local_port → b.remote_port ≡ a.local_port → SocketRun (record { a = a; b = b }) (six_acts a b w)

@@ -5,8 +5,9 @@ use Rattle.dcsctp_machine.specs.Settings.{IsValid, SameOptions}
 use Rattle.dcsctp_machine.specs.Packet.{Content, init, init_ack, cookie_echo, cookie_ack, re_config, abort, shutdown, shutdown_ack, shutdown_complete, plain}
 use Rattle.dcsctp_machine.specs.Endpoint.{Endpoint, Core, fresh_endpoint}
 use Rattle.dcsctp_machine.specs.Outcome.{Outcome}
+use Rattle.dcsctp_machine.proofs.DataLemmas.{flushed_act, end_at, send_at, take_at}
 use Rattle.dcsctp_machine.proofs.HeartbeatLemmas.{timer_controlled}
-use Rattle.dcsctp_machine.specs.Turn.{Input, arrival, refusal, packet_begins, chunk_input, packet_ends, act_input, user_sets, timer_expires, time_passes, has_data}
+use Rattle.dcsctp_machine.specs.Turn.{Input, arrival, refusal, packet_begins, chunk_input, packet_ends, act_input, user_sets, user_sends, user_takes, timer_expires, time_passes, has_data}
 use Rattle.dcsctp_machine.specs.control.Effect.{Effect, noted, Change}
 use Rattle.dcsctp_machine.specs.control.Choices.{Choices}
 use Rattle.dcsctp_machine.specs.control.Acts.{Act, connect, t1_expires, shut_down, step_of_shutdown, shutdown_repeats, abort_with, hands_over, flushes, request_again, act_change, chunk_change}
@@ -72,9 +73,11 @@ turn_moves law e (refusal text) t h valid = rests_as e t _ h.comes refl refl ref
 turn_moves law e (packet_begins contents) t h valid =
     elim (begin_stands e e.core (has_data contents) t.outcome h.comes) [ inl rests ↦ rests_as e t _ rests refl refl refl | inr acts ↦ moves_by_act e shutdown_repeats t acts ]
 turn_moves law e (chunk_input tag content) t h valid = chunk_moves law.chunks e tag content t h valid
-turn_moves law e packet_ends t h valid = rests_as e t _ h.comes refl refl refl
+turn_moves law e packet_ends t h valid = moves_by_act e flushes t (flushed_act e t.outcome (end_at e e.below.transfer t.outcome h.comes))
 turn_moves law e (act_input act) t h valid = moves_by_act e act t (law.acts e act t.outcome h.comes)
 turn_moves law e (user_sets setting) t h valid = rests_as e t _ h.comes refl refl refl
+turn_moves law e (user_sends messages) t h valid = moves_by_act e flushes t (flushed_act e t.outcome (send_at e messages t.outcome h.comes))
+turn_moves law e user_takes t h valid = moves_by_act e flushes t (flushed_act e t.outcome (take_at e e.below.transfer t.outcome h.comes))
 turn_moves law e (timer_expires timer) t h valid = moves_by_act e flushes t (timer_controlled e timer t.outcome h.comes)
 turn_moves law e (time_passes moment) t h valid = rests_as e t _ h.comes refl refl refl
 

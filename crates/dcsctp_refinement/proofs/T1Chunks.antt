@@ -7,14 +7,12 @@ use Rattle.dcsctp_machine.specs.Endpoint.{Endpoint, Core, closed, cookie_wait, c
 use Rattle.dcsctp_machine.specs.Outcome.{Outcome, still, quiet, sends, fits, to_peer}
 use Rattle.dcsctp_machine.specs.turns.EndOutcomes.{ShutdownAckTurn, ShutdownCompleteTurn}
 use Rattle.dcsctp_machine.specs.declared.association.Held.{Held}
-use Rattle.dcsctp_wire.specs.Content.{ParameterContent}
-use Rattle.dcsctp_machine.specs.turns.HeartbeatOutcomes.{heartbeat_outcome, info_in, counter_of, answered, heartbeat_ack_outcome, OwnTimer, heartbeat_interval, heartbeat_timeout, interval_expired, beating, heartbeat_emission, beat, interval_outcome, timer_outcome}
-use Rattle.dcsctp_machine.specs.turns.PlainOutcomes.{plain_outcome, is_reported, after_unknown, unknown_bytes, unknown_told}
-use Rattle.dcsctp_refinement.proofs.T1Turns.{Awaits, Up, aborting_up}
-
--- it runs after this
-abbrev pub UpAfter : Outcome → Type 0
-UpAfter o = Up o.after
+use Rattle.dcsctp_wire.specs.Content.{ParameterContent, data_chunk, sack_chunk, i_data_chunk, forward_tsn_chunk, i_forward_tsn_chunk}
+use Rattle.dcsctp_machine.specs.turns.HeartbeatOutcomes.{heartbeat_outcome, info_in, counter_of, answered, heartbeat_ack_outcome, interval_expired, beating, heartbeat_emission, beat, interval_outcome}
+use Rattle.dcsctp_machine.specs.turns.OwnTimers.{OwnTimer, acknowledgement_delay, retransmission, heartbeat_interval, heartbeat_timeout, TimerTurn}
+use Rattle.dcsctp_machine.specs.turns.PlainOutcomes.{PlainTurn, PlainTurnBy, violation_at, is_reported, after_unknown, unknown_bytes, unknown_told}
+use Rattle.dcsctp_refinement.proofs.T1Data.{data_up, forward_up, sack_up, delay_up, loss_up}
+use Rattle.dcsctp_refinement.proofs.T1Turns.{Awaits, Up, UpAfter, aborting_up}
 
 unknown_up : (e : Endpoint) (core : Core) (type : ℕ) (chunk : List ℕ) (reported : Bool) → Up e
     → UpAfter (record (cond reported (unknown_told e core type chunk) (still e)) { following = after_unknown type })
@@ -53,18 +51,28 @@ interval_up e (cookie_wait my) h = h
 interval_up e (cookie_echoed my held cookie) h = beat_up (interval_expired e) held h
 interval_up e (open_in phase my held) h = beat_up (interval_expired e) held h
 
-pub timer_up : (e : Endpoint) (timer : OwnTimer) → Up e → UpAfter (timer_outcome e timer)
-timer_up e heartbeat_interval h = interval_up e e.core h
-timer_up e heartbeat_timeout h = h
+pub timer_up : (e : Endpoint) (timer : OwnTimer) (o : Outcome) → TimerTurn e timer o → Up e → UpAfter o
+timer_up e acknowledgement_delay o turn h = subst UpAfter (sym turn) (delay_up e e.below.transfer h)
+timer_up e retransmission o turn h = loss_up e e.below.transfer o turn h
+timer_up e heartbeat_interval o turn h = subst UpAfter (sym turn) (interval_up e e.core h)
+timer_up e heartbeat_timeout o turn h = subst UpAfter (sym turn) h
 
 -- ---- each
 
-pub plain_outcome_up : (e : Endpoint) (core : Core) (chunk : Plain) (violation : Option Violation) → Up e → UpAfter (plain_outcome e core chunk violation)
-plain_outcome_up e core chunk (Some violation) h = aborting_up e core (reasons.Violation violation) h
-plain_outcome_up e core (unknown type flags value) None h = unknown_up e core type (unknown_bytes type flags value) (is_reported type) h
-plain_outcome_up e core (heartbeat parameters) None h = heartbeat_up e core parameters h
-plain_outcome_up e core (heartbeat_ack parameters) None h = heartbeat_ack_up e (counter_of (info_in parameters)) h
-plain_outcome_up e core (unworked chunk) None h = h
+plain_by : (e : Endpoint) (chunk : Plain) (violation : Option Violation) (o : Outcome) → PlainTurnBy e chunk violation o → Up e → UpAfter o
+plain_by e chunk (Some violation) o turn h = subst UpAfter (sym turn) (aborting_up e e.core (reasons.Violation violation) h)
+plain_by e (unknown type flags value) None o turn h = subst UpAfter (sym turn) (unknown_up e e.core type (unknown_bytes type flags value) (is_reported type) h)
+plain_by e (heartbeat parameters) None o turn h = subst UpAfter (sym turn) (heartbeat_up e e.core parameters h)
+plain_by e (heartbeat_ack parameters) None o turn h = subst UpAfter (sym turn) (heartbeat_ack_up e (counter_of (info_in parameters)) h)
+plain_by e (unworked (data_chunk chunk)) None o turn h = data_up e chunk.flags.immediate_ack chunk.tsn chunk.payload o turn h
+plain_by e (unworked (i_data_chunk chunk)) None o turn h = data_up e chunk.flags.immediate_ack chunk.tsn chunk.payload o turn h
+plain_by e (unworked (sack_chunk chunk)) None o turn h = sack_up e e.below.transfer chunk.cumulative_tsn_ack o turn h
+plain_by e (unworked (forward_tsn_chunk tsn streams)) None o turn h = forward_up e e.below.transfer tsn o turn h
+plain_by e (unworked (i_forward_tsn_chunk tsn streams)) None o turn h = forward_up e e.below.transfer tsn o turn h
+plain_by e (unworked chunk) None o turn h = subst UpAfter (sym turn) h
+
+pub plain_up : (e : Endpoint) (chunk : Plain) (o : Outcome) → PlainTurn e chunk o → Up e → UpAfter o
+plain_up e chunk o turn h = plain_by e chunk (violation_at e.core chunk) o turn h
 
 pub shutdown_ack_up : (e : Endpoint) (core : Core) (tag : ℕ) (o : Outcome) → ShutdownAckTurn e core tag o → Up e → Awaits core e.timers.t1 → UpAfter o
 shutdown_ack_up e closed tag o turn h own = subst UpAfter (sym turn) h

@@ -2,24 +2,20 @@
 use Rattle.std.proofs.Common.{◌≡◌, ℕ, Bool, true, false, Option, List, [], ◌∷◌, sym, subst}
 use Rattle.dcsctp_wire.specs.Content.{ChunkContent, data_chunk, init_chunk, init_ack_chunk, sack_chunk, heartbeat_chunk, heartbeat_ack_chunk, abort_chunk, shutdown_chunk, shutdown_ack_chunk, error_chunk, cookie_echo_chunk, cookie_ack_chunk, shutdown_complete_chunk, i_data_chunk, re_config_chunk, forward_tsn_chunk, i_forward_tsn_chunk, unknown_chunk}
 use Rattle.dcsctp_machine.specs.Cookie.{cookie_at}
-use Rattle.dcsctp_machine.specs.Packet.{Content, init, init_ack, cookie_echo, cookie_ack, re_config, abort, shutdown, shutdown_ack, shutdown_complete, plain, Plain, content_in}
+use Rattle.dcsctp_machine.specs.Packet.{Content, init, init_ack, cookie_echo, cookie_ack, re_config, abort, shutdown, shutdown_ack, shutdown_complete, plain, content_in}
 use Rattle.dcsctp_machine.specs.Deadlines.{T1Runs}
 use Rattle.dcsctp_machine.specs.Endpoint.{Endpoint, Core, closed, cookie_wait, cookie_echoed, open_in, established, shutdown_pending, shutdown_sent, shutdown_received, shutdown_ack_sent, RunningTimer, going_on, fresh_endpoint}
 use Rattle.dcsctp_machine.specs.Outcome.{Outcome, still}
-use Rattle.dcsctp_machine.specs.Turn.{Input, arrival, refusal, packet_begins, chunk_input, packet_ends, act_input, user_sets, timer_expires, time_passes, has_data, BeginTurn, ContentTurn, ActTurn}
-use Rattle.dcsctp_machine.specs.turns.PlainOutcomes.{PlainTurn, violation_at}
-use Rattle.dcsctp_machine.specs.turns.HandshakeOutcomes.{init_ack_outcome}
+use Rattle.dcsctp_machine.specs.Turn.{Input, arrival, refusal, packet_begins, chunk_input, packet_ends, act_input, user_sets, user_sends, user_takes, timer_expires, time_passes, has_data, BeginTurn, ContentTurn, ActTurn}
 use Rattle.dcsctp_machine.specs.turns.TimerOutcomes.{t1_goes_on}
-use Rattle.dcsctp_machine.specs.turns.CookieEchoOutcomes.{cookie_echo_outcome}
 use Rattle.dcsctp_machine.specs.control.Acts.{Act, connect, t1_expires, shut_down, step_of_shutdown, shutdown_repeats, abort_with, hands_over, flushes, request_again}
 use Rattle.dcsctp_machine.specs.CallTurns.{Turned, IsTurn, AlongTurns, after_all}
 use Rattle.dcsctp_machine.specs.Sockets.{of_side, turns_after}
 use Rattle.dcsctp_machine.proofs.AlongLemmas.{MayCome, run_along_where}
-use Rattle.dcsctp_machine.proofs.FlushLemmas.{init_ack_turn_now, cookie_echo_turn_now, cookie_ack_turn_now}
-use Rattle.dcsctp_machine.proofs.TimerLemmas.{t1_again_turn_now}
 use Rattle.dcsctp_refinement.specs.Deadlines.{SocketsRunT1}
-use Rattle.dcsctp_refinement.proofs.T1Turns.{Awaits, Up, init_up, connect_up, init_ack_up, cookie_ack_up, echo_up, abort_up, aborting_up, goes_on_up, again_up, gives_up_up}
-use Rattle.dcsctp_refinement.proofs.T1Chunks.{UpAfter, plain_outcome_up, timer_up, shutdown_ack_up, shutdown_complete_up}
+use Rattle.dcsctp_refinement.proofs.T1Turns.{Awaits, Up, UpAfter, init_up, connect_up, init_ack_up, cookie_ack_up, echo_up, abort_up, aborting_up, goes_on_up, again_up, gives_up_up}
+use Rattle.dcsctp_refinement.proofs.T1Chunks.{plain_up, timer_up, shutdown_ack_up, shutdown_complete_up}
+use Rattle.dcsctp_refinement.proofs.T1Data.{flush_turn_up, end_up, take_up, send_up}
 
 -- ---- what may come
 
@@ -29,11 +25,12 @@ IsRead (re_config parameters) = ⊥
 IsRead (shutdown tsn) = ⊥
 IsRead content = Unit {0}
 
--- an act that a call or T1 brings
+-- an act that a call or a timer brings
 abbrev IsMade : Act → Type 0
 IsMade connect = Unit {0}
 IsMade (abort_with reason) = Unit {0}
 IsMade (t1_expires again) = Unit {0}
+IsMade flushes = Unit {0}
 IsMade act = ⊥
 
 abbrev MayBe : Input → Type 0
@@ -72,7 +69,10 @@ these_may_come =
       connects = tt;
       aborts = λ reason. tt;
       expires = λ again. tt;
+      flushed = tt;
       sets = λ setting. tt;
+      sends = λ messages. tt;
+      takes = tt;
       own_expires = λ timer. tt;
       passes = λ moment. tt;
     }
@@ -93,18 +93,11 @@ nothing_begins e (open_in shutdown_sent my held) has o h turn = absurd h
 nothing_begins e (open_in shutdown_received my held) has o h turn = absurd h
 nothing_begins e (open_in shutdown_ack_sent my held) has o h turn = absurd h
 
-plain_up : (e : Endpoint) (chunk : Plain) (o : Outcome) → PlainTurn e chunk o → Up e → UpAfter o
-plain_up e chunk o turn h = subst UpAfter (sym turn) (plain_outcome_up e e.core chunk (violation_at e.core chunk) h)
-
 chunk_up : (e : Endpoint) (tag : ℕ) (content : Content) (o : Outcome) → IsRead content → ContentTurn e tag content o → Up e → UpAfter o
 chunk_up e tag (init theirs) o may turn h = subst UpAfter (sym turn.2) (init_up e theirs e.core turn.0 turn.1 h)
-chunk_up e tag (init_ack theirs cookie) o may turn h =
-    let now : (word : ℕ) × (o ≡ init_ack_outcome e theirs cookie e.core word) = init_ack_turn_now e theirs cookie o turn in
-    subst UpAfter (sym now.1) (init_ack_up e theirs cookie e.core now.0 h)
-chunk_up e tag (cookie_echo bytes) o may turn h =
-    let now : (word : ℕ) × (o ≡ cookie_echo_outcome e e.core tag (cookie_at bytes) word) = cookie_echo_turn_now e tag bytes o turn in
-    subst UpAfter (sym now.1) (echo_up e e.core tag (cookie_at bytes) now.0 h h)
-chunk_up e tag cookie_ack o may turn h = subst UpAfter (sym (cookie_ack_turn_now e o turn)) (cookie_ack_up e e.core h)
+chunk_up e tag (init_ack theirs cookie) o may turn h = subst UpAfter (sym turn.3) (init_ack_up e theirs cookie e.core turn.0 turn.1 turn.2 h)
+chunk_up e tag (cookie_echo bytes) o may turn h = subst UpAfter (sym turn.3) (echo_up e e.core tag (cookie_at bytes) turn.0 turn.1 turn.2 h h)
+chunk_up e tag cookie_ack o may turn h = subst UpAfter (sym turn.2) (cookie_ack_up e e.core turn.0 turn.1 h)
 chunk_up e tag (re_config parameters) o may turn h = absurd may
 chunk_up e tag (abort reflected causes) o may turn h = subst UpAfter (sym turn) (abort_up e causes e.core h)
 chunk_up e tag (shutdown tsn) o may turn h = absurd may
@@ -115,14 +108,14 @@ chunk_up e tag (plain chunk) o may turn h = plain_up e chunk o turn h
 act_up : (e : Endpoint) (act : Act) (o : Outcome) → IsMade act → ActTurn e act o → Up e → UpAfter o
 act_up e connect o may turn h = subst UpAfter (sym turn.2) (connect_up e e.core turn.0 turn.1 h)
 act_up e (t1_expires true) o may turn h =
-    subst UpAfter (sym (t1_again_turn_now e o turn)) (again_up (t1_goes_on e) e.core (goes_on_up (going_on e.moment) e.core e.timers.t1 h))
+    subst UpAfter (sym turn.2) (again_up (t1_goes_on e) e.core turn.0 turn.1 (goes_on_up (going_on e.moment) e.core e.timers.t1 h))
 act_up e (t1_expires false) o may turn h = subst UpAfter (sym turn) (gives_up_up e e.core h)
 act_up e shut_down o may turn h = absurd may
 act_up e step_of_shutdown o may turn h = absurd may
 act_up e shutdown_repeats o may turn h = absurd may
 act_up e (abort_with reason) o may turn h = subst UpAfter (sym turn) (aborting_up e e.core reason h)
 act_up e hands_over o may turn h = absurd may
-act_up e flushes o may turn h = absurd may
+act_up e flushes o may turn h = flush_turn_up e o turn h
 act_up e (request_again reset) o may turn h = absurd may
 
 turn_up : (e : Endpoint) (input : Input) (t : Turned) → MayBe input → IsTurn e input t → KeepsUp e t
@@ -130,10 +123,12 @@ turn_up e arrival t may turn h = subst UpAfter (sym turn.comes) h
 turn_up e (refusal text) t may turn h = subst UpAfter (sym turn.comes) h
 turn_up e (packet_begins contents) t may turn h = subst UpAfter (sym (nothing_begins e e.core (has_data contents) t.outcome h turn.comes)) h
 turn_up e (chunk_input tag content) t may turn h = chunk_up e tag content t.outcome may turn.comes h
-turn_up e packet_ends t may turn h = subst UpAfter (sym turn.comes) h
+turn_up e packet_ends t may turn h = end_up e e.below.transfer t.outcome turn.comes h
 turn_up e (act_input act) t may turn h = act_up e act t.outcome may turn.comes h
 turn_up e (user_sets setting) t may turn h = subst UpAfter (sym turn.comes) h
-turn_up e (timer_expires timer) t may turn h = subst UpAfter (sym turn.comes) (timer_up e timer h)
+turn_up e (user_sends messages) t may turn h = send_up e messages t.outcome turn.comes h
+turn_up e user_takes t may turn h = take_up e e.below.transfer t.outcome turn.comes h
+turn_up e (timer_expires timer) t may turn h = timer_up e timer t.outcome turn.comes h
 turn_up e (time_passes moment) t may turn h = subst UpAfter (sym turn.comes) h
 
 -- ---- a run

@@ -2,6 +2,7 @@
 use Rattle.std.proofs.Common.{◌≡◌, ℕ, ◌<◌, Bool, true, false, cond, Option, None, Some, Result, Ok, Err, List, [], ◌∷◌, ◌^◌, refl, sym, subst, arith}
 use Rattle.dcsctp_wire.specs.ReadsBack.{FitsEcho}
 use Rattle.dcsctp_machine.specs.declared.association.Pair.{Pair}
+use Rattle.dcsctp_machine.specs.declared.association.Held.{Held}
 use Rattle.dcsctp_machine.specs.declared.word.Word.{Word}
 use Rattle.dcsctp_machine.specs.declared.word.Word.TheVariants.{U32, U64}
 use Rattle.dcsctp_machine.specs.declared.kinds.ErrorKind.TheVariants.{ProtocolViolation}
@@ -11,12 +12,12 @@ use Rattle.dcsctp_machine.specs.Event.{Event, sent, connected, connection_restar
 use Rattle.dcsctp_machine.specs.Packet.{Introduction, Content, init, init_ack, cookie_echo, cookie_ack, re_config, abort, shutdown, shutdown_ack, shutdown_complete, plain, Emission}
 use Rattle.dcsctp_machine.specs.Transfer.{SendQueueState}
 use Rattle.dcsctp_machine.specs.Endpoint.{Endpoint, Core, closed, cookie_wait, cookie_echoed, open_in, established, shutdown_pending, shutdown_sent, shutdown_received, shutdown_ack_sent}
-use Rattle.dcsctp_machine.specs.Outcome.{Outcome, noting, still, quiet, sends, emits, fits, drawing}
+use Rattle.dcsctp_machine.specs.Outcome.{Outcome, noting, quiet, sends, emits, fits, drawing}
 use Rattle.dcsctp_machine.specs.Turn.{ContentTurn}
-use Rattle.dcsctp_machine.specs.turns.FlushOutcomes.{allows_packet, flush_outcome}
+use Rattle.dcsctp_machine.specs.turns.FlushOutcomes.{Answer, draft_to, FlushAnswers, flush_answered}
 use Rattle.dcsctp_machine.specs.turns.EndOutcomes.{ended_outcome, abort_outcome, reflected_outcome, ShutdownAckTurn, ShutdownCompleteTurn}
-use Rattle.dcsctp_machine.specs.turns.HandshakeOutcomes.{pair_from, renewed_pair, cookie_for, init_ack_emission, init_outcome, init_emission, awaits_init_ack, connect_outcome, no_cookie_text, abort_emission, queue_anew, awaits_cookie_ack, echo_emission, accepted_init_ack_outcome, init_ack_outcome, connected_after, cookie_ack_outcome}
-use Rattle.dcsctp_machine.specs.turns.CookieEchoOutcomes.{established_by, establish_outcome, interleaves, restart_outcome_where, maintain_outcome, resolved_outcome, cookie_echo_outcome}
+use Rattle.dcsctp_machine.specs.turns.HandshakeOutcomes.{pair_from, renewed_pair, cookie_for, init_ack_emission, init_outcome, init_emission, awaits_init_ack, connect_outcome, no_cookie_text, abort_emission, awaits_cookie_ack, echo_emission, EchoAnswers, InitAckAnswers, accepted_init_ack_by, init_ack_by, connected_after, CookieAckAnswers, cookie_ack_by}
+use Rattle.dcsctp_machine.specs.turns.CookieEchoOutcomes.{established_by, acknowledgement, EstablishAnswers, establish_by, queue_kept, queue_begun, RestartAnswers, restart_by_where, MaintainAnswers, maintain_by, ResolvedAnswers, resolved_by, EchoedAnswers, cookie_echo_by}
 use Rattle.dcsctp_machine.specs.control.Effect.{Link, Effect, holds, connects, link_of}
 use Rattle.dcsctp_machine.specs.control.HandshakeChanges.{held_by_init_ack, new_held}
 use Rattle.dcsctp_machine.specs.control.CookieEchoChanges.{held_by_cookie, Resolution, establish_new, restart, simultaneous_init, discard, maintain_existing, invalid_tag, resolve}
@@ -24,14 +25,11 @@ use Rattle.dcsctp_machine.specs.Laws.{FitsPair, OfferReadsBack}
 use Rattle.dcsctp_machine.specs.declared.capabilities.Capabilities.{Capabilities}
 use Rattle.dcsctp_machine.specs.Offer.{offer_of, negotiated}
 use Rattle.dcsctp_machine.specs.Fitting.{AllSent, FitsHeld, FitsCore, FitsEndpoint, IsSendable, Sendable, TurnFits}
-use Rattle.dcsctp_machine.proofs.FlushLemmas.{init_ack_turn_now, cookie_echo_turn_now, cookie_ack_turn_now}
 use Rattle.dcsctp_refinement.proofs.Bytes.{ReadPairs, read_pairs_fit}
+use Rattle.dcsctp_refinement.proofs.FlushFits.{still_fits, draft_sendable, flushed_fits}
 use Rattle.dcsctp_refinement.proofs.PlainFits.{plain_fits}
 use Rattle.dcsctp_refinement.proofs.Sendable.{init_sendable, init_ack_sendable, echo_sendable, ack_sendable, abort_sendable}
 use Rattle.dcsctp_refinement.proofs.Sent.{all_sent_append}
-
-pub still_fits : (e : Endpoint) → FitsEndpoint e → TurnFits (still e)
-still_fits e h = record { after = h; sends = tt }
 
 -- ---- one packet at most
 
@@ -102,18 +100,19 @@ refused_fits : (b : Bool) (e : Endpoint) (tag : ℕ) → FitsEndpoint e → IsSe
 refused_fits true e tag h good = record { after = record { valid = h.valid; options = h.options; core = tt; t1 = tt }; sends = (good, (tt, tt)) }
 refused_fits false e tag h good = record { after = record { valid = h.valid; options = h.options; core = tt; t1 = tt }; sends = (tt, tt) }
 
-pub echoed_fits : (b allowed : Bool) (e : Endpoint) (words : List Word) (tag : ℕ) (cookie : List ℕ) → FitsEndpoint e → IsSendable (echo_emission tag cookie)
-    → TurnFits (cond b (cond allowed (sends e words [] (echo_emission tag cookie)) (quiet e words [])) (quiet e words []))
-echoed_fits true allowed e words tag cookie h good = packet_fits allowed e words [] (echo_emission tag cookie) h tt good
-echoed_fits false allowed e words tag cookie h good = record { after = h; sends = tt }
+pub echoed_fits : (b : Bool) (e : Endpoint) (words : List Word) (tag : ℕ) (cookie : List ℕ) (answers : List Answer) → EchoAnswers b e tag cookie answers → FitsEndpoint e
+    → IsSendable (echo_emission tag cookie) → TurnFits (cond b (flush_answered answers e words [] true tag (cookie_echo cookie ∷ [])) (quiet e words []))
+echoed_fits true e words tag cookie answers allowed h good = flushed_fits e words [] true tag (cookie_echo cookie ∷ []) answers allowed h tt good
+echoed_fits false e words tag cookie answers allowed h good = record { after = h; sends = tt }
 
-accepted_fits : (e : Endpoint) (my : Pair) (theirs : Introduction) (cookie : Option (List ℕ)) (word : ℕ) → FitsEndpoint e → FitsPair my → Sendable (init_ack theirs cookie)
-    → TurnFits (accepted_init_ack_outcome e my theirs cookie word)
-accepted_fits e my theirs None word h own good = refused_fits (fits e (abort_emission theirs.pair.tag)) e theirs.pair.tag h (record { tag = good.said.tag; contents = (abort_sendable, tt) })
-accepted_fits e my theirs (Some cookie) word h own good =
+accepted_fits : (e : Endpoint) (my : Pair) (theirs : Introduction) (cookie : Option (List ℕ)) (word : ℕ) (answers : List Answer) → InitAckAnswers e theirs cookie (cookie_wait my) word answers
+    → FitsEndpoint e → FitsPair my → Sendable (init_ack theirs cookie) → TurnFits (accepted_init_ack_by (flush_answered answers) e my theirs cookie word)
+accepted_fits e my theirs None word answers allowed h own good =
+    refused_fits (fits e (abort_emission theirs.pair.tag)) e theirs.pair.tag h (record { tag = good.said.tag; contents = (abort_sendable, tt) })
+accepted_fits e my theirs (Some cookie) word answers allowed h own good =
     let awaiting : Endpoint = awaits_cookie_ack e my theirs cookie word in
     noting_fits (holds (link_of my (held_by_init_ack e.options my theirs)) ∷ []) _
-    (echoed_fits (fits awaiting (echo_emission theirs.pair.tag cookie)) (allows_packet awaiting.options.max_burst) awaiting (U64 word ∷ []) theirs.pair.tag cookie
+    (echoed_fits (fits awaiting (echo_emission theirs.pair.tag cookie)) awaiting (U64 word ∷ []) theirs.pair.tag cookie answers allowed
     (record {
       valid = h.valid;
       options = h.options;
@@ -121,28 +120,30 @@ accepted_fits e my theirs (Some cookie) word h own good =
       t1 = tt;
     }) (record { tag = good.said.0.tag; contents = (echo_sendable cookie good.said.1, tt) }))
 
-init_ack_fits : (e : Endpoint) (theirs : Introduction) (cookie : Option (List ℕ)) (core : Core) (word : ℕ) → FitsEndpoint e → FitsCore core → Sendable (init_ack theirs cookie)
-    → TurnFits (init_ack_outcome e theirs cookie core word)
-init_ack_fits e theirs cookie closed word h own good = still_fits e h
-init_ack_fits e theirs cookie (cookie_wait my) word h own good = accepted_fits e my theirs cookie word h own good
-init_ack_fits e theirs cookie (cookie_echoed my held echoed) word h own good = still_fits e h
-init_ack_fits e theirs cookie (open_in phase my held) word h own good = still_fits e h
+init_ack_fits : (e : Endpoint) (theirs : Introduction) (cookie : Option (List ℕ)) (core : Core) (word : ℕ) (answers : List Answer) → InitAckAnswers e theirs cookie core word answers
+    → FitsEndpoint e → FitsCore core → Sendable (init_ack theirs cookie) → TurnFits (init_ack_by (flush_answered answers) e theirs cookie core word)
+init_ack_fits e theirs cookie closed word answers allowed h own good = still_fits e h
+init_ack_fits e theirs cookie (cookie_wait my) word answers allowed h own good = accepted_fits e my theirs cookie word answers allowed h own good
+init_ack_fits e theirs cookie (cookie_echoed my held echoed) word answers allowed h own good = still_fits e h
+init_ack_fits e theirs cookie (open_in phase my held) word answers allowed h own good = still_fits e h
 
 -- ---- COOKIE ECHO
 
--- a flush of one COOKIE ACK
-acknowledged_fits : (e : Endpoint) (words : List Word) (events : List (Event Emission)) (with_checksum : Bool) (tag : ℕ) → FitsEndpoint e → AllSent IsSendable events → tag < 2 ^ 32
-    → TurnFits (flush_outcome e words events with_checksum tag (cookie_ack ∷ []))
-acknowledged_fits e words events with_checksum tag h before tag_fits =
-    packet_fits (allows_packet e.options.max_burst) e words events (record { with_checksum = with_checksum; packet = record { tag = tag; contents = cookie_ack ∷ [] } }) h before
+-- a flush that begins with COOKIE ACK
+acknowledged_fits : (e : Endpoint) (words : List Word) (events : List (Event Emission)) (held : Held) (cookie : Cookie) (answers : List Answer) → FlushAnswers e (acknowledgement held cookie) answers
+    → FitsEndpoint e → AllSent IsSendable events → cookie.addressee.tag < 2 ^ 32
+    → TurnFits (flush_answered answers e words events (acknowledgement held cookie).with_checksum cookie.addressee.tag (cookie_ack ∷ []))
+acknowledged_fits e words events held cookie answers allowed h before tag_fits =
+    flushed_fits e words events (acknowledgement held cookie).with_checksum cookie.addressee.tag (cookie_ack ∷ []) answers allowed h before
     (record { tag = tag_fits; contents = (ack_sendable, tt) })
 
-established_fits : (e : Endpoint) (cookie : Cookie) (queue : SendQueueState) (tie : ℕ) (events : List (Event Emission)) → FitsEndpoint e → ReadPairs cookie → AllSent IsSendable events
-    → TurnFits (establish_outcome e cookie queue tie events)
-established_fits e cookie queue tie events h pairs before =
-    let link : Link = link_of cookie.maker (held_by_cookie e.options cookie) in
+established_fits : (e : Endpoint) (cookie : Cookie) (queue : SendQueueState) (tie : ℕ) (events : List (Event Emission)) (answers : List Answer) → EstablishAnswers e cookie queue tie answers
+    → FitsEndpoint e → ReadPairs cookie → AllSent IsSendable events → TurnFits (establish_by (flush_answered answers) e cookie queue tie events)
+established_fits e cookie queue tie events answers allowed h pairs before =
+    let held : Held = held_by_cookie e.options cookie in
+    let link : Link = link_of cookie.maker held in
     noting_fits (holds link ∷ connects link ∷ []) _
-    (acknowledged_fits (established_by e cookie queue tie) (U64 tie ∷ []) events _ cookie.addressee.tag
+    (acknowledged_fits (established_by e cookie queue tie) (U64 tie ∷ []) events held cookie answers allowed
     (record {
       valid = h.valid;
       options = h.options;
@@ -150,45 +151,55 @@ established_fits e cookie queue tie events h pairs before =
       t1 = tt;
     }) before pairs.addressee.tag)
 
-restarted_fits : (e : Endpoint) (cookie : Cookie) (tie : ℕ) (core : Core) → FitsEndpoint e → FitsCore core → ReadPairs cookie → TurnFits (restart_outcome_where e cookie tie core)
-restarted_fits e cookie tie closed h own pairs = established_fits e cookie (queue_anew e.below.queue (interleaves e cookie)) tie (connection_restarted ∷ connected ∷ []) h pairs (tt, (tt, tt))
-restarted_fits e cookie tie (cookie_wait my) h own pairs = established_fits e cookie (queue_anew e.below.queue (interleaves e cookie)) tie (connection_restarted ∷ connected ∷ []) h pairs (tt, (tt, tt))
-restarted_fits e cookie tie (cookie_echoed my held echoed) h own pairs = established_fits e cookie (queue_anew e.below.queue (interleaves e cookie)) tie (connection_restarted ∷ connected ∷ []) h pairs (tt, (tt, tt))
-restarted_fits e cookie tie (open_in established my held) h own pairs = established_fits e cookie (queue_anew e.below.queue (interleaves e cookie)) tie (connection_restarted ∷ connected ∷ []) h pairs (tt, (tt, tt))
-restarted_fits e cookie tie (open_in shutdown_pending my held) h own pairs = absurd own
-restarted_fits e cookie tie (open_in shutdown_sent my held) h own pairs = absurd own
-restarted_fits e cookie tie (open_in shutdown_received my held) h own pairs = absurd own
-restarted_fits e cookie tie (open_in shutdown_ack_sent my held) h own pairs = absurd own
+restarted_fits : (e : Endpoint) (cookie : Cookie) (tie : ℕ) (core : Core) (answers : List Answer) → RestartAnswers e cookie tie core answers → FitsEndpoint e → FitsCore core → ReadPairs cookie
+    → TurnFits (restart_by_where (flush_answered answers) e cookie tie core)
+restarted_fits e cookie tie closed answers allowed h own pairs = established_fits e cookie (queue_begun e cookie) tie (connection_restarted ∷ connected ∷ []) answers allowed h pairs (tt, (tt, tt))
+restarted_fits e cookie tie (cookie_wait my) answers allowed h own pairs =
+    established_fits e cookie (queue_begun e cookie) tie (connection_restarted ∷ connected ∷ []) answers allowed h pairs (tt, (tt, tt))
+restarted_fits e cookie tie (cookie_echoed my held echoed) answers allowed h own pairs =
+    established_fits e cookie (queue_begun e cookie) tie (connection_restarted ∷ connected ∷ []) answers allowed h pairs (tt, (tt, tt))
+restarted_fits e cookie tie (open_in established my held) answers allowed h own pairs =
+    established_fits e cookie (queue_begun e cookie) tie (connection_restarted ∷ connected ∷ []) answers allowed h pairs (tt, (tt, tt))
+restarted_fits e cookie tie (open_in shutdown_pending my held) answers allowed h own pairs = absurd own
+restarted_fits e cookie tie (open_in shutdown_sent my held) answers allowed h own pairs = absurd own
+restarted_fits e cookie tie (open_in shutdown_received my held) answers allowed h own pairs = absurd own
+restarted_fits e cookie tie (open_in shutdown_ack_sent my held) answers allowed h own pairs = absurd own
 
-maintained_fits : (e : Endpoint) (cookie : Cookie) (core : Core) → FitsEndpoint e → FitsCore core → ReadPairs cookie → TurnFits (maintain_outcome e cookie core)
-maintained_fits e cookie closed h own pairs = still_fits e h
-maintained_fits e cookie (cookie_wait my) h own pairs = still_fits e h
-maintained_fits e cookie (cookie_echoed my held echoed) h own pairs =
+maintained_fits : (e : Endpoint) (cookie : Cookie) (core : Core) (answers : List Answer) → MaintainAnswers e cookie core answers → FitsEndpoint e → FitsCore core → ReadPairs cookie
+    → TurnFits (maintain_by (flush_answered answers) e cookie core)
+maintained_fits e cookie closed answers allowed h own pairs = still_fits e h
+maintained_fits e cookie (cookie_wait my) answers allowed h own pairs = still_fits e h
+maintained_fits e cookie (cookie_echoed my held echoed) answers allowed h own pairs =
     noting_fits (connects (link_of my held) ∷ []) _
-    (acknowledged_fits (connected_after e my held) [] (connected ∷ []) _ cookie.addressee.tag (record { valid = h.valid; options = h.options; core = (own.0, own.1); t1 = tt }) (tt, tt) pairs.addressee.tag)
-maintained_fits e cookie (open_in phase my held) h own pairs = acknowledged_fits e [] [] _ cookie.addressee.tag h tt pairs.addressee.tag
+    (acknowledged_fits (connected_after e my held) [] (connected ∷ []) held cookie answers allowed
+    (record { valid = h.valid; options = h.options; core = (own.0, own.1); t1 = tt }) (tt, tt) pairs.addressee.tag)
+maintained_fits e cookie (open_in phase my held) answers allowed h own pairs = acknowledged_fits e [] [] held cookie answers allowed h tt pairs.addressee.tag
 
-resolved_fits : (e : Endpoint) (cookie : Cookie) (core : Core) (word : ℕ) (resolution : Resolution) → FitsEndpoint e → FitsCore core → ReadPairs cookie
-    → TurnFits (resolved_outcome e cookie core word resolution)
-resolved_fits e cookie core word establish_new h own pairs = established_fits e cookie (record e.below.queue { is_interleaved = interleaves e cookie }) word (connected ∷ []) h pairs (tt, tt)
-resolved_fits e cookie core word restart h own pairs = restarted_fits e cookie word core h own pairs
-resolved_fits e cookie core word simultaneous_init h own pairs = established_fits e cookie (queue_anew e.below.queue (interleaves e cookie)) word (connected ∷ []) h pairs (tt, tt)
-resolved_fits e cookie core word discard h own pairs = record { after = h; sends = tt }
-resolved_fits e cookie core word maintain_existing h own pairs = maintained_fits e cookie core h own pairs
-resolved_fits e cookie core word invalid_tag h own pairs = record { after = h; sends = (tt, tt) }
+resolved_fits : (e : Endpoint) (cookie : Cookie) (core : Core) (word : ℕ) (resolution : Resolution) (answers : List Answer) → ResolvedAnswers e cookie core word resolution answers → FitsEndpoint e
+    → FitsCore core → ReadPairs cookie → TurnFits (resolved_by (flush_answered answers) e cookie core word resolution)
+resolved_fits e cookie core word establish_new answers allowed h own pairs = established_fits e cookie (queue_kept e cookie) word (connected ∷ []) answers allowed h pairs (tt, tt)
+resolved_fits e cookie core word restart answers allowed h own pairs = restarted_fits e cookie word core answers allowed h own pairs
+resolved_fits e cookie core word simultaneous_init answers allowed h own pairs = established_fits e cookie (queue_begun e cookie) word (connected ∷ []) answers allowed h pairs (tt, tt)
+resolved_fits e cookie core word discard answers allowed h own pairs = record { after = h; sends = tt }
+resolved_fits e cookie core word maintain_existing answers allowed h own pairs = maintained_fits e cookie core answers allowed h own pairs
+resolved_fits e cookie core word invalid_tag answers allowed h own pairs = record { after = h; sends = (tt, tt) }
 
-echo_fits : (e : Endpoint) (core : Core) (header : ℕ) (bytes : List ℕ) (found : Result Cookie (List ℕ)) (word : ℕ) → cookie_at bytes ≡ found → FitsEndpoint e → FitsCore core → FitsEcho bytes
-    → TurnFits (cookie_echo_outcome e core header found word)
-echo_fits e core header bytes (Err text) word is h own echo = record { after = h; sends = (tt, tt) }
-echo_fits e core header bytes (Ok cookie) word is h own echo = resolved_fits e cookie core word (resolve core e.tie header cookie) h own (read_pairs_fit bytes cookie echo.cookie_in_bytes is)
+echo_fits : (e : Endpoint) (core : Core) (header : ℕ) (bytes : List ℕ) (found : Result Cookie (List ℕ)) (word : ℕ) (answers : List Answer) → EchoedAnswers e core header found word answers
+    → cookie_at bytes ≡ found → FitsEndpoint e → FitsCore core → FitsEcho bytes → TurnFits (cookie_echo_by (flush_answered answers) e core header found word)
+echo_fits e core header bytes (Err text) word answers allowed is h own echo = record { after = h; sends = (tt, tt) }
+echo_fits e core header bytes (Ok cookie) word answers allowed is h own echo =
+    resolved_fits e cookie core word (resolve core e.tie header cookie) answers allowed h own (read_pairs_fit bytes cookie echo.cookie_in_bytes is)
 
 -- ---- COOKIE ACK and ABORT
 
-cookie_ack_fits : (e : Endpoint) (core : Core) → FitsEndpoint e → FitsCore core → TurnFits (cookie_ack_outcome e core)
-cookie_ack_fits e closed h own = still_fits e h
-cookie_ack_fits e (cookie_wait my) h own = still_fits e h
-cookie_ack_fits e (cookie_echoed my held cookie) h own = record { after = record { valid = h.valid; options = h.options; core = (own.0, own.1); t1 = tt }; sends = (tt, tt) }
-cookie_ack_fits e (open_in phase my held) h own = still_fits e h
+cookie_ack_fits : (e : Endpoint) (core : Core) (answers : List Answer) → CookieAckAnswers e core answers → FitsEndpoint e → FitsCore core → TurnFits (cookie_ack_by (flush_answered answers) e core)
+cookie_ack_fits e closed answers allowed h own = still_fits e h
+cookie_ack_fits e (cookie_wait my) answers allowed h own = still_fits e h
+cookie_ack_fits e (cookie_echoed my held cookie) answers allowed h own =
+    noting_fits (connects (link_of my held) ∷ []) _
+    (flushed_fits (connected_after e my held) [] (connected ∷ []) (draft_to held).with_checksum held.peer.tag [] answers allowed
+    (record { valid = h.valid; options = h.options; core = (own.0, own.1); t1 = tt }) (tt, tt) (draft_sendable held own.1))
+cookie_ack_fits e (open_in phase my held) answers allowed h own = still_fits e h
 
 abort_fits : (e : Endpoint) (causes : List Cause) (core : Core) → FitsEndpoint e → TurnFits (abort_outcome e causes core)
 abort_fits e causes closed h = still_fits e h
@@ -228,13 +239,9 @@ shutdown_complete_fits e (open_in shutdown_ack_sent my held) tag reflected o tur
 
 pub turn_fits : OfferReadsBack → (e : Endpoint) (tag : ℕ) (content : Content) (o : Outcome) → ContentTurn e tag content o → FitsEndpoint e → tag < 2 ^ 32 → Sendable content → TurnFits o
 turn_fits law e tag (init theirs) o turn h tagged good = subst TurnFits (sym turn.2) (init_fits law e theirs e.core turn.0 turn.1 h h.core good.said.0)
-turn_fits law e tag (init_ack theirs cookie) o turn h tagged good =
-    let now : (word : ℕ) × (o ≡ init_ack_outcome e theirs cookie e.core word) = init_ack_turn_now e theirs cookie o turn in
-    subst TurnFits (sym now.1) (init_ack_fits e theirs cookie e.core now.0 h h.core good)
-turn_fits law e tag (cookie_echo bytes) o turn h tagged good =
-    let now : (word : ℕ) × (o ≡ cookie_echo_outcome e e.core tag (cookie_at bytes) word) = cookie_echo_turn_now e tag bytes o turn in
-    subst TurnFits (sym now.1) (echo_fits e e.core tag bytes (cookie_at bytes) now.0 refl h h.core good.fits)
-turn_fits law e tag cookie_ack o turn h tagged good = subst TurnFits (sym (cookie_ack_turn_now e o turn)) (cookie_ack_fits e e.core h h.core)
+turn_fits law e tag (init_ack theirs cookie) o turn h tagged good = subst TurnFits (sym turn.3) (init_ack_fits e theirs cookie e.core turn.0 turn.1 turn.2 h h.core good)
+turn_fits law e tag (cookie_echo bytes) o turn h tagged good = subst TurnFits (sym turn.3) (echo_fits e e.core tag bytes (cookie_at bytes) turn.0 turn.1 turn.2 refl h h.core good.fits)
+turn_fits law e tag cookie_ack o turn h tagged good = subst TurnFits (sym turn.2) (cookie_ack_fits e e.core turn.0 turn.1 h h.core)
 turn_fits law e tag (re_config parameters) o turn h tagged good = absurd (cc)
 turn_fits law e tag (abort reflected causes) o turn h tagged good = subst TurnFits (sym turn) (abort_fits e causes e.core h)
 turn_fits law e tag (shutdown cumulative_tsn) o turn h tagged good = absurd (cc)

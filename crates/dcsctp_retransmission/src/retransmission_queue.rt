@@ -68,7 +68,7 @@ impl RetransmissionQueue {
     ghost use Rattle.dcsctp_machine.specs.Transfer.{new_retransmission};
     ghost use Rattle.dcsctp_send.specs.Timer.{expires_at};
     ghost use Rattle.dcsctp_outstanding.specs.Items.{unacknowledged_items};
-    ghost use Rattle.dcsctp_outstanding.specs.Outstanding.{next_tsn, distance_to};
+    ghost use Rattle.dcsctp_outstanding.specs.Outstanding.{next_tsn, distance_to, FindsPlaces};
     ghost use Rattle.dcsctp_retransmission.specs.Queue.{retransmission_state, new_queue, may_send, queue_at, timer_with};
     ghost use Rattle.dcsctp_retransmission.specs.Sending.{counted_again, HasFragment};
 
@@ -110,6 +110,13 @@ impl RetransmissionQueue {
         }
     }
 
+    /// Do messages go out as I-DATA (RFC 8260, section 2.1)?
+    pub fn is_interleaving(&self) -> bool
+        ensures { result ≡ (retransmission_state self.now).message_interleaving }
+    {
+        self.interleaving
+    }
+
     /// The TSN that goes out next.
     pub fn next_tsn(&self) -> u32
         ensures { result ≡ (retransmission_state self.now).next_tsn }
@@ -137,6 +144,21 @@ impl RetransmissionQueue {
         ensures { result ≡ (retransmission_state self.now).cwnd }
     {
         self.congestion.cwnd
+    }
+
+    /// How many items were sent that the cumulative TSN ack hasn't passed.
+    pub fn outstanding_items(&self) -> usize
+        ensures value { result ≡ (retransmission_state self.now).outstanding_items }
+        ensures few { result < 2 ^ 31 }
+    {
+        self.outstanding.len()
+    }
+
+    /// How many of them were found lost, and wait to be sent again.
+    pub fn marked_items(&self) -> usize
+        ensures { result ≡ (retransmission_state self.now).marked_items }
+    {
+        self.outstanding.marked_items()
     }
 
     /// How many items were sent and neither acknowledged nor abandoned.
@@ -199,6 +221,7 @@ impl RetransmissionQueue {
     pub fn chunk(&self, tsn: u32) -> Option<&DataToSend>
         ensures found { IfSome result (λ fragment. HasFragment (distance_to self.now.outstanding tsn) fragment.now self.now.outstanding.items) }
         ensures none { IfNone result (length self.now.outstanding.items ≤ distance_to self.now.outstanding tsn) }
+        ensures places { FindsPlaces self.now.outstanding }
     {
         let place = self.outstanding.distance_to(tsn);
         if place < self.outstanding.len() {

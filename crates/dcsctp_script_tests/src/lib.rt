@@ -11,6 +11,8 @@ mod chunks;
 #[cfg(test)]
 mod closing;
 #[cfg(test)]
+mod data;
+#[cfg(test)]
 mod faults;
 #[cfg(test)]
 mod heartbeats;

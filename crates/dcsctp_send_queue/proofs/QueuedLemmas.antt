@@ -1,14 +1,20 @@
 -- What a socket shows of a stream that is set, and of the others.
-use Rattle.std.proofs.Common.{◌≡◌, ◌≢◌, ◌==◌, nat_lt, ℕ, zero, suc, ◌<◌, Bool, true, false, if◌then◌else◌, Option, Err, List, [], ◌∷◌, length, filter, map, refl, sym, ap, ◌∙◌, arith}
+use Rattle.std.proofs.Common.{◌≡◌, ◌≢◌, ◌==◌, nat_lt, ℕ, zero, suc, ◌+◌, ◌<◌, Bool, true, false, if◌then◌else◌, Option, None, Some, is_some, Err, List, [], ◌∷◌, ◌++◌, length, filter, map, refl, sym, ap, ◌∙◌, arith}
 use Rattle.std.proofs.lemmas.Bool.Decides.{nat_tests}
-use Rattle.dcsctp_machine.specs.Transfer.{QueuedStream, stream_among, with_queued, queued_stream, queue_with}
+use Rattle.dcsctp_machine.specs.Transfer.{QueuedStream, may_begin, has_data, queue_added, stream_among, with_queued, queued_stream, queue_with}
 use Rattle.dcsctp_send_queue.specs.declared.backlog.Backlog.{Backlog}
 use Rattle.dcsctp_streams.specs.declared.message.UnderWay.{UnderWay}
-use Rattle.dcsctp_streams.specs.Waiting.{Stream, unused}
-use Rattle.dcsctp_streams.specs.Ranking.{stream_at, IsFound, IsBelow, IsAscending}
-use Rattle.dcsctp_send_queue.specs.Backlog.{changed, with_stream, is_used, used, found_in, stream_of, queued_of, is_ready, queue_state}
+use Rattle.dcsctp_streams.specs.Waiting.{Waiting, Stream, unused, with_message}
+use Rattle.dcsctp_streams.specs.Ranking.{stream_at, turn_if, turn_of, IsFound, IsBelow, IsAscending}
+use Rattle.dcsctp_send_queue.specs.Backlog.{changed, with_stream, is_used, used, found_in, stream_of, queued_of, is_paused, sent_of, is_ready, queue_state}
+use Rattle.dcsctp_machine.specs.Transfer as shown
+use Rattle.dcsctp_machine.specs.Transfer.{SendQueueState, more_bytes}
+use Rattle.std.specs.List.{list_any}
+use Rattle.dcsctp_streams.specs.declared.stream.Pause.{Pause}
+use Rattle.dcsctp_streams.specs.declared.stream.Pause.TheVariants.{Open, Pausing, HandedOut}
+use Rattle.dcsctp_send_queue.specs.Calls.{with_added}
 use Rattle.dcsctp_machine.specs.turns.SettingOutcomes.{stream_priority, stream_low_threshold, set_in_queue}
-use Rattle.dcsctp_send_queue.specs.Resets.{with_priority, with_threshold}
+use Rattle.dcsctp_send_queue.specs.Resets.{with_priority, with_threshold, may_send}
 use Rattle.dcsctp_send_queue.proofs.QueueLemmas.{same_test, other_test, less_test, not_less_test, changed-none, IsBelow-out, used_lost, found_in-none}
 
 equal_of : (a b : ℕ) → (a == b) ≡ true → a ≡ b
@@ -226,3 +232,35 @@ pub shown_after_threshold : (queue : Backlog) (id bytes : ℕ) → IsAscending q
     → queue_state (record queue { streams = changed id (with_threshold bytes) (used queue id) }) ≡ set_in_queue (stream_low_threshold id bytes) (queue_state queue)
 shown_after_threshold queue id bytes ascending =
     shown_after_set queue id (with_threshold bytes) (λ (q : QueuedStream). record q { low_threshold = bytes }) ascending (λ s. refl) (λ q. refl) (λ s. refl)
+
+-- ---- messages
+
+-- with one message more
+with_one : (messages : List Waiting) (message : Waiting) → length (messages ++ message ∷ []) ≡ length messages + 1
+with_one [] message = refl
+with_one (x ∷ xs) message = let ih = with_one xs message in omega (arith, ih)
+
+sees_message : (message : Waiting) (s : Stream) → queued_of (with_message message s) ≡ shown.with_message (length message.payload) (queued_of s)
+sees_message message s = ap (λ (n : ℕ). record (queued_of (with_message message s)) { messages = n }) (with_one s.messages message)
+
+-- what a socket shows of a queue to which a message is added
+pub shown_after_add : (queue : Backlog) (id : ℕ) (message : Waiting) → IsAscending queue.streams
+    → queue_state (with_added id message queue) ≡ queue_added id (length message.payload) (queue_state queue)
+shown_after_add queue id message ascending =
+    ap (λ (q : SendQueueState). record q { total_buffered_amount = more_bytes queue.total_amount (length message.payload) })
+    (shown_after_set queue id (with_message message) (shown.with_message (length message.payload)) ascending (sees_message message) (λ q. refl) (λ s. refl))
+
+-- a stream whose turn may come has a message that may be begun
+begins_by : (priority id : ℕ) (pause : Pause) (messages : List Waiting) → is_some (turn_if priority id pause messages) ≡ (if is_paused pause then false else nat_lt 0 (length messages))
+begins_by priority id Open [] = refl
+begins_by priority id Open (m ∷ ms) = sym (less_test 0 (length (m ∷ ms)) (omega arith))
+begins_by priority id Pausing messages = refl
+begins_by priority id HandedOut messages = refl
+
+any_begins : (streams : List Stream) → list_any (λ stream. is_some (turn_of stream)) streams ≡ list_any may_begin (map queued_of streams)
+any_begins [] = refl
+any_begins (x ∷ xs) = rw (begins_by x.priority x.id x.pause x.messages, any_begins xs) refl
+
+pub data_shown : (queue : Backlog) (under_way : Option UnderWay) → queue.under_way ≡ under_way → may_send under_way queue.streams ≡ has_data (record (queue_state queue) { under_way = sent_of under_way })
+data_shown queue None is = any_begins queue.streams
+data_shown queue (Some message) is = refl

@@ -1,6 +1,6 @@
 -- What a socket shows of a queue that is made ready for another association.
 use Rattle.std.proofs.Common.{◌≡◌, ℕ, Option, None, Some, IfSome, List, [], ◌∷◌, filter, map, refl, sym, ap, ◌∙◌}
-use Rattle.dcsctp_machine.specs.Transfer.{queued_stream, queue_with, with_more, queue_after_reset}
+use Rattle.dcsctp_machine.specs.Transfer.{QueuedStream, queued_stream, resumed, queue_with, with_more, queue_after_reset}
 use Rattle.dcsctp_send_queue.specs.declared.backlog.Backlog.{Backlog}
 use Rattle.dcsctp_streams.specs.declared.message.UnderWay.{UnderWay}
 use Rattle.dcsctp_streams.specs.Waiting.{Stream, unused, begun_anew, raised}
@@ -10,10 +10,10 @@ use Rattle.dcsctp_send_queue.specs.Resets.{restarted}
 use Rattle.dcsctp_send_queue.proofs.QueueLemmas.{used_found}
 use Rattle.dcsctp_send_queue.proofs.QueuedLemmas.{queued_changed}
 
--- a change that a function doesn't see
-map-kept : {X : Type 0} (g : Stream → X) (f : Stream → Stream) → ((s : Stream) → g (f s) ≡ g s) → (streams : List Stream) → map g (map f streams) ≡ map g streams
-map-kept g f kept [] = refl
-map-kept g f kept (x ∷ xs) = rw (kept x) (ap (λ ys. g x ∷ ys) (map-kept g f kept xs))
+-- each stream that begins anew is shown as one that isn't paused
+shown_anew : (streams : List Stream) → map queued_of (map begun_anew streams) ≡ map resumed (map queued_of streams)
+shown_anew [] = refl
+shown_anew (x ∷ xs) = ap (λ (qs : List QueuedStream). resumed (queued_of x) ∷ qs) (shown_anew xs)
 
 -- no stream waits for a reset once all begin anew
 none_ready : (streams : List Stream) → map (λ (s : Stream). s.id) (filter (is_ready None) (map begun_anew streams)) ≡ []
@@ -32,12 +32,12 @@ more_there queue u ascending goes_on =
 
 restarted_with : (queue : Backlog) (w : Option UnderWay) → queue.under_way ≡ w → IfSome w (λ u. IsAscending queue.streams) → CanGoOn queue.streams w → queue_state (restarted queue) ≡ queue_after_reset (queue_state queue)
 restarted_with queue None idle ascending can =
-    let streams = map-kept queued_of begun_anew (λ s. refl) queue.streams in
+    let streams = shown_anew queue.streams in
     let ready = none_ready queue.streams in
     rw (idle, streams, ready) refl
 restarted_with queue (Some u) goes_on ascending can =
     let back = changed u.stream_id.0 (raised u.sent) queue.streams in
-    let streams = map-kept queued_of begun_anew (λ s. refl) back ∙ more_there queue u ascending can in
+    let streams = shown_anew back ∙ ap (λ (qs : List QueuedStream). map resumed qs) (more_there queue u ascending can) in
     let ready = none_ready back in
     rw (goes_on, streams, ready) refl
 

@@ -37,8 +37,21 @@ stream_of queue id = found_in (unused id queue.default_priority queue.default_th
 
 -- ---- what a socket shows of it
 
+abbrev pub is_paused : Pause → Bool
+is_paused Open = false
+is_paused Pausing = true
+is_paused HandedOut = true
+
 abbrev pub queued_of : Stream → QueuedStream
-queued_of stream = record { stream = stream.id; buffered_amount = stream.amount; low_threshold = stream.threshold; priority = stream.priority }
+queued_of stream =
+    record {
+      stream = stream.id;
+      buffered_amount = stream.amount;
+      low_threshold = stream.threshold;
+      priority = stream.priority;
+      messages = length stream.messages;
+      is_paused = is_paused stream.pause;
+    }
 
 abbrev pub sent_of : Option UnderWay → Option StreamNumber
 sent_of None = None

@@ -61,6 +61,7 @@ impl Backlog {
     /// Adds a message behind the others of its stream. If there is no memory for it, nothing changes.
     pub fn put(&mut self, stream_id: StreamId, message: QueuedMessage) -> Result<(), AllocError>
         ensures ok { OnOk result (self.new ≡ record self.old { streams = changed stream_id.0 (with_message message) (used self.old stream_id.0) }) }
+        ensures was_ascending { IsAscending self.old.streams }
         ensures can { CanGoOn self.old.streams self.old.under_way → CanGoOn self.new.streams self.new.under_way }
         ensures err { OnErr result (self.new ≡ self.old) }
     {

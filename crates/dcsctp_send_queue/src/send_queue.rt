@@ -33,7 +33,7 @@ impl Model for SendQueue {
 
 impl SendQueue {
     ghost use Rattle.std.specs.Prelude.{◌≡◌, ◌+◌, ◌-◌, ◌<◌, ◌++◌, ◌↔◌, vec_len, IsTrue, IfSome, OnOk, OnErr, IfOk, map, take, if◌then◌else◌, false};
-    ghost use Rattle.dcsctp_machine.specs.Transfer.{empty_queue, queue_after_reset};
+    ghost use Rattle.dcsctp_machine.specs.Transfer.{empty_queue, queue_after_reset, queue_added, has_data};
     ghost use Rattle.dcsctp_machine.specs.turns.SettingOutcomes.{stream_priority, stream_low_threshold, set_in_queue};
     ghost use Rattle.dcsctp_streams.specs.Telling.{contents};
     ghost use Rattle.dcsctp_streams.specs.Fragment.{HasSize};
@@ -75,6 +75,7 @@ impl SendQueue {
     ) -> Result<(), AllocError>
         requires { 0 < vec_len message.payload }
         ensures ok { OnOk result (self.new ≡ with_added message.stream_id.0 (queued now message options.now self.old) self.old) }
+        ensures shown { OnOk result (queue_state self.new ≡ queue_added message.stream_id.0 (vec_len message.payload) (queue_state self.old)) }
         ensures err { OnErr result (self.new ≡ self.old) }
     {
         let stream_id = message.stream_id;
@@ -128,7 +129,8 @@ impl SendQueue {
 
     /// Is a message under way, or does one wait on a stream that isn't paused? Its age isn't looked at.
     pub fn has_data_to_send(&self) -> bool
-        ensures { result ≡ may_send self.now.under_way self.now.streams }
+        ensures whole { result ≡ may_send self.now.under_way self.now.streams }
+        ensures shown { result ≡ has_data (queue_state self.now) }
     {
         self.backlog.may_send()
     }
@@ -212,7 +214,8 @@ impl SendQueue {
 
     /// The payload bytes that wait on all streams together.
     pub fn total_buffered_amount(&self) -> usize
-        ensures { result ≡ self.now.total_amount }
+        ensures whole { result ≡ self.now.total_amount }
+        ensures shown { result ≡ (queue_state self.now).total_buffered_amount }
     {
         self.backlog.total_amount
     }

@@ -4,16 +4,13 @@ use Rattle.std.proofs.lemmas.List.{append-nil}
 use Rattle.rand_core.specs.Stream.{Stream}
 use Rattle.dcsctp_wire.specs.Content.{ChunkContent}
 use Rattle.dcsctp_machine.specs.Event.{Event}
-use Rattle.dcsctp_machine.specs.Packet.{Introduction, Content, init, cookie_ack, plain, unworked}
+use Rattle.dcsctp_machine.specs.Packet.{Introduction, Content, init, plain, unworked}
 use Rattle.dcsctp_machine.specs.Outcome.{Outcome, still}
 use Rattle.dcsctp_machine.specs.Turn.{ContentTurn, act_input}
-use Rattle.dcsctp_machine.specs.Endpoint.{Endpoint, Core, closed, cookie_wait, cookie_echoed, open_in}
-use Rattle.dcsctp_machine.specs.Following.{next_chunk}
 use Rattle.dcsctp_machine.specs.control.Acts.{connect}
 use Rattle.dcsctp_machine.specs.CallTurns.{Turned, turned}
-use Rattle.dcsctp_machine.specs.turns.PlainOutcomes.{violation_at, plain_outcome}
-use Rattle.dcsctp_machine.specs.turns.HandshakeOutcomes.{init_outcome, cookie_ack_outcome}
-use Rattle.dcsctp_machine.proofs.FlushLemmas.{cookie_ack_turn_of}
+use Rattle.dcsctp_machine.specs.turns.PlainOutcomes.{violation_at, PlainTurnBy}
+use Rattle.dcsctp_machine.specs.turns.HandshakeOutcomes.{init_outcome}
 use Rattle.dcsctp_api.specs.declared.errors.SocketFault.{SocketFault}
 use Rattle.dcsctp_api.specs.Calls.{UserView, Connects, Follows, FailsWhole}
 use Rattle.dcsctp_core.specs.declared.following.Following.TheVariants.{NextChunk}
@@ -21,21 +18,22 @@ use Rattle.dcsctp_core.specs.declared.context.Context.{Context}
 use Rattle.dcsctp_core.specs.declared.following.Following.{Following}
 use Rattle.dcsctp_core.specs.View.{View, endpoint_of, view_of, call_start, Moves, CutTurn}
 use Rattle.dcsctp_core.specs.Drawing.{first_word, second_word}
-use Rattle.dcsctp_core.specs.Handling.{OnlyDrew, Works, WorksWhole}
+use Rattle.dcsctp_core.specs.Handling.{OnlyDrew, Works, WorksWhole, WorksOne}
 use Rattle.dcsctp_core.proofs.Moving.{moves_one, moves_still}
-use Rattle.dcsctp_handshake.specs.Handshake.{connect_turn, cookie_ack_turn}
+use Rattle.dcsctp_handshake.specs.Handshake.{connect_turn}
 use Rattle.dcsctp_socket.specs.Parts.{ChunkMoves, ChunkCut, ConnectMoves, WorksChunk, WorksConnect}
 use Rattle.dcsctp_socket.specs.SocketView.{Settles, user_view_of}
+use Rattle.dcsctp_socket.proofs.DispatchLemmas.{plain_at}
 
 -- ---- a chunk that no handler works
 
 -- Nothing happens, and the chunk after it has its turn.
 pub rests : {R : Type 0} (stream : R → Stream) (view : View R) (tag : ℕ) (chunk : ChunkContent) → violation_at view.endpoint.core (unworked chunk) ≡ None
-    → ChunkMoves stream tag (plain (unworked chunk)) view NextChunk view
-rests stream view tag chunk none =
+    → PlainTurnBy view.endpoint (unworked chunk) None (still view.endpoint) → ChunkMoves stream tag (plain (unworked chunk)) view NextChunk view
+rests stream view tag chunk none rest =
     record {
       outcome = still view.endpoint;
-      turn = ap (plain_outcome view.endpoint view.endpoint.core (unworked chunk)) (sym none);
+      turn = plain_at view.endpoint (unworked chunk) (still view.endpoint) none rest;
       following = refl;
       moves = moves_still stream view;
     }
@@ -62,21 +60,10 @@ pub init_cut : {R : Type 0} (old new : View R) (tag : ℕ) (theirs : Introductio
 init_cut {R = R} old new tag theirs same =
     cut_before old tag (init theirs) (init_outcome old.endpoint theirs old.endpoint.core 0 0) new.events (0, 0, refl) (ap (λ (v : View R). v.events) same)
 
--- ---- COOKIE ACK
-
--- whatever the association is, the next chunk follows
-goes_on : (e : Endpoint) (core : Core) → (cookie_ack_outcome e core).following ≡ next_chunk
-goes_on e closed = refl
-goes_on e (cookie_wait mine) = refl
-goes_on e (cookie_echoed mine held cookie) = refl
-goes_on e (open_in phase mine held) = refl
-
-pub acknowledged_chunk : {R : Type 0} (stream : R → Stream) (old new : View R) (tag : ℕ) → Moves stream old (cookie_ack_turn old) new → ChunkMoves stream tag cookie_ack old NextChunk new
-acknowledged_chunk stream old new tag moves =
-    record { outcome = cookie_ack_turn old; turn = cookie_ack_turn_of old.endpoint (cookie_ack_turn old) refl; following = goes_on old.endpoint old.endpoint.core; moves = moves }
-
-pub acknowledged_cut : {R : Type 0} (old : View R) (tag : ℕ) (events : List (Event (List ℕ))) → CutTurn old (cookie_ack_turn old) events → ChunkCut tag cookie_ack old events
-acknowledged_cut old tag events cut = record { outcome = cookie_ack_turn old; turn = cookie_ack_turn_of old.endpoint (cookie_ack_turn old) refl; cut = cut }
+pub works_one : {R E : Type 0} (stream : R → Stream) (tag : ℕ) (content : Content) (Took : View R → Outcome → Type 0) (old : Context R) (result : Result Following E) (new : Context R)
+    → ((o : Outcome) → Took (view_of old) o → ContentTurn (endpoint_of old) tag content o) → WorksOne stream Took old result new → WorksChunk stream tag content old result new
+works_one stream tag content Took old (Ok next) new is worked = record { outcome = worked.outcome; turn = is worked.outcome worked.turn; following = worked.following; moves = worked.moves }
+works_one stream tag content Took old (Err error) new is cut = record { outcome = cut.outcome; turn = is cut.outcome cut.turn; cut = cut.cut }
 
 -- ---- connect
 

@@ -1,16 +1,16 @@
 -- The chunks of a packet are worked one after another.
-use Rattle.std.proofs.Common.{◌≡◌, ℕ, Bool, ◌+◌, ◌<◌, List, [], ◌∷◌, ◌++◌, length, map, take, drop, get_or, refl, sym, ap, subst, ◌∙◌, append_assoc}
+use Rattle.std.proofs.Common.{◌≡◌, ℕ, Bool, ◌+◌, ◌<◌, List, [], ◌∷◌, ◌++◌, length, map, take, drop, get_or, refl, sym, ap, subst, ◌∙◌, append_assoc, inr}
 use Rattle.std.proofs.lemmas.List.{take_more, take-map, map-append, take-append-drop}
 use Rattle.dcsctp_wire.specs.declared.chunk.Chunk.{Chunk}
 use Rattle.dcsctp_wire.specs.Content.{ChunkContent, chunk_content}
-use Rattle.dcsctp_machine.specs.Packet.{Content, content_in}
+use Rattle.dcsctp_machine.specs.Packet.{Content, Packet, content_in}
 use Rattle.dcsctp_machine.specs.Endpoint.{Endpoint}
 use Rattle.dcsctp_machine.specs.Outcome.{Outcome, still}
 use Rattle.dcsctp_machine.specs.Settings.{ports_of}
 use Rattle.dcsctp_machine.specs.Following.{packet_end, dropped_rest}
 use Rattle.dcsctp_machine.specs.Turn.{packet_begins, chunk_input, packet_ends, BeginTurn, ContentTurn}
-use Rattle.dcsctp_machine.specs.CallTurns.{Turned, turned, IsTurn, Turns, ChunkTurns, FirstTurns, after_all}
-use Rattle.dcsctp_machine.proofs.TurnLemmas.{GoOn, chunk_turns-push, chunk_turns-end, chunk_turns-cut, chunk_turns-whole, content_keeps_options, same_ports}
+use Rattle.dcsctp_machine.specs.CallTurns.{Turned, turned, IsTurn, ChunkTurns, WholeTurns, FirstTurns, FirstOfWhole, after_all}
+use Rattle.dcsctp_machine.proofs.TurnLemmas.{GoOn, chunk_turns-push, chunk_turns-end, chunk_turns-cut, chunk_turns-whole, content_keeps_options, same_ports, after_all-append}
 use Rattle.rand_core.specs.Stream.{Stream}
 use Rattle.dcsctp_core.specs.declared.state.State.{State}
 use Rattle.dcsctp_core.specs.declared.state.State.TheVariants.{Closed, CookieWait, CookieEchoed, Established}
@@ -88,47 +88,50 @@ nothing_before e (Established tcb) has = refl
 abbrev pub begun : Endpoint → List Content → Turned
 begun e contents = turned (packet_begins contents) (still e)
 
-abbrev pub ended : Endpoint → Turned
-ended e = turned packet_ends (still e)
-
 -- the chunks' turns behind what stands before them
 pub moves_begun : {R : Type 0} (stream : R → Stream) (a b : View R) (contents : List Content) (turns : List Turned) → MovesAll stream a turns b → MovesAll stream a (begun a.endpoint contents ∷ turns) b
 moves_begun stream a b contents turns m = moves_then stream a a b (begun a.endpoint contents ∷ []) turns refl (moves_one stream a a (begun a.endpoint contents) (moves_still stream a)) m
 
--- and before the end of the packet, which changes nothing so far
-pub moves_ended : {R : Type 0} (stream : R → Stream) (a b : View R) (turns : List Turned) → ports_of (after_all a.endpoint turns).options ≡ ports_of a.endpoint.options
-    → MovesAll stream a turns b → MovesAll stream a (turns ++ ended b.endpoint ∷ []) b
-moves_ended stream a b turns same m = moves_then stream a b b turns (ended b.endpoint ∷ []) same m (moves_one stream b b (ended b.endpoint) (moves_still stream b))
-
--- a chunk's turn, and then the end of the packet
-pub moves_last : {R : Type 0} (stream : R → Stream) (a b : View R) (t : Turned) → Moves stream a t.outcome b → ports_of t.outcome.after.options ≡ ports_of a.endpoint.options
-    → MovesAll stream a (t ∷ ended b.endpoint ∷ []) b
-moves_last stream a b t moves same = moves_ended stream a b (t ∷ []) same (moves_one stream a b t moves)
-
 pub worked_keeps_ports : (e : Endpoint) (tag : ℕ) (content : Content) (o : Outcome) → ContentTurn e tag content o → ports_of o.after.options ≡ ports_of e.options
 worked_keeps_ports e tag content o turn = same_ports e.options o.after.options (content_keeps_options e tag content o turn)
 
--- All chunks had their turns, and then the packet ended.
-pub turns_whole : (e now : Endpoint) (tag : ℕ) (contents : List Content) (turns : List Turned) → GoOn turns → ChunkTurns e tag contents [] turns → now ≡ after_all e turns
-    → ChunkTurns e tag contents (packet_ends ∷ []) (turns ++ ended now ∷ [])
-turns_whole e now tag contents turns goes_on are here =
-    chunk_turns-whole e tag contents (packet_ends ∷ []) turns (ended now ∷ []) goes_on are
-    (subst (λ (x : Endpoint). Turns x (packet_ends ∷ []) (ended now ∷ [])) here (record { is = refl; comes = refl }, tt))
+-- All chunks had their turns, and then the packet ends.
+pub turns_whole : (e : Endpoint) (tag : ℕ) (contents : List Content) (turns : List Turned) → GoOn turns → ChunkTurns e tag contents [] turns → (last : Turned) → IsTurn (after_all e turns) packet_ends last
+    → ChunkTurns e tag contents (packet_ends ∷ []) (turns ++ last ∷ [])
+turns_whole e tag contents turns goes_on are last is = chunk_turns-whole e tag contents (packet_ends ∷ []) turns (last ∷ []) goes_on are (is, tt)
 
--- One chunk cut the others, and then the packet ended.
-pub turns_cut : (e now : Endpoint) (tag : ℕ) (chunks : List Chunk) (i : ℕ) (chunk : Chunk) (turns : List Turned) (outcome : Outcome) (after : Endpoint)
+-- One chunk cut the others, and then the packet ends.
+pub turns_cut : (e now : Endpoint) (tag : ℕ) (chunks : List Chunk) (i : ℕ) (chunk : Chunk) (turns : List Turned) (outcome : Outcome) (last : Turned)
     → i < length chunks → chunk ≡ get_or chunks i chunk
     → GoOn turns → ChunkTurns e tag (contents_of (take i chunks)) [] turns
     → now ≡ after_all e turns
     → ContentTurn now tag (content_in (chunk_content chunk)) outcome
-    → outcome.following ≡ packet_end → after ≡ outcome.after
-    → ChunkTurns e tag (contents_of chunks) (packet_ends ∷ []) (turns ++ worked_as tag (content_in (chunk_content chunk)) outcome ∷ ended after ∷ [])
-turns_cut e now tag chunks i chunk turns outcome after below is goes_on are here turn cuts led =
+    → outcome.following ≡ packet_end
+    → IsTurn (after_all e (turns ++ worked_as tag (content_in (chunk_content chunk)) outcome ∷ [])) packet_ends last
+    → ChunkTurns e tag (contents_of chunks) (packet_ends ∷ []) ((turns ++ worked_as tag (content_in (chunk_content chunk)) outcome ∷ []) ++ last ∷ [])
+turns_cut e now tag chunks i chunk turns outcome last below is goes_on are here turn cuts ends =
     let content = content_in (chunk_content chunk) in
-    subst (λ (contents : List Content). ChunkTurns e tag contents (packet_ends ∷ []) (turns ++ worked_as tag content outcome ∷ ended after ∷ [])) (sym (contents_split chunks i chunk below is))
-    (chunk_turns-cut e tag (contents_of (take i chunks)) (packet_ends ∷ []) turns content (worked_as tag content outcome) (contents_of (drop (i + 1) chunks)) (ended after ∷ []) goes_on are
-    (is_worked (after_all e turns) now tag content outcome here turn) cuts
-    (subst (λ (x : Endpoint). Turns x (packet_ends ∷ []) (ended after ∷ [])) led (record { is = refl; comes = refl }, tt)))
+    let worked : Turned = worked_as tag content outcome in
+    let last_is : IsTurn outcome.after packet_ends last = subst (λ (x : Endpoint). IsTurn x packet_ends last) (after_all-append e turns (worked ∷ [])) ends in
+    let all : ChunkTurns e tag (contents_of chunks) (packet_ends ∷ []) (turns ++ worked ∷ last ∷ []) =
+    subst (λ (contents : List Content). ChunkTurns e tag contents (packet_ends ∷ []) (turns ++ worked ∷ last ∷ [])) (sym (contents_split chunks i chunk below is))
+    (chunk_turns-cut e tag (contents_of (take i chunks)) (packet_ends ∷ []) turns content worked (contents_of (drop (i + 1) chunks)) (last ∷ []) goes_on are
+    (is_worked (after_all e turns) now tag content outcome here turn) cuts (last_is, tt)) in
+    subst (λ (ts : List Turned). ChunkTurns e tag (contents_of chunks) (packet_ends ∷ []) ts) (sym (append_assoc turns (worked ∷ []) (last ∷ []))) all
+
+-- The ports stay over one turn more.
+pub ports_more : (e now : Endpoint) (tag : ℕ) (content : Content) (turns : List Turned) (outcome : Outcome) → now ≡ after_all e turns → ContentTurn now tag content outcome
+    → ports_of (after_all e turns).options ≡ ports_of e.options → ports_of (after_all e (turns ++ worked_as tag content outcome ∷ [])).options ≡ ports_of e.options
+ports_more e now tag content turns outcome here turn same =
+    ap (λ (x : Endpoint). ports_of x.options) (after_all-append e turns (worked_as tag content outcome ∷ []))
+    ∙ worked_keeps_ports now tag content outcome turn
+    ∙ ap (λ (x : Endpoint). ports_of x.options) here
+    ∙ same
+
+-- A packet that is worked whole is cut nowhere, or in its end.
+pub first_of_whole : (e : Endpoint) (packet : Packet) (turns : List Turned) → WholeTurns e packet turns → FirstOfWhole e packet turns
+first_of_whole e packet [] are = tt
+first_of_whole e packet (begun ∷ turns) are = (are.0, inr are.1)
 
 -- ---- where a growth was refused
 

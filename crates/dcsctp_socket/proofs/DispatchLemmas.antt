@@ -18,18 +18,23 @@ use Rattle.dcsctp_machine.specs.Following.{next_chunk, dropped_rest}
 use Rattle.dcsctp_machine.specs.Turn.{ContentTurn}
 use Rattle.dcsctp_machine.specs.CallTurns.{Turned, ChunkTurns}
 use Rattle.dcsctp_machine.specs.turns.EndOutcomes.{aborting_outcome, reflected_outcome, ShutdownAckTurn, ShutdownCompleteTurn}
-use Rattle.dcsctp_machine.specs.turns.PlainOutcomes.{violation_at, plain_outcome}
+use Rattle.dcsctp_machine.specs.turns.PlainOutcomes.{violation_at, PlainTurnBy, PlainTurn}
 use Rattle.dcsctp_core.specs.declared.state.State.{State}
 use Rattle.dcsctp_core.specs.declared.state.State.TheVariants.{Closed, CookieWait, CookieEchoed, Established}
 use Rattle.dcsctp_core.specs.declared.context.Context.{Context}
 use Rattle.dcsctp_core.specs.declared.following.Following.TheVariants.{NextChunk, DroppedRest}
 use Rattle.dcsctp_core.specs.View.{View, core_of, endpoint_of, view_of, Moves, MovesAll, CutTurn}
+use Rattle.dcsctp_core.specs.Handling.{TakesIn, CutIn}
 use Rattle.dcsctp_core.proofs.Moving.{moves_one, moves_still}
 use Rattle.dcsctp_ends.specs.Ends.{violation_in, aborting_turn, shutdown_ack_turn}
 use Rattle.dcsctp_socket.specs.Parts.{ChunkMoves, ChunkCut, AckMoves}
 use Rattle.dcsctp_socket.specs.Unknown.{unknown_turn}
 use Rattle.dcsctp_socket.proofs.AckLoop.{no_ack}
 use Rattle.dcsctp_socket.proofs.ChunkLoop.{worked_as}
+
+-- A chunk that breaks nothing has the turn of its kind.
+pub plain_at : (e : Endpoint) (chunk : Plain) (o : Outcome) → violation_at e.core chunk ≡ None → PlainTurnBy e chunk None o → PlainTurn e chunk o
+plain_at e chunk o none turn = subst (λ (v : Option Violation). PlainTurnBy e chunk v o) (sym none) turn
 
 -- ---- a violation
 
@@ -52,7 +57,10 @@ violates e tag (abort reflected causes) violation is = absurd (cc)
 violates e tag (shutdown tsn) violation is = absurd (cc)
 violates e tag shutdown_ack violation is = absurd (cc)
 violates e tag (shutdown_complete reflected) violation is = absurd (cc)
-violates e tag (plain chunk) violation is = (ap (plain_outcome e e.core chunk) (sym is), aborting_drops e e.core chunk violation is)
+violates e tag (plain chunk) violation is = (
+  subst (λ (v : Option Violation). PlainTurnBy e chunk v (aborting_outcome e e.core (reasons.Violation violation))) (sym is) refl,
+  aborting_drops e e.core chunk violation is,
+)
 
 -- what is known of a chunk in memory, once its kind is
 pub none_for : (core : Core) (x y : Chunk) → x ≡ y → violation_in core (content_in (chunk_content x)) ≡ None → violation_in core (content_in (chunk_content y)) ≡ None
@@ -137,7 +145,7 @@ complete_worked stream context tag reflected =
 
 pub unknown_is : {R : Type 0} (context : Context R) (tag type flags : ℕ) (value : List ℕ) → violation_at (core_of context.state) (unknown type flags value) ≡ None
     → ContentTurn (endpoint_of context) tag (plain (unknown type flags value)) (unknown_turn type flags value (view_of context))
-unknown_is context tag type flags value none = ap (plain_outcome (endpoint_of context) (core_of context.state) (unknown type flags value)) (sym none)
+unknown_is context tag type flags value none = plain_at (endpoint_of context) (unknown type flags value) (unknown_turn type flags value (view_of context)) none refl
 
 -- ---- heartbeats
 
@@ -175,8 +183,21 @@ heartbeat_ack_follows e (Some counter) = counted_follows (counter == e.heartbeat
 
 pub heartbeat_is : {R : Type 0} (context : Context R) (tag : ℕ) (parameters : List ParameterContent) → violation_at (core_of context.state) (heartbeat parameters) ≡ None
     → ContentTurn (endpoint_of context) tag (plain (heartbeat parameters)) (heartbeat_turn parameters (view_of context))
-heartbeat_is context tag parameters none = ap (plain_outcome (endpoint_of context) (core_of context.state) (heartbeat parameters)) (sym none)
+heartbeat_is context tag parameters none = plain_at (endpoint_of context) (heartbeat parameters) (heartbeat_turn parameters (view_of context)) none refl
 
 pub heartbeat_ack_is : {R : Type 0} (context : Context R) (tag : ℕ) (parameters : List ParameterContent) → violation_at (core_of context.state) (heartbeat_ack parameters) ≡ None
     → ContentTurn (endpoint_of context) tag (plain (heartbeat_ack parameters)) (heartbeat_ack_turn parameters (view_of context))
-heartbeat_ack_is context tag parameters none = ap (plain_outcome (endpoint_of context) (core_of context.state) (heartbeat_ack parameters)) (sym none)
+heartbeat_ack_is context tag parameters none = plain_at (endpoint_of context) (heartbeat_ack parameters) (heartbeat_ack_turn parameters (view_of context)) none refl
+
+-- ---- turns that may turn out in more than one way
+
+-- What a handler says without naming what follows: the next chunk does.
+pub takes_worked : {R : Type 0} (stream : R → Stream) (old new : View R) (tag : ℕ) (content : Content) (Took : View R → Outcome → Type 0)
+    → ((o : Outcome) → Took old o → ContentTurn old.endpoint tag content o) → ((o : Outcome) → Took old o → o.following ≡ next_chunk) → TakesIn stream Took old new
+    → ChunkMoves stream tag content old NextChunk new
+takes_worked stream old new tag content Took is follows took =
+    record { outcome = took.outcome; turn = is took.outcome took.turn; following = follows took.outcome took.turn; moves = took.moves }
+
+pub takes_cut : {R : Type 0} (old : View R) (tag : ℕ) (content : Content) (Took : View R → Outcome → Type 0) (events : List (Event (List ℕ)))
+    → ((o : Outcome) → Took old o → ContentTurn old.endpoint tag content o) → CutIn Took old events → ChunkCut tag content old events
+takes_cut old tag content Took events is cut = record { outcome = cut.outcome; turn = is cut.outcome cut.turn; cut = cut.cut }

@@ -3,6 +3,7 @@ mod ActLemmas
 mod CallLemmas
 mod ChunkLemmas
 mod ChunkLoop
+mod DataTurns
 mod DispatchLemmas
 mod ExpiryLemmas
 mod TimeLemmas

@@ -24,7 +24,7 @@ use Rattle.dcsctp_core.specs.declared.context.Context.{Context}
 use Rattle.dcsctp_core.specs.View.{View, core_of, tcb_of, held_of, endpoint_of, view_of, Moves, CutTurn}
 use Rattle.dcsctp_core.specs.Handling.{emitted}
 use Rattle.dcsctp_core.proofs.Composing.{behind, Adds, Draws, moves_behind, moves_as, cut_after}
-use Rattle.dcsctp_core.proofs.FlushLemmas.{emitted_sends}
+use Rattle.dcsctp_core.proofs.SentLemmas.{emitted_sends}
 use Rattle.dcsctp_socket.specs.Unknown.{reported_outcome, reported_turn, told_turn}
 
 -- As much of it as fits, does.

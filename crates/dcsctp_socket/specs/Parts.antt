@@ -1,19 +1,19 @@
 -- What the calls of a socket do, by its parts.
-use Rattle.std.specs.Prelude.{◌≡◌, ℕ, Result, Ok, Err, List, [], ◌∷◌}
+use Rattle.std.specs.Prelude.{◌≡◌, ℕ, Bool, true, false, Result, Ok, Err, List, [], ◌∷◌, ◌++◌}
 use Rattle.std.specs.List.{AllByRecursion}
 use Rattle.rand_core.specs.Stream.{Stream}
 use Rattle.dcsctp_wire.specs.Content.{PacketContent}
 use Rattle.dcsctp_machine.specs.Admission.{admits, shutdown_acks_in}
-use Rattle.dcsctp_machine.specs.Packet.{Content, packet_in}
+use Rattle.dcsctp_machine.specs.Packet.{Content, Packet, packet_in}
 use Rattle.dcsctp_machine.specs.Endpoint.{Endpoint}
 use Rattle.dcsctp_machine.specs.Following.{next_chunk}
 use Rattle.dcsctp_machine.specs.Outcome.{Outcome}
 use Rattle.dcsctp_machine.specs.Settings.{ports_of}
 use Rattle.dcsctp_machine.specs.Event.{Event}
-use Rattle.dcsctp_machine.specs.Turn.{ContentTurn, act_input}
+use Rattle.dcsctp_machine.specs.Turn.{ContentTurn, act_input, packet_ends}
 use Rattle.dcsctp_machine.specs.control.Acts.{Act, connect}
 use Rattle.dcsctp_machine.specs.turns.SettingOutcomes.{Setting, endpoint_with}
-use Rattle.dcsctp_machine.specs.CallTurns.{Turned, Turns, ChunkTurns, WholeTurns, AdmittedTurns, HandleInput, FirstTurns, FirstOfWhole, FirstAdmitted, CutInput}
+use Rattle.dcsctp_machine.specs.CallTurns.{Turned, IsTurn, Turns, after_all, ChunkTurns, WholeTurns, AdmittedTurns, HandleInput, FirstTurns, FirstOfWhole, FirstAdmitted, CutInput}
 use Rattle.dcsctp_api.specs.Calls.{AddsFront}
 use Rattle.dcsctp_core.specs.declared.context.Context.{Context}
 use Rattle.dcsctp_core.specs.View.{View, view_of, call_start, Moves, MovesAll, CallMoves, CutTurn}
@@ -26,6 +26,18 @@ pub record ChunkMoves {R : Type 0} (stream : R → Stream) (tag : ℕ) (content 
   pub turn : ContentTurn old.endpoint tag content outcome
   pub following : outcome.following ≡ following_of next
   pub moves : Moves stream old outcome new
+
+-- The turns of a packet up to its end: whatever its end does, they are whole with it; or the end is dropped, and they are whole.
+abbrev pub TurnsToEnd : Bool → Endpoint → Packet → List Turned → Type 0
+TurnsToEnd true e packet turns = (last : Turned) → IsTurn (after_all e turns) packet_ends last → WholeTurns e packet (turns ++ last ∷ [])
+TurnsToEnd false e packet turns = WholeTurns e packet turns
+
+-- The chunks of a packet had their turns, behind what stands before them.
+pub record MoveToEnd {R : Type 0} (stream : R → Stream) (packet : PacketContent) (old : View R) (ends : Bool) (new : View R) : Type 0 where
+  pub turns : List Turned
+  pub are : TurnsToEnd ends old.endpoint (packet_in packet) turns
+  pub moves : MovesAll stream old turns new
+  pub ports : ports_of (after_all old.endpoint turns).options ≡ ports_of old.endpoint.options
 
 -- The chunks of a packet had their turns, between what stands before them and the packet's end.
 pub record ChunksMove {R : Type 0} (stream : R → Stream) (packet : PacketContent) (old new : View R) : Type 0 where
@@ -121,6 +133,10 @@ set_view setting view = record view { endpoint = endpoint_with setting view.endp
 abbrev pub WorksChunk : {R E : Type 0} → (R → Stream) → ℕ → Content → Context R → Result Following E → Context R → Type 0
 WorksChunk stream tag content old (Ok next) new = ChunkMoves stream tag content (view_of old) next (view_of new)
 WorksChunk stream tag content old (Err error) new = ChunkCut tag content (view_of old) (view_of new).events
+
+abbrev pub WorksToEnd : {R E : Type 0} → (R → Stream) → PacketContent → Context R → Result Bool E → Context R → Type 0
+WorksToEnd stream packet old (Ok ends) new = MoveToEnd stream packet (view_of old) ends (view_of new)
+WorksToEnd stream packet old (Err error) new = ChunksCut packet (view_of old) (view_of new).events
 
 abbrev pub WorksChunks : {R E : Type 0} → (R → Stream) → PacketContent → Context R → Result (Unit {0}) E → Context R → Type 0
 WorksChunks stream packet old (Ok done) new = ChunksMove stream packet (view_of old) (view_of new)

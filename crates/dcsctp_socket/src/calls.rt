@@ -8,7 +8,7 @@ ghost use Rattle.dcsctp_machine.specs.Settings.{wire_options};
 ghost use Rattle.dcsctp_machine.specs.TimeTurns.{Waits};
 ghost use Rattle.dcsctp_api.specs.Calls.{is_closed};
 ghost use Rattle.dcsctp_core.specs.View.{core_of, endpoint_of};
-ghost use Rattle.dcsctp_socket.specs.Parts.{WorksChunks, WorksAck, WorksAcks, WorksPacket, WorksInput, WorksCall, ActTurns, WorksConnect};
+ghost use Rattle.dcsctp_socket.specs.Parts.{WorksToEnd, WorksChunks, WorksAck, WorksAcks, WorksPacket, WorksInput, WorksCall, ActTurns, WorksConnect};
 ghost use Rattle.dcsctp_socket.specs.TimeParts.{WorksTime};
 
 use crate::admission::{Admission, admit};
@@ -17,6 +17,7 @@ use crate::texts::UNREADABLE;
 use crate::timers::handle_timers;
 use dcsctp_api::{ErrorKind, Options, SocketTime};
 use dcsctp_core::{Context, Following};
+use dcsctp_data::end_packet;
 use dcsctp_ends::{abort_association, handle_shutdown_ack};
 use dcsctp_handshake::do_connect;
 use dcsctp_machine::AbortReason;
@@ -24,20 +25,34 @@ use dcsctp_wire::{Chunk, PacketError, SctpPacket, WireOptions};
 use rand_core::Rng;
 use std::alloc::AllocError;
 
-// Works the chunks of an admitted packet one after another, until one says that the rest is dropped.
+// Works the chunks of an admitted packet one after another, until one says that the others aren't worked, and
+// answers whether the end of the packet follows.
+fn work_chunks<R: Rng>(
+    context: &mut Context<R>,
+    packet: &SctpPacket<'_>,
+) -> Result<bool, AllocError>
+    ensures { WorksToEnd R.stream (packet_content packet.now) context.old result context.new }
+{
+    let header_tag = packet.common_header.verification_tag;
+    for chunk in &packet.chunks {
+        match handle_chunk(context, header_tag, chunk)? {
+            Following::NextChunk => {}
+            Following::PacketEnd => return Ok(true),
+            Following::DroppedRest => return Ok(false),
+        }
+    }
+    Ok(true)
+}
+
+// Works the chunks of an admitted packet, and then its end, unless a chunk said that the rest is dropped.
 fn handle_chunks<R: Rng>(
     context: &mut Context<R>,
     packet: &SctpPacket<'_>,
 ) -> Result<(), AllocError>
     ensures { WorksChunks R.stream (packet_content packet.now) context.old result context.new }
 {
-    let header_tag = packet.common_header.verification_tag;
-    for chunk in &packet.chunks {
-        match handle_chunk(context, header_tag, chunk)? {
-            Following::NextChunk => {}
-            Following::PacketEnd => return Ok(()),
-            Following::DroppedRest => return Ok(()),
-        }
+    if work_chunks(context, packet)? {
+        end_packet(context)?;
     }
     Ok(())
 }

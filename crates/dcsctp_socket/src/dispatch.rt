@@ -9,6 +9,9 @@ ghost use Rattle.dcsctp_socket.specs.Parts.{WorksChunk};
 
 use crate::unknown::handle_unknown;
 use dcsctp_core::{Context, Following};
+use dcsctp_data::{
+    handle_data, handle_forward_tsn, handle_i_data, handle_i_forward_tsn, handle_sack,
+};
 use dcsctp_ends::{abort_association, handle_abort, handle_shutdown_ack, violation_of};
 use dcsctp_handshake::{handle_cookie_ack, handle_cookie_echo, handle_init, handle_init_ack};
 use dcsctp_heartbeat::{handle_heartbeat_ack, handle_heartbeat_request};
@@ -73,14 +76,29 @@ fn work_chunk<R: Rng>(
         Chunk::Unknown(unknown) => handle_unknown(context, unknown),
         // No phase that there is awaits it.
         Chunk::ShutdownComplete(_) => Ok(Following::NextChunk),
+        Chunk::Data(data) => {
+            handle_data(context, data)?;
+            Ok(Following::NextChunk)
+        }
+        Chunk::IData(data) => {
+            handle_i_data(context, data)?;
+            Ok(Following::NextChunk)
+        }
+        Chunk::Sack(sack) => {
+            handle_sack(context, sack)?;
+            Ok(Following::NextChunk)
+        }
+        Chunk::ForwardTsn(forward_tsn) => {
+            handle_forward_tsn(context, forward_tsn)?;
+            Ok(Following::NextChunk)
+        }
+        Chunk::IForwardTsn(forward_tsn) => {
+            handle_i_forward_tsn(context, forward_tsn)?;
+            Ok(Following::NextChunk)
+        }
         // No handler works these yet.
-        Chunk::Data(_) => Ok(Following::NextChunk),
-        Chunk::Sack(_) => Ok(Following::NextChunk),
         Chunk::Shutdown(_) => Ok(Following::NextChunk),
         Chunk::Error(_) => Ok(Following::NextChunk),
-        Chunk::IData(_) => Ok(Following::NextChunk),
         Chunk::ReConfig(_) => Ok(Following::NextChunk),
-        Chunk::ForwardTsn(_) => Ok(Following::NextChunk),
-        Chunk::IForwardTsn(_) => Ok(Following::NextChunk),
     }
 }

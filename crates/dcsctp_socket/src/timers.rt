@@ -1,13 +1,19 @@
 //! Which timers are due, and when the next one is.
 
-ghost use Rattle.std.specs.Prelude.{◌≡◌, true, false, [], ◌∷◌, IsOk};
-ghost use Rattle.dcsctp_machine.specs.TimeTurns.{t1_timer, own_timer, timers_in, next_moment, NoneIsDue};
-ghost use Rattle.dcsctp_machine.specs.turns.HeartbeatOutcomes.{heartbeat_interval, heartbeat_timeout};
+ghost use Rattle.std.specs.Prelude.{◌≡◌, false, [], ◌∷◌, IsOk};
+ghost use Rattle.dcsctp_machine.specs.TimeTurns.{t1_timer, own_timer, timers_in, next_moment, NoneIsDue, ExpiryTurns, DueTurns};
+ghost use Rattle.dcsctp_machine.specs.turns.OwnTimers.{acknowledgement_delay, retransmission, heartbeat_interval, heartbeat_timeout};
+ghost use Rattle.dcsctp_machine.specs.Turn.{act_input};
+ghost use Rattle.dcsctp_machine.specs.control.Acts.{flushes};
 ghost use Rattle.dcsctp_core.specs.View.{core_of, endpoint_of};
-ghost use Rattle.dcsctp_socket.specs.TimeParts.{error_turns, expiry_turns, due_turns, WorksTurns, earlier_of, next_by};
+ghost use Rattle.dcsctp_socket.specs.TimeParts.{WorksTurns, EndTurns, TurnsBehind, earlier_of, next_by};
 
 use dcsctp_api::SocketTime;
 use dcsctp_core::{Context, State};
+use dcsctp_data::{
+    acknowledgement_deadline, handle_acknowledgement_delay, handle_retransmission,
+    retransmission_deadline,
+};
 use dcsctp_ends::abort_association;
 use dcsctp_handshake::handle_t1;
 use dcsctp_heartbeat::{handle_heartbeat_interval, handle_heartbeat_timeout};
@@ -18,7 +24,7 @@ use std::alloc::AllocError;
 // Gives up a peer that doesn't answer: aborts the association where too many errors were counted
 // (RFC 9260, section 8.1). The one error is that a growth was refused.
 fn end_by_errors<R: Rng>(context: &mut Context<R>) -> Result<(), AllocError>
-    ensures { WorksTurns R.stream error_turns context.old result context.new }
+    ensures { WorksTurns R.stream (EndTurns []) context.old result context.new }
 {
     if context.has_too_many_errors() {
         abort_association(context, AbortReason::TooManyErrors)?;
@@ -26,23 +32,36 @@ fn end_by_errors<R: Rng>(context: &mut Context<R>) -> Result<(), AllocError>
     Ok(())
 }
 
+// Gives up a peer that doesn't answer, as above; else what waits goes out (RFC 9260, sections 6.3.3 and 8.1).
+// The one error is that a growth was refused.
+fn end_or_send<R: Rng>(context: &mut Context<R>) -> Result<(), AllocError>
+    ensures { WorksTurns R.stream (EndTurns (act_input flushes ∷ [])) context.old result context.new }
+{
+    if context.has_too_many_errors() {
+        abort_association(context, AbortReason::TooManyErrors)?;
+    } else {
+        context.send_buffered_packets()?;
+    }
+    Ok(())
+}
+
 // What follows the timers where one has expired: a peer that is held may be given up. The one error is that
 // a growth was refused.
 fn end_where_held<R: Rng>(context: &mut Context<R>) -> Result<(), AllocError>
-    ensures { WorksTurns R.stream (expiry_turns [] true) context.old result context.new }
+    ensures { WorksTurns R.stream TurnsBehind context.old result context.new }
 {
     match context.state {
         State::Closed => {}
         State::CookieWait(_) => {}
         State::CookieEchoed(_) => end_by_errors(context)?,
-        State::Established(_) => end_by_errors(context)?,
+        State::Established(_) => end_or_send(context)?,
     }
     Ok(())
 }
 
 // What follows the timers. The one error is that a growth was refused.
 fn end_expiries<R: Rng>(context: &mut Context<R>, has_expired: bool) -> Result<(), AllocError>
-    ensures turns { WorksTurns R.stream (expiry_turns [] has_expired) context.old result context.new }
+    ensures turns { WorksTurns R.stream (ExpiryTurns [] has_expired) context.old result context.new }
     ensures waits { has_expired ≡ false → IsOk result }
 {
     if has_expired {
@@ -52,19 +71,33 @@ fn end_expiries<R: Rng>(context: &mut Context<R>, has_expired: bool) -> Result<(
 }
 
 // Works T1, and what follows it. The one error is that a growth was refused.
-fn handle_t1_alone<R: Rng>(context: &mut Context<R>) -> Result<(), AllocError>
-    ensures turns { WorksTurns R.stream (expiry_turns (t1_timer ∷ []) false) context.old result
+fn handle_t1_last<R: Rng>(context: &mut Context<R>, has_expired: bool) -> Result<(), AllocError>
+    ensures turns { WorksTurns R.stream (ExpiryTurns (t1_timer ∷ []) has_expired) context.old result
         context.new }
-    ensures waits { NoneIsDue (endpoint_of context.old) (t1_timer ∷ []) → IsOk result }
+    ensures waits { has_expired ≡ false → NoneIsDue (endpoint_of context.old) (t1_timer ∷ [])
+        → IsOk result }
 {
     let expired = handle_t1(context)?;
-    end_expiries(context, expired)
+    end_expiries(context, expired || has_expired)
+}
+
+// Works the timers of an association whose COOKIE ECHO isn't answered, and what follows them. The one error
+// is that a growth was refused.
+fn handle_echoed_timers<R: Rng>(context: &mut Context<R>) -> Result<(), AllocError>
+    ensures turns { WorksTurns R.stream
+        (ExpiryTurns (own_timer acknowledgement_delay ∷ t1_timer ∷ []) false) context.old result
+        context.new }
+    ensures waits { NoneIsDue (endpoint_of context.old)
+        (own_timer acknowledgement_delay ∷ t1_timer ∷ []) → IsOk result }
+{
+    let expired = handle_acknowledgement_delay(context);
+    handle_t1_last(context, expired)
 }
 
 // Works the timer of the answer to a HEARTBEAT, and what follows all timers. The one error is that a growth
 // was refused.
-fn handle_last_timers<R: Rng>(context: &mut Context<R>, has_expired: bool) -> Result<(), AllocError>
-    ensures turns { WorksTurns R.stream (expiry_turns (own_timer heartbeat_timeout ∷ []) has_expired)
+fn handle_last_timer<R: Rng>(context: &mut Context<R>, has_expired: bool) -> Result<(), AllocError>
+    ensures turns { WorksTurns R.stream (ExpiryTurns (own_timer heartbeat_timeout ∷ []) has_expired)
         context.old result context.new }
     ensures waits { has_expired ≡ false → NoneIsDue (endpoint_of context.old)
         (own_timer heartbeat_timeout ∷ []) → IsOk result }
@@ -73,30 +106,64 @@ fn handle_last_timers<R: Rng>(context: &mut Context<R>, has_expired: bool) -> Re
     end_expiries(context, expired || has_expired)
 }
 
-// Works the timers of an open association, each as it stands when its turn comes, and what follows them. The
-// one error is that a growth was refused.
-fn handle_own_timers<R: Rng>(context: &mut Context<R>) -> Result<(), AllocError>
-    ensures turns { WorksTurns R.stream (expiry_turns
-        (own_timer heartbeat_interval ∷ own_timer heartbeat_timeout ∷ []) false) context.old result
-        context.new }
-    ensures waits { NoneIsDue (endpoint_of context.old)
+// Works the timers of HEARTBEATs, and what follows all timers. The one error is that a growth was refused.
+fn handle_heartbeat_timers<R: Rng>(
+    context: &mut Context<R>,
+    has_expired: bool,
+) -> Result<(), AllocError>
+    ensures turns { WorksTurns R.stream (ExpiryTurns
+        (own_timer heartbeat_interval ∷ own_timer heartbeat_timeout ∷ []) has_expired) context.old
+        result context.new }
+    ensures waits { has_expired ≡ false → NoneIsDue (endpoint_of context.old)
         (own_timer heartbeat_interval ∷ own_timer heartbeat_timeout ∷ []) → IsOk result }
 {
     let expired = handle_heartbeat_interval(context)?;
-    handle_last_timers(context, expired)
+    handle_last_timer(context, expired || has_expired)
 }
 
-/// Works the timers that are due at the present moment: T1 while the association is set up, and its own
-/// timers where it is open (RFC 9260, sections 5.1 and 8.3). The one error is that a growth was refused.
+// Works the timer of what is in flight, those of HEARTBEATs, and what follows all timers. The one error is
+// that a growth was refused.
+fn handle_further_timers<R: Rng>(
+    context: &mut Context<R>,
+    has_expired: bool,
+) -> Result<(), AllocError>
+    ensures turns { WorksTurns R.stream (ExpiryTurns (own_timer retransmission
+        ∷ own_timer heartbeat_interval ∷ own_timer heartbeat_timeout ∷ []) has_expired) context.old
+        result context.new }
+    ensures waits { has_expired ≡ false → NoneIsDue (endpoint_of context.old)
+        (own_timer retransmission ∷ own_timer heartbeat_interval ∷ own_timer heartbeat_timeout
+        ∷ []) → IsOk result }
+{
+    let expired = handle_retransmission(context);
+    handle_heartbeat_timers(context, expired || has_expired)
+}
+
+// Works the timers of an open association, each as it stands when its turn comes, and what follows them. The
+// one error is that a growth was refused.
+fn handle_own_timers<R: Rng>(context: &mut Context<R>) -> Result<(), AllocError>
+    ensures turns { WorksTurns R.stream (ExpiryTurns (own_timer acknowledgement_delay
+        ∷ own_timer retransmission ∷ own_timer heartbeat_interval ∷ own_timer heartbeat_timeout ∷ [])
+        false) context.old result context.new }
+    ensures waits { NoneIsDue (endpoint_of context.old) (own_timer acknowledgement_delay
+        ∷ own_timer retransmission ∷ own_timer heartbeat_interval ∷ own_timer heartbeat_timeout ∷ [])
+        → IsOk result }
+{
+    let expired = handle_acknowledgement_delay(context);
+    handle_further_timers(context, expired)
+}
+
+/// Works the timers that are due at the present moment: T1 while the association is set up, its own timers
+/// where it is open, and the delay of an acknowledgement in both (RFC 9260, sections 5.1, 6.2, 6.3.3 and 8.3).
+/// The one error is that a growth was refused.
 pub(crate) fn handle_timers<R: Rng>(context: &mut Context<R>) -> Result<(), AllocError>
-    ensures turns { WorksTurns R.stream due_turns context.old result context.new }
+    ensures turns { WorksTurns R.stream DueTurns context.old result context.new }
     ensures waits { NoneIsDue (endpoint_of context.old) (timers_in (core_of context.old.state))
         → IsOk result }
 {
     match context.state {
         State::Closed => {}
-        State::CookieWait(_) => handle_t1_alone(context)?,
-        State::CookieEchoed(_) => handle_t1_alone(context)?,
+        State::CookieWait(_) => handle_t1_last(context, false)?,
+        State::CookieEchoed(_) => handle_echoed_timers(context)?,
         State::Established(_) => handle_own_timers(context)?,
     }
     Ok(())
@@ -138,9 +205,15 @@ pub(crate) fn poll_timeout<R: Rng>(context: &Context<R>) -> SocketTime
 {
     match context.state {
         State::Established(_) => {
-            let interval = context.heartbeat_interval_deadline();
-            let timeout = context.heartbeat_timeout_deadline();
-            not_before(context.moment, earlier(interval, timeout))
+            let own = earlier(
+                acknowledgement_deadline(context),
+                retransmission_deadline(context),
+            );
+            let interval = earlier(own, context.heartbeat_interval_deadline());
+            not_before(
+                context.moment,
+                earlier(interval, context.heartbeat_timeout_deadline()),
+            )
         }
         State::Closed => not_before(context.moment, context.state.t1_deadline()),
         State::CookieWait(_) => not_before(context.moment, context.state.t1_deadline()),

@@ -1,0 +1,9 @@
+pub mod AddingLemmas
+pub mod AtOnceLemmas
+pub mod FillingLemmas
+pub mod GivingLemmas
+pub mod LossLemmas
+pub mod ReceivingLemmas
+pub mod SackLemmas
+pub mod SacksLemmas
+pub mod TellingLemmas

@@ -4,7 +4,12 @@
 #![tactic(auto)]
 
 mod queued_messages;
+mod receiving;
+mod sacks;
+mod sending;
 mod transfer;
 
+pub use dcsctp_reassembly::{Data, Numbering, SkippedTo};
 pub use queued_messages::QueuedMessages;
+pub use sacks::HandledSack;
 pub use transfer::Transfer;

@@ -1,13 +1,14 @@
 //! What waits to be sent. It outlasts an association.
 
-use dcsctp_machine::{Options, StreamId};
+use dcsctp_api::{Message, SendOptions};
+use dcsctp_machine::{Options, SocketTime, StreamId};
 use dcsctp_send_queue::SendQueue;
 use std::alloc::{AllocError, Global};
 use std::marker::Model;
 
 /// The messages that wait to be sent, by stream.
 pub struct QueuedMessages {
-    queue: SendQueue,
+    pub(crate) queue: SendQueue,
 }
 
 // Written out, as that of `Transfer` is.
@@ -27,8 +28,8 @@ impl Model for QueuedMessages {
 }
 
 impl QueuedMessages {
-    ghost use Rattle.std.specs.Prelude.{◌≡◌, OnOk, OnErr};
-    ghost use Rattle.dcsctp_machine.specs.Transfer.{empty_queue, queue_after_reset, queued_stream};
+    ghost use Rattle.std.specs.Prelude.{◌≡◌, ◌<◌, vec_len, OnOk, OnErr};
+    ghost use Rattle.dcsctp_machine.specs.Transfer.{empty_queue, queue_after_reset, queue_added, has_data, queued_stream};
     ghost use Rattle.dcsctp_machine.specs.turns.SettingOutcomes.{stream_priority, stream_low_threshold, set_in_queue};
 
     /// No messages, which are numbered as for no interleaving. It takes no memory.
@@ -38,6 +39,29 @@ impl QueuedMessages {
         QueuedMessages {
             queue: SendQueue::new(alloc, options),
         }
+    }
+
+    /// Adds a message, whose payload isn't empty, behind the others of its stream. It may be begun until its
+    /// lifetime after the moment `now` has passed. The one error is that there is no memory for it; then
+    /// nothing has changed.
+    pub fn add(
+        &mut self,
+        now: SocketTime,
+        message: Message,
+        options: &SendOptions,
+    ) -> Result<(), AllocError>
+        requires { 0 < vec_len message.payload }
+        ensures ok { OnOk result (self.new ≡ queue_added message.stream_id.0 (vec_len message.payload) self.old) }
+        ensures err { OnErr result (self.new ≡ self.old) }
+    {
+        self.queue.add(now, message, options)
+    }
+
+    /// Is a message under way, or does one wait on a stream that isn't to be reset? Its age isn't looked at.
+    pub fn has_data_to_send(&self) -> bool
+        ensures { result ≡ has_data self.now }
+    {
+        self.queue.has_data_to_send()
     }
 
     /// Makes them ready for another association: the message that is under way begins again, and no stream
@@ -53,6 +77,13 @@ impl QueuedMessages {
         ensures { self.new ≡ record self.old { is_interleaved = enabled } }
     {
         self.queue.enable_message_interleaving(enabled);
+    }
+
+    /// The payload bytes that wait to be sent, of all streams together. They stop at `usize::MAX`.
+    pub fn total_buffered_amount(&self) -> usize
+        ensures { result ≡ self.now.total_buffered_amount }
+    {
+        self.queue.total_buffered_amount()
     }
 
     /// The payload bytes that wait to be sent on this stream.

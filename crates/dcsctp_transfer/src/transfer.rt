@@ -10,10 +10,11 @@ use std::marker::Model;
 
 /// What an association has in flight and has received, and how long it awaits an acknowledgement.
 pub struct Transfer {
-    retransmission_queue: RetransmissionQueue,
-    rto: RetransmissionTimeout,
-    data_tracker: DataTracker,
-    reassembly_queue: ReassemblyQueue,
+    pub(crate) retransmission_queue: RetransmissionQueue,
+    pub(crate) rto: RetransmissionTimeout,
+    pub(crate) data_tracker: DataTracker,
+    pub(crate) reassembly_queue: ReassemblyQueue,
+    pub(crate) alloc: Global,
 }
 
 // Written out, so that the drops of all that is in the queues are proved here once, and not in each crate
@@ -25,14 +26,16 @@ impl Drop for Transfer {
             rto: _,
             data_tracker: _,
             reassembly_queue: _,
+            alloc: _,
         } = self;
     }
 }
 
 impl Model for Transfer {
+    ghost use Rattle.std.specs.Prelude.{◌≡◌};
     ghost use Rattle.dcsctp_machine.specs.Transfer.{Transfer};
     ghost use Rattle.dcsctp_send.specs.RetransmissionTimeout.{timeout_state};
-    ghost use Rattle.dcsctp_retransmission.specs.Queue.{retransmission_state};
+    ghost use Rattle.dcsctp_retransmission.specs.Queue.{retransmission_state, header_of};
     ghost use Rattle.dcsctp_data_tracker.specs.Acknowledging.{tracker_state};
     ghost use Rattle.dcsctp_reassembly.specs.Queue.{reassembly_state};
 
@@ -44,6 +47,8 @@ impl Model for Transfer {
       tracker = tracker_state transfer.data_tracker;
       reassembly = reassembly_state transfer.reassembly_queue;
     } };
+
+    ghost invariant = { λ transfer. transfer.retransmission_queue.outstanding.header ≡ header_of transfer.retransmission_queue.interleaving };
 }
 
 impl Transfer {
@@ -74,6 +79,7 @@ impl Transfer {
             rto: RetransmissionTimeout::new(options),
             data_tracker: DataTracker::new(alloc, options, peer_first_tsn),
             reassembly_queue: ReassemblyQueue::new(alloc, options.max_receiver_window_buffer_size),
+            alloc,
         }
     }
 

@@ -8,13 +8,13 @@ use Rattle.dcsctp_machine.specs.Cookie.{Cookie, cookie_at}
 use Rattle.dcsctp_machine.specs.Event.{Event, sent, connected, connection_restarted, error}
 use Rattle.dcsctp_machine.specs.Packet.{cookie_ack, shutdown_ack, Emission}
 use Rattle.dcsctp_machine.specs.Transfer.{SendQueueState, new_transfer}
-use Rattle.dcsctp_machine.specs.Endpoint.{Endpoint, Core, cookie_echoed, open_in, OpenPhase, established, shutdown_ack_sent, stopped_timers}
+use Rattle.dcsctp_machine.specs.Endpoint.{Endpoint, Core, cookie_echoed, open_in, OpenPhase, established, shutdown_ack_sent, stopped_timers, heartbeats_begun}
 use Rattle.dcsctp_machine.specs.Outcome.{Outcome, noting, still, counted}
 use Rattle.dcsctp_machine.specs.Following.{dropped_rest}
 use Rattle.dcsctp_machine.specs.control.CookieEchoChanges.{Resolution, establish_new, restart, simultaneous_init, discard, maintain_existing, invalid_tag, resolve, held_by_cookie, shutting_down_error}
 use Rattle.dcsctp_machine.specs.control.Effect.{holds, connects, link_of}
 use Rattle.dcsctp_machine.specs.turns.FlushOutcomes.{Answer, FlushAnswers, FlushKind, flush_answered, flush_outcome}
-use Rattle.dcsctp_machine.specs.turns.HandshakeOutcomes.{queue_anew, heartbeats_begun, connected_after}
+use Rattle.dcsctp_machine.specs.turns.HandshakeOutcomes.{queue_anew, connected_after}
 
 -- ---- one that is refused
 

@@ -1,15 +1,20 @@
 -- A flush: what waits goes out under the peer's tag, at most `max_burst` packets of it (RFC 9260, section 6.1). The transfer
 -- layer is asked to fill one packet after another, and the flush is what its answers make of it.
-use Rattle.std.specs.Prelude.{◌≡◌, ◌==◌, ◌≤◌, ◌+◌, ℕ, ℤ, pos, negsuc, suc, zero, Bool, true, false, List, [], ◌∷◌, ◌++◌, map, length, if◌then◌else◌}
+use Rattle.std.specs.Prelude.{◌≡◌, ◌==◌, ◌≤◌, ◌<◌, ◌+◌, ◌-◌, ◌%◌, ◌^◌, min, nat_le, ◌&&◌, ◌||◌, Option, None, Some, ℕ, ℤ, pos, negsuc, suc, zero, Bool, true, false, List, [], ◌∷◌, ◌++◌, map, length, if◌then◌else◌}
 use Rattle.std.specs.List.{AllByRecursion}
 use Rattle.dcsctp_machine.specs.declared.association.Held.{Held}
 use Rattle.dcsctp_machine.specs.declared.word.Word.{Word}
 use Rattle.dcsctp_machine.specs.Settings.{packet_size_limit}
 use Rattle.dcsctp_machine.specs.Event.{Event, sent, packets_in, buffered_amount_low, total_buffered_amount_low, lifecycle_message_fully_sent, lifecycle_message_maybe_expired, lifecycle_message_expired, lifecycle_end}
-use Rattle.dcsctp_machine.specs.Packet.{Content, Emission}
-use Rattle.dcsctp_machine.specs.Endpoint.{Endpoint, Core, closed, cookie_wait, cookie_echoed, open_in}
-use Rattle.dcsctp_machine.specs.Outcome.{Outcome, contents_len, still, quiet, sends, behind, then_outcome, noting}
-use Rattle.dcsctp_machine.specs.control.Effect.{Effect}
+use Rattle.dcsctp_machine.specs.Packet.{Plain, unworked, plain_out, Content, Emission}
+use Rattle.dcsctp_machine.specs.Transfer.{SendQueueState, has_data, TrackerState, can_send, Transfer, must_give, is_idle}
+use Rattle.dcsctp_machine.specs.turns.TransferMoves.{acknowledged}
+use Rattle.dcsctp_machine.specs.Endpoint.{Endpoint, Core, closed, cookie_wait, cookie_echoed, open_in, Timers, moment_after, heartbeats_begun}
+use Rattle.dcsctp_machine.specs.Outcome.{Outcome, contents_len, still, quiet, sends, behind, then_outcome}
+use Rattle.dcsctp_machine.specs.control.Choices.{plain_contents}
+use Rattle.dcsctp_wire.specs.Content.{SackContent, data_chunk, sack_chunk, i_data_chunk, forward_tsn_chunk, i_forward_tsn_chunk}
+use Rattle.dcsctp_wire.specs.ReadsBack.{FitsSack, FitsChunk}
+use Rattle.dcsctp_wire.specs.Spelling.{chunk_bytes}
 
 -- ---- one packet
 
@@ -31,13 +36,17 @@ told_event (message_may_have_expired id) = lifecycle_message_maybe_expired id
 told_event (message_has_expired id) = lifecycle_message_expired id
 told_event (message_ends id) = lifecycle_end id
 
--- What is answered where a packet is to be filled: the chunks behind what the packet holds, what the user is told, what
--- happens to the association (a request that begins), and the endpoint after that.
+-- What is answered where a packet is to be filled: what goes behind the chunks that it holds, what the user is told, and the
+-- endpoint after that.
 pub record Answer : Type 0 where
-  pub chunks : List Content
+  -- in the first packet alone: SACK and FORWARD-TSN
+  pub acknowledgements : List Plain
+  pub data_chunks : List Plain
   pub told : List Told
-  pub effects : List Effect
   pub after : Endpoint
+
+abbrev pub answer_contents : Answer → List Content
+answer_contents answer = plain_contents answer.acknowledgements ++ plain_contents answer.data_chunks
 
 -- the packet with these chunks behind what it holds
 abbrev pub filled : Emission → List Content → Emission
@@ -52,8 +61,7 @@ goes_out e told with_checksum tag (content ∷ contents) =
 -- what comes of one packet that is asked to be filled
 abbrev pub asked : Endpoint → Emission → Answer → Outcome
 asked e draft answer =
-    noting answer.effects
-    (goes_out answer.after (map told_event answer.told) draft.with_checksum draft.packet.tag (filled draft answer.chunks).packet.contents)
+    goes_out answer.after (map told_event answer.told) draft.with_checksum draft.packet.tag (filled draft (answer_contents answer)).packet.contents
 
 -- ---- a list of them
 
@@ -61,7 +69,7 @@ asked e draft answer =
 abbrev pub draft_to : Held → Emission
 draft_to held = record { with_checksum = held.capabilities.zero_checksum_method.0 == 0; packet = record { tag = held.peer.tag; contents = [] } }
 
--- the packet after one that went out
+-- The packet after one that went out goes to the same peer, without a checksum where zero checksum was negotiated.
 abbrev pub next_draft : Core → Emission → Emission
 next_draft closed draft = record draft { packet = record draft.packet { contents = [] } }
 next_draft (cookie_wait my) draft = record draft { packet = record draft.packet { contents = [] } }
@@ -81,9 +89,15 @@ packets_allowed (pos (suc more)) (cookie_echoed my held cookie) = 1
 packets_allowed (pos (suc more)) core = suc more
 packets_allowed (negsuc below) core = 0
 
+-- ---- what an ask may be answered
+
+-- no longer than `mtu`
+abbrev pub IsWithin : Endpoint → Emission → Type 0
+IsWithin e emission = 12 + contents_len emission.packet.contents ≤ packet_size_limit e.options
+
 -- what is answered where nothing waits
 abbrev pub nothing_waits : Endpoint → Answer
-nothing_waits e = record { chunks = []; told = []; effects = []; after = e }
+nothing_waits e = record { acknowledgements = []; data_chunks = []; told = []; after = e }
 
 -- Which packet of a flush is to be filled: what acknowledges, what gives messages up and what resets streams goes into the
 -- first alone.
@@ -91,19 +105,120 @@ pub data Ask : Type 0 where
   first_ask : Ask
   later_ask : Ask
 
--- The answers that are allowed to this ask. So far nothing waits, and there is one.
-abbrev pub Answered : Ask → Endpoint → Emission → Answer → Type 0
-Answered ask e draft answer = answer ≡ nothing_waits e
+-- how many bytes of chunks still fit into a packet
+abbrev pub room_in : Endpoint → Emission → ℕ
+room_in e draft = packet_size_limit e.options - 12 - contents_len draft.packet.contents
+
+-- the chunk, where it fits into so many bytes
+abbrev pub where_fits : ℕ → Plain → List Plain
+where_fits room chunk = if nat_le (length (chunk_bytes (plain_out chunk))) room then chunk ∷ [] else []
+
+-- Is a SACK asked for? One that is delayed goes along where data may follow (RFC 9260, section 6.1).
+abbrev pub wants_sack : Ask → SendQueueState → Transfer → Bool
+wants_sack later_ask queue transfer = false
+wants_sack first_ask queue transfer =
+    transfer.tracker.is_acknowledgement_due
+    || (transfer.tracker.owes_acknowledgement && (has_data queue || can_send transfer.retransmission))
+
+-- a SACK of what came in, with what is left of the receive window (RFC 9260, section 3.3.4)
+pub record IsSackOf (transfer : Transfer) (sack : SackContent) : Type 0 where
+  pub cumulative : sack.cumulative_tsn_ack ≡ transfer.tracker.cumulative_tsn % 2 ^ 32
+  pub window : sack.a_rwnd ≡ transfer.reassembly.remaining_bytes % 2 ^ 32
+  pub fits : FitsSack sack
+
+-- What acknowledges goes out where it is asked for and fits; all is acknowledged then.
+abbrev pub Acknowledges : Bool → ℕ → Transfer → TrackerState → List Plain → Type 0
+Acknowledges false room transfer after chunks = (after ≡ transfer.tracker) × (chunks ≡ [])
+Acknowledges true room transfer after chunks =
+    (after ≡ acknowledged transfer.tracker) × (sack : SackContent) × IsSackOf transfer sack × (chunks ≡ where_fits room (unworked (sack_chunk sack)))
+
+-- a FORWARD-TSN, or with interleaving an I-FORWARD-TSN (RFC 3758, section 3.2; RFC 8260, section 2.3.1)
+abbrev pub IsForward : Bool → Plain → Type 0
+IsForward false (unworked (forward_tsn_chunk tsn streams)) = Unit {0}
+IsForward true (unworked (i_forward_tsn_chunk tsn streams)) = Unit {0}
+IsForward interleaving chunk = ⊥
+
+-- DATA, or with interleaving I-DATA (RFC 9260, section 3.3.1; RFC 8260, section 2.1)
+abbrev pub IsData : Bool → Plain → Type 0
+IsData false (unworked (data_chunk chunk)) = Unit {0}
+IsData true (unworked (i_data_chunk chunk)) = Unit {0}
+IsData interleaving chunk = ⊥
+
+-- Its numbers fit their fields.
+abbrev pub FitsPlain : Plain → Type 0
+FitsPlain chunk = FitsChunk (plain_out chunk)
+
+-- No FORWARD-TSN goes out again before 200 milliseconds have passed, or the round trip (RFC 3758, section 3.5).
+abbrev pub next_forward : Endpoint → Transfer → ℕ
+next_forward e transfer = moment_after e.moment (min 200000000 transfer.timeout.srtt)
+
+-- What gives messages up goes out with the first packet, where partial reliability was negotiated, no sooner than it may; whether
+-- one is made is the transfer layer's choice.
+pub record GivesUp (ask : Ask) (e : Endpoint) (transfer : Transfer) (after : ℕ) (chunks : List Plain) : Type 0 where
+  pub is_made : Bool
+  pub later : after ≡ (if is_made then next_forward e transfer else e.no_forward_tsn_before)
+  pub none : is_made ≡ false → chunks ≡ []
+  pub in_first : ask ≡ later_ask → is_made ≡ false
+  pub in_time : e.moment < e.no_forward_tsn_before → is_made ≡ false
+  pub negotiated : transfer.retransmission.partial_reliability ≡ false → is_made ≡ false
+  pub at_most_one : length chunks ≤ 1
+  pub kind : AllByRecursion (IsForward transfer.retransmission.message_interleaving) chunks
+  pub fit : AllByRecursion FitsPlain chunks
+
+-- is the list empty?
+abbrev pub is_none : {A : Type 0} → List A → Bool
+is_none [] = true
+is_none (first ∷ rest) = false
+
+-- What the transfer layer of an association gives: what acknowledges, what gives messages up, and data, which is missing only where
+-- none can go (RFC 9260, section 6.1).
+pub record Gives (ask : Ask) (e : Endpoint) (draft : Emission) (transfer : Transfer) (answer : Answer) : Type 0 where
+  pub left : Transfer
+  pub holds : answer.after.below.transfer ≡ Some left
+  pub sacks : List Plain
+  pub forwards : List Plain
+  pub parts : answer.acknowledgements ≡ sacks ++ forwards
+  pub acknowledges : Acknowledges (wants_sack ask e.below.queue transfer) (room_in e draft) transfer left.tracker sacks
+  pub gives_up : GivesUp ask e transfer answer.after.no_forward_tsn_before forwards
+  pub kind : AllByRecursion (IsData transfer.retransmission.message_interleaving) answer.data_chunks
+  pub fit : AllByRecursion FitsPlain answer.data_chunks
+  pub data_goes : is_none answer.data_chunks ≡ true
+      → must_give (room_in e (filled draft (plain_contents answer.acknowledgements))) answer.after.below.queue left.retransmission ≡ false
+  pub partial_reliability : left.retransmission.partial_reliability ≡ transfer.retransmission.partial_reliability
+  pub message_interleaving : left.retransmission.message_interleaving ≡ transfer.retransmission.message_interleaving
+  pub timeout : left.timeout ≡ transfer.timeout
+  pub reassembly : left.reassembly ≡ transfer.reassembly
+
+-- Where the association is idle, nothing happens.
+abbrev pub GivesWhere : Bool → Ask → Endpoint → Emission → Transfer → Answer → Type 0
+GivesWhere true ask e draft transfer answer = answer ≡ nothing_waits e
+GivesWhere false ask e draft transfer answer = Gives ask e draft transfer answer
+
+abbrev pub AnsweredBelow : Ask → Endpoint → Emission → Answer → Option Transfer → Type 0
+AnsweredBelow ask e draft answer None = answer ≡ nothing_waits e
+AnsweredBelow ask e draft answer (Some transfer) = GivesWhere (is_idle e.below.queue transfer) ask e draft transfer answer
+
+-- The heartbeat interval begins anew with data.
+abbrev pub timers_with : Endpoint → List Plain → Timers
+timers_with e [] = e.timers
+timers_with e (chunk ∷ chunks) = heartbeats_begun e e.timers
+
+-- The answers that are allowed to this ask.
+pub record Answered (ask : Ask) (e : Endpoint) (draft : Emission) (answer : Answer) : Type 0 where
+  pub kept : answer.after
+      ≡ record e { timers = timers_with e answer.data_chunks; no_forward_tsn_before = answer.after.no_forward_tsn_before; below = answer.after.below }
+  pub within : IsWithin e draft → IsWithin e (filled draft (answer_contents answer))
+  pub by_transfer : AnsweredBelow ask e draft answer e.below.transfer
 
 -- The lists of answers that end a flush of so many packets at most: at its limit, or at a packet that is empty after its
 -- ask.
 pub data Answers : Ask → ℕ → Endpoint → Emission → List Answer → Type 0 where
   at_limit : (ask : Ask) (e : Endpoint) (draft : Emission) → Answers ask 0 e draft []
   at_empty : (ask : Ask) (more : ℕ) (e : Endpoint) (draft : Emission) (answer : Answer) → Answered ask e draft answer
-      → (filled draft answer.chunks).packet.contents ≡ [] → Answers ask (suc more) e draft (answer ∷ [])
+      → (filled draft (answer_contents answer)).packet.contents ≡ [] → Answers ask (suc more) e draft (answer ∷ [])
   after_packet : (ask : Ask) (more : ℕ) (e : Endpoint) (draft : Emission) (answer : Answer) (answers : List Answer)
       → Answered ask e draft answer
-      → ((filled draft answer.chunks).packet.contents ≡ [] → ⊥)
+      → ((filled draft (answer_contents answer)).packet.contents ≡ [] → ⊥)
       → Answers later_ask more (asked e draft answer).after (next_draft e.core draft) answers
       → Answers ask (suc more) e draft (answer ∷ answers)
 
@@ -128,7 +243,7 @@ allows_packet (pos zero) = false
 allows_packet (pos (suc more)) = true
 allows_packet (negsuc below) = false
 
--- Where nothing waits, as it is so far, its first packet goes out, if it holds a chunk and a packet is allowed.
+-- Where nothing waits its first packet goes out, if it holds a chunk and a packet is allowed.
 abbrev pub flush_outcome : FlushKind
 flush_outcome e words events with_checksum tag [] = quiet e words events
 flush_outcome e words events with_checksum tag (content ∷ contents) =
@@ -149,12 +264,18 @@ IsFlushEvent (lifecycle_message_expired id) = Unit {0}
 IsFlushEvent (lifecycle_end id) = Unit {0}
 IsFlushEvent event = ⊥
 
--- no longer than `mtu`
-abbrev pub IsWithin : Endpoint → Emission → Type 0
-IsWithin e emission = 12 + contents_len emission.packet.contents ≤ packet_size_limit e.options
-
 -- At most so many packets, none longer than `mtu`, and nothing else but what the user may be told.
 pub record KeepsLimits (e : Endpoint) (events : List (Event Emission)) : Type 0 where
   pub packets : length (packets_in events) ≤ packets_allowed e.options.max_burst e.core
   pub sizes : AllByRecursion (IsWithin e) (packets_in events)
   pub others : AllByRecursion IsFlushEvent events
+
+-- ---- where nothing waits
+
+abbrev pub IdleBelow : SendQueueState → Option Transfer → Type 0
+IdleBelow queue None = Unit {0}
+IdleBelow queue (Some transfer) = is_idle queue transfer ≡ true
+
+-- Nothing waits, nothing is in flight, and nothing is to be acknowledged.
+abbrev pub IsIdle : Endpoint → Type 0
+IsIdle e = IdleBelow e.below.queue e.below.transfer

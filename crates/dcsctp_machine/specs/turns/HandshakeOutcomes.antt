@@ -16,7 +16,7 @@ use Rattle.dcsctp_machine.specs.Cause.{missing_mandatory_parameter}
 use Rattle.dcsctp_machine.specs.Event.{aborted, connected}
 use Rattle.dcsctp_machine.specs.Packet.{Introduction, Content, init, init_ack, cookie_echo, abort, shutdown_ack, Emission}
 use Rattle.dcsctp_machine.specs.Transfer.{SendQueueState, queue_after_reset, new_transfer, next_tsn_of}
-use Rattle.dcsctp_machine.specs.Endpoint.{Endpoint, Core, closed, cookie_wait, cookie_echoed, open_in, OpenPhase, established, shutdown_ack_sent, Timers, started, t1_settings, heartbeat_settings}
+use Rattle.dcsctp_machine.specs.Endpoint.{Endpoint, Core, closed, cookie_wait, cookie_echoed, open_in, OpenPhase, established, shutdown_ack_sent, heartbeats_begun, started, t1_settings}
 use Rattle.dcsctp_machine.specs.Outcome.{Outcome, still, quiet, fits, to_peer, emits, noting, drawing}
 use Rattle.dcsctp_machine.specs.control.Effect.{holds, connects, link_of}
 use Rattle.dcsctp_machine.specs.control.HandshakeChanges.{introduction_of, held_by_init_ack}
@@ -207,12 +207,6 @@ InitAckTurn e theirs cookie o =
     × (o ≡ init_ack_by (flush_answered answers) e theirs cookie e.core word)
 
 -- ---- COOKIE ACK
-
--- An interval of zero switches heartbeats off.
-abbrev pub heartbeats_begun : Endpoint → Timers → Timers
-heartbeats_begun e timers =
-    if as_nanos e.options.heartbeat_interval == 0 then timers
-    else record timers { heartbeat_interval = started e.moment (heartbeat_settings e.options) }
 
 -- The association is established. T1 is stopped, and the heartbeat interval begins anew.
 abbrev pub connected_after : Endpoint → Pair → Held → Endpoint

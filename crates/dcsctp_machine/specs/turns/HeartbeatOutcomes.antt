@@ -59,11 +59,6 @@ heartbeat_ack_outcome e (Some counter) = if counter == e.heartbeat_counter then 
 
 -- ---- timers
 
--- the timers of an association that is open
-pub data OwnTimer : Type 0 where
-  heartbeat_interval : OwnTimer
-  heartbeat_timeout : OwnTimer
-
 -- what is left of a timer that expires at this moment
 abbrev pub expired_of : ℕ → Option RunningTimer → Option RunningTimer
 expired_of moment None = None
@@ -106,7 +101,3 @@ timeout_outcome e =
       error_count = error_counted e.options.max_retransmissions e.error_count;
       timers = record e.timers { heartbeat_timeout = expired_of e.moment e.timers.heartbeat_timeout };
     })
-
-abbrev pub timer_outcome : Endpoint → OwnTimer → Outcome
-timer_outcome e heartbeat_interval = interval_outcome e e.core
-timer_outcome e heartbeat_timeout = timeout_outcome e

@@ -2,7 +2,7 @@
 use Rattle.std.specs.Prelude.{◌≡◌, ◌==◌, ℕ, ◌+◌, ◌-◌, ◌/◌, ◌%◌, Bool, true, false, Option, None, Some, List, [], ◌∷◌, ◌++◌, length, take, nat_le, codes, if◌then◌else◌}
 use Rattle.std.specs.Int.{w16, to_be_bytes}
 use Rattle.std.specs.Fmt.{decimal}
-use Rattle.dcsctp_wire.specs.Content.{data_chunk, i_data_chunk, forward_tsn_chunk, i_forward_tsn_chunk, unrecognized_chunk_type}
+use Rattle.dcsctp_wire.specs.Content.{data_chunk, i_data_chunk, sack_chunk, forward_tsn_chunk, i_forward_tsn_chunk, unrecognized_chunk_type}
 use Rattle.dcsctp_machine.specs.declared.association.Held.{Held}
 use Rattle.dcsctp_machine.specs.declared.capabilities.Capabilities.{Capabilities}
 use Rattle.dcsctp_machine.specs.declared.ends.Violation.{Violation}
@@ -16,6 +16,7 @@ use Rattle.dcsctp_machine.specs.Endpoint.{Endpoint, Core, cookie_echoed, open_in
 use Rattle.dcsctp_machine.specs.Following.{Following, next_chunk, packet_end}
 use Rattle.dcsctp_machine.specs.Outcome.{Outcome, still, reports, sends, to_peer}
 use Rattle.dcsctp_machine.specs.turns.EndOutcomes.{aborting_outcome}
+use Rattle.dcsctp_machine.specs.turns.DataOutcomes.{DataTurn, ForwardTurn, SackTurn}
 use Rattle.dcsctp_machine.specs.turns.HeartbeatOutcomes.{heartbeat_outcome, info_in, counter_of, heartbeat_ack_outcome}
 
 -- ---- what breaks the protocol that was negotiated
@@ -89,13 +90,18 @@ unknown_outcome e core type flags value =
 
 -- ---- every kind
 
--- One that breaks the protocol ends the association, and one that no handler works changes nothing.
-abbrev pub plain_outcome : Endpoint → Core → Plain → Option Violation → Outcome
-plain_outcome e core chunk (Some violation) = aborting_outcome e core (reasons.Violation violation)
-plain_outcome e core (unknown type flags value) None = unknown_outcome e core type flags value
-plain_outcome e core (heartbeat parameters) None = heartbeat_outcome e core parameters
-plain_outcome e core (heartbeat_ack parameters) None = heartbeat_ack_outcome e (counter_of (info_in parameters))
-plain_outcome e core (unworked chunk) None = still e
+-- One that breaks the protocol ends the association; those of data are told apart; and one that no handler works changes nothing.
+abbrev pub PlainTurnBy : Endpoint → Plain → Option Violation → Outcome → Type 0
+PlainTurnBy e chunk (Some violation) o = o ≡ aborting_outcome e e.core (reasons.Violation violation)
+PlainTurnBy e (unknown type flags value) None o = o ≡ unknown_outcome e e.core type flags value
+PlainTurnBy e (heartbeat parameters) None o = o ≡ heartbeat_outcome e e.core parameters
+PlainTurnBy e (heartbeat_ack parameters) None o = o ≡ heartbeat_ack_outcome e (counter_of (info_in parameters))
+PlainTurnBy e (unworked (data_chunk chunk)) None o = DataTurn e chunk.flags.immediate_ack chunk.tsn chunk.payload o
+PlainTurnBy e (unworked (i_data_chunk chunk)) None o = DataTurn e chunk.flags.immediate_ack chunk.tsn chunk.payload o
+PlainTurnBy e (unworked (sack_chunk chunk)) None o = SackTurn e e.below.transfer chunk.cumulative_tsn_ack o
+PlainTurnBy e (unworked (forward_tsn_chunk tsn streams)) None o = ForwardTurn e e.below.transfer tsn o
+PlainTurnBy e (unworked (i_forward_tsn_chunk tsn streams)) None o = ForwardTurn e e.below.transfer tsn o
+PlainTurnBy e (unworked chunk) None o = o ≡ still e
 
 abbrev pub PlainTurn : Endpoint → Plain → Outcome → Type 0
-PlainTurn e chunk o = o ≡ plain_outcome e e.core chunk (violation_at e.core chunk)
+PlainTurn e chunk o = PlainTurnBy e chunk (violation_at e.core chunk) o

@@ -15,7 +15,7 @@ use std::alloc::AllocError;
 use std::time::Duration;
 
 impl RetransmissionQueue {
-    ghost use Rattle.std.specs.Prelude.{take, ◌<◌, ◌≤◌, IfSome, length};
+    ghost use Rattle.std.specs.Prelude.{take, ◌<◌, ◌≤◌, ◌^◌, IfSome, length};
     ghost use Rattle.std.specs.Duration.{as_nanos};
     ghost use Rattle.std.specs.Option.{option_map};
     ghost use Rattle.dcsctp_outstanding.specs.Missing.{MissesUntil};
@@ -39,7 +39,8 @@ impl RetransmissionQueue {
         a_rwnd: u32,
         blocks: &[GapAckBlock],
     ) -> Result<HandleSackResult, AllocError>
-        ensures { HandlesSack now cumulative_tsn_ack a_rwnd blocks.now self.old events.old self.new events.new result }
+        ensures turn { HandlesSack now cumulative_tsn_ack a_rwnd blocks.now self.old events.old self.new events.new result }
+        ensures start { self.old.outstanding.first_tsn < 2 ^ 32 }
     {
         let count = self
             .outstanding

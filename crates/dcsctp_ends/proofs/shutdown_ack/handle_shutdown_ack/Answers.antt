@@ -1,7 +1,7 @@
 use Rattle.std.proofs.Common.{true}
 use Rattle.dcsctp_machine.specs.Packet.{shutdown_complete}
 use Rattle.dcsctp_core.specs.View.{view_of}
-use Rattle.dcsctp_core.proofs.FlushLemmas.{emitted_sends}
+use Rattle.dcsctp_core.proofs.SentLemmas.{emitted_sends}
 use Rattle.dcsctp_ends.proofs.CompleteFits.{complete_fits}
 use Rattle.dcsctp_ends.proofs.shutdown_ack.handle_shutdown_ack.Goals as goal
 

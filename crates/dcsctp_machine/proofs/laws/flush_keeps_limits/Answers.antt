@@ -1,4 +1,4 @@
-use Rattle.dcsctp_machine.proofs.FlushLemmas.{flush_keeps_limits}
+use Rattle.dcsctp_machine.proofs.LimitLemmas.{flush_keeps_limits}
 use Rattle.dcsctp_machine.proofs.laws.flush_keeps_limits.Goals as goal
 
 pub returns : goal.returns

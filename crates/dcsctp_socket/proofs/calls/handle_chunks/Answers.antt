@@ -1,143 +1,24 @@
+use Rattle.std.proofs.Common.{Bool, subst}
 use Rattle.std.proofs.lemmas.Result.{err_from_is_err_and}
-use Rattle.std.proofs.lemmas.List.{take_all}
-use Rattle.std.proofs.Common.{◌≡◌, ◌++◌, ◌+◌, ◌∷◌, [], List, take, refl, ap, subst, ◌∙◌, arith, inl}
-use Rattle.dcsctp_machine.proofs.TurnLemmas.{GoOn-push, chunk_turns_keep_ports}
-use Rattle.dcsctp_machine.specs.Settings.{ports_of}
-use Rattle.dcsctp_machine.specs.Endpoint.{Endpoint}
-use Rattle.dcsctp_machine.specs.Packet.{Content, content_in}
-use Rattle.dcsctp_machine.specs.Turn.{packet_ends, has_data}
-use Rattle.dcsctp_machine.specs.CallTurns.{Turned, ChunkTurns, FirstTurns}
-use Rattle.dcsctp_core.specs.declared.following.Following.{Following}
+use Rattle.dcsctp_wire.specs.Content.{packet_content}
 use Rattle.dcsctp_core.specs.View.{view_of}
-use Rattle.dcsctp_core.specs.Handling.{following_of}
-use Rattle.dcsctp_core.proofs.Moving.{moves_one, moves_then}
-use Rattle.dcsctp_wire.specs.declared.chunk.Chunk.{Chunk}
-use Rattle.dcsctp_wire.specs.Content.{chunk_content, packet_content}
-use Rattle.dcsctp_socket.specs.Parts.{ChunksCut}
-use Rattle.dcsctp_socket.proofs.CallLemmas.{adds_begun, adds_cut}
-use Rattle.dcsctp_socket.proofs.ChunkLoop.{contents_of, worked_as, begun, ended, nothing_before, moves_begun, moves_ended, turns_more, turns_end, turns_cut, moves_last, worked_keeps_ports, turns_whole, first_turns}
+use Rattle.dcsctp_socket.specs.Parts.{MoveToEnd}
+use Rattle.dcsctp_socket.proofs.CallLemmas.{ended, ended_cut}
 use Rattle.dcsctp_socket.proofs.calls.handle_chunks.Goals as goal
 
-pub loop-chunk-preserved : goal.loop-chunk-preserved
-loop-chunk-preserved g c =
-    let done = c.loop-chunk.invariant in
-    let step = c.in_ok-handle_chunk.ensures in
-    let start = view_of c.args.context.now in
-    let here = view_of c.loop-chunk.context in
-    let next = view_of c.handle_chunk.new.context in
-    let tag = c.args.packet.now.common_header.verification_tag in
-    let chunks = c.deref-chunk-items.result.now in
-    let last : Turned = worked_as tag (content_in (chunk_content c.chunk-item.result)) step.outcome in
-    record {
-      turns = done.turns ++ last ∷ [];
-      goes_on = GoOn-push done.turns last done.goes_on (step.following ∙ ap (λ (f : Following). following_of f) c.in-NextChunk.is);
-      are = turns_more start.endpoint here.endpoint tag chunks c.loop-chunk.chunk-index c.chunk-item.result done.turns step.outcome
-          c.loop-chunk-test.true c.chunk-item.is done.goes_on done.are done.moves.endpoint step.turn;
-      moves = moves_then g.R.Rng.stream start here next done.turns (last ∷ [])
-          (chunk_turns_keep_ports start.endpoint tag (contents_of (take c.loop-chunk.chunk-index chunks)) done.turns done.goes_on done.are)
-          done.moves (moves_one g.R.Rng.stream here next last step.moves);
-    }
+pub returns-in_ok-end_packet : goal.returns-in_ok-end_packet
+returns-in_ok-end_packet g c =
+    let old = view_of c.args.context.now in
+    let mid = view_of c.work_chunks.new.context in
+    let packet = packet_content c.args.packet.now in
+    ended g.R.Rng.stream old mid (view_of c.end_packet.new.context) packet
+    (subst (λ (ends : Bool). MoveToEnd g.R.Rng.stream packet old ends mid) c.if-branch.true c.in_ok-work_chunks.ensures) c.in_ok-end_packet.ensures
 
--- The rest of the packet is dropped.
-pub returns-in-DroppedRest : goal.returns-in-DroppedRest
-returns-in-DroppedRest g c =
-    let done = c.loop-chunk.invariant in
-    let step = c.in_ok-handle_chunk.ensures in
-    let start = view_of c.args.context.now in
-    let here = view_of c.loop-chunk.context in
-    let next = view_of c.handle_chunk.new.context in
-    let tag = c.args.packet.now.common_header.verification_tag in
-    let chunks = c.deref-chunk-items.result.now in
-    let contents : List Content = contents_of c.args.packet.now.chunks.items in
-    let all : chunks ≡ c.args.packet.now.chunks.items = c.deref-chunk-items.ensures.value in
-    let last : Turned = worked_as tag (content_in (chunk_content c.chunk-item.result)) step.outcome in
-    let are : ChunkTurns start.endpoint tag contents (packet_ends ∷ []) (done.turns ++ last ∷ []) =
-    subst (λ (cs : List Chunk). ChunkTurns start.endpoint tag (contents_of cs) (packet_ends ∷ []) (done.turns ++ last ∷ [])) all
-    (turns_end start.endpoint here.endpoint tag chunks c.loop-chunk.chunk-index c.chunk-item.result done.turns step.outcome
-    c.loop-chunk-test.true c.chunk-item.is done.goes_on done.are done.moves.endpoint step.turn
-    (step.following ∙ ap (λ (f : Following). following_of f) c.in-DroppedRest.is)) in
-    record {
-      turns = begun start.endpoint contents ∷ (done.turns ++ last ∷ []);
-      are = (record { is = refl; comes = nothing_before start.endpoint c.args.context.now.state (has_data contents) }, are);
-      moves = moves_begun g.R.Rng.stream start next contents (done.turns ++ last ∷ [])
-          (moves_then g.R.Rng.stream start here next done.turns (last ∷ [])
-          (chunk_turns_keep_ports start.endpoint tag (contents_of (take c.loop-chunk.chunk-index chunks)) done.turns done.goes_on done.are)
-          done.moves (moves_one g.R.Rng.stream here next last step.moves));
-    }
-
--- The chunk cut the others, and then the packet ended.
-pub returns-in-PacketEnd : goal.returns-in-PacketEnd
-returns-in-PacketEnd g c =
-    let done = c.loop-chunk.invariant in
-    let step = c.in_ok-handle_chunk.ensures in
-    let start = view_of c.args.context.now in
-    let here = view_of c.loop-chunk.context in
-    let next = view_of c.handle_chunk.new.context in
-    let tag = c.args.packet.now.common_header.verification_tag in
-    let chunks = c.deref-chunk-items.result.now in
-    let contents : List Content = contents_of c.args.packet.now.chunks.items in
-    let all : chunks ≡ c.args.packet.now.chunks.items = c.deref-chunk-items.ensures.value in
-    let last : Turned = worked_as tag (content_in (chunk_content c.chunk-item.result)) step.outcome in
-    let are : ChunkTurns start.endpoint tag contents (packet_ends ∷ []) (done.turns ++ last ∷ ended next.endpoint ∷ []) =
-    subst (λ (cs : List Chunk). ChunkTurns start.endpoint tag (contents_of cs) (packet_ends ∷ []) (done.turns ++ last ∷ ended next.endpoint ∷ [])) all
-    (turns_cut start.endpoint here.endpoint tag chunks c.loop-chunk.chunk-index c.chunk-item.result done.turns step.outcome next.endpoint
-    c.loop-chunk-test.true c.chunk-item.is done.goes_on done.are done.moves.endpoint step.turn
-    (step.following ∙ ap (λ (f : Following). following_of f) c.in-PacketEnd.is) step.moves.endpoint) in
-    record {
-      turns = begun start.endpoint contents ∷ (done.turns ++ last ∷ ended next.endpoint ∷ []);
-      are = (record { is = refl; comes = nothing_before start.endpoint c.args.context.now.state (has_data contents) }, are);
-      moves = moves_begun g.R.Rng.stream start next contents (done.turns ++ last ∷ ended next.endpoint ∷ [])
-          (moves_then g.R.Rng.stream start here next done.turns (last ∷ ended next.endpoint ∷ [])
-          (chunk_turns_keep_ports start.endpoint tag (contents_of (take c.loop-chunk.chunk-index chunks)) done.turns done.goes_on done.are)
-          done.moves (moves_last g.R.Rng.stream here next last step.moves (worked_keeps_ports here.endpoint tag _ step.outcome step.turn)));
-    }
-
--- All chunks had their turns, and then the packet ended.
-pub returns : goal.returns
-returns g c =
-    let done = c.loop-chunk.invariant in
-    let start = view_of c.args.context.now in
-    let here = view_of c.loop-chunk.context in
-    let tag = c.args.packet.now.common_header.verification_tag in
-    let chunks = c.deref-chunk-items.result.now in
-    let contents : List Content = contents_of c.args.packet.now.chunks.items in
-    let all : contents_of (take c.loop-chunk.chunk-index chunks) ≡ contents =
-    ap contents_of (take_all c.loop-chunk.chunk-index chunks (omega (arith, c.loop-chunk-test.false)) ∙ c.deref-chunk-items.ensures.value) in
-    let worked : ChunkTurns start.endpoint tag contents [] done.turns = subst (λ (cs : List Content). ChunkTurns start.endpoint tag cs [] done.turns) all done.are in
-    record {
-      turns = begun start.endpoint contents ∷ (done.turns ++ ended here.endpoint ∷ []);
-      are = (
-        record { is = refl; comes = nothing_before start.endpoint c.args.context.now.state (has_data contents) },
-        turns_whole start.endpoint here.endpoint tag contents done.turns done.goes_on worked done.moves.endpoint,
-      );
-      moves = moves_begun g.R.Rng.stream start here contents (done.turns ++ ended here.endpoint ∷ [])
-          (moves_ended g.R.Rng.stream start here done.turns (chunk_turns_keep_ports start.endpoint tag contents done.turns done.goes_on worked) done.moves);
-    }
-
--- The chunk whose turn was cut is the last one.
-pub returns-in_err-handle_chunk : goal.returns-in_err-handle_chunk
-returns-in_err-handle_chunk g c =
-    let done = c.loop-chunk.invariant in
-    let step = c.in_err-handle_chunk.ensures in
-    let start = view_of c.args.context.now in
-    let here = view_of c.loop-chunk.context in
-    let tag = c.args.packet.now.common_header.verification_tag in
-    let chunks = c.deref-chunk-items.result.now in
-    let contents : List Content = contents_of c.args.packet.now.chunks.items in
-    let all : chunks ≡ c.args.packet.now.chunks.items = c.deref-chunk-items.ensures.value in
-    let last : Turned = worked_as tag (content_in (chunk_content c.chunk-item.result)) step.outcome in
-    let ports : ports_of here.endpoint.options ≡ ports_of start.endpoint.options = ap (λ (e : Endpoint). ports_of e.options) done.moves.endpoint
-    ∙ chunk_turns_keep_ports start.endpoint tag (contents_of (take c.loop-chunk.chunk-index chunks)) done.turns done.goes_on done.are in
-    let first : FirstTurns start.endpoint tag contents (done.turns ++ last ∷ []) =
-    subst (λ (cs : List Chunk). FirstTurns start.endpoint tag (contents_of cs) (done.turns ++ last ∷ [])) all
-    (first_turns start.endpoint tag chunks (c.loop-chunk.chunk-index + 1) (done.turns ++ last ∷ [])
-    (turns_more start.endpoint here.endpoint tag chunks c.loop-chunk.chunk-index c.chunk-item.result done.turns step.outcome
-    c.loop-chunk-test.true c.chunk-item.is done.goes_on done.are done.moves.endpoint step.turn)) in
-    let cut : ChunksCut (packet_content c.args.packet.now) start (view_of c.handle_chunk.new.context).events =
-    record {
-      turns = begun start.endpoint contents ∷ (done.turns ++ last ∷ []);
-      are = (record { is = refl; comes = nothing_before start.endpoint c.args.context.now.state (has_data contents) }, inl first);
-      adds = adds_begun (ports_of start.endpoint.options) (begun start.endpoint contents) (done.turns ++ last ∷ []) start.events (view_of c.handle_chunk.new.context).events refl
-          (adds_cut g.R.Rng.stream start here done.turns last (view_of c.handle_chunk.new.context).events ports done.moves step.cut);
-    } in
-    rw (err_from_is_err_and c.from_residual.result c.from_residual.ensures.1).1 cut
+pub returns-in_err-end_packet : goal.returns-in_err-end_packet
+returns-in_err-end_packet g c =
+    let old = view_of c.args.context.now in
+    let mid = view_of c.work_chunks.new.context in
+    let packet = packet_content c.args.packet.now in
+    rw (err_from_is_err_and c.from_residual-in_err-end_packet.result c.from_residual-in_err-end_packet.ensures.1).1
+    (ended_cut g.R.Rng.stream old mid packet (view_of c.end_packet.new.context).events
+    (subst (λ (ends : Bool). MoveToEnd g.R.Rng.stream packet old ends mid) c.if-branch.true c.in_ok-work_chunks.ensures) c.in_err-end_packet.ensures)

@@ -1,23 +1,29 @@
-use Rattle.std.proofs.Common.{List, [], ◌∷◌, map, refl, ap, ◌∙◌, sym, arith}
-use Rattle.std.proofs.lemmas.List.{map-append}
-use Rattle.dcsctp_machine.specs.Outcome.{counted}
-use Rattle.dcsctp_api.specs.Events.{event_content}
-use Rattle.dcsctp_api.specs.declared.events.SocketEvent.{SocketEvent}
-use Rattle.dcsctp_api.specs.declared.events.SocketEvent.TheVariants.{SendPacket}
-use Rattle.dcsctp_core.specs.View.{view_of, endpoint_of}
-use Rattle.dcsctp_core.proofs.FlushLemmas.{flushed_unallowed, flushed_nothing, flushed_packet}
+use Rattle.std.proofs.Common.{sym, ap, ◌∙◌, subst, ◌-◌, ◌<◌, ℕ, arith}
+use Rattle.std.proofs.lemmas.Result.{err_from_is_err_and}
+use Rattle.dcsctp_machine.specs.turns.FlushOutcomes.{first_ask, later_ask, draft_to, packets_allowed}
+use Rattle.dcsctp_core.specs.View.{view_of, core_of}
+use Rattle.dcsctp_core.specs.Flushing.{FlushesBy}
+use Rattle.dcsctp_core.proofs.LoopLemmas.{none_allowed, first_cut, first_last, first_then}
 use Rattle.dcsctp_core.proofs.context.Context.send_buffered_packets_with.Goals as goal
 
-pub returns-then-is_empty : goal.returns-then-is_empty
-returns-then-is_empty g c = flushed_nothing g.R.Rng.stream c.args.self.now c.args.builder (c.if-is_empty.ensures.0 refl)
+pub returns-then-allowed-eq0 : goal.returns-then-allowed-eq0
+returns-then-allowed-eq0 g c =
+    λ draft is held holds. none_allowed g.R.Rng.stream first_ask (packets_allowed c.args.self.now.options.max_burst (core_of c.args.self.now.state)) (view_of c.args.self.now) draft (sym c.packets_allowed-allowed.ensures ∙ c.if-allowed-eq0.true)
 
-pub returns-then-not-allows_packet : goal.returns-then-not-allows_packet
-returns-then-not-allows_packet g c = flushed_unallowed g.R.Rng.stream c.args.self.now c.args.builder (sym c.if-not-allows_packet.ensures)
+pub returns-in_err-send_first : goal.returns-in_err-send_first
+returns-in_err-send_first g c =
+    rw (err_from_is_err_and c.from_residual.result c.from_residual.ensures.1).1
+    (λ draft is held holds. first_cut (packets_allowed c.args.self.now.options.max_burst (core_of c.args.self.now.state)) (view_of c.args.self.now) draft (view_of c.send_first.new.self).events
+    (omega (arith, c.packets_allowed-allowed.ensures, c.if-allowed-eq0.false)) (c.in_err-send_first.ensures draft is))
+
+pub returns-then-not-branch : goal.returns-then-not-branch
+returns-then-not-branch g c =
+    λ draft is held holds. first_last g.R.Rng.stream (packets_allowed c.args.self.now.options.max_burst (core_of c.args.self.now.state)) (view_of c.args.self.now) (view_of c.send_first.new.self) draft c.in_ok-send_first.field-0
+    (omega (arith, c.packets_allowed-allowed.ensures, c.if-allowed-eq0.false)) c.if-not-branch.true (c.in_ok-send_first.ensures draft is)
 
 pub returns : goal.returns
 returns g c =
-    flushed_packet g.R.Rng.stream c.args.self.now c.count_emitted.new.self c.args.builder c.build.result.items
-    (sym c.if-not-allows_packet.ensures) (λ none. cc (c.if-is_empty.ensures.1 none)) c.build.ensures.bytes (omega (arith, c.build.ensures.within, c.build.result.ok))
-    (c.count_emitted.ensures
-    ∙ ap (λ events. record (view_of c.args.self.now) { endpoint = counted (endpoint_of c.args.self.now); events = events })
-    (ap (λ (es : List SocketEvent). map event_content es) c.in_ok-add.ensures.ok ∙ map-append event_content c.args.self.now.events (SendPacket c.build.result ∷ [])))
+    λ draft is held holds. first_then g.R.Rng.stream (packets_allowed c.args.self.now.options.max_burst (core_of c.args.self.now.state)) (view_of c.args.self.now) (view_of c.send_first.new.self) draft held c.send_further.result (view_of c.send_further.new.self) c.in_ok-send_first.field-0
+    (omega (arith, c.packets_allowed-allowed.ensures, c.if-allowed-eq0.false)) c.if-not-branch.false holds (c.in_ok-send_first.ensures draft is)
+    (λ still. subst (λ (n : ℕ). FlushesBy g.R.Rng.stream later_ask n (draft_to held) (view_of c.send_first.new.self) c.send_further.result (view_of c.send_further.new.self))
+    (ap (λ (n : ℕ). n - 1) c.packets_allowed-allowed.ensures) (c.send_further.ensures held still))

@@ -4,8 +4,8 @@ use Rattle.dcsctp_outstanding.specs.Missing.{MissesUntil}
 use Rattle.dcsctp_retransmission.specs.Queue.{is_recovering, QueueModel, exiting, acknowledged_until, settled_at}
 use Rattle.dcsctp_retransmission.proofs.retransmission_queue.RetransmissionQueue.handle_sack.Goals as goal
 
-pub returns : goal.returns
-returns c =
+pub returns-clause-turn : goal.returns-clause-turn
+returns-clause-turn c =
     let stage : QueueModel = record {
       outstanding = c.self.inside.outstanding;
       congestion = c.leave_recovery.new.self;
@@ -19,7 +19,7 @@ returns c =
       bytes_retransmitted = c.self.inside.bytes_retransmitted;
     } in
     let is_stage : stage ≡ exiting c.args.cumulative_tsn_ack c.args.self.now = rw (c.leave_recovery.ensures, ← c.self.view_is) refl in
-    let count_is : c.distance_to-count.result ≡ acknowledged_by c.args.self.now.outstanding c.args.cumulative_tsn_ack = rw (← c.self.view_is) c.distance_to-count.ensures in
+    let count_is : c.distance_to-count.result ≡ acknowledged_by c.args.self.now.outstanding c.args.cumulative_tsn_ack = rw (← c.self.view_is) c.distance_to-count.ensures.value in
     let few : c.distance_to-count.result ≤ length c.args.self.now.outstanding.items = rw (← c.self.view_is) (omega (arith, c.if-len-count.false, c.len.ensures.value)) in
     let Misses : QueueModel → Type 0 = λ q. MissesUntil (is_recovering c.distance_to-count.result q) c.distance_to-count.result c.args.blocks.now q.outstanding.items c.miss_limit-limit.result in (
       rw (← count_is) few,

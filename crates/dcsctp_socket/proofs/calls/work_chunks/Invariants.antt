@@ -3,7 +3,7 @@ use Rattle.dcsctp_machine.specs.CallTurns.{Turned, ChunkTurns}
 use Rattle.dcsctp_machine.proofs.TurnLemmas.{GoOn}
 use Rattle.dcsctp_core.specs.View.{endpoint_of, view_of, MovesAll}
 use Rattle.dcsctp_socket.proofs.ChunkLoop.{contents_of}
-use Rattle.dcsctp_socket.proofs.calls.handle_chunks.Given as goal
+use Rattle.dcsctp_socket.proofs.calls.work_chunks.Given as goal
 
 -- the turns of the chunks so far
 abbrev pub invariant-loop-chunk : goal.invariant-loop-chunk

@@ -1,0 +1,79 @@
+-- What each step of a flush does, by whether a growth was refused.
+use Rattle.std.proofs.Common.{◌≡◌, ◌||◌, ◌&&◌, not, ℕ, Bool, true, false, Option, None, Some, Result, Ok, Err, IsOk, List, [], ◌∷◌, ◌++◌, map, refl, sym, ap, subst, ◌∙◌}
+use Rattle.std.proofs.lemmas.List.{append-nil}
+use Rattle.rand_core.specs.Stream.{Stream}
+use Rattle.dcsctp_build.specs.Building.{Building}
+use Rattle.dcsctp_machine.specs.Event.{Event}
+use Rattle.dcsctp_machine.specs.Packet.{Emission}
+use Rattle.dcsctp_machine.specs.Transfer.{SendQueueState, Transfer, has_data, is_idle}
+use Rattle.dcsctp_machine.specs.turns.FlushOutcomes.{Ask, first_ask, later_ask}
+use Rattle.dcsctp_transfer.specs.Filling.{TellsMore, is_sack_wanted, Acknowledges}
+use Rattle.dcsctp_core.specs.declared.context.Context.{Context}
+use Rattle.dcsctp_core.specs.declared.state.State.{State}
+use Rattle.dcsctp_core.specs.View.{View, transfer_of, view_of}
+use Rattle.dcsctp_core.specs.Flushing.{packet_for, state_with, AcknowledgesBelow, HasNoData, WantsNone, can_send_below, TriesData, Fills, FillsWith, AskCut, AsksWith, SendsUnlessEmpty, KeepsSize}
+use Rattle.dcsctp_core.proofs.FillLemmas.{idle_parts, fills_later}
+use Rattle.dcsctp_core.proofs.FirstLemmas.{transfer_is, fills_first, IsBusy, cut_busy}
+use Rattle.dcsctp_core.proofs.FlushLemmas.{asks_for, ask_cut}
+
+-- ---- where something may have been asked for
+
+busy_by : (queue : SendQueueState) (found : Option Transfer) → (HasNoData queue found → ⊥) → IsBusy queue found
+busy_by queue None some = some tt
+busy_by queue (Some transfer) some = λ idle. some (idle_parts queue transfer idle).0
+
+nothing_told : (events : List (Event (List ℕ))) → TellsMore events events
+nothing_told events = record { told = []; is = sym (append-nil events) }
+
+-- ---- filling
+
+pub later_returns : {R E : Type 0} (packet filled : Building) (old : Context R) (result : Result (Unit {0}) E) (new : Context R) → TriesData packet old result new filled
+    → (HasNoData old.send_queue (transfer_of old.state) → IsOk result) → FillsWith later_ask packet old result new filled
+later_returns packet filled old (Ok done) new h idle = λ draft is. fills_later (view_of old) draft (view_of new) packet filled is h
+later_returns packet filled old (Err error) new h idle =
+    λ draft is. cut_busy later_ask (view_of old) draft (view_of new).events (busy_by old.send_queue (transfer_of old.state) (λ none. cc (idle none))) h
+
+-- What acknowledges leaves what is in flight.
+data_stays : (queue : SendQueueState) (found : Option Transfer) (along : Bool) (old new : State) (packet filled : Building) → transfer_of old ≡ found → AcknowledgesBelow found along old packet new filled
+    → HasNoData queue found → HasNoData queue (transfer_of new)
+data_stays queue None along old new packet filled holds ack none = subst (HasNoData queue) (sym (ap transfer_of ack.0 ∙ holds)) tt
+data_stays queue (Some transfer) along old new packet filled holds ack none =
+    let found : transfer_of new ≡ Some ack.0 = ap transfer_of ack.1 ∙ transfer_is old transfer ack.0 holds in
+    subst (HasNoData queue) (sym found) (none.0, outstanding (is_sack_wanted along transfer) ack.0 ack.2 ∙ none.1)
+  where
+    outstanding : (b : Bool) (mid : Transfer) → Acknowledges b transfer packet mid filled → mid.retransmission.outstanding_items ≡ transfer.retransmission.outstanding_items
+    outstanding true mid h = ap (λ (t : Transfer). t.retransmission.outstanding_items) h.0
+    outstanding false mid h = ap (λ (t : Transfer). t.retransmission.outstanding_items) h.0
+
+pub first_returns : {R E : Type 0} (packet mid filled : Building) (old : Context R) (along : Bool) (state : State) (result : Result (Unit {0}) E) (new : Context R)
+    → along ≡ (has_data old.send_queue || can_send_below (transfer_of old.state)) → AcknowledgesBelow (transfer_of old.state) along old.state packet state mid
+    → TriesData mid (record old { state = state }) result new filled → (HasNoData old.send_queue (transfer_of state) → IsOk result) → FillsWith first_ask packet old result new filled
+first_returns packet mid filled old along state (Ok done) new is ack h idle =
+    λ draft built. fills_first old along state draft (view_of new) packet mid filled is built ack h
+first_returns packet mid filled old along state (Err error) new is ack h idle =
+    λ draft built. cut_busy first_ask (view_of old) draft (view_of new).events
+    (busy_by old.send_queue (transfer_of old.state) (λ none. cc (idle (data_stays old.send_queue (transfer_of old.state) along old.state state packet mid refl ack none)))) h
+
+-- no memory for a SACK
+wants_none : (queue : SendQueueState) (found : Option Transfer) (along : Bool) → (WantsNone found along → ⊥) → IsBusy queue found
+wants_none queue None along some = some tt
+wants_none queue (Some transfer) along some =
+    λ idle. let parts = idle_parts queue transfer idle in some (none (transfer.tracker.is_acknowledgement_due) transfer.tracker.owes_acknowledgement parts.1.1 parts.1.0)
+  where
+    none : (due owes : Bool) → due ≡ false → owes ≡ false → (due || (owes && along)) ≡ false
+    none due owes a b = ap (λ (x : Bool). x || (owes && along)) a ∙ ap (λ (x : Bool). x && along) b
+
+pub sack_refused : {R : Type 0} (packet : Building) (old : Context R) (along : Bool) (draft : Emission) → (WantsNone (transfer_of old.state) along → ⊥)
+    → AskCut first_ask (view_of old) draft (view_of old).events
+sack_refused packet old along draft some =
+    cut_busy first_ask (view_of old) draft (view_of old).events (wants_none old.send_queue (transfer_of old.state) along some) (nothing_told (view_of old).events)
+
+-- ---- and then the packet goes out
+
+pub asks_returns : {R E : Type 0} (stream : R → Stream) (ask : Ask) (packet filled : Building) (old mid : Context R) (result : Result Bool E) (new : Context R)
+    → ((draft : Emission) → packet ≡ packet_for old.options draft → Fills ask (view_of old) draft (view_of mid) filled) → SendsUnlessEmpty filled mid result new → KeepsSize filled
+    → AsksWith stream ask packet old result new
+asks_returns stream ask packet filled old mid (Ok is_sent) new fills sends size =
+    λ draft is. asks_for stream ask (view_of old) (view_of mid) (view_of new) draft filled is_sent (fills draft is) size sends.0 sends.1
+asks_returns stream ask packet filled old mid (Err error) new fills sends size =
+    λ draft is. ask_cut ask (view_of old) (view_of mid) (view_of new) draft filled (fills draft is) size sends

@@ -1,0 +1,146 @@
+-- A packet of what was lost goes out at once.
+use Rattle.std.proofs.Common.{◌≡◌, ◌==◌, ◌++◌, not, ℕ, Bool, true, false, Option, None, Some, Result, Ok, Err, List, [], ◌∷◌, map, refl, sym, ap, subst, ◌∙◌}
+use Rattle.std.specs.List.{AllByRecursion, flat_map}
+use Rattle.rand_core.specs.Stream.{Stream}
+use Rattle.dcsctp_build.specs.Building.{Building}
+use Rattle.dcsctp_wire.specs.Content.{ChunkContent}
+use Rattle.dcsctp_wire.specs.Spelling.{chunk_bytes, header_bytes, packet_bytes_of}
+use Rattle.dcsctp_machine.specs.declared.association.Held.{Held}
+use Rattle.dcsctp_machine.specs.declared.options.Options.{Options}
+use Rattle.dcsctp_machine.specs.Event.{Event}
+use Rattle.dcsctp_machine.specs.Packet.{Plain, unworked, Content, Emission, emission_bytes}
+use Rattle.dcsctp_machine.specs.Settings.{ports_of}
+use Rattle.dcsctp_machine.specs.Transfer.{Transfer}
+use Rattle.dcsctp_machine.specs.Endpoint.{Endpoint, held_in}
+use Rattle.dcsctp_machine.specs.Outcome.{Outcome, still, quiet, sends}
+use Rattle.dcsctp_machine.specs.control.Choices.{plain_contents}
+use Rattle.dcsctp_machine.specs.turns.FlushOutcomes.{Answer, draft_to, filled, goes_out, is_none, IsWithin}
+use Rattle.dcsctp_machine.specs.turns.DataOutcomes.{with_transfer, SendsAtOnce, FastRetransmits}
+use Rattle.dcsctp_transfer.specs.Sacks.{FillsAtOnce}
+use Rattle.dcsctp_core.specs.declared.context.Context.{Context}
+use Rattle.dcsctp_core.specs.declared.state.State.{State}
+use Rattle.dcsctp_core.specs.declared.transmission_control_block.TransmissionControlBlock.{TransmissionControlBlock}
+use Rattle.dcsctp_core.specs.View.{View, core_of, tcb_of, held_of, transfer_of, endpoint_of, view_of, Moves}
+use Rattle.dcsctp_core.specs.Handling.{TakesIn, CutIn}
+use Rattle.dcsctp_core.specs.Flushing.{packet_of, packet_for, empty_packet, sent_where, KeepsSize}
+use Rattle.dcsctp_core.specs.Below.{FillsAtOnceBelow, at_once_below, GoesAtOnce, AtOnceAt}
+use Rattle.dcsctp_core.proofs.BelowLemmas.{below_view, moves_to, moves_from}
+use Rattle.dcsctp_core.proofs.Composing.{cut_first}
+use Rattle.dcsctp_core.proofs.FillLemmas.{data_kinds, data_fit}
+use Rattle.dcsctp_core.proofs.FlushLemmas.{fits_by}
+use Rattle.dcsctp_core.proofs.LoopLemmas.{held_by_tcb, none_by_tcb, packet_to}
+use Rattle.dcsctp_core.proofs.Moving.{moves_still}
+use Rattle.dcsctp_core.proofs.SentLemmas.{body_of, body_of_chunks, none_as_bytes, sent_moves, built_bytes}
+
+-- the packet that was filled, if it holds a chunk
+goes : {R : Type 0} (stream : R → Stream) (v : View R) (after : Transfer) (with_checksum : Bool) (tag : ℕ) (contents : List Content) (packet : Building) (new : View R)
+    → packet ≡ packet_of v.endpoint.options with_checksum tag contents
+    → new ≡ sent_where (not (is_none contents)) packet (record v { endpoint = with_transfer v.endpoint after })
+    → Moves stream v (goes_out (with_transfer v.endpoint after) [] with_checksum tag contents) new
+goes stream v after with_checksum tag [] packet new built is = moves_to stream v new (with_transfer v.endpoint after) is
+goes stream v after with_checksum tag (content ∷ contents) packet new built is =
+    let e : Endpoint = with_transfer v.endpoint after in
+    let emission : Emission = record { with_checksum = with_checksum; packet = record { tag = tag; contents = content ∷ contents } } in
+    let bytes : List ℕ = packet_bytes_of packet.with_checksum (header_bytes packet.source_port packet.destination_port packet.verification_tag) packet.body in
+    moves_from stream v e (sends e [] [] emission) new refl
+    (sent_moves stream (record v { endpoint = e }) new emission bytes is (built_bytes v.endpoint.options packet with_checksum tag (content ∷ contents) bytes built refl))
+
+at_once_by : {R : Type 0} (stream : R → Stream) (v : View R) (held : Held) (transfer after : Transfer) (packet filled_packet : Building) (is_sent : Bool) (new : View R)
+    → transfer.retransmission.has_fast_retransmit ≡ true → held_in v.endpoint.core ≡ Some held → v.endpoint.below.transfer ≡ Some transfer
+    → packet ≡ packet_for v.endpoint.options (draft_to held) → FillsAtOnce transfer packet after filled_packet → KeepsSize filled_packet
+    → is_sent ≡ not (is_none filled_packet.body) → new ≡ sent_where is_sent filled_packet (record v { endpoint = with_transfer v.endpoint after })
+    → TakesIn stream AtOnceAt v new
+at_once_by {R = R} stream v held transfer after packet filled_packet is_sent new fast holds below built fills size sent_is is =
+    let e : Endpoint = v.endpoint in
+    let draft : Emission = draft_to held in
+    let chunks : List Plain = map unworked fills.chunks in
+    let contents : List Content = plain_contents chunks in
+    let packed : filled_packet ≡ packet_of e.options draft.with_checksum draft.packet.tag contents =
+    fills.adds
+    ∙ ap (λ (b : Building). record b { body = b.body ++ flat_map chunk_bytes fills.chunks }) built
+    ∙ ap (λ (bytes : List ℕ). record (packet_for e.options draft) { body = bytes }) (body_of_chunks fills.chunks) in
+    let goes_if : is_sent ≡ not (is_none contents) = sent_is ∙ ap not (ap (λ (b : Building). is_none b.body) packed ∙ none_as_bytes contents) in
+    let answer : Answer = record { acknowledgements = []; data_chunks = chunks; told = []; after = e } in
+    let o : Outcome = goes_out (with_transfer e after) [] draft.with_checksum draft.packet.tag contents in
+    let turn : SendsAtOnce e held transfer o =
+    record {
+      left = after;
+      chunks = chunks;
+      kind = data_kinds transfer.retransmission.message_interleaving fills.chunks fills.are_data;
+      fit = data_fit fills.chunks fills.fits;
+      within = λ within. fits_by e draft answer filled_packet packed size within;
+      outstanding = fills.outstanding;
+      unacknowledged = fills.unacknowledged;
+      next_tsn = fills.next_tsn;
+      rest = fills.rest;
+      is = refl;
+    } in
+    let by_fast : FastRetransmits transfer.retransmission.has_fast_retransmit e held transfer o = subst (λ (b : Bool). FastRetransmits b e held transfer o) (sym fast) turn in
+    record {
+      outcome = o;
+      turn = subst (λ (h : Option Held). GoesAtOnce e h e.below.transfer o) (sym holds) (subst (λ (t : Option Transfer). GoesAtOnce e (Some held) t o) (sym below) by_fast);
+      moves = goes stream v after draft.with_checksum draft.packet.tag contents filled_packet new packed
+          (is ∙ ap (λ (b : Bool). sent_where b filled_packet (record v { endpoint = with_transfer e after })) goes_if);
+    }
+
+at_once_where : {R : Type 0} (stream : R → Stream) (old : Context R) (tcb : TransmissionControlBlock) (state : State) (packet filled_packet : Building) (is_sent : Bool) (new : View R) (found : Option Transfer)
+    → transfer_of old.state ≡ found → at_once_below found ≡ true → Some tcb ≡ tcb_of old.state
+    → packet ≡ empty_packet old.options (tcb.capabilities.zero_checksum_method.0 == 0) tcb.peer.tag
+    → FillsAtOnceBelow found old.state packet state filled_packet → KeepsSize filled_packet
+    → is_sent ≡ not (is_none filled_packet.body) → new ≡ sent_where is_sent filled_packet (view_of (record old { state = state }))
+    → TakesIn stream AtOnceAt (view_of old) new
+at_once_where stream old tcb state packet filled_packet is_sent new None below fast kept built fills size sent_is is = absurd (cc)
+at_once_where {R = R} stream old tcb state packet filled_packet is_sent new (Some transfer) below fast kept built fills size sent_is is =
+    let held : Held = held_of tcb in
+    let holds : held_in (core_of old.state) ≡ Some held = held_by_tcb old.state tcb kept in
+    at_once_by stream (view_of old) held transfer fills.0 packet filled_packet is_sent new fast holds below (packet_to old.options old.state tcb held packet kept holds built) fills.2 size sent_is
+    (is ∙ ap (λ (v : View R). sent_where is_sent filled_packet v) (below_view old state transfer fills.0 below fills.1))
+
+pub at_once_sent : {R : Type 0} (stream : R → Stream) (old : Context R) (tcb : TransmissionControlBlock) (state : State) (packet filled_packet : Building) (is_sent : Bool) (new : View R)
+    → at_once_below (transfer_of old.state) ≡ true → Some tcb ≡ tcb_of old.state
+    → packet ≡ empty_packet old.options (tcb.capabilities.zero_checksum_method.0 == 0) tcb.peer.tag
+    → FillsAtOnceBelow (transfer_of old.state) old.state packet state filled_packet → KeepsSize filled_packet
+    → is_sent ≡ not (is_none filled_packet.body) → new ≡ sent_where is_sent filled_packet (view_of (record old { state = state }))
+    → TakesIn stream AtOnceAt (view_of old) new
+at_once_sent stream old tcb state packet filled_packet is_sent new fast kept built fills size sent_is is =
+    at_once_where stream old tcb state packet filled_packet is_sent new (transfer_of old.state) refl fast kept built fills size sent_is is
+
+-- ---- where nothing goes
+
+still_at_once : (e : Endpoint) (peer : Option Held) (found : Option Transfer) → at_once_below found ≡ false → GoesAtOnce e peer found (still e)
+still_at_once e None found none = refl
+still_at_once e (Some held) None none = refl
+still_at_once e (Some held) (Some transfer) none = subst (λ (b : Bool). FastRetransmits b e held transfer (still e)) (sym none) refl
+
+pub none_at_once : {R : Type 0} (stream : R → Stream) (old : Context R) → at_once_below (transfer_of old.state) ≡ false → TakesIn stream AtOnceAt (view_of old) (view_of old)
+none_at_once stream old none =
+    record { outcome = still (endpoint_of old); turn = still_at_once (endpoint_of old) (held_in (core_of old.state)) (transfer_of old.state) none; moves = moves_still stream (view_of old) }
+
+pub at_once_no_peer : {R : Type 0} (stream : R → Stream) (old : Context R) → None ≡ tcb_of old.state → TakesIn stream AtOnceAt (view_of old) (view_of old)
+at_once_no_peer stream old nobody =
+    let e : Endpoint = endpoint_of old in
+    record {
+      outcome = still e;
+      turn = subst (λ (h : Option Held). GoesAtOnce e h e.below.transfer (still e)) (sym (none_by_tcb old.state nobody)) refl;
+      moves = moves_still stream (view_of old);
+    }
+
+fast_where : (b : Bool) (e : Endpoint) (held : Held) (transfer : Transfer) → (o : Outcome) × FastRetransmits b e held transfer o
+fast_where false e held transfer = (still e, refl)
+fast_where true e held transfer = (
+  still (with_transfer e transfer),
+  record { left = transfer; chunks = []; kind = tt; fit = tt; within = λ within. within; outstanding = refl; unacknowledged = refl; next_tsn = refl; rest = refl; is = refl },
+)
+
+pub any_fast : (e : Endpoint) (held : Held) (transfer : Transfer) → (o : Outcome) × FastRetransmits transfer.retransmission.has_fast_retransmit e held transfer o
+any_fast e held transfer = fast_where transfer.retransmission.has_fast_retransmit e held transfer
+
+any_at_once : (e : Endpoint) (peer : Option Held) (found : Option Transfer) → (o : Outcome) × GoesAtOnce e peer found o
+any_at_once e None found = (still e, refl)
+any_at_once e (Some held) None = (still e, refl)
+any_at_once e (Some held) (Some transfer) = any_fast e held transfer
+
+pub at_once_cut : {R : Type 0} (view : View R) (events : List (Event (List ℕ))) → events ≡ view.events → CutIn AtOnceAt view events
+at_once_cut view events same =
+    let any = any_at_once view.endpoint (held_in view.endpoint.core) view.endpoint.below.transfer in
+    record { outcome = any.0; turn = any.1; cut = cut_first view any.0 events same }

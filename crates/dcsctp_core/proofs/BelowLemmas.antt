@@ -1,0 +1,120 @@
+-- What changes below an association, as the view tells it.
+use Rattle.std.proofs.Common.{◌≡◌, ℕ, Bool, true, false, Option, None, Some, Result, List, [], ◌++◌, map, refl, sym, ap, subst, ◌∙◌}
+use Rattle.std.proofs.lemmas.List.{append-nil}
+use Rattle.rand_core.specs.Stream.{Stream}
+use Rattle.dcsctp_machine.specs.Settings.{Ports, ports_of}
+use Rattle.dcsctp_api.specs.Calls.{user_event}
+use Rattle.dcsctp_machine.specs.Transfer.{Transfer}
+use Rattle.dcsctp_machine.specs.Endpoint.{Endpoint}
+use Rattle.dcsctp_machine.specs.Outcome.{Outcome, still}
+use Rattle.dcsctp_machine.specs.TimeTurns.{own_timer, has_come, loss_deadline}
+use Rattle.dcsctp_machine.specs.turns.DataOutcomes.{with_transfer, LossTurn}
+use Rattle.dcsctp_machine.specs.turns.OwnTimers.{retransmission}
+use Rattle.dcsctp_machine.specs.turns.HeartbeatOutcomes.{error_counted}
+use Rattle.dcsctp_machine.specs.turns.TransferMoves.{LosesAll}
+use Rattle.dcsctp_core.specs.Errors.{ErrorCount}
+use Rattle.dcsctp_core.specs.declared.context.Context.{Context}
+use Rattle.dcsctp_core.specs.declared.state.State.{State}
+use Rattle.dcsctp_core.specs.declared.state.State.TheVariants.{CookieEchoed, Established}
+use Rattle.dcsctp_core.specs.declared.state.CookieEchoState.{CookieEchoState}
+use Rattle.dcsctp_core.specs.declared.transmission_control_block.TransmissionControlBlock.{TransmissionControlBlock}
+use Rattle.std.specs.declared.alloc.AllocError.{AllocError}
+use Rattle.dcsctp_machine.specs.Event.{Event}
+use Rattle.dcsctp_transfer.specs.Sacks.{HandlesSack}
+use Rattle.dcsctp_transfer.specs.declared.sacks.HandledSack.{HandledSack}
+use Rattle.dcsctp_core.specs.View.{View, transfer_of, endpoint_of, view_of, Moves}
+use Rattle.dcsctp_core.specs.Handling.{TakesIn}
+use Rattle.dcsctp_core.specs.Timing.{is_timer_due, ExpiryTurn, ExpiresAlways}
+use Rattle.dcsctp_core.specs.Flushing.{state_with}
+use Rattle.dcsctp_core.specs.Below.{ChangesBelow, ChangesWhere, SacksBelow}
+use Rattle.dcsctp_core.proofs.FirstLemmas.{endpoint_with}
+
+pub below_view : {R : Type 0} (old : Context R) (state : State) (transfer after : Transfer) → transfer_of old.state ≡ Some transfer → state ≡ state_with old.state after
+    → view_of (record old { state = state }) ≡ record (view_of old) { endpoint = with_transfer (endpoint_of old) after }
+below_view old state transfer after holds is =
+    ap (λ (s : State). view_of (record old { state = s })) is
+    ∙ ap (λ (e : Endpoint). record (view_of old) { endpoint = e }) (endpoint_with old transfer after holds)
+
+-- Only the endpoint has changed.
+pub moves_to : {R : Type 0} (stream : R → Stream) (old new : View R) (e : Endpoint) → new ≡ record old { endpoint = e } → Moves stream old (still e) new
+moves_to {R = R} stream old new e is =
+    record {
+      endpoint = ap (λ (v : View R). v.endpoint) is;
+      events = ap (λ (v : View R). v.events) is ∙ sym (append-nil old.events);
+      words = ap (λ (v : View R). v.words) is ∙ sym (append-nil old.words);
+      pairs = ap (λ (v : View R). v.pairs) is ∙ sym (append-nil old.pairs);
+      drawn = ap (λ (v : View R). stream v.generator) is;
+    }
+
+-- A turn begins at another endpoint, with the same ports.
+pub moves_from : {R : Type 0} (stream : R → Stream) (v : View R) (e : Endpoint) (o : Outcome) (new : View R) → ports_of e.options ≡ ports_of v.endpoint.options
+    → Moves stream (record v { endpoint = e }) o new → Moves stream v o new
+moves_from stream v e o new ports m =
+    record { endpoint = m.endpoint; events = m.events ∙ ap (λ (q : Ports). v.events ++ map (user_event q) o.events) ports; words = m.words; pairs = m.pairs; drawn = m.drawn }
+
+pub below_moves : {R : Type 0} (stream : R → Stream) (old : Context R) (state : State) (transfer after : Transfer) → transfer_of old.state ≡ Some transfer → state ≡ state_with old.state after
+    → Moves stream (view_of old) (still (with_transfer (endpoint_of old) after)) (view_of (record old { state = state }))
+below_moves stream old state transfer after holds is =
+    moves_to stream (view_of old) (view_of (record old { state = state })) (with_transfer (endpoint_of old) after) (below_view old state transfer after holds is)
+
+-- nothing has changed
+pub same_view : {R : Type 0} (old : Context R) (state : State) → state ≡ old.state → view_of (record old { state = state }) ≡ view_of old
+same_view old state is = ap (λ (s : State). view_of (record old { state = s })) is
+
+-- ---- what is in flight is lost
+
+-- the view with this count of errors
+abbrev with_count : {R : Type 0} → View R → ℕ → View R
+with_count view count = record view { endpoint = record view.endpoint { error_count = count } }
+
+-- What the retransmission timer brings.
+abbrev Lost : {R : Type 0} → (R → Stream) → Context R → View R → Type 0
+Lost stream old new = (is_timer_due (endpoint_of old) (own_timer retransmission) ≡ true) × TakesIn stream (ExpiryTurn (own_timer retransmission)) (view_of old) new
+
+lost : {R : Type 0} (stream : R → Stream) (old : Context R) (state : State) (count : ℕ) (found : Option Transfer) → transfer_of old.state ≡ found
+    → has_come old.moment (loss_deadline found) ≡ true → ChangesBelow LosesAll found old.state state
+    → count ≡ error_counted old.tx_error_counter.limit old.tx_error_counter.count
+    → Lost stream old (with_count (view_of (record old { state = state })) count)
+lost stream old state count None holds due changes counts = absurd (cc)
+lost {R = R} stream old state count (Some transfer) holds due changes counts =
+    let after : Transfer = changes.0 in
+    let e : Endpoint = endpoint_of old in
+    let view = below_view old state transfer after holds changes.1 in
+    let left : Endpoint = record (with_transfer e after) { error_count = error_counted e.options.max_retransmissions e.error_count } in
+    let is : with_count (view_of (record old { state = state })) count ≡ record (view_of old) { endpoint = left } =
+    ap (λ (n : ℕ). with_count (view_of (record old { state = state })) n) counts
+    ∙ (ap (λ (v : View R). with_count v (error_counted old.tx_error_counter.limit old.tx_error_counter.count)) view
+    ∙ ap (λ (limit : Option ℕ). record (view_of old) { endpoint = record (with_transfer e after) { error_count = error_counted limit e.error_count } }) old.errors) in (
+      ap (λ (f : Option Transfer). has_come old.moment (loss_deadline f)) holds ∙ due,
+      record {
+        outcome = still left;
+        turn = subst (λ (f : Option Transfer). LossTurn e f (still left)) (sym holds) (after, changes.2, refl);
+        moves = moves_to stream (view_of old) (with_count (view_of (record old { state = state })) count) left is;
+      },
+    )
+
+pub loss_counted : {R : Type 0} (stream : R → Stream) (old : Context R) (state : State) (counter : ErrorCount) (b : Bool) → b ≡ has_come old.moment (loss_deadline (transfer_of old.state)) → b ≡ true
+    → ChangesWhere b LosesAll (transfer_of old.state) old.state state
+    → counter ≡ record old.tx_error_counter { count = error_counted old.tx_error_counter.limit old.tx_error_counter.count }
+    → Lost stream old (with_count (view_of (record old { state = state })) counter.count)
+loss_counted stream old state counter b answer comes changes counts =
+    lost stream old state counter.count (transfer_of old.state) refl (sym answer ∙ comes) (subst (λ (x : Bool). ChangesWhere x LosesAll (transfer_of old.state) old.state state) comes changes)
+    (ap (λ (c : ErrorCount). c.count) counts)
+
+pub loss_not_due : {R : Type 0} (stream : R → Stream) (old : Context R) (state : State) (b : Bool) → b ≡ has_come old.moment (loss_deadline (transfer_of old.state)) → b ≡ false
+    → ChangesWhere b LosesAll (transfer_of old.state) old.state state → ExpiresAlways stream (own_timer retransmission) old false (record old { state = state })
+loss_not_due stream old state b answer waits changes =
+    (sym answer ∙ waits, same_view old state (subst (λ (x : Bool). ChangesWhere x LosesAll (transfer_of old.state) old.state state) waits changes))
+
+-- ---- a SACK
+
+pub sacks_echoed : (tsn : ℕ) (old : State) (echoed : CookieEchoState) (after : Transfer) (told telling : List (Event (List ℕ))) (result : Result HandledSack AllocError) → old ≡ CookieEchoed echoed
+    → HandlesSack tsn echoed.tcb.transfer told after telling result
+    → SacksBelow tsn (transfer_of old) old told (CookieEchoed (record echoed { tcb = record echoed.tcb { transfer = after } })) telling result
+sacks_echoed tsn old echoed after told telling result is h =
+    subst (λ (s : State). SacksBelow tsn (transfer_of s) s told (CookieEchoed (record echoed { tcb = record echoed.tcb { transfer = after } })) telling result) (sym is) (after, refl, h)
+
+pub sacks_established : (tsn : ℕ) (old : State) (tcb : TransmissionControlBlock) (after : Transfer) (told telling : List (Event (List ℕ))) (result : Result HandledSack AllocError) → old ≡ Established tcb
+    → HandlesSack tsn tcb.transfer told after telling result → SacksBelow tsn (transfer_of old) old told (Established (record tcb { transfer = after })) telling result
+sacks_established tsn old tcb after told telling result is h =
+    subst (λ (s : State). SacksBelow tsn (transfer_of s) s told (Established (record tcb { transfer = after })) telling result) (sym is) (after, refl, h)

@@ -1,0 +1,278 @@
+-- How a packet of a flush is filled, as an answer of the transfer layer.
+use Rattle.std.proofs.Common.{◌≡◌, ◌⊎◌, ◌+◌, ◌-◌, ◌*◌, ◌≤◌, ◌%◌, ◌^◌, ◌&&◌, ◌||◌, ◌==◌, not, nat_le, ℕ, Bool, true, false, cond, Option, None, Some, List, [], ◌∷◌, ◌++◌, length, map, refl, sym, ap, subst, ◌∙◌, append_assoc, inl, inr, arith}
+use Rattle.std.specs.Prelude.{if◌then◌else◌}
+use Rattle.std.specs.List.{AllByRecursion, flat_map}
+use Rattle.std.proofs.lemmas.List.{append-nil, map-append}
+use Rattle.std.proofs.lemmas.Bool.Decides.{nat_tests}
+use Rattle.dcsctp_wire.specs.Content.{ChunkContent, data_chunk, i_data_chunk, SackContent, sack_chunk}
+use Rattle.dcsctp_wire.specs.ReadsBack.{FitsChunk}
+use Rattle.dcsctp_wire.specs.Spelling.{chunk_bytes}
+use Rattle.dcsctp_build.specs.Building.{Building, bytes_remaining}
+use Rattle.dcsctp_machine.specs.declared.options.Options.{Options}
+use Rattle.dcsctp_machine.specs.Settings.{Ports, ports_of, packet_size_limit}
+use Rattle.dcsctp_machine.specs.Event.{Event}
+use Rattle.dcsctp_machine.specs.Packet.{Plain, plain, unworked, plain_out, Content, Emission}
+use Rattle.dcsctp_machine.specs.Transfer.{SendQueueState, TrackerState, Transfer, has_data, can_send, must_give, is_idle}
+use Rattle.dcsctp_machine.specs.Endpoint.{Endpoint, Timers, heartbeats_begun}
+use Rattle.dcsctp_machine.specs.control.Choices.{plain_contents}
+use Rattle.dcsctp_machine.specs.turns.TransferMoves.{acknowledged}
+use Rattle.dcsctp_machine.specs.turns.FlushOutcomes.{Told, amount_is_low, total_amount_is_low, message_is_sent, message_may_have_expired, message_has_expired, message_ends, told_event, Answer, answer_contents, filled, Ask, first_ask, later_ask, room_in, where_fits, wants_sack, IsSackOf, IsData, FitsPlain, is_none, Gives, GivesWhere, AnsweredBelow, timers_with, nothing_waits}
+use Rattle.dcsctp_machine.specs.turns.FlushOutcomes as asks
+use Rattle.dcsctp_api.specs.Calls.{user_event}
+use Rattle.dcsctp_transfer.specs.Filling.{told_content, IsDataChunk, has_chunks, FillsPacket, is_sack_wanted, IsSackFor, with_chunk, Acknowledges}
+use Rattle.dcsctp_core.specs.View.{View}
+use Rattle.dcsctp_core.specs.Flushing.{packet_for, timers_where, Fills, FillsData}
+use Rattle.dcsctp_core.proofs.SentLemmas.{body_of, body_append, body_of_chunks, room_is}
+
+-- ---- what the user is told
+
+told_one : (ports : Ports) (told : Told) → user_event ports (told_event told) ≡ told_content told
+told_one ports (amount_is_low stream) = refl
+told_one ports total_amount_is_low = refl
+told_one ports (message_is_sent id) = refl
+told_one ports (message_may_have_expired id) = refl
+told_one ports (message_has_expired id) = refl
+told_one ports (message_ends id) = refl
+
+pub told_user : (ports : Ports) (told : List Told) → map told_content told ≡ map (user_event ports) (map told_event told)
+told_user ports [] = refl
+told_user ports (first ∷ told) =
+    ap (λ (e : Event (List ℕ)). e ∷ map told_content told) (sym (told_one ports first)) ∙ ap (λ (es : List (Event (List ℕ))). user_event ports (told_event first) ∷ es) (told_user ports told)
+
+-- ---- chunks with data
+
+pub data_kinds : (interleaving : Bool) (chunks : List ChunkContent) → AllByRecursion (IsDataChunk interleaving) chunks → AllByRecursion (IsData interleaving) (map unworked chunks)
+data_kinds interleaving [] h = tt
+data_kinds interleaving (chunk ∷ chunks) h = (h.0, data_kinds interleaving chunks h.1)
+
+pub data_fit : (chunks : List ChunkContent) → AllByRecursion FitsChunk chunks → AllByRecursion FitsPlain (map unworked chunks)
+data_fit [] h = tt
+data_fit (chunk ∷ chunks) h = (h.0, data_fit chunks h.1)
+
+none_of : (chunks : List ChunkContent) → is_none (map unworked chunks) ≡ not (has_chunks chunks)
+none_of [] = refl
+none_of (chunk ∷ chunks) = refl
+
+timers_are : (e : Endpoint) (chunks : List ChunkContent) (any : Bool) → any ≡ has_chunks chunks → timers_where any e ≡ timers_with e (map unworked chunks)
+timers_are e [] any is = ap (λ (b : Bool). timers_where b e) is
+timers_are e (chunk ∷ chunks) any is = ap (λ (b : Bool). timers_where b e) is
+
+-- ---- where nothing waits
+
+parts_of : (a b c d : Bool) → (not a && b && not c && not d) ≡ true → ((a ≡ false) × (b ≡ true)) × ((c ≡ false) × (d ≡ false))
+parts_of false true false false is = ((refl, refl), (refl, refl))
+parts_of false true false true is = absurd (cc)
+parts_of false true true d is = absurd (cc)
+parts_of false false c d is = absurd (cc)
+parts_of true b c d is = absurd (cc)
+
+pub idle_parts : (queue : SendQueueState) (transfer : Transfer) → is_idle queue transfer ≡ true
+    → ((has_data queue ≡ false) × (transfer.retransmission.outstanding_items ≡ 0)) × ((transfer.tracker.owes_acknowledgement ≡ false) × (transfer.tracker.is_acknowledgement_due ≡ false))
+idle_parts queue transfer is =
+    let parts = parts_of (has_data queue) (transfer.retransmission.outstanding_items == 0) transfer.tracker.owes_acknowledgement transfer.tracker.is_acknowledgement_due is in
+    ((parts.0.0, zero_of transfer.retransmission.outstanding_items parts.0.1), parts.1)
+  where
+    zero_of : (n : ℕ) → (n == 0) ≡ true → n ≡ 0
+    zero_of n is = grind (arith, nat_tests)
+
+wants_by : (due owes along : Bool) → owes ≡ false → due ≡ false → (due || (owes && along)) ≡ false
+wants_by due owes along not_owed not_due = ap (λ (b : Bool). b || (owes && along)) not_due ∙ ap (λ (b : Bool). b && along) not_owed
+
+idle_wants : (ask : Ask) (queue : SendQueueState) (transfer : Transfer) → is_idle queue transfer ≡ true → wants_sack ask queue transfer ≡ false
+idle_wants later_ask queue transfer is = refl
+idle_wants first_ask queue transfer is =
+    let parts = idle_parts queue transfer is in
+    wants_by transfer.tracker.is_acknowledgement_due transfer.tracker.owes_acknowledgement (has_data queue || can_send transfer.retransmission) parts.1.0 parts.1.1
+
+-- ---- an answer out of its parts
+
+-- what the transfer layer gave: what acknowledges, and data
+abbrev answer_by : List Plain → List ChunkContent → List Told → Endpoint → Answer
+answer_by sacks chunks told after = record { acknowledgements = sacks; data_chunks = map unworked chunks; told = told; after = after }
+
+-- the packet with both behind what it holds
+packet_is : (options : Options) (draft : Emission) (sacks : List Plain) (chunks : List ChunkContent) (told : List Told) (after : Endpoint) (filled_packet : Building)
+    → filled_packet ≡ record (packet_for options (filled draft (plain_contents sacks))) { body = (packet_for options (filled draft (plain_contents sacks))).body ++ flat_map chunk_bytes chunks }
+    → filled_packet ≡ packet_for options (filled draft (answer_contents (answer_by sacks chunks told after)))
+packet_is options draft sacks chunks told after filled_packet is =
+    let front : List Content = draft.packet.contents ++ plain_contents sacks in
+    let more : List Content = plain_contents (map unworked chunks) in
+    is
+    ∙ ap (λ (bytes : List ℕ). record (packet_for options (filled draft (plain_contents sacks))) { body = body_of front ++ bytes }) (body_of_chunks chunks)
+    ∙ ap (λ (bytes : List ℕ). record (packet_for options draft) { body = bytes }) (sym (body_append front more) ∙ ap body_of (append_assoc draft.packet.contents (plain_contents sacks) more))
+
+-- what is asked where nothing waits changes nothing
+same_endpoint : (e : Endpoint) (transfer after : Transfer) (left : SendQueueState) → e.below.transfer ≡ Some transfer → after ≡ transfer → left ≡ e.below.queue
+    → record e { below = record { queue = left; transfer = Some after } } ≡ e
+same_endpoint e transfer after left holds same waits =
+    ap (λ (t : Transfer). record e { below = record { queue = left; transfer = Some t } }) same
+    ∙ ap (λ (q : SendQueueState). record e { below = record { queue = q; transfer = Some transfer } }) waits
+    ∙ ap (λ (t : Option Transfer). record e { below = record e.below { transfer = t } }) (sym holds)
+
+no_chunks : (chunks : List ChunkContent) (any : Bool) → any ≡ has_chunks chunks → any ≡ false → chunks ≡ []
+no_chunks [] any is none = refl
+no_chunks (chunk ∷ chunks) any is none = absurd (cc)
+
+-- the parts of an answer: the transfer layer once what acknowledges is in the packet, and once data is
+pub record Parts {R : Type 0} (ask : Ask) (old : View R) (draft : Emission) (transfer : Transfer) (new : View R) (filled_packet : Building) : Type 0 where
+  pub mid : Transfer
+  pub after : Transfer
+  pub left : SendQueueState
+  pub sacks : List Plain
+  pub any : Bool
+  pub holds : old.endpoint.below.transfer ≡ Some transfer
+  pub acknowledges : asks.Acknowledges (wants_sack ask old.endpoint.below.queue transfer) (room_in old.endpoint draft) transfer mid.tracker sacks
+  pub mid_is : mid ≡ record transfer { tracker = mid.tracker }
+  pub fills : FillsPacket mid old.endpoint.below.queue old.events (packet_for old.endpoint.options (filled draft (plain_contents sacks))) after left new.events filled_packet any
+  pub is : new ≡ record old { endpoint = record old.endpoint { timers = timers_where any old.endpoint; below = record { queue = left; transfer = Some after } }; events = new.events }
+
+abbrev answer_of : {R : Type 0} {ask : Ask} {old : View R} {draft : Emission} {transfer : Transfer} {new : View R} {filled_packet : Building} → Parts ask old draft transfer new filled_packet → Answer
+answer_of {old = old} p =
+    answer_by p.sacks p.fills.chunks p.fills.told (record old.endpoint { timers = timers_where p.any old.endpoint; below = record { queue = p.left; transfer = Some p.after } })
+
+-- nothing is asked for, so none of it goes out
+no_sacks : (b : Bool) (room : ℕ) (transfer : Transfer) (after : TrackerState) (sacks : List Plain) → b ≡ false → asks.Acknowledges b room transfer after sacks → (after ≡ transfer.tracker) × (sacks ≡ [])
+no_sacks b room transfer after sacks is h = subst (λ (x : Bool). asks.Acknowledges x room transfer after sacks) is h
+
+same_mid : (transfer mid : Transfer) → mid ≡ record transfer { tracker = mid.tracker } → mid.tracker ≡ transfer.tracker → mid ≡ transfer
+same_mid transfer mid is tracker = is ∙ ap (λ (t : TrackerState). record transfer { tracker = t }) tracker
+
+idle_answer : {R : Type 0} (ask : Ask) (old : View R) (draft : Emission) (transfer : Transfer) (new : View R) (filled_packet : Building) (p : Parts ask old draft transfer new filled_packet)
+    → is_idle old.endpoint.below.queue transfer ≡ true → answer_of p ≡ nothing_waits old.endpoint
+idle_answer ask old draft transfer new filled_packet p idle =
+    let e : Endpoint = old.endpoint in
+    let parts = idle_parts e.below.queue transfer idle in
+    let none = no_sacks (wants_sack ask e.below.queue transfer) (room_in e draft) transfer p.mid.tracker p.sacks (idle_wants ask e.below.queue transfer idle) p.acknowledges in
+    let mid : p.mid ≡ transfer = same_mid transfer p.mid p.mid_is none.0 in
+    let rests = p.fills.idle parts.0.0 (ap (λ (t : Transfer). t.retransmission.outstanding_items) mid ∙ parts.0.1) in
+    let chunks : p.fills.chunks ≡ [] = no_chunks p.fills.chunks p.any p.fills.answers rests.0 in
+    let after : p.after ≡ transfer = rests.1 ∙ mid in
+    ap (λ (sacks : List Plain). answer_by sacks p.fills.chunks p.fills.told (answer_of p).after) none.1
+    ∙ ap (λ (chunks : List ChunkContent). answer_by [] chunks p.fills.told (answer_of p).after) chunks
+    ∙ ap (λ (told : List Told). answer_by [] [] told (answer_of p).after) rests.3
+    ∙ ap (λ (b : Bool). answer_by [] [] [] (record e { timers = timers_where b e; below = record { queue = p.left; transfer = Some p.after } })) rests.0
+    ∙ ap (answer_by [] [] []) (same_endpoint e transfer p.after p.left p.holds after rests.2)
+
+-- no data: so none had to go
+rest_may : {R : Type 0} (ask : Ask) (old : View R) (draft : Emission) (transfer : Transfer) (new : View R) (filled_packet : Building) (p : Parts ask old draft transfer new filled_packet)
+    → is_none (map unworked p.fills.chunks) ≡ true → must_give (room_in old.endpoint (filled draft (plain_contents p.sacks))) p.left p.after.retransmission ≡ false
+rest_may ask old draft transfer new filled_packet p none =
+    let false_any : p.any ≡ false = p.fills.answers ∙ not_true (has_chunks p.fills.chunks) (sym (none_of p.fills.chunks) ∙ none) in
+    ap (λ (room : ℕ). must_give room p.left p.after.retransmission) (sym (room_is old.endpoint (filled draft (plain_contents p.sacks)))) ∙ p.fills.gives false_any
+  where
+    not_true : (b : Bool) → not b ≡ true → b ≡ false
+    not_true true is = absurd (cc)
+    not_true false is = refl
+
+gives_by : {R : Type 0} (ask : Ask) (old : View R) (draft : Emission) (transfer : Transfer) (new : View R) (filled_packet : Building) (p : Parts ask old draft transfer new filled_packet)
+    → Gives ask old.endpoint draft transfer (answer_of p)
+gives_by ask old draft transfer new filled_packet p =
+    let mid : Transfer = p.mid in
+    let kept : p.after.tracker ≡ mid.tracker = ap (λ (t : Transfer). t.tracker) p.fills.rest in
+    let interleaving : mid.retransmission.message_interleaving ≡ transfer.retransmission.message_interleaving = ap (λ (t : Transfer). t.retransmission.message_interleaving) p.mid_is in
+    let partial : mid.retransmission.partial_reliability ≡ transfer.retransmission.partial_reliability = ap (λ (t : Transfer). t.retransmission.partial_reliability) p.mid_is in
+    record {
+      left = p.after;
+      holds = refl;
+      sacks = p.sacks;
+      forwards = [];
+      parts = sym (append-nil p.sacks);
+      acknowledges = subst (λ (t : TrackerState). asks.Acknowledges (wants_sack ask old.endpoint.below.queue transfer) (room_in old.endpoint draft) transfer t p.sacks) (sym kept) p.acknowledges;
+      gives_up = record {
+        is_made = false;
+        later = refl;
+        none = λ is. refl;
+        in_first = λ is. refl;
+        in_time = λ early. refl;
+        negotiated = λ is. refl;
+        at_most_one = omega arith;
+        kind = tt;
+        fit = tt;
+      };
+      kind = subst (λ (b : Bool). AllByRecursion (IsData b) (map unworked p.fills.chunks)) interleaving (data_kinds mid.retransmission.message_interleaving p.fills.chunks p.fills.are_data);
+      fit = data_fit p.fills.chunks p.fills.fits;
+      data_goes = rest_may ask old draft transfer new filled_packet p;
+      partial_reliability = p.fills.partial_reliability ∙ partial;
+      message_interleaving = p.fills.message_interleaving ∙ interleaving;
+      timeout = ap (λ (t : Transfer). t.timeout) p.fills.rest ∙ ap (λ (t : Transfer). t.timeout) p.mid_is;
+      reassembly = ap (λ (t : Transfer). t.reassembly) p.fills.rest ∙ ap (λ (t : Transfer). t.reassembly) p.mid_is;
+    }
+
+gives_where : {R : Type 0} (ask : Ask) (old : View R) (draft : Emission) (transfer : Transfer) (new : View R) (filled_packet : Building) (p : Parts ask old draft transfer new filled_packet) (b : Bool)
+    → is_idle old.endpoint.below.queue transfer ≡ b → GivesWhere b ask old.endpoint draft transfer (answer_of p)
+gives_where ask old draft transfer new filled_packet p true is = idle_answer ask old draft transfer new filled_packet p is
+gives_where ask old draft transfer new filled_packet p false is = gives_by ask old draft transfer new filled_packet p
+
+pub fills_by : {R : Type 0} (ask : Ask) (old : View R) (draft : Emission) (transfer : Transfer) (new : View R) (filled_packet : Building)
+    → Parts ask old draft transfer new filled_packet → Fills ask old draft new filled_packet
+fills_by {R = R} ask old draft transfer new filled_packet p =
+    let e : Endpoint = old.endpoint in
+    record {
+      answer = answer_of p;
+      kept = ap (λ (t : Timers). record e { timers = t; below = record { queue = p.left; transfer = Some p.after } }) (timers_are e p.fills.chunks p.any p.fills.answers);
+      by_transfer = subst (AnsweredBelow ask e draft (answer_of p)) (sym p.holds) (gives_where ask old draft transfer new filled_packet p (is_idle e.below.queue transfer) refl);
+      endpoint = ap (λ (v : View R). v.endpoint) p.is;
+      events = p.fills.tells ∙ ap (λ (es : List (Event (List ℕ))). old.events ++ es) (told_user (ports_of e.options) p.fills.told);
+      rest = p.is ∙ ap (λ (x : Endpoint). record old { endpoint = x; events = new.events }) (sym (ap (λ (v : View R). v.endpoint) p.is));
+      packet = packet_is e.options draft p.sacks p.fills.chunks p.fills.told (answer_of p).after filled_packet p.fills.adds;
+    }
+
+-- ---- where no peer is held
+
+pub fills_nothing : {R : Type 0} (ask : Ask) (old : View R) (draft : Emission) (new : View R) (filled_packet : Building) → old.endpoint.below.transfer ≡ None
+    → new ≡ old → filled_packet ≡ packet_for old.endpoint.options draft → Fills ask old draft new filled_packet
+fills_nothing {R = R} ask old draft new filled_packet holds same is =
+    let e : Endpoint = old.endpoint in
+    record {
+      answer = nothing_waits e;
+      kept = refl;
+      by_transfer = subst (AnsweredBelow ask e draft (nothing_waits e)) (sym holds) refl;
+      endpoint = ap (λ (v : View R). v.endpoint) same;
+      events = ap (λ (v : View R). v.events) same ∙ sym (append-nil old.events);
+      rest = same ∙ ap (λ (v : View R). record old { endpoint = v.endpoint; events = v.events }) (sym same);
+      packet = is ∙ ap (λ (contents : List Content). packet_for e.options (record draft { packet = record draft.packet { contents = contents } })) (sym (append-nil draft.packet.contents));
+    }
+
+-- ---- a later packet
+
+later_by : {R : Type 0} (old : View R) (draft : Emission) (found : Option Transfer) (new : View R) (packet filled_packet : Building) → old.endpoint.below.transfer ≡ found
+    → packet ≡ packet_for old.endpoint.options draft → FillsData found old packet new filled_packet → Fills later_ask old draft new filled_packet
+later_by old draft None new packet filled_packet holds is h = fills_nothing later_ask old draft new filled_packet holds h.0 (h.1 ∙ is)
+later_by old draft (Some transfer) new packet filled_packet holds is h =
+    fills_by later_ask old draft transfer new filled_packet
+    (record {
+      mid = transfer;
+      after = h.1;
+      left = h.2;
+      sacks = [];
+      any = h.0;
+      holds = holds;
+      acknowledges = (refl, refl);
+      mid_is = refl;
+      fills = subst (λ (b : Building). FillsPacket transfer old.endpoint.below.queue old.events b h.1 h.2 new.events filled_packet h.0)
+          (is ∙ ap (λ (contents : List Content). packet_for old.endpoint.options (record draft { packet = record draft.packet { contents = contents } })) (sym (append-nil draft.packet.contents))) h.3;
+      is = h.4;
+    })
+
+pub fills_later : {R : Type 0} (old : View R) (draft : Emission) (new : View R) (packet filled_packet : Building) → packet ≡ packet_for old.endpoint.options draft
+    → FillsData old.endpoint.below.transfer old packet new filled_packet → Fills later_ask old draft new filled_packet
+fills_later old draft new packet filled_packet is h = later_by old draft old.endpoint.below.transfer new packet filled_packet refl is h
+
+-- ---- the first packet
+
+sack_where : (b : Bool) (options : Options) (draft : Emission) (room : ℕ) (sack : SackContent) → nat_le (length (chunk_bytes (sack_chunk sack))) room ≡ b
+    → (if b then record (packet_for options draft) { body = (packet_for options draft).body ++ chunk_bytes (sack_chunk sack) } else packet_for options draft)
+    ≡ packet_for options (filled draft (plain_contents (if b then unworked (sack_chunk sack) ∷ [] else [])))
+sack_where true options draft room sack is =
+    ap (λ (bytes : List ℕ). record (packet_for options draft) { body = bytes })
+    (ap (λ (bytes : List ℕ). body_of draft.packet.contents ++ bytes) (sym (append-nil (chunk_bytes (sack_chunk sack)))) ∙ sym (body_append draft.packet.contents (plain (unworked (sack_chunk sack)) ∷ [])))
+sack_where false options draft room sack is =
+    ap (λ (contents : List Content). packet_for options (record draft { packet = record draft.packet { contents = contents } })) (sym (append-nil draft.packet.contents))
+
+-- the SACK behind what the packet holds, where it fits
+pub sack_packet : (e : Endpoint) (draft : Emission) (sack : SackContent)
+    → with_chunk (packet_for e.options draft) (sack_chunk sack) ≡ packet_for e.options (filled draft (plain_contents (where_fits (room_in e draft) (unworked (sack_chunk sack)))))
+sack_packet e draft sack =
+    ap (λ (room : ℕ). if nat_le (length (chunk_bytes (sack_chunk sack))) room then record (packet_for e.options draft) { body = (packet_for e.options draft).body ++ chunk_bytes (sack_chunk sack) } else packet_for e.options draft)
+    (room_is e draft)
+    ∙ sack_where (nat_le (length (chunk_bytes (sack_chunk sack))) (room_in e draft)) e.options draft (room_in e draft) sack refl

@@ -1,0 +1,214 @@
+-- How the first packet of a flush is filled: what acknowledges goes before data.
+use Rattle.std.proofs.Common.{◌≡◌, ◌||◌, ◌+◌, ◌≤◌, ℕ, Bool, true, false, Option, None, Some, List, [], ◌∷◌, ◌++◌, map, refl, sym, ap, subst, ◌∙◌, arith}
+use Rattle.std.proofs.lemmas.List.{append-nil}
+use Rattle.dcsctp_build.specs.Building.{Building}
+use Rattle.dcsctp_machine.specs.declared.options.Options.{Options}
+use Rattle.dcsctp_machine.specs.Settings.{ports_of}
+use Rattle.dcsctp_machine.specs.Event.{Event, sent}
+use Rattle.dcsctp_machine.specs.Packet.{Plain, unworked, Content, Emission}
+use Rattle.dcsctp_machine.specs.Transfer.{SendQueueState, Transfer, has_data, can_send, is_idle}
+use Rattle.dcsctp_machine.specs.Endpoint.{Endpoint, Core, RunningTimer}
+use Rattle.dcsctp_machine.specs.Outcome.{Outcome}
+use Rattle.dcsctp_machine.specs.control.Choices.{plain_contents}
+use Rattle.dcsctp_machine.specs.turns.FlushOutcomes.{Told, told_event, Answer, answer_contents, filled, goes_out, asked, Ask, first_ask, later_ask, room_in, where_fits, wants_sack, Answered, nothing_waits}
+use Rattle.dcsctp_machine.specs.turns.FlushOutcomes as asks
+use Rattle.dcsctp_wire.specs.Content.{sack_chunk}
+use Rattle.dcsctp_api.specs.Calls.{user_event}
+use Rattle.dcsctp_transfer.specs.Filling.{told_content, TellsMore, FillsPacket, is_sack_wanted, with_chunk, Acknowledges}
+use Rattle.dcsctp_core.specs.declared.context.Context.{Context}
+use Rattle.dcsctp_core.specs.declared.state.State.{State}
+use Rattle.dcsctp_core.specs.declared.state.State.TheVariants.{Closed, CookieWait, CookieEchoed, Established}
+use Rattle.dcsctp_core.specs.View.{View, core_of, tie_of, t1_of, transfer_of, endpoint_of, view_of}
+use Rattle.dcsctp_core.specs.Flushing.{packet_for, state_with, AcknowledgesBelow, FillsData, timers_where, Fills, AskCut, can_send_below}
+use Rattle.dcsctp_machine.proofs.AnswerLemmas.{some_answer, some_answered}
+use Rattle.dcsctp_core.proofs.FillLemmas.{told_user, Parts, fills_by, fills_nothing, sack_packet}
+
+-- ---- a state with something else below its association
+
+core_stays : (state : State) (transfer : Transfer) → core_of (state_with state transfer) ≡ core_of state
+core_stays Closed transfer = refl
+core_stays (CookieWait wait) transfer = refl
+core_stays (CookieEchoed echoed) transfer = refl
+core_stays (Established tcb) transfer = refl
+
+tie_stays : (state : State) (transfer : Transfer) → tie_of (state_with state transfer) ≡ tie_of state
+tie_stays Closed transfer = refl
+tie_stays (CookieWait wait) transfer = refl
+tie_stays (CookieEchoed echoed) transfer = refl
+tie_stays (Established tcb) transfer = refl
+
+t1_stays : (state : State) (transfer : Transfer) → t1_of (state_with state transfer) ≡ t1_of state
+t1_stays Closed transfer = refl
+t1_stays (CookieWait wait) transfer = refl
+t1_stays (CookieEchoed echoed) transfer = refl
+t1_stays (Established tcb) transfer = refl
+
+pub transfer_is : (state : State) (old transfer : Transfer) → transfer_of state ≡ Some old → transfer_of (state_with state transfer) ≡ Some transfer
+transfer_is Closed old transfer holds = absurd (cc)
+transfer_is (CookieWait wait) old transfer holds = absurd (cc)
+transfer_is (CookieEchoed echoed) old transfer holds = refl
+transfer_is (Established tcb) old transfer holds = refl
+
+-- the endpoint of a context whose state is told apart
+abbrev with_parts : {R : Type 0} → Context R → Core → ℕ → Option RunningTimer → Option Transfer → Endpoint
+with_parts context core tie t1 transfer =
+    record (endpoint_of context) {
+      core = core;
+      tie = tie;
+      timers = record (endpoint_of context).timers { t1 = t1 };
+      below = record (endpoint_of context).below { transfer = transfer };
+    }
+
+pub endpoint_with : {R : Type 0} (context : Context R) (old transfer : Transfer) → transfer_of context.state ≡ Some old
+    → endpoint_of (record context { state = state_with context.state transfer }) ≡ record (endpoint_of context) { below = record (endpoint_of context).below { transfer = Some transfer } }
+endpoint_with context old transfer holds =
+    let s : State = context.state in
+    let t : State = state_with s transfer in
+    ap (λ (core : Core). with_parts context core (tie_of t) (t1_of t) (transfer_of t)) (core_stays s transfer)
+    ∙ ap (λ (tie : ℕ). with_parts context (core_of s) tie (t1_of t) (transfer_of t)) (tie_stays s transfer)
+    ∙ ap (λ (t1 : Option RunningTimer). with_parts context (core_of s) (tie_of s) t1 (transfer_of t)) (t1_stays s transfer)
+    ∙ ap (λ (below : Option Transfer). with_parts context (core_of s) (tie_of s) (t1_of s) below) (transfer_is s old transfer holds)
+
+-- ---- what acknowledges, and then data
+
+-- what the transfer layer says of the SACK is what the ask says
+record Acked (e : Endpoint) (draft : Emission) (b : Bool) (transfer mid : Transfer) (packet : Building) : Type 0 where
+  sacks : List Plain
+  acknowledges : asks.Acknowledges b (room_in e draft) transfer mid.tracker sacks
+  mid_is : mid ≡ record transfer { tracker = mid.tracker }
+  is : packet ≡ packet_for e.options (filled draft (plain_contents sacks))
+
+acked : (e : Endpoint) (draft : Emission) (b : Bool) (transfer mid : Transfer) (before packet : Building) → before ≡ packet_for e.options draft → Acknowledges b transfer before mid packet
+    → Acked e draft b transfer mid packet
+acked e draft false transfer mid before packet is h =
+    let nothing : filled draft [] ≡ draft = ap (λ (contents : List Content). record draft { packet = record draft.packet { contents = contents } }) (append-nil draft.packet.contents) in
+    record {
+      sacks = [];
+      acknowledges = (ap (λ (t : Transfer). t.tracker) h.0, refl);
+      mid_is = h.0 ∙ ap (λ (t : Transfer). record transfer { tracker = t.tracker }) (sym h.0);
+      is = h.1 ∙ is ∙ ap (packet_for e.options) (sym nothing);
+    }
+acked e draft true transfer mid before packet is h =
+    let sack = h.1 in
+    record {
+      sacks = where_fits (room_in e draft) (unworked (sack_chunk sack));
+      acknowledges = (
+        ap (λ (t : Transfer). t.tracker) h.0,
+        sack,
+        record { cumulative = h.2.cumulative; window = h.2.window; fits = h.2.fits },
+        refl,
+      );
+      mid_is = h.0 ∙ ap (λ (t : Transfer). record transfer { tracker = t.tracker }) (sym h.0);
+      is = h.3 ∙ ap (λ (b : Building). with_chunk b (sack_chunk sack)) is ∙ sack_packet e draft sack;
+    }
+
+-- the view once what came in is acknowledged
+abbrev acknowledged_view : {R : Type 0} → View R → Transfer → View R
+acknowledged_view old transfer = record old { endpoint = record old.endpoint { below = record old.endpoint.below { transfer = Some transfer } } }
+
+first_by : {R : Type 0} (old : View R) (draft : Emission) (transfer mid : Transfer) (new : View R) (before packet filled_packet : Building) → old.endpoint.below.transfer ≡ Some transfer
+    → before ≡ packet_for old.endpoint.options draft
+    → Acknowledges (wants_sack first_ask old.endpoint.below.queue transfer) transfer before mid packet
+    → FillsData (Some mid) (acknowledged_view old mid) packet new filled_packet
+    → Fills first_ask old draft new filled_packet
+first_by old draft transfer mid new before packet filled_packet holds is ack data_in =
+    let a = acked old.endpoint draft (wants_sack first_ask old.endpoint.below.queue transfer) transfer mid before packet is ack in
+    fills_by first_ask old draft transfer new filled_packet
+    (record {
+      mid = mid;
+      after = data_in.1;
+      left = data_in.2;
+      sacks = a.sacks;
+      any = data_in.0;
+      holds = holds;
+      acknowledges = a.acknowledges;
+      mid_is = a.mid_is;
+      fills = subst (λ (b : Building). FillsPacket mid old.endpoint.below.queue old.events b data_in.1 data_in.2 new.events filled_packet data_in.0) a.is data_in.3;
+      is = data_in.4 ∙ same_timers data_in.0 data_in.1 data_in.2;
+    })
+  where
+    same_timers : (any : Bool) (after : Transfer) (left : SendQueueState)
+        → record (acknowledged_view old mid) {
+          endpoint = record (acknowledged_view old mid).endpoint { timers = timers_where any (acknowledged_view old mid).endpoint; below = record { queue = left; transfer = Some after } };
+          events = new.events;
+        }
+        ≡ record old { endpoint = record old.endpoint { timers = timers_where any old.endpoint; below = record { queue = left; transfer = Some after } }; events = new.events }
+    same_timers true after left = refl
+    same_timers false after left = refl
+
+along_is : (found : Option Transfer) (queue : SendQueueState) (transfer : Transfer) (along : Bool) → found ≡ Some transfer → along ≡ (has_data queue || can_send_below found)
+    → is_sack_wanted along transfer ≡ wants_sack first_ask queue transfer
+along_is found queue transfer along holds is = ap (λ (b : Bool). is_sack_wanted b transfer) (is ∙ ap (λ (f : Option Transfer). has_data queue || can_send_below f) holds)
+
+first_where : {R : Type 0} (old : Context R) (found : Option Transfer) (along : Bool) (state : State) (draft : Emission) (new : View R) (before packet filled_packet : Building)
+    → transfer_of old.state ≡ found → along ≡ (has_data old.send_queue || can_send_below found) → before ≡ packet_for old.options draft
+    → AcknowledgesBelow found along old.state before state packet
+    → FillsData (transfer_of state) (view_of (record old { state = state })) packet new filled_packet
+    → Fills first_ask (view_of old) draft new filled_packet
+first_where old None along state draft new before packet filled_packet holds is built ack data_in =
+    let same : state ≡ old.state = ack.0 in
+    let here : FillsData None (view_of old) packet new filled_packet =
+    subst (λ (f : Option Transfer). FillsData f (view_of old) packet new filled_packet) holds
+    (subst (λ (s : State). FillsData (transfer_of s) (view_of (record old { state = s })) packet new filled_packet) same data_in) in
+    fills_nothing first_ask (view_of old) draft new filled_packet holds here.0 (here.1 ∙ ack.1 ∙ built)
+first_where {R = R} old (Some transfer) along state draft new before packet filled_packet holds is built ack data_in =
+    let mid : Transfer = ack.0 in
+    let at_state : FillsData (transfer_of (state_with old.state mid)) (view_of (record old { state = state_with old.state mid })) packet new filled_packet =
+    subst (λ (s : State). FillsData (transfer_of s) (view_of (record old { state = s })) packet new filled_packet) ack.1 data_in in
+    let found : FillsData (Some mid) (view_of (record old { state = state_with old.state mid })) packet new filled_packet =
+    subst (λ (f : Option Transfer). FillsData f (view_of (record old { state = state_with old.state mid })) packet new filled_packet) (transfer_is old.state transfer mid holds) at_state in
+    let view : view_of (record old { state = state_with old.state mid }) ≡ acknowledged_view (view_of old) mid =
+    ap (λ (e : Endpoint). record (view_of old) { endpoint = e }) (endpoint_with old transfer mid holds) in
+    first_by (view_of old) draft transfer mid new before packet filled_packet holds built
+    (subst (λ (b : Bool). Acknowledges b transfer before mid packet) (along_is (Some transfer) old.send_queue transfer along refl is) ack.2)
+    (subst (λ (v : View R). FillsData (Some mid) v packet new filled_packet) view found)
+
+pub fills_first : {R : Type 0} (old : Context R) (along : Bool) (state : State) (draft : Emission) (new : View R) (before packet filled_packet : Building)
+    → along ≡ (has_data old.send_queue || can_send_below (transfer_of old.state)) → before ≡ packet_for old.options draft
+    → AcknowledgesBelow (transfer_of old.state) along old.state before state packet
+    → FillsData (transfer_of state) (view_of (record old { state = state })) packet new filled_packet
+    → Fills first_ask (view_of old) draft new filled_packet
+fills_first old along state draft new before packet filled_packet is built ack data_in =
+    first_where old (transfer_of old.state) along state draft new before packet filled_packet refl is built ack data_in
+
+-- ---- where a growth was refused
+
+-- what is told comes first of what comes of an ask
+pub told_first : (after : Endpoint) (told : List (Event Emission)) (with_checksum : Bool) (tag : ℕ) (contents : List Content)
+    → (rest : List (Event Emission)) × ((goes_out after told with_checksum tag contents).events ≡ told ++ rest)
+told_first after told with_checksum tag [] = ([], sym (append-nil told))
+told_first after told with_checksum tag (content ∷ contents) = (_, refl)
+
+busy_cut : {R : Type 0} (ask : Ask) (old : View R) (draft : Emission) (events : List (Event (List ℕ))) (transfer : Transfer) → old.endpoint.below.transfer ≡ Some transfer
+    → is_idle old.endpoint.below.queue transfer ≡ false → TellsMore old.events events → AskCut ask old draft events
+busy_cut ask old draft events transfer holds busy tells =
+    let e : Endpoint = old.endpoint in
+    let answer : Answer = some_answer ask e draft transfer tells.told in
+    let out = told_first answer.after (map told_event tells.told) draft.with_checksum draft.packet.tag (filled draft (answer_contents answer)).packet.contents in
+    record {
+      answer = answer;
+      allowed = some_answered ask e draft transfer tells.told holds busy;
+      front = map told_event tells.told;
+      rest = out.0;
+      parts = out.1;
+      added = tells.is ∙ ap (λ (es : List (Event (List ℕ))). old.events ++ es) (told_user (ports_of e.options) tells.told);
+    }
+
+busy_where : {R : Type 0} (ask : Ask) (old : View R) (draft : Emission) (events : List (Event (List ℕ))) (transfer : Transfer) (b : Bool) → old.endpoint.below.transfer ≡ Some transfer
+    → is_idle old.endpoint.below.queue transfer ≡ b → (is_idle old.endpoint.below.queue transfer ≡ true → ⊥) → TellsMore old.events events → AskCut ask old draft events
+busy_where ask old draft events transfer true holds is not_idle tells = absurd (not_idle is)
+busy_where ask old draft events transfer false holds is not_idle tells = busy_cut ask old draft events transfer holds is tells
+
+-- A peer is held, and something may have been asked for.
+abbrev pub IsBusy : SendQueueState → Option Transfer → Type 0
+IsBusy queue None = ⊥
+IsBusy queue (Some transfer) = is_idle queue transfer ≡ true → ⊥
+
+cut_at : {R : Type 0} (ask : Ask) (old : View R) (draft : Emission) (events : List (Event (List ℕ))) (found : Option Transfer) → old.endpoint.below.transfer ≡ found
+    → IsBusy old.endpoint.below.queue found → TellsMore old.events events → AskCut ask old draft events
+cut_at ask old draft events None holds busy tells = absurd busy
+cut_at ask old draft events (Some transfer) holds busy tells = busy_where ask old draft events transfer (is_idle old.endpoint.below.queue transfer) holds refl busy tells
+
+pub cut_busy : {R : Type 0} (ask : Ask) (old : View R) (draft : Emission) (events : List (Event (List ℕ))) → IsBusy old.endpoint.below.queue old.endpoint.below.transfer → TellsMore old.events events
+    → AskCut ask old draft events
+cut_busy ask old draft events busy tells = cut_at ask old draft events old.endpoint.below.transfer refl busy tells

@@ -1,0 +1,100 @@
+-- A packet that goes out, in bytes.
+use Rattle.std.proofs.Common.{◌≡◌, ◌+◌, ◌-◌, ◌≤◌, ℕ, Bool, true, false, cond, List, [], ◌∷◌, ◌++◌, length, map, refl, sym, ap, ◌∙◌, append_assoc}
+use Rattle.std.specs.Prelude.{nat_le}
+use Rattle.std.proofs.lemmas.List.{append-nil, map-append}
+use Rattle.std.specs.List.{flat_map}
+use Rattle.dcsctp_wire.specs.Content.{ChunkContent}
+use Rattle.dcsctp_wire.specs.Spelling.{Spelled, by_value, by_list, spelled, other_bytes, list_bytes, spelled_bytes, chunk_bytes, header_bytes, packet_bytes_of}
+use Rattle.dcsctp_build.specs.Building.{Building, bytes_remaining}
+use Rattle.rand_core.specs.Stream.{Stream}
+use Rattle.dcsctp_machine.specs.declared.options.Options.{Options}
+use Rattle.dcsctp_machine.specs.Settings.{ports_of, packet_size_limit}
+use Rattle.dcsctp_machine.specs.Event.{sent}
+use Rattle.dcsctp_machine.specs.Packet.{Content, Emission, Plain, plain, unworked, chunk_out, emission_bytes}
+use Rattle.dcsctp_machine.specs.Endpoint.{Endpoint}
+use Rattle.dcsctp_machine.specs.Outcome.{quiet, counted, sends, contents_len}
+use Rattle.dcsctp_machine.specs.control.Choices.{plain_contents}
+use Rattle.dcsctp_machine.specs.turns.FlushOutcomes.{is_none, room_in}
+use Rattle.dcsctp_core.specs.View.{View, Moves}
+use Rattle.dcsctp_core.specs.Handling.{emitted}
+use Rattle.dcsctp_core.specs.Flushing.{packet_of, packet_for}
+
+-- A chunk has bytes.
+spelled_is_not_empty : (s : Spelled) (rest : List ℕ) → spelled_bytes s ++ rest ≡ [] → ⊥
+unfolding list_bytes other_bytes
+spelled_is_not_empty (by_value chunk_type flags value) rest none = cc none
+spelled_is_not_empty (by_list chunk_type flags fields parameters) rest none = cc none
+
+chunk_is_not_empty : (chunk : ChunkContent) (rest : List ℕ) → chunk_bytes chunk ++ rest ≡ [] → ⊥
+chunk_is_not_empty chunk rest none = spelled_is_not_empty (spelled chunk) rest none
+
+-- ---- the chunks of a packet in bytes
+
+abbrev pub body_of : List Content → List ℕ
+body_of contents = flat_map chunk_bytes (map chunk_out contents)
+
+pub body_len : (contents : List Content) → length (body_of contents) ≡ contents_len contents
+body_len contents = ap length (same contents)
+  where
+    same : (contents : List Content) → body_of contents ≡ flat_map (λ content. chunk_bytes (chunk_out content)) contents
+    same [] = refl
+    same (content ∷ contents) = ap (λ (bytes : List ℕ). chunk_bytes (chunk_out content) ++ bytes) (same contents)
+
+pub body_append : (xs ys : List Content) → body_of (xs ++ ys) ≡ body_of xs ++ body_of ys
+body_append [] ys = refl
+body_append (x ∷ xs) ys =
+    ap (λ (bytes : List ℕ). chunk_bytes (chunk_out x) ++ bytes) (body_append xs ys) ∙ sym (append_assoc (chunk_bytes (chunk_out x)) (body_of xs) (body_of ys))
+
+pub body_of_chunks : (chunks : List ChunkContent) → flat_map chunk_bytes chunks ≡ body_of (plain_contents (map unworked chunks))
+body_of_chunks [] = refl
+body_of_chunks (chunk ∷ chunks) = ap (λ (bytes : List ℕ). chunk_bytes chunk ++ bytes) (body_of_chunks chunks)
+
+-- It is empty where there is no chunk.
+pub none_as_bytes : (contents : List Content) → is_none (body_of contents) ≡ is_none contents
+none_as_bytes [] = refl
+none_as_bytes (content ∷ contents) = some (body_of (content ∷ contents)) (λ none. chunk_is_not_empty (chunk_out content) (body_of contents) none)
+  where
+    some : (bytes : List ℕ) → (bytes ≡ [] → ⊥) → is_none bytes ≡ false
+    some [] not_empty = absurd (not_empty refl)
+    some (byte ∷ bytes) not_empty = refl
+
+-- how much room is left in it
+pub room_is : (e : Endpoint) (draft : Emission) → bytes_remaining (packet_for e.options draft) ≡ room_in e draft
+room_is e draft = ap (λ (n : ℕ). packet_size_limit e.options - 12 - n) (body_len draft.packet.contents)
+
+-- ---- a packet that goes out
+
+pub sent_moves : {R : Type 0} (stream : R → Stream) (a b : View R) (emission : Emission) (bytes : List ℕ)
+    → b ≡ record a { endpoint = counted a.endpoint; events = a.events ++ sent bytes ∷ [] }
+    → bytes ≡ emission_bytes (ports_of a.endpoint.options) emission
+    → Moves stream a (sends a.endpoint [] [] emission) b
+sent_moves {R = R} stream a b emission bytes here is =
+    record {
+      endpoint = ap (λ (v : View R). v.endpoint) here;
+      events = ap (λ (v : View R). v.events) here ∙ ap (λ (bs : List ℕ). a.events ++ sent bs ∷ []) is;
+      words = ap (λ (v : View R). v.words) here ∙ sym (append-nil a.words);
+      pairs = ap (λ (v : View R). v.pairs) here ∙ sym (append-nil a.pairs);
+      drawn = ap (λ (v : View R). stream v.generator) here;
+    }
+
+-- the bytes of a packet that was built
+pub built_bytes : (options : Options) (builder : Building) (with_checksum : Bool) (tag : ℕ) (contents : List Content) (bytes : List ℕ)
+    → builder ≡ packet_of options with_checksum tag contents
+    → bytes ≡ packet_bytes_of builder.with_checksum (header_bytes builder.source_port builder.destination_port builder.verification_tag) builder.body
+    → bytes ≡ emission_bytes (ports_of options) (record { with_checksum = with_checksum; packet = record { tag = tag; contents = contents } })
+built_bytes options builder with_checksum tag contents bytes is built =
+    built ∙ ap (λ (b : Building). packet_bytes_of b.with_checksum (header_bytes b.source_port b.destination_port b.verification_tag) b.body) is
+
+-- ---- a packet of one chunk that fits
+
+pub emitted_sends : {R : Type 0} (stream : R → Stream) (a b : View R) (with_checksum : Bool) (tag : ℕ) (content : Content)
+    → nat_le (12 + length (chunk_bytes (chunk_out content))) (packet_size_limit a.endpoint.options) ≡ true → b ≡ emitted with_checksum tag (chunk_out content) a
+    → Moves stream a (sends a.endpoint [] [] (record { with_checksum = with_checksum; packet = record { tag = tag; contents = content ∷ [] } })) b
+emitted_sends {R = R} stream a b with_checksum tag content fits here =
+    let options : Options = a.endpoint.options in
+    let header : List ℕ = header_bytes options.local_port options.remote_port tag in
+    let bytes : List ℕ = packet_bytes_of with_checksum header (chunk_bytes (chunk_out content)) in
+    let out : View R = record a { endpoint = counted a.endpoint; events = a.events ++ sent bytes ∷ [] } in
+    sent_moves stream a b (record { with_checksum = with_checksum; packet = record { tag = tag; contents = content ∷ [] } }) bytes
+    (here ∙ ap (λ (test : Bool). cond test out a) fits)
+    (ap (packet_bytes_of with_checksum header) (sym (append-nil (chunk_bytes (chunk_out content)))))

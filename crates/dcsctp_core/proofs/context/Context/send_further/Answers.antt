@@ -1,0 +1,34 @@
+use Rattle.std.proofs.Common.{sym, ap, ◌∙◌, arith}
+use Rattle.std.proofs.lemmas.Result.{err_from_is_err_and}
+use Rattle.dcsctp_core.specs.View.{view_of}
+use Rattle.dcsctp_core.specs.Flushing.{FlushesBy}
+use Rattle.dcsctp_core.proofs.LoopLemmas.{Completes, completes_unmade, completes_none, packet_to, loop_goes_on, loop_ends, loop_cut}
+use Rattle.dcsctp_core.proofs.context.Context.send_further.Goals as goal
+
+pub returns-in_err-packet : goal.returns-in_err-packet
+returns-in_err-packet g c =
+    rw (err_from_is_err_and c.from_residual.result c.from_residual.ensures.1).1
+    (λ held holds. completes_unmade g.R.Rng.stream held c.args.allowed (view_of c.args.self.now) c.loop-left.left (view_of c.loop-left.self) (c.loop-left.invariant held holds))
+
+pub returns-in_err-send_later : goal.returns-in_err-send_later
+returns-in_err-send_later g c =
+    rw (err_from_is_err_and c.from_residual-in_err-send_later.result c.from_residual-in_err-send_later.ensures.1).1
+    (λ held holds. let done = c.loop-left.invariant held holds in
+    loop_cut g.R.Rng.stream held c.args.allowed (view_of c.args.self.now) c.loop-left.left (view_of c.loop-left.self) (view_of c.send_later.new.self).events c.loop-left-test.true done
+    (c.in_err-send_later.ensures _ (packet_to c.loop-left.self.options c.loop-left.self.state c.in-Some.tcb.now held c.in_ok-packet.packet c.in-Some.ensures done.core c.in_ok-packet.ensures)))
+
+pub returns-then-not-branch : goal.returns-then-not-branch
+returns-then-not-branch g c =
+    λ held holds. let done = c.loop-left.invariant held holds in
+    loop_ends g.R.Rng.stream held c.args.allowed (view_of c.args.self.now) c.loop-left.left (view_of c.loop-left.self) (view_of c.send_later.new.self) c.in_ok-send_later.field-0 c.loop-left-test.true c.if-not-branch.true done
+    (c.in_ok-send_later.ensures _ (packet_to c.loop-left.self.options c.loop-left.self.state c.in-Some.tcb.now held c.in_ok-packet.packet c.in-Some.ensures done.core c.in_ok-packet.ensures))
+
+pub loop-left-preserved : goal.loop-left-preserved
+loop-left-preserved g c =
+    λ held holds. let done = c.loop-left.invariant held holds in
+    loop_goes_on g.R.Rng.stream held c.args.allowed (view_of c.args.self.now) c.loop-left.left (view_of c.loop-left.self) (view_of c.send_later.new.self) c.in_ok-send_later.field-0 c.loop-left-test.true c.if-not-branch.false done
+    (c.in_ok-send_later.ensures _ (packet_to c.loop-left.self.options c.loop-left.self.state c.in-Some.tcb.now held c.in_ok-packet.packet c.in-Some.ensures done.core c.in_ok-packet.ensures))
+
+pub returns : goal.returns
+returns g c =
+    λ held holds. completes_none g.R.Rng.stream held c.args.allowed (view_of c.args.self.now) c.loop-left.left (view_of c.loop-left.self) (omega (arith, c.loop-left-test.false)) (c.loop-left.invariant held holds)

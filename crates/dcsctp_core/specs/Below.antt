@@ -1,0 +1,66 @@
+-- What changes below an association.
+use Rattle.std.specs.Prelude.{◌≡◌, ℕ, Bool, true, false, Option, None, Some, Result, List}
+use Rattle.std.specs.declared.alloc.AllocError.{AllocError}
+use Rattle.dcsctp_build.specs.Building.{Building}
+use Rattle.dcsctp_machine.specs.declared.association.Held.{Held}
+use Rattle.dcsctp_machine.specs.Event.{Event}
+use Rattle.dcsctp_machine.specs.Endpoint.{Endpoint, held_in}
+use Rattle.dcsctp_machine.specs.Outcome.{Outcome, still}
+use Rattle.dcsctp_machine.specs.turns.DataOutcomes.{FastRetransmits}
+use Rattle.dcsctp_transfer.specs.Sacks.{HandlesSack, FillsAtOnce}
+use Rattle.dcsctp_transfer.specs.declared.sacks.HandledSack.{HandledSack}
+use Rattle.dcsctp_machine.specs.Transfer.{Transfer}
+use Rattle.dcsctp_machine.specs.turns.TransferMoves.{ReceivesData, HeedsFlag, EndsPacket, delay_over}
+use Rattle.dcsctp_core.specs.declared.state.State.{State}
+use Rattle.dcsctp_core.specs.View.{View}
+use Rattle.dcsctp_core.specs.Flushing.{state_with}
+
+-- What lies below the association that is held has changed so; without one nothing has changed.
+abbrev pub ChangesBelow : (Transfer → Transfer → Type 0) → Option Transfer → State → State → Type 0
+ChangesBelow Changes None old new = new ≡ old
+ChangesBelow Changes (Some transfer) old new = (after : Transfer) × (new ≡ state_with old after) × Changes transfer after
+
+-- That is so, or nothing has changed.
+abbrev pub ChangesWhere : Bool → (Transfer → Transfer → Type 0) → Option Transfer → State → State → Type 0
+ChangesWhere true Changes found old new = ChangesBelow Changes found old new
+ChangesWhere false Changes found old new = new ≡ old
+
+-- Data with this I flag and TSN came in.
+abbrev pub Receives : Bool → ℕ → Transfer → Transfer → Type 0
+Receives immediate tsn old new = ReceivesData tsn old new × HeedsFlag immediate tsn old new
+
+-- A packet was worked whole.
+abbrev pub EndsBelow : Transfer → Transfer → Type 0
+EndsBelow old new = EndsPacket old.tracker new.tracker × (new ≡ record old { tracker = new.tracker })
+
+-- The delay of an acknowledgement is over.
+abbrev pub EndsDelay : Transfer → Transfer → Type 0
+EndsDelay old new = new ≡ record old { tracker = delay_over old.tracker }
+
+-- A SACK with this cumulative TSN ack was taken into account, where a peer is held.
+abbrev pub SacksBelow : ℕ → Option Transfer → State → List (Event (List ℕ)) → State → List (Event (List ℕ)) → Result HandledSack AllocError → Type 0
+SacksBelow tsn None old told new telling result = (new ≡ old) × (telling ≡ told)
+SacksBelow tsn (Some transfer) old told new telling result = (after : Transfer) × (new ≡ state_with old after) × HandlesSack tsn transfer told after telling result
+
+-- What was lost was put into a packet.
+abbrev pub FillsAtOnceBelow : Option Transfer → State → Building → State → Building → Type 0
+FillsAtOnceBelow None old packet new filled = (new ≡ old) × (filled ≡ packet)
+FillsAtOnceBelow (Some transfer) old packet new filled = (after : Transfer) × (new ≡ state_with old after) × FillsAtOnce transfer packet after filled
+
+-- does something wait that was lost, and is to go out at once?
+abbrev pub at_once_below : Option Transfer → Bool
+at_once_below None = false
+at_once_below (Some transfer) = transfer.retransmission.has_fast_retransmit
+
+-- A packet of it goes out to the peer that is held.
+abbrev pub GoesAtOnce : Endpoint → Option Held → Option Transfer → Outcome → Type 0
+GoesAtOnce e (Some held) (Some transfer) o = FastRetransmits transfer.retransmission.has_fast_retransmit e held transfer o
+GoesAtOnce e held transfer o = o ≡ still e
+
+abbrev pub AtOnceAt : {R : Type 0} → View R → Outcome → Type 0
+AtOnceAt view o = GoesAtOnce view.endpoint (held_in view.endpoint.core) view.endpoint.below.transfer o
+
+-- is an acknowledgement due to the peer that is held, where one is?
+abbrev pub is_due_below : Option Transfer → Bool
+is_due_below None = false
+is_due_below (Some transfer) = transfer.tracker.is_acknowledgement_due

@@ -1,0 +1,234 @@
+//! What lies below an association, where a peer is held.
+
+ghost use Rattle.std.specs.Prelude.{◌≡◌, IfOk, OnOk, OnErr, IsOk, is_some};
+ghost use Rattle.dcsctp_machine.specs.TimeTurns.{delay_deadline, loss_deadline, has_come};
+ghost use Rattle.dcsctp_machine.specs.turns.TransferMoves.{MovesForward, LosesAll};
+ghost use Rattle.dcsctp_streams.specs.Telling.{contents};
+ghost use Rattle.dcsctp_transfer.specs.Filling.{TellsMore};
+ghost use Rattle.dcsctp_core.specs.View.{transfer_of};
+ghost use Rattle.dcsctp_core.specs.Below.{ChangesBelow, ChangesWhere, Receives, EndsBelow, EndsDelay, is_due_below, SacksBelow, FillsAtOnceBelow, at_once_below};
+ghost use Rattle.dcsctp_core.specs.Flushing.{FillsBelow, AcknowledgesBelow, HasNoData, WantsNone, can_send_below};
+
+use crate::state::State;
+use dcsctp_api::{Events, SocketTime};
+use dcsctp_build::SctpPacketBuilder;
+use dcsctp_transfer::{Data, HandledSack, QueuedMessages, SkippedTo};
+use dcsctp_wire::SackChunk;
+use std::alloc::AllocError;
+
+impl State {
+    /// Puts data into a packet to the peer that is held, and answers whether there was any. The one error is
+    /// that a growth was refused; a part of what the user is told may stand then.
+    pub(crate) fn fill_packet(
+        &mut self,
+        events: &mut Events,
+        queue: &mut QueuedMessages,
+        now: SocketTime,
+        packet: &mut SctpPacketBuilder,
+    ) -> Result<bool, AllocError>
+        ensures ok { IfOk result (λ any. FillsBelow (transfer_of self.old) queue.old (contents events.old) packet.old self.old self.new queue.new (contents events.new) packet.new any) }
+        ensures told { OnErr result (TellsMore (contents events.old) (contents events.new)) }
+        ensures idle { HasNoData queue.old (transfer_of self.old) → IsOk result }
+    {
+        match self {
+            State::Closed | State::CookieWait(_) => Ok(false),
+            State::CookieEchoed(echoed) => echoed
+                .tcb
+                .transfer
+                .fill_packet(events, queue, now, packet),
+            State::Established(tcb) => tcb.transfer.fill_packet(events, queue, now, packet),
+        }
+    }
+
+    /// Puts a SACK into a packet to the peer that is held, where one is asked for and fits; one that is
+    /// delayed counts where `also_if_delayed`. The one error is that a growth was refused.
+    pub fn acknowledge(
+        &mut self,
+        also_if_delayed: bool,
+        packet: &mut SctpPacketBuilder,
+    ) -> Result<(), AllocError>
+        ensures ok { OnOk result (AcknowledgesBelow (transfer_of self.old) also_if_delayed self.old packet.old self.new packet.new) }
+        ensures idle { WantsNone (transfer_of self.old) also_if_delayed → IsOk result }
+    {
+        match self {
+            State::Closed | State::CookieWait(_) => Ok(()),
+            State::CookieEchoed(echoed) => {
+                echoed.tcb.transfer.acknowledge(also_if_delayed, packet)
+            }
+            State::Established(tcb) => tcb.transfer.acknowledge(also_if_delayed, packet),
+        }
+    }
+
+    /// May data be sent to the peer that is held (RFC 9260, section 6.1)?
+    pub(crate) fn can_send_data(&self) -> bool
+        ensures { result ≡ can_send_below (transfer_of self.now) }
+    {
+        match self {
+            State::Closed | State::CookieWait(_) => false,
+            State::CookieEchoed(echoed) => echoed.tcb.transfer.can_send_data(),
+            State::Established(tcb) => tcb.transfer.can_send_data(),
+        }
+    }
+
+    /// Is a peer held?
+    pub fn holds_peer(&self) -> bool
+        ensures { result ≡ is_some (transfer_of self.now) }
+    {
+        match self {
+            State::Closed | State::CookieWait(_) => false,
+            State::CookieEchoed(_) | State::Established(_) => true,
+        }
+    }
+
+    /// Takes in data from the peer that is held (RFC 9260, section 6.2). The one error is that a growth was
+    /// refused.
+    pub fn receive_data(
+        &mut self,
+        tsn: u32,
+        immediate_ack: bool,
+        chunk: Data,
+    ) -> Result<(), AllocError>
+        ensures { OnOk result (ChangesBelow (Receives immediate_ack tsn) (transfer_of self.old) self.old self.new) }
+    {
+        match self {
+            State::Closed | State::CookieWait(_) => Ok(()),
+            State::CookieEchoed(echoed) => {
+                echoed.tcb.transfer.receive_data(tsn, immediate_ack, chunk)
+            }
+            State::Established(tcb) => tcb.transfer.receive_data(tsn, immediate_ack, chunk),
+        }
+    }
+
+    /// Skips what the peer that is held gave up (RFC 3758, section 3.6). The one error is that a growth was
+    /// refused.
+    pub fn handle_forward_tsn(
+        &mut self,
+        new_cumulative_tsn: u32,
+        skipped: &[SkippedTo],
+    ) -> Result<(), AllocError>
+        ensures { OnOk result (ChangesBelow (MovesForward new_cumulative_tsn) (transfer_of self.old) self.old self.new) }
+    {
+        match self {
+            State::Closed | State::CookieWait(_) => Ok(()),
+            State::CookieEchoed(echoed) => echoed
+                .tcb
+                .transfer
+                .handle_forward_tsn(new_cumulative_tsn, skipped),
+            State::Established(tcb) => {
+                tcb.transfer.handle_forward_tsn(new_cumulative_tsn, skipped)
+            }
+        }
+    }
+
+    /// Says that a packet was worked whole (RFC 9260, section 6.2). It takes no memory.
+    pub fn end_packet(&mut self, now: SocketTime)
+        ensures { ChangesBelow EndsBelow (transfer_of self.old) self.old self.new }
+    {
+        match self {
+            State::Closed | State::CookieWait(_) => {}
+            State::CookieEchoed(echoed) => echoed.tcb.transfer.end_packet(now),
+            State::Established(tcb) => tcb.transfer.end_packet(now),
+        }
+    }
+
+    /// Is an acknowledgement due to the peer that is held?
+    pub fn is_acknowledgement_due(&self) -> bool
+        ensures { result ≡ is_due_below (transfer_of self.now) }
+    {
+        match self {
+            State::Closed | State::CookieWait(_) => false,
+            State::CookieEchoed(echoed) => echoed.tcb.transfer.is_acknowledgement_due(),
+            State::Established(tcb) => tcb.transfer.is_acknowledgement_due(),
+        }
+    }
+
+    /// When a delayed acknowledgement is due, where one is delayed.
+    pub fn acknowledgement_deadline(&self) -> Option<SocketTime>
+        ensures { result ≡ delay_deadline (transfer_of self.now) }
+    {
+        match self {
+            State::Closed | State::CookieWait(_) => None,
+            State::CookieEchoed(echoed) => echoed.tcb.transfer.acknowledgement_deadline(),
+            State::Established(tcb) => tcb.transfer.acknowledgement_deadline(),
+        }
+    }
+
+    /// Tells the delay of an acknowledgement this moment, and answers whether it is over.
+    pub fn expire_acknowledgement(&mut self, now: SocketTime) -> bool
+        ensures answer { result ≡ has_come now (delay_deadline (transfer_of self.old)) }
+        ensures left { ChangesWhere result EndsDelay (transfer_of self.old) self.old self.new }
+    {
+        match self {
+            State::Closed | State::CookieWait(_) => false,
+            State::CookieEchoed(echoed) => echoed.tcb.transfer.expire_acknowledgement(now),
+            State::Established(tcb) => tcb.transfer.expire_acknowledgement(now),
+        }
+    }
+
+    /// When what is in flight is lost, where something is.
+    pub fn retransmission_deadline(&self) -> Option<SocketTime>
+        ensures { result ≡ loss_deadline (transfer_of self.now) }
+    {
+        match self {
+            State::Closed | State::CookieWait(_) => None,
+            State::CookieEchoed(echoed) => echoed.tcb.transfer.retransmission_deadline(),
+            State::Established(tcb) => tcb.transfer.retransmission_deadline(),
+        }
+    }
+
+    /// Tells the retransmission timer this moment, and answers whether it expires: what is in flight is lost
+    /// then (RFC 9260, section 6.3.3).
+    pub fn expire_retransmission(&mut self, now: SocketTime) -> bool
+        ensures answer { result ≡ has_come now (loss_deadline (transfer_of self.old)) }
+        ensures left { ChangesWhere result LosesAll (transfer_of self.old) self.old self.new }
+    {
+        match self {
+            State::Closed | State::CookieWait(_) => false,
+            State::CookieEchoed(echoed) => echoed.tcb.transfer.expire_retransmission(now),
+            State::Established(tcb) => tcb.transfer.expire_retransmission(now),
+        }
+    }
+
+    /// Takes a SACK of the peer that is held into account (RFC 9260, section 6.2.1). The one error is that a
+    /// growth was refused; a part of what the user is told may stand then, and nothing else has changed.
+    pub fn handle_sack(
+        &mut self,
+        events: &mut Events,
+        now: SocketTime,
+        sack: &SackChunk<'_>,
+    ) -> Result<HandledSack, AllocError>
+        ensures { SacksBelow sack.now.cumulative_tsn_ack (transfer_of self.old) self.old (contents events.old) self.new (contents events.new) result }
+    {
+        match self {
+            State::Closed | State::CookieWait(_) => Ok(HandledSack::Invalid),
+            State::CookieEchoed(echoed) => echoed.tcb.transfer.handle_sack(events, now, sack),
+            State::Established(tcb) => tcb.transfer.handle_sack(events, now, sack),
+        }
+    }
+
+    /// Does something wait that was lost, and is to go out at once (RFC 9260, section 7.2.4)?
+    pub(crate) fn has_data_at_once(&self) -> bool
+        ensures { result ≡ at_once_below (transfer_of self.now) }
+    {
+        match self {
+            State::Closed | State::CookieWait(_) => false,
+            State::CookieEchoed(echoed) => echoed.tcb.transfer.has_data_at_once(),
+            State::Established(tcb) => tcb.transfer.has_data_at_once(),
+        }
+    }
+
+    /// Puts what was lost into a packet to the peer that is held. The one error is that a growth was refused.
+    pub(crate) fn fill_at_once(
+        &mut self,
+        now: SocketTime,
+        packet: &mut SctpPacketBuilder,
+    ) -> Result<(), AllocError>
+        ensures { OnOk result (FillsAtOnceBelow (transfer_of self.old) self.old packet.old self.new packet.new) }
+    {
+        match self {
+            State::Closed | State::CookieWait(_) => Ok(()),
+            State::CookieEchoed(echoed) => echoed.tcb.transfer.fill_at_once(now, packet),
+            State::Established(tcb) => tcb.transfer.fill_at_once(now, packet),
+        }
+    }
+}

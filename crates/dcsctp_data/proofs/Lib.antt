@@ -1,0 +1,6 @@
+pub mod ArrivalLemmas
+pub mod EndLemmas
+pub mod RefusalLemmas
+pub mod ResendLemmas
+pub mod SackLemmas
+pub mod TakingLemmas

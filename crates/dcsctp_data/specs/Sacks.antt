@@ -1,0 +1,35 @@
+-- What the handler of SACK does, as turns of a socket's view (RFC 9260, sections 6.2.1 and 7.2.4).
+use Rattle.std.specs.Prelude.{◌≡◌, ℕ, true, Option, None, Some, Result, List, [], is_some}
+use Rattle.rand_core.specs.Stream.{Stream}
+use Rattle.dcsctp_machine.specs.declared.association.Held.{Held}
+use Rattle.dcsctp_machine.specs.Transfer.{Transfer}
+use Rattle.dcsctp_machine.specs.Endpoint.{Endpoint, held_in}
+use Rattle.dcsctp_machine.specs.Outcome.{Outcome, still, behind}
+use Rattle.dcsctp_machine.specs.turns.FlushOutcomes.{Answer, draft_to, flush_of, FlushAnswers}
+use Rattle.dcsctp_machine.specs.turns.DataOutcomes.{SackTurn, FastRetransmits}
+use Rattle.dcsctp_core.specs.declared.context.Context.{Context}
+use Rattle.dcsctp_core.specs.View.{View, transfer_of}
+use Rattle.dcsctp_core.specs.Handling.{TakesOne}
+
+-- A SACK with this cumulative TSN ack came in.
+abbrev pub SackAt : {R : Type 0} → ℕ → View R → Outcome → Type 0
+SackAt tsn view o = SackTurn view.endpoint view.endpoint.below.transfer tsn o
+
+-- What was lost goes out at once, where it is to, and then what waits.
+pub record ResendsBy (e : Endpoint) (held : Held) (transfer : Transfer) (o : Outcome) : Type 0 where
+  pub fast : Outcome
+  pub resends : FastRetransmits transfer.retransmission.has_fast_retransmit e held transfer fast
+  pub answers : List Answer
+  pub allowed : FlushAnswers fast.after (draft_to held) answers
+  pub is : o ≡ behind [] fast.events (flush_of fast.after (draft_to held) answers)
+
+abbrev pub Resends : Endpoint → Option Held → Option Transfer → Outcome → Type 0
+Resends e (Some held) (Some transfer) o = ResendsBy e held transfer o
+Resends e held transfer o = o ≡ still e
+
+abbrev pub ResendsAt : {R : Type 0} → View R → Outcome → Type 0
+ResendsAt view o = Resends view.endpoint (held_in view.endpoint.core) view.endpoint.below.transfer o
+
+-- That is so where a peer is held.
+abbrev pub ResendsWhereHeld : {R E : Type 0} → (R → Stream) → Context R → Result (Unit {0}) E → Context R → Type 0
+ResendsWhereHeld stream old result new = is_some (transfer_of old.state) ≡ true → TakesOne stream ResendsAt old result new

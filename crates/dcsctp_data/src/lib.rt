@@ -1,0 +1,19 @@
+//! Data (RFC 9260, section 6; RFC 3758; RFC 8260): the handlers of DATA, FORWARD-TSN and SACK, the end of a
+//! packet, and what the timers of data bring. They work on the parts that `dcsctp_core` shares.
+#![tactic(auto)]
+
+mod arrival;
+mod forward;
+mod packet_end;
+mod refusal;
+mod sack;
+mod timers;
+
+pub use arrival::{handle_data, handle_i_data};
+pub use forward::{handle_forward_tsn, handle_i_forward_tsn};
+pub use packet_end::end_packet;
+pub use sack::handle_sack;
+pub use timers::{
+    acknowledgement_deadline, handle_acknowledgement_delay, handle_retransmission,
+    retransmission_deadline,
+};

@@ -1,0 +1,226 @@
+-- An ask that isn't idle may be answered whatever the user was told: where memory is refused while a packet is filled, this is
+-- what completes its turn.
+use Rattle.std.proofs.Common.{◌≡◌, ◌≤◌, ◌<◌, ◌+◌, ◌-◌, ◌%◌, ◌^◌, ◌&&◌, ◌==◌, ℕ, zero, suc, Bool, true, false, cond, nat_le, Option, None, Some, List, [], ◌∷◌, ◌++◌, map, length, refl, sym, subst, ap, ◌∙◌, arith, length-append, flat_map, MatchBool}
+use Rattle.std.specs.List.{AllByRecursion}
+use Rattle.std.proofs.lemmas.List.{append-nil}
+use Rattle.std.proofs.lemmas.Bool.Decides.{nat_tests}
+use Rattle.dcsctp_wire.specs.declared.chunk.user_data.DataFlags.{DataFlags}
+use Rattle.dcsctp_wire.specs.Content.{SackContent, data_chunk, i_data_chunk, sack_chunk}
+use Rattle.dcsctp_wire.specs.ReadsBack.{FitsSack}
+use Rattle.dcsctp_wire.specs.Spelling.{chunk_bytes, other_bytes, data_fields, i_data_fields}
+use Rattle.dcsctp_machine.specs.Settings.{packet_size_limit}
+use Rattle.dcsctp_machine.specs.Packet.{Plain, unworked, plain_out, Content, chunk_out, Emission}
+use Rattle.dcsctp_machine.specs.Transfer.{SendQueueState, RetransmissionState, TrackerState, Transfer, can_send, has_free_tsn, has_data, least_chunk, must_give, is_idle}
+use Rattle.dcsctp_machine.specs.Endpoint.{Endpoint}
+use Rattle.dcsctp_machine.specs.Outcome.{contents_len}
+use Rattle.dcsctp_machine.specs.control.Choices.{plain_contents}
+use Rattle.dcsctp_machine.specs.turns.TransferMoves.{acknowledged}
+use Rattle.dcsctp_machine.specs.turns.FlushOutcomes.{Told, Answer, answer_contents, filled, IsWithin, Ask, room_in, where_fits, wants_sack, IsSackOf, Acknowledges, is_none, IsData, FitsPlain, Gives, GivesWhere, Answered, AnsweredBelow, timers_with, nothing_waits, asked, next_draft, later_ask, Answers, at_limit, at_empty, after_packet}
+
+-- ---- how long a packet is
+
+pub len_append : (xs ys : List Content) → contents_len (xs ++ ys) ≡ contents_len xs + contents_len ys
+len_append [] ys = omega arith
+len_append (x ∷ xs) ys =
+    let rest = len_append xs ys in
+    let one = length-append (chunk_bytes (chunk_out x)) (flat_map (λ content. chunk_bytes (chunk_out content)) (xs ++ ys)) in
+    let own = length-append (chunk_bytes (chunk_out x)) (flat_map (λ content. chunk_bytes (chunk_out content)) xs) in
+    omega (arith, rest, one, own)
+
+fits_len : (b : Bool) (room : ℕ) (chunk : Plain) → nat_le (length (chunk_bytes (plain_out chunk))) room ≡ b → contents_len (plain_contents (cond b (chunk ∷ []) [])) ≤ room
+fits_len true room chunk is =
+    let one = length-append (chunk_bytes (plain_out chunk)) [] in
+    let small : length (chunk_bytes (plain_out chunk)) ≤ room = grind (arith, nat_tests) in
+    omega (arith, one, small)
+fits_len false room chunk is = omega arith
+
+where_fits_len : (room : ℕ) (chunk : Plain) → contents_len (plain_contents (where_fits room chunk)) ≤ room
+where_fits_len room chunk = fits_len (nat_le (length (chunk_bytes (plain_out chunk))) room) room chunk refl
+
+-- what is put behind a packet as it fits leaves it within its limit
+pub two_within : (e : Endpoint) (draft : Emission) (one two : List Content) → IsWithin e draft → contents_len one ≤ room_in e draft
+    → contents_len two ≤ packet_size_limit e.options - 12 - contents_len (draft.packet.contents ++ one) → IsWithin e (filled draft (one ++ two))
+two_within e draft one two within first second =
+    let all = len_append draft.packet.contents (one ++ two) in
+    let both = len_append one two in
+    let front = len_append draft.packet.contents one in
+    omega (arith, within, first, second, all, both, front)
+
+-- ---- an answer
+
+-- a SACK of what came in
+abbrev sack_of : Transfer → SackContent
+sack_of transfer =
+    record { cumulative_tsn_ack = transfer.tracker.cumulative_tsn % 2 ^ 32; a_rwnd = transfer.reassembly.remaining_bytes % 2 ^ 32; gap_ack_blocks = []; duplicate_tsns = [] }
+
+abbrev sacks_where : Bool → ℕ → Transfer → List Plain
+sacks_where true room transfer = where_fits room (unworked (sack_chunk (sack_of transfer)))
+sacks_where false room transfer = []
+
+abbrev tracker_where : Bool → Transfer → TrackerState
+tracker_where true transfer = acknowledged transfer.tracker
+tracker_where false transfer = transfer.tracker
+
+acknowledges_where : (b : Bool) (room : ℕ) (transfer : Transfer) → Acknowledges b room transfer (tracker_where b transfer) (sacks_where b room transfer)
+acknowledges_where false room transfer = (refl, refl)
+acknowledges_where true room transfer = (
+  refl,
+  sack_of transfer,
+  record {
+    cumulative = refl;
+    window = refl;
+    fits = record {
+      cumulative_tsn_ack = omega arith;
+      a_rwnd = omega arith;
+      len_fits = omega arith;
+      blocks = record { whole = refl; entries_in_bytes = tt };
+      duplicates = record { whole = refl; entries_in_bytes = tt };
+    };
+  },
+  refl,
+)
+
+sacks_len : (b : Bool) (room : ℕ) (transfer : Transfer) → contents_len (plain_contents (sacks_where b room transfer)) ≤ room
+sacks_len true room transfer = where_fits_len room (unworked (sack_chunk (sack_of transfer)))
+sacks_len false room transfer = omega arith
+
+-- the least chunk with data
+abbrev no_flags : DataFlags
+no_flags = record { is_end = false; is_beginning = false; is_unordered = false; immediate_ack = false }
+
+abbrev least_of : Bool → Plain
+least_of false = unworked (data_chunk (record { flags = no_flags; tsn = 0; stream_id = 0; ssn = 0; ppid = 0; payload = 0 ∷ [] }))
+least_of true = unworked (i_data_chunk (record { flags = no_flags; tsn = 0; stream_id = 0; mid = 0; ppid_or_fsn = 0; payload = 0 ∷ [] }))
+
+least_len : (b : Bool) → length (chunk_bytes (plain_out (least_of b))) ≡ least_chunk b
+unfolding other_bytes data_fields i_data_fields
+least_len false = refl
+least_len true = refl
+
+least_kind : (b interleaving : Bool) → AllByRecursion (IsData interleaving) (cond b (least_of interleaving ∷ []) [])
+least_kind true false = (tt, tt)
+least_kind true true = (tt, tt)
+least_kind false interleaving = tt
+
+least_fits : (b interleaving : Bool) → AllByRecursion FitsPlain (cond b (least_of interleaving ∷ []) [])
+least_fits true false = (record { tsn = omega arith; stream_id = omega arith; ssn = omega arith; ppid = omega arith; len_fits = omega arith; payload_in_bytes = (omega arith, tt) }, tt)
+least_fits true true = (record { tsn = omega arith; stream_id = omega arith; mid = omega arith; ppid_or_fsn = omega arith; len_fits = omega arith; payload_in_bytes = (omega arith, tt) }, tt)
+least_fits false interleaving = tt
+
+and_false : (a b c d : Bool) → (a && b && false && c && d) ≡ false
+and_false true true c d = refl
+and_false true false c d = refl
+and_false false b c d = refl
+
+-- It is left out only where it doesn't fit.
+least_goes : (b : Bool) (room : ℕ) (queue : SendQueueState) (state : RetransmissionState) → nat_le (least_chunk state.message_interleaving) room ≡ b
+    → is_none (cond b (least_of state.message_interleaving ∷ []) []) ≡ true → must_give room queue state ≡ false
+least_goes true room queue state is none = absurd (cc)
+least_goes false room queue state is none =
+    ap (λ (b : Bool). can_send state && state.marked_items == 0 && b && has_free_tsn state && has_data queue) is
+    ∙ and_false (can_send state) (state.marked_items == 0) (has_free_tsn state) (has_data queue)
+
+-- ---- what completes a turn
+
+abbrev pub transfer_told : Ask → Endpoint → Transfer → Transfer
+transfer_told ask e transfer = record transfer { tracker = tracker_where (wants_sack ask e.below.queue transfer) transfer }
+
+abbrev pub some_answer : Ask → Endpoint → Emission → Transfer → List Told → Answer
+some_answer ask e draft transfer told =
+    let sacks : List Plain = sacks_where (wants_sack ask e.below.queue transfer) (room_in e draft) transfer in
+    let chunks : List Plain = where_fits (room_in e (filled draft (plain_contents sacks))) (least_of transfer.retransmission.message_interleaving) in
+    record {
+      acknowledgements = sacks;
+      data_chunks = chunks;
+      told = told;
+      after = record e { timers = timers_with e chunks; below = record e.below { transfer = Some (transfer_told ask e transfer) } };
+    }
+
+some_gives : (ask : Ask) (e : Endpoint) (draft : Emission) (transfer : Transfer) (told : List Told) → Gives ask e draft transfer (some_answer ask e draft transfer told)
+some_gives ask e draft transfer told =
+    let wants : Bool = wants_sack ask e.below.queue transfer in
+    let sacks : List Plain = sacks_where wants (room_in e draft) transfer in
+    let room : ℕ = room_in e (filled draft (plain_contents sacks)) in
+    let interleaving : Bool = transfer.retransmission.message_interleaving in
+    let test : Bool = nat_le (length (chunk_bytes (plain_out (least_of interleaving)))) room in
+    record {
+      left = transfer_told ask e transfer;
+      holds = refl;
+      sacks = sacks;
+      forwards = [];
+      parts = sym (append-nil sacks);
+      acknowledges = acknowledges_where wants (room_in e draft) transfer;
+      gives_up = record {
+        is_made = false;
+        later = refl;
+        none = λ is. refl;
+        in_first = λ is. refl;
+        in_time = λ early. refl;
+        negotiated = λ is. refl;
+        at_most_one = omega arith;
+        kind = tt;
+        fit = tt;
+      };
+      kind = least_kind test interleaving;
+      fit = least_fits test interleaving;
+      data_goes = λ none. least_goes test room e.below.queue transfer.retransmission (ap (λ (n : ℕ). nat_le n room) (sym (least_len interleaving))) none;
+      partial_reliability = refl;
+      message_interleaving = refl;
+      timeout = refl;
+      reassembly = refl;
+    }
+
+pub some_answered : (ask : Ask) (e : Endpoint) (draft : Emission) (transfer : Transfer) (told : List Told) → e.below.transfer ≡ Some transfer → is_idle e.below.queue transfer ≡ false
+    → Answered ask e draft (some_answer ask e draft transfer told)
+some_answered ask e draft transfer told holds busy =
+    let sacks : List Plain = sacks_where (wants_sack ask e.below.queue transfer) (room_in e draft) transfer in
+    let room : ℕ = room_in e (filled draft (plain_contents sacks)) in
+    let answer : Answer = some_answer ask e draft transfer told in
+    record {
+      kept = refl;
+      within = λ within. two_within e draft (plain_contents sacks) (plain_contents answer.data_chunks) within
+          (sacks_len (wants_sack ask e.below.queue transfer) (room_in e draft) transfer) (where_fits_len room (least_of transfer.retransmission.message_interleaving));
+      by_transfer = subst (AnsweredBelow ask e draft answer) (sym holds)
+          (subst (λ (b : Bool). GivesWhere b ask e draft transfer answer) (sym busy) (some_gives ask e draft transfer told));
+    }
+
+-- ---- answers that a flush may get, wherever it stands
+
+nothing_behind : (e : Endpoint) (draft : Emission) → filled draft (answer_contents (nothing_waits e)) ≡ draft
+nothing_behind e draft = ap (λ (contents : List Content). record draft { packet = record draft.packet { contents = contents } }) (append-nil draft.packet.contents)
+
+nothing_answered : (ask : Ask) (e : Endpoint) (draft : Emission) → AnsweredBelow ask e draft (nothing_waits e) e.below.transfer → Answered ask e draft (nothing_waits e)
+nothing_answered ask e draft h =
+    record { kept = refl; within = λ within. subst (IsWithin e) (sym (nothing_behind e draft)) within; by_transfer = h }
+
+any_answer_by : (ask : Ask) (e : Endpoint) (draft : Emission) (told : List Told) (transfer : Transfer) (b : Bool) → e.below.transfer ≡ Some transfer → is_idle e.below.queue transfer ≡ b
+    → (answer : Answer) × Answered ask e draft answer
+any_answer_by ask e draft told transfer true holds is = (
+  nothing_waits e,
+  nothing_answered ask e draft (subst (AnsweredBelow ask e draft (nothing_waits e)) (sym holds) (subst (λ (b : Bool). GivesWhere b ask e draft transfer (nothing_waits e)) (sym is) refl)),
+)
+any_answer_by ask e draft told transfer false holds is = (some_answer ask e draft transfer told, some_answered ask e draft transfer told holds is)
+
+any_answer_at : (ask : Ask) (e : Endpoint) (draft : Emission) (transfer : Option Transfer) → e.below.transfer ≡ transfer → (answer : Answer) × Answered ask e draft answer
+any_answer_at ask e draft None holds = (nothing_waits e, nothing_answered ask e draft (subst (AnsweredBelow ask e draft (nothing_waits e)) (sym holds) refl))
+any_answer_at ask e draft (Some transfer) holds = any_answer_by ask e draft [] transfer (is_idle e.below.queue transfer) holds refl
+
+-- the answers that go on from this one
+goes_on : (ask : Ask) (n : ℕ) (e : Endpoint) (draft : Emission) (answer : Answer) (contents : List Content) → (filled draft (answer_contents answer)).packet.contents ≡ contents → Answered ask e draft answer
+    → ((answers : List Answer) × Answers later_ask n (asked e draft answer).after (next_draft e.core draft) answers) → (answers : List Answer) × Answers ask (suc n) e draft (answer ∷ answers)
+goes_on ask n e draft answer [] is h rest = ([], at_empty ask n e draft answer h is)
+goes_on ask n e draft answer (content ∷ contents) is h rest =
+    (rest.0, after_packet ask n e draft answer rest.0 h (λ none. let clash : content ∷ contents ≡ [] = sym is ∙ none in absurd (cc)) rest.1)
+
+pub any_answers : (ask : Ask) (n : ℕ) (e : Endpoint) (draft : Emission) → (answers : List Answer) × Answers ask n e draft answers
+any_answers ask zero e draft = ([], at_limit ask e draft)
+any_answers ask (suc n) e draft =
+    let first : (answer : Answer) × Answered ask e draft answer = any_answer_at ask e draft e.below.transfer refl in
+    let all : (answers : List Answer) × Answers ask (suc n) e draft (first.0 ∷ answers) =
+    goes_on ask n e draft first.0 (filled draft (answer_contents first.0)).packet.contents refl first.1 (any_answers later_ask n (asked e draft first.0).after (next_draft e.core draft)) in
+    (first.0 ∷ all.0, all.1)
+
+-- those that begin with this one
+pub answers_from : (ask : Ask) (n : ℕ) (e : Endpoint) (draft : Emission) (answer : Answer) → Answered ask e draft answer → (answers : List Answer) × Answers ask (suc n) e draft (answer ∷ answers)
+answers_from ask n e draft answer h =
+    goes_on ask n e draft answer (filled draft (answer_contents answer)).packet.contents refl h (any_answers later_ask n (asked e draft answer).after (next_draft e.core draft))

@@ -1,0 +1,190 @@
+-- The turns of data: what comes in, what acknowledges it, and what goes out (RFC 9260, section 6; RFC 3758; RFC 8260).
+use Rattle.std.specs.Prelude.{◌≡◌, ◌≤◌, ◌+◌, ◌-◌, ◌%◌, ◌^◌, ℕ, Bool, true, false, nat_le, Option, None, Some, List, [], ◌∷◌, ◌++◌, codes, if◌then◌else◌}
+use Rattle.std.specs.List.{AllByRecursion}
+use Rattle.dcsctp_wire.specs.Content.{no_user_data, sack_chunk}
+use Rattle.dcsctp_machine.specs.declared.association.Held.{Held}
+use Rattle.dcsctp_machine.specs.declared.kinds.ErrorKind.TheVariants.{ProtocolViolation, NotConnected}
+use Rattle.dcsctp_machine.specs.Settings.{packet_size_limit}
+use Rattle.dcsctp_machine.specs.Event.{error}
+use Rattle.dcsctp_machine.specs.Packet.{Plain, unworked, error_of, plain, Emission}
+use Rattle.dcsctp_machine.specs.Transfer.{ReadyMessage, RetransmissionState, TrackerState, Transfer}
+use Rattle.dcsctp_machine.specs.Endpoint.{Endpoint, Core, closed, cookie_wait, cookie_echoed, open_in, held_in}
+use Rattle.dcsctp_machine.specs.Outcome.{Outcome, still, reports, emits, behind, to_peer}
+use Rattle.dcsctp_machine.specs.control.Choices.{plain_contents}
+use Rattle.dcsctp_machine.specs.turns.FlushOutcomes.{Answer, goes_out, draft_to, flush_of, room_in, where_fits, IsWithin, IsSackOf, IsData, FitsPlain, filled, FlushAnswers}
+use Rattle.dcsctp_machine.specs.turns.HeartbeatOutcomes.{error_counted}
+use Rattle.dcsctp_machine.specs.turns.TransferMoves.{tsns_ahead, ReceivesData, HeedsFlag, MovesForward, EndsPacket, acknowledged, delay_over, delivered_events, TakesSack, has_acknowledged, LosesAll}
+
+-- with this below its association
+abbrev pub with_transfer : Endpoint → Transfer → Endpoint
+with_transfer e transfer = record e { below = record e.below { transfer = Some transfer } }
+
+abbrev pub with_tracker : Endpoint → Transfer → TrackerState → Endpoint
+with_tracker e transfer tracker = with_transfer e (record transfer { tracker = tracker })
+
+-- ---- a flush by itself
+
+-- What waits goes out to the peer that is held.
+abbrev pub flush_by : Endpoint → Option Held → List Answer → Outcome
+flush_by e None answers = still e
+flush_by e (Some held) answers = flush_of e (draft_to held) answers
+
+abbrev pub AnswersTo : Endpoint → Option Held → List Answer → Type 0
+AnswersTo e None answers = answers ≡ []
+AnswersTo e (Some held) answers = FlushAnswers e (draft_to held) answers
+
+abbrev pub FlushTurn : Endpoint → Outcome → Type 0
+FlushTurn e o = (answers : List Answer) × AnswersTo e (held_in e.core) answers × (o ≡ flush_by e (held_in e.core) answers)
+
+-- ---- DATA and I-DATA
+
+abbrev pub no_user_data_text : List ℕ
+no_user_data_text = codes "Received DATA chunk with no user data"
+
+abbrev pub not_connected_text : List ℕ
+not_connected_text = codes "Received unexpected commands on socket that is not connected"
+
+-- Data without a payload is reported to the user, and to the peer, where one is held, with the cause No User Data (RFC 9260,
+-- section 3.3.10.9).
+abbrev pub no_user_data_outcome : Endpoint → Option Held → ℕ → Outcome
+no_user_data_outcome e None tsn = reports e ProtocolViolation no_user_data_text
+no_user_data_outcome e (Some held) tsn =
+    behind [] (error ProtocolViolation no_user_data_text ∷ []) (emits e [] (to_peer held (plain (error_of (no_user_data tsn ∷ [])))))
+
+abbrev pub ReceiveTurn : Endpoint → Option Transfer → Bool → ℕ → Outcome → Type 0
+ReceiveTurn e None immediate tsn o = o ≡ reports e NotConnected not_connected_text
+ReceiveTurn e (Some transfer) immediate tsn o =
+    (left : Transfer) × ReceivesData tsn transfer left × HeedsFlag immediate tsn transfer left × (o ≡ still (with_transfer e left))
+
+-- Data with this I flag, TSN and payload comes in.
+abbrev pub DataTurn : Endpoint → Bool → ℕ → List ℕ → Outcome → Type 0
+DataTurn e immediate tsn [] o = o ≡ no_user_data_outcome e (held_in e.core) tsn
+DataTurn e immediate tsn (byte ∷ bytes) o = ReceiveTurn e e.below.transfer immediate tsn o
+
+-- ---- FORWARD-TSN and I-FORWARD-TSN
+
+abbrev pub ForwardTurn : Endpoint → Option Transfer → ℕ → Outcome → Type 0
+ForwardTurn e None tsn o = o ≡ still e
+ForwardTurn e (Some transfer) tsn o = (left : Transfer) × MovesForward tsn transfer left × (o ≡ still (with_transfer e left))
+
+-- ---- SACK
+
+abbrev pub no_tcb_text : List ℕ
+no_tcb_text = codes "No TCB"
+
+-- the last TSN that the cumulative TSN ack has passed, or the one before the first
+abbrev pub last_passed : RetransmissionState → ℕ
+last_passed state = (state.next_tsn + (2 ^ 32 - 1) + (2 ^ 32 - state.outstanding_items % 2 ^ 32)) % 2 ^ 32
+
+-- Is its cumulative TSN ack neither behind nor of a TSN that was never sent (RFC 9260, section 6.2.1)?
+abbrev pub is_sack_valid : RetransmissionState → ℕ → Bool
+is_sack_valid state tsn = nat_le (tsns_ahead tsn (last_passed state)) state.outstanding_items
+
+-- A packet of lost items, whatever the congestion window is: as many as fit (RFC 9260, section 7.2.4).
+pub record SendsAtOnce (e : Endpoint) (held : Held) (transfer : Transfer) (o : Outcome) : Type 0 where
+  pub left : Transfer
+  pub chunks : List Plain
+  pub kind : AllByRecursion (IsData transfer.retransmission.message_interleaving) chunks
+  pub fit : AllByRecursion FitsPlain chunks
+  pub within : IsWithin e (draft_to held) → IsWithin e (filled (draft_to held) (plain_contents chunks))
+  pub outstanding : left.retransmission.outstanding_items ≡ transfer.retransmission.outstanding_items
+  pub unacknowledged : left.retransmission.unacknowledged_items ≡ transfer.retransmission.unacknowledged_items
+  pub next_tsn : left.retransmission.next_tsn ≡ transfer.retransmission.next_tsn
+  pub rest : left ≡ record transfer { retransmission = left.retransmission }
+  pub is : o ≡ goes_out (with_transfer e left) [] (draft_to held).with_checksum (draft_to held).packet.tag (plain_contents chunks)
+
+-- One goes out where it waits.
+abbrev pub FastRetransmits : Bool → Endpoint → Held → Transfer → Outcome → Type 0
+FastRetransmits false e held transfer o = o ≡ still e
+FastRetransmits true e held transfer o = SendsAtOnce e held transfer o
+
+-- the endpoint once a SACK was taken into account: what it acknowledges shows that the peer is there
+abbrev pub sack_taken : Endpoint → Transfer → Transfer → Endpoint
+sack_taken e old new = record (with_transfer e new) { error_count = if has_acknowledged old new then 0 else e.error_count }
+
+-- A SACK is taken into account; a fast retransmission may follow, and then a flush.
+pub record AcknowledgesBy (e : Endpoint) (held : Held) (transfer : Transfer) (o : Outcome) : Type 0 where
+  pub left : Transfer
+  pub takes : TakesSack transfer left
+  pub ids : List ℕ
+  pub fast : Outcome
+  pub resends : FastRetransmits left.retransmission.has_fast_retransmit (sack_taken e transfer left) held left fast
+  pub answers : List Answer
+  pub allowed : FlushAnswers fast.after (draft_to held) answers
+  pub is : o ≡ behind [] (delivered_events ids ++ fast.events) (flush_of fast.after (draft_to held) answers)
+
+abbrev pub SackWhere : Bool → Endpoint → Held → Transfer → Outcome → Type 0
+SackWhere false e held transfer o = o ≡ still e
+SackWhere true e held transfer o = AcknowledgesBy e held transfer o
+
+abbrev pub SackBy : Endpoint → Option Held → Transfer → ℕ → Outcome → Type 0
+SackBy e None transfer tsn o = o ≡ still e
+SackBy e (Some held) transfer tsn o = SackWhere (is_sack_valid transfer.retransmission tsn) e held transfer o
+
+-- A SACK with this cumulative TSN ack comes in.
+abbrev pub SackTurn : Endpoint → Option Transfer → ℕ → Outcome → Type 0
+SackTurn e None tsn o = o ≡ reports e NotConnected no_tcb_text
+SackTurn e (Some transfer) tsn o = SackBy e (held_in e.core) transfer tsn o
+
+-- ---- the end of a packet
+
+-- a SACK of what came in
+abbrev pub IsSack : Transfer → Plain → Type 0
+IsSack transfer (unworked (sack_chunk sack)) = IsSackOf transfer sack
+IsSack transfer chunk = ⊥
+
+-- a packet to the peer that begins with it, where it fits
+abbrev pub acknowledging : Endpoint → Held → Plain → Emission
+acknowledging e held sack = filled (draft_to held) (plain_contents (where_fits (room_in e (draft_to held)) sack))
+
+-- Its data is acknowledged at once: a flush that begins with a SACK, where that fits.
+pub record AnswersPacket (e : Endpoint) (held : Held) (transfer : Transfer) (tracker : TrackerState) (o : Outcome) : Type 0 where
+  pub sack : Plain
+  pub is_sack : IsSack (record transfer { tracker = tracker }) sack
+  pub answers : List Answer
+  pub allowed : FlushAnswers (with_tracker e transfer (acknowledged tracker)) (acknowledging e held sack) answers
+  pub is : o ≡ flush_of (with_tracker e transfer (acknowledged tracker)) (acknowledging e held sack) answers
+
+abbrev pub EndWhere : Bool → Endpoint → Option Held → Transfer → TrackerState → Outcome → Type 0
+EndWhere true e (Some held) transfer tracker o = AnswersPacket e held transfer tracker o
+EndWhere true e None transfer tracker o = o ≡ still (with_tracker e transfer tracker)
+EndWhere false e held transfer tracker o = o ≡ still (with_tracker e transfer tracker)
+
+-- A packet was worked whole: what came with it is acknowledged now or after a delay (RFC 9260, section 6.2).
+abbrev pub EndsBy : Endpoint → Option Transfer → Outcome → Type 0
+EndsBy e None o = o ≡ still e
+EndsBy e (Some transfer) o =
+    (tracker : TrackerState) × EndsPacket transfer.tracker tracker × EndWhere tracker.is_acknowledgement_due e (held_in e.core) transfer tracker o
+
+-- ---- what the user takes
+
+-- The first message that waits is taken.
+pub record TakesMessage (old new : Transfer) : Type 0 where
+  pub message : ReadyMessage
+  pub first : old.reassembly.messages ≡ message ∷ new.reassembly.messages
+  pub received : new.reassembly.messages_received ≡ old.reassembly.messages_received
+  pub window : new.reassembly.window ≡ old.reassembly.window
+  pub remaining : old.reassembly.remaining_bytes ≤ new.reassembly.remaining_bytes
+  pub rest : new ≡ record old { reassembly = new.reassembly }
+
+abbrev pub TakeWhere : Endpoint → Transfer → List ReadyMessage → Outcome → Type 0
+TakeWhere e transfer [] o = o ≡ still e
+TakeWhere e transfer (message ∷ messages) o = (left : Transfer) × TakesMessage transfer left × (o ≡ still (with_transfer e left))
+
+abbrev pub TakeTurn : Endpoint → Option Transfer → Outcome → Type 0
+TakeTurn e None o = o ≡ still e
+TakeTurn e (Some transfer) o = TakeWhere e transfer transfer.reassembly.messages o
+
+-- ---- timers
+
+-- The delay of an acknowledgement is over: it is due.
+abbrev pub delay_outcome : Endpoint → Option Transfer → Outcome
+delay_outcome e None = still e
+delay_outcome e (Some transfer) = still (with_tracker e transfer (delay_over transfer.tracker))
+
+-- What is in flight is lost: an error is counted, and it goes out again in the flush behind the timers (RFC 9260, section 6.3.3).
+abbrev pub LossTurn : Endpoint → Option Transfer → Outcome → Type 0
+LossTurn e None o = o ≡ still e
+LossTurn e (Some transfer) o =
+    (left : Transfer) × LosesAll transfer left
+    × (o ≡ still (record (with_transfer e left) { error_count = error_counted e.options.max_retransmissions e.error_count }))

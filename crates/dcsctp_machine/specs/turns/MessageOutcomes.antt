@@ -1,0 +1,113 @@
+-- Messages that the user sends: which a socket takes, what is told of one that it refuses, and what goes out.
+use Rattle.std.specs.Prelude.{◌≡◌, ◌==◌, ◌||◌, is_none, ℕ, Bool, true, false, Option, None, Some, List, [], ◌∷◌, nat_le, nat_lt, codes, if◌then◌else◌}
+use Rattle.dcsctp_machine.specs.declared.kinds.ErrorKind.{ErrorKind}
+use Rattle.dcsctp_machine.specs.declared.kinds.ErrorKind.TheVariants.{ProtocolViolation, WrongSequence, ResourceExhaustion}
+use Rattle.dcsctp_machine.specs.declared.options.Options.{Options}
+use Rattle.dcsctp_machine.specs.Event.{Event, error, lifecycle_end}
+use Rattle.dcsctp_machine.specs.Packet.{Emission}
+use Rattle.dcsctp_machine.specs.Transfer.{SendQueueState, queued_stream, queue_added}
+use Rattle.dcsctp_machine.specs.Endpoint.{Endpoint, Core, closed, cookie_wait, cookie_echoed, open_in, held_in, OpenPhase, established, shutdown_pending, shutdown_sent, shutdown_received, shutdown_ack_sent}
+use Rattle.dcsctp_machine.specs.Outcome.{Outcome, count_up, still, quiet, then_outcome}
+use Rattle.dcsctp_machine.specs.turns.FlushOutcomes.{Answer}
+use Rattle.dcsctp_machine.specs.turns.DataOutcomes.{flush_by, AnswersTo}
+
+pub data MessageRefusal : Type 0 where
+  empty_payload : MessageRefusal
+  -- its bytes, and how many a message may have
+  message_too_large : ℕ → ℕ → MessageRefusal
+  shutting_down : MessageRefusal
+  resource_exhaustion : MessageRefusal
+
+-- Does the association end once what was sent is acknowledged (RFC 9260, section 9.2)?
+abbrev pub is_shutting_in : OpenPhase → Bool
+is_shutting_in established = false
+is_shutting_in shutdown_pending = true
+is_shutting_in shutdown_sent = true
+is_shutting_in shutdown_received = true
+is_shutting_in shutdown_ack_sent = true
+
+abbrev pub is_shutting_down : Core → Bool
+is_shutting_down closed = false
+is_shutting_down (cookie_wait my) = false
+is_shutting_down (cookie_echoed my held cookie) = false
+is_shutting_down (open_in phase my held) = is_shutting_in phase
+
+-- Does as much wait as may wait, in all or on this stream?
+abbrev pub is_full : Options → SendQueueState → ℕ → Bool
+is_full options queue id =
+    nat_le options.max_send_buffer_size queue.total_buffered_amount || nat_le options.per_stream_send_queue_limit (queued_stream queue id).buffered_amount
+
+-- Why a message of so many bytes is refused on this stream: the first of these that holds.
+abbrev pub message_refusal : Endpoint → ℕ → ℕ → Option MessageRefusal
+message_refusal e id bytes =
+    if bytes == 0 then Some empty_payload
+    else if nat_lt e.options.max_message_size bytes then Some (message_too_large bytes e.options.max_message_size)
+    else if is_shutting_down e.core then Some shutting_down
+    else if is_full e.options e.below.queue id then Some resource_exhaustion
+    else None
+
+abbrev pub refusal_kind : MessageRefusal → ErrorKind
+refusal_kind empty_payload = ProtocolViolation
+refusal_kind (message_too_large bytes limit) = ProtocolViolation
+refusal_kind shutting_down = WrongSequence
+refusal_kind resource_exhaustion = ResourceExhaustion
+
+abbrev pub refusal_text : MessageRefusal → List ℕ
+refusal_text empty_payload = codes "Unable to send empty message"
+refusal_text (message_too_large bytes limit) = codes "Unable to send too large message"
+refusal_text shutting_down = codes "Unable to send message as the socket is shutting down"
+refusal_text resource_exhaustion = codes "Unable to send message as the send queue is full"
+
+-- what is told of a message of this name that is refused
+abbrev pub refusal_events : MessageRefusal → Option ℕ → List (Event Emission)
+refusal_events refusal None = error (refusal_kind refusal) (refusal_text refusal) ∷ []
+refusal_events refusal (Some id) = lifecycle_end id ∷ error (refusal_kind refusal) (refusal_text refusal) ∷ []
+
+-- ---- what the user sends
+
+-- a message as the queue takes it: its stream, its bytes, and its name, where it has one
+pub record Sending : Type 0 where
+  pub stream : ℕ
+  pub bytes : ℕ
+  pub lifecycle : Option ℕ
+
+-- the endpoint once a message was taken
+abbrev pub message_queued : Endpoint → Sending → Endpoint
+message_queued e message =
+    record e {
+      counts = record e.counts { messages_queued = count_up e.counts.messages_queued };
+      below = record e.below { queue = queue_added message.stream message.bytes e.below.queue };
+    }
+
+abbrev pub queue_by : Endpoint → Sending → Option MessageRefusal → Outcome
+queue_by e message None = still (message_queued e message)
+queue_by e message (Some refusal) = quiet e [] (refusal_events refusal message.lifecycle)
+
+-- The message is taken or refused.
+abbrev pub queue_one : Endpoint → Sending → Outcome
+queue_one e message = queue_by e message (message_refusal e message.stream message.bytes)
+
+-- one message after another
+abbrev pub queue_all : Endpoint → List Sending → Outcome
+queue_all e [] = still e
+queue_all e (message ∷ messages) = then_outcome (queue_one e message) (queue_all (queue_one e message).after messages)
+
+-- is one of them taken?
+abbrev pub takes_any : Endpoint → List Sending → Bool
+takes_any e [] = false
+takes_any e (message ∷ messages) = is_none (message_refusal e message.stream message.bytes) || takes_any (queue_one e message).after messages
+
+-- Where one was taken, what waits goes out.
+abbrev pub SendAnswers : Bool → Endpoint → List Answer → Type 0
+SendAnswers false e answers = answers ≡ []
+SendAnswers true e answers = AnswersTo e (held_in e.core) answers
+
+abbrev pub send_by : Bool → Endpoint → List Answer → Outcome
+send_by false e answers = still e
+send_by true e answers = flush_by e (held_in e.core) answers
+
+-- The user sends these messages.
+abbrev pub SendTurn : Endpoint → List Sending → Outcome → Type 0
+SendTurn e messages o =
+    (answers : List Answer) × SendAnswers (takes_any e messages) (queue_all e messages).after answers
+    × (o ≡ then_outcome (queue_all e messages) (send_by (takes_any e messages) (queue_all e messages).after answers))

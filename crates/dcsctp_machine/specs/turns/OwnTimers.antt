@@ -1,0 +1,21 @@
+-- The timers of an association, but for T1, and what comes of each.
+use Rattle.std.specs.Prelude.{◌≡◌}
+use Rattle.dcsctp_machine.specs.Endpoint.{Endpoint}
+use Rattle.dcsctp_machine.specs.Outcome.{Outcome}
+use Rattle.dcsctp_machine.specs.turns.HeartbeatOutcomes.{interval_outcome, timeout_outcome}
+use Rattle.dcsctp_machine.specs.turns.DataOutcomes.{delay_outcome, LossTurn}
+
+pub data OwnTimer : Type 0 where
+  -- an acknowledgement is delayed no longer (RFC 9260, section 6.2)
+  acknowledgement_delay : OwnTimer
+  -- what is in flight isn't acknowledged (RFC 9260, section 6.3.3)
+  retransmission : OwnTimer
+  -- a HEARTBEAT is due, and its answer is awaited no longer (RFC 9260, section 8.3)
+  heartbeat_interval : OwnTimer
+  heartbeat_timeout : OwnTimer
+
+abbrev pub TimerTurn : Endpoint → OwnTimer → Outcome → Type 0
+TimerTurn e acknowledgement_delay o = o ≡ delay_outcome e e.below.transfer
+TimerTurn e retransmission o = LossTurn e e.below.transfer o
+TimerTurn e heartbeat_interval o = o ≡ interval_outcome e e.core
+TimerTurn e heartbeat_timeout o = o ≡ timeout_outcome e

@@ -1,0 +1,108 @@
+-- What the transfer layer makes of what it is told. Which data it holds and how far it reaches is its own; what stands here is
+-- what the rest of a socket relies on.
+use Rattle.std.specs.Prelude.{◌≡◌, ◌⊎◌, ◌==◌, ◌≤◌, ◌<◌, ℕ, ◌+◌, ◌-◌, ◌*◌, ◌%◌, ◌^◌, Bool, true, false, not, ◌&&◌, ◌||◌, nat_le, nat_lt, Option, None, Some, IsSome, List, [], ◌∷◌, ◌++◌, if◌then◌else◌}
+use Rattle.dcsctp_machine.specs.Event.{Event, lifecycle_message_delivered, lifecycle_end}
+use Rattle.dcsctp_machine.specs.Packet.{Emission}
+use Rattle.dcsctp_machine.specs.Transfer.{ReadyMessage, RetransmissionState, TrackerState, ReassemblyState, Transfer}
+
+-- ---- data that comes in
+
+-- Is nine tenths of the receive window in use, or more? Then data is dropped.
+abbrev pub is_above_watermark : ReassemblyState → Bool
+is_above_watermark state = nat_le (9 * state.window) (10 * (state.window - state.remaining_bytes))
+
+-- how far a TSN is ahead of another, modulo 2^32 (RFC 9260, section 1.6)
+abbrev pub tsns_ahead : ℕ → ℕ → ℕ
+tsns_ahead tsn other = (tsn + (2 ^ 32 - other % 2 ^ 32)) % 2 ^ 32
+
+-- May data with this TSN be taken? It is at most 65,535 ahead of the cumulative TSN, or behind it.
+abbrev pub is_tsn_valid : TrackerState → ℕ → Bool
+is_tsn_valid state tsn =
+    state.has_numbers_left && (nat_le (tsns_ahead tsn state.cumulative_tsn) 65535 || nat_le (2 ^ 31) (tsns_ahead tsn state.cumulative_tsn))
+
+-- What waits to be taken by the user stays, and more may come behind it.
+pub record GainsMessages (old new : ReassemblyState) : Type 0 where
+  pub more : List ReadyMessage
+  pub messages : new.messages ≡ old.messages ++ more
+  pub window : new.window ≡ old.window
+
+-- A TSN was taken, and is to be acknowledged. Nothing of what goes out has changed.
+pub record TakesTsn (old new : Transfer) : Type 0 where
+  pub retransmission : new.retransmission ≡ old.retransmission
+  pub timeout : new.timeout ≡ old.timeout
+  pub owes : new.tracker.owes_acknowledgement ≡ true
+  pub delay : new.tracker.delayed_acknowledgement ≡ None
+  pub reassembly : GainsMessages old.reassembly new.reassembly
+
+-- The TSN is taken, or nothing changes.
+abbrev pub TakesWhere : Bool → Transfer → Transfer → Type 0
+TakesWhere true old new = TakesTsn old new
+TakesWhere false old new = new ≡ old
+
+-- DATA or I-DATA with this TSN came in: it is dropped where the window is nearly used up, and where its TSN is too far ahead
+-- (RFC 9260, sections 6.2 and 6.5).
+abbrev pub ReceivesData : ℕ → Transfer → Transfer → Type 0
+ReceivesData tsn old new = TakesWhere (not (is_above_watermark old.reassembly) && is_tsn_valid old.tracker tsn) old new
+
+-- Data with the I flag is acknowledged at once, where it is taken (RFC 9260, section 6.2).
+abbrev pub HeedsFlag : Bool → ℕ → Transfer → Transfer → Type 0
+HeedsFlag immediate tsn old new =
+    immediate ≡ true → is_above_watermark old.reassembly ≡ false → is_tsn_valid old.tracker tsn ≡ true → new.tracker.is_acknowledgement_due ≡ true
+
+-- FORWARD-TSN or I-FORWARD-TSN with this new cumulative TSN came in (RFC 3758, section 3.6).
+abbrev pub MovesForward : ℕ → Transfer → Transfer → Type 0
+MovesForward tsn old new = TakesWhere (is_tsn_valid old.tracker tsn) old new
+
+-- ---- acknowledging it
+
+-- A packet was worked whole: what isn't acknowledged at once is so after a delay (RFC 9260, section 6.2).
+pub record EndsPacket (old new : TrackerState) : Type 0 where
+  pub cumulative_tsn : new.cumulative_tsn ≡ old.cumulative_tsn
+  pub numbers : new.has_numbers_left ≡ old.has_numbers_left
+  pub due : new.is_acknowledgement_due ≡ old.is_acknowledgement_due
+  pub owes : new.owes_acknowledgement ≡ old.owes_acknowledgement
+  pub nothing : old.owes_acknowledgement ≡ false → new ≡ old
+  pub delayed : old.owes_acknowledgement ≡ true → old.is_acknowledgement_due ≡ false → IsSome new.delayed_acknowledgement
+
+-- all that came in is acknowledged
+abbrev pub acknowledged : TrackerState → TrackerState
+acknowledged state = record state { delayed_acknowledgement = None; is_acknowledgement_due = false; owes_acknowledgement = false }
+
+-- the delay is over
+abbrev pub delay_over : TrackerState → TrackerState
+delay_over state = record state { delayed_acknowledgement = None; is_acknowledgement_due = true; owes_acknowledgement = true }
+
+-- ---- what is acknowledged
+
+-- what is told of messages with a name that were delivered
+abbrev pub delivered_events : List ℕ → List (Event Emission)
+delivered_events [] = []
+delivered_events (id ∷ ids) = lifecycle_message_delivered id ∷ lifecycle_end id ∷ delivered_events ids
+
+-- A SACK was taken into account (RFC 9260, section 6.2.1). Which messages end by it is told.
+pub record TakesSack (old new : Transfer) : Type 0 where
+  pub next_tsn : new.retransmission.next_tsn ≡ old.retransmission.next_tsn
+  pub partial_reliability : new.retransmission.partial_reliability ≡ old.retransmission.partial_reliability
+  pub message_interleaving : new.retransmission.message_interleaving ≡ old.retransmission.message_interleaving
+  pub outstanding : new.retransmission.outstanding_items ≤ old.retransmission.outstanding_items
+  pub unacknowledged : new.retransmission.unacknowledged_items ≤ old.retransmission.unacknowledged_items
+  pub tracker : new.tracker ≡ old.tracker
+  pub reassembly : new.reassembly ≡ old.reassembly
+
+-- Does it acknowledge an item that wasn't acknowledged before?
+abbrev pub has_acknowledged : Transfer → Transfer → Bool
+has_acknowledged old new = nat_lt new.retransmission.unacknowledged_items old.retransmission.unacknowledged_items
+
+-- ---- what is lost
+
+-- The retransmission timer has expired: all that is outstanding stays so, and waits to be sent again (RFC 9260, section 6.3.3).
+pub record LosesAll (old new : Transfer) : Type 0 where
+  pub next_tsn : new.retransmission.next_tsn ≡ old.retransmission.next_tsn
+  pub partial_reliability : new.retransmission.partial_reliability ≡ old.retransmission.partial_reliability
+  pub message_interleaving : new.retransmission.message_interleaving ≡ old.retransmission.message_interleaving
+  pub outstanding : new.retransmission.outstanding_items ≡ old.retransmission.outstanding_items
+  pub unacknowledged : new.retransmission.unacknowledged_items ≡ old.retransmission.unacknowledged_items
+  pub rwnd : old.retransmission.rwnd ≤ new.retransmission.rwnd
+  pub timeout : new.timeout ≡ old.timeout
+  pub tracker : new.tracker ≡ old.tracker
+  pub reassembly : new.reassembly ≡ old.reassembly

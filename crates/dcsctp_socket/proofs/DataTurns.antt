@@ -1,0 +1,66 @@
+-- Behind the turns of data the next chunk follows.
+use Rattle.std.proofs.Common.{◌≡◌, ℕ, Bool, true, false, cond, Option, None, Some, List, [], ◌∷◌, refl, ap, ◌∙◌}
+use Rattle.dcsctp_machine.specs.declared.association.Held.{Held}
+use Rattle.dcsctp_machine.specs.declared.association.Pair.{Pair}
+use Rattle.dcsctp_machine.specs.Packet.{Emission}
+use Rattle.dcsctp_machine.specs.Transfer.{Transfer}
+use Rattle.dcsctp_machine.specs.Endpoint.{Endpoint, Core, closed, cookie_wait, cookie_echoed, open_in, held_in}
+use Rattle.dcsctp_machine.specs.Following.{next_chunk}
+use Rattle.dcsctp_machine.specs.Outcome.{Outcome, quiet, sends}
+use Rattle.dcsctp_machine.specs.turns.DataOutcomes.{no_user_data_outcome, ReceiveTurn, DataTurn, ForwardTurn, is_sack_valid, SackWhere, SackBy, SackTurn}
+use Rattle.dcsctp_machine.specs.turns.FlushOutcomes.{Answer, first_ask, packets_allowed, draft_to, flush_answered}
+use Rattle.dcsctp_machine.specs.turns.HandshakeOutcomes.{connected_after, cookie_ack_by, CookieAckAnswers, CookieAckTurn}
+use Rattle.dcsctp_machine.proofs.FlushKeeps.{flush_keeps}
+
+-- The next chunk follows.
+abbrev pub GoesOn : Outcome → Type 0
+GoesOn o = o.following ≡ next_chunk
+
+goes_as : (o p : Outcome) → o ≡ p → GoesOn p → GoesOn o
+goes_as o p is goes = ap (λ (x : Outcome). x.following) is ∙ goes
+
+sent_goes : (b : Bool) (e : Endpoint) (emission : Emission) → GoesOn (cond b (sends e [] [] emission) (quiet e [] []))
+sent_goes true e emission = refl
+sent_goes false e emission = refl
+
+no_data_goes : (e : Endpoint) (held : Option Held) (tsn : ℕ) → GoesOn (no_user_data_outcome e held tsn)
+no_data_goes e None tsn = refl
+no_data_goes e (Some held) tsn = sent_goes _ e _
+
+received_goes : (e : Endpoint) (transfer : Option Transfer) (immediate : Bool) (tsn : ℕ) (o : Outcome) → ReceiveTurn e transfer immediate tsn o → GoesOn o
+received_goes e None immediate tsn o is = goes_as o _ is refl
+received_goes e (Some transfer) immediate tsn o turn = goes_as o _ turn.3 refl
+
+pub data_goes : (e : Endpoint) (immediate : Bool) (tsn : ℕ) (payload : List ℕ) (o : Outcome) → DataTurn e immediate tsn payload o → GoesOn o
+data_goes e immediate tsn [] o is = goes_as o _ is (no_data_goes e (held_in e.core) tsn)
+data_goes e immediate tsn (byte ∷ bytes) o turn = received_goes e e.below.transfer immediate tsn o turn
+
+pub forward_goes : (e : Endpoint) (transfer : Option Transfer) (tsn : ℕ) (o : Outcome) → ForwardTurn e transfer tsn o → GoesOn o
+forward_goes e None tsn o is = goes_as o _ is refl
+forward_goes e (Some transfer) tsn o turn = goes_as o _ turn.2 refl
+
+sack_where : (valid : Bool) (e : Endpoint) (held : Held) (transfer : Transfer) (o : Outcome) → SackWhere valid e held transfer o → GoesOn o
+sack_where false e held transfer o is = goes_as o _ is refl
+sack_where true e held transfer o h =
+    goes_as o _ h.is (flush_keeps first_ask (packets_allowed h.fast.after.options.max_burst h.fast.after.core) h.fast.after (draft_to held) h.answers h.allowed).following
+
+sack_by : (e : Endpoint) (held : Option Held) (transfer : Transfer) (tsn : ℕ) (o : Outcome) → SackBy e held transfer tsn o → GoesOn o
+sack_by e None transfer tsn o is = goes_as o _ is refl
+sack_by e (Some held) transfer tsn o turn = sack_where (is_sack_valid transfer.retransmission tsn) e held transfer o turn
+
+pub sack_goes : (e : Endpoint) (transfer : Option Transfer) (tsn : ℕ) (o : Outcome) → SackTurn e transfer tsn o → GoesOn o
+sack_goes e None tsn o is = goes_as o _ is refl
+sack_goes e (Some transfer) tsn o turn = sack_by e (held_in e.core) transfer tsn o turn
+
+-- ---- COOKIE ACK
+
+cookie_ack_by_goes : (e : Endpoint) (core : Core) (answers : List Answer) → CookieAckAnswers e core answers → GoesOn (cookie_ack_by (flush_answered answers) e core)
+cookie_ack_by_goes e closed answers allowed = refl
+cookie_ack_by_goes e (cookie_wait mine) answers allowed = refl
+cookie_ack_by_goes e (cookie_echoed mine held cookie) answers allowed =
+    let after : Endpoint = connected_after e mine held in
+    (flush_keeps first_ask (packets_allowed after.options.max_burst after.core) after (draft_to held) answers allowed).following
+cookie_ack_by_goes e (open_in phase mine held) answers allowed = refl
+
+pub cookie_ack_goes : (e : Endpoint) (o : Outcome) → CookieAckTurn e o → GoesOn o
+cookie_ack_goes e o turn = goes_as o _ turn.2 (cookie_ack_by_goes e e.core turn.0 turn.1)

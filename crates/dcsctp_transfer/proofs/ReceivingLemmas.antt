@@ -1,0 +1,206 @@
+-- What comes in, as the values that are shown tell it.
+use Rattle.std.proofs.Common.{◌≡◌, ◌==◌, ℕ, ◌+◌, ◌-◌, ◌*◌, ◌%◌, ◌^◌, ◌<◌, ◌≤◌, nat_le, nat_lt, not, ◌&&◌, ◌||◌, Bool, true, false, if◌then◌else◌, List, [], ◌∷◌, ◌++◌, length, refl, ap, ◌∙◌, arith}
+use Rattle.std.proofs.lemmas.Bool.Decides.{nat_tests}
+use Rattle.dcsctp_machine.specs.Transfer.{ReadyMessage, RetransmissionState, TimeoutState, Transfer}
+use Rattle.dcsctp_machine.specs.turns.TransferMoves as moves
+use Rattle.dcsctp_send.specs.Timer.{TimerModel, running_deadline}
+use Rattle.dcsctp_data_tracker.specs.Acknowledging as tracking
+use Rattle.dcsctp_data_tracker.specs.declared.data_tracker.AckState.{AckState}
+use Rattle.dcsctp_data_tracker.specs.declared.data_tracker.AckState.TheVariants.{Idle, BecomingDelayed, Delayed, Immediate}
+use Rattle.dcsctp_data_tracker.specs.Acknowledging.{TrackerModel, tracker_state, distance, number_of, has_numbers_left, is_valid_tsn, after_arrival, is_due, stopped, is_urgent, Observes}
+use Rattle.dcsctp_machine.specs.turns.TransferMoves.{is_above_watermark, tsns_ahead, is_tsn_valid, GainsMessages, TakesTsn, TakesWhere, ReceivesData}
+use Rattle.dcsctp_reassembly.specs.declared.arrivals.SkippedTo.{SkippedTo}
+use Rattle.dcsctp_reassembly.specs.declared.arrivals.Numbering.{Numbering}
+use Rattle.dcsctp_reassembly.specs.declared.arrivals.Numbering.TheVariants.{Ordered, Unordered, InterleavedOrdered, InterleavedUnordered}
+use Rattle.dcsctp_reassembly.specs.declared.runs.Assembled.{Assembled}
+use Rattle.dcsctp_reassembly.specs.declared.runs.Assembled.TheVariants.{Dropped, Kept, Whole as WholeMessage}
+use Rattle.dcsctp_reassembly.specs.declared.stream.Taken.{Taken}
+use Rattle.dcsctp_reassembly.specs.Runs.{RunModel, PartModel, WholeModel, whole_of}
+use Rattle.dcsctp_reassembly.specs.Streams.{StreamModel, ChunkModel, ready_with, OrderedOutcome, UnorderedOutcome, TakesUnordered, TakesInOrder, TakesNumbered}
+use Rattle.dcsctp_reassembly.specs.Reassembly.{IncomingModel, TakesChunk, TakesData}
+use Rattle.dcsctp_reassembly.specs.Queue.{QueueModel, queued_bytes, reassembly_state, can_count, is_deferred, with_deferred, with_waiting, skipping, is_forward_deferred, Takes, Forwards}
+
+-- ---- the receive window
+
+watermark_by : (window bytes : ℕ) → nat_le (9 * window) (10 * (window - (window - bytes))) ≡ nat_le (9 * window) (10 * bytes)
+watermark_by window bytes = grind (arith, nat_tests)
+
+-- What is above the watermark by what is left of the window is so by the bytes that are held.
+pub watermark_shown : (queue : QueueModel) → is_above_watermark (reassembly_state queue) ≡ nat_le (9 * queue.max_size) (10 * queued_bytes queue)
+watermark_shown queue = watermark_by queue.max_size (queued_bytes queue)
+
+-- ---- TSNs
+
+ahead_is : (tsn cumulative : ℕ) → tsns_ahead tsn (cumulative % 2 ^ 32) ≡ distance cumulative tsn
+ahead_is tsn cumulative =
+    let twice : cumulative % 2 ^ 32 % 2 ^ 32 ≡ cumulative % 2 ^ 32 = omega arith in
+    ap (λ (n : ℕ). (tsn + (2 ^ 32 - n)) % 2 ^ 32) twice
+
+near_by : (cumulative ahead : ℕ) → ahead < 2 ^ 32
+    → (nat_le ahead 65535 || nat_le (2 ^ 31) ahead) ≡ nat_le (if nat_lt ahead (2 ^ 31) then cumulative + ahead else cumulative - (2 ^ 32 - ahead)) (cumulative + 65535)
+near_by cumulative ahead bound = by_side (nat_lt ahead (2 ^ 31)) refl
+  where
+    by_side : (b : Bool) → nat_lt ahead (2 ^ 31) ≡ b
+        → (nat_le ahead 65535 || nat_le (2 ^ 31) ahead) ≡ nat_le (if b then cumulative + ahead else cumulative - (2 ^ 32 - ahead)) (cumulative + 65535)
+    by_side true less = grind (arith, nat_tests)
+    by_side false more = grind (arith, nat_tests)
+
+-- a TSN is valid by what is shown where it is so by its number
+pub valid_shown : (tracker : TrackerModel) (tsn : ℕ) → is_tsn_valid (tracker_state tracker) tsn ≡ is_valid_tsn tracker.cumulative tsn
+valid_shown tracker tsn =
+    let bound : distance tracker.cumulative tsn < 2 ^ 32 = omega arith in
+    ap (λ (ahead : ℕ). has_numbers_left tracker.cumulative && (nat_le ahead 65535 || nat_le (2 ^ 31) ahead)) (ahead_is tsn tracker.cumulative)
+    ∙ ap (λ (near : Bool). has_numbers_left tracker.cumulative && near) (near_by tracker.cumulative (distance tracker.cumulative tsn) bound)
+
+-- what came in is to be acknowledged
+pub owes_after : (state : AckState) (is_urgent : Bool) → is_due (after_arrival state is_urgent) true ≡ true
+owes_after Idle true = refl
+owes_after BecomingDelayed true = refl
+owes_after Delayed true = refl
+owes_after Immediate true = refl
+owes_after Idle false = refl
+owes_after BecomingDelayed false = refl
+owes_after Delayed false = refl
+owes_after Immediate false = refl
+
+-- ---- messages that become ready
+
+-- These stand in front of those.
+pub record StartsWith (before after : List ReadyMessage) : Type 0 where
+  pub more : List ReadyMessage
+  pub is : after ≡ before ++ more
+
+append_none : (messages : List ReadyMessage) → messages ≡ messages ++ []
+append_none [] = refl
+append_none (first ∷ messages) = ap (λ (rest : List ReadyMessage). first ∷ rest) (append_none messages)
+
+pub stays_in_front : (before after : List ReadyMessage) → after ≡ before → StartsWith before after
+stays_in_front before after same = record { more = []; is = same ∙ append_none before }
+
+whole_behind : (before more after : List ReadyMessage) (is_next : Bool) → after ≡ (if is_next then before ++ more else before) → StartsWith before after
+whole_behind before more after true is = record { more = more; is = is }
+whole_behind before more after false is = stays_in_front before after is
+
+ordered_behind : (part : PartModel) (old : StreamModel) (before : List ReadyMessage) (outcome : Assembled) (taken : Taken) (new : StreamModel) (after : List ReadyMessage)
+    → OrderedOutcome part old before outcome taken new after → StartsWith before after
+ordered_behind part old before Dropped taken new after does = stays_in_front before after does.1
+ordered_behind part old before Kept taken new after does = stays_in_front before after does.2
+ordered_behind part old before (WholeMessage whole) taken new after does =
+    whole_behind before (ready_with old (whole_of whole)) after ((whole_of whole).number == old.next) does.ready
+
+unordered_behind : (part : PartModel) (shown : WholeModel → ReadyMessage) (before : List ReadyMessage) (outcome : Assembled) (taken : Taken) (after : List ReadyMessage)
+    → UnorderedOutcome part shown before outcome taken after → StartsWith before after
+unordered_behind part shown before Dropped taken after does = stays_in_front before after does.0
+unordered_behind part shown before Kept taken after does = stays_in_front before after does.0
+unordered_behind part shown before (WholeMessage whole) taken after does = record { more = shown (whole_of whole) ∷ []; is = does.0 }
+
+apart_behind : (part : PartModel) (shown : WholeModel → ReadyMessage) (old : List RunModel) (before : List ReadyMessage) (taken : Taken) (new : List RunModel) (after : List ReadyMessage)
+    → TakesUnordered part shown old before taken new after → StartsWith before after
+apart_behind part shown old before taken new after takes = unordered_behind part shown before takes.outcome taken after takes.does
+
+in_order_behind : (part : PartModel) (old : StreamModel) (before : List ReadyMessage) (taken : Taken) (new : StreamModel) (after : List ReadyMessage)
+    → TakesInOrder part old before taken new after → StartsWith before after
+in_order_behind part old before taken new after takes = by_side (nat_lt part.number old.next) refl
+  where
+    by_side : (b : Bool) → nat_lt part.number old.next ≡ b → StartsWith before after
+    by_side true less = let past : part.number < old.next = grind (arith, nat_tests) in stays_in_front before after (takes.past past).2
+    by_side false more =
+        let ahead : old.next ≤ part.number = grind (arith, nat_tests) in
+        let ordered = takes.ahead ahead in
+        ordered_behind part old before ordered.outcome taken new after ordered.does
+
+numbered_behind : (tsn : ℕ) (chunk : ChunkModel) (numbering : Numbering) (old : StreamModel) (before : List ReadyMessage) (taken : Taken) (new : StreamModel) (after : List ReadyMessage)
+    → TakesNumbered tsn chunk numbering old before taken new after → StartsWith before after
+numbered_behind tsn chunk (Ordered ssn) old before taken new after takes = in_order_behind _ old before taken new after takes
+numbered_behind tsn chunk Unordered old before taken new after takes = apart_behind _ _ old.unordered before taken new.unordered after takes.unordered
+numbered_behind tsn chunk (InterleavedOrdered mid fsn) old before taken new after takes = in_order_behind _ old before taken new after takes
+numbered_behind tsn chunk (InterleavedUnordered mid fsn) old before taken new after takes = apart_behind _ _ old.unordered before taken new.unordered after takes.unordered
+
+chunk_behind : (tsn : ℕ) (chunk : ChunkModel) (numbering : Numbering) (old new : IncomingModel) → chunk.numbering ≡ numbering → TakesChunk tsn numbering chunk old new → StartsWith old.ready new.ready
+chunk_behind tsn chunk (Ordered ssn) old new is takes = numbered_behind tsn chunk chunk.numbering _ old.ready takes.taken _ new.ready takes.does
+chunk_behind tsn chunk Unordered old new is takes = apart_behind _ _ old.unordered old.ready takes.taken new.unordered new.ready takes.does
+chunk_behind tsn chunk (InterleavedOrdered mid fsn) old new is takes = numbered_behind tsn chunk chunk.numbering _ old.ready takes.taken _ new.ready takes.does
+chunk_behind tsn chunk (InterleavedUnordered mid fsn) old new is takes = numbered_behind tsn chunk chunk.numbering _ old.ready takes.taken _ new.ready takes.does
+
+-- what is ready stays in front where data comes in
+pub data_behind : (tsn : ℕ) (chunk : ChunkModel) (old new : IncomingModel) → TakesData tsn chunk old new → StartsWith old.ready new.ready
+data_behind tsn chunk old new takes = chunk_behind _ chunk chunk.numbering old new refl takes.takes
+
+-- what the queue shows then
+pub gains_by : (old new : QueueModel) → StartsWith old.incoming.ready new.incoming.ready → new.max_size ≡ old.max_size → GainsMessages (reassembly_state old) (reassembly_state new)
+gains_by old new starts window = record { more = starts.more; messages = starts.is; window = window }
+
+-- what the queue does with data, whether it waits for the end of a deferred reset, is taken or is dropped
+pub record GainsReady (old new : QueueModel) : Type 0 where
+  pub ready : StartsWith old.incoming.ready new.incoming.ready
+  pub window : new.max_size ≡ old.max_size
+
+same_ready : (old new : QueueModel) → new.incoming.ready ≡ old.incoming.ready → new.max_size ≡ old.max_size → GainsReady old new
+same_ready old new ready window = record { ready = stays_in_front old.incoming.ready new.incoming.ready ready; window = window }
+
+pub gains_by_data : (tsn : ℕ) (chunk : ChunkModel) (old new : QueueModel)
+    → (can_count (length chunk.payload) old ≡ true → is_deferred tsn chunk.stream old.deferral ≡ true → new ≡ with_deferred tsn chunk old)
+    → (can_count (length chunk.payload) old ≡ true → is_deferred tsn chunk.stream old.deferral ≡ false → Takes tsn chunk old new)
+    → (can_count (length chunk.payload) old ≡ false → new ≡ old)
+    → GainsReady old new
+gains_by_data tsn chunk old new waits takes drops = by_count (can_count (length chunk.payload) old) (is_deferred tsn chunk.stream old.deferral) refl refl
+  where
+    by_count : (can waiting : Bool) → can_count (length chunk.payload) old ≡ can → is_deferred tsn chunk.stream old.deferral ≡ waiting → GainsReady old new
+    by_count false waiting can is = let same = drops can in same_ready old new (ap (λ (q : QueueModel). q.incoming.ready) same) (ap (λ (q : QueueModel). q.max_size) same)
+    by_count true true can is = let same = waits can is in same_ready old new (ap (λ (q : QueueModel). q.incoming.ready) same) (ap (λ (q : QueueModel). q.max_size) same)
+    by_count true false can is = let took = takes can is in record { ready = data_behind tsn chunk old.incoming new.incoming took.incoming; window = took.window }
+
+pub gains_by_skipping : (tsn : ℕ) (entries : List SkippedTo) (old new : QueueModel)
+    → (is_forward_deferred tsn old.deferral ≡ true → new ≡ record old { deferral = with_waiting (skipping tsn entries) old.deferral })
+    → (is_forward_deferred tsn old.deferral ≡ false → Forwards tsn entries old new)
+    → GainsReady old new
+gains_by_skipping tsn entries old new waits works = by_wait (is_forward_deferred tsn old.deferral) refl
+  where
+    by_wait : (waiting : Bool) → is_forward_deferred tsn old.deferral ≡ waiting → GainsReady old new
+    by_wait true is = let same = waits is in same_ready old new (ap (λ (q : QueueModel). q.incoming.ready) same) (ap (λ (q : QueueModel). q.max_size) same)
+    by_wait false is = let worked = works is in record { ready = record { more = _; is = worked.incoming.ready }; window = worked.window }
+
+-- ---- all of it
+
+-- what is shown of a tracker and a queue beside what goes out
+abbrev shown : RetransmissionState → TimeoutState → TrackerModel → QueueModel → Transfer
+shown retransmission timeout tracker queue =
+    record { retransmission = retransmission; timeout = timeout; tracker = tracker_state tracker; reassembly = reassembly_state queue }
+
+takes_where : (b : Bool) (old new : Transfer) → b ≡ true → TakesTsn old new → TakesWhere b old new
+takes_where true old new is takes = takes
+takes_where false old new is takes = absurd (cc)
+
+taken : (retransmission : RetransmissionState) (timeout : TimeoutState) (old_tracker new_tracker : TrackerModel) (old new : QueueModel) (is_urgent : Bool)
+    → new_tracker.acknowledgement ≡ after_arrival old_tracker.acknowledgement is_urgent → new_tracker.delay ≡ stopped old_tracker.delay → GainsReady old new
+    → TakesTsn (shown retransmission timeout old_tracker old) (shown retransmission timeout new_tracker new)
+taken retransmission timeout old_tracker new_tracker old new is_urgent acknowledgement delay gains =
+    record {
+      retransmission = refl;
+      timeout = refl;
+      owes = ap (λ (state : AckState). is_due state true) acknowledgement ∙ owes_after old_tracker.acknowledgement is_urgent;
+      delay = ap (λ (timer : TimerModel). running_deadline timer.running) delay;
+      reassembly = gains_by old new gains.ready gains.window;
+    }
+
+pub data_received : (retransmission : RetransmissionState) (timeout : TimeoutState) (tsn : ℕ) (immediate is_new : Bool) (old_tracker new_tracker : TrackerModel) (old new : QueueModel)
+    → nat_le (9 * old.max_size) (10 * queued_bytes old) ≡ false → is_valid_tsn old_tracker.cumulative tsn ≡ true
+    → Observes tsn immediate old_tracker is_new new_tracker → GainsReady old new
+    → ReceivesData tsn (shown retransmission timeout old_tracker old) (shown retransmission timeout new_tracker new)
+data_received retransmission timeout tsn immediate is_new old_tracker new_tracker old new below valid observes gains =
+    let low : is_above_watermark (reassembly_state old) ≡ false = watermark_shown old ∙ below in
+    let near : is_tsn_valid (tracker_state old_tracker) tsn ≡ true = valid_shown old_tracker tsn ∙ valid in
+    let both : (not (is_above_watermark (reassembly_state old)) && is_tsn_valid (tracker_state old_tracker) tsn) ≡ true =
+    ap (λ (b : Bool). not b && is_tsn_valid (tracker_state old_tracker) tsn) low ∙ near in
+    takes_where _ _ _ both (taken retransmission timeout old_tracker new_tracker old new (is_urgent is_new immediate old_tracker new_tracker) observes.acknowledgement observes.delay gains)
+
+pub forwards_as : (tsn : ℕ) (old new : TrackerModel) (b : Bool) → b ≡ true → tracking.Forwards tsn old b new → tracking.Forwards tsn old true new
+forwards_as tsn old new true is forwards = forwards
+forwards_as tsn old new false never forwards = absurd (cc)
+
+pub moved_forward : (retransmission : RetransmissionState) (timeout : TimeoutState) (tsn : ℕ) (old_tracker new_tracker : TrackerModel) (old new : QueueModel)
+    → is_valid_tsn old_tracker.cumulative tsn ≡ true → tracking.Forwards tsn old_tracker true new_tracker → GainsReady old new
+    → moves.MovesForward tsn (shown retransmission timeout old_tracker old) (shown retransmission timeout new_tracker new)
+moved_forward retransmission timeout tsn old_tracker new_tracker old new valid forwards gains =
+    takes_where _ _ _ (valid_shown old_tracker tsn ∙ valid)
+    (taken retransmission timeout old_tracker new_tracker old new false forwards.1.acknowledgement forwards.1.delay gains)

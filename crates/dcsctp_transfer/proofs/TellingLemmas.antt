@@ -1,0 +1,210 @@
+-- What the user is told while a packet is filled.
+use Rattle.std.proofs.Common.{◌≡◌, ◌∙◌, ◌⊎◌, inl, inr, ℕ, ◌-◌, Bool, true, false, if◌then◌else◌, Option, None, Some, Result, Ok, Err, Vec, List, [], ◌∷◌, ◌++◌, map, length, append_assoc, refl, ap, sym}
+use Rattle.std.proofs.lemmas.List.{append-nil, map-append}
+use Rattle.std.specs.declared.alloc.AllocError.{AllocError}
+use Rattle.std.specs.declared.alloc.Global.{Global}
+use Rattle.dcsctp_machine.specs.Event.{Event}
+use Rattle.dcsctp_machine.specs.turns.FlushOutcomes.{Told, amount_is_low, total_amount_is_low, message_is_sent, message_may_have_expired, message_has_expired, message_ends}
+use Rattle.dcsctp_api.specs.Ids.{lifecycle_number}
+use Rattle.dcsctp_api.specs.declared.ids.LifecycleId.{LifecycleId}
+use Rattle.dcsctp_api.specs.declared.events.SocketEvent.{SocketEvent}
+use Rattle.dcsctp_streams.specs.Waiting.{Waiting, Stream}
+use Rattle.dcsctp_streams.specs.Ranking.{stream_at}
+use Rattle.dcsctp_streams.specs.Telling.{contents, TellsFront, expiry_events, sent_events, falls_low, low_events}
+use Rattle.dcsctp_streams.specs.declared.message.UnderWay.{UnderWay}
+use Rattle.dcsctp_send_queue.specs.declared.backlog.Backlog.{Backlog}
+use Rattle.dcsctp_send_queue.specs.Leaving.{Drops, none as none_dropped, more as more_dropped, DropsAll, drop_events, part_events, last_events, is_last, produced_events}
+use Rattle.dcsctp_send_queue.specs.Calls.{StopsTaking, DropsNext, PartNext, DiscardsNamed}
+use Rattle.dcsctp_outstanding.specs.declared.item.Item.{Item}
+use Rattle.dcsctp_retransmission.specs.Queue.{QueueModel}
+use Rattle.dcsctp_retransmission.specs.States.{Stage, stage, maybe_expired, Closes, GivesUpAt, SendsNew, FindsNone, StepAgain, StepNew, Steps, none, more, RefusesClosing, Refused, Stops, counting, TriesPacket, SendsPacket}
+use Rattle.dcsctp_transfer.specs.Filling.{told_content, TellsMore}
+
+abbrev Events : Type 0
+Events = List (Event (List ℕ))
+
+-- ---- events that the user may be told
+
+pub record AreTold (events : Events) : Type 0 where
+  pub told : List Told
+  pub is : events ≡ map told_content told
+
+told_none : AreTold []
+told_none = record { told = []; is = refl }
+
+told_same : (a b : Events) → a ≡ b → AreTold b → AreTold a
+told_same a b same told = record { told = told.told; is = same ∙ told.is }
+
+told_both : (a b : Events) → AreTold a → AreTold b → AreTold (a ++ b)
+told_both a b first later =
+    record {
+      told = first.told ++ later.told;
+      is = ap (λ (x : Events). x ++ b) first.is
+          ∙ (ap (λ (x : Events). map told_content first.told ++ x) later.is ∙ sym (map-append told_content first.told later.told));
+    }
+
+told_if : (b : Bool) (told : Told) → AreTold (if b then told_content told ∷ [] else [])
+told_if true told = record { told = told ∷ []; is = refl }
+told_if false told = told_none
+
+-- a front part of them
+told_front : (front rest : Events) (told : List Told) → front ++ rest ≡ map told_content told → AreTold front
+told_front [] rest told is = told_none
+told_front (x ∷ xs) rest [] is = absurd (cc)
+told_front (x ∷ xs) rest (t ∷ ts) is =
+    let here : x ≡ told_content t = cc in
+    let later : xs ++ rest ≡ map told_content ts = cc in
+    let others = told_front xs rest ts later in
+    record { told = t ∷ others.told; is = ap (λ (y : Event (List ℕ)). y ∷ xs) here ∙ ap (λ (ys : Events). told_content t ∷ ys) others.is }
+
+told_low : (stream : Stream) (total_threshold total by : ℕ) → AreTold (low_events stream total_threshold total by)
+told_low stream total_threshold total by =
+    told_both _ _ (told_if (falls_low stream.threshold stream.amount by) (amount_is_low stream.id)) (told_if (falls_low total_threshold total by) total_amount_is_low)
+
+expiry_by : (message : Waiting) (name : Option ℕ) → message.lifecycle ≡ name → AreTold (expiry_events message)
+expiry_by message None is = rw is told_none
+expiry_by message (Some id) is = rw is (record { told = message_has_expired id ∷ message_ends id ∷ []; is = refl })
+
+told_expiry : (message : Waiting) → AreTold (expiry_events message)
+told_expiry message = expiry_by message message.lifecycle refl
+
+sent_by : (message : Waiting) (name : Option ℕ) → message.lifecycle ≡ name → AreTold (sent_events message)
+sent_by message None is = rw is told_none
+sent_by message (Some id) is = rw is (record { told = message_is_sent id ∷ []; is = refl })
+
+told_sent : (message : Waiting) → AreTold (sent_events message)
+told_sent message = sent_by message message.lifecycle refl
+
+told_maybe : (name : Option LifecycleId) → AreTold (maybe_expired name)
+told_maybe None = told_none
+told_maybe (Some id) = record { told = message_may_have_expired (lifecycle_number id) ∷ message_ends (lifecycle_number id) ∷ []; is = refl }
+
+told_drop : (place sent : ℕ) (message : Waiting) (queue : Backlog) → AreTold (drop_events place sent message queue)
+told_drop place sent message queue =
+    told_both _ _ (told_low (stream_at queue.streams place) queue.total_threshold queue.total_amount (length message.payload - sent)) (told_expiry message)
+
+told_part : (place size : ℕ) (queue : Backlog) → AreTold (part_events place size queue)
+told_part place size queue = told_low (stream_at queue.streams place) queue.total_threshold queue.total_amount size
+
+told_produced : (place max : ℕ) (message : Waiting) (under_way : UnderWay) (queue : Backlog) → AreTold (produced_events place max message under_way queue)
+told_produced place max message under_way queue = by_end (is_last max message under_way)
+  where
+    by_end : (b : Bool) → AreTold (if b then last_events place message under_way queue else part_events place max queue)
+    by_end true = told_both _ _ (told_part place (length message.payload - under_way.sent) queue) (told_sent message)
+    by_end false = told_part place max queue
+
+told_drops : (now : ℕ) (old new : Backlog) (events : Events) → Drops now old events new → AreTold events
+told_drops now old new events none_dropped = told_none
+told_drops now old new events (more_dropped before queue place message drops next front expired) =
+    told_both _ _ (told_drops now old queue before drops) (told_drop place 0 message queue)
+
+-- ---- what is told more
+
+tells_same : (before after : Events) → after ≡ before → TellsMore before after
+tells_same before after same = record { told = []; is = same ∙ sym (append-nil before) }
+
+tells_these : (before events after : Events) → AreTold events → after ≡ before ++ events → TellsMore before after
+tells_these before events after told is = record { told = told.told; is = is ∙ ap (λ (x : Events). before ++ x) told.is }
+
+tells_then : (a b c : Events) → TellsMore a b → TellsMore b c → TellsMore a c
+tells_then a b c first later =
+    record {
+      told = first.told ++ later.told;
+      is = later.is
+          ∙ (ap (λ (x : Events). x ++ map told_content later.told) first.is
+          ∙ (append_assoc a (map told_content first.told) (map told_content later.told) ∙ ap (λ (x : Events). a ++ x) (sym (map-append told_content first.told later.told))));
+    }
+
+tells_front : (before whole after : Events) → AreTold whole → TellsFront before whole after → TellsMore before after
+tells_front before whole after told tells =
+    tells_these before tells.front after (told_front tells.front tells.rest told.told (sym tells.parts ∙ told.is)) tells.told
+
+-- ---- steps
+
+tells_dropped : (now : ℕ) (old new : Backlog) (before after : Events) → DropsAll now old before new after → TellsMore before after
+tells_dropped now old new before after drops = tells_these before drops.events after (told_drops now old new drops.events drops.drops) drops.told
+
+tells_discarded : (old new : Backlog) (stream id : ℕ) (before after : Events) (is_dropped : Bool) → DiscardsNamed old stream id before is_dropped new after → TellsMore before after
+tells_discarded old new stream id before after true does =
+    tells_these before _ after (told_drop does.named.place does.named.under_way.sent does.named.message old) does.events
+tells_discarded old new stream id before after false does = tells_same before after does.2
+
+tells_closed : (now : ℕ) (last : Item) (old new : Stage) (is_end : Bool) → Closes now last old new is_end → TellsMore old.told new.told
+tells_closed now last old new true closes =
+    tells_these old.told _ new.told (told_maybe last.fragment.lifecycle_id) (ap (λ (s : Stage). s.told) closes)
+tells_closed now last old new false (inl drops) =
+    tells_discarded old.waiting new.waiting last.fragment.stream_id.0 last.fragment.message_id old.told new.told drops.1.drops.is_dropped drops.1.drops.drops
+tells_closed now last old new false (inr same) = tells_same old.told new.told (ap (λ (s : Stage). s.told) same.1)
+
+tells_given_up : (now place : ℕ) (old new : Stage) → GivesUpAt now place old new → TellsMore old.told new.told
+tells_given_up now place old new gives_up =
+    tells_then old.told gives_up.closed.told new.told (tells_closed now gives_up.last old gives_up.closed gives_up.last.fragment.is_end gives_up.closes)
+    (tells_same gives_up.closed.told new.told (ap (λ (s : Stage). s.told) gives_up.is))
+
+tells_again : (now : ℕ) (old new : Stage) → StepAgain now old new → TellsMore old.told new.told
+tells_again now old new (inl sends) = tells_same old.told new.told (ap (λ (s : Stage). s.told) sends.1.is)
+tells_again now old new (inr gives_up) = tells_given_up now gives_up.place old new gives_up.gives_up
+
+tells_anew_by : (now : ℕ) (old new : Stage) → SendsNew now old new ⊎ FindsNone now old new → TellsMore old.told new.told
+tells_anew_by now old new (inl sends) =
+    let takes = sends.takes in
+    tells_then old.told takes.told new.told (tells_dropped now old.waiting takes.queue old.told takes.told takes.drops)
+    (tells_these takes.told _ new.told (told_produced takes.place _ takes.message takes.under_way takes.queue) takes.events)
+tells_anew_by now old new (inr finds) = tells_dropped now old.waiting new.waiting old.told new.told finds.takes.drops
+
+tells_anew : (now : ℕ) (old new : Stage) → StepNew now old new → TellsMore old.told new.told
+tells_anew now old new step = tells_anew_by now old new step.2
+
+tells_steps : (Step : Stage → Stage → Type 0) → ((a b : Stage) → Step a b → TellsMore a.told b.told) → (old new : Stage) → Steps Step old new → TellsMore old.told new.told
+tells_steps Step each old new none = tells_same old.told old.told refl
+tells_steps Step each old new (more between new' steps step) =
+    tells_then old.told between.told new'.told (tells_steps Step each old between steps) (each between new' step)
+
+-- ---- where memory is refused
+
+tells_unclosed : (last : Item) (waiting : Backlog) (before after : Events) (is_end : Bool) → RefusesClosing last waiting before after is_end → TellsMore before after
+tells_unclosed last waiting before after true tells = tells_front before _ after (told_maybe last.fragment.lifecycle_id) tells
+tells_unclosed last waiting before after false (inl same) = tells_same before after same
+tells_unclosed last waiting before after false (inr stops) =
+    tells_front before _ after (told_drop stops.named.place stops.named.under_way.sent stops.named.message waiting) stops.tells
+
+told_coming : (now max : ℕ) (old queue : Backlog) (events : Events) → DropsNext now queue events ⊎ PartNext now max old queue events → AreTold events
+told_coming now max old queue events (inl drops) = told_same events _ drops.is (told_drop drops.place 0 drops.message queue)
+told_coming now max old queue events (inr part) = told_same events _ part.is (told_produced part.place max part.message part.under_way queue)
+
+tells_stopped : (now max : ℕ) (old new : Backlog) (before after : Events) → StopsTaking now max old before new after → TellsMore before after
+tells_stopped now max old new before after stops =
+    tells_then before (before ++ stops.events) after (tells_these before stops.events (before ++ stops.events) (told_drops now old new stops.events stops.drops) refl)
+    (tells_front (before ++ stops.events) stops.coming after (told_coming now max old new stops.coming stops.next) stops.tells)
+
+tells_refused : (now : ℕ) (at : Stage) (left : Backlog) (after : Events) → Refused now at left after → TellsMore at.told after
+tells_refused now at left after (inl same) = tells_same at.told after same.1
+tells_refused now at left after (inr (inl refuses)) =
+    tells_unclosed refuses.refused.last at.waiting at.told after refuses.refused.last.fragment.is_end refuses.refused.tells
+tells_refused now at left after (inr (inr stops)) = tells_stopped now _ at.waiting left at.told after stops.1
+
+tells_stops : (now : ℕ) (Step : Stage → Stage → Type 0) → ((a b : Stage) → Step a b → TellsMore a.told b.told) → (old new : Stage) → Stops now Step old new → TellsMore old.told new.told
+tells_stops now Step each old new stops =
+    tells_then old.told stops.at.told new.told (tells_steps Step each old stops.at stops.steps) (tells_refused now stops.at new.waiting new.told stops.refused)
+
+-- ---- a packet
+
+tells_tried : (r : Result (Vec ℕ Global) AllocError) (now bytes : ℕ) (old : QueueModel) (waiting : Backlog) (events : List SocketEvent) (new : QueueModel) (left : Backlog) (telling : List SocketEvent)
+    → TriesPacket now bytes old waiting events new left telling r → TellsMore (contents events) (contents telling)
+tells_tried (Ok tsns) now bytes old waiting events new left telling tries =
+    let fills = tries.fills in
+    tells_then (contents events) fills.resent.told (contents telling)
+    (tells_steps (StepAgain now) (tells_again now) (stage old waiting events [] bytes) fills.resent fills.again)
+    (tells_steps (StepNew now) (tells_anew now) (counting bytes fills.resent) (stage new left telling tsns.items tries.room) fills.anew)
+tells_tried (Err error) now bytes old waiting events new left telling (inl stops) =
+    tells_stops now (StepAgain now) (tells_again now) (stage old waiting events [] bytes) (stage new left telling [] bytes) stops
+tells_tried (Err error) now bytes old waiting events new left telling (inr stops) =
+    tells_then (contents events) stops.resent.told (contents telling)
+    (tells_steps (StepAgain now) (tells_again now) (stage old waiting events [] bytes) stops.resent stops.again)
+    (tells_stops now (StepNew now) (tells_anew now) (counting bytes stops.resent) (stage new left telling [] bytes) stops.stops)
+
+-- all that is told while a packet is filled
+pub tells_packet : (now bytes : ℕ) (old : QueueModel) (waiting : Backlog) (events : List SocketEvent) (new : QueueModel) (left : Backlog) (telling : List SocketEvent) (r : Result (Vec ℕ Global) AllocError)
+    → SendsPacket now bytes old waiting events new left telling r → TellsMore (contents events) (contents telling)
+tells_packet now bytes old waiting events new left telling r sends =
+    tells_tried r now bytes old waiting events sends.sent left telling sends.fills

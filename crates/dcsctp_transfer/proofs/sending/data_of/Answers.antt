@@ -1,0 +1,21 @@
+use Rattle.std.proofs.Common.{◌∙◌, ap, length, arith}
+use Rattle.dcsctp_wire.specs.Content.{DataContent, data_content}
+use Rattle.dcsctp_transfer.proofs.AddingLemmas.{data_size}
+use Rattle.dcsctp_transfer.proofs.sending.data_of.Goals as goal
+
+pub returns-clause-fits : goal.returns-clause-fits
+returns-clause-fits c =
+    record {
+      tsn = omega arith;
+      stream_id = omega arith;
+      ssn = omega arith;
+      ppid = omega arith;
+      len_fits = omega (arith, ap length c.in_bytes.ensures.same, c.deref.ensures.len, c.requires);
+      payload_in_bytes = c.in_bytes.ensures.fit;
+    }
+
+pub returns-clause-size : goal.returns-clause-size
+returns-clause-size c =
+    let len = ap length c.in_bytes.ensures.same ∙ c.deref.ensures.len in
+    let chunk : DataContent = data_content (record { flags = c.flags_of-flags.result; tsn = c.args.tsn; stream_id = c.args.stream_id; ssn = c.args.ssn; ppid = c.args.ppid; payload = c.in_bytes.result }) in
+    rw (← len) (data_size chunk (omega (arith, len, c.requires)))

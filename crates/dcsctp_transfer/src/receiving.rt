@@ -1,0 +1,132 @@
+//! What comes in: data and what the peer skips (RFC 9260, sections 6.2 and 6.5; RFC 3758, section 3.6), when
+//! it is acknowledged, and the messages that a user takes.
+
+ghost use Rattle.std.specs.Prelude.{◌≡◌, ◌≤◌, ◌∷◌, [], length, true, false, if◌then◌else◌, OnOk, OnErr, IsSome, IfSome, IfNone};
+ghost use Rattle.dcsctp_machine.specs.TimeTurns.{has_come};
+ghost use Rattle.dcsctp_machine.specs.turns.TransferMoves.{
+  is_above_watermark,
+  is_tsn_valid,
+  ReceivesData,
+  MovesForward,
+  GainsMessages,
+  EndsPacket,
+  delay_over,
+};
+
+use crate::transfer::Transfer;
+use dcsctp_api::Message;
+use dcsctp_machine::SocketTime;
+use dcsctp_reassembly::{Data, SkippedTo};
+use std::alloc::AllocError;
+
+impl Transfer {
+    /// Takes in a DATA or I-DATA chunk with this TSN (RFC 9260, sections 6.2 and 6.5). `immediate_ack` is its
+    /// I flag, by which it is acknowledged at once. It is dropped where nine tenths of the receive window are
+    /// in use, or more, and where its TSN is more than 65,535 ahead of the cumulative one.
+    ///
+    /// If there is no memory for it, the data is dropped, though its TSN may count as received. The messages
+    /// that are ready stay.
+    pub fn receive_data(
+        &mut self,
+        tsn: u32,
+        immediate_ack: bool,
+        chunk: Data,
+    ) -> Result<(), AllocError>
+        ensures ok { OnOk result (ReceivesData tsn self.old self.new) }
+        ensures at_once { OnOk result (immediate_ack ≡ true → is_above_watermark self.old.reassembly ≡ false → is_tsn_valid self.old.tracker tsn ≡ true → self.new.tracker.is_acknowledgement_due ≡ true) }
+        ensures rest { OnErr result ((self.new.retransmission ≡ self.old.retransmission) × (self.new.timeout ≡ self.old.timeout) × GainsMessages self.old.reassembly self.new.reassembly) }
+    {
+        // A window that is used up is above the watermark, too.
+        if self.reassembly_queue.is_above_watermark() || !self.data_tracker.is_tsn_valid(tsn) {
+            return Ok(());
+        }
+        if self.data_tracker.observe(tsn, immediate_ack)? {
+            self.reassembly_queue.add(tsn, chunk)?;
+        }
+        Ok(())
+    }
+
+    /// Works a FORWARD-TSN or I-FORWARD-TSN chunk (RFC 3758, section 3.6; RFC 8260, section 2.3.1): all up to
+    /// `new_cumulative_tsn` counts as received, and the messages that `skipped` names are skipped. It changes
+    /// nothing where the TSN is more than 65,535 ahead of the cumulative one.
+    ///
+    /// If there is no memory for it, no message is skipped, though the TSNs count as received. The messages
+    /// that are ready stay.
+    pub fn handle_forward_tsn(
+        &mut self,
+        new_cumulative_tsn: u32,
+        skipped: &[SkippedTo],
+    ) -> Result<(), AllocError>
+        ensures ok { OnOk result (MovesForward new_cumulative_tsn self.old self.new) }
+        ensures rest { OnErr result ((self.new.retransmission ≡ self.old.retransmission) × (self.new.timeout ≡ self.old.timeout) × GainsMessages self.old.reassembly self.new.reassembly) }
+    {
+        if !self.data_tracker.is_tsn_valid(new_cumulative_tsn) {
+            return Ok(());
+        }
+        if self.data_tracker.handle_forward_tsn(new_cumulative_tsn) {
+            self.reassembly_queue
+                .handle_forward_tsn(new_cumulative_tsn, skipped)?;
+        }
+        Ok(())
+    }
+
+    /// Says that a packet was worked whole. What came in and needn't be acknowledged at once is acknowledged
+    /// after a delay, which runs from now on (RFC 9260, section 6.2).
+    pub fn end_packet(&mut self, now: SocketTime)
+        ensures turn { EndsPacket self.old.tracker self.new.tracker }
+        ensures delayed { self.old.tracker.owes_acknowledgement ≡ true → self.old.tracker.is_acknowledgement_due ≡ false → IsSome self.new.tracker.delayed_acknowledgement }
+        ensures left { self.new ≡ record self.old { tracker = self.new.tracker } }
+    {
+        self.data_tracker.observe_packet_end(now);
+    }
+
+    /// Is an acknowledgement due, whatever else goes out?
+    pub fn is_acknowledgement_due(&self) -> bool
+        ensures { result ≡ self.now.tracker.is_acknowledgement_due }
+    {
+        self.data_tracker.is_acknowledgement_due()
+    }
+
+    /// When a delayed acknowledgement is due; none where none is delayed.
+    pub fn acknowledgement_deadline(&self) -> Option<SocketTime>
+        ensures { result ≡ self.now.tracker.delayed_acknowledgement }
+    {
+        self.data_tracker.next_timeout()
+    }
+
+    /// Says that the moment `now` has come, and answers whether a delayed acknowledgement is due by it. Then
+    /// it is so at once; else nothing changes.
+    pub fn expire_acknowledgement(&mut self, now: SocketTime) -> bool
+        ensures answer { result ≡ has_come now self.old.tracker.delayed_acknowledgement }
+        ensures left { self.new ≡ record self.old { tracker = if result then delay_over self.old.tracker else self.old.tracker } }
+    {
+        self.data_tracker.handle_timeout(now)
+    }
+
+    /// Takes the message that became ready first, which gives its bytes back to the receive window; none
+    /// where none is ready. It takes no memory.
+    pub fn get_next_message(&mut self) -> Option<Message>
+        ensures some { IfSome result (λ message. self.old.reassembly.messages ≡ record {
+          stream = message.stream_id.0;
+          ppid = message.ppid.0;
+          payload = message.payload.items;
+        } ∷ self.new.reassembly.messages) }
+        ensures left { IfSome result (λ _. self.new ≡ record self.old {
+          reassembly = record self.old.reassembly {
+            messages = self.new.reassembly.messages;
+            remaining_bytes = self.new.reassembly.remaining_bytes;
+          };
+        }) }
+        ensures window { self.old.reassembly.remaining_bytes ≤ self.new.reassembly.remaining_bytes }
+        ensures none { IfNone result ((self.old.reassembly.messages ≡ []) × (self.new ≡ self.old)) }
+    {
+        self.reassembly_queue.get_next_message()
+    }
+
+    /// How many messages are ready to be taken.
+    pub fn messages_ready_count(&self) -> usize
+        ensures { result ≡ length self.now.reassembly.messages }
+    {
+        self.reassembly_queue.messages_ready_count()
+    }
+}

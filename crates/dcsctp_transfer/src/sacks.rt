@@ -1,0 +1,88 @@
+//! SACKs that come in (RFC 9260, sections 6.2.1 and 6.3).
+
+ghost use Rattle.std.specs.Prelude.{◌≡◌};
+ghost use Rattle.dcsctp_streams.specs.Telling.{contents};
+ghost use Rattle.dcsctp_machine.specs.TimeTurns.{has_come};
+ghost use Rattle.dcsctp_transfer.specs.Sacks.{HandlesSack, LosesWhere};
+
+use crate::transfer::Transfer;
+use dcsctp_api::Events;
+use dcsctp_machine::SocketTime;
+use dcsctp_retransmission::HandleSackResult;
+use dcsctp_wire::{SackChunk, clean_sack};
+use std::alloc::AllocError;
+use std::time::Duration;
+
+/// What a SACK led to.
+#[derive(Clone, Copy, Debug)]
+pub enum HandledSack {
+    /// Its cumulative TSN is behind, or was never sent. Nothing has changed.
+    Invalid,
+
+    /// It was taken into account.
+    Valid {
+        /// Was an item acknowledged that wasn't before (RFC 9260, section 8.1)?
+        acknowledges: bool,
+    },
+}
+
+impl Transfer {
+    /// Takes a SACK into account, whatever order its blocks are in (RFC 9260, sections 6.2.1, 6.3 and 7.2). For
+    /// each message that the peer has by it, two events tell that it was delivered.
+    ///
+    /// `Err`: there is no memory. A front part of the events stands, and nothing else has changed.
+    pub fn handle_sack(
+        &mut self,
+        events: &mut Events,
+        now: SocketTime,
+        sack: &SackChunk<'_>,
+    ) -> Result<HandledSack, AllocError>
+        ensures { HandlesSack sack.now.cumulative_tsn_ack self.old (contents events.old) self.new (contents events.new) result }
+    {
+        let blocks = clean_sack(self.alloc, sack)?;
+        let handled = self
+            .retransmission_queue
+            .handle_sack(events, now, sack.cumulative_tsn_ack, sack.a_rwnd, &blocks)?;
+        match handled {
+            HandleSackResult::Invalid => Ok(HandledSack::Invalid),
+            HandleSackResult::Valid {
+                rtt,
+                reset_error_counter,
+            } => {
+                self.observe_round_trip(rtt);
+                Ok(HandledSack::Valid {
+                    acknowledges: reset_error_counter,
+                })
+            }
+        }
+    }
+
+    /// When what is in flight is lost, where something is.
+    pub fn retransmission_deadline(&self) -> Option<SocketTime>
+        ensures { result ≡ self.now.retransmission.deadline }
+    {
+        self.retransmission_queue.next_timeout()
+    }
+
+    /// Says that the moment `now` has come, and answers whether what is in flight is lost by it. Then it waits
+    /// to be sent again, and the timer goes on for twice as long (RFC 9260, section 6.3.3); else nothing
+    /// changes.
+    pub fn expire_retransmission(&mut self, now: SocketTime) -> bool
+        ensures answer { result ≡ has_come now self.old.retransmission.deadline }
+        ensures left { LosesWhere result self.old self.new }
+    {
+        self.retransmission_queue.handle_timeout(now)
+    }
+
+    // Takes a round trip into account, where one was measured.
+    fn observe_round_trip(&mut self, rtt: Option<Duration>)
+        ensures { self.new ≡ record self.old { timeout = self.new.timeout } }
+    {
+        if let Some(rtt) = rtt {
+            self.rto.observe_rto(rtt);
+            let rto = self.rto.rto();
+            self.retransmission_queue.update_rto(rto);
+            self.data_tracker.update_rto(rto);
+        }
+    }
+}

@@ -1,0 +1,263 @@
+//! What goes into a packet: data, and what acknowledges data that came in (RFC 9260, sections 6.1 and 6.2).
+
+ghost use Rattle.std.specs.Prelude.{◌≡◌, ◌≤◌, ◌<◌, ◌+◌, ◌^◌, ◌||◌, nat_lt, length, vec_len, false, true, IfOk, OnOk, OnErr, IsOk};
+ghost use Rattle.std.specs.List.{AllByRecursion};
+ghost use Rattle.dcsctp_wire.specs.Content.{data_chunk, i_data_chunk, sack_chunk, chunk_content};
+ghost use Rattle.dcsctp_wire.specs.ReadsBack.{IsByte, FitsChunk};
+ghost use Rattle.dcsctp_wire.specs.Spelling.{chunk_bytes};
+ghost use Rattle.dcsctp_build.specs.Building.{bytes_remaining};
+ghost use Rattle.dcsctp_machine.specs.Transfer.{has_data, can_send};
+ghost use Rattle.dcsctp_streams.specs.Telling.{contents};
+ghost use Rattle.dcsctp_outstanding.specs.Items.{chunk_size};
+ghost use Rattle.dcsctp_retransmission.specs.Queue.{header_of};
+ghost use Rattle.dcsctp_retransmission.specs.Sending.{HandsOut};
+ghost use Rattle.dcsctp_transfer.specs.Filling.{IsDataChunk, TellsMore, FillsPacket, is_sack_wanted, with_chunk, Acknowledges};
+ghost use Rattle.dcsctp_transfer.specs.Sacks.{FillsAtOnce};
+ghost use Rattle.dcsctp_transfer.specs.Adding.{HasChunkWithin, AddsChunkOf, AddsChunks, sack_of, flags_said, ppid_or_fsn, data_said, i_data_said, chunk_said};
+
+use crate::queued_messages::QueuedMessages;
+use crate::transfer::Transfer;
+use dcsctp_api::Events;
+use dcsctp_build::SctpPacketBuilder;
+use dcsctp_data_tracker::SelectiveAck;
+use dcsctp_machine::SocketTime;
+use dcsctp_retransmission::RetransmissionQueue;
+use dcsctp_send_queue::DataToSend;
+use dcsctp_wire::{Chunk, DataChunk, DataFlags, IDataChunk, SackChunk};
+use std::alloc::AllocError;
+
+impl Transfer {
+    /// Puts chunks with data into the packet, and answers whether there were any: what is sent again, and then
+    /// what waits, as far as it fits and the windows allow (RFC 9260, section 6.1). Messages that may not be
+    /// sent any more are given up (RFC 3758, section 3.5).
+    ///
+    /// `Err`: memory was refused, and the packet stays. What was taken of messages is outstanding, and a part
+    /// of the events may stand.
+    pub fn fill_packet(
+        &mut self,
+        events: &mut Events,
+        queue: &mut QueuedMessages,
+        now: SocketTime,
+        packet: &mut SctpPacketBuilder,
+    ) -> Result<bool, AllocError>
+        ensures ok { IfOk result (λ any. FillsPacket self.old queue.old (contents events.old) packet.old self.new queue.new (contents events.new) packet.new any) }
+        ensures told { OnErr result (TellsMore (contents events.old) (contents events.new)) }
+        ensures kept { OnErr result (packet.new ≡ packet.old) }
+        ensures idle { has_data queue.old ≡ false → self.old.retransmission.outstanding_items ≡ 0 → IsOk result }
+    {
+        if !self.may_have_data(queue) {
+            return Ok(false);
+        }
+        let room = packet.bytes_remaining();
+        let tsns = self
+            .retransmission_queue
+            .get_chunks_to_send(events, &mut queue.queue, now, room)?;
+        add_chunks(&self.retransmission_queue, &tsns, packet);
+        Ok(!tsns.is_empty())
+    }
+
+    /// Do items wait that were found lost, and are to go out at once (RFC 9260, section 7.2.4)?
+    pub fn has_data_at_once(&self) -> bool
+        ensures { result ≡ self.now.retransmission.has_fast_retransmit }
+    {
+        self.retransmission_queue
+            .has_data_to_be_fast_retransmitted()
+    }
+
+    /// Puts chunks that were lost into the packet, as many as fit, whatever the congestion window is (RFC 9260,
+    /// section 7.2.4).
+    ///
+    /// `Err`: memory was refused, and the packet stays.
+    pub fn fill_at_once(
+        &mut self,
+        now: SocketTime,
+        packet: &mut SctpPacketBuilder,
+    ) -> Result<(), AllocError>
+        ensures { OnOk result (FillsAtOnce self.old packet.old self.new packet.new) }
+    {
+        let room = packet.bytes_remaining();
+        let tsns = self
+            .retransmission_queue
+            .get_chunks_for_fast_retransmit(now, room)?;
+        add_chunks(&self.retransmission_queue, &tsns, packet);
+        Ok(())
+    }
+
+    /// Puts a SACK into the packet where one is due. One that is delayed counts where `also_if_delayed`, since
+    /// other chunks go out with it (RFC 9260, sections 6.1 and 6.2). All that came in is acknowledged by it; it
+    /// is left out where it doesn't fit.
+    ///
+    /// `Err`: there is no memory for it, and the packet stays.
+    pub fn acknowledge(
+        &mut self,
+        also_if_delayed: bool,
+        packet: &mut SctpPacketBuilder,
+    ) -> Result<(), AllocError>
+        ensures ok { OnOk result (Acknowledges (is_sack_wanted also_if_delayed self.old) self.old packet.old self.new packet.new) }
+        ensures kept { OnErr result (packet.new ≡ packet.old) }
+        ensures idle { is_sack_wanted also_if_delayed self.old ≡ false → IsOk result }
+    {
+        if !self.data_tracker.should_send_ack(also_if_delayed) {
+            return Ok(());
+        }
+        let window = self.reassembly_queue.remaining_bytes() % 0x1_0000_0000;
+        let sack = self.data_tracker.create_selective_ack(window as u32)?;
+        add_sack(&sack, packet);
+        Ok(())
+    }
+
+    /// May more be sent? That is so where less than both windows is in flight, or nothing (RFC 9260,
+    /// section 6.1).
+    pub fn can_send_data(&self) -> bool
+        ensures { result ≡ can_send self.now.retransmission }
+    {
+        self.retransmission_queue.can_send_data()
+    }
+
+    // Does a message wait, or is something outstanding?
+    fn may_have_data(&self, queue: &QueuedMessages) -> bool
+        ensures { result ≡ (has_data queue.now || nat_lt 0 self.now.retransmission.outstanding_items) }
+    {
+        queue.has_data_to_send() || 0 < self.retransmission_queue.outstanding_items()
+    }
+}
+
+// Puts the SACK into the packet, where it fits.
+fn add_sack(sack: &SelectiveAck, packet: &mut SctpPacketBuilder)
+    ensures added { packet.new ≡ with_chunk packet.old (sack_chunk (sack_of sack.now)) }
+    ensures blocks { AllByRecursion IsByte sack.now.gap_ack_blocks.items }
+    ensures duplicates { AllByRecursion IsByte sack.now.duplicate_tsns.items }
+{
+    let gap_ack_blocks = in_bytes(&sack.gap_ack_blocks);
+    let duplicate_tsns = in_bytes(&sack.duplicate_tsns);
+    let chunk = Chunk::Sack(SackChunk {
+        cumulative_tsn_ack: sack.cumulative_tsn_ack,
+        a_rwnd: sack.a_rwnd,
+        gap_ack_blocks,
+        duplicate_tsns,
+    });
+    if chunk.serialized_size() <= packet.bytes_remaining() {
+        packet.add(&chunk);
+    }
+}
+
+// Puts the chunks of these TSNs into the packet, which has room for them.
+fn add_chunks(queue: &RetransmissionQueue, tsns: &[u32], packet: &mut SctpPacketBuilder)
+    requires header { queue.now.outstanding.header ≡ header_of queue.now.interleaving }
+    requires small { packet.old.size ≤ 65535 }
+    requires room { HandsOut (bytes_remaining packet.old) queue.now.outstanding tsns.now }
+    ensures { AddsChunks queue.now.interleaving packet.old (length tsns.now) packet.new }
+{
+    for tsn in tsns {
+        add_chunk(queue, *tsn, packet);
+    }
+}
+
+// Puts the chunk of this TSN into the packet, which has room for it.
+fn add_chunk(queue: &RetransmissionQueue, tsn: u32, packet: &mut SctpPacketBuilder)
+    requires header { queue.now.outstanding.header ≡ header_of queue.now.interleaving }
+    requires small { packet.old.size ≤ 65535 }
+    requires room { HasChunkWithin (bytes_remaining packet.old) queue.now.outstanding tsn }
+    ensures { AddsChunkOf queue.now.interleaving queue.now.outstanding tsn packet.old packet.new }
+{
+    if let Some(fragment) = queue.chunk(tsn) {
+        packet.add(&chunk_of(tsn, fragment, queue.is_interleaving()));
+    }
+}
+
+// What the fragment says under this TSN, as DATA or I-DATA.
+fn chunk_of<'a>(tsn: u32, fragment: &'a DataToSend, interleaving: bool) -> Chunk<'a>
+    requires { header_of interleaving + vec_len fragment.now.payload < 2 ^ 16 }
+    ensures is_data { IsDataChunk interleaving (chunk_content result) }
+    ensures says { chunk_content result ≡ chunk_said interleaving tsn fragment.now }
+    ensures fits { FitsChunk (chunk_content result) }
+    ensures size { length (chunk_bytes (chunk_content result)) ≡ chunk_size (header_of interleaving) (vec_len fragment.now.payload) }
+{
+    let stream_id = fragment.stream_id.0;
+    if interleaving {
+        i_data_of(
+            tsn,
+            stream_id,
+            fragment.mid,
+            ppid_or_fsn(fragment),
+            fragment,
+        )
+    } else {
+        data_of(tsn, stream_id, fragment.ssn, fragment.ppid.0, fragment)
+    }
+}
+
+// The fragment as DATA with these numbers.
+fn data_of<'a>(tsn: u32, stream_id: u16, ssn: u16, ppid: u32, fragment: &'a DataToSend) -> Chunk<'a>
+    requires { 16 + vec_len fragment.now.payload < 2 ^ 16 }
+    ensures is_data { IsDataChunk false (chunk_content result) }
+    ensures says { chunk_content result ≡ data_chunk (record (data_said tsn fragment.now) { stream_id = stream_id; ssn = ssn; ppid = ppid }) }
+    ensures fits { FitsChunk (chunk_content result) }
+    ensures size { length (chunk_bytes (chunk_content result)) ≡ chunk_size 16 (vec_len fragment.now.payload) }
+{
+    let flags = flags_of(fragment);
+    Chunk::Data(DataChunk {
+        flags,
+        tsn,
+        stream_id,
+        ssn,
+        ppid,
+        payload: in_bytes(&fragment.payload),
+    })
+}
+
+// The fragment as I-DATA with these numbers.
+fn i_data_of<'a>(
+    tsn: u32,
+    stream_id: u16,
+    mid: u32,
+    ppid_or_fsn: u32,
+    fragment: &'a DataToSend,
+) -> Chunk<'a>
+    requires { 20 + vec_len fragment.now.payload < 2 ^ 16 }
+    ensures is_data { IsDataChunk true (chunk_content result) }
+    ensures says { chunk_content result ≡ i_data_chunk (record (i_data_said tsn fragment.now) { stream_id = stream_id; mid = mid; ppid_or_fsn = ppid_or_fsn }) }
+    ensures fits { FitsChunk (chunk_content result) }
+    ensures size { length (chunk_bytes (chunk_content result)) ≡ chunk_size 20 (vec_len fragment.now.payload) }
+{
+    let flags = flags_of(fragment);
+    Chunk::IData(IDataChunk {
+        flags,
+        tsn,
+        stream_id,
+        mid,
+        ppid_or_fsn,
+        payload: in_bytes(&fragment.payload),
+    })
+}
+
+// The bytes, each of which fits one.
+fn in_bytes(bytes: &[u8]) -> &[u8]
+    ensures same { result.now ≡ bytes.now }
+    ensures fit { AllByRecursion IsByte result.now }
+{
+    bytes
+}
+
+// The protocol of a first fragment, and the number of each other one (RFC 8260, section 2.1).
+fn ppid_or_fsn(fragment: &DataToSend) -> u32
+    ensures { result ≡ ppid_or_fsn fragment.now }
+{
+    if fragment.is_beginning {
+        fragment.ppid.0
+    } else {
+        fragment.fsn
+    }
+}
+
+// Its flags as it goes out. It isn't to be acknowledged at once.
+fn flags_of(fragment: &DataToSend) -> DataFlags
+    ensures { result ≡ flags_said fragment.now }
+{
+    DataFlags {
+        is_end: fragment.is_end,
+        is_beginning: fragment.is_beginning,
+        is_unordered: fragment.is_unordered,
+        immediate_ack: false,
+    }
+}
