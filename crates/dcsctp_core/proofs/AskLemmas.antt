@@ -8,10 +8,11 @@ use Rattle.dcsctp_machine.specs.Packet.{Emission}
 use Rattle.dcsctp_machine.specs.Transfer.{SendQueueState, Transfer, has_data, is_idle}
 use Rattle.dcsctp_machine.specs.turns.FlushOutcomes.{Ask, first_ask, later_ask}
 use Rattle.dcsctp_transfer.specs.Filling.{TellsMore, is_sack_wanted, Acknowledges}
+use Rattle.dcsctp_transfer.proofs.TellingLemmas.{tells_then}
 use Rattle.dcsctp_core.specs.declared.context.Context.{Context}
 use Rattle.dcsctp_core.specs.declared.state.State.{State}
 use Rattle.dcsctp_core.specs.View.{View, transfer_of, view_of}
-use Rattle.dcsctp_core.specs.Flushing.{packet_for, state_with, AcknowledgesBelow, HasNoData, WantsNone, can_send_below, TriesData, Fills, FillsWith, AskCut, AsksWith, SendsUnlessEmpty, KeepsSize}
+use Rattle.dcsctp_core.specs.Flushing.{packet_for, state_with, AcknowledgesBelow, ForwardsAt, HasNoData, WantsNone, can_send_below, TriesData, Fills, FillsWith, AskCut, AsksWith, SendsUnlessEmpty, KeepsSize}
 use Rattle.dcsctp_core.proofs.FillLemmas.{idle_parts, fills_later}
 use Rattle.dcsctp_core.proofs.FirstLemmas.{transfer_is, fills_first, IsBusy, cut_busy}
 use Rattle.dcsctp_core.proofs.FlushLemmas.{asks_for, ask_cut}
@@ -45,14 +46,40 @@ data_stays queue (Some transfer) along old new packet filled holds ack none =
     outstanding true mid h = ap (λ (t : Transfer). t.retransmission.outstanding_items) h.0
     outstanding false mid h = ap (λ (t : Transfer). t.retransmission.outstanding_items) h.0
 
-pub first_returns : {R E : Type 0} (packet mid filled : Building) (old : Context R) (along : Bool) (state : State) (result : Result (Unit {0}) E) (new : Context R)
-    → along ≡ (has_data old.send_queue || can_send_below (transfer_of old.state)) → AcknowledgesBelow (transfer_of old.state) along old.state packet state mid
-    → TriesData mid (record old { state = state }) result new filled → (HasNoData old.send_queue (transfer_of state) → IsOk result) → FillsWith first_ask packet old result new filled
-first_returns packet mid filled old along state (Ok done) new is ack h idle =
-    λ draft built. fills_first old along state draft (view_of new) packet mid filled is built ack h
-first_returns packet mid filled old along state (Err error) new is ack h idle =
-    λ draft built. cut_busy first_ask (view_of old) draft (view_of new).events
-    (busy_by old.send_queue (transfer_of old.state) (λ none. cc (idle (data_stays old.send_queue (transfer_of old.state) along old.state state packet mid refl ack none)))) h
+-- What gives messages up leaves where nothing waits and nothing is outstanding what waits and what is in flight.
+forward_stays : {R : Type 0} (found : Option Transfer) (old new : View R) (packet filled : Building) → ForwardsAt found old packet new filled → found ≡ old.endpoint.below.transfer
+    → HasNoData old.endpoint.below.queue found → HasNoData new.endpoint.below.queue new.endpoint.below.transfer
+forward_stays {R = R} None old new packet filled forward holds none =
+    subst (λ (v : View R). HasNoData v.endpoint.below.queue v.endpoint.below.transfer) (sym forward.0) (subst (HasNoData old.endpoint.below.queue) holds tt)
+forward_stays {R = R} (Some transfer) old new packet filled forward holds none =
+    let same = forward.3.idle none.1 in
+    subst (λ (v : View R). HasNoData v.endpoint.below.queue v.endpoint.below.transfer) (sym forward.5)
+    (ap has_data same.2 ∙ none.0, ap (λ (t : Transfer). t.retransmission.outstanding_items) same.1 ∙ none.1)
+
+-- what it tells
+forward_tells : {R : Type 0} (found : Option Transfer) (old new : View R) (packet filled : Building) → ForwardsAt found old packet new filled → TellsMore old.events new.events
+forward_tells {R = R} None old new packet filled forward = subst (λ (v : View R). TellsMore old.events v.events) (sym forward.0) (nothing_told old.events)
+forward_tells (Some transfer) old new packet filled forward = record { told = forward.3.told; is = forward.3.tells }
+
+-- no memory for a FORWARD-TSN
+pub forward_refused : {R : Type 0} (packet acked : Building) (old : Context R) (along : Bool) (state : State) (draft : Emission) (events : List (Event (List ℕ)))
+    → AcknowledgesBelow (transfer_of old.state) along old.state packet state acked → (HasNoData old.send_queue (transfer_of state) → ⊥) → TellsMore (view_of old).events events
+    → AskCut first_ask (view_of old) draft events
+forward_refused packet acked old along state draft events ack some tells =
+    cut_busy first_ask (view_of old) draft events
+    (busy_by old.send_queue (transfer_of old.state) (λ none. some (data_stays old.send_queue (transfer_of old.state) along old.state state packet acked refl ack none))) tells
+
+pub first_returns : {R E : Type 0} (packet acked given_packet filled : Building) (old : Context R) (along : Bool) (state : State) (given : Context R) (result : Result (Unit {0}) E) (new : Context R)
+    → along ≡ (has_data old.send_queue || can_send_below (transfer_of old.state)) → AcknowledgesBelow (transfer_of old.state) along old.state packet state acked
+    → ForwardsAt (transfer_of state) (view_of (record old { state = state })) acked (view_of given) given_packet
+    → TriesData given_packet given result new filled → (HasNoData given.send_queue (transfer_of given.state) → IsOk result) → FillsWith first_ask packet old result new filled
+first_returns packet acked given_packet filled old along state given (Ok done) new is ack forward h idle =
+    λ draft built. fills_first old along state draft (view_of given) (view_of new) packet acked given_packet filled is built ack forward h
+first_returns packet acked given_packet filled old along state given (Err error) new is ack forward h idle =
+    let mid : View _ = view_of (record old { state = state }) in
+    λ draft built. forward_refused packet acked old along state draft (view_of new).events ack
+    (λ none. cc (idle (forward_stays (transfer_of state) mid (view_of given) acked given_packet forward refl none)))
+    (tells_then (view_of old).events (view_of given).events (view_of new).events (forward_tells (transfer_of state) mid (view_of given) acked given_packet forward) h)
 
 -- no memory for a SACK
 wants_none : (queue : SendQueueState) (found : Option Transfer) (along : Bool) → (WantsNone found along → ⊥) → IsBusy queue found

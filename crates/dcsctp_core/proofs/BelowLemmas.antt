@@ -1,10 +1,10 @@
 -- What changes below an association, as the view tells it.
-use Rattle.std.proofs.Common.{◌≡◌, ℕ, Bool, true, false, Option, None, Some, Result, List, [], ◌++◌, map, refl, sym, ap, subst, ◌∙◌}
+use Rattle.std.proofs.Common.{◌≡◌, ℕ, Bool, true, false, Option, None, Some, Result, List, [], ◌++◌, map, refl, sym, ap, subst, ◌∙◌, ◌≤◌, ◌∷◌, IfSome, IfNone}
 use Rattle.std.proofs.lemmas.List.{append-nil}
 use Rattle.rand_core.specs.Stream.{Stream}
 use Rattle.dcsctp_machine.specs.Settings.{Ports, ports_of}
 use Rattle.dcsctp_api.specs.Calls.{user_event}
-use Rattle.dcsctp_machine.specs.Transfer.{Transfer}
+use Rattle.dcsctp_machine.specs.Transfer.{Transfer, ReassemblyState, message_content}
 use Rattle.dcsctp_machine.specs.Endpoint.{Endpoint}
 use Rattle.dcsctp_machine.specs.Outcome.{Outcome, still}
 use Rattle.dcsctp_machine.specs.TimeTurns.{own_timer, has_come, loss_deadline}
@@ -12,6 +12,7 @@ use Rattle.dcsctp_machine.specs.turns.DataOutcomes.{with_transfer, LossTurn}
 use Rattle.dcsctp_machine.specs.turns.OwnTimers.{retransmission}
 use Rattle.dcsctp_machine.specs.turns.HeartbeatOutcomes.{error_counted}
 use Rattle.dcsctp_machine.specs.turns.TransferMoves.{LosesAll}
+use Rattle.dcsctp_machine.specs.declared.message.Message.{Message}
 use Rattle.dcsctp_core.specs.Errors.{ErrorCount}
 use Rattle.dcsctp_core.specs.declared.context.Context.{Context}
 use Rattle.dcsctp_core.specs.declared.state.State.{State}
@@ -26,7 +27,7 @@ use Rattle.dcsctp_core.specs.View.{View, transfer_of, endpoint_of, view_of, Move
 use Rattle.dcsctp_core.specs.Handling.{TakesIn}
 use Rattle.dcsctp_core.specs.Timing.{is_timer_due, ExpiryTurn, ExpiresAlways}
 use Rattle.dcsctp_core.specs.Flushing.{state_with}
-use Rattle.dcsctp_core.specs.Below.{ChangesBelow, ChangesWhere, SacksBelow}
+use Rattle.dcsctp_core.specs.Below.{ChangesBelow, ChangesWhere, SacksBelow, TakesFirst, TakesReady}
 use Rattle.dcsctp_core.proofs.FirstLemmas.{endpoint_with}
 
 pub below_view : {R : Type 0} (old : Context R) (state : State) (transfer after : Transfer) → transfer_of old.state ≡ Some transfer → state ≡ state_with old.state after
@@ -118,3 +119,44 @@ pub sacks_established : (tsn : ℕ) (old : State) (tcb : TransmissionControlBloc
     → HandlesSack tsn tcb.transfer told after telling result → SacksBelow tsn (transfer_of old) old told (Established (record tcb { transfer = after })) telling result
 sacks_established tsn old tcb after told telling result is h =
     subst (λ (s : State). SacksBelow tsn (transfer_of s) s told (Established (record tcb { transfer = after })) telling result) (sym is) (after, refl, h)
+
+-- ---- a message that is taken
+
+-- what is left where the first message is taken
+abbrev WithoutFirst : Transfer → Transfer → Type 0
+WithoutFirst old new =
+    new ≡ record old { reassembly = record old.reassembly { messages = new.reassembly.messages; remaining_bytes = new.reassembly.remaining_bytes } }
+
+takes_first : (result : Option Message) (old new : Transfer) → IfSome result (λ message. old.reassembly.messages ≡ message_content message ∷ new.reassembly.messages)
+    → IfSome result (λ message. WithoutFirst old new) → old.reassembly.remaining_bytes ≤ new.reassembly.remaining_bytes
+    → IfNone result ((old.reassembly.messages ≡ []) × (new ≡ old)) → TakesFirst result old new
+takes_first None old new first left window none = none
+takes_first (Some message) old new first left window none = (
+  record {
+    message = message_content message;
+    first = first;
+    received = ap (λ (t : Transfer). t.reassembly.messages_received) left;
+    window = ap (λ (t : Transfer). t.reassembly.window) left;
+    remaining = window;
+    rest = left ∙ ap (λ (r : ReassemblyState). record old { reassembly = r }) (sym (ap (λ (t : Transfer). t.reassembly) left));
+  },
+  first,
+)
+
+pub takes_echoed : (old : State) (echoed : CookieEchoState) (after : Transfer) (result : Option Message) → old ≡ CookieEchoed echoed
+    → IfSome result (λ message. echoed.tcb.transfer.reassembly.messages ≡ message_content message ∷ after.reassembly.messages)
+    → IfSome result (λ message. WithoutFirst echoed.tcb.transfer after) → echoed.tcb.transfer.reassembly.remaining_bytes ≤ after.reassembly.remaining_bytes
+    → IfNone result ((echoed.tcb.transfer.reassembly.messages ≡ []) × (after ≡ echoed.tcb.transfer))
+    → TakesReady (transfer_of old) old result (CookieEchoed (record echoed { tcb = record echoed.tcb { transfer = after } }))
+takes_echoed old echoed after result is first left window none =
+    subst (λ (s : State). TakesReady (transfer_of s) s result (CookieEchoed (record echoed { tcb = record echoed.tcb { transfer = after } }))) (sym is)
+    (after, refl, takes_first result echoed.tcb.transfer after first left window none)
+
+pub takes_established : (old : State) (tcb : TransmissionControlBlock) (after : Transfer) (result : Option Message) → old ≡ Established tcb
+    → IfSome result (λ message. tcb.transfer.reassembly.messages ≡ message_content message ∷ after.reassembly.messages)
+    → IfSome result (λ message. WithoutFirst tcb.transfer after) → tcb.transfer.reassembly.remaining_bytes ≤ after.reassembly.remaining_bytes
+    → IfNone result ((tcb.transfer.reassembly.messages ≡ []) × (after ≡ tcb.transfer))
+    → TakesReady (transfer_of old) old result (Established (record tcb { transfer = after }))
+takes_established old tcb after result is first left window none =
+    subst (λ (s : State). TakesReady (transfer_of s) s result (Established (record tcb { transfer = after }))) (sym is)
+    (after, refl, takes_first result tcb.transfer after first left window none)

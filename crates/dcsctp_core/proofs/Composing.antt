@@ -1,5 +1,5 @@
 -- One step of a handler after another: what the steps before a turn had drawn and added.
-use Rattle.std.proofs.Common.{◌≡◌, ℕ, Bool, true, false, cond, suc, List, [], ◌∷◌, ◌++◌, map, take, refl, sym, ap, subst, ◌∙◌, append_assoc}
+use Rattle.std.proofs.Common.{◌≡◌, ℕ, Bool, true, false, cond, zero, suc, List, [], ◌∷◌, ◌++◌, map, take, refl, sym, ap, subst, ◌∙◌, append_assoc}
 use Rattle.std.proofs.lemmas.List.{append-nil, map-append}
 use Rattle.rand_core.specs.Stream.{Stream}
 use Rattle.dcsctp_machine.specs.Settings.{Ports, ports_of}
@@ -113,3 +113,24 @@ moves_noting stream a b effects o same m =
 
 pub cut_noting : {R : Type 0} (old : View R) (effects : List Effect) (o : Outcome) (es : List (Event (List ℕ))) → CutTurn old o es → CutTurn old (noting effects o) es
 cut_noting old effects o es cut = record { count = cut.count; added = cut.added }
+
+-- ---- a turn that would have added more
+
+take_longer : {A : Type 0} (n : ℕ) (xs ys : List A) → (m : ℕ) × (take m (xs ++ ys) ≡ take n xs)
+take_longer zero xs ys = (0, refl)
+take_longer (suc n) [] ys = (0, refl)
+take_longer (suc n) (x ∷ xs) ys =
+    let rest = take_longer n xs ys in
+    (suc rest.0, ap (λ zs. x ∷ zs) rest.1)
+
+-- more would have come
+pub cut_longer : {R : Type 0} (v : View R) (o all : Outcome) (more : List (Event Emission)) (events : List (Event (List ℕ))) → all.events ≡ o.events ++ more → CutTurn v o events → CutTurn v all events
+cut_longer v o all more events parts cut =
+    let f : Event Emission → Event (List ℕ) = user_event (ports_of v.endpoint.options) in
+    let longer = take_longer cut.count (map f o.events) (map f more) in
+    record {
+      count = longer.0;
+      added = cut.added
+          ∙ ap (λ (es : List (Event (List ℕ))). v.events ++ es)
+          (sym longer.1 ∙ ap (take longer.0) (sym (map-append f o.events more) ∙ ap (map f) (sym parts)));
+    }

@@ -16,7 +16,7 @@ use Rattle.dcsctp_machine.specs.Transfer.{SendQueueState, TrackerState, Transfer
 use Rattle.dcsctp_machine.specs.Endpoint.{Endpoint, Timers, heartbeats_begun}
 use Rattle.dcsctp_machine.specs.control.Choices.{plain_contents}
 use Rattle.dcsctp_machine.specs.turns.TransferMoves.{acknowledged}
-use Rattle.dcsctp_machine.specs.turns.FlushOutcomes.{Told, amount_is_low, total_amount_is_low, message_is_sent, message_may_have_expired, message_has_expired, message_ends, told_event, Answer, answer_contents, filled, Ask, first_ask, later_ask, room_in, where_fits, wants_sack, IsSackOf, IsData, FitsPlain, is_none, Gives, GivesWhere, AnsweredBelow, timers_with, nothing_waits}
+use Rattle.dcsctp_machine.specs.turns.FlushOutcomes.{Told, amount_is_low, total_amount_is_low, message_is_sent, message_may_have_expired, message_has_expired, message_ends, told_event, Answer, answer_contents, filled, Ask, first_ask, later_ask, room_in, where_fits, wants_sack, IsSackOf, IsForward, IsData, FitsPlain, is_none, next_forward, GivesUp, Gives, GivesWhere, AnsweredBelow, timers_with, nothing_waits}
 use Rattle.dcsctp_machine.specs.turns.FlushOutcomes as asks
 use Rattle.dcsctp_api.specs.Calls.{user_event}
 use Rattle.dcsctp_transfer.specs.Filling.{told_content, IsDataChunk, has_chunks, FillsPacket, is_sack_wanted, IsSackFor, with_chunk, Acknowledges}
@@ -38,6 +38,14 @@ pub told_user : (ports : Ports) (told : List Told) → map told_content told ≡
 told_user ports [] = refl
 told_user ports (first ∷ told) =
     ap (λ (e : Event (List ℕ)). e ∷ map told_content told) (sym (told_one ports first)) ∙ ap (λ (es : List (Event (List ℕ))). user_event ports (told_event first) ∷ es) (told_user ports told)
+
+-- what is told in two steps
+told_then : (a b c : List (Event (List ℕ))) (front back : List Told) → b ≡ a ++ map told_content front → c ≡ b ++ map told_content back → c ≡ a ++ map told_content (front ++ back)
+told_then a b c front back first later =
+    later
+    ∙ ap (λ (es : List (Event (List ℕ))). es ++ map told_content back) first
+    ∙ append_assoc a (map told_content front) (map told_content back)
+    ∙ ap (λ (es : List (Event (List ℕ))). a ++ es) (sym (map-append told_content front back))
 
 -- ---- chunks with data
 
@@ -86,7 +94,7 @@ idle_wants first_ask queue transfer is =
 
 -- ---- an answer out of its parts
 
--- what the transfer layer gave: what acknowledges, and data
+-- what the transfer layer gave: what acknowledges or gives messages up, and data
 abbrev answer_by : List Plain → List ChunkContent → List Told → Endpoint → Answer
 answer_by sacks chunks told after = record { acknowledgements = sacks; data_chunks = map unworked chunks; told = told; after = after }
 
@@ -113,22 +121,67 @@ no_chunks : (chunks : List ChunkContent) (any : Bool) → any ≡ has_chunks chu
 no_chunks [] any is none = refl
 no_chunks (chunk ∷ chunks) any is none = absurd (cc)
 
--- the parts of an answer: the transfer layer once what acknowledges is in the packet, and once data is
+-- what gives messages up, in front of data
+pub record Gave (ask : Ask) (e : Endpoint) (mid given : Transfer) (waits : SendQueueState) (events telling : List (Event (List ℕ))) (later : ℕ) (forwards : List Plain) : Type 0 where
+  pub told : List Told
+  pub tells : telling ≡ events ++ map told_content told
+  pub gives_up : GivesUp ask e mid later forwards
+  pub rest : given ≡ record mid { retransmission = given.retransmission }
+  pub partial_reliability : given.retransmission.partial_reliability ≡ mid.retransmission.partial_reliability
+  pub message_interleaving : given.retransmission.message_interleaving ≡ mid.retransmission.message_interleaving
+  pub idle : mid.retransmission.outstanding_items ≡ 0
+      → (given ≡ mid) × (waits ≡ e.below.queue) × (told ≡ []) × (later ≡ e.no_forward_tsn_before) × (forwards ≡ [])
+
+-- none is made
+pub gives_up_none : (ask : Ask) (e : Endpoint) (mid : Transfer) → GivesUp ask e mid e.no_forward_tsn_before []
+gives_up_none ask e mid =
+    record {
+      is_made = false;
+      later = refl;
+      none = λ is. refl;
+      in_first = λ is. refl;
+      in_time = λ early. refl;
+      negotiated = λ is. refl;
+      at_most_one = omega arith;
+      kind = tt;
+      fit = tt;
+    }
+
+gave_none : (ask : Ask) (e : Endpoint) (mid : Transfer) (events : List (Event (List ℕ))) → Gave ask e mid mid e.below.queue events events e.no_forward_tsn_before []
+gave_none ask e mid events =
+    record {
+      told = [];
+      tells = sym (append-nil events);
+      gives_up = gives_up_none ask e mid;
+      rest = refl;
+      partial_reliability = refl;
+      message_interleaving = refl;
+      idle = λ no_items. (refl, refl, refl, refl, refl);
+    }
+
+-- the parts of an answer: the transfer layer once what acknowledges is in the packet, once what gives messages up is, and once data is
 pub record Parts {R : Type 0} (ask : Ask) (old : View R) (draft : Emission) (transfer : Transfer) (new : View R) (filled_packet : Building) : Type 0 where
   pub mid : Transfer
+  pub given : Transfer
   pub after : Transfer
+  pub waits : SendQueueState
   pub left : SendQueueState
+  pub telling : List (Event (List ℕ))
+  pub later : ℕ
   pub sacks : List Plain
+  pub forwards : List Plain
   pub any : Bool
   pub holds : old.endpoint.below.transfer ≡ Some transfer
   pub acknowledges : asks.Acknowledges (wants_sack ask old.endpoint.below.queue transfer) (room_in old.endpoint draft) transfer mid.tracker sacks
   pub mid_is : mid ≡ record transfer { tracker = mid.tracker }
-  pub fills : FillsPacket mid old.endpoint.below.queue old.events (packet_for old.endpoint.options (filled draft (plain_contents sacks))) after left new.events filled_packet any
-  pub is : new ≡ record old { endpoint = record old.endpoint { timers = timers_where any old.endpoint; below = record { queue = left; transfer = Some after } }; events = new.events }
+  pub gave : Gave ask old.endpoint mid given waits old.events telling later forwards
+  pub fills : FillsPacket given waits telling (packet_for old.endpoint.options (filled draft (plain_contents (sacks ++ forwards)))) after left new.events filled_packet any
+  pub is : new ≡ record old { endpoint = record old.endpoint { timers = timers_where any old.endpoint; no_forward_tsn_before = later; below = record { queue = left; transfer = Some after } }; events = new.events }
 
 abbrev answer_of : {R : Type 0} {ask : Ask} {old : View R} {draft : Emission} {transfer : Transfer} {new : View R} {filled_packet : Building} → Parts ask old draft transfer new filled_packet → Answer
 answer_of {old = old} p =
-    answer_by p.sacks p.fills.chunks p.fills.told (record old.endpoint { timers = timers_where p.any old.endpoint; below = record { queue = p.left; transfer = Some p.after } })
+    answer_by (p.sacks ++ p.forwards) p.fills.chunks (p.gave.told ++ p.fills.told)
+    (record old.endpoint { timers = timers_where p.any old.endpoint; no_forward_tsn_before = p.later; below = record { queue = p.left; transfer = Some p.after } })
 
 -- nothing is asked for, so none of it goes out
 no_sacks : (b : Bool) (room : ℕ) (transfer : Transfer) (after : TrackerState) (sacks : List Plain) → b ≡ false → asks.Acknowledges b room transfer after sacks → (after ≡ transfer.tracker) × (sacks ≡ [])
@@ -144,58 +197,72 @@ idle_answer ask old draft transfer new filled_packet p idle =
     let parts = idle_parts e.below.queue transfer idle in
     let none = no_sacks (wants_sack ask e.below.queue transfer) (room_in e draft) transfer p.mid.tracker p.sacks (idle_wants ask e.below.queue transfer idle) p.acknowledges in
     let mid : p.mid ≡ transfer = same_mid transfer p.mid p.mid_is none.0 in
-    let rests = p.fills.idle parts.0.0 (ap (λ (t : Transfer). t.retransmission.outstanding_items) mid ∙ parts.0.1) in
+    let gave = p.gave.idle (ap (λ (t : Transfer). t.retransmission.outstanding_items) mid ∙ parts.0.1) in
+    let given : p.given ≡ transfer = gave.0 ∙ mid in
+    let rests = p.fills.idle (ap has_data gave.1 ∙ parts.0.0) (ap (λ (t : Transfer). t.retransmission.outstanding_items) given ∙ parts.0.1) in
     let chunks : p.fills.chunks ≡ [] = no_chunks p.fills.chunks p.any p.fills.answers rests.0 in
-    let after : p.after ≡ transfer = rests.1 ∙ mid in
-    ap (λ (sacks : List Plain). answer_by sacks p.fills.chunks p.fills.told (answer_of p).after) none.1
-    ∙ ap (λ (chunks : List ChunkContent). answer_by [] chunks p.fills.told (answer_of p).after) chunks
+    let after : p.after ≡ transfer = rests.1 ∙ given in
+    let told : List Told = p.gave.told ++ p.fills.told in
+    ap (λ (sacks : List Plain). answer_by (sacks ++ p.forwards) p.fills.chunks told (answer_of p).after) none.1
+    ∙ ap (λ (forwards : List Plain). answer_by forwards p.fills.chunks told (answer_of p).after) gave.4
+    ∙ ap (λ (chunks : List ChunkContent). answer_by [] chunks told (answer_of p).after) chunks
+    ∙ ap (λ (told : List Told). answer_by [] [] (told ++ p.fills.told) (answer_of p).after) gave.2
     ∙ ap (λ (told : List Told). answer_by [] [] told (answer_of p).after) rests.3
-    ∙ ap (λ (b : Bool). answer_by [] [] [] (record e { timers = timers_where b e; below = record { queue = p.left; transfer = Some p.after } })) rests.0
-    ∙ ap (answer_by [] [] []) (same_endpoint e transfer p.after p.left p.holds after rests.2)
+    ∙ ap (λ (b : Bool). answer_by [] [] [] (record e { timers = timers_where b e; no_forward_tsn_before = p.later; below = record { queue = p.left; transfer = Some p.after } })) rests.0
+    ∙ ap (λ (later : ℕ). answer_by [] [] [] (record e { no_forward_tsn_before = later; below = record { queue = p.left; transfer = Some p.after } })) gave.3
+    ∙ ap (answer_by [] [] []) (same_endpoint e transfer p.after p.left p.holds after (rests.2 ∙ gave.1))
 
 -- no data: so none had to go
 rest_may : {R : Type 0} (ask : Ask) (old : View R) (draft : Emission) (transfer : Transfer) (new : View R) (filled_packet : Building) (p : Parts ask old draft transfer new filled_packet)
-    → is_none (map unworked p.fills.chunks) ≡ true → must_give (room_in old.endpoint (filled draft (plain_contents p.sacks))) p.left p.after.retransmission ≡ false
+    → is_none (map unworked p.fills.chunks) ≡ true → must_give (room_in old.endpoint (filled draft (plain_contents (p.sacks ++ p.forwards)))) p.left p.after.retransmission ≡ false
 rest_may ask old draft transfer new filled_packet p none =
     let false_any : p.any ≡ false = p.fills.answers ∙ not_true (has_chunks p.fills.chunks) (sym (none_of p.fills.chunks) ∙ none) in
-    ap (λ (room : ℕ). must_give room p.left p.after.retransmission) (sym (room_is old.endpoint (filled draft (plain_contents p.sacks)))) ∙ p.fills.gives false_any
+    ap (λ (room : ℕ). must_give room p.left p.after.retransmission) (sym (room_is old.endpoint (filled draft (plain_contents (p.sacks ++ p.forwards))))) ∙ p.fills.gives false_any
   where
     not_true : (b : Bool) → not b ≡ true → b ≡ false
     not_true true is = absurd (cc)
     not_true false is = refl
 
+-- the same of the transfer layer before what came in was acknowledged
+gives_up_before : (ask : Ask) (e : Endpoint) (transfer mid : Transfer) (later : ℕ) (forwards : List Plain) → mid ≡ record transfer { tracker = mid.tracker } → GivesUp ask e mid later forwards
+    → GivesUp ask e transfer later forwards
+gives_up_before ask e transfer mid later forwards mid_is g =
+    record {
+      is_made = g.is_made;
+      later = g.later ∙ ap (λ (t : Transfer). if g.is_made then next_forward e t else e.no_forward_tsn_before) mid_is;
+      none = g.none;
+      in_first = g.in_first;
+      in_time = g.in_time;
+      negotiated = λ without. g.negotiated (ap (λ (t : Transfer). t.retransmission.partial_reliability) mid_is ∙ without);
+      at_most_one = g.at_most_one;
+      kind = subst (λ (b : Bool). AllByRecursion (IsForward b) forwards) (ap (λ (t : Transfer). t.retransmission.message_interleaving) mid_is) g.kind;
+      fit = g.fit;
+    }
+
 gives_by : {R : Type 0} (ask : Ask) (old : View R) (draft : Emission) (transfer : Transfer) (new : View R) (filled_packet : Building) (p : Parts ask old draft transfer new filled_packet)
     → Gives ask old.endpoint draft transfer (answer_of p)
 gives_by ask old draft transfer new filled_packet p =
-    let mid : Transfer = p.mid in
-    let kept : p.after.tracker ≡ mid.tracker = ap (λ (t : Transfer). t.tracker) p.fills.rest in
-    let interleaving : mid.retransmission.message_interleaving ≡ transfer.retransmission.message_interleaving = ap (λ (t : Transfer). t.retransmission.message_interleaving) p.mid_is in
-    let partial : mid.retransmission.partial_reliability ≡ transfer.retransmission.partial_reliability = ap (λ (t : Transfer). t.retransmission.partial_reliability) p.mid_is in
+    let given : Transfer = p.given in
+    let kept : p.after.tracker ≡ p.mid.tracker = ap (λ (t : Transfer). t.tracker) p.fills.rest ∙ ap (λ (t : Transfer). t.tracker) p.gave.rest in
+    let interleaving : given.retransmission.message_interleaving ≡ transfer.retransmission.message_interleaving =
+    p.gave.message_interleaving ∙ ap (λ (t : Transfer). t.retransmission.message_interleaving) p.mid_is in
+    let partial : given.retransmission.partial_reliability ≡ transfer.retransmission.partial_reliability =
+    p.gave.partial_reliability ∙ ap (λ (t : Transfer). t.retransmission.partial_reliability) p.mid_is in
     record {
       left = p.after;
       holds = refl;
       sacks = p.sacks;
-      forwards = [];
-      parts = sym (append-nil p.sacks);
+      forwards = p.forwards;
+      parts = refl;
       acknowledges = subst (λ (t : TrackerState). asks.Acknowledges (wants_sack ask old.endpoint.below.queue transfer) (room_in old.endpoint draft) transfer t p.sacks) (sym kept) p.acknowledges;
-      gives_up = record {
-        is_made = false;
-        later = refl;
-        none = λ is. refl;
-        in_first = λ is. refl;
-        in_time = λ early. refl;
-        negotiated = λ is. refl;
-        at_most_one = omega arith;
-        kind = tt;
-        fit = tt;
-      };
-      kind = subst (λ (b : Bool). AllByRecursion (IsData b) (map unworked p.fills.chunks)) interleaving (data_kinds mid.retransmission.message_interleaving p.fills.chunks p.fills.are_data);
+      gives_up = gives_up_before ask old.endpoint transfer p.mid p.later p.forwards p.mid_is p.gave.gives_up;
+      kind = subst (λ (b : Bool). AllByRecursion (IsData b) (map unworked p.fills.chunks)) interleaving (data_kinds given.retransmission.message_interleaving p.fills.chunks p.fills.are_data);
       fit = data_fit p.fills.chunks p.fills.fits;
       data_goes = rest_may ask old draft transfer new filled_packet p;
       partial_reliability = p.fills.partial_reliability ∙ partial;
       message_interleaving = p.fills.message_interleaving ∙ interleaving;
-      timeout = ap (λ (t : Transfer). t.timeout) p.fills.rest ∙ ap (λ (t : Transfer). t.timeout) p.mid_is;
-      reassembly = ap (λ (t : Transfer). t.reassembly) p.fills.rest ∙ ap (λ (t : Transfer). t.reassembly) p.mid_is;
+      timeout = ap (λ (t : Transfer). t.timeout) p.fills.rest ∙ ap (λ (t : Transfer). t.timeout) p.gave.rest ∙ ap (λ (t : Transfer). t.timeout) p.mid_is;
+      reassembly = ap (λ (t : Transfer). t.reassembly) p.fills.rest ∙ ap (λ (t : Transfer). t.reassembly) p.gave.rest ∙ ap (λ (t : Transfer). t.reassembly) p.mid_is;
     }
 
 gives_where : {R : Type 0} (ask : Ask) (old : View R) (draft : Emission) (transfer : Transfer) (new : View R) (filled_packet : Building) (p : Parts ask old draft transfer new filled_packet) (b : Bool)
@@ -209,12 +276,13 @@ fills_by {R = R} ask old draft transfer new filled_packet p =
     let e : Endpoint = old.endpoint in
     record {
       answer = answer_of p;
-      kept = ap (λ (t : Timers). record e { timers = t; below = record { queue = p.left; transfer = Some p.after } }) (timers_are e p.fills.chunks p.any p.fills.answers);
+      kept = ap (λ (t : Timers). record e { timers = t; no_forward_tsn_before = p.later; below = record { queue = p.left; transfer = Some p.after } }) (timers_are e p.fills.chunks p.any p.fills.answers);
       by_transfer = subst (AnsweredBelow ask e draft (answer_of p)) (sym p.holds) (gives_where ask old draft transfer new filled_packet p (is_idle e.below.queue transfer) refl);
       endpoint = ap (λ (v : View R). v.endpoint) p.is;
-      events = p.fills.tells ∙ ap (λ (es : List (Event (List ℕ))). old.events ++ es) (told_user (ports_of e.options) p.fills.told);
+      events = told_then old.events p.telling new.events p.gave.told p.fills.told p.gave.tells p.fills.tells
+          ∙ ap (λ (es : List (Event (List ℕ))). old.events ++ es) (told_user (ports_of e.options) (p.gave.told ++ p.fills.told));
       rest = p.is ∙ ap (λ (x : Endpoint). record old { endpoint = x; events = new.events }) (sym (ap (λ (v : View R). v.endpoint) p.is));
-      packet = packet_is e.options draft p.sacks p.fills.chunks p.fills.told (answer_of p).after filled_packet p.fills.adds;
+      packet = packet_is e.options draft (p.sacks ++ p.forwards) p.fills.chunks (p.gave.told ++ p.fills.told) (answer_of p).after filled_packet p.fills.adds;
     }
 
 -- ---- where no peer is held
@@ -242,13 +310,19 @@ later_by old draft (Some transfer) new packet filled_packet holds is h =
     fills_by later_ask old draft transfer new filled_packet
     (record {
       mid = transfer;
+      given = transfer;
       after = h.1;
+      waits = old.endpoint.below.queue;
       left = h.2;
+      telling = old.events;
+      later = old.endpoint.no_forward_tsn_before;
       sacks = [];
+      forwards = [];
       any = h.0;
       holds = holds;
       acknowledges = (refl, refl);
       mid_is = refl;
+      gave = gave_none later_ask old.endpoint transfer old.events;
       fills = subst (λ (b : Building). FillsPacket transfer old.endpoint.below.queue old.events b h.1 h.2 new.events filled_packet h.0)
           (is ∙ ap (λ (contents : List Content). packet_for old.endpoint.options (record draft { packet = record draft.packet { contents = contents } })) (sym (append-nil draft.packet.contents))) h.3;
       is = h.4;
@@ -260,19 +334,19 @@ fills_later old draft new packet filled_packet is h = later_by old draft old.end
 
 -- ---- the first packet
 
-sack_where : (b : Bool) (options : Options) (draft : Emission) (room : ℕ) (sack : SackContent) → nat_le (length (chunk_bytes (sack_chunk sack))) room ≡ b
-    → (if b then record (packet_for options draft) { body = (packet_for options draft).body ++ chunk_bytes (sack_chunk sack) } else packet_for options draft)
-    ≡ packet_for options (filled draft (plain_contents (if b then unworked (sack_chunk sack) ∷ [] else [])))
-sack_where true options draft room sack is =
+chunk_where : (b : Bool) (options : Options) (draft : Emission) (room : ℕ) (chunk : ChunkContent) → nat_le (length (chunk_bytes chunk)) room ≡ b
+    → (if b then record (packet_for options draft) { body = (packet_for options draft).body ++ chunk_bytes chunk } else packet_for options draft)
+    ≡ packet_for options (filled draft (plain_contents (if b then unworked chunk ∷ [] else [])))
+chunk_where true options draft room chunk is =
     ap (λ (bytes : List ℕ). record (packet_for options draft) { body = bytes })
-    (ap (λ (bytes : List ℕ). body_of draft.packet.contents ++ bytes) (sym (append-nil (chunk_bytes (sack_chunk sack)))) ∙ sym (body_append draft.packet.contents (plain (unworked (sack_chunk sack)) ∷ [])))
-sack_where false options draft room sack is =
+    (ap (λ (bytes : List ℕ). body_of draft.packet.contents ++ bytes) (sym (append-nil (chunk_bytes chunk))) ∙ sym (body_append draft.packet.contents (plain (unworked chunk) ∷ [])))
+chunk_where false options draft room chunk is =
     ap (λ (contents : List Content). packet_for options (record draft { packet = record draft.packet { contents = contents } })) (sym (append-nil draft.packet.contents))
 
--- the SACK behind what the packet holds, where it fits
-pub sack_packet : (e : Endpoint) (draft : Emission) (sack : SackContent)
-    → with_chunk (packet_for e.options draft) (sack_chunk sack) ≡ packet_for e.options (filled draft (plain_contents (where_fits (room_in e draft) (unworked (sack_chunk sack)))))
-sack_packet e draft sack =
-    ap (λ (room : ℕ). if nat_le (length (chunk_bytes (sack_chunk sack))) room then record (packet_for e.options draft) { body = (packet_for e.options draft).body ++ chunk_bytes (sack_chunk sack) } else packet_for e.options draft)
+-- a chunk behind what the packet holds, where it fits
+pub chunk_packet : (e : Endpoint) (draft : Emission) (chunk : ChunkContent)
+    → with_chunk (packet_for e.options draft) chunk ≡ packet_for e.options (filled draft (plain_contents (where_fits (room_in e draft) (unworked chunk))))
+chunk_packet e draft chunk =
+    ap (λ (room : ℕ). if nat_le (length (chunk_bytes chunk)) room then record (packet_for e.options draft) { body = (packet_for e.options draft).body ++ chunk_bytes chunk } else packet_for e.options draft)
     (room_is e draft)
-    ∙ sack_where (nat_le (length (chunk_bytes (sack_chunk sack))) (room_in e draft)) e.options draft (room_in e draft) sack refl
+    ∙ chunk_where (nat_le (length (chunk_bytes chunk)) (room_in e draft)) e.options draft (room_in e draft) chunk refl

@@ -1,27 +1,34 @@
 -- How the first packet of a flush is filled: what acknowledges goes before data.
-use Rattle.std.proofs.Common.{◌≡◌, ◌||◌, ◌+◌, ◌≤◌, ℕ, Bool, true, false, Option, None, Some, List, [], ◌∷◌, ◌++◌, map, refl, sym, ap, subst, ◌∙◌, arith}
-use Rattle.std.proofs.lemmas.List.{append-nil}
-use Rattle.dcsctp_build.specs.Building.{Building}
+use Rattle.std.proofs.Common.{◌≡◌, ◌||◌, ◌+◌, ◌≤◌, ◌<◌, nat_le, ℕ, Bool, true, false, Option, None, Some, List, [], ◌∷◌, ◌++◌, length, map, append_assoc, refl, sym, ap, subst, ◌∙◌, arith}
+use Rattle.std.specs.Prelude.{if◌then◌else◌}
+use Rattle.std.specs.List.{AllByRecursion}
+use Rattle.std.proofs.lemmas.Bool.Decides.{nat_tests}
+use Rattle.std.proofs.lemmas.List.{append-nil, map-append}
+use Rattle.dcsctp_build.specs.Building.{Building, bytes_remaining}
 use Rattle.dcsctp_machine.specs.declared.options.Options.{Options}
 use Rattle.dcsctp_machine.specs.Settings.{ports_of}
 use Rattle.dcsctp_machine.specs.Event.{Event, sent}
-use Rattle.dcsctp_machine.specs.Packet.{Plain, unworked, Content, Emission}
+use Rattle.dcsctp_machine.specs.Packet.{Plain, plain, unworked, Content, Emission}
 use Rattle.dcsctp_machine.specs.Transfer.{SendQueueState, Transfer, has_data, can_send, is_idle}
 use Rattle.dcsctp_machine.specs.Endpoint.{Endpoint, Core, RunningTimer}
 use Rattle.dcsctp_machine.specs.Outcome.{Outcome}
 use Rattle.dcsctp_machine.specs.control.Choices.{plain_contents}
-use Rattle.dcsctp_machine.specs.turns.FlushOutcomes.{Told, told_event, Answer, answer_contents, filled, goes_out, asked, Ask, first_ask, later_ask, room_in, where_fits, wants_sack, Answered, nothing_waits}
+use Rattle.dcsctp_machine.specs.turns.FlushOutcomes.{Told, told_event, Answer, answer_contents, filled, goes_out, asked, Ask, first_ask, later_ask, room_in, where_fits, wants_sack, IsForward, FitsPlain, GivesUp, Answered, nothing_waits}
 use Rattle.dcsctp_machine.specs.turns.FlushOutcomes as asks
-use Rattle.dcsctp_wire.specs.Content.{sack_chunk}
+use Rattle.dcsctp_wire.specs.Content.{ChunkContent, sack_chunk}
+use Rattle.dcsctp_wire.specs.ReadsBack.{FitsChunk}
+use Rattle.dcsctp_wire.specs.Spelling.{chunk_bytes}
 use Rattle.dcsctp_api.specs.Calls.{user_event}
 use Rattle.dcsctp_transfer.specs.Filling.{told_content, TellsMore, FillsPacket, is_sack_wanted, with_chunk, Acknowledges}
+use Rattle.dcsctp_transfer.specs.Forwarding.{Forwards}
 use Rattle.dcsctp_core.specs.declared.context.Context.{Context}
 use Rattle.dcsctp_core.specs.declared.state.State.{State}
 use Rattle.dcsctp_core.specs.declared.state.State.TheVariants.{Closed, CookieWait, CookieEchoed, Established}
 use Rattle.dcsctp_core.specs.View.{View, core_of, tie_of, t1_of, transfer_of, endpoint_of, view_of}
-use Rattle.dcsctp_core.specs.Flushing.{packet_for, state_with, AcknowledgesBelow, FillsData, timers_where, Fills, AskCut, can_send_below}
+use Rattle.dcsctp_core.specs.Flushing.{packet_for, state_with, AcknowledgesBelow, forward_where, ForwardsAt, FillsData, timers_where, Fills, AskCut, can_send_below}
 use Rattle.dcsctp_machine.proofs.AnswerLemmas.{some_answer, some_answered}
-use Rattle.dcsctp_core.proofs.FillLemmas.{told_user, Parts, fills_by, fills_nothing, sack_packet}
+use Rattle.dcsctp_core.proofs.FillLemmas.{told_user, Gave, gives_up_none, Parts, fills_by, fills_nothing, chunk_packet}
+use Rattle.dcsctp_core.proofs.SentLemmas.{room_is}
 
 -- ---- a state with something else below its association
 
@@ -99,77 +106,194 @@ acked e draft true transfer mid before packet is h =
         refl,
       );
       mid_is = h.0 ∙ ap (λ (t : Transfer). record transfer { tracker = t.tracker }) (sym h.0);
-      is = h.3 ∙ ap (λ (b : Building). with_chunk b (sack_chunk sack)) is ∙ sack_packet e draft sack;
+      is = h.3 ∙ ap (λ (b : Building). with_chunk b (sack_chunk sack)) is ∙ chunk_packet e draft (sack_chunk sack);
     }
 
 -- the view once what came in is acknowledged
 abbrev acknowledged_view : {R : Type 0} → View R → Transfer → View R
 acknowledged_view old transfer = record old { endpoint = record old.endpoint { below = record old.endpoint.below { transfer = Some transfer } } }
 
-first_by : {R : Type 0} (old : View R) (draft : Emission) (transfer mid : Transfer) (new : View R) (before packet filled_packet : Building) → old.endpoint.below.transfer ≡ Some transfer
+-- the chunks of two lists, one behind the other
+filled_twice : (draft : Emission) (front back : List Plain) → filled (filled draft (plain_contents front)) (plain_contents back) ≡ filled draft (plain_contents (front ++ back))
+filled_twice draft front back =
+    ap (λ (contents : List Content). record draft { packet = record draft.packet { contents = contents } })
+    (append_assoc draft.packet.contents (plain_contents front) (plain_contents back) ∙ ap (λ (contents : List Content). draft.packet.contents ++ contents) (sym (map-append plain front back)))
+
+-- what the transfer layer says of a FORWARD-TSN is what the ask says
+record GivenUp (e : Endpoint) (draft : Emission) (mid given : Transfer) (waits : SendQueueState) (events telling : List (Event (List ℕ))) (next : Option ℕ) (packet : Building) : Type 0 where
+  forwards : List Plain
+  gave : Gave first_ask e mid given waits events telling (forward_where next e.no_forward_tsn_before) forwards
+  is : packet ≡ packet_for e.options (filled draft (plain_contents forwards))
+
+-- of a chunk by whether it fits
+one_at_most : (b : Bool) (chunk : Plain) → length (if b then chunk ∷ [] else []) ≤ 1
+one_at_most true chunk = omega arith
+one_at_most false chunk = omega arith
+
+one_kind : (b interleaving : Bool) (chunk : Plain) → IsForward interleaving chunk → AllByRecursion (IsForward interleaving) (if b then chunk ∷ [] else [])
+one_kind true interleaving chunk kind = (kind, tt)
+one_kind false interleaving chunk kind = tt
+
+one_fits : (b : Bool) (room : ℕ) (chunk : ChunkContent) → nat_le (length (chunk_bytes chunk)) room ≡ b → (length (chunk_bytes chunk) ≤ room → FitsChunk chunk)
+    → AllByRecursion FitsPlain (if b then unworked chunk ∷ [] else [])
+one_fits true room chunk is fits = (fits (grind (arith, nat_tests)), tt)
+one_fits false room chunk is fits = tt
+
+given_up : (e : Endpoint) (draft : Emission) (mid given : Transfer) (waits : SendQueueState) (events telling : List (Event (List ℕ))) (next : Option ℕ) (before packet : Building)
+    → before ≡ packet_for e.options draft → (e.moment < e.no_forward_tsn_before → next ≡ None)
+    → Forwards e.moment mid e.below.queue events before given waits telling packet next
+    → GivenUp e draft mid given waits events telling next packet
+given_up e draft mid given waits events telling None before packet is early h =
+    record {
+      forwards = [];
+      gave = record {
+        told = h.told;
+        tells = h.tells;
+        gives_up = gives_up_none first_ask e mid;
+        rest = h.rest;
+        partial_reliability = h.partial_reliability;
+        message_interleaving = h.message_interleaving;
+        idle = λ no_items. let same = h.idle no_items in (same.1, same.2, same.3, refl, refl);
+      };
+      is = h.puts ∙ is ∙ ap (λ (contents : List Content). packet_for e.options (record draft { packet = record draft.packet { contents = contents } })) (sym (append-nil draft.packet.contents));
+    }
+given_up e draft mid given waits events telling (Some next) before packet is early h =
+    let puts = h.puts.1 in
+    let room : ℕ = room_in e draft in
+    let fits_in : Bool = nat_le (length (chunk_bytes puts.chunk)) room in
+    let interleaving : Bool = mid.retransmission.message_interleaving in
+    let same_room : bytes_remaining before ≡ room = ap bytes_remaining is ∙ room_is e draft in
+    record {
+      forwards = where_fits room (unworked puts.chunk);
+      gave = record {
+        told = h.told;
+        tells = h.tells;
+        gives_up = record {
+          is_made = true;
+          later = h.puts.0;
+          none = λ not_made. absurd (cc);
+          in_first = λ is_later. absurd (cc);
+          in_time = λ soon. absurd (never (early soon));
+          negotiated = λ without. absurd (never (h.negotiated without).0);
+          at_most_one = one_at_most fits_in (unworked puts.chunk);
+          kind = one_kind fits_in interleaving (unworked puts.chunk) puts.kind;
+          fit = one_fits fits_in room puts.chunk refl (λ within. puts.fits (subst (λ (n : ℕ). length (chunk_bytes puts.chunk) ≤ n) (sym same_room) within));
+        };
+        rest = h.rest;
+        partial_reliability = h.partial_reliability;
+        message_interleaving = h.message_interleaving;
+        idle = λ no_items. absurd (never (h.idle no_items).0);
+      };
+      is = puts.is ∙ ap (λ (b : Building). with_chunk b puts.chunk) is ∙ chunk_packet e draft puts.chunk;
+    }
+  where
+    never : Some next ≡ None → ⊥
+    never none = cc
+
+-- the view once messages were given up
+abbrev forwarded_view : {R : Type 0} → View R → Option ℕ → Transfer → SendQueueState → List (Event (List ℕ)) → View R
+forwarded_view old next given waits events =
+    record old {
+      endpoint = record old.endpoint { no_forward_tsn_before = forward_where next old.endpoint.no_forward_tsn_before; below = record { queue = waits; transfer = Some given } };
+      events = events;
+    }
+
+first_by : {R : Type 0} (old : View R) (draft : Emission) (transfer mid : Transfer) (given new : View R) (before acked_packet given_packet filled_packet : Building)
+    → old.endpoint.below.transfer ≡ Some transfer
     → before ≡ packet_for old.endpoint.options draft
-    → Acknowledges (wants_sack first_ask old.endpoint.below.queue transfer) transfer before mid packet
-    → FillsData (Some mid) (acknowledged_view old mid) packet new filled_packet
+    → Acknowledges (wants_sack first_ask old.endpoint.below.queue transfer) transfer before mid acked_packet
+    → ForwardsAt (Some mid) (acknowledged_view old mid) acked_packet given given_packet
+    → FillsData given.endpoint.below.transfer given given_packet new filled_packet
     → Fills first_ask old draft new filled_packet
-first_by old draft transfer mid new before packet filled_packet holds is ack data_in =
-    let a = acked old.endpoint draft (wants_sack first_ask old.endpoint.below.queue transfer) transfer mid before packet is ack in
+first_by {R = R} old draft transfer mid given new before acked_packet given_packet filled_packet holds is ack forward data_in =
+    let e : Endpoint = old.endpoint in
+    let a = acked e draft (wants_sack first_ask e.below.queue transfer) transfer mid before acked_packet is ack in
+    let next : Option ℕ = forward.0 in
+    let after : Transfer = forward.1 in
+    let waits : SendQueueState = forward.2 in
+    let up = given_up e (filled draft (plain_contents a.sacks)) mid after waits old.events given.events next acked_packet given_packet a.is forward.4 forward.3 in
+    let there : FillsData (Some after) (forwarded_view old next after waits given.events) given_packet new filled_packet =
+    subst (λ (v : View R). FillsData v.endpoint.below.transfer v given_packet new filled_packet) forward.5 data_in in
     fills_by first_ask old draft transfer new filled_packet
     (record {
       mid = mid;
-      after = data_in.1;
-      left = data_in.2;
+      given = after;
+      after = there.1;
+      waits = waits;
+      left = there.2;
+      telling = given.events;
+      later = forward_where next e.no_forward_tsn_before;
       sacks = a.sacks;
-      any = data_in.0;
+      forwards = up.forwards;
+      any = there.0;
       holds = holds;
       acknowledges = a.acknowledges;
       mid_is = a.mid_is;
-      fills = subst (λ (b : Building). FillsPacket mid old.endpoint.below.queue old.events b data_in.1 data_in.2 new.events filled_packet data_in.0) a.is data_in.3;
-      is = data_in.4 ∙ same_timers data_in.0 data_in.1 data_in.2;
+      gave = up.gave;
+      fills = subst (λ (b : Building). FillsPacket after waits given.events b there.1 there.2 new.events filled_packet there.0)
+          (up.is ∙ ap (packet_for e.options) (filled_twice draft a.sacks up.forwards)) there.3;
+      is = there.4 ∙ same_timers next after waits there.0 there.1 there.2;
     })
   where
-    same_timers : (any : Bool) (after : Transfer) (left : SendQueueState)
-        → record (acknowledged_view old mid) {
-          endpoint = record (acknowledged_view old mid).endpoint { timers = timers_where any (acknowledged_view old mid).endpoint; below = record { queue = left; transfer = Some after } };
+    same_timers : (next : Option ℕ) (given_to : Transfer) (waits : SendQueueState) (any : Bool) (after : Transfer) (left : SendQueueState)
+        → record (forwarded_view old next given_to waits given.events) {
+          endpoint = record (forwarded_view old next given_to waits given.events).endpoint {
+            timers = timers_where any (forwarded_view old next given_to waits given.events).endpoint;
+            below = record { queue = left; transfer = Some after };
+          };
           events = new.events;
         }
-        ≡ record old { endpoint = record old.endpoint { timers = timers_where any old.endpoint; below = record { queue = left; transfer = Some after } }; events = new.events }
-    same_timers true after left = refl
-    same_timers false after left = refl
+        ≡ record old {
+          endpoint = record old.endpoint {
+            timers = timers_where any old.endpoint;
+            no_forward_tsn_before = forward_where next old.endpoint.no_forward_tsn_before;
+            below = record { queue = left; transfer = Some after };
+          };
+          events = new.events;
+        }
+    same_timers next given_to waits true after left = refl
+    same_timers next given_to waits false after left = refl
 
 along_is : (found : Option Transfer) (queue : SendQueueState) (transfer : Transfer) (along : Bool) → found ≡ Some transfer → along ≡ (has_data queue || can_send_below found)
     → is_sack_wanted along transfer ≡ wants_sack first_ask queue transfer
 along_is found queue transfer along holds is = ap (λ (b : Bool). is_sack_wanted b transfer) (is ∙ ap (λ (f : Option Transfer). has_data queue || can_send_below f) holds)
 
-first_where : {R : Type 0} (old : Context R) (found : Option Transfer) (along : Bool) (state : State) (draft : Emission) (new : View R) (before packet filled_packet : Building)
+first_where : {R : Type 0} (old : Context R) (found : Option Transfer) (along : Bool) (state : State) (draft : Emission) (given new : View R) (before acked_packet given_packet filled_packet : Building)
     → transfer_of old.state ≡ found → along ≡ (has_data old.send_queue || can_send_below found) → before ≡ packet_for old.options draft
-    → AcknowledgesBelow found along old.state before state packet
-    → FillsData (transfer_of state) (view_of (record old { state = state })) packet new filled_packet
+    → AcknowledgesBelow found along old.state before state acked_packet
+    → ForwardsAt (transfer_of state) (view_of (record old { state = state })) acked_packet given given_packet
+    → FillsData given.endpoint.below.transfer given given_packet new filled_packet
     → Fills first_ask (view_of old) draft new filled_packet
-first_where old None along state draft new before packet filled_packet holds is built ack data_in =
+first_where {R = R} old None along state draft given new before acked_packet given_packet filled_packet holds is built ack forward data_in =
     let same : state ≡ old.state = ack.0 in
-    let here : FillsData None (view_of old) packet new filled_packet =
-    subst (λ (f : Option Transfer). FillsData f (view_of old) packet new filled_packet) holds
-    (subst (λ (s : State). FillsData (transfer_of s) (view_of (record old { state = s })) packet new filled_packet) same data_in) in
-    fills_nothing first_ask (view_of old) draft new filled_packet holds here.0 (here.1 ∙ ack.1 ∙ built)
-first_where {R = R} old (Some transfer) along state draft new before packet filled_packet holds is built ack data_in =
+    let up : ForwardsAt None (view_of old) acked_packet given given_packet =
+    subst (λ (f : Option Transfer). ForwardsAt f (view_of old) acked_packet given given_packet) holds
+    (subst (λ (s : State). ForwardsAt (transfer_of s) (view_of (record old { state = s })) acked_packet given given_packet) same forward) in
+    let here : FillsData None (view_of old) given_packet new filled_packet =
+    subst (λ (f : Option Transfer). FillsData f (view_of old) given_packet new filled_packet) holds
+    (subst (λ (v : View R). FillsData v.endpoint.below.transfer v given_packet new filled_packet) up.0 data_in) in
+    fills_nothing first_ask (view_of old) draft new filled_packet holds here.0 (here.1 ∙ up.1 ∙ ack.1 ∙ built)
+first_where {R = R} old (Some transfer) along state draft given new before acked_packet given_packet filled_packet holds is built ack forward data_in =
     let mid : Transfer = ack.0 in
-    let at_state : FillsData (transfer_of (state_with old.state mid)) (view_of (record old { state = state_with old.state mid })) packet new filled_packet =
-    subst (λ (s : State). FillsData (transfer_of s) (view_of (record old { state = s })) packet new filled_packet) ack.1 data_in in
-    let found : FillsData (Some mid) (view_of (record old { state = state_with old.state mid })) packet new filled_packet =
-    subst (λ (f : Option Transfer). FillsData f (view_of (record old { state = state_with old.state mid })) packet new filled_packet) (transfer_is old.state transfer mid holds) at_state in
+    let at_state : ForwardsAt (transfer_of (state_with old.state mid)) (view_of (record old { state = state_with old.state mid })) acked_packet given given_packet =
+    subst (λ (s : State). ForwardsAt (transfer_of s) (view_of (record old { state = s })) acked_packet given given_packet) ack.1 forward in
+    let found : ForwardsAt (Some mid) (view_of (record old { state = state_with old.state mid })) acked_packet given given_packet =
+    subst (λ (f : Option Transfer). ForwardsAt f (view_of (record old { state = state_with old.state mid })) acked_packet given given_packet) (transfer_is old.state transfer mid holds) at_state in
     let view : view_of (record old { state = state_with old.state mid }) ≡ acknowledged_view (view_of old) mid =
     ap (λ (e : Endpoint). record (view_of old) { endpoint = e }) (endpoint_with old transfer mid holds) in
-    first_by (view_of old) draft transfer mid new before packet filled_packet holds built
-    (subst (λ (b : Bool). Acknowledges b transfer before mid packet) (along_is (Some transfer) old.send_queue transfer along refl is) ack.2)
-    (subst (λ (v : View R). FillsData (Some mid) v packet new filled_packet) view found)
+    first_by (view_of old) draft transfer mid given new before acked_packet given_packet filled_packet holds built
+    (subst (λ (b : Bool). Acknowledges b transfer before mid acked_packet) (along_is (Some transfer) old.send_queue transfer along refl is) ack.2)
+    (subst (λ (v : View R). ForwardsAt (Some mid) v acked_packet given given_packet) view found)
+    data_in
 
-pub fills_first : {R : Type 0} (old : Context R) (along : Bool) (state : State) (draft : Emission) (new : View R) (before packet filled_packet : Building)
+pub fills_first : {R : Type 0} (old : Context R) (along : Bool) (state : State) (draft : Emission) (given new : View R) (before acked_packet given_packet filled_packet : Building)
     → along ≡ (has_data old.send_queue || can_send_below (transfer_of old.state)) → before ≡ packet_for old.options draft
-    → AcknowledgesBelow (transfer_of old.state) along old.state before state packet
-    → FillsData (transfer_of state) (view_of (record old { state = state })) packet new filled_packet
+    → AcknowledgesBelow (transfer_of old.state) along old.state before state acked_packet
+    → ForwardsAt (transfer_of state) (view_of (record old { state = state })) acked_packet given given_packet
+    → FillsData given.endpoint.below.transfer given given_packet new filled_packet
     → Fills first_ask (view_of old) draft new filled_packet
-fills_first old along state draft new before packet filled_packet is built ack data_in =
-    first_where old (transfer_of old.state) along state draft new before packet filled_packet refl is built ack data_in
+fills_first old along state draft given new before acked_packet given_packet filled_packet is built ack forward data_in =
+    first_where old (transfer_of old.state) along state draft given new before acked_packet given_packet filled_packet refl is built ack forward data_in
 
 -- ---- where a growth was refused
 

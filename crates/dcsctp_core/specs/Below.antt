@@ -1,15 +1,16 @@
 -- What changes below an association.
-use Rattle.std.specs.Prelude.{◌≡◌, ℕ, Bool, true, false, Option, None, Some, Result, List}
+use Rattle.std.specs.Prelude.{◌≡◌, ℕ, Bool, true, false, Option, None, Some, Result, List, [], ◌∷◌}
 use Rattle.std.specs.declared.alloc.AllocError.{AllocError}
 use Rattle.dcsctp_build.specs.Building.{Building}
 use Rattle.dcsctp_machine.specs.declared.association.Held.{Held}
+use Rattle.dcsctp_machine.specs.declared.message.Message.{Message}
 use Rattle.dcsctp_machine.specs.Event.{Event}
 use Rattle.dcsctp_machine.specs.Endpoint.{Endpoint, held_in}
 use Rattle.dcsctp_machine.specs.Outcome.{Outcome, still}
-use Rattle.dcsctp_machine.specs.turns.DataOutcomes.{FastRetransmits}
+use Rattle.dcsctp_machine.specs.turns.DataOutcomes.{FastRetransmits, TakesMessage}
 use Rattle.dcsctp_transfer.specs.Sacks.{HandlesSack, FillsAtOnce}
 use Rattle.dcsctp_transfer.specs.declared.sacks.HandledSack.{HandledSack}
-use Rattle.dcsctp_machine.specs.Transfer.{Transfer}
+use Rattle.dcsctp_machine.specs.Transfer.{Transfer, message_content}
 use Rattle.dcsctp_machine.specs.turns.TransferMoves.{ReceivesData, HeedsFlag, EndsPacket, delay_over}
 use Rattle.dcsctp_core.specs.declared.state.State.{State}
 use Rattle.dcsctp_core.specs.View.{View}
@@ -24,6 +25,15 @@ ChangesBelow Changes (Some transfer) old new = (after : Transfer) × (new ≡ st
 abbrev pub ChangesWhere : Bool → (Transfer → Transfer → Type 0) → Option Transfer → State → State → Type 0
 ChangesWhere true Changes found old new = ChangesBelow Changes found old new
 ChangesWhere false Changes found old new = new ≡ old
+
+-- The first of the messages that are ready is taken, where one is ready.
+abbrev pub TakesFirst : Option Message → Transfer → Transfer → Type 0
+TakesFirst None old new = (old.reassembly.messages ≡ []) × (new ≡ old)
+TakesFirst (Some message) old new = TakesMessage old new × (old.reassembly.messages ≡ message_content message ∷ new.reassembly.messages)
+
+abbrev pub TakesReady : Option Transfer → State → Option Message → State → Type 0
+TakesReady None old result new = (result ≡ None) × (new ≡ old)
+TakesReady (Some transfer) old result new = (after : Transfer) × (new ≡ state_with old after) × TakesFirst result transfer after
 
 -- Data with this I flag and TSN came in.
 abbrev pub Receives : Bool → ℕ → Transfer → Transfer → Type 0

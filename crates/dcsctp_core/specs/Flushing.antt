@@ -1,5 +1,5 @@
 -- What goes out in a flush.
-use Rattle.std.specs.Prelude.{◌≡◌, ◌⊎◌, ◌≤◌, ◌+◌, ℕ, length, Bool, true, false, not, Option, None, Some, Result, Ok, Err, List, [], ◌∷◌, ◌++◌, map}
+use Rattle.std.specs.Prelude.{◌≡◌, ◌⊎◌, ◌≤◌, ◌<◌, ◌+◌, ℕ, length, Bool, true, false, not, Option, None, Some, Result, Ok, Err, List, [], ◌∷◌, ◌++◌, map}
 use Rattle.std.specs.List.{flat_map}
 use Rattle.rand_core.specs.Stream.{Stream}
 use Rattle.dcsctp_build.specs.Building.{Building}
@@ -15,6 +15,7 @@ use Rattle.dcsctp_machine.specs.Outcome.{counted}
 use Rattle.dcsctp_machine.specs.turns.FlushOutcomes.{told_event, Answer, answer_contents, filled, asked, flush_of, packets_allowed, Ask, first_ask, AnsweredBelow, timers_with, Answered, Answers, is_none, later_ask, draft_to}
 use Rattle.dcsctp_api.specs.Calls.{user_event}
 use Rattle.dcsctp_transfer.specs.Filling.{TellsMore, FillsPacket, Acknowledges, is_sack_wanted}
+use Rattle.dcsctp_transfer.specs.Forwarding.{Forwards}
 use Rattle.dcsctp_core.specs.declared.context.Context.{Context}
 use Rattle.dcsctp_core.specs.declared.state.State.{State}
 use Rattle.dcsctp_core.specs.declared.state.State.TheVariants.{Closed, CookieWait, CookieEchoed, Established}
@@ -60,6 +61,13 @@ AcknowledgesBelow None along old packet new filled = (new ≡ old) × (filled �
 AcknowledgesBelow (Some transfer) along old packet new filled =
     (after : Transfer) × (new ≡ state_with old after) × Acknowledges (is_sack_wanted along transfer) transfer packet after filled
 
+-- Messages may have been given up, where a peer is held; where a FORWARD-TSN was made, it is told when the next one may be.
+abbrev pub ForwardsBelow : ℕ → Option Transfer → SendQueueState → List (Event (List ℕ)) → Building → State → State → SendQueueState → List (Event (List ℕ)) → Building → Option ℕ → Type 0
+ForwardsBelow now None waiting events packet old new left telling filled next =
+    (new ≡ old) × (left ≡ waiting) × (telling ≡ events) × (filled ≡ packet) × (next ≡ None)
+ForwardsBelow now (Some transfer) waiting events packet old new left telling filled next =
+    (after : Transfer) × (new ≡ state_with old after) × Forwards now transfer waiting events packet after left telling filled next
+
 -- Without a peer, and where nothing waits and nothing is outstanding, there is no data.
 abbrev pub HasNoData : SendQueueState → Option Transfer → Type 0
 HasNoData queue None = Unit {0}
@@ -81,6 +89,26 @@ can_send_below (Some transfer) = can_send transfer.retransmission
 abbrev pub timers_where : Bool → Endpoint → Timers
 timers_where true e = heartbeats_begun e e.timers
 timers_where false e = e.timers
+
+-- the moment before which no FORWARD-TSN goes out, by whether one was made
+abbrev pub forward_where : Option ℕ → ℕ → ℕ
+forward_where None before = before
+forward_where (Some next) before = next
+
+-- What gives messages up was put into a packet, no sooner than it may, and nothing else has moved.
+abbrev pub ForwardsAt : {R : Type 0} → Option Transfer → View R → Building → View R → Building → Type 0
+ForwardsAt None old packet new filled = (new ≡ old) × (filled ≡ packet)
+ForwardsAt (Some transfer) old packet new filled =
+    (next : Option ℕ) × (after : Transfer) × (left : SendQueueState)
+    × Forwards old.endpoint.moment transfer old.endpoint.below.queue old.events packet after left new.events filled next
+    × (old.endpoint.moment < old.endpoint.no_forward_tsn_before → next ≡ None)
+    × (new ≡ record old {
+      endpoint = record old.endpoint {
+        no_forward_tsn_before = forward_where next old.endpoint.no_forward_tsn_before;
+        below = record { queue = left; transfer = Some after };
+      };
+      events = new.events;
+    })
 
 -- A packet was filled with data, and nothing else has moved.
 abbrev pub FillsData : {R : Type 0} → Option Transfer → View R → Building → View R → Building → Type 0
@@ -142,6 +170,11 @@ AsksWith stream ask packet old (Err error) new =
 abbrev pub TriesData : {R E : Type 0} → Building → Context R → Result (Unit {0}) E → Context R → Building → Type 0
 TriesData packet old (Ok done) new filled = FillsData (transfer_of old.state) (view_of old) packet (view_of new) filled
 TriesData packet old (Err error) new filled = TellsMore (view_of old).events (view_of new).events
+
+-- What gives messages up, by whether a growth was refused.
+abbrev pub TriesForward : {R E : Type 0} → Building → Context R → Result (Unit {0}) E → Context R → Building → Type 0
+TriesForward packet old (Ok done) new filled = ForwardsAt (transfer_of old.state) (view_of old) packet (view_of new) filled
+TriesForward packet old (Err error) new filled = TellsMore (view_of old).events (view_of new).events
 
 -- ---- as many as may be
 

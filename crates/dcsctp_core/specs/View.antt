@@ -9,7 +9,7 @@ use Rattle.dcsctp_machine.specs.Event.{Event}
 use Rattle.dcsctp_machine.specs.declared.association.Held.{Held}
 use Rattle.dcsctp_machine.specs.Transfer.{Transfer, new_transfer}
 use Rattle.dcsctp_machine.specs.Endpoint.{Endpoint, Core, closed, cookie_wait, cookie_echoed, open_in, established, RunningTimer, stopped_timers, heartbeats_begun, fresh_endpoint}
-use Rattle.dcsctp_machine.specs.Outcome.{Outcome}
+use Rattle.dcsctp_machine.specs.Outcome.{Outcome, count_up}
 use Rattle.dcsctp_machine.specs.Following.{next_chunk}
 use Rattle.dcsctp_machine.specs.control.HandshakeChanges.{new_held}
 use Rattle.dcsctp_machine.specs.control.Effect.{drawn_in}
@@ -103,7 +103,8 @@ endpoint_of context =
         heartbeat_interval = context.heartbeat_interval.running;
         heartbeat_timeout = context.heartbeat_timeout.running;
       };
-      counts = record { packets_received = context.rx_packets_count; packets_sent = context.tx_packets_count; messages_queued = 0 };
+      counts = record { packets_received = context.rx_packets_count; packets_sent = context.tx_packets_count; messages_queued = context.tx_messages_count };
+      no_forward_tsn_before = context.no_forward_tsn_before;
       peer_implementation = context.peer_implementation;
       below = record { queue = context.send_queue; transfer = transfer_of context.state };
     }
@@ -122,6 +123,10 @@ view_of context =
 -- the endpoint with its heartbeat interval begun anew
 abbrev pub begun_heartbeats : Endpoint → Endpoint
 begun_heartbeats e = record e { timers = heartbeats_begun e e.timers }
+
+-- the endpoint once one message more was queued
+abbrev pub message_counted : Endpoint → Endpoint
+message_counted e = record e { counts = record e.counts { messages_queued = count_up e.counts.messages_queued } }
 
 -- The words are what the generator gives next, and this is left of it.
 abbrev pub Drawn : Stream → List Word → Stream → Type 0

@@ -70,6 +70,12 @@ pub struct Context<R> {
     // How many packets were emitted.
     tx_packets_count: usize,
 
+    // How many messages the user has queued.
+    tx_messages_count: usize,
+
+    // The moment before which no FORWARD-TSN goes out (RFC 3758, section 3.5).
+    pub(crate) no_forward_tsn_before: SocketTime,
+
     ghost valid: { IsValid options },
 
     ghost interval: { heartbeat_interval.settings ≡ heartbeat_settings options },
@@ -90,7 +96,7 @@ impl<R: Rng> Context<R> {
     ghost use Rattle.dcsctp_machine.specs.turns.HeartbeatOutcomes.{interval_expired, beating, timeout_outcome, answered, is_exhausted};
     ghost use Rattle.dcsctp_send.specs.Timer.{running_deadline};
     ghost use Rattle.dcsctp_core.specs.Timing.{where_expired, is_timer_due, ExpiresAlways};
-    ghost use Rattle.dcsctp_core.specs.View.{Moves, view_of, endpoint_of, begun_heartbeats, fresh_view, call_start};
+    ghost use Rattle.dcsctp_core.specs.View.{Moves, view_of, endpoint_of, begun_heartbeats, message_counted, fresh_view, call_start};
     ghost use Rattle.dcsctp_core.specs.Drawing.{Draws, Keeps};
     ghost use Rattle.dcsctp_core.specs.Handling.{Tries, Emits, arrival_turn, report_turn, close_turn, end_event};
 
@@ -126,6 +132,8 @@ impl<R: Rng> Context<R> {
             tx_error_counter: TxErrorCounter::new(options.max_retransmissions),
             rx_packets_count: 0,
             tx_packets_count: 0,
+            tx_messages_count: 0,
+            no_forward_tsn_before: SocketTime::zero(),
         }
     }
 
@@ -204,6 +212,16 @@ impl<R: Rng> Context<R> {
         } }
     {
         self.tx_packets_count = self.tx_packets_count.saturating_add(1);
+    }
+
+    /// Counts a message that the user has queued, up to the greatest number.
+    pub fn count_message(&mut self)
+        ensures { view_of self.new ≡ record (view_of self.old) {
+          endpoint = message_counted
+              (endpoint_of self.old);
+        } }
+    {
+        self.tx_messages_count = self.tx_messages_count.saturating_add(1);
     }
 
     /// Starts the heartbeat interval anew, unless it is zero, which switches heartbeats off.

@@ -3,14 +3,14 @@
 ghost use Rattle.std.specs.Prelude.{◌≡◌, ◌||◌, IsOk};
 ghost use Rattle.dcsctp_machine.specs.Transfer.{has_data};
 ghost use Rattle.dcsctp_machine.specs.turns.FlushOutcomes.{packets_allowed, first_ask, later_ask};
-ghost use Rattle.dcsctp_core.specs.View.{core_of, transfer_of};
+ghost use Rattle.dcsctp_core.specs.View.{core_of, transfer_of, endpoint_of, view_of};
 ghost use Rattle.dcsctp_core.specs.Below.{AtOnceAt};
-ghost use Rattle.dcsctp_core.specs.Flushing.{Flushes, FurtherAt, AsksWith, FillsWith, TriesData, HasNoData, can_send_below, SendsUnlessEmpty, KeepsSize};
+ghost use Rattle.dcsctp_core.specs.Flushing.{Flushes, FurtherAt, AsksWith, FillsWith, TriesForward, forward_where, TriesData, HasNoData, can_send_below, SendsUnlessEmpty, KeepsSize};
 ghost use Rattle.dcsctp_core.specs.Handling.{TakesOne, FlushAt};
 
 use crate::context::Context;
 use crate::state::State;
-use dcsctp_api::{Options, SocketEvent};
+use dcsctp_api::{Options, SocketEvent, SocketTime};
 use dcsctp_build::SctpPacketBuilder;
 use rand_core::Rng;
 use std::alloc::AllocError;
@@ -125,13 +125,46 @@ impl<R: Rng> Context<R> {
         self.send_unless_empty(packet)
     }
 
-    // Puts into the first packet what acknowledges, and then data.
+    // Puts into the first packet what acknowledges, what gives messages up, and then data.
     fn fill_first(&mut self, packet: &mut SctpPacketBuilder) -> Result<(), AllocError>
         ensures { FillsWith first_ask packet.old self.old result self.new packet.new }
     {
         let may_follow = self.may_send_data();
         self.state.acknowledge(may_follow, packet)?;
+        self.forward_tsn(packet)?;
         self.fill_with_data(packet)
+    }
+
+    // Puts a FORWARD-TSN into a packet where messages were given up, no sooner after the last one than it may be
+    // (RFC 3758, section 3.5).
+    fn forward_tsn(&mut self, packet: &mut SctpPacketBuilder) -> Result<(), AllocError>
+        ensures turn { TriesForward packet.old self.old result self.new packet.new }
+        ensures idle { HasNoData self.old.send_queue (transfer_of self.old.state) → IsOk result }
+    {
+        if self.moment < self.no_forward_tsn_before {
+            return Ok(());
+        }
+        let next = self.state.forward_tsn(
+            &mut self.events,
+            &mut self.send_queue,
+            self.moment,
+            packet,
+        )?;
+        self.delay_forward_tsn(next);
+        Ok(())
+    }
+
+    // The next FORWARD-TSN goes out no sooner than at this moment, where there is one.
+    fn delay_forward_tsn(&mut self, next: Option<SocketTime>)
+        ensures { view_of self.new ≡ record (view_of self.old) {
+          endpoint = record (endpoint_of self.old) {
+            no_forward_tsn_before = forward_where next self.old.no_forward_tsn_before;
+          };
+        } }
+    {
+        if let Some(next) = next {
+            self.no_forward_tsn_before = next;
+        }
     }
 
     // May data follow: does some wait, or do the windows allow it?

@@ -54,6 +54,7 @@ pub enum State {
 }
 
 impl State {
+    ghost use Rattle.dcsctp_machine.specs.turns.MessageOutcomes.{is_shutting_down};
     ghost use Rattle.std.specs.Prelude.{◌≡◌};
     ghost use Rattle.dcsctp_machine.specs.Endpoint.{own_tag, association_of};
     ghost use Rattle.dcsctp_api.specs.Calls.{socket_state_of, is_closed};
@@ -145,6 +146,16 @@ impl State {
             State::CookieWait(wait) => expire(&mut wait.t1_init, now),
             State::CookieEchoed(echoed) => expire(&mut echoed.t1_cookie, now),
             State::Established(_) => Expiry::NotDue,
+        }
+    }
+
+    /// Is the association being shut down (RFC 9260, section 9.2)? Then no message is taken.
+    pub fn is_shutting_down(&self) -> bool
+        ensures { result ≡ is_shutting_down (core_of self.now) }
+    {
+        match self {
+            State::Closed => false,
+            State::CookieWait(_) | State::CookieEchoed(_) | State::Established(_) => false,
         }
     }
 

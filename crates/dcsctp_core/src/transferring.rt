@@ -1,16 +1,17 @@
 //! What lies below an association, where a peer is held.
 
-ghost use Rattle.std.specs.Prelude.{◌≡◌, IfOk, OnOk, OnErr, IsOk, is_some};
+ghost use Rattle.std.specs.Prelude.{◌≡◌, IfOk, OnOk, OnErr, IsOk, is_some, length};
 ghost use Rattle.dcsctp_machine.specs.TimeTurns.{delay_deadline, loss_deadline, has_come};
 ghost use Rattle.dcsctp_machine.specs.turns.TransferMoves.{MovesForward, LosesAll};
 ghost use Rattle.dcsctp_streams.specs.Telling.{contents};
 ghost use Rattle.dcsctp_transfer.specs.Filling.{TellsMore};
+ghost use Rattle.dcsctp_api.specs.Messages.{ready_below};
 ghost use Rattle.dcsctp_core.specs.View.{transfer_of};
-ghost use Rattle.dcsctp_core.specs.Below.{ChangesBelow, ChangesWhere, Receives, EndsBelow, EndsDelay, is_due_below, SacksBelow, FillsAtOnceBelow, at_once_below};
-ghost use Rattle.dcsctp_core.specs.Flushing.{FillsBelow, AcknowledgesBelow, HasNoData, WantsNone, can_send_below};
+ghost use Rattle.dcsctp_core.specs.Below.{ChangesBelow, ChangesWhere, TakesReady, Receives, EndsBelow, EndsDelay, is_due_below, SacksBelow, FillsAtOnceBelow, at_once_below};
+ghost use Rattle.dcsctp_core.specs.Flushing.{FillsBelow, AcknowledgesBelow, ForwardsBelow, HasNoData, WantsNone, can_send_below};
 
 use crate::state::State;
-use dcsctp_api::{Events, SocketTime};
+use dcsctp_api::{Events, Message, SocketTime};
 use dcsctp_build::SctpPacketBuilder;
 use dcsctp_transfer::{Data, HandledSack, QueuedMessages, SkippedTo};
 use dcsctp_wire::SackChunk;
@@ -56,6 +57,31 @@ impl State {
                 echoed.tcb.transfer.acknowledge(also_if_delayed, packet)
             }
             State::Established(tcb) => tcb.transfer.acknowledge(also_if_delayed, packet),
+        }
+    }
+
+    /// Gives up messages to the peer that is held that may not be sent any more, and puts a FORWARD-TSN into the
+    /// packet where one is asked for and fits (RFC 3758, section 3.5). Where one was made, it answers the moment
+    /// before which the next one isn't to be. The one error is that a growth was refused; a part of what the
+    /// user is told may stand then.
+    pub(crate) fn forward_tsn(
+        &mut self,
+        events: &mut Events,
+        queue: &mut QueuedMessages,
+        now: SocketTime,
+        packet: &mut SctpPacketBuilder,
+    ) -> Result<Option<SocketTime>, AllocError>
+        ensures ok { IfOk result (λ next. ForwardsBelow now (transfer_of self.old) queue.old (contents events.old) packet.old self.old self.new queue.new (contents events.new) packet.new next) }
+        ensures told { OnErr result (TellsMore (contents events.old) (contents events.new)) }
+        ensures idle { HasNoData queue.old (transfer_of self.old) → IsOk result }
+    {
+        match self {
+            State::Closed | State::CookieWait(_) => Ok(None),
+            State::CookieEchoed(echoed) => echoed
+                .tcb
+                .transfer
+                .forward_tsn(events, queue, now, packet),
+            State::Established(tcb) => tcb.transfer.forward_tsn(events, queue, now, packet),
         }
     }
 
@@ -229,6 +255,28 @@ impl State {
             State::Closed | State::CookieWait(_) => Ok(()),
             State::CookieEchoed(echoed) => echoed.tcb.transfer.fill_at_once(now, packet),
             State::Established(tcb) => tcb.transfer.fill_at_once(now, packet),
+        }
+    }
+
+    /// Takes the message that became ready first, where one is ready. It takes no memory.
+    pub fn get_next_message(&mut self) -> Option<Message>
+        ensures { TakesReady (transfer_of self.old) self.old result self.new }
+    {
+        match self {
+            State::Closed | State::CookieWait(_) => None,
+            State::CookieEchoed(echoed) => echoed.tcb.transfer.get_next_message(),
+            State::Established(tcb) => tcb.transfer.get_next_message(),
+        }
+    }
+
+    /// How many messages are ready to be taken. It takes no memory.
+    pub fn messages_ready_count(&self) -> usize
+        ensures { result ≡ length (ready_below (transfer_of self.now)) }
+    {
+        match self {
+            State::Closed | State::CookieWait(_) => 0,
+            State::CookieEchoed(echoed) => echoed.tcb.transfer.messages_ready_count(),
+            State::Established(tcb) => tcb.transfer.messages_ready_count(),
         }
     }
 }

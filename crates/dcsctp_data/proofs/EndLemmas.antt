@@ -25,7 +25,7 @@ use Rattle.dcsctp_core.specs.Flushing.{packet_for, empty_packet, state_with, Ack
 use Rattle.dcsctp_core.specs.Below.{ChangesBelow, EndsBelow, is_due_below}
 use Rattle.dcsctp_core.proofs.BelowLemmas.{below_view, below_moves, moves_from, same_view}
 use Rattle.dcsctp_core.proofs.Composing.{cut_after}
-use Rattle.dcsctp_core.proofs.FillLemmas.{sack_packet}
+use Rattle.dcsctp_core.proofs.FillLemmas.{chunk_packet}
 use Rattle.dcsctp_core.proofs.FirstLemmas.{transfer_is}
 use Rattle.dcsctp_core.proofs.LoopLemmas.{held_by_tcb, packet_to}
 use Rattle.dcsctp_core.proofs.Moving.{moves_still}
@@ -48,7 +48,7 @@ sacked e held transfer mid packet filled is h =
       sack = unworked (sack_chunk sack);
       is_sack = record { cumulative = h.2.cumulative; window = h.2.window; fits = h.2.fits };
       left = h.0;
-      packet = h.3 ∙ ap (λ (b : Building). with_chunk b (sack_chunk sack)) is ∙ sack_packet e (draft_to held) sack;
+      packet = h.3 ∙ ap (λ (b : Building). with_chunk b (sack_chunk sack)) is ∙ chunk_packet e (draft_to held) (sack_chunk sack);
     }
 
 -- what the flush does, from the endpoint at which all is acknowledged

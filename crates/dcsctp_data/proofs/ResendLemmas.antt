@@ -25,7 +25,7 @@ use Rattle.dcsctp_core.specs.declared.state.State.TheVariants.{Closed, CookieWai
 use Rattle.dcsctp_core.specs.View.{View, core_of, held_of, transfer_of, endpoint_of, view_of, Drawn, Moves, CutTurn}
 use Rattle.dcsctp_core.specs.Handling.{TakesIn, CutIn, TakesOne, FlushAt}
 use Rattle.dcsctp_core.specs.Below.{GoesAtOnce, AtOnceAt}
-use Rattle.dcsctp_core.proofs.Composing.{behind, Adds, Draws, moves_behind, cut_behind}
+use Rattle.dcsctp_core.proofs.Composing.{behind, Adds, Draws, moves_behind, cut_behind, cut_longer}
 use Rattle.dcsctp_data.specs.Sacks.{ResendsBy, Resends, ResendsAt}
 
 -- ---- a peer that is held, with what lies below
@@ -60,25 +60,6 @@ fast_plain true e held transfer o h =
     subst (IsPlain e) (sym h.is) (out_plain e h.left (draft_to held).with_checksum (draft_to held).packet.tag (plain_contents h.chunks))
 
 -- ---- behind it comes a flush
-
-take_longer : {A : Type 0} (n : ℕ) (xs ys : List A) → (m : ℕ) × (take m (xs ++ ys) ≡ take n xs)
-take_longer zero xs ys = (0, refl)
-take_longer (suc n) [] ys = (0, refl)
-take_longer (suc n) (x ∷ xs) ys =
-    let rest = take_longer n xs ys in
-    (suc rest.0, ap (λ zs. x ∷ zs) rest.1)
-
--- more would have come
-cut_longer : {R : Type 0} (v : View R) (o all : Outcome) (more : List (Event Emission)) (events : List (Event (List ℕ))) → all.events ≡ o.events ++ more → CutTurn v o events → CutTurn v all events
-cut_longer v o all more events parts cut =
-    let f : Event Emission → Event (List ℕ) = user_event (ports_of v.endpoint.options) in
-    let longer = take_longer cut.count (map f o.events) (map f more) in
-    record {
-      count = longer.0;
-      added = cut.added
-          ∙ ap (λ (es : List (Event (List ℕ))). v.events ++ es)
-          (sym longer.1 ∙ ap (take longer.0) (sym (map-append f o.events more) ∙ ap (map f) (sym parts)));
-    }
 
 at_held : (e : Endpoint) (peer : Option Held) (found : Option Transfer) (held : Held) (transfer : Transfer) (o : Outcome) → peer ≡ Some held → found ≡ Some transfer → GoesAtOnce e peer found o
     → FastRetransmits transfer.retransmission.has_fast_retransmit e held transfer o

@@ -1,6 +1,7 @@
 pub mod AddingLemmas
 pub mod AtOnceLemmas
 pub mod FillingLemmas
+pub mod ForwardingLemmas
 pub mod GivingLemmas
 pub mod LossLemmas
 pub mod ReceivingLemmas

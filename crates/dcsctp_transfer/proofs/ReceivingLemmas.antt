@@ -1,7 +1,7 @@
 -- What comes in, as the values that are shown tell it.
 use Rattle.std.proofs.Common.{◌≡◌, ◌==◌, ℕ, ◌+◌, ◌-◌, ◌*◌, ◌%◌, ◌^◌, ◌<◌, ◌≤◌, nat_le, nat_lt, not, ◌&&◌, ◌||◌, Bool, true, false, if◌then◌else◌, List, [], ◌∷◌, ◌++◌, length, refl, ap, ◌∙◌, arith}
 use Rattle.std.proofs.lemmas.Bool.Decides.{nat_tests}
-use Rattle.dcsctp_machine.specs.Transfer.{ReadyMessage, RetransmissionState, TimeoutState, Transfer}
+use Rattle.dcsctp_machine.specs.Transfer.{MessageContent, RetransmissionState, TimeoutState, Transfer}
 use Rattle.dcsctp_machine.specs.turns.TransferMoves as moves
 use Rattle.dcsctp_send.specs.Timer.{TimerModel, running_deadline}
 use Rattle.dcsctp_data_tracker.specs.Acknowledging as tracking
@@ -66,39 +66,39 @@ owes_after Immediate false = refl
 -- ---- messages that become ready
 
 -- These stand in front of those.
-pub record StartsWith (before after : List ReadyMessage) : Type 0 where
-  pub more : List ReadyMessage
+pub record StartsWith (before after : List MessageContent) : Type 0 where
+  pub more : List MessageContent
   pub is : after ≡ before ++ more
 
-append_none : (messages : List ReadyMessage) → messages ≡ messages ++ []
+append_none : (messages : List MessageContent) → messages ≡ messages ++ []
 append_none [] = refl
-append_none (first ∷ messages) = ap (λ (rest : List ReadyMessage). first ∷ rest) (append_none messages)
+append_none (first ∷ messages) = ap (λ (rest : List MessageContent). first ∷ rest) (append_none messages)
 
-pub stays_in_front : (before after : List ReadyMessage) → after ≡ before → StartsWith before after
+pub stays_in_front : (before after : List MessageContent) → after ≡ before → StartsWith before after
 stays_in_front before after same = record { more = []; is = same ∙ append_none before }
 
-whole_behind : (before more after : List ReadyMessage) (is_next : Bool) → after ≡ (if is_next then before ++ more else before) → StartsWith before after
+whole_behind : (before more after : List MessageContent) (is_next : Bool) → after ≡ (if is_next then before ++ more else before) → StartsWith before after
 whole_behind before more after true is = record { more = more; is = is }
 whole_behind before more after false is = stays_in_front before after is
 
-ordered_behind : (part : PartModel) (old : StreamModel) (before : List ReadyMessage) (outcome : Assembled) (taken : Taken) (new : StreamModel) (after : List ReadyMessage)
+ordered_behind : (part : PartModel) (old : StreamModel) (before : List MessageContent) (outcome : Assembled) (taken : Taken) (new : StreamModel) (after : List MessageContent)
     → OrderedOutcome part old before outcome taken new after → StartsWith before after
 ordered_behind part old before Dropped taken new after does = stays_in_front before after does.1
 ordered_behind part old before Kept taken new after does = stays_in_front before after does.2
 ordered_behind part old before (WholeMessage whole) taken new after does =
     whole_behind before (ready_with old (whole_of whole)) after ((whole_of whole).number == old.next) does.ready
 
-unordered_behind : (part : PartModel) (shown : WholeModel → ReadyMessage) (before : List ReadyMessage) (outcome : Assembled) (taken : Taken) (after : List ReadyMessage)
+unordered_behind : (part : PartModel) (shown : WholeModel → MessageContent) (before : List MessageContent) (outcome : Assembled) (taken : Taken) (after : List MessageContent)
     → UnorderedOutcome part shown before outcome taken after → StartsWith before after
 unordered_behind part shown before Dropped taken after does = stays_in_front before after does.0
 unordered_behind part shown before Kept taken after does = stays_in_front before after does.0
 unordered_behind part shown before (WholeMessage whole) taken after does = record { more = shown (whole_of whole) ∷ []; is = does.0 }
 
-apart_behind : (part : PartModel) (shown : WholeModel → ReadyMessage) (old : List RunModel) (before : List ReadyMessage) (taken : Taken) (new : List RunModel) (after : List ReadyMessage)
+apart_behind : (part : PartModel) (shown : WholeModel → MessageContent) (old : List RunModel) (before : List MessageContent) (taken : Taken) (new : List RunModel) (after : List MessageContent)
     → TakesUnordered part shown old before taken new after → StartsWith before after
 apart_behind part shown old before taken new after takes = unordered_behind part shown before takes.outcome taken after takes.does
 
-in_order_behind : (part : PartModel) (old : StreamModel) (before : List ReadyMessage) (taken : Taken) (new : StreamModel) (after : List ReadyMessage)
+in_order_behind : (part : PartModel) (old : StreamModel) (before : List MessageContent) (taken : Taken) (new : StreamModel) (after : List MessageContent)
     → TakesInOrder part old before taken new after → StartsWith before after
 in_order_behind part old before taken new after takes = by_side (nat_lt part.number old.next) refl
   where
@@ -109,7 +109,7 @@ in_order_behind part old before taken new after takes = by_side (nat_lt part.num
         let ordered = takes.ahead ahead in
         ordered_behind part old before ordered.outcome taken new after ordered.does
 
-numbered_behind : (tsn : ℕ) (chunk : ChunkModel) (numbering : Numbering) (old : StreamModel) (before : List ReadyMessage) (taken : Taken) (new : StreamModel) (after : List ReadyMessage)
+numbered_behind : (tsn : ℕ) (chunk : ChunkModel) (numbering : Numbering) (old : StreamModel) (before : List MessageContent) (taken : Taken) (new : StreamModel) (after : List MessageContent)
     → TakesNumbered tsn chunk numbering old before taken new after → StartsWith before after
 numbered_behind tsn chunk (Ordered ssn) old before taken new after takes = in_order_behind _ old before taken new after takes
 numbered_behind tsn chunk Unordered old before taken new after takes = apart_behind _ _ old.unordered before taken new.unordered after takes.unordered

@@ -8,8 +8,8 @@ use Rattle.dcsctp_wire.specs.declared.chunk.sack.GapAckBlock.{GapAckBlock}
 use Rattle.dcsctp_machine.specs.Event.{Event}
 use Rattle.dcsctp_machine.specs.Transfer.{RetransmissionState, Transfer}
 use Rattle.dcsctp_machine.specs.turns.TransferMoves.{TakesSack}
-use Rattle.dcsctp_api.specs.Ids.{lifecycle_number}
-use Rattle.dcsctp_api.specs.declared.ids.LifecycleId.{LifecycleId}
+use Rattle.dcsctp_machine.specs.Ids.{lifecycle_number}
+use Rattle.dcsctp_machine.specs.declared.ids.LifecycleId.{LifecycleId}
 use Rattle.dcsctp_api.specs.declared.events.SocketEvent.{SocketEvent}
 use Rattle.dcsctp_streams.specs.Telling.{contents, TellsFront}
 use Rattle.dcsctp_outstanding.specs.declared.item.Item.{Item}

@@ -5,8 +5,8 @@ use Rattle.std.specs.declared.alloc.AllocError.{AllocError}
 use Rattle.std.specs.declared.alloc.Global.{Global}
 use Rattle.dcsctp_machine.specs.Event.{Event}
 use Rattle.dcsctp_machine.specs.turns.FlushOutcomes.{Told, amount_is_low, total_amount_is_low, message_is_sent, message_may_have_expired, message_has_expired, message_ends}
-use Rattle.dcsctp_api.specs.Ids.{lifecycle_number}
-use Rattle.dcsctp_api.specs.declared.ids.LifecycleId.{LifecycleId}
+use Rattle.dcsctp_machine.specs.Ids.{lifecycle_number}
+use Rattle.dcsctp_machine.specs.declared.ids.LifecycleId.{LifecycleId}
 use Rattle.dcsctp_api.specs.declared.events.SocketEvent.{SocketEvent}
 use Rattle.dcsctp_streams.specs.Waiting.{Waiting, Stream}
 use Rattle.dcsctp_streams.specs.Ranking.{stream_at}
@@ -106,7 +106,7 @@ tells_same before after same = record { told = []; is = same ∙ sym (append-nil
 tells_these : (before events after : Events) → AreTold events → after ≡ before ++ events → TellsMore before after
 tells_these before events after told is = record { told = told.told; is = is ∙ ap (λ (x : Events). before ++ x) told.is }
 
-tells_then : (a b c : Events) → TellsMore a b → TellsMore b c → TellsMore a c
+pub tells_then : (a b c : Events) → TellsMore a b → TellsMore b c → TellsMore a c
 tells_then a b c first later =
     record {
       told = first.told ++ later.told;
@@ -136,7 +136,7 @@ tells_closed now last old new false (inl drops) =
     tells_discarded old.waiting new.waiting last.fragment.stream_id.0 last.fragment.message_id old.told new.told drops.1.drops.is_dropped drops.1.drops.drops
 tells_closed now last old new false (inr same) = tells_same old.told new.told (ap (λ (s : Stage). s.told) same.1)
 
-tells_given_up : (now place : ℕ) (old new : Stage) → GivesUpAt now place old new → TellsMore old.told new.told
+pub tells_given_up : (now place : ℕ) (old new : Stage) → GivesUpAt now place old new → TellsMore old.told new.told
 tells_given_up now place old new gives_up =
     tells_then old.told gives_up.closed.told new.told (tells_closed now gives_up.last old gives_up.closed gives_up.last.fragment.is_end gives_up.closes)
     (tells_same gives_up.closed.told new.told (ap (λ (s : Stage). s.told) gives_up.is))
@@ -155,14 +155,14 @@ tells_anew_by now old new (inr finds) = tells_dropped now old.waiting new.waitin
 tells_anew : (now : ℕ) (old new : Stage) → StepNew now old new → TellsMore old.told new.told
 tells_anew now old new step = tells_anew_by now old new step.2
 
-tells_steps : (Step : Stage → Stage → Type 0) → ((a b : Stage) → Step a b → TellsMore a.told b.told) → (old new : Stage) → Steps Step old new → TellsMore old.told new.told
+pub tells_steps : (Step : Stage → Stage → Type 0) → ((a b : Stage) → Step a b → TellsMore a.told b.told) → (old new : Stage) → Steps Step old new → TellsMore old.told new.told
 tells_steps Step each old new none = tells_same old.told old.told refl
 tells_steps Step each old new (more between new' steps step) =
     tells_then old.told between.told new'.told (tells_steps Step each old between steps) (each between new' step)
 
 -- ---- where memory is refused
 
-tells_unclosed : (last : Item) (waiting : Backlog) (before after : Events) (is_end : Bool) → RefusesClosing last waiting before after is_end → TellsMore before after
+pub tells_unclosed : (last : Item) (waiting : Backlog) (before after : Events) (is_end : Bool) → RefusesClosing last waiting before after is_end → TellsMore before after
 tells_unclosed last waiting before after true tells = tells_front before _ after (told_maybe last.fragment.lifecycle_id) tells
 tells_unclosed last waiting before after false (inl same) = tells_same before after same
 tells_unclosed last waiting before after false (inr stops) =

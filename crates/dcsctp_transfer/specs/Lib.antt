@@ -1,3 +1,4 @@
 pub mod Adding
 pub mod Filling
+pub mod Forwarding
 pub mod Sacks

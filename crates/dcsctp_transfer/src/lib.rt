@@ -3,6 +3,7 @@
 //! what stands behind them in the crates below.
 #![tactic(auto)]
 
+mod forwarding;
 mod queued_messages;
 mod receiving;
 mod sacks;

@@ -232,7 +232,7 @@ fn i_data_of<'a>(
 }
 
 // The bytes, each of which fits one.
-fn in_bytes(bytes: &[u8]) -> &[u8]
+pub(crate) fn in_bytes(bytes: &[u8]) -> &[u8]
     ensures same { result.now ≡ bytes.now }
     ensures fit { AllByRecursion IsByte result.now }
 {

@@ -1,6 +1,5 @@
-use Rattle.std.proofs.Common.{refl}
 use Rattle.std.proofs.lemmas.Result.{err_from_is_err_and}
-use Rattle.dcsctp_core.proofs.AskLemmas.{first_returns, sack_refused}
+use Rattle.dcsctp_core.proofs.AskLemmas.{first_returns, sack_refused, forward_refused}
 use Rattle.dcsctp_core.proofs.context.Context.fill_first.Goals as goal
 
 pub returns-in_err-acknowledge : goal.returns-in_err-acknowledge
@@ -8,7 +7,14 @@ returns-in_err-acknowledge g c =
     rw (err_from_is_err_and c.from_residual.result c.from_residual.ensures.1).1
     (λ draft is. sack_refused c.args.packet.now c.args.self.now c.may_send_data-may_follow.result draft (λ none. cc (c.in_err-acknowledge.ensures.idle none)))
 
+pub returns-in_err-forward_tsn : goal.returns-in_err-forward_tsn
+returns-in_err-forward_tsn g c =
+    rw (err_from_is_err_and c.from_residual-in_err-forward_tsn.result c.from_residual-in_err-forward_tsn.ensures.1).1
+    (λ draft is. forward_refused c.args.packet.now c.acknowledge.new.packet c.args.self.now c.may_send_data-may_follow.result c.acknowledge.new.self draft _
+    c.in_ok-acknowledge.ensures.ok (λ none. cc (c.in_err-forward_tsn.ensures.idle none)) c.in_err-forward_tsn.ensures.turn)
+
 pub returns : goal.returns
 returns g c =
-    first_returns c.args.packet.now c.acknowledge.new.packet c.fill_with_data.new.packet c.args.self.now c.may_send_data-may_follow.result c.acknowledge.new.self
-    c.fill_with_data.result c.fill_with_data.new.self c.may_send_data-may_follow.ensures c.in_ok-acknowledge.ensures.ok c.fill_with_data.ensures.turn c.fill_with_data.ensures.idle
+    first_returns c.args.packet.now c.acknowledge.new.packet c.forward_tsn.new.packet c.fill_with_data.new.packet c.args.self.now c.may_send_data-may_follow.result c.acknowledge.new.self
+    c.forward_tsn.new.self c.fill_with_data.result c.fill_with_data.new.self c.may_send_data-may_follow.ensures c.in_ok-acknowledge.ensures.ok c.in_ok-forward_tsn.ensures.turn
+    c.fill_with_data.ensures.turn c.fill_with_data.ensures.idle

@@ -1,6 +1,6 @@
-use Rattle.std.proofs.Common.{◌==◌, sym, ap, ◌∙◌}
+use Rattle.std.proofs.Common.{◌∙◌}
 use Rattle.std.proofs.lemmas.Result.{err_from_is_err_and}
-use Rattle.dcsctp_core.specs.View.{view_of, held_of}
+use Rattle.dcsctp_core.specs.View.{view_of}
 use Rattle.dcsctp_core.proofs.LoopLemmas.{flush_unmade, flush_no_peer, flush_done, flush_cut_in}
 use Rattle.dcsctp_core.proofs.context.Context.send_buffered_packets.Goals as goal
 

@@ -1,8 +1,7 @@
-use Rattle.std.proofs.Common.{sym, ap, ◌∙◌, arith}
+use Rattle.std.proofs.Common.{arith}
 use Rattle.std.proofs.lemmas.Result.{err_from_is_err_and}
 use Rattle.dcsctp_core.specs.View.{view_of}
-use Rattle.dcsctp_core.specs.Flushing.{FlushesBy}
-use Rattle.dcsctp_core.proofs.LoopLemmas.{Completes, completes_unmade, completes_none, packet_to, loop_goes_on, loop_ends, loop_cut}
+use Rattle.dcsctp_core.proofs.LoopLemmas.{completes_unmade, completes_none, packet_to, loop_goes_on, loop_ends, loop_cut}
 use Rattle.dcsctp_core.proofs.context.Context.send_further.Goals as goal
 
 pub returns-in_err-packet : goal.returns-in_err-packet

@@ -1,4 +1,4 @@
-use Rattle.std.proofs.Common.{◌≡◌, ◌≤◌, Some}
+use Rattle.std.proofs.Common.{◌≡◌, Some}
 use Rattle.dcsctp_machine.specs.declared.association.Held.{Held}
 use Rattle.dcsctp_machine.specs.Endpoint.{held_in}
 use Rattle.dcsctp_core.specs.View.{core_of, view_of}

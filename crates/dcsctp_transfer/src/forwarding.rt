@@ -1,0 +1,115 @@
+//! What tells the peer to wait no longer for messages that were given up (RFC 3758, section 3.5; RFC 8260,
+//! section 2.3.1).
+
+ghost use Rattle.std.specs.Prelude.{◌≡◌, ◌≤◌, ◌<◌, ◌^◌, min, IfOk, OnOk, OnErr, IsOk};
+ghost use Rattle.std.specs.List.{AllByRecursion};
+ghost use Rattle.dcsctp_wire.specs.Content.{chunk_content};
+ghost use Rattle.dcsctp_wire.specs.ReadsBack.{IsByte};
+ghost use Rattle.dcsctp_machine.specs.Endpoint.{moment_after};
+ghost use Rattle.dcsctp_streams.specs.Telling.{contents};
+ghost use Rattle.dcsctp_retransmission.specs.SkippedBytes.{ReadsAs};
+ghost use Rattle.dcsctp_transfer.specs.Filling.{TellsMore, with_chunk};
+ghost use Rattle.dcsctp_transfer.specs.Forwarding.{forward_said, PutsForward, Forwards};
+
+use crate::queued_messages::QueuedMessages;
+use crate::sending::in_bytes;
+use crate::transfer::Transfer;
+use dcsctp_api::Events;
+use dcsctp_build::SctpPacketBuilder;
+use dcsctp_machine::SocketTime;
+use dcsctp_retransmission::{ForwardTsn, RetransmissionQueue, Skipped};
+use dcsctp_send::RetransmissionTimeout;
+use dcsctp_wire::{Chunk, ForwardTsnChunk, IForwardTsnChunk};
+use std::alloc::{AllocError, Global};
+use std::time::Duration;
+
+impl Transfer {
+    /// Gives up messages that may not be sent any more, where partial reliability was negotiated, and puts a
+    /// FORWARD-TSN into the packet where the first item that is outstanding was given up (RFC 3758,
+    /// section 3.5); with interleaving an I-FORWARD-TSN (RFC 8260, section 2.3.1). One that doesn't fit is left
+    /// out.
+    ///
+    /// Where one was made, it answers the moment before which the next one isn't to be: 200 milliseconds after
+    /// this one, or a round trip, where that is less. It takes no memory where nothing is outstanding.
+    ///
+    /// `Err`: memory was refused, and the packet stays. Some messages may have been given up, and a part of the
+    /// events may stand.
+    pub fn forward_tsn(
+        &mut self,
+        events: &mut Events,
+        queue: &mut QueuedMessages,
+        now: SocketTime,
+        packet: &mut SctpPacketBuilder,
+    ) -> Result<Option<SocketTime>, AllocError>
+        ensures ok { IfOk result (λ next. Forwards now self.old queue.old (contents events.old) packet.old self.new queue.new (contents events.new) packet.new next) }
+        ensures told { OnErr result (TellsMore (contents events.old) (contents events.new)) }
+        ensures kept { OnErr result (packet.new ≡ packet.old) }
+        ensures idle { self.old.retransmission.outstanding_items ≡ 0 → IsOk result }
+    {
+        if self.retransmission_queue.outstanding_items() == 0 {
+            return Ok(None);
+        }
+        if !self
+            .retransmission_queue
+            .should_send_forward_tsn(events, &mut queue.queue, now)?
+        {
+            return Ok(None);
+        }
+        put_forward_tsn(&self.retransmission_queue, self.alloc, packet)?;
+        Ok(Some(next_forward_tsn(&self.rto, now)))
+    }
+}
+
+// The moment before which no further FORWARD-TSN is to be made, after one at this moment (RFC 3758,
+// section 3.5).
+fn next_forward_tsn(rto: &RetransmissionTimeout, now: SocketTime) -> SocketTime
+    ensures { result ≡ moment_after now (min 200000000 rto.now.srtt) }
+{
+    let wait = rto.srtt().as_nanos().min(200_000_000);
+    now + Duration::from_nanos_u128(wait)
+}
+
+// Puts a FORWARD-TSN or I-FORWARD-TSN of what was given up into the packet, where it fits.
+fn put_forward_tsn(
+    queue: &RetransmissionQueue,
+    alloc: Global,
+    packet: &mut SctpPacketBuilder,
+) -> Result<(), AllocError>
+    ensures ok { OnOk result (PutsForward queue.now.interleaving packet.old packet.new) }
+    ensures kept { OnErr result (packet.new ≡ packet.old) }
+{
+    let forward = queue.create_forward_tsn()?;
+    let entries = forward.skipped_bytes(alloc)?;
+    add_forward_tsn(&forward, &entries, packet);
+    Ok(())
+}
+
+// Puts the chunk with these entries into the packet, where it fits.
+fn add_forward_tsn(forward: &ForwardTsn, entries: &[u8], packet: &mut SctpPacketBuilder)
+    ensures added { packet.new ≡ with_chunk packet.old (forward_said forward.now.new_cumulative_tsn entries.now forward.now.skipped) }
+    ensures tsn { forward.now.new_cumulative_tsn < 2 ^ 32 }
+    ensures bytes { AllByRecursion IsByte entries.now }
+    ensures small { packet.old.size ≤ 65535 }
+{
+    let chunk = forward_chunk(forward, in_bytes(entries));
+    if chunk.serialized_size() <= packet.bytes_remaining() {
+        packet.add(&chunk);
+    }
+}
+
+// The chunk with these entries.
+fn forward_chunk<'a>(forward: &ForwardTsn, entries: &'a [u8]) -> Chunk<'a>
+    ensures { chunk_content result ≡ forward_said forward.now.new_cumulative_tsn entries.now forward.now.skipped }
+{
+    let new_cumulative_tsn = forward.new_cumulative_tsn;
+    match &forward.skipped {
+        Skipped::Streams(_) => Chunk::ForwardTsn(ForwardTsnChunk {
+            new_cumulative_tsn,
+            skipped_streams: entries,
+        }),
+        Skipped::Messages(_) => Chunk::IForwardTsn(IForwardTsnChunk {
+            new_cumulative_tsn,
+            skipped_streams: entries,
+        }),
+    }
+}
