@@ -1,0 +1,66 @@
+//! The program `dcsctp-bench`: two sockets in one process and a link between them, to count what they
+//! cost (`scripts/measure.sh`) and to see that they carry what they are given.
+//!
+//! ```text
+//! dcsctp_bench handshakes N
+//! dcsctp_bench messages N SIZE [unordered] [streams=K] [loss=PERMILLE] [queued=Q] [zero-checksum] [counts]
+//! dcsctp_bench hold N [used]
+//! ```
+//!
+//! `handshakes` makes N pairs of sockets one after another, connects each and drops it. `messages` sends
+//! N messages of SIZE bytes from one socket to the other, on one ordered stream: `unordered`, or on K
+//! streams in turn; with so many of a thousand packets lost behind the handshake; behind Q messages more
+//! that are sent before any packet is handed over; and without checksums, as over DTLS. `counts` prints
+//! the packets, too. `hold` makes N pairs and keeps them, `used` after 1 MiB went each way. The exit
+//! status is 0 where all went well, 1 where not, which standard error says, and 2 at bad arguments.
+#![tactic(auto)]
+
+mod arguments;
+mod commands;
+mod end;
+mod failure;
+mod ledger;
+mod link;
+mod pair;
+mod traffic;
+
+use crate::arguments::{Command, parse_command};
+use std::alloc::Global;
+use std::process::ExitCode;
+use std::rt::Env;
+use std::{env, io};
+
+const USAGE: &str = "usage: dcsctp_bench handshakes N
+       dcsctp_bench messages N SIZE [unordered] [streams=K] [loss=PERMILLE] [queued=Q] [zero-checksum] [counts]
+       dcsctp_bench hold N [used]";
+
+// The words behind the name of the program.
+fn words(rt: &(impl Env + Alloc<A = Global>)) -> io::Result<Vec<String>> {
+    let mut words = Vec::new(rt.alloc());
+    for word in env::args(rt)?.skip(1) {
+        words.push(word)?;
+    }
+    Ok(words)
+}
+
+// The command that the arguments say; none where they say no command, or can't be read.
+fn command(rt: &(impl Env + Alloc<A = Global>)) -> Option<Command> {
+    match words(rt) {
+        Ok(words) => parse_command(words.as_slice()),
+        Err(_) => None,
+    }
+}
+
+fn main(rt: HostRuntime) -> ExitCode {
+    let Some(command) = command(&rt) else {
+        let _ = eprintln!(rt; "{USAGE}");
+        return ExitCode::from(2);
+    };
+    match commands::obey(&rt, command) {
+        Ok(()) => ExitCode::from(0),
+        Err(failure) => {
+            let _ = eprintln!(rt; "dcsctp_bench: {failure}");
+            ExitCode::from(1)
+        }
+    }
+}

@@ -1,0 +1,76 @@
+#!/usr/bin/env bash
+# Counts the instructions and the bytes of heap of two sockets, as the program crates/dcsctp_bench drives
+# them. Each figure is the difference of two runs over the difference of their work, so what a run does
+# once doesn't count. Needs valgrind. BENCH names another build of the program.
+#
+#     scripts/measure.sh [speed | memory]
+set -euo pipefail
+shopt -s inherit_errexit
+cd "$(dirname "$0")/.."
+program=${BENCH:-$PWD/crates/dcsctp_bench/out/dcsctp_bench}
+[ -x "$program" ] || (cd crates/dcsctp_bench && rt run -- handshakes 1) >&2
+folder=$(mktemp -d)
+trap 'rm -rf "$folder"' EXIT
+
+# under TOOL FLAG ARGS..: runs the program; what it prints comes to said, what valgrind says to log.
+under() {
+    valgrind "--tool=$1" "--$1-out-file=$folder/out" "$2" "$program" "${@:3}" \
+        >"$folder/said" 2>"$folder/log" || { cat "$folder/log" >&2; exit 1; }
+}
+
+# instructions ARGS..: how many a run takes.
+instructions() {
+    under callgrind --collect-atstart=yes "$@"
+    awk '/Collected *:/ { print $NF }' "$folder/log"
+}
+
+# heap ARGS..: the most bytes that a run holds.
+heap() {
+    under massif --peak-inaccuracy=0.0 "$@"
+    awk -F= '$1 == "mem_heap_B" && most < $2 { most = $2 } END { printf "%d\n", most }' "$folder/out"
+}
+
+# packets: those that the last run sent, both ways together.
+packets() {
+    awk '/^packets-/ { sum += $2 } END { printf "%d\n", sum }' "$folder/said"
+}
+
+# each COUNTER M N COMMAND ARGS..: what one costs, by runs of M and of N of them; with counts, a packet.
+each() {
+    local counter=$1 m=$2 n=$3 a b
+    a=$("$counter" "$4" "$m" "${@:5}")
+    if [ "${!#}" = counts ]; then m=$(packets); fi
+    b=$("$counter" "$4" "$n" "${@:5}")
+    if [ "${!#}" = counts ]; then n=$(packets); fi
+    awk -v difference="$((b - a))" -v work="$((n - m))" 'BEGIN { printf "%.0f\n", difference / work }'
+}
+
+# tell TEXT COMMAND..: a figure, and what it is of.
+tell() {
+    figure=$("${@:2}")
+    printf '%-52s %12s\n' "$1" "$figure"
+}
+
+speed() {
+    tell "a handshake, sockets made and dropped" each instructions 10 110 handshakes
+    tell "1 MiB of 1,024 bytes, a message" each instructions 1 1025 messages 1024
+    tell "the same without checksums" each instructions 1 1025 messages 1024 zero-checksum
+    tell "1 MiB of 64 KiB, a packet" each instructions 1 17 messages 65536 counts
+    tell "1 MiB of 100 bytes, a message" each instructions 1 10487 messages 100
+    tell "100 bytes behind 10 messages, a message" each instructions 100 400 messages 100 queued=10
+    few=$figure
+    tell "100 bytes behind 10,000, a message" each instructions 100 400 messages 100 queued=10000
+    tell "their ratio" awk -v few="$few" -v many="$figure" 'BEGIN { printf "%.2f\n", many / few }'
+}
+
+memory() {
+    tell "bytes of a connected pair, with both sockets" each heap 1 21 hold
+    tell "the same after 1 MiB each way" each heap 1 21 hold used
+    tell "bytes of a socket itself" awk '/^socket-bytes/ { print $2 }' "$folder/said"
+}
+
+case ${1:-all} in
+    speed | memory) "$1" ;;
+    all) speed; memory ;;
+    *) echo "usage: scripts/measure.sh [speed | memory]" >&2; exit 2 ;;
+esac
