@@ -13,15 +13,23 @@ mod closing;
 #[cfg(test)]
 mod data;
 #[cfg(test)]
+mod delays;
+#[cfg(test)]
 mod faults;
 #[cfg(test)]
 mod heartbeats;
+#[cfg(test)]
+mod losses;
+#[cfg(test)]
+mod messages;
 #[cfg(test)]
 mod options;
 #[cfg(test)]
 mod outside;
 #[cfg(test)]
 mod printing;
+#[cfg(test)]
+mod refusals;
 #[cfg(test)]
 mod scripts;
 #[cfg(test)]
@@ -30,3 +38,5 @@ mod settings;
 mod times;
 #[cfg(test)]
 mod whole_scripts;
+#[cfg(test)]
+mod windows;

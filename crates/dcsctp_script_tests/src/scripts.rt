@@ -50,6 +50,15 @@ pub fn prints(rt: &impl Abort, alloc: Global, name: &str, parts: &[&str], lines:
     runs(rt, alloc, name, (parts, lines), Status::Done);
 }
 
+// Runs scripts, each by a name, its options, and the commands behind a handshake: behind the lines of that each
+// has to print its own, and no line may be bad.
+pub fn prints_each(rt: &impl Abort, alloc: Global, rows: &[(&str, &str, &str, &str)]) {
+    for (name, options, commands, lines) in rows {
+        let parts = [*options, WORDS, HANDSHAKE, *commands];
+        prints(rt, alloc, name, &parts, &[CONNECTED, *lines]);
+    }
+}
+
 // Runs the script of these parts: it has to print these lines, the last of which says which line is bad.
 pub fn stops(rt: &impl Abort, alloc: Global, name: &str, parts: &[&str], lines: &[&str]) {
     runs(rt, alloc, name, (parts, lines), Status::BadLine);

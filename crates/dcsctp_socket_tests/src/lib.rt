@@ -22,6 +22,10 @@ mod driving;
 #[cfg(test)]
 mod init;
 #[cfg(test)]
+mod lifecycles;
+#[cfg(test)]
+mod messages;
+#[cfg(test)]
 mod packets;
 #[cfg(test)]
 mod pairs;
@@ -31,3 +35,5 @@ mod plenty;
 mod settings;
 #[cfg(test)]
 mod sockets;
+#[cfg(test)]
+mod told;

@@ -1,0 +1,153 @@
+//! One end: a socket, the link by which its packets leave, and the messages that it sends.
+
+use crate::link::Link;
+use crate::messages::{COUNT, Effort, Messages};
+use dcsctp_socket::{
+    DcSctpSocket, Options, Socket, SocketEvent, SocketState, SocketTime, StreamId,
+};
+use rand_core::SeedableRng;
+use rand_xoshiro::Xoshiro256PlusPlus;
+use std::alloc::Global;
+use std::process::Abort;
+use std::time::Duration;
+
+/// A socket with what belongs to it.
+pub struct End {
+    pub socket: Socket<Xoshiro256PlusPlus>,
+    pub link: Link,
+    pub sent: Messages,
+
+    // How many messages the socket was given.
+    added: usize,
+
+    // How often it was connected.
+    connections: u32,
+}
+
+// Written out: a derived one would be proved at each exit of each function that has one.
+impl Drop for End {
+    fn drop(self) {
+        let End {
+            socket: _,
+            link: _,
+            sent: _,
+            added: _,
+            connections: _,
+        } = self;
+    }
+}
+
+// How many events a socket may have at once.
+const MOST_EVENTS: u32 = 100_000;
+
+// Heartbeats are off, so that a socket at rest waits for no moment.
+fn quiet_options() -> Options {
+    let mut options = Options::default();
+    options.heartbeat_interval = Duration::from_secs(0);
+    options
+}
+
+impl End {
+    /// A closed end of this seed.
+    pub fn new(rt: &impl Abort, alloc: Global, seed: u64, faults: u32, effort: Effort) -> End {
+        let options = quiet_options();
+        assert!(rt; options.is_valid(), "the options are not valid");
+        let generator = Xoshiro256PlusPlus::seed_from_u64(seed);
+        End {
+            socket: Socket::new(alloc, "end", &options, generator).expect(rt, "no socket"),
+            link: Link::new(alloc, seed.wrapping_add(1_000_000), faults),
+            sent: Messages::plan(rt, alloc, seed.wrapping_add(2_000_000), effort),
+            added: 0,
+            connections: 0,
+        }
+    }
+
+    /// How many bytes wait to be sent.
+    pub fn buffered(&self) -> usize {
+        let mut sum = 0usize;
+        for stream in 0..4u16 {
+            sum = sum.saturating_add(self.socket.buffered_amount(StreamId(stream)));
+        }
+        sum
+    }
+
+    // Sends the next message.
+    fn send_next(&mut self, rt: &impl Abort) {
+        let message = self.sent.message(rt, self.added);
+        let options = self.sent.options(rt, self.added);
+        let answer = self.socket.send(message, &options).expect(rt, "a message");
+        assert_eq!(rt; answer, Ok(()), "message {}", self.added);
+        self.added = self.added.saturating_add(1);
+    }
+
+    /// Sends messages while little waits, once the association is open.
+    pub fn offer(&mut self, rt: &impl Abort) {
+        if self.socket.state() != SocketState::Connected {
+            return;
+        }
+        for _ in 0..COUNT {
+            if COUNT <= self.added || 20_000 <= self.buffered() {
+                return;
+            }
+            self.send_next(rt);
+        }
+    }
+
+    // Works what the socket tells: a packet leaves, and nothing may go wrong.
+    fn hear(&mut self, rt: &impl Abort, now: SocketTime, event: SocketEvent) {
+        match event {
+            SocketEvent::SendPacket(packet) => self.link.put(rt, now, packet),
+            SocketEvent::OnConnected() => self.connections = self.connections.saturating_add(1),
+            SocketEvent::OnError(_, text) => panic!(rt; "error: {}", text.as_str()),
+            SocketEvent::OnAborted(_, text) => panic!(rt; "aborted: {}", text.as_str()),
+            SocketEvent::OnClosed() => rt.panic("closed"),
+            SocketEvent::OnConnectionRestarted() => rt.panic("restarted"),
+            _ => {}
+        }
+    }
+
+    /// Works all that the socket tells.
+    pub fn drain(&mut self, rt: &impl Abort, now: SocketTime) {
+        for _ in 0..MOST_EVENTS {
+            let Some(event) = self.socket.poll_event() else {
+                return;
+            };
+            self.hear(rt, now, event);
+        }
+    }
+
+    /// Hands in the packets that have arrived by the link.
+    pub fn receive(&mut self, rt: &impl Abort, incoming: &mut Link, now: SocketTime) {
+        for _ in 0..incoming.len() {
+            if let Some(packet) = incoming.take(now) {
+                self.socket.handle_input(&packet).expect(rt, "a packet");
+                self.drain(rt, now);
+            }
+        }
+    }
+
+    /// Takes the messages that are ready, which the other end has sent.
+    pub fn take(&mut self, rt: &impl Abort, sent: &mut Messages) {
+        for _ in 0..self.socket.messages_ready_count() {
+            if let Some(message) = self.socket.get_next_message() {
+                sent.arrives(rt, &message);
+            }
+        }
+    }
+
+    /// Everything has to have been sent, nothing to wait, what has to arrive to have arrived, and the end to have
+    /// been connected once.
+    pub fn is_over(&self, rt: &impl Abort, seed: u64, name: &str) {
+        assert_eq!(rt;
+            self.added,
+            COUNT,
+            "seed {seed}, {name}: messages that were sent"
+        );
+        assert_eq!(rt; self.buffered(), 0, "seed {seed}, {name}: bytes that wait");
+        assert_eq!(rt; self.connections, 1, "seed {seed}, {name}: connections");
+        assert!(rt;
+            self.sent.are_complete(),
+            "seed {seed}, {name}: a message is missing"
+        );
+    }
+}

@@ -1,0 +1,17 @@
+//! Two sockets over a link that loses, doubles and reorders, by their public calls: time is told at the moments
+//! that they ask for, and whole messages arrive in order.
+//!
+//! A helper asserts and returns no error, and an end is dropped by a call: each early end of a function that owns
+//! a socket, and each end of a block, is proved to give all of it back.
+#![tactic(auto)]
+
+#[cfg(test)]
+mod end;
+#[cfg(test)]
+mod link;
+#[cfg(test)]
+mod messages;
+#[cfg(test)]
+mod partial;
+#[cfg(test)]
+mod simulation;

@@ -1,0 +1,90 @@
+//! A link one way that loses, doubles and reorders packets, as its seed says.
+
+use dcsctp_socket::SocketTime;
+use rand_core::{Rng, SeedableRng};
+use rand_xoshiro::Xoshiro256PlusPlus;
+use std::alloc::Global;
+use std::process::Abort;
+use std::time::Duration;
+
+// A packet under way, and when it arrives.
+#[derive(Drop)]
+struct Flying {
+    due: SocketTime,
+    packet: Vec<u8>,
+}
+
+/// One direction between two sockets. A packet is under way for 10 to 49 milliseconds.
+#[derive(Drop)]
+pub struct Link {
+    alloc: Global,
+    rng: Xoshiro256PlusPlus,
+
+    // How many of a hundred packets are lost, and how many are doubled.
+    faults: u32,
+
+    flying: Vec<Flying>,
+}
+
+impl Link {
+    /// A link of this seed, on which so many of a hundred packets are lost, and as many are doubled.
+    pub fn new(alloc: Global, seed: u64, faults: u32) -> Link {
+        Link {
+            alloc,
+            rng: Xoshiro256PlusPlus::seed_from_u64(seed),
+            faults,
+            flying: Vec::new(alloc),
+        }
+    }
+
+    // Does a fault befall this packet?
+    fn has_fault(&mut self) -> bool {
+        self.rng.next_u32() % 100 < self.faults
+    }
+
+    fn send(&mut self, rt: &impl Abort, now: SocketTime, packet: Vec<u8>) {
+        let delay = 10 + u64::from(self.rng.next_u32() % 40);
+        let due = now + Duration::from_millis(delay);
+        self.flying
+            .push(Flying { due, packet })
+            .expect(rt, "no room on the link");
+    }
+
+    /// Takes a packet at this moment.
+    pub fn put(&mut self, rt: &impl Abort, now: SocketTime, packet: Vec<u8>) {
+        if self.has_fault() {
+            return;
+        }
+        if self.has_fault() {
+            let again = Vec::from_slice(self.alloc, packet.as_slice()).expect(rt, "no copy");
+            self.send(rt, now, again);
+        }
+        self.send(rt, now, packet);
+    }
+
+    /// Gives a packet that has arrived by this moment.
+    pub fn take(&mut self, now: SocketTime) -> Option<Vec<u8>> {
+        for at in 0..self.flying.len() {
+            if self.flying[at].due <= now {
+                return Some(self.flying.remove(at).packet);
+            }
+        }
+        None
+    }
+
+    /// When the next packet arrives; the last moment where none is under way.
+    pub fn next_arrival(&self) -> SocketTime {
+        let mut first = SocketTime::infinite_future();
+        for flying in &self.flying {
+            if flying.due < first {
+                first = flying.due;
+            }
+        }
+        first
+    }
+
+    /// How many packets are under way.
+    pub fn len(&self) -> usize {
+        self.flying.len()
+    }
+}

@@ -1,0 +1,76 @@
+//! Whole runs: two sockets connect, send 300 messages each way on four streams, and come to rest.
+
+use crate::end::End;
+use crate::messages::Effort;
+use dcsctp_socket::{DcSctpSocket, SocketTime};
+use std::alloc::Global;
+use std::process::Abort;
+
+// How many moments a run may have.
+const MOST_MOMENTS: u32 = 200_000;
+
+// What happens at this moment.
+fn step(rt: &impl Abort, a: &mut End, b: &mut End, now: SocketTime) {
+    a.socket.advance_time(now).expect(rt, "the time of A");
+    b.socket.advance_time(now).expect(rt, "the time of B");
+    a.drain(rt, now);
+    b.drain(rt, now);
+    b.receive(rt, &mut a.link, now);
+    a.receive(rt, &mut b.link, now);
+    b.take(rt, &mut a.sent);
+    a.take(rt, &mut b.sent);
+    a.offer(rt);
+    b.offer(rt);
+    a.drain(rt, now);
+    b.drain(rt, now);
+}
+
+// The earlier of two moments.
+fn earlier(first: SocketTime, second: SocketTime) -> SocketTime {
+    if second < first { second } else { first }
+}
+
+// When something happens next; the last moment where both ends are at rest.
+fn next_moment(a: &End, b: &End) -> SocketTime {
+    let timeout = earlier(a.socket.poll_timeout(), b.socket.poll_timeout());
+    let arrival = earlier(a.link.next_arrival(), b.link.next_arrival());
+    earlier(timeout, arrival)
+}
+
+// Runs until both ends are at rest; false where they don't come to it.
+fn comes_to_rest(rt: &impl Abort, a: &mut End, b: &mut End) -> bool {
+    let mut now = SocketTime::zero();
+    for _ in 0..MOST_MOMENTS {
+        step(rt, a, b, now);
+        now = next_moment(a, b);
+        if now == SocketTime::infinite_future() {
+            return true;
+        }
+    }
+    false
+}
+
+// A connects to B, where so many of a hundred packets are lost and as many come twice.
+pub fn runs(rt: &impl Abort, alloc: Global, seed: u64, faults: u32, effort: Effort) {
+    let mut a = End::new(rt, alloc, seed, faults, effort);
+    let mut b = End::new(rt, alloc, seed.wrapping_add(500_000), faults, effort);
+    a.socket.connect().expect(rt, "no association was begun");
+    let has_rest = comes_to_rest(rt, &mut a, &mut b);
+    assert!(rt; has_rest, "seed {seed}: no rest");
+    a.is_over(rt, seed, "A");
+    b.is_over(rt, seed, "B");
+    drop(a);
+    drop(b);
+}
+
+#[test]
+fn reliable_messages_arrive_where_nothing_is_lost(rt: HostRuntime) {
+    runs(&rt, rt.alloc(), 1, 0, Effort::Reliable);
+}
+
+#[test]
+fn reliable_messages_arrive_where_a_tenth_is_lost(rt: HostRuntime) {
+    for seed in [2, 3, 4] {
+        runs(&rt, rt.alloc(), seed, 10, Effort::Reliable);
+    }
+}
