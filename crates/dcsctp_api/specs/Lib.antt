@@ -1,7 +1,7 @@
 pub mod Calls
 pub mod Cookie
 pub mod Events
-pub mod Ids
+pub mod Messages
 pub mod Time
 pub use Rattle.dcsctp_machine.specs.Event
 pub use Rattle.dcsctp_machine.specs.Offer

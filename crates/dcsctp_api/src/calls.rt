@@ -1,15 +1,17 @@
 //! The calls of a socket.
 
-ghost use Rattle.std.specs.Prelude.{◌≡◌, true, false, IsOk, ◌<◌};
+ghost use Rattle.std.specs.Prelude.{◌≡◌, true, false, IsOk, ◌<◌, map, length};
 ghost use Rattle.dcsctp_api.specs.Calls.{UserView, PollsEvent, HandlesInput, Connects, Closes, Sets, with_setting, stream_shown, is_closed, socket_state_of};
+ghost use Rattle.dcsctp_api.specs.Messages.{Sends, SendsMany, TakesNext, ready_messages};
+ghost use Rattle.dcsctp_machine.specs.Transfer.{message_content};
 ghost use Rattle.dcsctp_machine.specs.turns.SettingOutcomes.{stream_priority, stream_low_threshold, longest_message};
 ghost use Rattle.dcsctp_machine.specs.TimeTurns.{Waits, next_moment};
 ghost use Rattle.dcsctp_api.specs.Time.{Advances, OnlyMovesClock};
 
-use crate::errors::SocketFault;
+use crate::errors::{BatchSendError, SendError, SocketFault};
 use crate::events::SocketEvent;
 use crate::state::SocketState;
-use dcsctp_machine::{Options, SocketTime, StreamId};
+use dcsctp_machine::{Message, Options, SendOptions, SocketTime, StreamId};
 
 /// The calls of an SCTP socket that makes no system call: packets go in, events come out.
 ///
@@ -71,6 +73,38 @@ pub trait DcSctpSocket {
     /// T1's deadline, and where it is open the first of its heartbeats'. It takes no memory.
     fn poll_timeout(&self) -> SocketTime
         ensures { result ≡ next_moment (user_view self.now).endpoint };
+
+    /// Sends a message: it waits behind the others of its stream, and where a peer is held, what waits goes
+    /// out as far as the windows allow (RFC 9260, section 6.1). On a closed socket, and while an association
+    /// is set up, it is kept. One that is refused is told: `SocketEvent::OnLifecycleEnd` where it has a name,
+    /// then `SocketEvent::OnError`; nothing else changes then, and nothing goes out.
+    fn send(
+        &mut self,
+        message: Message,
+        options: &SendOptions,
+    ) -> Result<Result<(), SendError>, SocketFault>
+        ensures { Sends (message_content message) options.now (user_view self.old) result
+            (user_view self.new) };
+
+    /// Sends several messages, all in one way, as `send` does one after another, but that what waits goes out
+    /// once, behind the last, where one of them was taken. Where there are none, nothing happens.
+    fn send_many(
+        &mut self,
+        messages: Vec<Message>,
+        options: &SendOptions,
+    ) -> Result<Result<(), BatchSendError>, SocketFault>
+        ensures { SendsMany (map message_content messages.items) options.now (user_view self.old) result
+            (user_view self.new) };
+
+    /// Takes the message that became ready first, where one is ready, and gives its bytes back to the receive
+    /// window. It takes no memory, and does so on a socket that has failed, too. A new association begins
+    /// without messages, and those that weren't taken when one ended are lost.
+    fn get_next_message(&mut self) -> Option<Message>
+        ensures { TakesNext (user_view self.old) result (user_view self.new) };
+
+    /// How many messages are ready to be taken. It takes no memory.
+    fn messages_ready_count(&self) -> usize
+        ensures { result ≡ length (ready_messages (user_view self.now).endpoint) };
 
     /// The state of the association.
     fn state(&self) -> SocketState

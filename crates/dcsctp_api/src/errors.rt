@@ -15,6 +15,33 @@ pub enum SocketFault {
     Failed,
 }
 
+/// Why a socket takes no message. Of several reasons the first in the order of `EmptyPayload`,
+/// `MessageTooLarge`, `ShuttingDown` and `ResourceExhaustion` is told.
+#[derive(Clone, Copy, Debug, PartialEq, Eq, Error)]
+pub enum SendError {
+    /// The payload is empty.
+    #[error("message payload cannot be empty")]
+    EmptyPayload,
+
+    /// The payload has more bytes, `len`, than a message may have, `limit`.
+    #[error("message size ({len}) exceeds configured max_message_size ({limit})")]
+    MessageTooLarge { len: usize, limit: usize },
+
+    /// As much waits to be sent as may wait: in all, or on the stream of the message.
+    #[error("send queue is full")]
+    ResourceExhaustion,
+
+    /// The association is being shut down (RFC 9260, section 9.2).
+    #[error("socket is shutting down or closed")]
+    ShuttingDown,
+}
+
+/// Of messages that were sent together those that were refused, in ascending order: the place of each
+/// among them, from 0, and why. The others were taken. It names one at least.
+#[derive(Debug, PartialEq, Eq, Drop, Error)]
+#[error("batch send failed with errors: {0:?}")]
+pub struct BatchSendError(pub Vec<(usize, SendError)>);
+
 /// A refused allocation is `OutOfMemory`.
 impl From<AllocError> for SocketFault {
     ghost use Rattle.std.specs.Prelude.{◌≡◌};

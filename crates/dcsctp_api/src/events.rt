@@ -1,7 +1,6 @@
 //! What a socket has to tell its user, and the queue in which that waits.
 
-use crate::ids::LifecycleId;
-use dcsctp_machine::{ErrorKind, StreamId};
+use dcsctp_machine::{ErrorKind, LifecycleId, StreamId};
 use std::alloc::{AllocError, Global};
 use std::collections::VecDeque;
 use std::marker::Model;

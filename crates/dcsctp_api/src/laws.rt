@@ -5,15 +5,13 @@ ghost use Rattle.std.specs.Prelude.{◌≡◌, ◌↔◌, ℕ, IsTrue, false};
 ghost use Rattle.std.specs.Cmp.{IsTotalOrder};
 ghost use Rattle.std.specs.Ordering.{nat_cmp};
 ghost use Rattle.dcsctp_api.specs.Cookie.{StateCookieReadsBack};
-ghost use Rattle.dcsctp_api.specs.Ids.{lifecycle_number};
-ghost use Rattle.dcsctp_api.specs.declared.ids.LifecycleId.{LifecycleId};
+ghost use Rattle.dcsctp_machine.specs.Ids.{lifecycle_number};
+ghost use Rattle.dcsctp_machine.specs.declared.ids.LifecycleId.{LifecycleId};
 ghost use Rattle.dcsctp_machine.specs.declared.ids.StreamId.{StreamId};
-ghost use Rattle.dcsctp_api.specs.declared.ids.PpId.{PpId};
-ghost use Rattle.dcsctp_api.specs.declared.message.SendOptions.{SendOptions};
+ghost use Rattle.dcsctp_machine.specs.declared.ids.PpId.{PpId};
+ghost use Rattle.dcsctp_machine.specs.declared.message.SendOptions.{SendOptions};
 
-use crate::ids::{LifecycleId, PpId};
-use crate::message::SendOptions;
-use dcsctp_machine::{SocketTime, StreamId, cookie_reads_back};
+use dcsctp_machine::{LifecycleId, PpId, SendOptions, SocketTime, StreamId, cookie_reads_back};
 use std::hash::Hash;
 
 /// Moments are compared by their nanoseconds: `==` holds of equal ones alone, and `cmp`, `<` and the

@@ -6,26 +6,22 @@
 mod calls;
 mod errors;
 mod events;
-mod ids;
 mod laws;
-mod message;
 mod state;
 mod state_cookie;
 
 pub use calls::DcSctpSocket;
 pub use dcsctp_machine::{
-    Association, Capabilities, ErrorKind, Held, Options, Pair, Phase,
-    ReconfigurationResponseResult, SctpImplementation, SocketTime, StreamId, Word,
+    Association, Capabilities, ErrorKind, Held, LifecycleId, Message, Options, Pair, Phase, PpId,
+    ReconfigurationResponseResult, SctpImplementation, SendOptions, SocketTime, StreamId, Word,
     ZERO_CHECKSUM_ALTERNATE_ERROR_DETECTION_METHOD_LOWER_LAYER_DTLS,
     ZERO_CHECKSUM_ALTERNATE_ERROR_DETECTION_METHOD_NONE, ZeroChecksumAlternateErrorDetectionMethod,
 };
-pub use errors::SocketFault;
+pub use errors::{BatchSendError, SendError, SocketFault};
 pub use events::{Events, SocketEvent};
-pub use ids::{LifecycleId, PpId};
 pub use laws::{
     lifecycle_id_hash, lifecycle_id_order, pp_id_hash, send_options_default, socket_time_order,
     state_cookie_reads_back, stream_id_hash, stream_id_order,
 };
-pub use message::{Message, SendOptions};
 pub use state::SocketState;
 pub use state_cookie::StateCookie;

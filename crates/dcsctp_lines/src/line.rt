@@ -4,7 +4,7 @@ ghost use Rattle.std.specs.Prelude.{◌≡◌, ◌↔◌, ◌*◌, Some, codes};
 
 use crate::bytes::bytes_of;
 use crate::numbers::number;
-use dcsctp_machine::{Side, SocketTime};
+use dcsctp_machine::{Side, SocketTime, StreamId};
 use std::alloc::{AllocError, Global};
 use std::time::Duration;
 
@@ -22,6 +22,12 @@ pub enum Command {
 
     /// This socket is handed these bytes, from outside.
     Input(Side, Vec<u8>),
+
+    /// The user of this socket sends a message of this stream and these bytes.
+    Send(Side, StreamId, Vec<u8>),
+
+    /// The user of this socket takes a message, which is printed.
+    Receive(Side),
 
     /// The association of this socket is printed.
     Show(Side),
@@ -86,6 +92,7 @@ fn plain_line<'a>(keyword: &str, name: &str) -> Option<Line<'a>> {
         "connect" => Command::Connect(side),
         "close" => Command::Close(side),
         "show" => Command::Show(side),
+        "recv" => Command::Receive(side),
         "state" => Command::State(side),
         "timeout" => Command::Timeout(side),
         _ => return None,
@@ -100,11 +107,34 @@ fn line_with_rest<'a>(
     side: Side,
     rest: &'a str,
 ) -> Result<Option<Line<'a>>, AllocError> {
-    if keyword != "input" {
-        return Ok(line_with_text(keyword, side, rest));
+    match keyword {
+        "input" => input_line(alloc, side, rest),
+        "send" => send_line(alloc, side, rest),
+        _ => Ok(line_with_text(keyword, side, rest)),
     }
-    match bytes_of(alloc, rest)? {
+}
+
+// A line that hands in these bytes. The one error is want of memory.
+fn input_line<'a>(alloc: Global, side: Side, text: &str) -> Result<Option<Line<'a>>, AllocError> {
+    match bytes_of(alloc, text)? {
         Some(bytes) => Ok(Some(Line::Command(Command::Input(side, bytes)))),
+        None => Ok(None),
+    }
+}
+
+// A line that sends a message: its stream, and then its bytes. The one error is want of memory.
+fn send_line<'a>(alloc: Global, side: Side, rest: &str) -> Result<Option<Line<'a>>, AllocError> {
+    let Some((stream, text)) = rest.split_once(' ') else {
+        return Ok(None);
+    };
+    let Some(stream) = number(stream, 0xffff) else {
+        return Ok(None);
+    };
+    match bytes_of(alloc, text)? {
+        Some(payload) => {
+            let command = Command::Send(side, StreamId(stream as u16), payload);
+            Ok(Some(Line::Command(command)))
+        }
         None => Ok(None),
     }
 }

@@ -7,7 +7,7 @@ use Rattle.dcsctp_machine.specs.declared.schedule.Side.{Side}
 use Rattle.dcsctp_machine.specs.declared.schedule.Side.TheVariants as sides
 use Rattle.dcsctp_machine.specs.declared.ends.AbortReason.TheVariants.{CloseCalled, TooManyErrors}
 use Rattle.dcsctp_machine.specs.declared.ends.AbortReason.{AbortReason}
-use Rattle.dcsctp_machine.specs.Schedule.{connect_call, close_call, advance_call, set_call, StepContent, call_step, delivery_step, OutsideContent, input_outside, ActContent, step_act, outside_act}
+use Rattle.dcsctp_machine.specs.Schedule.{connect_call, close_call, advance_call, set_call, send_call, send_many_call, take_call, StepContent, call_step, delivery_step, OutsideContent, input_outside, ActContent, step_act, outside_act}
 use Rattle.dcsctp_wire.specs.Content.{ChunkContent}
 use Rattle.dcsctp_machine.specs.Packet.{Content, init, init_ack, cookie_echo, cookie_ack, re_config, abort, shutdown, shutdown_ack, shutdown_complete, plain, Packet, content_in, packet_in}
 use Rattle.dcsctp_machine.specs.Admission.{Admission, all_chunks, shutdown_acks_alone, refused, admits, shutdown_acks_in}
@@ -17,7 +17,7 @@ use Rattle.dcsctp_machine.specs.control.Acts.{connect, abort_with, t1_expires, f
 use Rattle.dcsctp_machine.specs.Turn.{Input, arrival, refusal, packet_begins, chunk_input, packet_ends, act_input, user_sets, user_sends, user_takes, timer_expires, time_passes, unreadable_text}
 use Rattle.dcsctp_machine.specs.TimeTurns.{Timer, t1_timer, own_timer, timers_in, deadline, has_come, has_restart, expiry_input, inputs_behind, after_expiries, ExpiryThen, ExpiryTurns, MomentTurns, TimeTurns}
 use Rattle.dcsctp_machine.specs.turns.HeartbeatOutcomes.{is_exhausted}
-use Rattle.dcsctp_machine.specs.turns.MessageOutcomes.{Sending}
+use Rattle.dcsctp_machine.specs.turns.MessageOutcomes.{Sending, sending_of}
 use Rattle.dcsctp_machine.specs.turns.OwnTimers.{OwnTimer}
 use Rattle.dcsctp_machine.specs.turns.SettingOutcomes.{Setting}
 use Rattle.dcsctp_machine.specs.CallTurns.{Turned, IsTurn, Turns, AlongTurns, AfterChunk, ChunkTurns, WholeTurns, AdmittedTurns, HandleInput, unreadable, readable, after_all}
@@ -192,6 +192,11 @@ module _ (Good : Endpoint → Turned → Type 0) (May : Input → Type 0) (come 
   step_along e packets (call_step side close_call) ts turns = turns_along e (act_input (abort_with CloseCalled) ∷ []) ts (come.aborts CloseCalled, tt) turns
   step_along e packets (call_step side (advance_call moment)) ts turns = time_along (nat_le e.moment moment) e moment ts turns
   step_along e packets (call_step side (set_call setting)) ts turns = turns_along e (user_sets setting ∷ []) ts (come.sets setting, tt) turns
+  step_along e packets (call_step side (send_call message options)) ts turns =
+      turns_along e (user_sends (sending_of options message ∷ []) ∷ []) ts (come.sends (sending_of options message ∷ []), tt) turns
+  step_along e packets (call_step side (send_many_call messages options)) ts turns =
+      turns_along e (user_sends (map (sending_of options) messages) ∷ []) ts (come.sends (map (sending_of options) messages), tt) turns
+  step_along e packets (call_step side take_call) ts turns = turns_along e (user_takes ∷ []) ts (come.takes, tt) turns
   step_along e packets (delivery_step side number) ts turns = delivery_along e (numbered number packets) ts turns
 
   outside_along : (e : Endpoint) (outside : OutsideContent) (ts : List Turned) → OutsideTurns e outside ts → AlongTurns Good e ts

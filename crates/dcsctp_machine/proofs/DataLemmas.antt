@@ -8,7 +8,7 @@ use Rattle.dcsctp_machine.specs.Settings.{SameOptions}
 use Rattle.dcsctp_machine.specs.Event.{Event, error}
 use Rattle.dcsctp_machine.specs.Packet.{Plain, plain, unworked, error_of, Content, Emission}
 use Rattle.dcsctp_wire.specs.Content.{no_user_data}
-use Rattle.dcsctp_machine.specs.Transfer.{ReadyMessage, TrackerState, Transfer}
+use Rattle.dcsctp_machine.specs.Transfer.{MessageContent, TrackerState, Transfer}
 use Rattle.dcsctp_machine.specs.Endpoint.{Endpoint, Core, closed, cookie_wait, cookie_echoed, open_in, OpenPhase, established, shutdown_pending, shutdown_sent, shutdown_received, shutdown_ack_sent, held_in}
 use Rattle.dcsctp_machine.specs.Following.{next_chunk}
 use Rattle.dcsctp_machine.specs.Outcome.{Outcome, still, quiet, sends, fits, to_peer, behind, then_outcome}
@@ -259,7 +259,7 @@ end_at e (Some transfer) o turn = end_where_at turn.0.is_acknowledgement_due e e
 
 -- ---- what the user takes and sends
 
-take_where_at : (e : Endpoint) (transfer : Transfer) (messages : List ReadyMessage) (o : Outcome) → TakeWhere e transfer messages o → FlushedAt e e.core o
+take_where_at : (e : Endpoint) (transfer : Transfer) (messages : List MessageContent) (o : Outcome) → TakeWhere e transfer messages o → FlushedAt e e.core o
 take_where_at e transfer [] o turn = flushed_as e e.core o (still e) turn (still_at e e e.core refl refl)
 take_where_at e transfer (message ∷ messages) o turn = flushed_as e e.core o (still (with_transfer e turn.0)) turn.2 (still_at e (with_transfer e turn.0) e.core refl refl)
 

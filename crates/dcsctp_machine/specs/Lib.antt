@@ -4,6 +4,7 @@ pub mod Cause
 pub mod Cookie
 pub mod Endpoint
 pub mod Event
+pub mod Ids
 pub mod Offer
 pub mod Outcome
 pub mod Packet

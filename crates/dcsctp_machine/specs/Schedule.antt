@@ -1,6 +1,7 @@
 -- What is done to two sockets, by what it says: two acts that say the same are one, wherever they stand in memory.
-use Rattle.std.specs.Prelude.{ℕ, List}
+use Rattle.std.specs.Prelude.{ℕ, List, map}
 use Rattle.std.specs.List.{AllByRecursion}
+use Rattle.dcsctp_machine.specs.declared.message.SendOptions.{SendOptions}
 use Rattle.dcsctp_machine.specs.declared.schedule.Side.{Side}
 use Rattle.dcsctp_machine.specs.declared.schedule.Call.{Call}
 use Rattle.dcsctp_machine.specs.declared.schedule.Call.TheVariants as calls
@@ -10,6 +11,7 @@ use Rattle.dcsctp_machine.specs.declared.schedule.Outside.{Outside}
 use Rattle.dcsctp_machine.specs.declared.schedule.Outside.TheVariants as outsides
 use Rattle.dcsctp_machine.specs.declared.schedule.Act.{Act}
 use Rattle.dcsctp_machine.specs.declared.schedule.Act.TheVariants as acts
+use Rattle.dcsctp_machine.specs.Transfer.{MessageContent, message_content}
 use Rattle.dcsctp_machine.specs.turns.SettingOutcomes.{Setting, stream_priority, stream_low_threshold, longest_message}
 
 -- a call of a socket's user, with what it hands over
@@ -19,6 +21,12 @@ pub data CallContent : Type 0 where
   -- the present moment
   advance_call : ℕ → CallContent
   set_call : Setting → CallContent
+  -- a message that is to be sent, and how
+  send_call : MessageContent → SendOptions → CallContent
+  -- several of them, all in one way
+  send_many_call : List MessageContent → SendOptions → CallContent
+  -- The message that became ready first is taken.
+  take_call : CallContent
 
 -- a step of a schedule
 pub data StepContent : Type 0 where
@@ -45,6 +53,9 @@ call_content (calls.AdvanceTime moment) = advance_call moment
 call_content (calls.SetStreamPriority id priority) = set_call (stream_priority id.0 priority)
 call_content (calls.SetBufferedAmountLowThreshold id bytes) = set_call (stream_low_threshold id.0 bytes)
 call_content (calls.SetMaxMessageSize bytes) = set_call (longest_message bytes)
+call_content (calls.Send message options) = send_call (message_content message) options
+call_content (calls.SendMany messages options) = send_many_call (map message_content messages.items) options
+call_content calls.GetNextMessage = take_call
 
 abbrev pub step_content : Step → StepContent
 step_content (steps.Call side call) = call_step side (call_content call)

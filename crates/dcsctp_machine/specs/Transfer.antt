@@ -3,6 +3,7 @@ use Rattle.std.specs.List.{list_any}
 use Rattle.std.specs.Prelude.{◌==◌, ℕ, ◌+◌, ◌-◌, ◌*◌, ◌%◌, ◌^◌, min, nat_le, nat_lt, not, ◌&&◌, ◌||◌, Bool, true, false, Option, None, Some, is_some, List, [], ◌∷◌, map, if◌then◌else◌}
 use Rattle.std.specs.Duration.{as_nanos}
 use Rattle.dcsctp_machine.specs.declared.capabilities.Capabilities.{Capabilities}
+use Rattle.dcsctp_machine.specs.declared.message.Message.{Message}
 use Rattle.dcsctp_machine.specs.declared.options.Options.{Options}
 
 -- a number that goes with a stream
@@ -10,11 +11,14 @@ pub record StreamNumber : Type 0 where
   pub stream : ℕ
   pub number : ℕ
 
--- a message that waits to be taken by the user
-pub record ReadyMessage : Type 0 where
+-- what a message says: its stream, the protocol of its payload, and its bytes
+pub record MessageContent : Type 0 where
   pub stream : ℕ
   pub ppid : ℕ
   pub payload : List ℕ
+
+abbrev pub message_content : Message → MessageContent
+message_content message = record { stream = message.stream_id.0; ppid = message.ppid.0; payload = message.payload.items }
 
 -- ---- what outlasts an association
 
@@ -222,7 +226,7 @@ new_tracker peer_first_tsn =
 
 -- What was received and not taken.
 pub record ReassemblyState : Type 0 where
-  pub messages : List ReadyMessage
+  pub messages : List MessageContent
   pub messages_received : ℕ
   -- the receive window, and what is left of it, in bytes
   pub window : ℕ

@@ -8,6 +8,7 @@ mod ends;
 mod ids;
 mod kinds;
 mod laws;
+mod message;
 mod options;
 mod schedule;
 mod time;
@@ -17,7 +18,7 @@ pub use association::{Association, Held, Pair, Phase};
 pub use capabilities::Capabilities;
 pub use dcsctp_wire::ReconfigurationResponseResult;
 pub use ends::{AbortReason, Violation};
-pub use ids::StreamId;
+pub use ids::{LifecycleId, PpId, StreamId};
 pub use kinds::{
     BackoffAlgorithm, ErrorKind, SctpImplementation,
     ZERO_CHECKSUM_ALTERNATE_ERROR_DETECTION_METHOD_LOWER_LAYER_DTLS,
@@ -30,6 +31,7 @@ pub use laws::{
     options_fit, packets_are_controlled, refused_packet_adds_one_error, sockets_keep_options,
     time_passes_quietly, timers_are_controlled,
 };
+pub use message::{Message, SendOptions, copied_messages};
 pub use options::Options;
 pub use schedule::{Act, Call, Outside, Side, Step};
 pub use time::SocketTime;

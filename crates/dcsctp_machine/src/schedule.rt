@@ -1,7 +1,12 @@
 //! What happens to two sockets: calls of their users, deliveries, and what comes from outside.
 
+ghost use Rattle.std.specs.Prelude.{◌≡◌, IfOk};
+ghost use Rattle.dcsctp_machine.specs.Schedule.{call_content, step_content};
+
 use crate::ids::StreamId;
+use crate::message::{Message, SendOptions, copied_messages};
 use crate::time::SocketTime;
+use std::alloc::AllocError;
 
 /// One of two sockets.
 #[derive(Clone, Copy, Debug, PartialEq, Eq)]
@@ -14,7 +19,7 @@ pub enum Side {
 }
 
 /// A call of a socket's user.
-#[derive(Clone, Copy, Debug, PartialEq, Eq)]
+#[derive(Debug, PartialEq, Eq, Drop)]
 pub enum Call {
     /// It begins an association (RFC 9260, section 5.1).
     Connect,
@@ -33,10 +38,19 @@ pub enum Call {
 
     /// It says how many bytes a message may have.
     SetMaxMessageSize(usize),
+
+    /// It sends a message.
+    Send(Message, SendOptions),
+
+    /// It sends several messages, all in one way.
+    SendMany(Vec<Message>, SendOptions),
+
+    /// It takes the message that became ready first.
+    GetNextMessage,
 }
 
 /// A step of a schedule.
-#[derive(Clone, Copy, Debug, PartialEq, Eq)]
+#[derive(Debug, PartialEq, Eq, Drop)]
 pub enum Step {
     /// The user of this socket calls.
     Call(Side, Call),
@@ -44,6 +58,41 @@ pub enum Step {
     /// This socket is handed the other's packet of this number, counted from 1 over all that the other
     /// ever emitted. A number that names none changes no socket.
     Deliver(Side, usize),
+}
+
+impl Call {
+    /// A call that says the same. The one error is want of memory.
+    pub fn copied(&self) -> Result<Call, AllocError>
+        ensures { IfOk result (λ copy. call_content copy ≡ call_content self.now) }
+    {
+        match self {
+            Call::Connect => Ok(Call::Connect),
+            Call::Close => Ok(Call::Close),
+            Call::AdvanceTime(now) => Ok(Call::AdvanceTime(*now)),
+            Call::SetStreamPriority(id, priority) => Ok(Call::SetStreamPriority(*id, *priority)),
+            Call::SetBufferedAmountLowThreshold(id, bytes) => {
+                Ok(Call::SetBufferedAmountLowThreshold(*id, *bytes))
+            }
+            Call::SetMaxMessageSize(bytes) => Ok(Call::SetMaxMessageSize(*bytes)),
+            Call::Send(message, options) => Ok(Call::Send(message.copied()?, *options)),
+            Call::SendMany(messages, options) => {
+                Ok(Call::SendMany(copied_messages(messages)?, *options))
+            }
+            Call::GetNextMessage => Ok(Call::GetNextMessage),
+        }
+    }
+}
+
+impl Step {
+    /// A step that says the same. The one error is want of memory.
+    pub fn copied(&self) -> Result<Step, AllocError>
+        ensures { IfOk result (λ copy. step_content copy ≡ step_content self.now) }
+    {
+        match self {
+            Step::Call(side, call) => Ok(Step::Call(*side, call.copied()?)),
+            Step::Deliver(side, number) => Ok(Step::Deliver(*side, *number)),
+        }
+    }
 }
 
 /// What happens to two sockets from outside, which no network between them does.

@@ -2,9 +2,11 @@
 //! of itself.
 #![tactic(auto)]
 
+mod messages;
 mod packet_text;
 mod printing;
 mod showing;
 
+pub use messages::{print_refusal, print_taken};
 pub use printing::print_event;
 pub use showing::{print_association, print_state, print_timeout};

@@ -9,7 +9,7 @@ use Rattle.std.specs.declared.cmp.Ordering.TheVariants.{Less, Equal, Greater}
 use Rattle.std.proofs.lemmas.Map.Lookups.{exact_unsigned}
 use Rattle.std.specs.List.{list_any}
 use Rattle.dcsctp_machine.specs.declared.ids.StreamId.{StreamId}
-use Rattle.dcsctp_api.specs.Ids.{stream_numbers}
+use Rattle.dcsctp_machine.specs.Ids.{stream_numbers}
 use Rattle.dcsctp_reassembly.specs.Queue.{names_stream}
 use Rattle.dcsctp_reassembly.specs.declared.stream.Stream.{Stream}
 use Rattle.dcsctp_reassembly.specs.Streams.{stream_of, new_stream}

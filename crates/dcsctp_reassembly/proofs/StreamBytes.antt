@@ -4,7 +4,7 @@ use Rattle.std.specs.Prelude.{nat_le, nat_lt, not}
 use Rattle.std.specs.List.{filter}
 use Rattle.std.proofs.lemmas.List.Sums.{sum_by-append, sum_by-cons, sum_by-take-drop}
 use Rattle.std.proofs.lemmas.Bool.Decides.{nat_tests}
-use Rattle.dcsctp_machine.specs.Transfer.{ReadyMessage}
+use Rattle.dcsctp_machine.specs.Transfer.{MessageContent}
 use Rattle.dcsctp_reassembly.specs.declared.arrivals.Numbering.{Numbering}
 use Rattle.dcsctp_reassembly.specs.declared.arrivals.Numbering.TheVariants.{Ordered, Unordered, InterleavedOrdered, InterleavedUnordered}
 use Rattle.dcsctp_reassembly.specs.declared.arrivals.SkippedTo.{SkippedTo}
@@ -19,7 +19,7 @@ use Rattle.dcsctp_reassembly.specs.Runs.{RunModel, PartModel, WholeModel, is_wit
 use Rattle.dcsctp_reassembly.specs.Streams.{StreamModel, ChunkModel, delivered_as, due, not_due, next_after, next_past, deliveries_from, ready_with, TakesWhole, WaitsAmong, OrderedOutcome, TakesOrdered, UnorderedOutcome, TakesUnordered, TakesInOrder, TakesOutOfOrder, TakesApart, TakesNumbered, TakesOnStream, skipped, skip_deliveries, skip_bytes}
 use Rattle.dcsctp_reassembly.proofs.PartBytes.{PartCounted, part_counted}
 
-abbrev size_of_message : ReadyMessage → ℕ
+abbrev size_of_message : MessageContent → ℕ
 size_of_message message = length message.payload
 
 abbrev size_of_whole : WholeModel → ℕ
@@ -50,11 +50,11 @@ waits_bytes whole old new waits =
 -- ---- data
 
 -- The bytes of a stream and of what is ready grow by those that are kept, which the chunk has.
-pub record Counted (size : ℕ) (old : StreamModel) (before : List ReadyMessage) (taken : Taken) (new : StreamModel) (after : List ReadyMessage) : Type 0 where
+pub record Counted (size : ℕ) (old : StreamModel) (before : List MessageContent) (taken : Taken) (new : StreamModel) (after : List MessageContent) : Type 0 where
   pub kept : taken.kept_bytes ≤ size
   pub bytes : stream_bytes new + ready_bytes after ≡ stream_bytes old + ready_bytes before + taken.kept_bytes
 
-whole_counted : (whole : WholeModel) (old : StreamModel) (before : List ReadyMessage) (size : ℕ) (taken : Taken) (new : StreamModel) (after : List ReadyMessage) → TakesWhole whole old before size taken new after → wholes_bytes new.waiting + ready_bytes after ≡ wholes_bytes old.waiting + ready_bytes before + length whole.payload
+whole_counted : (whole : WholeModel) (old : StreamModel) (before : List MessageContent) (size : ℕ) (taken : Taken) (new : StreamModel) (after : List MessageContent) → TakesWhole whole old before size taken new after → wholes_bytes new.waiting + ready_bytes after ≡ wholes_bytes old.waiting + ready_bytes before + length whole.payload
 whole_counted whole old before size taken new after takes = go (whole.number == old.next) takes.ready takes.waiting
   where
     go : (is_next : Bool) → after ≡ (if is_next then before ++ ready_with old whole else before) → MatchBool is_next (new.waiting ≡ not_due (next_after old.next whole) old.waiting) (WaitsAmong whole old.waiting new.waiting) → wholes_bytes new.waiting + ready_bytes after ≡ wholes_bytes old.waiting + ready_bytes before + length whole.payload
@@ -69,7 +69,7 @@ whole_counted whole old before size taken new after takes = go (whole.number == 
         )
     go false ready waiting = omega (arith, ap ready_bytes ready, waits_bytes whole old.waiting new.waiting waiting)
 
-ordered_counted : (part : PartModel) (old : StreamModel) (before : List ReadyMessage) (taken : Taken) (new : StreamModel) (after : List ReadyMessage) → TakesOrdered part old before taken new after → Counted (length part.payload) old before taken new after
+ordered_counted : (part : PartModel) (old : StreamModel) (before : List MessageContent) (taken : Taken) (new : StreamModel) (after : List MessageContent) → TakesOrdered part old before taken new after → Counted (length part.payload) old before taken new after
 ordered_counted part old before taken new after takes = go takes.outcome (part_counted part old.ordered takes.outcome new.ordered takes.parts) takes.does
   where
     go : (outcome : Assembled) → PartCounted part old.ordered outcome new.ordered → OrderedOutcome part old before outcome taken new after → Counted (length part.payload) old before taken new after
@@ -80,7 +80,7 @@ ordered_counted part old before taken new after takes = go takes.outcome (part_c
     go (WholeMessage whole) counted does =
         record { kept = omega (arith, does.kept); bytes = omega (arith, counted, does.kept, whole_counted (whole_of whole) old before (length part.payload) taken new after does, ap runs_bytes takes.unordered.1) }
 
-pub unordered_counted : (part : PartModel) (id : ℕ) (old : List RunModel) (before : List ReadyMessage) (taken : Taken) (new : List RunModel) (after : List ReadyMessage) → TakesUnordered part (delivered_as id) old before taken new after → (taken.kept_bytes ≤ length part.payload) × (runs_bytes new + ready_bytes after ≡ runs_bytes old + ready_bytes before + taken.kept_bytes)
+pub unordered_counted : (part : PartModel) (id : ℕ) (old : List RunModel) (before : List MessageContent) (taken : Taken) (new : List RunModel) (after : List MessageContent) → TakesUnordered part (delivered_as id) old before taken new after → (taken.kept_bytes ≤ length part.payload) × (runs_bytes new + ready_bytes after ≡ runs_bytes old + ready_bytes before + taken.kept_bytes)
 unordered_counted part id old before taken new after takes = go takes.outcome (part_counted part old takes.outcome new takes.parts) takes.does
   where
     go : (outcome : Assembled) → PartCounted part old outcome new → UnorderedOutcome part (delivered_as id) before outcome taken after → (taken.kept_bytes ≤ length part.payload) × (runs_bytes new + ready_bytes after ≡ runs_bytes old + ready_bytes before + taken.kept_bytes)
@@ -97,7 +97,7 @@ nat_lt-true m n is = grind (arith, nat_tests)
 nat_lt-false : (m n : ℕ) → nat_lt m n ≡ false → n ≤ m
 nat_lt-false m n is = grind (arith, nat_tests)
 
-in_order_counted : (part : PartModel) (old : StreamModel) (before : List ReadyMessage) (taken : Taken) (new : StreamModel) (after : List ReadyMessage) → TakesInOrder part old before taken new after → Counted (length part.payload) old before taken new after
+in_order_counted : (part : PartModel) (old : StreamModel) (before : List MessageContent) (taken : Taken) (new : StreamModel) (after : List MessageContent) → TakesInOrder part old before taken new after → Counted (length part.payload) old before taken new after
 in_order_counted part old before taken new after takes = go (nat_lt part.number old.next) refl
   where
     go : (is_past : Bool) → nat_lt part.number old.next ≡ is_past → Counted (length part.payload) old before taken new after
@@ -106,23 +106,23 @@ in_order_counted part old before taken new after takes = go (nat_lt part.number 
         record { kept = omega (arith, does.0.0); bytes = omega (arith, does.0.0, ap stream_bytes does.1, ap ready_bytes does.2) }
     go false ahead = ordered_counted part old before taken new after (takes.ahead (nat_lt-false part.number old.next ahead))
 
-out_of_order_counted : (part : PartModel) (old : StreamModel) (before : List ReadyMessage) (taken : Taken) (new : StreamModel) (after : List ReadyMessage) → TakesOutOfOrder part old before taken new after → Counted (length part.payload) old before taken new after
+out_of_order_counted : (part : PartModel) (old : StreamModel) (before : List MessageContent) (taken : Taken) (new : StreamModel) (after : List MessageContent) → TakesOutOfOrder part old before taken new after → Counted (length part.payload) old before taken new after
 out_of_order_counted part old before taken new after takes =
     let counted = unordered_counted part old.id old.unordered before taken new.unordered after takes.unordered in
     record { kept = counted.0; bytes = omega (arith, counted.1, ap wholes_bytes takes.others.2, ap runs_bytes takes.others.3) }
 
-apart_counted : (part : PartModel) (old : StreamModel) (before : List ReadyMessage) (taken : Taken) (new : StreamModel) (after : List ReadyMessage) → TakesApart part old before taken new after → Counted (length part.payload) old before taken new after
+apart_counted : (part : PartModel) (old : StreamModel) (before : List MessageContent) (taken : Taken) (new : StreamModel) (after : List MessageContent) → TakesApart part old before taken new after → Counted (length part.payload) old before taken new after
 apart_counted part old before taken new after takes =
     let counted = unordered_counted part old.id old.unordered before taken new.unordered after takes.unordered in
     record { kept = counted.0; bytes = omega (arith, counted.1, ap wholes_bytes takes.others.2, ap runs_bytes takes.others.3) }
 
-numbered_counted : (tsn : ℕ) (chunk : ChunkModel) (numbering : Numbering) (old : StreamModel) (before : List ReadyMessage) (taken : Taken) (new : StreamModel) (after : List ReadyMessage) → TakesNumbered tsn chunk numbering old before taken new after → Counted (length chunk.payload) old before taken new after
+numbered_counted : (tsn : ℕ) (chunk : ChunkModel) (numbering : Numbering) (old : StreamModel) (before : List MessageContent) (taken : Taken) (new : StreamModel) (after : List MessageContent) → TakesNumbered tsn chunk numbering old before taken new after → Counted (length chunk.payload) old before taken new after
 numbered_counted tsn chunk (Ordered ssn) old before taken new after takes = in_order_counted _ old before taken new after takes
 numbered_counted tsn chunk Unordered old before taken new after takes = apart_counted _ old before taken new after takes
 numbered_counted tsn chunk (InterleavedOrdered mid fsn) old before taken new after takes = in_order_counted _ old before taken new after takes
 numbered_counted tsn chunk (InterleavedUnordered mid fsn) old before taken new after takes = out_of_order_counted _ old before taken new after takes
 
-pub chunk_counted : (tsn : ℕ) (chunk : ChunkModel) (old : StreamModel) (before : List ReadyMessage) (taken : Taken) (new : StreamModel) (after : List ReadyMessage) → TakesOnStream tsn chunk old before taken new after → Counted (length chunk.payload) old before taken new after
+pub chunk_counted : (tsn : ℕ) (chunk : ChunkModel) (old : StreamModel) (before : List MessageContent) (taken : Taken) (new : StreamModel) (after : List MessageContent) → TakesOnStream tsn chunk old before taken new after → Counted (length chunk.payload) old before taken new after
 chunk_counted tsn chunk old before taken new after takes = numbered_counted tsn chunk chunk.numbering old before taken new after takes
 
 -- ---- skipped messages

@@ -1,7 +1,7 @@
 -- How many bytes the queue holds.
 use Rattle.std.specs.Prelude.{ℕ, ◌+◌, List, length}
 use Rattle.std.specs.List.{sum_by}
-use Rattle.dcsctp_machine.specs.Transfer.{ReadyMessage}
+use Rattle.dcsctp_machine.specs.Transfer.{MessageContent}
 use Rattle.dcsctp_reassembly.specs.Held.{runs_bytes, wholes_bytes}
 use Rattle.dcsctp_reassembly.specs.Streams.{StreamModel}
 
@@ -12,5 +12,5 @@ stream_bytes stream = wholes_bytes stream.waiting + runs_bytes stream.ordered + 
 abbrev pub streams_bytes : List (ℕ × StreamModel) → ℕ
 streams_bytes streams = sum_by (λ entry. stream_bytes entry.1) streams
 
-abbrev pub ready_bytes : List ReadyMessage → ℕ
+abbrev pub ready_bytes : List MessageContent → ℕ
 ready_bytes messages = sum_by (λ message. length message.payload) messages

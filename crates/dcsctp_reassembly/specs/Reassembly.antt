@@ -4,7 +4,7 @@ use Rattle.std.specs.Prelude.{◌≡◌, ℕ, ◌+◌, ◌-◌, ◌^◌, ◌≤�
 use Rattle.std.specs.BTreeMap.{is_at}
 use Rattle.std.specs.Ordering.{nat_cmp}
 use Rattle.std.specs.Map.{lookup}
-use Rattle.dcsctp_machine.specs.Transfer.{ReadyMessage}
+use Rattle.dcsctp_machine.specs.Transfer.{MessageContent, message_content}
 use Rattle.dcsctp_reassembly.specs.declared.arrivals.Numbering.{Numbering}
 use Rattle.dcsctp_reassembly.specs.declared.arrivals.Numbering.TheVariants.{Ordered, Unordered, InterleavedOrdered, InterleavedUnordered}
 use Rattle.dcsctp_reassembly.specs.declared.stream.Stream.{Stream}
@@ -14,13 +14,13 @@ use Rattle.dcsctp_reassembly.specs.Numbers.{number_near}
 use Rattle.dcsctp_reassembly.specs.Runs.{RunModel, run_of}
 use Rattle.dcsctp_reassembly.specs.Held.{runs_bytes}
 use Rattle.dcsctp_reassembly.specs.QueuedBytes.{ready_bytes, streams_bytes}
-use Rattle.dcsctp_reassembly.specs.Streams.{StreamModel, ChunkModel, stream_of, new_stream, ready_of, data_part, delivered_as, TakesUnordered, TakesOnStream}
+use Rattle.dcsctp_reassembly.specs.Streams.{StreamModel, ChunkModel, stream_of, new_stream, data_part, delivered_as, TakesUnordered, TakesOnStream}
 
 -- all that is kept of what came in
 pub record IncomingModel : Type 0 where
   -- how many messages became ready
   pub messages_received : ℕ
-  pub ready : List ReadyMessage
+  pub ready : List MessageContent
   -- the streams by their identifiers
   pub streams : List (ℕ × StreamModel)
   -- parts of unordered messages of DATA
@@ -35,7 +35,7 @@ abbrev pub incoming_of : Incoming → IncomingModel
 incoming_of incoming =
     record {
       messages_received = incoming.messages_received;
-      ready = map ready_of incoming.ready.items;
+      ready = map message_content incoming.ready.items;
       streams = map entry_of incoming.streams.entries;
       unordered = map run_of incoming.unordered.items;
       last_tsn_number = incoming.last_tsn_number;

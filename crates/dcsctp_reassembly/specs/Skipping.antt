@@ -3,7 +3,7 @@ use Rattle.std.specs.Prelude.{◌≡◌, ◌==◌, ℕ, ◌+◌, not, if◌then�
 use Rattle.std.specs.List.{filter}
 use Rattle.std.specs.BTreeMap.{BTreeMap, get}
 use Rattle.std.specs.Ordering.{nat_cmp}
-use Rattle.dcsctp_machine.specs.Transfer.{ReadyMessage}
+use Rattle.dcsctp_machine.specs.Transfer.{MessageContent}
 use Rattle.dcsctp_reassembly.specs.declared.arrivals.SkippedTo.{SkippedTo}
 use Rattle.dcsctp_reassembly.specs.declared.stream.Stream.{Stream}
 use Rattle.dcsctp_reassembly.specs.Numbers.{number_near}
@@ -30,7 +30,7 @@ skipped_by [] id stream = stream
 skipped_by (entry ∷ entries) id stream = skipped_by entries id (skipped_on entry id stream)
 
 -- what becomes ready then
-abbrev pub deliveries_by : List SkippedTo → (ℕ → StreamModel) → List ReadyMessage
+abbrev pub deliveries_by : List SkippedTo → (ℕ → StreamModel) → List MessageContent
 deliveries_by [] streams = []
 deliveries_by (entry ∷ entries) streams =
     skip_deliveries entry (streams (skipped_stream entry)) ++ deliveries_by entries (λ id. skipped_on entry id (streams id))

@@ -2,8 +2,8 @@
 -- section 3.6). Messages are numbered without wrap.
 use Rattle.std.specs.List.{filter}
 use Rattle.std.specs.Prelude.{◌≡◌, ◌==◌, ℕ, ◌+◌, ◌-◌, ◌^◌, ◌<◌, ◌≤◌, MatchBool, min, max, nat_le, take, drop, slice_get, if◌then◌else◌, not, Bool, true, false, Option, None, Some, List, [], ◌∷◌, ◌++◌, length, map}
-use Rattle.dcsctp_api.specs.declared.message.Message.{Message}
-use Rattle.dcsctp_machine.specs.Transfer.{ReadyMessage}
+use Rattle.dcsctp_machine.specs.declared.message.Message.{Message}
+use Rattle.dcsctp_machine.specs.Transfer.{MessageContent, message_content}
 use Rattle.dcsctp_reassembly.specs.declared.arrivals.Data.{Data}
 use Rattle.dcsctp_reassembly.specs.declared.arrivals.SkippedTo.{SkippedTo}
 use Rattle.dcsctp_reassembly.specs.declared.arrivals.SkippedTo.TheVariants.{Ssn, Mid}
@@ -44,12 +44,8 @@ stream_of stream =
 abbrev pub new_stream : ℕ → StreamModel
 new_stream id = record { id = id; next = 2 ^ 32; last_unordered = 2 ^ 32; waiting = []; ordered = []; unordered = [] }
 
--- a message that is ready, as the user takes it
-abbrev pub ready_of : Message → ReadyMessage
-ready_of message = record { stream = message.stream_id.0; ppid = message.ppid.0; payload = message.payload.items }
-
 -- a whole message, as the user takes it
-abbrev pub delivered_as : ℕ → WholeModel → ReadyMessage
+abbrev pub delivered_as : ℕ → WholeModel → MessageContent
 delivered_as id whole = record { stream = id; ppid = whole.ppid; payload = whole.payload }
 
 -- ---- delivery in order
@@ -76,7 +72,7 @@ abbrev pub delivered_from : ℕ → StreamModel → StreamModel
 delivered_from next stream = record stream { next = next_due next stream.waiting; waiting = not_due next stream.waiting }
 
 -- what is delivered then
-abbrev pub deliveries_from : ℕ → StreamModel → List ReadyMessage
+abbrev pub deliveries_from : ℕ → StreamModel → List MessageContent
 deliveries_from next stream = map (delivered_as stream.id) (due next stream.waiting)
 
 -- the number behind a skipped one, where that isn't before the next
@@ -92,7 +88,7 @@ abbrev pub KeptOnly : PartModel → Taken → Type 0
 KeptOnly part taken = (taken.kept_bytes ≡ length part.payload) × (taken.ready ≡ 0)
 
 -- the messages that become ready with an ordered one that is next: it and those that waited for it
-abbrev pub ready_with : StreamModel → WholeModel → List ReadyMessage
+abbrev pub ready_with : StreamModel → WholeModel → List MessageContent
 ready_with stream whole = delivered_as stream.id whole ∷ deliveries_from (next_after stream.next whole) stream
 
 -- Is the message, if there is one, numbered below the number, or not?
@@ -116,7 +112,7 @@ pub record WaitsAmong (whole : WholeModel) (old new : List WholeModel) : Type 0 
   pub waiting : new ≡ take at old ++ whole ∷ drop at old
 
 -- A whole ordered message: it is next, and becomes ready with those that waited for it; or it waits.
-pub record TakesWhole (whole : WholeModel) (old : StreamModel) (before : List ReadyMessage) (size : ℕ) (taken : Taken) (new : StreamModel) (after : List ReadyMessage) : Type 0 where
+pub record TakesWhole (whole : WholeModel) (old : StreamModel) (before : List MessageContent) (size : ℕ) (taken : Taken) (new : StreamModel) (after : List MessageContent) : Type 0 where
   pub kept : taken.kept_bytes ≡ size
   pub ready : after ≡ (if whole.number == old.next then before ++ ready_with old whole else before)
   pub count : taken.ready ≡ (if whole.number == old.next then length (ready_with old whole) else 0)
@@ -124,7 +120,7 @@ pub record TakesWhole (whole : WholeModel) (old : StreamModel) (before : List Re
   pub waiting : MatchBool (whole.number == old.next) (new.waiting ≡ not_due (next_after old.next whole) old.waiting) (WaitsAmong whole old.waiting new.waiting)
 
 -- What a part of an ordered message does, by what became of it.
-abbrev pub OrderedOutcome : PartModel → StreamModel → List ReadyMessage → Assembled → Taken → StreamModel → List ReadyMessage → Type 0
+abbrev pub OrderedOutcome : PartModel → StreamModel → List MessageContent → Assembled → Taken → StreamModel → List MessageContent → Type 0
 OrderedOutcome part old before Dropped taken new after = (new ≡ old) × (after ≡ before) × NothingTaken taken
 OrderedOutcome part old before Kept taken new after =
     (new.next ≡ old.next) × (new.waiting ≡ old.waiting) × (after ≡ before) × KeptOnly part taken
@@ -132,7 +128,7 @@ OrderedOutcome part old before (WholeMessage whole) taken new after =
     TakesWhole (whole_of whole) old before (length part.payload) taken new after
 
 -- A part of an ordered message, or a whole one, that isn't before the next.
-pub record TakesOrdered (part : PartModel) (old : StreamModel) (before : List ReadyMessage) (taken : Taken) (new : StreamModel) (after : List ReadyMessage) : Type 0 where
+pub record TakesOrdered (part : PartModel) (old : StreamModel) (before : List MessageContent) (taken : Taken) (new : StreamModel) (after : List MessageContent) : Type 0 where
   pub outcome : Assembled
   pub parts : AddsPart part old.ordered outcome new.ordered
   pub does : OrderedOutcome part old before outcome taken new after
@@ -140,14 +136,14 @@ pub record TakesOrdered (part : PartModel) (old : StreamModel) (before : List Re
   pub unordered : (new.last_unordered ≡ old.last_unordered) × (new.unordered ≡ old.unordered)
 
 -- What a part of an unordered message does, by what became of it: one that makes its message whole makes it ready.
-abbrev pub UnorderedOutcome : PartModel → (WholeModel → ReadyMessage) → List ReadyMessage → Assembled → Taken → List ReadyMessage → Type 0
+abbrev pub UnorderedOutcome : PartModel → (WholeModel → MessageContent) → List MessageContent → Assembled → Taken → List MessageContent → Type 0
 UnorderedOutcome part shown before Dropped taken after = (after ≡ before) × NothingTaken taken
 UnorderedOutcome part shown before Kept taken after = (after ≡ before) × KeptOnly part taken
 UnorderedOutcome part shown before (WholeMessage whole) taken after =
     (after ≡ before ++ shown (whole_of whole) ∷ []) × (taken.kept_bytes ≡ length part.payload) × (taken.ready ≡ 1)
 
 -- A part of an unordered message, or a whole one, of which these runs hold the parts.
-pub record TakesUnordered (part : PartModel) (shown : WholeModel → ReadyMessage) (old : List RunModel) (before : List ReadyMessage) (taken : Taken) (new : List RunModel) (after : List ReadyMessage) : Type 0 where
+pub record TakesUnordered (part : PartModel) (shown : WholeModel → MessageContent) (old : List RunModel) (before : List MessageContent) (taken : Taken) (new : List RunModel) (after : List MessageContent) : Type 0 where
   pub outcome : Assembled
   pub parts : AddsPart part old outcome new
   pub does : UnorderedOutcome part shown before outcome taken after
@@ -173,25 +169,25 @@ data_part chunk place number =
     record { place = place; number = number; ppid = chunk.ppid; payload = chunk.payload; is_beginning = chunk.is_beginning; is_end = chunk.is_end }
 
 -- A part of an ordered message, or a whole one: it is dropped where its message is before the next.
-pub record TakesInOrder (part : PartModel) (old : StreamModel) (before : List ReadyMessage) (taken : Taken) (new : StreamModel) (after : List ReadyMessage) : Type 0 where
+pub record TakesInOrder (part : PartModel) (old : StreamModel) (before : List MessageContent) (taken : Taken) (new : StreamModel) (after : List MessageContent) : Type 0 where
   pub past : part.number < old.next → NothingTaken taken × (new ≡ old) × (after ≡ before)
   pub ahead : old.next ≤ part.number → TakesOrdered part old before taken new after
 
 -- the same of an unordered I-DATA message
-pub record TakesOutOfOrder (part : PartModel) (old : StreamModel) (before : List ReadyMessage) (taken : Taken) (new : StreamModel) (after : List ReadyMessage) : Type 0 where
+pub record TakesOutOfOrder (part : PartModel) (old : StreamModel) (before : List MessageContent) (taken : Taken) (new : StreamModel) (after : List MessageContent) : Type 0 where
   pub unordered : TakesUnordered part (delivered_as old.id) old.unordered before taken new.unordered after
   pub last : new.last_unordered ≡ part.number
   pub others : (new.id ≡ old.id) × (new.next ≡ old.next) × (new.waiting ≡ old.waiting) × (new.ordered ≡ old.ordered)
 
 -- the same of an unordered message of DATA, whose parts go by their TSNs
-pub record TakesApart (part : PartModel) (old : StreamModel) (before : List ReadyMessage) (taken : Taken) (new : StreamModel) (after : List ReadyMessage) : Type 0 where
+pub record TakesApart (part : PartModel) (old : StreamModel) (before : List MessageContent) (taken : Taken) (new : StreamModel) (after : List MessageContent) : Type 0 where
   pub unordered : TakesUnordered part (delivered_as old.id) old.unordered before taken new.unordered after
   pub others : (new.id ≡ old.id) × (new.next ≡ old.next) × (new.waiting ≡ old.waiting) × (new.ordered ≡ old.ordered)
   pub last : new.last_unordered ≡ old.last_unordered
 
 -- Data of a stream came in, whose TSN has this number. The parts of an ordered message of DATA go by their TSNs, those of I-DATA
 -- by their fragment numbers.
-abbrev pub TakesNumbered : ℕ → ChunkModel → Numbering → StreamModel → List ReadyMessage → Taken → StreamModel → List ReadyMessage → Type 0
+abbrev pub TakesNumbered : ℕ → ChunkModel → Numbering → StreamModel → List MessageContent → Taken → StreamModel → List MessageContent → Type 0
 TakesNumbered tsn chunk (Ordered ssn) old before taken new after =
     TakesInOrder (data_part chunk tsn (short_number_near old.next ssn)) old before taken new after
 TakesNumbered tsn chunk Unordered old before taken new after = TakesApart (data_part chunk tsn 0) old before taken new after
@@ -200,7 +196,7 @@ TakesNumbered tsn chunk (InterleavedOrdered mid fsn) old before taken new after 
 TakesNumbered tsn chunk (InterleavedUnordered mid fsn) old before taken new after =
     TakesOutOfOrder (data_part chunk (fragment_place (number_near old.last_unordered mid) fsn) (number_near old.last_unordered mid)) old before taken new after
 
-abbrev pub TakesOnStream : ℕ → ChunkModel → StreamModel → List ReadyMessage → Taken → StreamModel → List ReadyMessage → Type 0
+abbrev pub TakesOnStream : ℕ → ChunkModel → StreamModel → List MessageContent → Taken → StreamModel → List MessageContent → Type 0
 TakesOnStream tsn chunk old before taken new after = TakesNumbered tsn chunk chunk.numbering old before taken new after
 
 -- ---- messages that are skipped (RFC 3758, section 3.6; RFC 8260, section 2.3.1)
@@ -234,7 +230,7 @@ skipped (Mid id false mid) stream = skipped_in_order (number_near stream.next mi
 skipped (Mid id true mid) stream = skipped_out_of_order (number_near stream.last_unordered mid) stream
 
 -- what becomes ready then
-abbrev pub skip_deliveries : SkippedTo → StreamModel → List ReadyMessage
+abbrev pub skip_deliveries : SkippedTo → StreamModel → List MessageContent
 skip_deliveries (Ssn id ssn) stream = deliveries_from (next_past (short_number_near stream.next ssn) stream.next) stream
 skip_deliveries (Mid id false mid) stream = deliveries_from (next_past (number_near stream.next mid) stream.next) stream
 skip_deliveries (Mid id true mid) stream = []

@@ -6,7 +6,8 @@ ghost use Rattle.std.specs.BTreeMap.{get};
 ghost use Rattle.std.specs.Ordering.{nat_cmp};
 ghost use Rattle.dcsctp_reassembly.specs.Held.{capped};
 ghost use Rattle.dcsctp_reassembly.specs.QueuedBytes.{ready_bytes, streams_bytes};
-ghost use Rattle.dcsctp_reassembly.specs.Streams.{chunk_of, ready_of, TakesOnStream};
+ghost use Rattle.dcsctp_machine.specs.Transfer.{message_content};
+ghost use Rattle.dcsctp_reassembly.specs.Streams.{chunk_of, TakesOnStream};
 ghost use Rattle.dcsctp_reassembly.specs.Reassembly.{
   incoming_of,
   entry_of,
@@ -77,10 +78,10 @@ fn take_on_made(
     ready: &mut VecDeque<Message>,
 ) -> Result<Taken, AllocError>
     requires { IsSome (get nat_cmp streams.old chunk.stream_id.0) }
-    ensures ok { IfOk result (λ taken. TakesOnStream tsn_number (chunk_of chunk) (stream_on chunk.stream_id.0 (map entry_of streams.old.entries)) (map ready_of ready.old.items) taken (stream_on chunk.stream_id.0 (map entry_of streams.new.entries)) (map ready_of ready.new.items)) }
+    ensures ok { IfOk result (λ taken. TakesOnStream tsn_number (chunk_of chunk) (stream_on chunk.stream_id.0 (map entry_of streams.old.entries)) (map message_content ready.old.items) taken (stream_on chunk.stream_id.0 (map entry_of streams.new.entries)) (map message_content ready.new.items)) }
     ensures others { (other : ℕ) → (other ≡ chunk.stream_id.0 → ⊥) → stream_on other (map entry_of streams.new.entries) ≡ stream_on other (map entry_of streams.old.entries) }
-    ensures bytes { IfOk result (λ taken. streams_bytes (map entry_of streams.new.entries) + ready_bytes (map ready_of ready.new.items) ≡ streams_bytes (map entry_of streams.old.entries) + ready_bytes (map ready_of ready.old.items) + taken.kept_bytes) }
-    ensures err { OnErr result ((map ready_of ready.new.items ≡ map ready_of ready.old.items) × (stream_on chunk.stream_id.0 (map entry_of streams.new.entries) ≡ stream_on chunk.stream_id.0 (map entry_of streams.old.entries)) × (streams_bytes (map entry_of streams.new.entries) ≡ streams_bytes (map entry_of streams.old.entries))) }
+    ensures bytes { IfOk result (λ taken. streams_bytes (map entry_of streams.new.entries) + ready_bytes (map message_content ready.new.items) ≡ streams_bytes (map entry_of streams.old.entries) + ready_bytes (map message_content ready.old.items) + taken.kept_bytes) }
+    ensures err { OnErr result ((map message_content ready.new.items ≡ map message_content ready.old.items) × (stream_on chunk.stream_id.0 (map entry_of streams.new.entries) ≡ stream_on chunk.stream_id.0 (map entry_of streams.old.entries)) × (streams_bytes (map entry_of streams.new.entries) ≡ streams_bytes (map entry_of streams.old.entries))) }
 {
     let stream = streams.get_mut(&chunk.stream_id.0).unwrap();
     let taken = stream.take(alloc, tsn_number, chunk, ready)?;
@@ -95,10 +96,10 @@ fn take_on_new(
     chunk: Data,
     ready: &mut VecDeque<Message>,
 ) -> Result<Taken, AllocError>
-    ensures ok { IfOk result (λ taken. TakesOnStream tsn_number (chunk_of chunk) (stream_on chunk.stream_id.0 (map entry_of streams.old.entries)) (map ready_of ready.old.items) taken (stream_on chunk.stream_id.0 (map entry_of streams.new.entries)) (map ready_of ready.new.items)) }
+    ensures ok { IfOk result (λ taken. TakesOnStream tsn_number (chunk_of chunk) (stream_on chunk.stream_id.0 (map entry_of streams.old.entries)) (map message_content ready.old.items) taken (stream_on chunk.stream_id.0 (map entry_of streams.new.entries)) (map message_content ready.new.items)) }
     ensures others { (other : ℕ) → (other ≡ chunk.stream_id.0 → ⊥) → stream_on other (map entry_of streams.new.entries) ≡ stream_on other (map entry_of streams.old.entries) }
-    ensures bytes { IfOk result (λ taken. streams_bytes (map entry_of streams.new.entries) + ready_bytes (map ready_of ready.new.items) ≡ streams_bytes (map entry_of streams.old.entries) + ready_bytes (map ready_of ready.old.items) + taken.kept_bytes) }
-    ensures err { OnErr result ((map ready_of ready.new.items ≡ map ready_of ready.old.items) × (stream_on chunk.stream_id.0 (map entry_of streams.new.entries) ≡ stream_on chunk.stream_id.0 (map entry_of streams.old.entries)) × (streams_bytes (map entry_of streams.new.entries) ≡ streams_bytes (map entry_of streams.old.entries))) }
+    ensures bytes { IfOk result (λ taken. streams_bytes (map entry_of streams.new.entries) + ready_bytes (map message_content ready.new.items) ≡ streams_bytes (map entry_of streams.old.entries) + ready_bytes (map message_content ready.old.items) + taken.kept_bytes) }
+    ensures err { OnErr result ((map message_content ready.new.items ≡ map message_content ready.old.items) × (stream_on chunk.stream_id.0 (map entry_of streams.new.entries) ≡ stream_on chunk.stream_id.0 (map entry_of streams.old.entries)) × (streams_bytes (map entry_of streams.new.entries) ≡ streams_bytes (map entry_of streams.old.entries))) }
 {
     make_stream(alloc, streams, chunk.stream_id)?;
     take_on_made(alloc, streams, tsn_number, chunk, ready)
@@ -113,10 +114,10 @@ fn take_on(
     chunk: Data,
     ready: &mut VecDeque<Message>,
 ) -> Result<Taken, AllocError>
-    ensures ok { IfOk result (λ taken. TakesOnStream tsn_number (chunk_of chunk) (stream_on chunk.stream_id.0 (map entry_of streams.old.entries)) (map ready_of ready.old.items) taken (stream_on chunk.stream_id.0 (map entry_of streams.new.entries)) (map ready_of ready.new.items)) }
+    ensures ok { IfOk result (λ taken. TakesOnStream tsn_number (chunk_of chunk) (stream_on chunk.stream_id.0 (map entry_of streams.old.entries)) (map message_content ready.old.items) taken (stream_on chunk.stream_id.0 (map entry_of streams.new.entries)) (map message_content ready.new.items)) }
     ensures others { (other : ℕ) → (other ≡ chunk.stream_id.0 → ⊥) → stream_on other (map entry_of streams.new.entries) ≡ stream_on other (map entry_of streams.old.entries) }
-    ensures bytes { IfOk result (λ taken. streams_bytes (map entry_of streams.new.entries) + ready_bytes (map ready_of ready.new.items) ≡ streams_bytes (map entry_of streams.old.entries) + ready_bytes (map ready_of ready.old.items) + taken.kept_bytes) }
-    ensures err { OnErr result ((map ready_of ready.new.items ≡ map ready_of ready.old.items) × (stream_on chunk.stream_id.0 (map entry_of streams.new.entries) ≡ stream_on chunk.stream_id.0 (map entry_of streams.old.entries)) × (streams_bytes (map entry_of streams.new.entries) ≡ streams_bytes (map entry_of streams.old.entries))) }
+    ensures bytes { IfOk result (λ taken. streams_bytes (map entry_of streams.new.entries) + ready_bytes (map message_content ready.new.items) ≡ streams_bytes (map entry_of streams.old.entries) + ready_bytes (map message_content ready.old.items) + taken.kept_bytes) }
+    ensures err { OnErr result ((map message_content ready.new.items ≡ map message_content ready.old.items) × (stream_on chunk.stream_id.0 (map entry_of streams.new.entries) ≡ stream_on chunk.stream_id.0 (map entry_of streams.old.entries)) × (streams_bytes (map entry_of streams.new.entries) ≡ streams_bytes (map entry_of streams.old.entries))) }
 {
     match streams.get_mut(&chunk.stream_id.0) {
         Some(stream) => {
@@ -219,9 +220,9 @@ impl Incoming {
 
     /// Takes the message that became ready first.
     pub fn next_message(&mut self) -> Option<Message>
-        ensures some { IfSome result (λ message. map ready_of self.old.ready.items ≡ ready_of message ∷ map ready_of self.new.ready.items) }
-        ensures left { IfSome result (λ _. incoming_of self.new ≡ record (incoming_of self.old) { ready = map ready_of self.new.ready.items }) }
-        ensures none { IfNone result ((map ready_of self.old.ready.items ≡ []) × (incoming_of self.new ≡ incoming_of self.old)) }
+        ensures some { IfSome result (λ message. map message_content self.old.ready.items ≡ message_content message ∷ map message_content self.new.ready.items) }
+        ensures left { IfSome result (λ _. incoming_of self.new ≡ record (incoming_of self.old) { ready = map message_content self.new.ready.items }) }
+        ensures none { IfNone result ((map message_content self.old.ready.items ≡ []) × (incoming_of self.new ≡ incoming_of self.old)) }
         ensures bytes { Balances self.old self.new }
     {
         match self.ready.pop_front() {

@@ -4,7 +4,7 @@
 
 ghost use Rattle.std.specs.Prelude.{◌≡◌, ◌==◌, ◌+◌, ◌≤◌, true, false, map, length, [], IsOk, OnOk, OnErr, IsSome};
 ghost use Rattle.std.specs.List.{list_any, sum_by};
-ghost use Rattle.dcsctp_api.specs.Ids.{stream_numbers};
+ghost use Rattle.dcsctp_machine.specs.Ids.{stream_numbers};
 ghost use Rattle.dcsctp_reassembly.specs.Reassembly.{incoming_of, held_bytes, SameIncoming, TakesData};
 ghost use Rattle.dcsctp_reassembly.specs.Queue.{
   names_stream,
@@ -14,7 +14,8 @@ ghost use Rattle.dcsctp_reassembly.specs.Queue.{
   WorksAll,
   WorksFront,
 };
-ghost use Rattle.dcsctp_reassembly.specs.Streams.{chunk_of, ready_of};
+ghost use Rattle.dcsctp_machine.specs.Transfer.{message_content};
+ghost use Rattle.dcsctp_reassembly.specs.Streams.{chunk_of};
 
 use crate::arrivals::{Data, SkippedTo};
 use crate::incoming::Incoming;
@@ -117,7 +118,7 @@ impl ReassemblyQueue {
 
     /// Takes the message that became ready first; none where none is ready. It takes no memory.
     pub fn get_next_message(&mut self) -> Option<Message>
-        ensures some { IfSome result (λ message. self.old.incoming.ready ≡ ready_of message ∷ self.new.incoming.ready) }
+        ensures some { IfSome result (λ message. self.old.incoming.ready ≡ message_content message ∷ self.new.incoming.ready) }
         ensures left { IfSome result (λ _. self.new ≡ record self.old { incoming = record self.old.incoming { ready = self.new.incoming.ready } }) }
         ensures none { IfNone result ((self.old.incoming.ready ≡ []) × (self.new ≡ self.old)) }
     {

@@ -5,11 +5,12 @@ ghost use Rattle.std.specs.Prelude.{◌≡◌, ◌==◌, ℕ, ◌+◌, ◌<◌, 
 ghost use Rattle.std.specs.VecDeque.{deque_len, deque_capacity};
 ghost use Rattle.std.specs.BTreeMap.{get};
 ghost use Rattle.std.specs.Ordering.{nat_cmp};
-ghost use Rattle.dcsctp_api.specs.Ids.{stream_numbers};
+ghost use Rattle.dcsctp_machine.specs.Ids.{stream_numbers};
 ghost use Rattle.dcsctp_reassembly.specs.Held.{capped};
 ghost use Rattle.dcsctp_reassembly.specs.QueuedBytes.{ready_bytes, stream_bytes, streams_bytes};
 ghost use Rattle.dcsctp_reassembly.specs.Runs.{behind_place};
-ghost use Rattle.dcsctp_reassembly.specs.Streams.{ready_of, new_stream, skipped_stream, skipped, skip_deliveries, skip_bytes};
+ghost use Rattle.dcsctp_machine.specs.Transfer.{message_content};
+ghost use Rattle.dcsctp_reassembly.specs.Streams.{new_stream, skipped_stream, skipped, skip_deliveries, skip_bytes};
 ghost use Rattle.dcsctp_reassembly.specs.Reassembly.{
   incoming_of,
   entry_of,
@@ -98,8 +99,8 @@ fn skip_on(
     requires room { deque_len ready.old + length (stream_on (skipped_stream entry.now) (map entry_of streams.old.entries)).waiting ≤ deque_capacity ready.old }
     ensures streams { (id : ℕ) → stream_on id (map entry_of streams.new.entries) ≡ skipped_on entry.now id (stream_on id (map entry_of streams.old.entries)) }
     ensures made { (id : ℕ) → IsSome (get nat_cmp streams.old id) → IsSome (get nat_cmp streams.new id) }
-    ensures ready { map ready_of ready.new.items ≡ map ready_of ready.old.items ++ skip_deliveries entry.now (stream_on (skipped_stream entry.now) (map entry_of streams.old.entries)) }
-    ensures bytes { streams_bytes (map entry_of streams.new.entries) + ready_bytes (map ready_of ready.new.items) + skip_bytes entry.now (stream_on (skipped_stream entry.now) (map entry_of streams.old.entries)) ≡ streams_bytes (map entry_of streams.old.entries) + ready_bytes (map ready_of ready.old.items) }
+    ensures ready { map message_content ready.new.items ≡ map message_content ready.old.items ++ skip_deliveries entry.now (stream_on (skipped_stream entry.now) (map entry_of streams.old.entries)) }
+    ensures bytes { streams_bytes (map entry_of streams.new.entries) + ready_bytes (map message_content ready.new.items) + skip_bytes entry.now (stream_on (skipped_stream entry.now) (map entry_of streams.old.entries)) ≡ streams_bytes (map entry_of streams.old.entries) + ready_bytes (map message_content ready.old.items) }
     ensures size { result ≡ capped (skip_bytes entry.now (stream_on (skipped_stream entry.now) (map entry_of streams.old.entries))) }
     ensures room { deque_capacity ready.new ≡ deque_capacity ready.old }
 {

@@ -6,31 +6,8 @@ ghost use Rattle.std.specs.VecDeque.{deque_len, deque_capacity};
 ghost use Rattle.dcsctp_reassembly.specs.Runs.{run_of, part_of, whole_of};
 ghost use Rattle.dcsctp_reassembly.specs.Held.{capped, runs_bytes};
 ghost use Rattle.dcsctp_reassembly.specs.QueuedBytes.{stream_bytes};
-ghost use Rattle.dcsctp_reassembly.specs.Streams.{
-  stream_of,
-  ready_of,
-  delivered_from,
-  deliveries_from,
-  delivered_as,
-  next_after,
-  ready_with,
-  NothingTaken,
-  IsTurn,
-  WaitsAmong,
-  TakesOrdered,
-  TakesUnordered,
-  next_past,
-  runs_up_to,
-  skipped,
-  skipped_in_order,
-  skipped_out_of_order,
-  skip_deliveries,
-  skip_bytes,
-  chunk_of,
-  data_part,
-  TakesOnStream,
-  new_stream,
-};
+ghost use Rattle.dcsctp_machine.specs.Transfer.{message_content};
+ghost use Rattle.dcsctp_reassembly.specs.Streams.{stream_of, delivered_from, deliveries_from, delivered_as, next_after, ready_with, NothingTaken, IsTurn, WaitsAmong, TakesOrdered, TakesUnordered, next_past, runs_up_to, skipped, skipped_in_order, skipped_out_of_order, skip_deliveries, skip_bytes, chunk_of, data_part, TakesOnStream, new_stream};
 
 use crate::arrivals::{Data, Numbering, SkippedTo};
 use crate::joining::add_part;
@@ -97,8 +74,8 @@ pub fn take_unordered(
     part: Part,
     ready: &mut VecDeque<Message>,
 ) -> Result<Taken, AllocError>
-    ensures ok { IfOk result (λ taken. TakesUnordered (part_of part) (delivered_as id.0) (map run_of runs.old.items) (map ready_of ready.old.items) taken (map run_of runs.new.items) (map ready_of ready.new.items)) }
-    ensures err { OnErr result ((map run_of runs.new.items ≡ map run_of runs.old.items) × (map ready_of ready.new.items ≡ map ready_of ready.old.items)) }
+    ensures ok { IfOk result (λ taken. TakesUnordered (part_of part) (delivered_as id.0) (map run_of runs.old.items) (map message_content ready.old.items) taken (map run_of runs.new.items) (map message_content ready.new.items)) }
+    ensures err { OnErr result ((map run_of runs.new.items ≡ map run_of runs.old.items) × (map message_content ready.new.items ≡ map message_content ready.old.items)) }
 {
     let size = part.payload.len();
     ready.try_reserve(1)?;
@@ -173,7 +150,7 @@ impl Stream {
     pub fn deliver(&mut self, ready: &mut VecDeque<Message>) -> usize
         requires { deque_len ready.old + deque_len self.old.waiting ≤ deque_capacity ready.old }
         ensures stream { stream_of self.new ≡ delivered_from self.old.next (stream_of self.old) }
-        ensures ready { map ready_of ready.new.items ≡ map ready_of ready.old.items ++ deliveries_from self.old.next (stream_of self.old) }
+        ensures ready { map message_content ready.new.items ≡ map message_content ready.old.items ++ deliveries_from self.old.next (stream_of self.old) }
         ensures count { result ≡ length (deliveries_from self.old.next (stream_of self.old)) }
         ensures room { deque_capacity ready.new ≡ deque_capacity ready.old }
     {
@@ -194,7 +171,7 @@ impl Stream {
         requires room { deque_len ready.old + deque_len self.old.waiting < deque_capacity ready.old }
         requires next { whole.number ≡ self.old.next }
         ensures stream { stream_of self.new ≡ delivered_from (next_after self.old.next (whole_of whole)) (stream_of self.old) }
-        ensures ready { map ready_of ready.new.items ≡ map ready_of ready.old.items ++ ready_with (stream_of self.old) (whole_of whole) }
+        ensures ready { map message_content ready.new.items ≡ map message_content ready.old.items ++ ready_with (stream_of self.old) (whole_of whole) }
         ensures count { result ≡ length (ready_with (stream_of self.old) (whole_of whole)) }
     {
         self.next = self.next.saturating_add(1);
@@ -225,9 +202,9 @@ impl Stream {
         part: Part,
         ready: &mut VecDeque<Message>,
     ) -> Result<Taken, AllocError>
-        ensures past { part.number < self.old.next → IfOk result (λ taken. NothingTaken taken × (stream_of self.new ≡ stream_of self.old) × (map ready_of ready.new.items ≡ map ready_of ready.old.items)) }
-        ensures ok { self.old.next ≤ part.number → IfOk result (λ taken. TakesOrdered (part_of part) (stream_of self.old) (map ready_of ready.old.items) taken (stream_of self.new) (map ready_of ready.new.items)) }
-        ensures err { OnErr result ((stream_of self.new ≡ stream_of self.old) × (map ready_of ready.new.items ≡ map ready_of ready.old.items)) }
+        ensures past { part.number < self.old.next → IfOk result (λ taken. NothingTaken taken × (stream_of self.new ≡ stream_of self.old) × (map message_content ready.new.items ≡ map message_content ready.old.items)) }
+        ensures ok { self.old.next ≤ part.number → IfOk result (λ taken. TakesOrdered (part_of part) (stream_of self.old) (map message_content ready.old.items) taken (stream_of self.new) (map message_content ready.new.items)) }
+        ensures err { OnErr result ((stream_of self.new ≡ stream_of self.old) × (map message_content ready.new.items ≡ map message_content ready.old.items)) }
     {
         let size = part.payload.len();
         if part.number < self.next {
@@ -270,9 +247,9 @@ impl Stream {
         part: Part,
         ready: &mut VecDeque<Message>,
     ) -> Result<Taken, AllocError>
-        ensures ok { IfOk result (λ taken. TakesUnordered (part_of part) (delivered_as self.old.id.0) (map run_of self.old.unordered.items) (map ready_of ready.old.items) taken (map run_of self.new.unordered.items) (map ready_of ready.new.items)) }
+        ensures ok { IfOk result (λ taken. TakesUnordered (part_of part) (delivered_as self.old.id.0) (map run_of self.old.unordered.items) (map message_content ready.old.items) taken (map run_of self.new.unordered.items) (map message_content ready.new.items)) }
         ensures ordered { (self.new.id ≡ self.old.id) × (self.new.next ≡ self.old.next) × (self.new.last_unordered ≡ self.old.last_unordered) × (self.new.waiting.items ≡ self.old.waiting.items) × (self.new.ordered.items ≡ self.old.ordered.items) }
-        ensures err { OnErr result ((stream_of self.new ≡ stream_of self.old) × (map ready_of ready.new.items ≡ map ready_of ready.old.items)) }
+        ensures err { OnErr result ((stream_of self.new ≡ stream_of self.old) × (map message_content ready.new.items ≡ map message_content ready.old.items)) }
     {
         take_unordered(alloc, self.id, &mut self.unordered, part, ready)
     }
@@ -286,8 +263,8 @@ impl Stream {
         chunk: Data,
         ready: &mut VecDeque<Message>,
     ) -> Result<Taken, AllocError>
-        ensures ok { IfOk result (λ taken. TakesOnStream tsn_number (chunk_of chunk) (stream_of self.old) (map ready_of ready.old.items) taken (stream_of self.new) (map ready_of ready.new.items)) }
-        ensures err { OnErr result ((stream_of self.new ≡ stream_of self.old) × (map ready_of ready.new.items ≡ map ready_of ready.old.items)) }
+        ensures ok { IfOk result (λ taken. TakesOnStream tsn_number (chunk_of chunk) (stream_of self.old) (map message_content ready.old.items) taken (stream_of self.new) (map message_content ready.new.items)) }
+        ensures err { OnErr result ((stream_of self.new ≡ stream_of self.old) × (map message_content ready.new.items ≡ map message_content ready.old.items)) }
     {
         match chunk.numbering {
             Numbering::Ordered { ssn } => {
@@ -319,7 +296,7 @@ impl Stream {
     pub fn skip(&mut self, entry: &SkippedTo, ready: &mut VecDeque<Message>) -> usize
         requires { deque_len ready.old + deque_len self.old.waiting ≤ deque_capacity ready.old }
         ensures stream { stream_of self.new ≡ skipped entry.now (stream_of self.old) }
-        ensures ready { map ready_of ready.new.items ≡ map ready_of ready.old.items ++ skip_deliveries entry.now (stream_of self.old) }
+        ensures ready { map message_content ready.new.items ≡ map message_content ready.old.items ++ skip_deliveries entry.now (stream_of self.old) }
         ensures size { result ≡ capped (skip_bytes entry.now (stream_of self.old)) }
         ensures room { deque_capacity ready.new ≡ deque_capacity ready.old }
     {
@@ -353,7 +330,7 @@ impl Stream {
     fn skip_ordered(&mut self, number: u64, ready: &mut VecDeque<Message>) -> usize
         requires { deque_len ready.old + deque_len self.old.waiting ≤ deque_capacity ready.old }
         ensures stream { stream_of self.new ≡ skipped_in_order number (stream_of self.old) }
-        ensures ready { map ready_of ready.new.items ≡ map ready_of ready.old.items ++ deliveries_from (next_past number self.old.next) (stream_of self.old) }
+        ensures ready { map message_content ready.new.items ≡ map message_content ready.old.items ++ deliveries_from (next_past number self.old.next) (stream_of self.old) }
         ensures size { result ≡ capped (runs_bytes (runs_up_to number (map run_of self.old.ordered.items))) }
         ensures room { deque_capacity ready.new ≡ deque_capacity ready.old }
     {

@@ -6,7 +6,7 @@ use Rattle.dcsctp_machine.specs.declared.association.Held.{Held}
 use Rattle.dcsctp_machine.specs.declared.kinds.ErrorKind.TheVariants.{ProtocolViolation}
 use Rattle.dcsctp_machine.specs.Event.{error}
 use Rattle.dcsctp_machine.specs.Packet.{Plain, plain, unworked, error_of, Content}
-use Rattle.dcsctp_machine.specs.Transfer.{Below, ReadyMessage, TrackerState, Transfer}
+use Rattle.dcsctp_machine.specs.Transfer.{Below, MessageContent, TrackerState, Transfer}
 use Rattle.dcsctp_machine.specs.Endpoint.{Endpoint, Core, closed, cookie_wait, cookie_echoed, open_in, established, shutdown_pending, shutdown_sent, shutdown_received, shutdown_ack_sent, held_in}
 use Rattle.dcsctp_machine.specs.Outcome.{Outcome, still, quiet, sends, behind, then_outcome, to_peer}
 use Rattle.dcsctp_machine.specs.Outcome.{fits as fits_mtu}
@@ -160,7 +160,7 @@ end_fits e (Some transfer) o turn h = end_where_fits turn.0.is_acknowledgement_d
 
 -- ---- what the user takes and sends
 
-take_where_fits : (e : Endpoint) (transfer : Transfer) (messages : List ReadyMessage) (o : Outcome) → TakeWhere e transfer messages o → FitsEndpoint e → TurnFits o
+take_where_fits : (e : Endpoint) (transfer : Transfer) (messages : List MessageContent) (o : Outcome) → TakeWhere e transfer messages o → FitsEndpoint e → TurnFits o
 take_where_fits e transfer [] o turn h = subst TurnFits (sym turn) (still_fits e h)
 take_where_fits e transfer (message ∷ messages) o turn h = subst TurnFits (sym turn.2) (moved_fits e turn.0 h)
 

@@ -1,30 +1,33 @@
 -- What comes of a step at one socket is moves of its side in the machine that agreement is proved on.
-use Rattle.std.proofs.Common.{◌≡◌, ℕ, Bool, true, false, zero, suc, List, [], ◌∷◌, ◌++◌, refl, sym, subst}
+use Rattle.std.proofs.Common.{◌≡◌, ℕ, Bool, true, false, zero, suc, List, [], ◌∷◌, ◌++◌, map, refl, sym, subst}
 use Rattle.std.specs.Prelude.{nat_le}
 use Rattle.std.specs.List.{slice_get}
 use Rattle.dcsctp_machine.specs.declared.ends.AbortReason.{AbortReason}
 use Rattle.dcsctp_machine.specs.declared.ends.AbortReason.TheVariants.{CloseCalled, TooManyErrors}
 use Rattle.dcsctp_machine.specs.declared.options.Options.{Options}
-use Rattle.dcsctp_machine.specs.Schedule.{connect_call, close_call, advance_call, set_call, StepContent, call_step, delivery_step}
+use Rattle.dcsctp_machine.specs.Schedule.{connect_call, close_call, advance_call, set_call, send_call, send_many_call, take_call, StepContent, call_step, delivery_step}
 use Rattle.dcsctp_machine.specs.Settings.{FitsOptions}
 use Rattle.dcsctp_machine.specs.Endpoint.{Endpoint, Core}
-use Rattle.dcsctp_machine.specs.Turn.{ActTurn, act_input, user_sets}
+use Rattle.dcsctp_machine.specs.Turn.{Input, ActTurn, act_input, user_sets, user_sends, user_takes}
 use Rattle.dcsctp_machine.specs.TimeTurns.{timers_in, DueTurns, MomentTurns, TimeTurns}
 use Rattle.dcsctp_machine.specs.Outcome.{Outcome}
-use Rattle.dcsctp_machine.specs.Controlled.{IsControlled}
+use Rattle.dcsctp_machine.specs.Controlled.{IsControlled, ControlledAct}
 use Rattle.dcsctp_machine.specs.control.Choices.{Choices}
 use Rattle.dcsctp_machine.specs.turns.SettingOutcomes.{Setting, setting_outcome}
+use Rattle.dcsctp_machine.specs.turns.MessageOutcomes.{Sending, sending_of}
 use Rattle.dcsctp_machine.specs.Fitting.{FitsEndpoint, TurnFits}
-use Rattle.dcsctp_machine.specs.CallTurns.{Turned, Turns}
+use Rattle.dcsctp_machine.specs.CallTurns.{Turned, IsTurn, Turns}
 use Rattle.dcsctp_machine.specs.control.Effect.{Effect, Change, unchanged}
-use Rattle.dcsctp_machine.specs.control.Acts.{abort_with, act_change}
+use Rattle.dcsctp_machine.specs.control.Acts.{abort_with, flushes, act_change}
 use Rattle.dcsctp_machine.specs.World.{SideState, acted, does}
 use Rattle.dcsctp_machine.specs.Sockets.{endpoint_after, packets_shown, StepTurns}
+use Rattle.dcsctp_machine.proofs.DataLemmas.{flushed_act, send_at, take_at}
+use Rattle.dcsctp_refinement.proofs.DataFits.{send_fits, take_fits}
 use Rattle.dcsctp_refinement.proofs.Aborting.{aborting_fits}
 use Rattle.dcsctp_refinement.proofs.Follow.{Followed, after_last, follow_turns, follow_idle}
 use Rattle.dcsctp_refinement.proofs.TimeMoves.{clock_follows}
 use Rattle.dcsctp_refinement.proofs.ExpiryMoves.{expiries_move}
-use Rattle.dcsctp_refinement.proofs.Moves.{Below, SideMoves, rests, moves_once, nothing_happens, rests_then, connect_moves, delivery_moves}
+use Rattle.dcsctp_refinement.proofs.Moves.{Below, SideMoves, rests, moves_once, nothing_happens, rests_then, flush_moves, connect_moves, delivery_moves}
 
 -- ---- close
 
@@ -105,6 +108,36 @@ setting_moves options turns side theirs setting [] h turn = absurd turn
 setting_moves options turns side theirs setting (t ∷ []) h turn = rests options turns side theirs (t ∷ []) (setting_follows options turns side setting t h turn.0.comes)
 setting_moves options turns side theirs setting (t ∷ next ∷ more) h turn = absurd turn.1
 
+-- ---- what the user sends and takes
+
+-- Each turn of this input is a flush of the association.
+abbrev IsFlush : Endpoint → Input → Type 0
+IsFlush e input = (t : Turned) → IsTurn e input t → ControlledAct e flushes t.outcome × TurnFits t.outcome
+
+flush_once : Below → (options : Options) (turns : List Turned) (side : SideState) (theirs : List Effect) (input : Input) (more : List Turned) → Followed options turns side
+    → IsFlush (endpoint_after options turns) input → Turns (endpoint_after options turns) (input ∷ []) more → SideMoves options turns side theirs more
+flush_once law options turns side theirs input [] h is_flush turn = absurd turn
+flush_once law options turns side theirs input (t ∷ []) h is_flush turn =
+    flush_moves law options turns side theirs t h (is_flush t turn.0).0 (is_flush t turn.0).1
+flush_once law options turns side theirs input (t ∷ next ∷ more) h is_flush turn = absurd turn.1
+
+send_is_flush : (e : Endpoint) (messages : List Sending) → FitsEndpoint e → IsFlush e (user_sends messages)
+send_is_flush e messages fits t turn = (flushed_act e t.outcome (send_at e messages t.outcome turn.comes), send_fits e messages t.outcome turn.comes fits)
+
+take_is_flush : (e : Endpoint) → FitsEndpoint e → IsFlush e user_takes
+take_is_flush e fits t turn =
+    (flushed_act e t.outcome (take_at e e.below.transfer t.outcome turn.comes), take_fits e e.below.transfer t.outcome turn.comes fits)
+
+send_moves : Below → (options : Options) (turns : List Turned) (side : SideState) (theirs : List Effect) (messages : List Sending) (more : List Turned) → Followed options turns side
+    → Turns (endpoint_after options turns) (user_sends messages ∷ []) more → SideMoves options turns side theirs more
+send_moves law options turns side theirs messages more h turn =
+    flush_once law options turns side theirs (user_sends messages) more h (send_is_flush (endpoint_after options turns) messages h.fits) turn
+
+take_moves : Below → (options : Options) (turns : List Turned) (side : SideState) (theirs : List Effect) (more : List Turned) → Followed options turns side
+    → Turns (endpoint_after options turns) (user_takes ∷ []) more → SideMoves options turns side theirs more
+take_moves law options turns side theirs more h turn =
+    flush_once law options turns side theirs user_takes more h (take_is_flush (endpoint_after options turns) h.fits) turn
+
 -- ---- a step
 
 pub step_moves : Below → (options other : Options) (turns others : List Turned) (side theirs : SideState) (step : StepContent) (more : List Turned)
@@ -115,6 +148,11 @@ step_moves law options other turns others side theirs (call_step which close_cal
 step_moves law options other turns others side theirs (call_step which (advance_call moment)) more h k fits done =
     advance_moves law options turns side theirs.past (nat_le (endpoint_after options turns).moment moment) moment more h done
 step_moves law options other turns others side theirs (call_step which (set_call setting)) more h k fits done = setting_moves options turns side theirs.past setting more h done
+step_moves law options other turns others side theirs (call_step which (send_call message how)) more h k fits done =
+    send_moves law options turns side theirs.past (sending_of how message ∷ []) more h done
+step_moves law options other turns others side theirs (call_step which (send_many_call messages how)) more h k fits done =
+    send_moves law options turns side theirs.past (map (sending_of how) messages) more h done
+step_moves law options other turns others side theirs (call_step which take_call) more h k fits done = take_moves law options turns side theirs.past more h done
 step_moves law options other turns others side theirs (delivery_step which zero) more h k fits done = nothing_happens options turns side theirs.past more h done
 step_moves law options other turns others side theirs (delivery_step which (suc index)) more h k fits done =
     delivery_moves law options other turns others side theirs index (slice_get (packets_shown other others) index) more h k fits refl done

@@ -5,7 +5,7 @@ use Rattle.dcsctp_machine.specs.declared.association.Held.{Held}
 use Rattle.dcsctp_machine.specs.declared.kinds.ErrorKind.TheVariants.{ProtocolViolation}
 use Rattle.dcsctp_machine.specs.Event.{error}
 use Rattle.dcsctp_machine.specs.Packet.{plain, error_of}
-use Rattle.dcsctp_machine.specs.Transfer.{ReadyMessage, TrackerState, Transfer}
+use Rattle.dcsctp_machine.specs.Transfer.{MessageContent, TrackerState, Transfer}
 use Rattle.dcsctp_machine.specs.Endpoint.{Endpoint, held_in}
 use Rattle.dcsctp_machine.specs.Outcome.{Outcome, quiet, sends, fits, to_peer, behind}
 use Rattle.dcsctp_machine.specs.control.Choices.{plain_contents}
@@ -89,7 +89,7 @@ end_up e (Some transfer) o turn h = end_where_up turn.0.is_acknowledgement_due e
 
 -- ---- what the user takes and sends
 
-take_where_up : (e : Endpoint) (transfer : Transfer) (messages : List ReadyMessage) (o : Outcome) → TakeWhere e transfer messages o → Up e → UpAfter o
+take_where_up : (e : Endpoint) (transfer : Transfer) (messages : List MessageContent) (o : Outcome) → TakeWhere e transfer messages o → Up e → UpAfter o
 take_where_up e transfer [] o turn h = subst UpAfter (sym turn) h
 take_where_up e transfer (message ∷ messages) o turn h = subst UpAfter (sym turn.2) h
 

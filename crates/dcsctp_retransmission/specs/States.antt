@@ -3,8 +3,8 @@
 use Rattle.std.specs.Prelude.{Result, Ok, Err, Vec, ◌≡◌, ◌⊎◌, ◌+◌, ◌-◌, ◌*◌, ◌/◌, ◌^◌, ◌<◌, ◌≤◌, ◌&&◌, ◌||◌, min, nat_lt, nat_le, ℕ, Bool, true, false, Option, None, Some, List, [], ◌∷◌, ◌++◌, length, slice_get}
 use Rattle.std.specs.declared.alloc.AllocError.{AllocError}
 use Rattle.std.specs.declared.alloc.Global.{Global}
-use Rattle.dcsctp_api.specs.Ids.{lifecycle_number}
-use Rattle.dcsctp_api.specs.declared.ids.LifecycleId.{LifecycleId}
+use Rattle.dcsctp_machine.specs.Ids.{lifecycle_number}
+use Rattle.dcsctp_machine.specs.declared.ids.LifecycleId.{LifecycleId}
 use Rattle.dcsctp_api.specs.declared.events.SocketEvent.{SocketEvent}
 use Rattle.dcsctp_machine.specs.Event.{Event, lifecycle_message_maybe_expired, lifecycle_end}
 use Rattle.dcsctp_send_queue.specs.declared.backlog.Backlog.{Backlog}

@@ -1,6 +1,6 @@
 -- What is told of messages that leave the queue.
 use Rattle.std.specs.Prelude.{Bool, true, false, ◌&&◌, not, Option, None, Some, List, [], ◌∷◌, ◌++◌}
-use Rattle.dcsctp_api.specs.declared.ids.LifecycleId.{LifecycleId}
+use Rattle.dcsctp_machine.specs.declared.ids.LifecycleId.{LifecycleId}
 use Rattle.dcsctp_api.specs.declared.events.SocketEvent.{SocketEvent}
 use Rattle.dcsctp_api.specs.declared.events.SocketEvent.TheVariants.{OnLifecycleMessageDelivered, OnLifecycleEnd}
 use Rattle.dcsctp_outstanding.specs.declared.item.Item.{Item}

@@ -3,11 +3,13 @@
 use crate::failure::{Failure, written};
 use crate::script::Script;
 use crate::words::Words;
-use dcsctp_api::{DcSctpSocket, SocketEvent};
+use dcsctp_api::{DcSctpSocket, Message, PpId, SendOptions, SocketEvent, StreamId};
 use dcsctp_lines::{Command, Line, parse_line};
 use dcsctp_machine::{Call, Outside, Side, Step};
-use dcsctp_printing::{print_association, print_event, print_state, print_timeout};
-use dcsctp_world::World;
+use dcsctp_printing::{
+    print_association, print_event, print_refusal, print_state, print_taken, print_timeout,
+};
+use dcsctp_world::{Reply, World};
 use std::alloc::Global;
 use std::io::{self, BufRead, Write};
 
@@ -112,6 +114,10 @@ impl Run {
     // Does what a command says, and prints what comes of it.
     fn obey<W: Write>(&mut self, command: Command, output: &mut W) -> Result<(), Failure> {
         match command {
+            Command::Send(side, stream_id, payload) => {
+                return self.send(side, stream_id, payload, output);
+            }
+            Command::Receive(side) => self.receive(side, output)?,
             Command::Connect(side) => self.apply(Step::Call(side, Call::Connect))?,
             Command::Close(side) => self.apply(Step::Call(side, Call::Close))?,
             Command::Give(side, number) => self.apply(Step::Deliver(side, number))?,
@@ -122,6 +128,34 @@ impl Run {
             Command::Timeout(side) => written(self.print_timeout(side, output))?,
         }
         written(self.print_events(output))
+    }
+
+    // Sends a message, without a protocol and in the default way, and prints what comes of it and why it is
+    // refused, where it is.
+    fn send<W: Write>(
+        &mut self,
+        side: Side,
+        stream_id: StreamId,
+        payload: Vec<u8>,
+        output: &mut W,
+    ) -> Result<(), Failure> {
+        let message = Message::new(stream_id, PpId(0), payload);
+        let call = Call::Send(message, SendOptions::default());
+        let reply = self.world.apply(&Step::Call(side, call))?;
+        written(self.print_events(output))?;
+        match reply {
+            Reply::Sent(Err(error)) => written(print_refusal(side, &error, output)),
+            _ => Ok(()),
+        }
+    }
+
+    // Takes a message and prints it.
+    fn receive<W: Write>(&mut self, side: Side, output: &mut W) -> Result<(), Failure> {
+        let reply = self.world.apply(&Step::Call(side, Call::GetNextMessage))?;
+        match reply {
+            Reply::Taken(message) => written(print_taken(side, message.as_ref(), output)),
+            _ => Ok(()),
+        }
     }
 
     // Prints the association of this side.

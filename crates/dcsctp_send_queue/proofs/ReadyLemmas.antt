@@ -1,6 +1,6 @@
 -- Streams that are handed out.
 use Rattle.std.proofs.Common.{◌≡◌, ◌==◌, ℕ, zero, suc, ◌+◌, ◌<◌, ◌≤◌, Bool, true, false, if◌then◌else◌, Option, Err, List, [], ◌∷◌, ◌++◌, length, get_or, filter, map, take, refl, sym, ap, ◌∙◌, arith}
-use Rattle.dcsctp_api.specs.Ids.{stream_numbers}
+use Rattle.dcsctp_machine.specs.Ids.{stream_numbers}
 use Rattle.dcsctp_machine.specs.declared.ids.StreamId.{StreamId}
 use Rattle.dcsctp_streams.specs.declared.message.UnderWay.{UnderWay}
 use Rattle.dcsctp_streams.specs.Waiting.{Stream, handed_out}

@@ -5,9 +5,9 @@ use Rattle.std.specs.Duration.{as_nanos, max_nanos}
 use Rattle.std.specs.declared.alloc.Global.{Global}
 use Rattle.dcsctp_machine.specs.declared.options.Options.{Options}
 use Rattle.dcsctp_machine.specs.Event.{Event}
-use Rattle.dcsctp_api.specs.declared.message.Message.{Message}
-use Rattle.dcsctp_api.specs.declared.message.SendOptions.{SendOptions}
-use Rattle.dcsctp_api.specs.Ids.{lifecycle_number}
+use Rattle.dcsctp_machine.specs.declared.message.Message.{Message}
+use Rattle.dcsctp_machine.specs.declared.message.SendOptions.{SendOptions}
+use Rattle.dcsctp_machine.specs.Ids.{lifecycle_number}
 use Rattle.dcsctp_streams.specs.declared.data.DataToSend.{DataToSend}
 use Rattle.dcsctp_streams.specs.Fragment.{fragment_of, fragment}
 use Rattle.dcsctp_send_queue.specs.declared.backlog.Backlog.{Backlog}

@@ -43,7 +43,7 @@ impl SendQueue {
     ghost use Rattle.dcsctp_send_queue.specs.Leaving.{DropsSome};
     ghost use Rattle.dcsctp_send_queue.specs.Resets.{restarted, handing_out, may_send, IsUsedAtMost, HasReady, with_threshold, with_priority, prepared, prepare_events};
     ghost use Rattle.dcsctp_streams.specs.Waiting.{committed, rolled_back};
-    ghost use Rattle.dcsctp_api.specs.Ids.{stream_numbers};
+    ghost use Rattle.dcsctp_machine.specs.Ids.{stream_numbers};
 
     /// A queue with no messages, which numbers them as for no interleaving. It takes no memory.
     pub fn new(alloc: Global, options: &Options) -> SendQueue

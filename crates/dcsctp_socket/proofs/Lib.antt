@@ -6,5 +6,6 @@ mod ChunkLoop
 mod DataTurns
 mod DispatchLemmas
 mod ExpiryLemmas
+mod MessageLemmas
 mod TimeLemmas
 mod UnknownLemmas

@@ -1,4 +1,5 @@
 pub mod Decisions
+pub mod MessageParts
 pub mod Parts
 pub mod SocketView
 pub mod Unknown

@@ -35,6 +35,7 @@
 mod admission;
 mod calls;
 mod dispatch;
+mod messages;
 mod settings;
 mod socket;
 mod texts;
@@ -43,10 +44,10 @@ mod unknown;
 
 pub use dcsctp_api as api;
 pub use dcsctp_api::{
-    Association, Capabilities, DcSctpSocket, ErrorKind, Events, Held, LifecycleId, Message,
-    Options, Pair, Phase, PpId, ReconfigurationResponseResult, SctpImplementation, SendOptions,
-    SocketEvent, SocketFault, SocketState, SocketTime, StateCookie, StreamId,
-    ZERO_CHECKSUM_ALTERNATE_ERROR_DETECTION_METHOD_LOWER_LAYER_DTLS,
+    Association, BatchSendError, Capabilities, DcSctpSocket, ErrorKind, Events, Held, LifecycleId,
+    Message, Options, Pair, Phase, PpId, ReconfigurationResponseResult, SctpImplementation,
+    SendError, SendOptions, SocketEvent, SocketFault, SocketState, SocketTime, StateCookie,
+    StreamId, ZERO_CHECKSUM_ALTERNATE_ERROR_DETECTION_METHOD_LOWER_LAYER_DTLS,
     ZERO_CHECKSUM_ALTERNATE_ERROR_DETECTION_METHOD_NONE, ZeroChecksumAlternateErrorDetectionMethod,
 };
 pub use socket::Socket;

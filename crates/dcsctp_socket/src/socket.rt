@@ -2,10 +2,10 @@
 
 ghost use Rattle.dcsctp_socket.specs.SocketView.{Settles};
 
-use crate::{calls, settings, timers};
+use crate::{calls, messages, settings, timers};
 use dcsctp_api::{
-    Association, DcSctpSocket, Options, Pair, SocketEvent, SocketFault, SocketState, SocketTime,
-    StreamId,
+    Association, BatchSendError, DcSctpSocket, Message, Options, Pair, SendError, SendOptions,
+    SocketEvent, SocketFault, SocketState, SocketTime, StreamId,
 };
 use dcsctp_core::Context;
 use dcsctp_machine::time_passes_quietly;
@@ -31,11 +31,11 @@ impl<R> Model for Socket<R> {
 }
 
 // The answer to a call. A socket that was refused a growth has failed from then on.
-fn settled(failed: &mut bool, outcome: Result<(), AllocError>) -> Result<(), SocketFault>
+fn settled<T>(failed: &mut bool, outcome: Result<T, AllocError>) -> Result<T, SocketFault>
     ensures { Settles failed.old outcome result failed.new }
 {
     match outcome {
-        Ok(()) => Ok(()),
+        Ok(answer) => Ok(answer),
         Err(_) => {
             *failed = true;
             Err(SocketFault::OutOfMemory)
@@ -103,11 +103,13 @@ impl<R: Rng + Drop> Socket<R> {
 }
 
 impl<R: Rng + Drop> DcSctpSocket for Socket<R> {
-    ghost use Rattle.std.specs.Prelude.{◌≡◌, ◌<◌, true, false, IsOk, OnOk, IsErrOf};
+    ghost use Rattle.std.specs.Prelude.{◌≡◌, ◌<◌, true, false, map, IsOk, OnOk, IsErrOf};
     ghost use Rattle.dcsctp_api.specs.Calls.{PollsEvent, HandlesInput, Connects, Closes, Sets, with_setting, is_closed};
     ghost use Rattle.dcsctp_machine.specs.turns.SettingOutcomes.{stream_priority, stream_low_threshold, longest_message};
     ghost use Rattle.dcsctp_machine.specs.TimeTurns.{Waits, next_moment};
     ghost use Rattle.dcsctp_api.specs.Time.{Advances, OnlyMovesClock};
+    ghost use Rattle.dcsctp_api.specs.Messages.{Sends, SendsMany, TakesNext};
+    ghost use Rattle.dcsctp_machine.specs.Transfer.{message_content};
     ghost use Rattle.dcsctp_core.specs.View.{Drawn};
     ghost use Rattle.dcsctp_socket.specs.SocketView.{user_view_of};
 
@@ -193,6 +195,56 @@ impl<R: Rng + Drop> DcSctpSocket for Socket<R> {
         ensures { result ≡ next_moment self.now.view.endpoint }
     {
         timers::poll_timeout(&self.context)
+    }
+
+    fn send(
+        &mut self,
+        message: Message,
+        options: &SendOptions,
+    ) -> Result<Result<(), SendError>, SocketFault>
+        ensures call { Sends (message_content message) options.now (user_view_of self.old) result
+            (user_view_of self.new) }
+        ensures drawn { OnOk result (Drawn (R.stream self.old.view.generator) self.new.view.words
+            (R.stream self.new.view.generator)) }
+        ensures failed { IsErrOf result SocketFault.Failed → self.new ≡ self.old }
+    {
+        // A socket that has failed takes no message.
+        if self.failed {
+            return Err(SocketFault::Failed);
+        }
+        let outcome = messages::send(&mut self.context, message, options);
+        settled(&mut self.failed, outcome)
+    }
+
+    fn send_many(
+        &mut self,
+        messages: Vec<Message>,
+        options: &SendOptions,
+    ) -> Result<Result<(), BatchSendError>, SocketFault>
+        ensures call { SendsMany (map message_content messages.items) options.now (user_view_of self.old)
+            result (user_view_of self.new) }
+        ensures drawn { OnOk result (Drawn (R.stream self.old.view.generator) self.new.view.words
+            (R.stream self.new.view.generator)) }
+        ensures failed { IsErrOf result SocketFault.Failed → self.new ≡ self.old }
+    {
+        // Nor any of several.
+        if self.failed {
+            return Err(SocketFault::Failed);
+        }
+        let outcome = messages::send_many(&mut self.context, messages, options);
+        settled(&mut self.failed, outcome)
+    }
+
+    fn get_next_message(&mut self) -> Option<Message>
+        ensures call { TakesNext (user_view_of self.old) result (user_view_of self.new) }
+        ensures generator { self.new.view.generator ≡ self.old.view.generator }
+        ensures failed { self.new.failed ≡ self.old.failed }
+    {
+        messages::get_next_message(&mut self.context)
+    }
+
+    fn messages_ready_count(&self) -> usize {
+        self.context.state.messages_ready_count()
     }
 
     fn state(&self) -> SocketState {

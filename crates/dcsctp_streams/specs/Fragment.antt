@@ -2,7 +2,7 @@
 use Rattle.std.specs.Prelude.{◌≡◌, ◌<◌, ◌≤◌, ℕ, ◌+◌, ◌==◌, Bool, Option, None, Some, List, take, drop, length, Vec, vec_len}
 use Rattle.std.specs.Option.{option_map}
 use Rattle.std.specs.declared.alloc.Global.{Global}
-use Rattle.dcsctp_api.specs.Ids.{lifecycle_number}
+use Rattle.dcsctp_machine.specs.Ids.{lifecycle_number}
 use Rattle.dcsctp_streams.specs.declared.data.DataToSend.{DataToSend}
 use Rattle.dcsctp_streams.specs.declared.message.UnderWay.{UnderWay}
 use Rattle.dcsctp_streams.specs.Waiting.{Waiting}

@@ -39,7 +39,7 @@ pub struct QueuedMessage {
 impl Model for QueuedMessage {
     ghost use Rattle.std.specs.Prelude.{◌<◌, vec_len};
     ghost use Rattle.std.specs.Option.{option_map};
-    ghost use Rattle.dcsctp_api.specs.Ids.{lifecycle_number};
+    ghost use Rattle.dcsctp_machine.specs.Ids.{lifecycle_number};
     ghost use Rattle.dcsctp_streams.specs.Waiting.{Waiting};
 
     ghost Value = { Waiting };
@@ -62,7 +62,7 @@ impl QueuedMessage {
     ghost use Rattle.dcsctp_streams.specs.Telling.{contents, expiry_events, sent_events, TellsFront};
     ghost use Rattle.std.specs.Duration.{as_nanos, max_nanos};
     ghost use Rattle.std.specs.Option.{option_map};
-    ghost use Rattle.dcsctp_api.specs.Ids.{lifecycle_number};
+    ghost use Rattle.dcsctp_machine.specs.Ids.{lifecycle_number};
     ghost use Rattle.dcsctp_streams.specs.Waiting.{is_expired};
     ghost use Rattle.dcsctp_streams.specs.Fragment.{fragment_of, fragment, CopiesRest};
 

@@ -1,5 +1,5 @@
 -- What the calls of a world do, from what its parts do.
-use Rattle.std.proofs.Common.{◌≡◌, ℕ, ◌+◌, ◌<◌, take, get_or, length, Bool, true, false, Err, List, [], ◌∷◌, ◌++◌, map, refl, sym, ap, subst, ◌∙◌, append_assoc}
+use Rattle.std.proofs.Common.{◌≡◌, ℕ, ◌+◌, ◌<◌, take, get_or, length, Bool, true, false, Err, List, [], ◌∷◌, ◌++◌, map, refl, sym, ap, subst, ◌∙◌, append_assoc, inl}
 use Rattle.std.proofs.lemmas.List.{append-nil, map-append, take_more}
 use Rattle.dcsctp_machine.specs.declared.options.Options.{Options}
 use Rattle.dcsctp_machine.specs.declared.schedule.Side.{Side}
@@ -15,6 +15,7 @@ use Rattle.dcsctp_api.specs.declared.errors.SocketFault.TheVariants.{OutOfMemory
 use Rattle.dcsctp_api.specs.Calls.{user_event}
 use Rattle.dcsctp_machine.specs.declared.schedule.Act.{Act}
 use Rattle.dcsctp_machine.specs.Schedule.{StepContent, ActContent, step_content, step_act}
+use Rattle.dcsctp_world.proofs.Stopping.{shows_nothing}
 use Rattle.dcsctp_world.specs.declared.act.Reply.{Reply}
 use Rattle.dcsctp_world.specs.declared.watched_socket.WatchedSocket.{WatchedSocket}
 use Rattle.dcsctp_world.specs.Shown.{SideShown, WorldView, options_of}
@@ -156,3 +157,20 @@ ran_next steps i default reply old now new within ran applied is_run options =
     subst (λ (l : List StepContent). Ran l old new)
     (sym (ap (λ (l : List Step). map step_content l) (take_more steps i default within) ∙ map-append step_content (take i steps) (get_or steps i default ∷ [])))
     (ran_more (map step_content (take i steps)) (step_content (get_or steps i default)) reply old now new ran applied is_run options)
+
+-- ---- the step wasn't copied
+
+pub copy_refused : {R : Type 0} (act : ActContent) (old : WorldView R) → old.failed ≡ false → RanOut act old (record old { failed = true })
+copy_refused {R = R} act old runs =
+    let mover : SideShown R = of_side (side_of_act act) old.sides in
+    let other : SideShown R = of_other (side_of_act act) old.sides in
+    record {
+      runs = runs;
+      fails = refl;
+      stops = record {
+        mover = record { turns = []; are = inl refl; shows = shows_nothing [] mover mover refl refl refl refl refl };
+        other = shows_nothing [] other other refl refl refl refl refl;
+        other_socket = refl;
+      };
+      acts = refl;
+    }

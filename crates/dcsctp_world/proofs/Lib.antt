@@ -5,3 +5,4 @@ mod Keeping
 mod Running
 mod Setting
 mod Stopping
+mod Taking

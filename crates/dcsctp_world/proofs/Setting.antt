@@ -7,21 +7,25 @@ use Rattle.dcsctp_machine.specs.Turn.{user_sets}
 use Rattle.dcsctp_machine.specs.CallTurns.{turned}
 use Rattle.dcsctp_machine.specs.turns.SettingOutcomes.{Setting, setting_outcome}
 use Rattle.dcsctp_api.specs.Calls.{UserView, with_setting}
-use Rattle.dcsctp_world.specs.Growth.{Called}
+use Rattle.dcsctp_world.specs.declared.act.Reply.TheVariants.{Done}
+use Rattle.dcsctp_world.specs.Growth.{Called, IsCallReply}
 
-set_is_called : (setting : Setting) (old : UserView) → old.failed ≡ false → Called (UserTurns old.endpoint (set_call setting)) old (Ok tt) (with_setting setting old)
-set_is_called setting old runs = (
-  turned (user_sets setting) (setting_outcome old.endpoint setting) ∷ [],
-  (record { is = refl; comes = refl }, tt),
-  record {
-    runs = runs;
-    goes_on = runs;
-    endpoint = refl;
-    events = sym (append-nil old.events);
-    words = refl;
-    pairs = refl;
-  },
-)
+set_is_called : (setting : Setting) (old : UserView) → old.failed ≡ false → Called (UserTurns old.endpoint (set_call setting)) (IsCallReply old.endpoint (set_call setting)) old (Ok Done) (with_setting setting old)
+set_is_called setting old runs =
+    record {
+      reply = refl;
+      called = tt;
+      turns = turned (user_sets setting) (setting_outcome old.endpoint setting) ∷ [];
+      are = (record { is = refl; comes = refl }, tt);
+      follows = record {
+        runs = runs;
+        goes_on = runs;
+        endpoint = refl;
+        events = sym (append-nil old.events);
+        words = refl;
+        pairs = refl;
+      };
+    }
 
-pub setting_called : (setting : Setting) (old new : UserView) → old.failed ≡ false → new ≡ with_setting setting old → Called (UserTurns old.endpoint (set_call setting)) old (Ok tt) new
-setting_called setting old new runs is = subst (λ (view : UserView). Called (UserTurns old.endpoint (set_call setting)) old (Ok tt) view) (sym is) (set_is_called setting old runs)
+pub setting_called : (setting : Setting) (old new : UserView) → old.failed ≡ false → new ≡ with_setting setting old → Called (UserTurns old.endpoint (set_call setting)) (IsCallReply old.endpoint (set_call setting)) old (Ok Done) new
+setting_called setting old new runs is = subst (λ (view : UserView). Called (UserTurns old.endpoint (set_call setting)) (IsCallReply old.endpoint (set_call setting)) old (Ok Done) view) (sym is) (set_is_called setting old runs)

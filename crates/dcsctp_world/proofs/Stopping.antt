@@ -88,10 +88,10 @@ module _ {R : Type 0} (Turns : List Turned → Type 0) (old : SideShown R) (sock
   stays_failed : old.socket.failed ≡ true → socket ≡ old.socket → Fails Turns old Failed (record old { socket = socket })
   stays_failed had_failed same = (had_failed, ap (λ (s : SocketView R). let side : SideShown R = record old { socket = s } in side) same)
 
-  pub call_fails : (fault : SocketFault) → Called Turns (user_view_of old.socket) (Err fault) (user_view_of socket)
+  pub call_fails : (IsIt : Reply → Type 0) (fault : SocketFault) → Called Turns IsIt (user_view_of old.socket) (Err fault) (user_view_of socket)
       → (fault ≡ Failed → socket ≡ old.socket) → Fails Turns old fault (record old { socket = socket })
-  call_fails OutOfMemory runs same = (runs, stops_before Turns old socket)
-  call_fails Failed had_failed same = stays_failed had_failed (same refl)
+  call_fails IsIt OutOfMemory runs same = (runs, stops_before Turns old socket)
+  call_fails IsIt Failed had_failed same = stays_failed had_failed (same refl)
 
   pub input_fails : (bytes : List ℕ) (fault : SocketFault) → HandlesInput (user_view_of old.socket) bytes (Err fault) (user_view_of socket)
       → (fault ≡ Failed → socket ≡ old.socket) → Fails Turns old fault (record old { socket = socket })

@@ -1,6 +1,6 @@
 -- How one side grows in an act.
-use Rattle.std.specs.Prelude.{◌≡◌, ℕ, true, false, Option, None, Some, Result, Ok, Err, List, [], ◌∷◌, ◌++◌, ◌⊎◌, map}
-use Rattle.dcsctp_machine.specs.Schedule.{CallContent, connect_call, close_call, ActContent, call_step, delivery_step, step_act, advance_call, set_call, OutsideContent, input_outside, outside_act}
+use Rattle.std.specs.Prelude.{◌≡◌, ℕ, true, false, Option, None, Some, Result, Ok, Err, List, [], ◌∷◌, ◌++◌, ◌⊎◌, map, length}
+use Rattle.dcsctp_machine.specs.Schedule.{CallContent, connect_call, close_call, ActContent, call_step, delivery_step, step_act, advance_call, set_call, send_call, send_many_call, take_call, OutsideContent, input_outside, outside_act}
 use Rattle.dcsctp_machine.specs.Event.{Event, packets_in}
 use Rattle.dcsctp_machine.specs.Endpoint.{Endpoint, association_of}
 use Rattle.dcsctp_machine.specs.Settings.{ports_of}
@@ -9,8 +9,11 @@ use Rattle.dcsctp_machine.specs.Sockets.{numbered}
 use Rattle.dcsctp_api.specs.declared.errors.SocketFault.{SocketFault}
 use Rattle.dcsctp_api.specs.declared.errors.SocketFault.TheVariants.{OutOfMemory, Failed}
 use Rattle.dcsctp_api.specs.Calls.{UserView, user_event, Follows}
+use Rattle.dcsctp_api.specs.Messages.{refusal_in, IsBatchAnswer, ready_messages, IsFirst}
+use Rattle.dcsctp_machine.specs.Transfer.{MessageContent}
+use Rattle.dcsctp_machine.specs.turns.MessageOutcomes.{MessageRefusal, message_refusal, sending_of, RefusedMessage, refused_from}
 use Rattle.dcsctp_world.specs.declared.act.Reply.{Reply}
-use Rattle.dcsctp_world.specs.declared.act.Reply.TheVariants.{NoCall, Done}
+use Rattle.dcsctp_world.specs.declared.act.Reply.TheVariants.{NoCall, Done, Sent, SentMany, Taken}
 use Rattle.dcsctp_world.specs.Shown.{SideShown}
 
 -- The new list begins with the old one.
@@ -88,6 +91,9 @@ told side turns = map (user_event (ports_of side.socket.view.endpoint.options)) 
 abbrev pub WasCalled : Reply → Type 0
 WasCalled NoCall = ⊥
 WasCalled Done = Unit {0}
+WasCalled (Sent answer) = Unit {0}
+WasCalled (SentMany answer) = Unit {0}
+WasCalled (Taken message) = Unit {0}
 
 -- Turns of this kind move the socket, and each list grows by what they show; no event waits. Where a call was made,
 -- its words and pairs are theirs; where none was, nothing changed.
@@ -127,17 +133,19 @@ abbrev pub Fails : {R : Type 0} → (List Turned → Type 0) → SideShown R →
 Fails Turns old OutOfMemory new = (old.socket.failed ≡ false) × Stops Turns old new
 Fails Turns old Failed new = (old.socket.failed ≡ true) × (new ≡ old)
 
--- A call of the user was made on a socket, by such turns; or a growth was refused in it; or the socket had failed, and
--- nothing has changed.
-abbrev pub Called : (List Turned → Type 0) → UserView → Result (Unit {0}) SocketFault → UserView → Type 0
-Called Turns old (Ok done) new = (turns : List Turned) × Turns turns × Follows old turns new
-Called Turns old (Err OutOfMemory) new = old.failed ≡ false
-Called Turns old (Err Failed) new = old.failed ≡ true
+-- A call of the user was made on a socket, by such turns, and its answer is such a reply.
+pub record CallMade (Turns : List Turned → Type 0) (IsIt : Reply → Type 0) (old : UserView) (answer : Reply) (new : UserView) : Type 0 where
+  pub reply : IsIt answer
+  pub called : WasCalled answer
+  pub turns : List Turned
+  pub are : Turns turns
+  pub follows : Follows old turns new
 
--- A call of the user was made at a side; or it failed.
-abbrev pub Calls : {R : Type 0} → (List Turned → Type 0) → SideShown R → Result (Unit {0}) SocketFault → SideShown R → Type 0
-Calls Turns old (Ok done) new = Grows Turns Done old new
-Calls Turns old (Err fault) new = Fails Turns old fault new
+-- It was made; or a growth was refused in it; or the socket had failed, and nothing has changed.
+abbrev pub Called : (List Turned → Type 0) → (Reply → Type 0) → UserView → Result Reply SocketFault → UserView → Type 0
+Called Turns IsIt old (Ok answer) new = CallMade Turns IsIt old answer new
+Called Turns IsIt old (Err OutOfMemory) new = old.failed ≡ false
+Called Turns IsIt old (Err Failed) new = old.failed ≡ true
 
 -- An act was worked at its side, with such a reply; or it failed.
 abbrev pub Works : {R : Type 0} → (List Turned → Type 0) → (Reply → Type 0) → SideShown R → Result Reply SocketFault → SideShown R → Type 0
@@ -167,12 +175,30 @@ abbrev pub IsDeliveryReply : Option (List ℕ) → Reply → Type 0
 IsDeliveryReply None reply = reply ≡ NoCall
 IsDeliveryReply (Some bytes) reply = reply ≡ Done
 
+-- It is what `send` answers where the message is refused so.
+abbrev pub IsSent : Option MessageRefusal → Reply → Type 0
+IsSent refusal (Sent answer) = refusal_in answer ≡ refusal
+IsSent refusal reply = ⊥
+
+-- It is what `send_many` answers where these are refused.
+abbrev pub IsSentMany : List RefusedMessage → Reply → Type 0
+IsSentMany refused (SentMany answer) = IsBatchAnswer refused answer
+IsSentMany refused reply = ⊥
+
+-- It is what `get_next_message` answers where these are ready.
+abbrev pub IsTaken : List MessageContent → Reply → Type 0
+IsTaken ready (Taken message) = IsFirst ready message
+IsTaken ready reply = ⊥
+
 -- It is what a call of this endpoint's user answers.
 abbrev pub IsCallReply : Endpoint → CallContent → Reply → Type 0
 IsCallReply e connect_call reply = reply ≡ Done
 IsCallReply e close_call reply = reply ≡ Done
 IsCallReply e (advance_call moment) reply = reply ≡ Done
 IsCallReply e (set_call setting) reply = reply ≡ Done
+IsCallReply e (send_call message options) reply = IsSent (message_refusal e message.stream (length message.payload)) reply
+IsCallReply e (send_many_call messages options) reply = IsSentMany (refused_from 0 e (map (sending_of options) messages)) reply
+IsCallReply e take_call reply = IsTaken (ready_messages e) reply
 
 -- It is what an act from outside answers.
 abbrev pub IsOutsideReply : OutsideContent → Reply → Type 0

@@ -4,16 +4,26 @@ ghost use Rattle.std.specs.Prelude.{◌≡◌, ◌↔◌, IsTrue, map};
 ghost use Rattle.dcsctp_machine.specs.Schedule.{act_content, AreHonest};
 ghost use Rattle.dcsctp_machine.specs.Sockets.{side_of_act};
 
+use dcsctp_api::{BatchSendError, Message, SendError};
 use dcsctp_machine::{Act, Outside, Side, Step};
 
 /// What the call of an act answered.
-#[derive(Clone, Copy, Debug, PartialEq, Eq)]
+#[derive(Debug, PartialEq, Eq, Drop)]
 pub enum Reply {
     /// No call was made: the number of a delivery names no packet.
     NoCall,
 
     /// The call was made, and has nothing to answer.
     Done,
+
+    /// What `send` answered.
+    Sent(Result<(), SendError>),
+
+    /// What `send_many` answered.
+    SentMany(Result<(), BatchSendError>),
+
+    /// What `get_next_message` answered.
+    Taken(Option<Message>),
 }
 
 /// The side at which an act happens.

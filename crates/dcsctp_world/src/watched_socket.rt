@@ -1,21 +1,25 @@
 //! One of the two sockets, with all that it ever showed.
 
-ghost use Rattle.std.specs.Prelude.{◌≡◌, [], ◌∷◌, IfOk, IsErrOf, IsOkUnless};
+ghost use Rattle.std.specs.Prelude.{◌≡◌, [], ◌∷◌, map, IfOk, IsErrOf, IsOkUnless};
 ghost use Rattle.std.specs.Option.{option_map};
 ghost use Rattle.dcsctp_machine.specs.Settings.{IsValid};
-ghost use Rattle.dcsctp_machine.specs.Schedule.{call_content, act_content};
+ghost use Rattle.dcsctp_machine.specs.Schedule.{call_content, act_content, send_call, send_many_call, take_call};
+ghost use Rattle.dcsctp_machine.specs.Transfer.{message_content};
 ghost use Rattle.dcsctp_machine.specs.CallTurns.{HandleInput};
 ghost use Rattle.dcsctp_machine.specs.Sockets.{numbered, UserTurns, DeliveryTurns, TurnsOfAct};
 ghost use Rattle.dcsctp_api.specs.Events.{event_content};
 ghost use Rattle.dcsctp_world.specs.declared.act.Reply.TheVariants.{Done};
 ghost use Rattle.dcsctp_socket.specs.SocketView.{user_view_of};
 ghost use Rattle.dcsctp_world.specs.Shown.{fresh_side};
-ghost use Rattle.dcsctp_world.specs.Growth.{Keeps, TakesAll, CollectsAll, Called, Calls, Works, Notes, IsReply, IsDeliveryReply};
+ghost use Rattle.dcsctp_world.specs.Growth.{Keeps, TakesAll, CollectsAll, Called, Works, Notes, IsReply, IsDeliveryReply, IsCallReply};
 ghost use Rattle.dcsctp_world.specs.Parts.{packet_bytes, kept, shown};
 
 use crate::act::Reply;
-use dcsctp_machine::{Act, Call, Outside, Step};
-use dcsctp_socket::{Association, DcSctpSocket, Options, Pair, Socket, SocketEvent, SocketFault};
+use dcsctp_machine::{Act, Call, Outside, Step, copied_messages};
+use dcsctp_socket::{
+    Association, DcSctpSocket, Message, Options, Pair, SendOptions, Socket, SocketEvent,
+    SocketFault,
+};
 use rand_core::Rng;
 use std::alloc::{AllocError, Global};
 
@@ -75,40 +79,96 @@ fn take_events<R: Rng + Drop>(
 }
 
 // Makes a call of the user. The errors are those of the call.
-fn make_call<R: Rng + Drop>(socket: &mut Socket<R>, call: Call) -> Result<(), SocketFault>
-    ensures call { Called (UserTurns socket.old.view.endpoint (call_content call))
+fn make_call<R: Rng + Drop>(socket: &mut Socket<R>, call: &Call) -> Result<Reply, SocketFault>
+    ensures call { Called (UserTurns socket.old.view.endpoint (call_content call.now))
+        (IsCallReply socket.old.view.endpoint (call_content call.now))
         (user_view_of socket.old) result (user_view_of socket.new) }
     ensures failed { IsErrOf result SocketFault.Failed → socket.new ≡ socket.old }
 {
     match call {
         Call::Connect => {
             socket.connect()?;
-            Ok(())
+            Ok(Reply::Done)
         }
         Call::Close => {
             socket.close()?;
-            Ok(())
+            Ok(Reply::Done)
         }
         Call::AdvanceTime(now) => {
-            socket.advance_time(now)?;
-            Ok(())
+            socket.advance_time(*now)?;
+            Ok(Reply::Done)
         }
         Call::SetStreamPriority(stream_id, priority) => {
-            socket.set_stream_priority(stream_id, priority)?;
-            Ok(())
+            socket.set_stream_priority(*stream_id, *priority)?;
+            Ok(Reply::Done)
         }
         Call::SetBufferedAmountLowThreshold(stream_id, bytes) => {
-            socket.set_buffered_amount_low_threshold(stream_id, bytes)?;
-            Ok(())
+            socket.set_buffered_amount_low_threshold(*stream_id, *bytes)?;
+            Ok(Reply::Done)
         }
         Call::SetMaxMessageSize(bytes) => {
             if socket.has_failed() {
                 return Err(SocketFault::Failed);
             }
-            socket.set_max_message_size(bytes);
-            Ok(())
+            socket.set_max_message_size(*bytes);
+            Ok(Reply::Done)
         }
+        Call::Send(message, options) => send(socket, message, options),
+        Call::SendMany(messages, options) => send_many(socket, messages, options),
+        Call::GetNextMessage => take_message(socket),
     }
+}
+
+// The user sends a copy of the message. The errors are those of the call, and `SocketFault::OutOfMemory` where
+// the copy finds no room.
+fn send<R: Rng + Drop>(
+    socket: &mut Socket<R>,
+    message: &Message,
+    options: &SendOptions,
+) -> Result<Reply, SocketFault>
+    ensures call { Called (UserTurns socket.old.view.endpoint (send_call (message_content message.now) options.now))
+        (IsCallReply socket.old.view.endpoint (send_call (message_content message.now) options.now))
+        (user_view_of socket.old) result (user_view_of socket.new) }
+    ensures failed { IsErrOf result SocketFault.Failed → socket.new ≡ socket.old }
+{
+    if socket.has_failed() {
+        return Err(SocketFault::Failed);
+    }
+    let answer = socket.send(message.copied()?, options)?;
+    Ok(Reply::Sent(answer))
+}
+
+// The same of several messages.
+fn send_many<R: Rng + Drop>(
+    socket: &mut Socket<R>,
+    messages: &Vec<Message>,
+    options: &SendOptions,
+) -> Result<Reply, SocketFault>
+    ensures call { Called (UserTurns socket.old.view.endpoint
+        (send_many_call (map message_content messages.now.items) options.now))
+        (IsCallReply socket.old.view.endpoint
+        (send_many_call (map message_content messages.now.items) options.now))
+        (user_view_of socket.old) result (user_view_of socket.new) }
+    ensures failed { IsErrOf result SocketFault.Failed → socket.new ≡ socket.old }
+{
+    if socket.has_failed() {
+        return Err(SocketFault::Failed);
+    }
+    let answer = socket.send_many(copied_messages(messages)?, options)?;
+    Ok(Reply::SentMany(answer))
+}
+
+// The user takes a message. The one error is that the socket had failed.
+fn take_message<R: Rng + Drop>(socket: &mut Socket<R>) -> Result<Reply, SocketFault>
+    ensures call { Called (UserTurns socket.old.view.endpoint take_call)
+        (IsCallReply socket.old.view.endpoint take_call)
+        (user_view_of socket.old) result (user_view_of socket.new) }
+    ensures failed { IsErrOf result SocketFault.Failed → socket.new ≡ socket.old }
+{
+    if socket.has_failed() {
+        return Err(SocketFault::Failed);
+    }
+    Ok(Reply::Taken(socket.get_next_message()))
 }
 
 // The packet of this number, counted from 1.
@@ -159,14 +219,15 @@ impl<R: Rng + Drop> WatchedSocket<R> {
 
     // The user calls. The errors are those of the call, and `SocketFault::OutOfMemory` where what it
     // brought finds no room.
-    fn call(&mut self, call: Call) -> Result<(), SocketFault>
+    fn call(&mut self, call: &Call) -> Result<Reply, SocketFault>
         requires { self.old.socket.view.events ≡ [] }
-        ensures { Calls (UserTurns self.old.socket.view.endpoint (call_content call)) (shown self.old) result
+        ensures { Works (UserTurns self.old.socket.view.endpoint (call_content call.now))
+            (IsCallReply self.old.socket.view.endpoint (call_content call.now)) (shown self.old) result
             (shown self.new) }
     {
-        make_call(&mut self.socket, call)?;
+        let reply = make_call(&mut self.socket, call)?;
         self.keep_all()?;
-        Ok(())
+        Ok(reply)
     }
 
     // Hands over these bytes. The errors are as those of `call`.
@@ -202,10 +263,7 @@ impl<R: Rng + Drop> WatchedSocket<R> {
             (IsReply self.old.socket.view.endpoint (packet_bytes packets.now) (act_content act.now)) (shown self.old) result (shown self.new) }
     {
         match act {
-            Act::Step(Step::Call(_, call)) => {
-                self.call(*call)?;
-                Ok(Reply::Done)
-            }
+            Act::Step(Step::Call(_, call)) => self.call(call),
             Act::Step(Step::Deliver(_, number)) => self.deliver(packets, *number),
             Act::Outside(Outside::Input(_, bytes)) => self.hand_in(bytes),
         }

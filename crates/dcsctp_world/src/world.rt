@@ -138,7 +138,7 @@ impl<R: Rng + Drop> World<R> {
         socket_laws();
         match work(&mut self.a, &mut self.b, &mut self.acts, act) {
             Ok(reply) => Ok(reply),
-            Err(_) => {
+            Err(_fault) => {
                 self.failed = true;
                 Err(SocketFault::OutOfMemory)
             }
@@ -158,7 +158,17 @@ impl<R: Rng + Drop> World<R> {
         ensures handshake { OnOk result (HandshakeConnects (options_of self.old) self.new) }
         ensures options { OnOk result (options_of self.new ≡ options_of self.old) }
     {
-        self.apply_act(Act::Step(*step))
+        // A world that has failed copies no step.
+        if self.failed {
+            return Err(SocketFault::Failed);
+        }
+        match step.copied() {
+            Ok(copy) => self.apply_act(Act::Step(copy)),
+            Err(_refused) => {
+                self.failed = true;
+                Err(SocketFault::OutOfMemory)
+            }
+        }
     }
 
     /// Applies an act from outside: the bytes are handed to the socket, whatever they say; all events are

@@ -7,7 +7,7 @@ use Rattle.dcsctp_machine.specs.declared.kinds.ErrorKind.TheVariants.{ProtocolVi
 use Rattle.dcsctp_machine.specs.Settings.{packet_size_limit}
 use Rattle.dcsctp_machine.specs.Event.{error}
 use Rattle.dcsctp_machine.specs.Packet.{Plain, unworked, error_of, plain, Emission}
-use Rattle.dcsctp_machine.specs.Transfer.{ReadyMessage, RetransmissionState, TrackerState, Transfer}
+use Rattle.dcsctp_machine.specs.Transfer.{MessageContent, RetransmissionState, TrackerState, Transfer}
 use Rattle.dcsctp_machine.specs.Endpoint.{Endpoint, Core, closed, cookie_wait, cookie_echoed, open_in, held_in}
 use Rattle.dcsctp_machine.specs.Outcome.{Outcome, still, reports, emits, behind, to_peer}
 use Rattle.dcsctp_machine.specs.control.Choices.{plain_contents}
@@ -160,14 +160,14 @@ EndsBy e (Some transfer) o =
 
 -- The first message that waits is taken.
 pub record TakesMessage (old new : Transfer) : Type 0 where
-  pub message : ReadyMessage
+  pub message : MessageContent
   pub first : old.reassembly.messages ≡ message ∷ new.reassembly.messages
   pub received : new.reassembly.messages_received ≡ old.reassembly.messages_received
   pub window : new.reassembly.window ≡ old.reassembly.window
   pub remaining : old.reassembly.remaining_bytes ≤ new.reassembly.remaining_bytes
   pub rest : new ≡ record old { reassembly = new.reassembly }
 
-abbrev pub TakeWhere : Endpoint → Transfer → List ReadyMessage → Outcome → Type 0
+abbrev pub TakeWhere : Endpoint → Transfer → List MessageContent → Outcome → Type 0
 TakeWhere e transfer [] o = o ≡ still e
 TakeWhere e transfer (message ∷ messages) o = (left : Transfer) × TakesMessage transfer left × (o ≡ still (with_transfer e left))
 

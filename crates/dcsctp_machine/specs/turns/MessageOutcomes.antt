@@ -1,11 +1,14 @@
 -- Messages that the user sends: which a socket takes, what is told of one that it refuses, and what goes out.
-use Rattle.std.specs.Prelude.{◌≡◌, ◌==◌, ◌||◌, is_none, ℕ, Bool, true, false, Option, None, Some, List, [], ◌∷◌, nat_le, nat_lt, codes, if◌then◌else◌}
+use Rattle.std.specs.Prelude.{◌≡◌, ◌==◌, ◌||◌, ◌+◌, ◌++◌, is_none, ℕ, Bool, true, false, Option, None, Some, List, [], ◌∷◌, length, nat_le, nat_lt, codes, if◌then◌else◌}
+use Rattle.std.specs.Option.{option_map}
 use Rattle.dcsctp_machine.specs.declared.kinds.ErrorKind.{ErrorKind}
 use Rattle.dcsctp_machine.specs.declared.kinds.ErrorKind.TheVariants.{ProtocolViolation, WrongSequence, ResourceExhaustion}
+use Rattle.dcsctp_machine.specs.declared.message.SendOptions.{SendOptions}
 use Rattle.dcsctp_machine.specs.declared.options.Options.{Options}
 use Rattle.dcsctp_machine.specs.Event.{Event, error, lifecycle_end}
 use Rattle.dcsctp_machine.specs.Packet.{Emission}
-use Rattle.dcsctp_machine.specs.Transfer.{SendQueueState, queued_stream, queue_added}
+use Rattle.dcsctp_machine.specs.Ids.{lifecycle_number}
+use Rattle.dcsctp_machine.specs.Transfer.{MessageContent, SendQueueState, queued_stream, queue_added}
 use Rattle.dcsctp_machine.specs.Endpoint.{Endpoint, Core, closed, cookie_wait, cookie_echoed, open_in, held_in, OpenPhase, established, shutdown_pending, shutdown_sent, shutdown_received, shutdown_ack_sent}
 use Rattle.dcsctp_machine.specs.Outcome.{Outcome, count_up, still, quiet, then_outcome}
 use Rattle.dcsctp_machine.specs.turns.FlushOutcomes.{Answer}
@@ -71,6 +74,11 @@ pub record Sending : Type 0 where
   pub bytes : ℕ
   pub lifecycle : Option ℕ
 
+-- a message that is to be sent so
+abbrev pub sending_of : SendOptions → MessageContent → Sending
+sending_of options message =
+    record { stream = message.stream; bytes = length message.payload; lifecycle = option_map lifecycle_number options.lifecycle_id }
+
 -- the endpoint once a message was taken
 abbrev pub message_queued : Endpoint → Sending → Endpoint
 message_queued e message =
@@ -91,6 +99,21 @@ queue_one e message = queue_by e message (message_refusal e message.stream messa
 abbrev pub queue_all : Endpoint → List Sending → Outcome
 queue_all e [] = still e
 queue_all e (message ∷ messages) = then_outcome (queue_one e message) (queue_all (queue_one e message).after messages)
+
+-- a message that is refused: its place among those that are sent together, from 0, and why
+pub record RefusedMessage : Type 0 where
+  pub place : ℕ
+  pub refusal : MessageRefusal
+
+abbrev pub refused_where : ℕ → Option MessageRefusal → List RefusedMessage
+refused_where place None = []
+refused_where place (Some refusal) = record { place = place; refusal = refusal } ∷ []
+
+-- those of these that are refused, in order, where the first has this place
+abbrev pub refused_from : ℕ → Endpoint → List Sending → List RefusedMessage
+refused_from place e [] = []
+refused_from place e (message ∷ messages) =
+    refused_where place (message_refusal e message.stream message.bytes) ++ refused_from (place + 1) (queue_one e message).after messages
 
 -- is one of them taken?
 abbrev pub takes_any : Endpoint → List Sending → Bool

@@ -3,7 +3,7 @@
 use Rattle.std.specs.Prelude.{◌≡◌, ◌⊎◌, ◌==◌, ◌≤◌, ◌<◌, ℕ, ◌+◌, ◌-◌, ◌*◌, ◌%◌, ◌^◌, Bool, true, false, not, ◌&&◌, ◌||◌, nat_le, nat_lt, Option, None, Some, IsSome, List, [], ◌∷◌, ◌++◌, if◌then◌else◌}
 use Rattle.dcsctp_machine.specs.Event.{Event, lifecycle_message_delivered, lifecycle_end}
 use Rattle.dcsctp_machine.specs.Packet.{Emission}
-use Rattle.dcsctp_machine.specs.Transfer.{ReadyMessage, RetransmissionState, TrackerState, ReassemblyState, Transfer}
+use Rattle.dcsctp_machine.specs.Transfer.{MessageContent, RetransmissionState, TrackerState, ReassemblyState, Transfer}
 
 -- ---- data that comes in
 
@@ -22,7 +22,7 @@ is_tsn_valid state tsn =
 
 -- What waits to be taken by the user stays, and more may come behind it.
 pub record GainsMessages (old new : ReassemblyState) : Type 0 where
-  pub more : List ReadyMessage
+  pub more : List MessageContent
   pub messages : new.messages ≡ old.messages ++ more
   pub window : new.window ≡ old.window
 

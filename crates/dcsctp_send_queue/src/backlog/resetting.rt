@@ -10,7 +10,7 @@ use std::alloc::AllocError;
 impl Backlog {
     ghost use Rattle.std.specs.Prelude.{◌≡◌, ◌==◌, ◌+◌, ◌-◌, ◌<◌, ◌++◌, length, take, Ok, Err, OnOk, OnErr, IfOk, IsTrue, ◌↔◌};
     ghost use Rattle.dcsctp_streams.specs.Waiting.{handed_out};
-    ghost use Rattle.dcsctp_api.specs.Ids.{stream_numbers};
+    ghost use Rattle.dcsctp_machine.specs.Ids.{stream_numbers};
     ghost use Rattle.dcsctp_streams.specs.Telling.{contents};
     ghost use Rattle.dcsctp_streams.specs.Ranking.{stream_at};
     ghost use Rattle.dcsctp_send_queue.specs.Leaving.{count_under_way, after_pause, pause_events};

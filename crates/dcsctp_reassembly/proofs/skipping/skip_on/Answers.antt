@@ -5,11 +5,11 @@ use Rattle.std.specs.BTreeMap.{get}
 use Rattle.std.specs.Ordering.{nat_cmp}
 use Rattle.std.proofs.lemmas.List.{length-map}
 use Rattle.std.proofs.lemmas.List.Sums.{sum_by-append}
-use Rattle.dcsctp_machine.specs.Transfer.{ReadyMessage}
+use Rattle.dcsctp_machine.specs.Transfer.{MessageContent, message_content}
 use Rattle.dcsctp_reassembly.specs.Held.{capped}
 use Rattle.dcsctp_reassembly.specs.QueuedBytes.{stream_bytes, ready_bytes}
 use Rattle.dcsctp_reassembly.specs.Runs.{whole_of}
-use Rattle.dcsctp_reassembly.specs.Streams.{StreamModel, stream_of, ready_of, skipped_stream, skip_deliveries, skip_bytes}
+use Rattle.dcsctp_reassembly.specs.Streams.{StreamModel, stream_of, skipped_stream, skip_deliveries, skip_bytes}
 use Rattle.dcsctp_reassembly.proofs.ReassemblyLemmas.{stream_on-get}
 use Rattle.dcsctp_reassembly.proofs.StreamBytes.{skipped_bytes}
 use Rattle.dcsctp_reassembly.proofs.StreamSums.{Written, stream_written}
@@ -35,7 +35,7 @@ returns-clause-made c =
 pub returns-clause-ready : goal.returns-clause-ready
 returns-clause-ready c =
     let found : get nat_cmp c.args.streams.now (skipped_stream c.args.entry.now) ≡ Some c.unwrap-stream.result.now = ap (λ (id : ℕ). get nat_cmp c.args.streams.now id) (sym c.stream_of.ensures) ∙ sym (subst (λ o. option_copied_mut o ≡ get nat_cmp c.args.streams.now c.stream_of.result.0) c.unwrap-stream.ensures c.get_mut.ensures.value) in
-    c.skip.ensures.ready ∙ ap (λ (stream : StreamModel). map ready_of c.args.ready.now.items ++ skip_deliveries c.args.entry.now stream) (sym (stream_on-get (skipped_stream c.args.entry.now) c.args.streams.now (Some c.unwrap-stream.result.now) found))
+    c.skip.ensures.ready ∙ ap (λ (stream : StreamModel). map message_content c.args.ready.now.items ++ skip_deliveries c.args.entry.now stream) (sym (stream_on-get (skipped_stream c.args.entry.now) c.args.streams.now (Some c.unwrap-stream.result.now) found))
 
 pub returns-clause-size : goal.returns-clause-size
 returns-clause-size c =
@@ -51,7 +51,7 @@ returns-clause-bytes c =
       written.bytes,
       ap stream_bytes c.skip.ensures.stream,
       ap ready_bytes c.skip.ensures.ready,
-      sum_by-append (λ (message : ReadyMessage). length message.payload) (map ready_of c.args.ready.now.items) (skip_deliveries c.args.entry.now (stream_of c.unwrap-stream.result.now)),
+      sum_by-append (λ (message : MessageContent). length message.payload) (map message_content c.args.ready.now.items) (skip_deliveries c.args.entry.now (stream_of c.unwrap-stream.result.now)),
       skipped_bytes c.args.entry.now (stream_of c.unwrap-stream.result.now),
       ap (λ (stream : StreamModel). skip_bytes c.args.entry.now stream) written.was,
     )

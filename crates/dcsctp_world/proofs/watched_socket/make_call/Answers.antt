@@ -4,7 +4,8 @@ use Rattle.dcsctp_machine.specs.Schedule.{call_content}
 use Rattle.dcsctp_machine.specs.Sockets.{UserTurns}
 use Rattle.dcsctp_machine.specs.turns.SettingOutcomes.{stream_priority, stream_low_threshold, longest_message}
 use Rattle.dcsctp_socket.specs.SocketView.{user_view_of}
-use Rattle.dcsctp_world.specs.Growth.{Called}
+use Rattle.dcsctp_world.specs.declared.act.Reply.TheVariants.{Done}
+use Rattle.dcsctp_world.specs.Growth.{Called, IsCallReply}
 use Rattle.dcsctp_world.proofs.Setting.{setting_called}
 use Rattle.dcsctp_world.proofs.watched_socket.make_call.Goals as goal
 
@@ -12,17 +13,17 @@ pub returns-in_ok-set_stream_priority-in-SetStreamPriority-clause-call :
     goal.returns-in_ok-set_stream_priority-in-SetStreamPriority-clause-call
 returns-in_ok-set_stream_priority-in-SetStreamPriority-clause-call g c =
     let set = c.in_ok-set_stream_priority-in-SetStreamPriority.ensures.call in
-    subst (λ (call : Call). Called (UserTurns c.args.socket.now.view.endpoint (call_content call)) (user_view_of c.args.socket.now) (Ok tt) (user_view_of c.set_stream_priority.new.self)) (sym c.in-SetStreamPriority.is)
+    subst (λ (call : Call). Called (UserTurns c.args.socket.now.view.endpoint (call_content call)) (IsCallReply c.args.socket.now.view.endpoint (call_content call)) (user_view_of c.args.socket.now) (Ok Done) (user_view_of c.set_stream_priority.new.self)) (sym c.in-SetStreamPriority.is)
     (setting_called (stream_priority c.in-SetStreamPriority.stream_id.0 c.in-SetStreamPriority.priority) (user_view_of c.args.socket.now) (user_view_of c.set_stream_priority.new.self) set.0 set.1)
 
 pub returns-in_ok-set_buffered_amount_low_threshold-in-SetBufferedAmountLowThreshold-clause-call :
     goal.returns-in_ok-set_buffered_amount_low_threshold-in-SetBufferedAmountLowThreshold-clause-call
 returns-in_ok-set_buffered_amount_low_threshold-in-SetBufferedAmountLowThreshold-clause-call g c =
     let set = c.in_ok-set_buffered_amount_low_threshold-in-SetBufferedAmountLowThreshold.ensures.call in
-    subst (λ (call : Call). Called (UserTurns c.args.socket.now.view.endpoint (call_content call)) (user_view_of c.args.socket.now) (Ok tt) (user_view_of c.set_buffered_amount_low_threshold.new.self)) (sym c.in-SetBufferedAmountLowThreshold.is)
+    subst (λ (call : Call). Called (UserTurns c.args.socket.now.view.endpoint (call_content call)) (IsCallReply c.args.socket.now.view.endpoint (call_content call)) (user_view_of c.args.socket.now) (Ok Done) (user_view_of c.set_buffered_amount_low_threshold.new.self)) (sym c.in-SetBufferedAmountLowThreshold.is)
     (setting_called (stream_low_threshold c.in-SetBufferedAmountLowThreshold.stream_id.0 c.in-SetBufferedAmountLowThreshold.bytes) (user_view_of c.args.socket.now) (user_view_of c.set_buffered_amount_low_threshold.new.self) set.0 set.1)
 
 pub returns-else-has_failed-clause-call : goal.returns-else-has_failed-clause-call
 returns-else-has_failed-clause-call g c =
-    subst (λ (call : Call). Called (UserTurns c.args.socket.now.view.endpoint (call_content call)) (user_view_of c.args.socket.now) (Ok tt) (user_view_of c.set_max_message_size.new.self)) (sym c.in-SetMaxMessageSize.is)
+    subst (λ (call : Call). Called (UserTurns c.args.socket.now.view.endpoint (call_content call)) (IsCallReply c.args.socket.now.view.endpoint (call_content call)) (user_view_of c.args.socket.now) (Ok Done) (user_view_of c.set_max_message_size.new.self)) (sym c.in-SetMaxMessageSize.is)
     (setting_called (longest_message c.in-SetMaxMessageSize.bytes) (user_view_of c.args.socket.now) (user_view_of c.set_max_message_size.new.self) (sym c.has_failed.ensures ∙ c.if-has_failed.false) c.set_max_message_size.ensures.call)

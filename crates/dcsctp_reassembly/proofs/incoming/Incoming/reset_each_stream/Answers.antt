@@ -2,7 +2,7 @@
 use Rattle.std.proofs.Common.{◌≡◌, ◌+◌, ◌∷◌, List, drop, get_or, arith, subst, sym}
 use Rattle.std.proofs.lemmas.List.{drop_more, drop_all}
 use Rattle.dcsctp_machine.specs.declared.ids.StreamId.{StreamId}
-use Rattle.dcsctp_api.specs.Ids.{stream_numbers}
+use Rattle.dcsctp_machine.specs.Ids.{stream_numbers}
 use Rattle.dcsctp_reassembly.specs.Reassembly.{incoming_of}
 use Rattle.dcsctp_reassembly.specs.Skipping.{ResetsEach}
 use Rattle.dcsctp_reassembly.proofs.SkippingLemmas.{ResetsEach-step, ResetsEach-none, Balances-both}

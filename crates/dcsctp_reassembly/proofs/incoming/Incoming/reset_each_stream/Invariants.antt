@@ -1,5 +1,5 @@
 use Rattle.std.proofs.Common.{drop}
-use Rattle.dcsctp_api.specs.Ids.{stream_numbers}
+use Rattle.dcsctp_machine.specs.Ids.{stream_numbers}
 use Rattle.dcsctp_reassembly.specs.Reassembly.{IncomingModel, Balances, incoming_of}
 use Rattle.dcsctp_reassembly.specs.Skipping.{ResetsEach}
 use Rattle.dcsctp_reassembly.proofs.incoming.Incoming.reset_each_stream.Given as goal

@@ -2,10 +2,10 @@
 use Rattle.std.proofs.Common.{◌≡◌, ◌+◌, ◌≤◌, ◌∷◌, List, map, length, drop, get_or, arith, ap, subst, sym, length-append}
 use Rattle.std.specs.VecDeque.{deque_len, deque_capacity}
 use Rattle.std.proofs.lemmas.List.{drop_more, drop_all, length-map}
-use Rattle.dcsctp_machine.specs.Transfer.{ReadyMessage}
+use Rattle.dcsctp_machine.specs.Transfer.{MessageContent, message_content}
 use Rattle.dcsctp_reassembly.specs.declared.arrivals.SkippedTo.{SkippedTo}
 use Rattle.dcsctp_reassembly.specs.declared.arrivals.SkippedTo.TheVariants.{Ssn}
-use Rattle.dcsctp_reassembly.specs.Streams.{ready_of, skipped_stream, skip_deliveries}
+use Rattle.dcsctp_reassembly.specs.Streams.{skipped_stream, skip_deliveries}
 use Rattle.dcsctp_reassembly.specs.Reassembly.{incoming_of, entry_of, stream_on}
 use Rattle.dcsctp_reassembly.specs.Skipping.{AllMade, SkipsAll, room_for}
 use Rattle.dcsctp_reassembly.proofs.SkippingLemmas.{AllMade-kept, SkipsAll-step, SkipsAll-none, Balances-both, room_left}
@@ -34,10 +34,10 @@ loop-entry-preserved c =
         arith,
         left,
         c.skip.ensures.room,
-        ap (λ (messages : List ReadyMessage). length messages) c.skip.ensures.skips.ready,
-        length-append (map ready_of c.loop-entry.self.ready.items) (skip_deliveries entry (stream_on (skipped_stream entry) (map entry_of c.loop-entry.self.streams.entries))),
-        length-map c.loop-entry.self.ready.items ready_of,
-        length-map c.skip.new.self.ready.items ready_of,
+        ap (λ (messages : List MessageContent). length messages) c.skip.ensures.skips.ready,
+        length-append (map message_content c.loop-entry.self.ready.items) (skip_deliveries entry (stream_on (skipped_stream entry) (map entry_of c.loop-entry.self.streams.entries))),
+        length-map c.loop-entry.self.ready.items message_content,
+        length-map c.skip.new.self.ready.items message_content,
       );
       bytes = Balances-both c.args.self.now c.loop-entry.self c.skip.new.self c.loop-entry.invariant.bytes c.skip.ensures.bytes;
     }

@@ -1,9 +1,9 @@
 -- The bytes that are kept are counted.
+use Rattle.dcsctp_machine.specs.Transfer.{message_content}
 use Rattle.std.proofs.Common.{map, length, arith, ap}
 use Rattle.dcsctp_reassembly.specs.Held.{runs_bytes}
 use Rattle.dcsctp_reassembly.specs.QueuedBytes.{ready_bytes, streams_bytes}
 use Rattle.dcsctp_reassembly.specs.Runs.{PartModel, run_of, part_of}
-use Rattle.dcsctp_reassembly.specs.Streams.{ready_of}
 use Rattle.dcsctp_reassembly.specs.Reassembly.{IncomingModel}
 use Rattle.dcsctp_reassembly.proofs.StreamBytes.{unordered_counted}
 use Rattle.dcsctp_reassembly.proofs.incoming.Incoming.take_unordered.Goals as goal
@@ -11,7 +11,7 @@ use Rattle.dcsctp_reassembly.proofs.incoming.Incoming.take_unordered.Goals as go
 pub returns-clause-bytes : goal.returns-clause-bytes
 returns-clause-bytes c =
     λ within.
-    let counted = unordered_counted (part_of c.part_of_data-part.result) c.args.chunk.stream_id.0 (map run_of c.args.self.now.unordered.items) (map ready_of c.args.self.now.ready.items) c.in_ok-taken.taken (map run_of c.take_unordered.new.runs.items) (map ready_of c.take_unordered.new.ready.items) c.in_ok-taken.ensures.ok in
+    let counted = unordered_counted (part_of c.part_of_data-part.result) c.args.chunk.stream_id.0 (map run_of c.args.self.now.unordered.items) (map message_content c.args.self.now.ready.items) c.in_ok-taken.taken (map run_of c.take_unordered.new.runs.items) (map message_content c.take_unordered.new.ready.items) c.in_ok-taken.ensures.ok in
     omega (
       arith,
       counted.0,

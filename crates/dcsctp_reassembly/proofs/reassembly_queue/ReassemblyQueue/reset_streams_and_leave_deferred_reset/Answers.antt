@@ -1,7 +1,7 @@
 -- The streams are reset, and what waited is worked.
 use Rattle.std.proofs.Common.{◌≡◌, Option, None, Some, refl, sym, ◌∙◌, ap, subst}
 use Rattle.std.specs.Option.{option_map}
-use Rattle.dcsctp_api.specs.Ids.{stream_numbers}
+use Rattle.dcsctp_machine.specs.Ids.{stream_numbers}
 use Rattle.dcsctp_reassembly.specs.declared.reassembly_queue.Deferral.{Deferral}
 use Rattle.dcsctp_reassembly.specs.contracts.reassembly_queue.ReassemblyQueue.{the_view}
 use Rattle.dcsctp_reassembly.specs.Reassembly.{incoming_of}

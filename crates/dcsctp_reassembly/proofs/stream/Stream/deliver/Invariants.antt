@@ -1,6 +1,7 @@
+use Rattle.dcsctp_machine.specs.Transfer.{message_content}
 use Rattle.std.proofs.Common.{◌≡◌, ◌+◌, ◌≤◌, ◌++◌, map, length}
 use Rattle.std.specs.VecDeque.{deque_len, deque_capacity}
-use Rattle.dcsctp_reassembly.specs.Streams.{stream_of, ready_of, delivered_from, deliveries_from}
+use Rattle.dcsctp_reassembly.specs.Streams.{stream_of, delivered_from, deliveries_from}
 use Rattle.dcsctp_reassembly.proofs.stream.Stream.deliver.Given as goal
 
 -- What is delivered from here on, with what was, is what is delivered from the beginning.
@@ -11,7 +12,7 @@ invariant-loop-self l =
       capacity : deque_capacity l.ready ≡ deque_capacity l.initial.ready;
       bound : l.count + deque_len l.self.waiting ≤ deque_len l.initial.self.waiting;
       stream : delivered_from l.self.next (stream_of l.self) ≡ delivered_from l.initial.self.next (stream_of l.initial.self);
-      ready : map ready_of l.ready.items ++ deliveries_from l.self.next (stream_of l.self) ≡ map ready_of l.initial.ready.items ++ deliveries_from l.initial.self.next (stream_of l.initial.self);
+      ready : map message_content l.ready.items ++ deliveries_from l.self.next (stream_of l.self) ≡ map message_content l.initial.ready.items ++ deliveries_from l.initial.self.next (stream_of l.initial.self);
       count : l.count + length (deliveries_from l.self.next (stream_of l.self)) ≡ length (deliveries_from l.initial.self.next (stream_of l.initial.self));
     }
 

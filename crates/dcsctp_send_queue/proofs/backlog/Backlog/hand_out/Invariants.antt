@@ -1,5 +1,5 @@
 use Rattle.std.proofs.Common.{◌≡◌, take}
-use Rattle.dcsctp_api.specs.Ids.{stream_numbers}
+use Rattle.dcsctp_machine.specs.Ids.{stream_numbers}
 use Rattle.dcsctp_send_queue.specs.Resets.{handing_out}
 use Rattle.dcsctp_send_queue.proofs.backlog.Backlog.hand_out.Given as goal
 

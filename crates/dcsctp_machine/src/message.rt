@@ -1,14 +1,15 @@
 //! Messages, and how they are to be sent.
 
-ghost use Rattle.std.specs.Prelude.{◌≡◌};
+ghost use Rattle.std.specs.Prelude.{◌≡◌, map, IfOk};
+ghost use Rattle.dcsctp_machine.specs.Transfer.{message_content};
 
-use crate::ids::{LifecycleId, PpId};
-use dcsctp_machine::StreamId;
+use crate::ids::{LifecycleId, PpId, StreamId};
+use std::alloc::AllocError;
 use std::time::Duration;
 
 /// How a message is to be sent. By default it is sent in order and until it is acknowledged, and no
 /// events follow it.
-#[derive(Default, Drop)]
+#[derive(Clone, Copy, Debug, Default, PartialEq, Eq)]
 pub struct SendOptions {
     /// The peer may be given the message out of order.
     pub unordered: bool,
@@ -26,7 +27,7 @@ pub struct SendOptions {
 }
 
 /// Bytes that are sent and received as a whole.
-#[derive(Debug, Drop)]
+#[derive(Clone, Debug, PartialEq, Eq, Drop)]
 pub struct Message {
     /// The stream that it goes by.
     pub stream_id: StreamId,
@@ -39,6 +40,13 @@ pub struct Message {
 }
 
 impl Message {
+    /// A message that says the same. The one error is want of memory.
+    pub fn copied(&self) -> Result<Message, AllocError>
+        ensures { IfOk result (λ copy. message_content copy ≡ message_content self.now) }
+    {
+        self.clone()
+    }
+
     /// The message of these three parts.
     pub fn new(stream_id: StreamId, ppid: PpId, payload: Vec<u8>) -> Message
         ensures stream { result.stream_id ≡ stream_id }
@@ -51,4 +59,16 @@ impl Message {
             payload,
         }
     }
+}
+
+/// Messages that say the same. The one error is want of memory.
+pub fn copied_messages(messages: &Vec<Message>) -> Result<Vec<Message>, AllocError>
+    ensures { IfOk result (λ copies. map message_content copies.items ≡ map message_content
+        messages.now.items) }
+{
+    let mut copies = Vec::with_capacity(*messages.allocator(), messages.len())?;
+    for message in messages {
+        copies.push(message.copied()?)?;
+    }
+    Ok(copies)
 }

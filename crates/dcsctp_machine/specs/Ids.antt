@@ -1,6 +1,6 @@
 -- The numbers behind the identifiers.
 use Rattle.std.specs.Prelude.{ℕ, List, map}
-use Rattle.dcsctp_api.specs.declared.ids.LifecycleId.{LifecycleId}
+use Rattle.dcsctp_machine.specs.declared.ids.LifecycleId.{LifecycleId}
 use Rattle.dcsctp_machine.specs.declared.ids.StreamId.{StreamId}
 
 -- the number of a message's name; it is not 0

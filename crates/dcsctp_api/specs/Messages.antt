@@ -1,0 +1,85 @@
+-- What the calls that send and take messages do.
+use Rattle.std.specs.Prelude.{◌≡◌, ℕ, Option, Some, None, Result, Ok, Err, List, [], ◌∷◌, map, length}
+use Rattle.dcsctp_machine.specs.declared.message.Message.{Message}
+use Rattle.dcsctp_machine.specs.declared.message.SendOptions.{SendOptions}
+use Rattle.dcsctp_machine.specs.Transfer.{MessageContent, message_content, Transfer}
+use Rattle.dcsctp_machine.specs.Endpoint.{Endpoint}
+use Rattle.dcsctp_machine.specs.Outcome.{Outcome}
+use Rattle.dcsctp_machine.specs.Turn.{Input, user_sends}
+use Rattle.dcsctp_machine.specs.turns.DataOutcomes.{TakeTurn}
+use Rattle.dcsctp_machine.specs.turns.MessageOutcomes.{MessageRefusal, empty_payload, message_too_large, shutting_down, resource_exhaustion, message_refusal, sending_of, RefusedMessage, refused_from}
+use Rattle.dcsctp_machine.specs.CallTurns.{Turned, Turns}
+use Rattle.dcsctp_api.specs.declared.errors.BatchSendError.{BatchSendError}
+use Rattle.dcsctp_api.specs.declared.errors.SendError.{SendError}
+use Rattle.dcsctp_api.specs.declared.errors.SendError.TheVariants.{EmptyPayload, MessageTooLarge, ResourceExhaustion, ShuttingDown}
+use Rattle.dcsctp_api.specs.declared.errors.SocketFault.{SocketFault}
+use Rattle.dcsctp_api.specs.declared.errors.SocketFault.TheVariants.{OutOfMemory, Failed}
+use Rattle.dcsctp_api.specs.Calls.{UserView, Follows, RanOut, StaysFailed}
+
+-- ---- what is answered
+
+-- the reason that an error tells
+abbrev pub refusal_of : SendError → MessageRefusal
+refusal_of EmptyPayload = empty_payload
+refusal_of (MessageTooLarge bytes limit) = message_too_large bytes limit
+refusal_of ResourceExhaustion = resource_exhaustion
+refusal_of ShuttingDown = shutting_down
+
+-- why the message was refused, by what is answered
+abbrev pub refusal_in : Result (Unit {0}) SendError → Option MessageRefusal
+refusal_in (Ok done) = None
+refusal_in (Err error) = Some (refusal_of error)
+
+-- the messages that such a list names
+abbrev pub refused_in : List (ℕ × SendError) → List RefusedMessage
+refused_in errors = map (λ error. record { place = error.0; refusal = refusal_of error.1 }) errors
+
+-- None is refused, or all that are refused are told.
+abbrev pub IsBatchAnswer : List RefusedMessage → Result (Unit {0}) BatchSendError → Type 0
+IsBatchAnswer refused (Ok done) = refused ≡ []
+IsBatchAnswer refused (Err error) = (refused_in error.0.items ≡ refused) × (refused ≡ [] → ⊥)
+
+-- ---- send and send_many
+
+-- The call is the turn of this input.
+abbrev pub IsTurnOf : Input → UserView → UserView → Type 0
+IsTurnOf input old new = (turns : List Turned) × Turns old.endpoint (input ∷ []) turns × Follows old turns new
+
+-- The call is one turn, and answers whether the message was refused; or a growth was refused, and the first of its events may
+-- stand.
+abbrev pub Sends : MessageContent → SendOptions → UserView → Result (Result (Unit {0}) SendError) SocketFault → UserView → Type 0
+Sends message options old (Ok answer) new =
+    (refusal_in answer ≡ message_refusal old.endpoint message.stream (length message.payload))
+    × IsTurnOf (user_sends (sending_of options message ∷ [])) old new
+Sends message options old (Err OutOfMemory) new = RanOut old (Turns old.endpoint (user_sends (sending_of options message ∷ []) ∷ [])) new
+Sends message options old (Err Failed) new = StaysFailed old new
+
+-- the same of several messages
+abbrev pub SendsMany : List MessageContent → SendOptions → UserView → Result (Result (Unit {0}) BatchSendError) SocketFault → UserView → Type 0
+SendsMany messages options old (Ok answer) new =
+    IsBatchAnswer (refused_from 0 old.endpoint (map (sending_of options) messages)) answer
+    × IsTurnOf (user_sends (map (sending_of options) messages)) old new
+SendsMany messages options old (Err OutOfMemory) new = RanOut old (Turns old.endpoint (user_sends (map (sending_of options) messages) ∷ [])) new
+SendsMany messages options old (Err Failed) new = StaysFailed old new
+
+-- ---- get_next_message
+
+abbrev pub ready_below : Option Transfer → List MessageContent
+ready_below None = []
+ready_below (Some transfer) = transfer.reassembly.messages
+
+-- the messages that are ready to be taken, in order
+abbrev pub ready_messages : Endpoint → List MessageContent
+ready_messages e = ready_below e.below.transfer
+
+-- It is the first of these, or there is none.
+abbrev pub IsFirst : List MessageContent → Option Message → Type 0
+IsFirst ready None = ready ≡ []
+IsFirst ready (Some message) = (rest : List MessageContent) × (ready ≡ message_content message ∷ rest)
+
+-- The first message that is ready is taken, and nothing is told; no word is drawn.
+pub record TakesNext (old : UserView) (result : Option Message) (new : UserView) : Type 0 where
+  pub first : IsFirst (ready_messages old.endpoint) result
+  pub outcome : Outcome
+  pub turn : TakeTurn old.endpoint old.endpoint.below.transfer outcome
+  pub is : new ≡ record old { endpoint = outcome.after; words = []; pairs = [] }

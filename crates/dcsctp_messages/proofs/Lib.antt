@@ -1,0 +1,4 @@
+pub mod QueueingLemmas
+pub mod RefusalLemmas
+pub mod SendingLemmas
+pub mod TakingLemmas

@@ -1,0 +1,14 @@
+-- What taking a message does, as a turn of a socket's view.
+use Rattle.std.specs.Prelude.{◌≡◌, Option}
+use Rattle.dcsctp_machine.specs.declared.message.Message.{Message}
+use Rattle.dcsctp_machine.specs.Outcome.{Outcome}
+use Rattle.dcsctp_machine.specs.turns.DataOutcomes.{TakeTurn}
+use Rattle.dcsctp_api.specs.Messages.{IsFirst, ready_messages}
+use Rattle.dcsctp_core.specs.View.{View}
+
+-- The first message that is ready is taken, where one is, and nothing is told.
+pub record TakesNextOf {R : Type 0} (old : View R) (result : Option Message) (new : View R) : Type 0 where
+  pub first : IsFirst (ready_messages old.endpoint) result
+  pub outcome : Outcome
+  pub turn : TakeTurn old.endpoint old.endpoint.below.transfer outcome
+  pub is : new ≡ record old { endpoint = outcome.after }

@@ -1,0 +1,47 @@
+//! Printing messages that are taken, and why one is refused, on a line.
+
+use crate::printing::side_name;
+use dcsctp_api::{Message, SendError};
+use dcsctp_machine::Side;
+use std::io::{self, Write};
+
+/// Prints the message that a side took: its stream, its protocol and its bytes in hexadecimal digits; or that
+/// there was none.
+///
+/// The one error is the writer's, which may have taken a part of the line then.
+pub fn print_taken<W: Write>(
+    side: Side,
+    message: Option<&Message>,
+    output: &mut W,
+) -> io::Result<()> {
+    let name = side_name(side);
+    let Some(message) = message else {
+        return writeln!(output, "{name} no-message");
+    };
+    let (stream, protocol) = (message.stream_id, message.ppid);
+    write!(output, "{name} message {stream} {protocol} ")?;
+    print_bytes(&message.payload, output)?;
+    writeln!(output)
+}
+
+// Prints bytes as two digits each.
+fn print_bytes<W: Write>(bytes: &[u8], output: &mut W) -> io::Result<()> {
+    for byte in bytes {
+        write!(output, "{byte:02x}")?;
+    }
+    Ok(())
+}
+
+/// Prints why a side refused a message, by the number of the reason.
+///
+/// The one error is the writer's, which may have taken a part of the line then.
+pub fn print_refusal<W: Write>(side: Side, error: &SendError, output: &mut W) -> io::Result<()> {
+    let name = side_name(side);
+    let number = match error {
+        SendError::EmptyPayload => 1,
+        SendError::MessageTooLarge { len: _, limit: _ } => 2,
+        SendError::ResourceExhaustion => 3,
+        SendError::ShuttingDown => 4,
+    };
+    writeln!(output, "{name} refused E{number}")
+}
