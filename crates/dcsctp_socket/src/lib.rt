@@ -1,9 +1,10 @@
 //! An SCTP socket (RFC 9260) that makes no system call: packets go in, events come out.
 //!
-//! There are four kinds of call. Queries (`state`, `association`, `verification_tag`, `drawn_pairs`,
-//! `has_failed`) answer and change nothing. Inputs (`handle_input`, `advance_time`) bring what the peer
-//! sent, and the time. Commands (`connect`) say what the user wants. Polls (`poll_event`,
-//! `poll_timeout`) take what the socket has to tell, and ask when it wants to be told the time. A user
+//! There are four kinds of call. Queries (`state`, `association`, `messages_ready_count`, `has_failed`, ..)
+//! answer and change nothing. Inputs (`handle_input`, `advance_time`) bring what the peer sent, and the
+//! time. Commands (`connect`, `close`, `send`, `set_stream_priority`, ..) say what the user wants. Polls
+//! (`poll_event`, `get_next_message`, `poll_timeout`) take what the socket has to tell and the messages
+//! that came in, and ask when it wants to be told the time. A user
 //! drives it by a loop, and takes all that waits after each call (the crate `dcsctp_example` has it
 //! whole, with its contract):
 //!
