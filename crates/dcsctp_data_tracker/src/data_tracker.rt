@@ -311,6 +311,14 @@ impl DataTracker {
         is_due(self.acknowledgement, false)
     }
 
+    /// Did data come in that isn't acknowledged yet? Then a SACK may go along with other chunks (RFC 9260,
+    /// section 6.1).
+    pub fn owes_acknowledgement(&self) -> bool
+        ensures { result ≡ (tracker_state self.now).owes_acknowledgement }
+    {
+        is_due(self.acknowledgement, true)
+    }
+
     /// Is a SACK to be sent now? One that is delayed counts where other chunks go out that it can go along
     /// with. Where the answer is yes, all counts as acknowledged.
     pub fn should_send_ack(&mut self, also_if_delayed: bool) -> bool

@@ -15,6 +15,9 @@ use std::alloc::{AllocError, Global};
 use std::collections::VecDeque;
 use std::marker::Model;
 
+// For how many items room is kept.
+const KEPT_ROOM: usize = 8;
+
 /// The items that are outstanding, in the order of their TSNs.
 ///
 /// A contract sees the list of them, with the TSN of the first.
@@ -226,6 +229,17 @@ impl Outstanding {
         let _ = &self.first_tsn;
         for _ in 0..count {
             self.remove_one();
+        }
+        self.give_room_back();
+    }
+
+    // Gives half of the room for items back where less than a quarter of it is in use.
+    fn give_room_back(&mut self)
+        ensures { self.new ≡ self.old }
+    {
+        let room = self.items.capacity();
+        if KEPT_ROOM < room && self.items.len() < room / 4 {
+            self.items.shrink_to(room / 2);
         }
     }
 

@@ -7,6 +7,9 @@ use std::alloc::{AllocError, Global};
 use std::collections::VecDeque;
 use std::marker::Model;
 
+// For how many messages a stream keeps room.
+const KEPT_ROOM: usize = 8;
+
 /// May a stream begin another message?
 #[derive(Clone, Copy, Debug, PartialEq, Eq)]
 pub enum Pause {
@@ -182,7 +185,19 @@ impl OutgoingStream {
         ensures left { self.new ≡ without_front self.old }
         ensures result { result ≡ front_of self.old.messages }
     {
-        self.messages.pop_front()
+        let message = self.messages.pop_front();
+        self.give_room_back();
+        message
+    }
+
+    // Gives half of the room for messages back where less than a quarter of it is in use.
+    fn give_room_back(&mut self)
+        ensures { self.new ≡ self.old }
+    {
+        let room = self.messages.capacity();
+        if KEPT_ROOM < room && self.messages.len() < room / 4 {
+            self.messages.shrink_to(room / 2);
+        }
     }
 
     /// Keeps only so many of its messages, the oldest, and pauses it.

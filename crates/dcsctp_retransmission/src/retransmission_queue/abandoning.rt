@@ -138,8 +138,8 @@ impl RetransmissionQueue {
         item.progress.state.is_unacknowledged()
     }
 
-    // Was the message of the first item given up?
-    fn is_first_abandoned(&self) -> bool
+    /// Was the message of the first item given up?
+    pub fn is_first_abandoned(&self) -> bool
         ensures { result ≡ is_first_abandoned self.now.outstanding.items }
     {
         if self.outstanding.len() == 0 {

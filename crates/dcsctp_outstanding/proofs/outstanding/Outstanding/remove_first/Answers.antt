@@ -21,4 +21,4 @@ loop-preserved c =
 pub returns : goal.returns
 returns c =
     let end : c.loop.counter ≡ c.args.count = omega (arith, c.loop.invariant.1, c.loop-test.false) in
-    c.loop.invariant.0 ∙ rw end refl
+    c.give_room_back.ensures ∙ c.loop.invariant.0 ∙ rw end refl
