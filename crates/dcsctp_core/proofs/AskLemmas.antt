@@ -1,18 +1,18 @@
 -- What each step of a flush does, by whether a growth was refused.
-use Rattle.std.proofs.Common.{◌≡◌, ◌||◌, ◌&&◌, not, ℕ, Bool, true, false, Option, None, Some, Result, Ok, Err, IsOk, List, [], ◌∷◌, ◌++◌, map, refl, sym, ap, subst, ◌∙◌}
+use Rattle.std.proofs.Common.{◌≡◌, ◌||◌, ◌&&◌, ℕ, Bool, true, false, Option, None, Some, Result, Ok, Err, IsOk, List, [], refl, sym, ap, subst, ◌∙◌}
 use Rattle.std.proofs.lemmas.List.{append-nil}
 use Rattle.rand_core.specs.Stream.{Stream}
 use Rattle.dcsctp_build.specs.Building.{Building}
 use Rattle.dcsctp_machine.specs.Event.{Event}
 use Rattle.dcsctp_machine.specs.Packet.{Emission}
-use Rattle.dcsctp_machine.specs.Transfer.{SendQueueState, Transfer, has_data, is_idle}
+use Rattle.dcsctp_machine.specs.Transfer.{SendQueueState, Transfer, has_data}
 use Rattle.dcsctp_machine.specs.turns.FlushOutcomes.{Ask, first_ask, later_ask}
 use Rattle.dcsctp_transfer.specs.Filling.{TellsMore, is_sack_wanted, Acknowledges}
 use Rattle.dcsctp_transfer.proofs.TellingLemmas.{tells_then}
 use Rattle.dcsctp_core.specs.declared.context.Context.{Context}
 use Rattle.dcsctp_core.specs.declared.state.State.{State}
 use Rattle.dcsctp_core.specs.View.{View, transfer_of, view_of}
-use Rattle.dcsctp_core.specs.Flushing.{packet_for, state_with, AcknowledgesBelow, ForwardsAt, HasNoData, WantsNone, can_send_below, TriesData, Fills, FillsWith, AskCut, AsksWith, SendsUnlessEmpty, KeepsSize}
+use Rattle.dcsctp_core.specs.Flushing.{packet_for, AcknowledgesBelow, ForwardsAt, HasNoData, WantsNone, can_send_below, TriesData, Fills, FillsWith, AskCut, AsksWith, SendsUnlessEmpty, KeepsSize}
 use Rattle.dcsctp_core.proofs.FillLemmas.{idle_parts, fills_later}
 use Rattle.dcsctp_core.proofs.FirstLemmas.{transfer_is, fills_first, IsBusy, cut_busy}
 use Rattle.dcsctp_core.proofs.FlushLemmas.{asks_for, ask_cut}

@@ -1,20 +1,17 @@
 -- A packet of what was lost goes out at once.
-use Rattle.std.proofs.Common.{◌≡◌, ◌==◌, ◌++◌, not, ℕ, Bool, true, false, Option, None, Some, Result, Ok, Err, List, [], ◌∷◌, map, refl, sym, ap, subst, ◌∙◌}
-use Rattle.std.specs.List.{AllByRecursion, flat_map}
+use Rattle.std.proofs.Common.{◌≡◌, ◌==◌, ◌++◌, not, ℕ, Bool, true, false, Option, None, Some, List, [], ◌∷◌, map, refl, sym, ap, subst, ◌∙◌}
+use Rattle.std.specs.List.{flat_map}
 use Rattle.rand_core.specs.Stream.{Stream}
 use Rattle.dcsctp_build.specs.Building.{Building}
-use Rattle.dcsctp_wire.specs.Content.{ChunkContent}
 use Rattle.dcsctp_wire.specs.Spelling.{chunk_bytes, header_bytes, packet_bytes_of}
 use Rattle.dcsctp_machine.specs.declared.association.Held.{Held}
-use Rattle.dcsctp_machine.specs.declared.options.Options.{Options}
 use Rattle.dcsctp_machine.specs.Event.{Event}
-use Rattle.dcsctp_machine.specs.Packet.{Plain, unworked, Content, Emission, emission_bytes}
-use Rattle.dcsctp_machine.specs.Settings.{ports_of}
+use Rattle.dcsctp_machine.specs.Packet.{Plain, unworked, Content, Emission}
 use Rattle.dcsctp_machine.specs.Transfer.{Transfer}
 use Rattle.dcsctp_machine.specs.Endpoint.{Endpoint, held_in}
-use Rattle.dcsctp_machine.specs.Outcome.{Outcome, still, quiet, sends}
+use Rattle.dcsctp_machine.specs.Outcome.{Outcome, still, sends}
 use Rattle.dcsctp_machine.specs.control.Choices.{plain_contents}
-use Rattle.dcsctp_machine.specs.turns.FlushOutcomes.{Answer, draft_to, filled, goes_out, is_none, IsWithin}
+use Rattle.dcsctp_machine.specs.turns.FlushOutcomes.{Answer, draft_to, goes_out, is_none}
 use Rattle.dcsctp_machine.specs.turns.DataOutcomes.{with_transfer, SendsAtOnce, FastRetransmits}
 use Rattle.dcsctp_transfer.specs.Sacks.{FillsAtOnce}
 use Rattle.dcsctp_core.specs.declared.context.Context.{Context}
@@ -30,7 +27,7 @@ use Rattle.dcsctp_core.proofs.FillLemmas.{data_kinds, data_fit}
 use Rattle.dcsctp_core.proofs.FlushLemmas.{fits_by}
 use Rattle.dcsctp_core.proofs.LoopLemmas.{held_by_tcb, none_by_tcb, packet_to}
 use Rattle.dcsctp_core.proofs.Moving.{moves_still}
-use Rattle.dcsctp_core.proofs.SentLemmas.{body_of, body_of_chunks, none_as_bytes, sent_moves, built_bytes}
+use Rattle.dcsctp_core.proofs.SentLemmas.{body_of_chunks, none_as_bytes, sent_moves, built_bytes}
 
 -- the packet that was filled, if it holds a chunk
 goes : {R : Type 0} (stream : R → Stream) (v : View R) (after : Transfer) (with_checksum : Bool) (tag : ℕ) (contents : List Content) (packet : Building) (new : View R)

@@ -1,25 +1,22 @@
 -- How the first packet of a flush is filled: what acknowledges goes before data.
-use Rattle.std.proofs.Common.{◌≡◌, ◌||◌, ◌+◌, ◌≤◌, ◌<◌, nat_le, ℕ, Bool, true, false, Option, None, Some, List, [], ◌∷◌, ◌++◌, length, map, append_assoc, refl, sym, ap, subst, ◌∙◌, arith}
+use Rattle.std.proofs.Common.{◌≡◌, ◌||◌, ◌≤◌, ◌<◌, nat_le, ℕ, Bool, true, false, Option, None, Some, List, [], ◌∷◌, ◌++◌, length, map, append_assoc, refl, sym, ap, subst, ◌∙◌, arith}
 use Rattle.std.specs.Prelude.{if◌then◌else◌}
 use Rattle.std.specs.List.{AllByRecursion}
 use Rattle.std.proofs.lemmas.Bool.Decides.{nat_tests}
 use Rattle.std.proofs.lemmas.List.{append-nil, map-append}
 use Rattle.dcsctp_build.specs.Building.{Building, bytes_remaining}
-use Rattle.dcsctp_machine.specs.declared.options.Options.{Options}
 use Rattle.dcsctp_machine.specs.Settings.{ports_of}
-use Rattle.dcsctp_machine.specs.Event.{Event, sent}
+use Rattle.dcsctp_machine.specs.Event.{Event}
 use Rattle.dcsctp_machine.specs.Packet.{Plain, plain, unworked, Content, Emission}
-use Rattle.dcsctp_machine.specs.Transfer.{SendQueueState, Transfer, has_data, can_send, is_idle}
+use Rattle.dcsctp_machine.specs.Transfer.{SendQueueState, Transfer, has_data, is_idle}
 use Rattle.dcsctp_machine.specs.Endpoint.{Endpoint, Core, RunningTimer}
-use Rattle.dcsctp_machine.specs.Outcome.{Outcome}
 use Rattle.dcsctp_machine.specs.control.Choices.{plain_contents}
 use Rattle.dcsctp_machine.specs.turns.FlushOutcomes.{Told, told_event, Answer, answer_contents, filled, goes_out, asked, Ask, first_ask, later_ask, room_in, where_fits, wants_sack, IsForward, FitsPlain, GivesUp, Answered, nothing_waits}
 use Rattle.dcsctp_machine.specs.turns.FlushOutcomes as asks
 use Rattle.dcsctp_wire.specs.Content.{ChunkContent, sack_chunk}
 use Rattle.dcsctp_wire.specs.ReadsBack.{FitsChunk}
 use Rattle.dcsctp_wire.specs.Spelling.{chunk_bytes}
-use Rattle.dcsctp_api.specs.Calls.{user_event}
-use Rattle.dcsctp_transfer.specs.Filling.{told_content, TellsMore, FillsPacket, is_sack_wanted, with_chunk, Acknowledges}
+use Rattle.dcsctp_transfer.specs.Filling.{TellsMore, FillsPacket, is_sack_wanted, with_chunk, Acknowledges}
 use Rattle.dcsctp_transfer.specs.Forwarding.{Forwards}
 use Rattle.dcsctp_core.specs.declared.context.Context.{Context}
 use Rattle.dcsctp_core.specs.declared.state.State.{State}
@@ -27,7 +24,7 @@ use Rattle.dcsctp_core.specs.declared.state.State.TheVariants.{Closed, CookieWai
 use Rattle.dcsctp_core.specs.View.{View, core_of, tie_of, t1_of, transfer_of, endpoint_of, view_of}
 use Rattle.dcsctp_core.specs.Flushing.{packet_for, state_with, AcknowledgesBelow, forward_where, ForwardsAt, FillsData, timers_where, Fills, AskCut, can_send_below}
 use Rattle.dcsctp_machine.proofs.AnswerLemmas.{some_answer, some_answered}
-use Rattle.dcsctp_core.proofs.FillLemmas.{told_user, Gave, gives_up_none, Parts, fills_by, fills_nothing, chunk_packet}
+use Rattle.dcsctp_core.proofs.FillLemmas.{told_user, Gave, gives_up_none, fills_by, fills_nothing, chunk_packet}
 use Rattle.dcsctp_core.proofs.SentLemmas.{room_is}
 
 -- ---- a state with something else below its association

@@ -1,5 +1,5 @@
 -- A flush out of its packets, one after another.
-use Rattle.std.proofs.Common.{◌≡◌, ◌⊎◌, ◌+◌, ◌≤◌, not, ℕ, zero, suc, Bool, true, false, Option, None, Some, List, [], ◌∷◌, ◌++◌, length, map, refl, sym, ap, subst, ◌∙◌, append_assoc, inl, inr, arith}
+use Rattle.std.proofs.Common.{◌≡◌, not, ℕ, suc, Bool, true, false, Some, List, [], ◌∷◌, ◌++◌, length, map, refl, sym, ap, subst, ◌∙◌, append_assoc, inl, inr, arith}
 use Rattle.std.proofs.lemmas.List.{append-nil, map-append}
 use Rattle.rand_core.specs.Stream.{Stream}
 use Rattle.dcsctp_build.specs.Building.{Building}
@@ -8,22 +8,22 @@ use Rattle.dcsctp_machine.specs.declared.options.Options.{Options}
 use Rattle.dcsctp_machine.specs.declared.association.Held.{Held}
 use Rattle.dcsctp_machine.specs.declared.association.Pair.{Pair}
 use Rattle.dcsctp_machine.specs.declared.word.Word.{Word}
-use Rattle.dcsctp_machine.specs.Settings.{Ports, ports_of, packet_size_limit}
+use Rattle.dcsctp_machine.specs.Settings.{ports_of, packet_size_limit}
 use Rattle.dcsctp_machine.specs.Event.{Event, sent}
 use Rattle.dcsctp_machine.specs.Packet.{Content, Emission, emission_bytes}
 use Rattle.dcsctp_machine.specs.Endpoint.{Endpoint, Core, closed, cookie_wait, cookie_echoed, open_in, held_in}
 use Rattle.dcsctp_machine.specs.Outcome.{Outcome, still, counted, contents_len, then_outcome}
-use Rattle.dcsctp_machine.specs.control.Effect.{Effect, drawn_in}
-use Rattle.dcsctp_machine.specs.turns.FlushOutcomes.{told_event, Answer, answer_contents, filled, goes_out, asked, next_draft, draft_to, flush_of, Ask, first_ask, later_ask, IsWithin, Answered, Answers, at_limit, at_empty, after_packet, is_none}
+use Rattle.dcsctp_machine.specs.control.Effect.{drawn_in}
+use Rattle.dcsctp_machine.specs.turns.FlushOutcomes.{told_event, Answer, answer_contents, filled, goes_out, asked, next_draft, draft_to, flush_of, Ask, later_ask, IsWithin, Answered, Answers, at_limit, at_empty, after_packet, is_none}
 use Rattle.dcsctp_machine.proofs.AnswerLemmas.{any_answers, answers_from}
 use Rattle.dcsctp_machine.proofs.FlushKeeps.{Keeps, asked_keeps}
 use Rattle.dcsctp_machine.proofs.TurnLemmas.{drawn_in-append}
 use Rattle.dcsctp_api.specs.Calls.{user_event}
 use Rattle.dcsctp_core.specs.View.{View, Moves}
-use Rattle.dcsctp_core.specs.Flushing.{packet_for, Fills, AskCut, AsksFor, FlushesFor, FlushCut, sent_as_built, sent_where, KeepsSize}
+use Rattle.dcsctp_core.specs.Flushing.{packet_for, Fills, AskCut, AsksFor, FlushesFor, FlushCut, sent_where, KeepsSize}
 use Rattle.dcsctp_core.proofs.Moving.{Drawn-append, moves_still}
 use Rattle.dcsctp_core.proofs.Composing.{events_behind}
-use Rattle.dcsctp_core.proofs.SentLemmas.{body_of, body_len, none_as_bytes, built_bytes}
+use Rattle.dcsctp_core.proofs.SentLemmas.{body_len, none_as_bytes, built_bytes}
 use Rattle.dcsctp_core.proofs.FirstLemmas.{told_first}
 
 -- ---- a packet that was filled goes out

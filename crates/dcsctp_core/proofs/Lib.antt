@@ -8,4 +8,5 @@ pub mod FirstLemmas
 pub mod FlushLemmas
 pub mod LoopLemmas
 pub mod Moving
+pub mod RestLemmas
 pub mod SentLemmas

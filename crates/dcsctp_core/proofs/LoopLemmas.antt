@@ -1,11 +1,11 @@
 -- The loop of a flush: what completes from where it stands completes the whole.
-use Rattle.std.proofs.Common.{◌≡◌, ◌==◌, ◌+◌, ◌-◌, ◌<◌, ◌≤◌, ℕ, zero, suc, Bool, true, false, Option, None, Some, Result, Ok, Err, List, [], refl, sym, ap, subst, ◌∙◌, arith}
+use Rattle.std.proofs.Common.{◌≡◌, ◌==◌, ◌-◌, ◌<◌, ℕ, suc, Bool, true, false, Option, None, Some, Result, Ok, Err, List, [], refl, sym, ap, subst, ◌∙◌, arith}
 use Rattle.rand_core.specs.Stream.{Stream}
 use Rattle.dcsctp_build.specs.Building.{Building}
 use Rattle.dcsctp_machine.specs.declared.association.Held.{Held}
 use Rattle.dcsctp_machine.specs.Event.{Event}
 use Rattle.dcsctp_machine.specs.Packet.{Emission}
-use Rattle.dcsctp_machine.specs.Endpoint.{Endpoint, Core, held_in}
+use Rattle.dcsctp_machine.specs.Endpoint.{Endpoint, held_in}
 use Rattle.dcsctp_machine.specs.Outcome.{Outcome, still}
 use Rattle.dcsctp_machine.specs.turns.DataOutcomes.{flush_by, AnswersTo}
 use Rattle.dcsctp_machine.specs.turns.FlushOutcomes.{Answer, draft_to, next_draft, flush_of, packets_allowed, Ask, first_ask, later_ask}

@@ -1,7 +1,7 @@
 -- A packet that goes out, in bytes.
-use Rattle.std.proofs.Common.{◌≡◌, ◌+◌, ◌-◌, ◌≤◌, ℕ, Bool, true, false, cond, List, [], ◌∷◌, ◌++◌, length, map, refl, sym, ap, ◌∙◌, append_assoc}
+use Rattle.std.proofs.Common.{◌≡◌, ◌+◌, ◌-◌, ℕ, Bool, true, false, cond, List, [], ◌∷◌, ◌++◌, length, map, refl, sym, ap, ◌∙◌, append_assoc}
 use Rattle.std.specs.Prelude.{nat_le}
-use Rattle.std.proofs.lemmas.List.{append-nil, map-append}
+use Rattle.std.proofs.lemmas.List.{append-nil}
 use Rattle.std.specs.List.{flat_map}
 use Rattle.dcsctp_wire.specs.Content.{ChunkContent}
 use Rattle.dcsctp_wire.specs.Spelling.{Spelled, by_value, by_list, spelled, other_bytes, list_bytes, spelled_bytes, chunk_bytes, header_bytes, packet_bytes_of}
@@ -10,9 +10,9 @@ use Rattle.rand_core.specs.Stream.{Stream}
 use Rattle.dcsctp_machine.specs.declared.options.Options.{Options}
 use Rattle.dcsctp_machine.specs.Settings.{ports_of, packet_size_limit}
 use Rattle.dcsctp_machine.specs.Event.{sent}
-use Rattle.dcsctp_machine.specs.Packet.{Content, Emission, Plain, plain, unworked, chunk_out, emission_bytes}
+use Rattle.dcsctp_machine.specs.Packet.{Content, Emission, unworked, chunk_out, emission_bytes}
 use Rattle.dcsctp_machine.specs.Endpoint.{Endpoint}
-use Rattle.dcsctp_machine.specs.Outcome.{quiet, counted, sends, contents_len}
+use Rattle.dcsctp_machine.specs.Outcome.{counted, sends, contents_len}
 use Rattle.dcsctp_machine.specs.control.Choices.{plain_contents}
 use Rattle.dcsctp_machine.specs.turns.FlushOutcomes.{is_none, room_in}
 use Rattle.dcsctp_core.specs.View.{View, Moves}

@@ -12,9 +12,9 @@ use Rattle.dcsctp_machine.specs.Transfer.{SendQueueState, Transfer, has_data, ca
 use Rattle.dcsctp_machine.specs.Endpoint.{Endpoint, Timers, heartbeats_begun, held_in}
 use Rattle.dcsctp_machine.specs.declared.association.Held.{Held}
 use Rattle.dcsctp_machine.specs.Outcome.{counted}
-use Rattle.dcsctp_machine.specs.turns.FlushOutcomes.{told_event, Answer, answer_contents, filled, asked, flush_of, packets_allowed, Ask, first_ask, AnsweredBelow, timers_with, Answered, Answers, is_none, later_ask, draft_to}
+use Rattle.dcsctp_machine.specs.turns.FlushOutcomes.{told_event, Answer, answer_contents, filled, asked, flush_of, packets_allowed, Ask, first_ask, wants_sack, AnsweredBelow, timers_with, Answered, Answers, is_none, later_ask, draft_to}
 use Rattle.dcsctp_api.specs.Calls.{user_event}
-use Rattle.dcsctp_transfer.specs.Filling.{TellsMore, FillsPacket, Acknowledges, is_sack_wanted}
+use Rattle.dcsctp_transfer.specs.Filling.{TellsMore, FillsPacket, may_give, Acknowledges, is_sack_wanted}
 use Rattle.dcsctp_transfer.specs.Forwarding.{Forwards}
 use Rattle.dcsctp_core.specs.declared.context.Context.{Context}
 use Rattle.dcsctp_core.specs.declared.state.State.{State}
@@ -72,6 +72,11 @@ ForwardsBelow now (Some transfer) waiting events packet old new left telling fil
 abbrev pub HasNoData : SendQueueState → Option Transfer → Type 0
 HasNoData queue None = Unit {0}
 HasNoData queue (Some transfer) = (has_data queue ≡ false) × (transfer.retransmission.outstanding_items ≡ 0)
+
+-- Nothing has to go into a packet to the peer that is held: neither what acknowledges nor data.
+abbrev pub NeedsNone : Ask → SendQueueState → Option Transfer → Type 0
+NeedsNone ask queue None = Unit {0}
+NeedsNone ask queue (Some transfer) = (wants_sack ask queue transfer ≡ false) × (may_give queue transfer.retransmission ≡ false)
 
 -- No SACK is asked for.
 abbrev pub WantsNone : Option Transfer → Bool → Type 0

@@ -37,6 +37,10 @@ impl<R: Rng> Context<R> {
     pub fn send_buffered_packets(&mut self) -> Result<(), AllocError>
         ensures { TakesOne R.stream FlushAt self.old result self.new }
     {
+        // So that no packet is made that would stay empty.
+        if !self.state.may_fill_first(&self.send_queue) {
+            return Ok(());
+        }
         match self.state.tcb() {
             None => {}
             Some(tcb) => {
@@ -94,6 +98,9 @@ impl<R: Rng> Context<R> {
     {
         let mut left = allowed;
         while 0 < left {
+            if !self.state.may_fill(&self.send_queue) {
+                return Ok(());
+            }
             let Some(tcb) = self.state.tcb() else {
                 return Ok(());
             };

@@ -1,6 +1,7 @@
 //! What lies below an association, where a peer is held.
 
-ghost use Rattle.std.specs.Prelude.{◌≡◌, IfOk, OnOk, OnErr, IsOk, is_some, length};
+ghost use Rattle.std.specs.Prelude.{◌≡◌, false, Some, IfOk, OnOk, OnErr, IsOk, is_some, length};
+ghost use Rattle.dcsctp_machine.specs.turns.FlushOutcomes.{first_ask, later_ask};
 ghost use Rattle.dcsctp_machine.specs.TimeTurns.{delay_deadline, loss_deadline, has_come};
 ghost use Rattle.dcsctp_machine.specs.turns.TransferMoves.{MovesForward, LosesAll};
 ghost use Rattle.dcsctp_streams.specs.Telling.{contents};
@@ -8,12 +9,12 @@ ghost use Rattle.dcsctp_transfer.specs.Filling.{TellsMore};
 ghost use Rattle.dcsctp_api.specs.Messages.{ready_below};
 ghost use Rattle.dcsctp_core.specs.View.{transfer_of};
 ghost use Rattle.dcsctp_core.specs.Below.{ChangesBelow, ChangesWhere, TakesReady, Receives, EndsBelow, EndsDelay, is_due_below, SacksBelow, FillsAtOnceBelow, at_once_below};
-ghost use Rattle.dcsctp_core.specs.Flushing.{FillsBelow, AcknowledgesBelow, ForwardsBelow, HasNoData, WantsNone, can_send_below};
+ghost use Rattle.dcsctp_core.specs.Flushing.{FillsBelow, AcknowledgesBelow, ForwardsBelow, HasNoData, NeedsNone, WantsNone, can_send_below};
 
 use crate::state::State;
 use dcsctp_api::{Events, Message, SocketTime};
 use dcsctp_build::SctpPacketBuilder;
-use dcsctp_transfer::{Data, HandledSack, QueuedMessages, SkippedTo};
+use dcsctp_transfer::{Data, HandledSack, QueuedMessages, SkippedTo, Transfer};
 use dcsctp_wire::SackChunk;
 use std::alloc::AllocError;
 
@@ -38,6 +39,29 @@ impl State {
                 .transfer
                 .fill_packet(events, queue, now, packet),
             State::Established(tcb) => tcb.transfer.fill_packet(events, queue, now, packet),
+        }
+    }
+
+    /// May data go out to the peer that is held?
+    pub(crate) fn may_fill(&self, queue: &QueuedMessages) -> bool
+        ensures { result ≡ false → NeedsNone later_ask queue.now (transfer_of self.now) }
+    {
+        match self {
+            State::Closed | State::CookieWait(_) => false,
+            State::CookieEchoed(echoed) => echoed.tcb.transfer.may_fill(queue),
+            State::Established(tcb) => tcb.transfer.may_fill(queue),
+        }
+    }
+
+    /// May anything go into the first packet of a flush to the peer that is held: a SACK, a FORWARD-TSN, or data?
+    /// A SACK that is delayed goes along where data may follow.
+    pub(crate) fn may_fill_first(&self, queue: &QueuedMessages) -> bool
+        ensures { result ≡ false → NeedsNone first_ask queue.now (transfer_of self.now) }
+    {
+        match self {
+            State::Closed | State::CookieWait(_) => false,
+            State::CookieEchoed(echoed) => may_fill_first(&echoed.tcb.transfer, queue),
+            State::Established(tcb) => may_fill_first(&tcb.transfer, queue),
         }
     }
 
@@ -279,4 +303,12 @@ impl State {
             State::Established(tcb) => tcb.transfer.messages_ready_count(),
         }
     }
+}
+
+// The same of what lies below an association.
+fn may_fill_first(transfer: &Transfer, queue: &QueuedMessages) -> bool
+    ensures { result ≡ false → NeedsNone first_ask queue.now (Some transfer.now) }
+{
+    let may_follow = queue.has_data_to_send() || transfer.can_send_data();
+    transfer.may_fill_first(queue, may_follow)
 }

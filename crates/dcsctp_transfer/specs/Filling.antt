@@ -1,12 +1,12 @@
 -- How a packet is filled: with data, and with what acknowledges data (RFC 9260, sections 6.1 and 6.2).
-use Rattle.std.specs.Prelude.{◌≡◌, ℕ, ◌%◌, ◌^◌, ◌&&◌, ◌||◌, nat_le, length, if◌then◌else◌, Bool, true, false, List, [], ◌∷◌, ◌++◌, map}
+use Rattle.std.specs.Prelude.{◌≡◌, ℕ, ◌%◌, ◌^◌, ◌&&◌, ◌||◌, nat_le, nat_lt, length, if◌then◌else◌, Bool, true, false, List, [], ◌∷◌, ◌++◌, map}
 use Rattle.std.specs.List.{AllByRecursion, flat_map}
 use Rattle.dcsctp_wire.specs.Content.{SackContent, ChunkContent, sack_chunk}
 use Rattle.dcsctp_wire.specs.ReadsBack.{FitsSack, FitsChunk}
 use Rattle.dcsctp_wire.specs.Spelling.{chunk_bytes}
 use Rattle.dcsctp_build.specs.Building.{Building, bytes_remaining}
 use Rattle.dcsctp_machine.specs.Event.{Event, buffered_amount_low, total_buffered_amount_low, lifecycle_message_fully_sent, lifecycle_message_maybe_expired, lifecycle_message_expired, lifecycle_end}
-use Rattle.dcsctp_machine.specs.Transfer.{SendQueueState, Transfer, has_data, must_give}
+use Rattle.dcsctp_machine.specs.Transfer.{SendQueueState, RetransmissionState, Transfer, has_data, can_send, must_give}
 use Rattle.dcsctp_machine.specs.turns.TransferMoves.{acknowledged}
 use Rattle.dcsctp_machine.specs.turns.FlushOutcomes.{Told, amount_is_low, total_amount_is_low, message_is_sent, message_may_have_expired, message_has_expired, message_ends, IsData}
 use Rattle.dcsctp_machine.specs.Packet.{unworked}
@@ -33,6 +33,10 @@ IsDataChunk interleaving chunk = IsData interleaving (unworked chunk)
 abbrev pub has_chunks : List ChunkContent → Bool
 has_chunks [] = false
 has_chunks (chunk ∷ chunks) = true
+
+-- May data go out: what waits to be sent again, or a message where the windows allow more?
+abbrev pub may_give : SendQueueState → RetransmissionState → Bool
+may_give queue state = nat_lt 0 state.marked_items || (has_data queue && can_send state)
 
 -- Chunks with data were put into a packet, or none, and the user was told of it.
 pub record FillsPacket (old : Transfer) (waiting : SendQueueState) (events : List (Event (List ℕ))) (packet : Building) (new : Transfer) (left : SendQueueState) (telling : List (Event (List ℕ))) (filled : Building) (any : Bool) : Type 0 where

@@ -11,7 +11,7 @@ ghost use Rattle.dcsctp_streams.specs.Telling.{contents};
 ghost use Rattle.dcsctp_outstanding.specs.Items.{chunk_size};
 ghost use Rattle.dcsctp_retransmission.specs.Queue.{header_of};
 ghost use Rattle.dcsctp_retransmission.specs.Sending.{HandsOut};
-ghost use Rattle.dcsctp_transfer.specs.Filling.{IsDataChunk, TellsMore, FillsPacket, is_sack_wanted, with_chunk, Acknowledges};
+ghost use Rattle.dcsctp_transfer.specs.Filling.{IsDataChunk, TellsMore, FillsPacket, may_give, is_sack_wanted, with_chunk, Acknowledges};
 ghost use Rattle.dcsctp_transfer.specs.Sacks.{FillsAtOnce};
 ghost use Rattle.dcsctp_transfer.specs.Adding.{HasChunkWithin, AddsChunkOf, AddsChunks, sack_of, flags_said, ppid_or_fsn, data_said, i_data_said, chunk_said};
 
@@ -112,6 +112,25 @@ impl Transfer {
         ensures { result ≡ can_send self.now.retransmission }
     {
         self.retransmission_queue.can_send_data()
+    }
+
+    /// May data go out now: what waits to be sent again, or a message where the windows allow more?
+    pub fn may_fill(&self, queue: &QueuedMessages) -> bool
+        ensures { result ≡ may_give queue.now self.now.retransmission }
+    {
+        0 < self.retransmission_queue.marked_items()
+            || (queue.has_data_to_send() && self.can_send_data())
+    }
+
+    /// May anything go into the first packet of a flush: a SACK, a FORWARD-TSN, or data? A SACK that is delayed
+    /// counts where `also_if_delayed`.
+    pub fn may_fill_first(&self, queue: &QueuedMessages, also_if_delayed: bool) -> bool
+        ensures { result ≡ false → (is_sack_wanted also_if_delayed self.now ≡ false) × (may_give queue.now self.now.retransmission ≡ false) }
+    {
+        self.data_tracker.is_acknowledgement_due()
+            || (self.data_tracker.owes_acknowledgement() && also_if_delayed)
+            || self.retransmission_queue.is_first_abandoned()
+            || self.may_fill(queue)
     }
 
     // Does a message wait, or is something outstanding?

@@ -2,6 +2,7 @@ use Rattle.std.proofs.Common.{◌∙◌}
 use Rattle.std.proofs.lemmas.Result.{err_from_is_err_and}
 use Rattle.dcsctp_core.specs.View.{view_of}
 use Rattle.dcsctp_core.proofs.LoopLemmas.{flush_unmade, flush_no_peer, flush_done, flush_cut_in}
+use Rattle.dcsctp_core.proofs.RestLemmas.{flush_rests}
 use Rattle.dcsctp_core.proofs.context.Context.send_buffered_packets.Goals as goal
 
 pub returns-in_err-packet-in-Some : goal.returns-in_err-packet-in-Some
@@ -22,3 +23,6 @@ pub returns-in_ok-send_buffered_packets_with-in-Some : goal.returns-in_ok-send_b
 returns-in_ok-send_buffered_packets_with-in-Some g c =
     flush_done g.R.Rng.stream c.args.self.now c.in-Some.tcb.now (view_of c.send_buffered_packets_with.new.self) c.in-Some.ensures
     (λ held holds draft is. c.in_ok-send_buffered_packets_with-in-Some.ensures draft (c.in_ok-packet-in-Some.ensures ∙ is) held holds)
+
+pub returns-then-not-may_fill_first : goal.returns-then-not-may_fill_first
+returns-then-not-may_fill_first g c = flush_rests g.R.Rng.stream c.args.self.now (c.may_fill_first.ensures c.if-not-may_fill_first.true)

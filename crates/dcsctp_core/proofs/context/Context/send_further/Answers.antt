@@ -1,7 +1,9 @@
-use Rattle.std.proofs.Common.{arith}
+use Rattle.std.proofs.Common.{false, refl, arith}
 use Rattle.std.proofs.lemmas.Result.{err_from_is_err_and}
+use Rattle.dcsctp_machine.specs.turns.FlushOutcomes.{later_ask}
 use Rattle.dcsctp_core.specs.View.{view_of}
 use Rattle.dcsctp_core.proofs.LoopLemmas.{completes_unmade, completes_none, packet_to, loop_goes_on, loop_ends, loop_cut}
+use Rattle.dcsctp_core.proofs.RestLemmas.{asks_none}
 use Rattle.dcsctp_core.proofs.context.Context.send_further.Goals as goal
 
 pub returns-in_err-packet : goal.returns-in_err-packet
@@ -31,3 +33,8 @@ loop-left-preserved g c =
 pub returns : goal.returns
 returns g c =
     λ held holds. completes_none g.R.Rng.stream held c.args.allowed (view_of c.args.self.now) c.loop-left.left (view_of c.loop-left.self) (omega (arith, c.loop-left-test.false)) (c.loop-left.invariant held holds)
+
+pub returns-then-not-may_fill : goal.returns-then-not-may_fill
+returns-then-not-may_fill g c =
+    λ held holds. loop_ends g.R.Rng.stream held c.args.allowed (view_of c.args.self.now) c.loop-left.left (view_of c.loop-left.self) (view_of c.loop-left.self) false c.loop-left-test.true refl (c.loop-left.invariant held holds)
+    (asks_none g.R.Rng.stream later_ask (view_of c.loop-left.self) held (c.may_fill.ensures c.if-not-may_fill.true))
