@@ -113,21 +113,24 @@ impl Run {
 
     // Does what a command says, and prints what comes of it.
     fn obey<W: Write>(&mut self, command: Command, output: &mut W) -> Result<(), Failure> {
-        match command {
-            Command::Send(side, stream_id, payload) => {
-                return self.send(side, stream_id, payload, output);
-            }
-            Command::Receive(side) => self.receive(side, output)?,
-            Command::Connect(side) => self.apply(Step::Call(side, Call::Connect))?,
-            Command::Close(side) => self.apply(Step::Call(side, Call::Close))?,
-            Command::Give(side, number) => self.apply(Step::Deliver(side, number))?,
-            Command::Time(side, now) => self.apply(Step::Call(side, Call::AdvanceTime(now)))?,
-            Command::Input(side, bytes) => self.hand_in(Outside::Input(side, bytes))?,
-            Command::Show(side) => written(self.print_association(side, output))?,
-            Command::State(side) => written(self.print_state(side, output))?,
-            Command::Timeout(side) => written(self.print_timeout(side, output))?,
-        }
+        self.act(command, output)?;
         written(self.print_events(output))
+    }
+
+    // Does what a command says. Each arm is one call to the end, so that none has a command to drop.
+    fn act<W: Write>(&mut self, command: Command, output: &mut W) -> Result<(), Failure> {
+        match command {
+            Command::Send(side, stream_id, payload) => self.send(side, stream_id, payload, output),
+            Command::Receive(side) => self.receive(side, output),
+            Command::Connect(side) => self.apply(Step::Call(side, Call::Connect)),
+            Command::Close(side) => self.apply(Step::Call(side, Call::Close)),
+            Command::Give(side, number) => self.apply(Step::Deliver(side, number)),
+            Command::Time(side, now) => self.apply(Step::Call(side, Call::AdvanceTime(now))),
+            Command::Input(side, bytes) => self.hand_in(Outside::Input(side, bytes)),
+            Command::Show(side) => written(self.print_association(side, output)),
+            Command::State(side) => written(self.print_state(side, output)),
+            Command::Timeout(side) => written(self.print_timeout(side, output)),
+        }
     }
 
     // Sends a message, without a protocol and in the default way, and prints what comes of it and why it is

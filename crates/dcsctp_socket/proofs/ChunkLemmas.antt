@@ -16,7 +16,7 @@ use Rattle.dcsctp_api.specs.Calls.{UserView, Connects, Follows, FailsWhole}
 use Rattle.dcsctp_core.specs.declared.following.Following.TheVariants.{NextChunk}
 use Rattle.dcsctp_core.specs.declared.context.Context.{Context}
 use Rattle.dcsctp_core.specs.declared.following.Following.{Following}
-use Rattle.dcsctp_core.specs.View.{View, endpoint_of, view_of, call_start, Moves, CutTurn}
+use Rattle.dcsctp_core.specs.View.{View, endpoint_of, view_of, call_start, Moves}
 use Rattle.dcsctp_core.specs.Drawing.{first_word, second_word}
 use Rattle.dcsctp_core.specs.Handling.{OnlyDrew, Works, WorksWhole, WorksOne}
 use Rattle.dcsctp_core.proofs.Moving.{moves_one, moves_still}

@@ -14,7 +14,7 @@ use Rattle.dcsctp_machine.proofs.TurnLemmas.{GoOn, chunk_turns-push, chunk_turns
 use Rattle.rand_core.specs.Stream.{Stream}
 use Rattle.dcsctp_core.specs.declared.state.State.{State}
 use Rattle.dcsctp_core.specs.declared.state.State.TheVariants.{Closed, CookieWait, CookieEchoed, Established}
-use Rattle.dcsctp_core.specs.View.{View, core_of, Moves, MovesAll}
+use Rattle.dcsctp_core.specs.View.{View, core_of, MovesAll}
 use Rattle.dcsctp_core.proofs.Moving.{moves_one, moves_then, moves_still}
 
 -- what the chunks of a packet say

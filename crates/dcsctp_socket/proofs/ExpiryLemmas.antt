@@ -12,15 +12,15 @@ use Rattle.dcsctp_machine.specs.Outcome.{Outcome, still, fits}
 use Rattle.dcsctp_machine.specs.declared.ends.AbortReason.TheVariants.{TooManyErrors}
 use Rattle.dcsctp_machine.specs.Turn.{Input, act_input, ActTurn, Turn}
 use Rattle.dcsctp_machine.specs.control.Acts.{abort_with, t1_expires, flushes}
-use Rattle.dcsctp_machine.specs.CallTurns.{Turned, turned, IsTurn, Turns, after_all, events_of}
-use Rattle.dcsctp_machine.specs.TimeTurns.{Timer, t1_timer, own_timer, deadline, has_come, has_restart, expiry_input, unless_exhausted, inputs_behind, after_expiries, ExpiryThen, ExpiryTurns}
+use Rattle.dcsctp_machine.specs.CallTurns.{Turned, turned, Turns, events_of}
+use Rattle.dcsctp_machine.specs.TimeTurns.{Timer, t1_timer, own_timer, deadline, has_come, has_restart, expiry_input, inputs_behind, ExpiryThen, ExpiryTurns}
 use Rattle.dcsctp_machine.specs.turns.DataOutcomes.{with_transfer, flush_by, AnswersTo, FlushTurn, delay_outcome, LossTurn}
 use Rattle.dcsctp_machine.specs.turns.EndOutcomes.{aborting_outcome}
 use Rattle.dcsctp_machine.specs.turns.FlushOutcomes.{Answer, first_ask, packets_allowed, draft_to, flush_answered}
 use Rattle.dcsctp_machine.specs.turns.HandshakeOutcomes.{echo_emission, EchoAnswers}
 use Rattle.dcsctp_machine.specs.turns.HeartbeatOutcomes.{error_counted, interval_outcome, is_exhausted, timeout_outcome}
 use Rattle.dcsctp_machine.specs.turns.OwnTimers.{OwnTimer, acknowledgement_delay, retransmission, heartbeat_interval, heartbeat_timeout, TimerTurn}
-use Rattle.dcsctp_machine.specs.turns.TimerOutcomes.{t1_goes_on, t1_again_by, AgainAnswers, T1AgainTurn, t1_gives_up_outcome}
+use Rattle.dcsctp_machine.specs.turns.TimerOutcomes.{t1_goes_on, t1_again_by, AgainAnswers, t1_gives_up_outcome}
 use Rattle.dcsctp_machine.proofs.AnswerLemmas.{any_answers}
 use Rattle.dcsctp_machine.proofs.TurnLemmas.{events_of-append}
 use Rattle.dcsctp_machine.proofs.HeartbeatLemmas.{timer_controlled}
@@ -31,7 +31,7 @@ use Rattle.dcsctp_core.specs.Handling.{TakesIn, CutIn}
 use Rattle.dcsctp_core.specs.Timing.{is_timer_due, ExpiryTurn, Expires, ExpiresAlways}
 use Rattle.dcsctp_core.specs.View.{View, view_of, Moves, MovesAll, CutTurn}
 use Rattle.dcsctp_core.proofs.Moving.{moves_one, moves_then}
-use Rattle.dcsctp_socket.specs.TimeParts.{TurnsMove, TurnsCut, WorksTurns, EndTurns, TurnsBehind}
+use Rattle.dcsctp_socket.specs.TimeParts.{TurnsMove, TurnsCut, WorksTurns, EndTurns}
 use Rattle.dcsctp_socket.proofs.CallLemmas.{adds_cut}
 use Rattle.dcsctp_socket.proofs.DispatchLemmas.{moves_none}
 

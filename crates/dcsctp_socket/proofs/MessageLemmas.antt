@@ -1,5 +1,5 @@
 -- The turn of a call that sends messages, and what taking one does.
-use Rattle.std.proofs.Common.{◌≡◌, ℕ, Bool, true, false, Option, List, [], ◌∷◌, map, take, drop, length, refl, sym, ap, subst, ◌∙◌, Result, Ok, Err}
+use Rattle.std.proofs.Common.{◌≡◌, ℕ, Bool, true, false, List, [], ◌∷◌, map, take, drop, length, refl, sym, ap, subst, ◌∙◌, Result, Ok, Err}
 use Rattle.std.proofs.lemmas.List.{append-nil, take-append-drop}
 use Rattle.rand_core.specs.Stream.{Stream}
 use Rattle.dcsctp_machine.specs.declared.message.SendOptions.{SendOptions}
@@ -17,13 +17,13 @@ use Rattle.dcsctp_api.specs.declared.errors.SocketFault.{SocketFault}
 use Rattle.dcsctp_api.specs.Calls.{user_event, UserView, Follows, RanOut}
 use Rattle.dcsctp_api.specs.Messages.{IsBatchAnswer, Sends, SendsMany}
 use Rattle.dcsctp_core.specs.declared.context.Context.{Context}
-use Rattle.dcsctp_core.specs.View.{View, view_of, call_start, CutTurn}
+use Rattle.dcsctp_core.specs.View.{View, view_of, call_start}
 use Rattle.dcsctp_core.specs.Handling.{TakesIn, CutIn}
 use Rattle.dcsctp_core.proofs.Moving.{moves_one}
 use Rattle.dcsctp_messages.specs.Sending.{SendAt, SendsOne, SendsAll}
 use Rattle.dcsctp_socket.specs.Parts.{CallMoved, CallCut}
 use Rattle.dcsctp_socket.specs.MessageParts.{SendTurns, WorksSend, WorksSendMany}
-use Rattle.dcsctp_socket.specs.SocketView.{Settles, SocketView, user_view_of}
+use Rattle.dcsctp_socket.specs.SocketView.{Settles, user_view_of}
 
 -- ---- the one turn of the call
 

@@ -1,11 +1,11 @@
 -- What the calls that send and take messages do, by their parts.
-use Rattle.std.specs.Prelude.{◌≡◌, Bool, Option, Result, Ok, Err, List, [], ◌∷◌, map, length}
+use Rattle.std.specs.Prelude.{◌≡◌, Option, Result, Ok, Err, List, [], ◌∷◌, map, length}
 use Rattle.rand_core.specs.Stream.{Stream}
 use Rattle.dcsctp_machine.specs.declared.message.Message.{Message}
 use Rattle.dcsctp_machine.specs.declared.message.SendOptions.{SendOptions}
 use Rattle.dcsctp_machine.specs.Transfer.{MessageContent}
 use Rattle.dcsctp_machine.specs.Endpoint.{Endpoint}
-use Rattle.dcsctp_machine.specs.Turn.{Input, user_sends}
+use Rattle.dcsctp_machine.specs.Turn.{user_sends}
 use Rattle.dcsctp_machine.specs.turns.MessageOutcomes.{Sending, message_refusal, sending_of, refused_from}
 use Rattle.dcsctp_machine.specs.CallTurns.{Turned, Turns}
 use Rattle.dcsctp_api.specs.declared.errors.BatchSendError.{BatchSendError}

@@ -14,11 +14,25 @@ use std::alloc::{AllocError, Global};
 use std::marker::Model;
 
 /// One end of an SCTP association.
-#[derive(Drop)]
 pub struct Socket<R> {
     name: String,
-    context: Context<R>,
+
+    // In a box, so that a socket is cheap to move.
+    context: Box<Context<R>>,
+
     failed: bool,
+}
+
+// Written out, so that the drop of all that a socket holds is proved here once, and not in each crate that
+// drops a socket.
+impl<R: Drop> Drop for Socket<R> {
+    fn drop(self) {
+        let Socket {
+            name: _,
+            context: _,
+            failed: _,
+        } = self;
+    }
 }
 
 impl<R> Model for Socket<R> {
@@ -27,7 +41,7 @@ impl<R> Model for Socket<R> {
 
     ghost Value = { SocketView R };
 
-    ghost view = { λ s. record { view = view_of s.context; failed = s.failed } };
+    ghost view = { λ s. record { view = view_of s.context.value; failed = s.failed } };
 }
 
 // The answer to a call. A socket that was refused a growth has failed from then on.
@@ -64,9 +78,10 @@ impl<R: Rng + Drop> Socket<R> {
         ensures fault { IsOkUnless result SocketFault.OutOfMemory }
     {
         let name = String::from_str(alloc, name)?;
+        let context = Box::new(alloc, Context::new(alloc, *options, rng))?;
         Ok(Socket {
             name,
-            context: Context::new(alloc, *options, rng),
+            context,
             failed: false,
         })
     }

@@ -16,12 +16,23 @@ use std::marker::Model;
 /// call answers `SocketFault::OutOfMemory`; the world has failed from here on, and each later call that
 /// applies something answers `SocketFault::Failed` and changes nothing. What the world shows begins
 /// then with what it showed before the call that failed.
-#[derive(Drop)]
 pub struct World<R> {
     a: WatchedSocket<R>,
     b: WatchedSocket<R>,
     acts: Vec<Act>,
     failed: bool,
+}
+
+// Written out, as that of `Socket` is.
+impl<R: Drop> Drop for World<R> {
+    fn drop(self) {
+        let World {
+            a: _,
+            b: _,
+            acts: _,
+            failed: _,
+        } = self;
+    }
 }
 
 impl<R> Model for World<R> {

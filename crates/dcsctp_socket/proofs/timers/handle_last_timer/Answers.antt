@@ -1,4 +1,4 @@
-use Rattle.std.proofs.Common.{[], ◌∷◌}
+use Rattle.std.proofs.Common.{[]}
 use Rattle.dcsctp_machine.specs.TimeTurns.{own_timer}
 use Rattle.dcsctp_machine.specs.turns.OwnTimers.{heartbeat_timeout}
 use Rattle.dcsctp_socket.proofs.ExpiryLemmas.{any_then, any_else, timer_then}

@@ -1,7 +1,11 @@
 use Rattle.std.proofs.Common.{subst}
 use Rattle.dcsctp_api.specs.Calls.{Closes}
+use Rattle.dcsctp_core.specs.declared.context.Context.{Context}
 use Rattle.dcsctp_core.specs.View.{view_of}
 use Rattle.dcsctp_socket.specs.SocketView.{SocketView, user_view_of}
+use Rattle.dcsctp_machine.specs.declared.ends.AbortReason.TheVariants.{CloseCalled}
+use Rattle.dcsctp_machine.specs.control.Acts.{abort_with}
+use Rattle.dcsctp_socket.specs.Parts.{WorksCall, ActTurns}
 use Rattle.dcsctp_socket.proofs.ActLemmas.{closes}
 use Rattle.dcsctp_socket.proofs.socket.SocketDcSctpSocket.close.Goals as goal
 
@@ -9,5 +13,7 @@ pub returns-clause-call : goal.returns-clause-call
 returns-clause-call g c =
     subst (λ (s : SocketView g.row.R.Denot). Closes (user_view_of s) c.settled.result (user_view_of (record { view = view_of c.close-outcome.new.context; failed = c.settled.new.failed })))
     c.self.view_is
-    (closes g.R.Rng.stream c.self.inside.context c.close-outcome.new.context c.self.inside.failed c.settled.new.failed c.close-outcome.result c.settled.result
-    c.if-self.false c.close-outcome.ensures.turn c.settled.ensures)
+    (closes g.R.Rng.stream c.self.inside.context.value c.close-outcome.new.context c.self.inside.failed c.settled.new.failed c.close-outcome.result c.settled.result
+    c.if-self.false
+    (subst (λ (x : Context g.row.R.Denot). WorksCall g.R.Rng.stream (ActTurns (abort_with CloseCalled)) x c.close-outcome.result c.close-outcome.new.context) c.deref_mut.ensures.value c.close-outcome.ensures.turn)
+    c.settled.ensures)

@@ -1,6 +1,8 @@
 use Rattle.dcsctp_api.specs.Calls.{Connects}
+use Rattle.dcsctp_core.specs.declared.context.Context.{Context}
 use Rattle.dcsctp_core.specs.View.{view_of}
 use Rattle.dcsctp_socket.specs.SocketView.{SocketView, user_view_of}
+use Rattle.dcsctp_socket.specs.Parts.{WorksConnect}
 use Rattle.dcsctp_socket.proofs.ChunkLemmas.{connects}
 use Rattle.std.proofs.Common.{subst}
 use Rattle.dcsctp_socket.proofs.socket.SocketDcSctpSocket.connect.Goals as goal
@@ -9,5 +11,7 @@ pub returns-clause-call : goal.returns-clause-call
 returns-clause-call g c =
     subst (λ (s : SocketView g.row.R.Denot). Connects (user_view_of s) c.settled.result (user_view_of (record { view = view_of c.connect-outcome.new.context; failed = c.settled.new.failed })))
     c.self.view_is
-    (connects g.R.Rng.stream c.self.inside.context c.connect-outcome.new.context c.self.inside.failed c.settled.new.failed c.connect-outcome.result c.settled.result
-    c.if-self.false c.connect-outcome.ensures.turn c.settled.ensures)
+    (connects g.R.Rng.stream c.self.inside.context.value c.connect-outcome.new.context c.self.inside.failed c.settled.new.failed c.connect-outcome.result c.settled.result
+    c.if-self.false
+    (subst (λ (x : Context g.row.R.Denot). WorksConnect g.R.Rng.stream x c.connect-outcome.result c.connect-outcome.new.context) c.deref_mut.ensures.value c.connect-outcome.ensures.turn)
+    c.settled.ensures)

@@ -1,8 +1,10 @@
 use Rattle.std.proofs.Common.{subst}
 use Rattle.dcsctp_machine.specs.Transfer.{message_content}
 use Rattle.dcsctp_api.specs.Messages.{Sends}
+use Rattle.dcsctp_core.specs.declared.context.Context.{Context}
 use Rattle.dcsctp_core.specs.View.{view_of}
 use Rattle.dcsctp_socket.specs.SocketView.{SocketView, user_view_of}
+use Rattle.dcsctp_socket.specs.MessageParts.{WorksSend}
 use Rattle.dcsctp_socket.proofs.MessageLemmas.{sends}
 use Rattle.dcsctp_socket.proofs.socket.SocketDcSctpSocket.send.Goals as goal
 
@@ -10,5 +12,7 @@ pub returns-clause-call : goal.returns-clause-call
 returns-clause-call g c =
     subst (λ (s : SocketView g.row.R.Denot). Sends (message_content c.args.message) c.args.options.now (user_view_of s) c.settled.result (user_view_of (record { view = view_of c.send-outcome.new.context; failed = c.settled.new.failed })))
     c.self.view_is
-    (sends g.R.Rng.stream (message_content c.args.message) c.args.options.now c.self.inside.context c.send-outcome.new.context c.self.inside.failed c.settled.new.failed c.send-outcome.result c.settled.result
-    c.if-self.false c.send-outcome.ensures c.settled.ensures)
+    (sends g.R.Rng.stream (message_content c.args.message) c.args.options.now c.self.inside.context.value c.send-outcome.new.context c.self.inside.failed c.settled.new.failed c.send-outcome.result c.settled.result
+    c.if-self.false
+    (subst (λ (x : Context g.row.R.Denot). WorksSend g.R.Rng.stream (message_content c.args.message) c.args.options.now x c.send-outcome.result c.send-outcome.new.context) c.deref_mut.ensures.value c.send-outcome.ensures)
+    c.settled.ensures)
