@@ -1,0 +1,222 @@
+//! The exchange: what each side does, step by step, and what it tells then.
+//!
+//! All was worked out by hand for the default options. A packet has 1,191 bytes at most, and so a chunk 1,160 of a
+//! message. Packets are under way for no time, and acknowledgements come after 200 milliseconds at most: so the
+//! retransmission timeout is the least that there is, 400 milliseconds, and half of it the delay of an
+//! acknowledgement.
+
+use crate::messages::How::{self, Lives, Named, Plain, SentOnce, Unordered};
+use crate::told::Told::{self, Event, Packet};
+use crate::told::{
+    ABORT, COOKIE_ACK, COOKIE_ECHO, DATA, FORWARD_TSN, HEARTBEAT, HEARTBEAT_ACK, INIT, INIT_ACK,
+    SACK, is_told,
+};
+use Act::{
+    Closes, Connects, Expires, Loses, Passes, Reads, Sends, SendsMany, SetsPriority, SetsThreshold,
+    Takes, TakesNoPackets,
+};
+use Name::{A, B};
+use dcsctp_socket::SocketEvent;
+
+/// The two sides.
+#[derive(Clone, Copy, Debug, PartialEq, Eq)]
+pub enum Name {
+    A,
+    B,
+}
+
+/// What a side does. Moments are in milliseconds.
+#[derive(Clone, Copy)]
+pub enum Act {
+    /// It begins an association.
+    Connects,
+
+    /// It ends the association at once.
+    Closes,
+
+    /// It is handed the next packet of the other side.
+    Takes,
+
+    /// The next packet of the other side is lost.
+    Loses,
+
+    /// It is handed bytes that are no packet, so often.
+    TakesNoPackets(u16),
+
+    /// It sends a message on this stream, of so many bytes.
+    Sends(u16, u16, How),
+
+    /// It sends messages on these streams, of so many bytes each, by one call.
+    SendsMany(&'static [(u16, u16)]),
+
+    /// It gives this stream this priority.
+    SetsPriority(u16, u16),
+
+    /// It gives this stream this threshold of bytes.
+    SetsThreshold(u16, usize),
+
+    /// It is told this moment.
+    Passes(u64),
+
+    /// The same, and this is the moment for which it waits.
+    Expires(u64),
+
+    /// So many messages are taken of it.
+    Reads(u16),
+}
+
+/// One step: which side, what it does, and what it tells then.
+pub type Step = (Name, Act, &'static [Told]);
+
+/// The exchange.
+pub static EXCHANGE: &[Step] = &[
+    // The handshake (RFC 9260, section 5.1).
+    (A, Connects, &[Packet(&[INIT])]),
+    (B, Takes, &[Packet(&[INIT_ACK])]),
+    (A, Takes, &[Packet(&[COOKIE_ECHO])]),
+    (B, Takes, &[Event("connected", 0), Packet(&[COOKIE_ACK])]),
+    (A, Takes, &[Event("connected", 0)]),
+    // What is set is told to nobody.
+    (A, SetsPriority(2, 300), &[]),
+    (B, SetsThreshold(1, 500), &[]),
+    // A short message, a long one of 1,160, 1,160 and 680 bytes, and an unordered one. A stream whose last byte
+    // leaves has fallen to its threshold, which is 0.
+    (A, Sends(1, 10, Plain), &[Event("low", 1), Packet(&[DATA])]),
+    (
+        A,
+        Sends(2, 3000, Named(5)),
+        &[
+            Packet(&[DATA]),
+            Packet(&[DATA]),
+            Event("low", 2),
+            Event("fully sent", 5),
+            Packet(&[DATA]),
+        ],
+    ),
+    (
+        A,
+        Sends(3, 20, Unordered),
+        &[Event("low", 3), Packet(&[DATA])],
+    ),
+    // The first packet with data is acknowledged at once, and from there on every second one (RFC 9260, section 6.2).
+    (B, Takes, &[Packet(&[SACK])]),
+    (B, Takes, &[]),
+    (B, Takes, &[Packet(&[SACK])]),
+    (B, Takes, &[]),
+    (B, Takes, &[Packet(&[SACK])]),
+    (A, Takes, &[]),
+    (A, Takes, &[]),
+    (A, Takes, &[Event("delivered", 5), Event("end", 5)]),
+    // Three messages in one packet. The 30 bytes of stream 1 were never above its threshold of 500.
+    (
+        B,
+        SendsMany(&[(1, 30), (2, 40), (4, 50)]),
+        &[
+            Event("low", 2),
+            Event("low", 4),
+            Packet(&[DATA, DATA, DATA]),
+        ],
+    ),
+    (A, Takes, &[Packet(&[SACK])]),
+    (B, Takes, &[]),
+    // A lost packet. The message behind it leaves a gap, which is told at once, and waits for its turn. What was lost
+    // goes out again by the retransmission timer, and is acknowledged after the delay (RFC 9260, sections 6.3.3 and
+    // 6.7).
+    (A, Sends(1, 25, Plain), &[Event("low", 1), Packet(&[DATA])]),
+    (B, Loses, &[]),
+    (A, Sends(1, 27, Plain), &[Event("low", 1), Packet(&[DATA])]),
+    (B, Takes, &[Packet(&[SACK])]),
+    (A, Takes, &[]),
+    (A, Expires(400), &[Packet(&[DATA])]),
+    (B, Passes(400), &[]),
+    (B, Takes, &[]),
+    (B, Expires(600), &[Packet(&[SACK])]),
+    (A, Passes(600), &[]),
+    (A, Takes, &[]),
+    // A lost message that isn't sent again: the peer is told not to wait for it, and acknowledges that as it does
+    // data, here along with data of its own (RFC 3758, sections 3.5 and 3.6).
+    (
+        B,
+        Sends(2, 35, SentOnce(6)),
+        &[Event("low", 2), Event("fully sent", 6), Packet(&[DATA])],
+    ),
+    (A, Loses, &[]),
+    (
+        B,
+        Expires(1000),
+        &[
+            Event("maybe expired", 6),
+            Event("end", 6),
+            Packet(&[FORWARD_TSN]),
+        ],
+    ),
+    (A, Passes(1000), &[]),
+    (A, Takes, &[]),
+    (
+        A,
+        Sends(1, 15, Plain),
+        &[Event("low", 1), Packet(&[SACK, DATA])],
+    ),
+    (B, Takes, &[]),
+    (B, Expires(1200), &[Packet(&[SACK])]),
+    (A, Passes(1200), &[]),
+    (A, Takes, &[]),
+    // A lost message whose lifetime is over.
+    (
+        A,
+        Sends(3, 45, Lives(100, 7)),
+        &[Event("low", 3), Event("fully sent", 7), Packet(&[DATA])],
+    ),
+    (B, Loses, &[]),
+    (
+        A,
+        Expires(1600),
+        &[
+            Event("maybe expired", 7),
+            Event("end", 7),
+            Packet(&[FORWARD_TSN]),
+        ],
+    ),
+    (B, Passes(1600), &[]),
+    (B, Takes, &[]),
+    (B, Expires(1800), &[Packet(&[SACK])]),
+    (A, Passes(1800), &[]),
+    (A, Takes, &[]),
+    // B sent its last data at 600 milliseconds: 30 seconds later a heartbeat goes out (RFC 9260, section 8.3).
+    (B, Expires(30_600), &[Packet(&[HEARTBEAT])]),
+    (A, Passes(30_600), &[]),
+    (A, Takes, &[Packet(&[HEARTBEAT_ACK])]),
+    (B, Takes, &[]),
+    // Some messages are taken, and the others are lost with the association (RFC 9260, section 9.1). So many events
+    // stand then that the last one of each side needs room: it was doubled as it grew, to 16 at A and 4 at B.
+    (A, Reads(2), &[]),
+    (B, Reads(3), &[]),
+    (A, TakesNoPackets(15), &[Event("unreadable", 0); 15]),
+    (B, TakesNoPackets(4), &[Event("unreadable", 0); 4]),
+    (A, Closes, &[Packet(&[ABORT]), Event("closed", 0)]),
+    (B, Takes, &[Event("aborted by the peer", 0)]),
+];
+
+/// What a side tells in a step of the exchange: nothing where it is the other side's.
+pub fn tells_at(name: Name, index: usize) -> &'static [Told] {
+    match EXCHANGE.get(index) {
+        Some((side, _, tells)) if *side == name => tells,
+        Some(_) | None => &[],
+    }
+}
+
+/// Is the event that of this place in what a side tells in a step?
+pub fn is_told_at(name: Name, index: usize, place: usize, event: &SocketEvent) -> bool {
+    match tells_at(name, index).get(place) {
+        Some(told) => is_told(event, told),
+        None => false,
+    }
+}
+
+/// The messages that come to a side, in order: the stream and the bytes of each.
+pub fn messages_to(name: Name) -> &'static [(u16, u16)] {
+    match name {
+        A => &[(1, 30), (2, 40), (4, 50)],
+        B => &[(1, 10), (2, 3000), (3, 20), (1, 25), (1, 27), (1, 15)],
+    }
+}
