@@ -1,5 +1,5 @@
 //! Two sockets over a link that loses, doubles and reorders, by their public calls: time is told at the moments
-//! that they ask for, and whole messages arrive in order.
+//! that they ask for, and whole messages arrive, ordered ones in order.
 //!
 //! A helper asserts and returns no error, and an end is dropped by a call: each early end of a function that owns
 //! a socket, and each end of a block, is proved to give all of it back.
@@ -13,5 +13,11 @@ mod link;
 mod messages;
 #[cfg(test)]
 mod partial;
+#[cfg(test)]
+mod reliable;
+#[cfg(test)]
+mod run;
+#[cfg(test)]
+mod seen;
 #[cfg(test)]
 mod simulation;

@@ -1,5 +1,7 @@
 //! A link one way that loses, doubles and reorders packets, as its seed says.
 
+use crate::run::Run;
+use crate::seen::Seen;
 use dcsctp_socket::SocketTime;
 use rand_core::{Rng, SeedableRng};
 use rand_xoshiro::Xoshiro256PlusPlus;
@@ -14,26 +16,31 @@ struct Flying {
     packet: Vec<u8>,
 }
 
-/// One direction between two sockets. A packet is under way for 10 to 49 milliseconds.
+/// One direction between two sockets. A packet is under way for 10 to 49 milliseconds, and one that is late for as
+/// much as two seconds more, so that timers expire before it comes.
 #[derive(Drop)]
 pub struct Link {
     alloc: Global,
     rng: Xoshiro256PlusPlus,
 
-    // How many of a hundred packets are lost, and how many are doubled.
+    // How many of a hundred packets are lost, how many are doubled, and how many are late.
     faults: u32,
 
     flying: Vec<Flying>,
+
+    /// What was put on the link, lost packets included.
+    pub seen: Seen,
 }
 
 impl Link {
-    /// A link of this seed, on which so many of a hundred packets are lost, and as many are doubled.
-    pub fn new(alloc: Global, seed: u64, faults: u32) -> Link {
+    /// The link that leads away from one end.
+    pub fn new(alloc: Global, run: &Run) -> Link {
         Link {
             alloc,
-            rng: Xoshiro256PlusPlus::seed_from_u64(seed),
-            faults,
+            rng: Xoshiro256PlusPlus::seed_from_u64(run.seed.wrapping_add(1_000_000)),
+            faults: run.faults,
             flying: Vec::new(alloc),
+            seen: Seen::nothing(run),
         }
     }
 
@@ -42,9 +49,18 @@ impl Link {
         self.rng.next_u32() % 100 < self.faults
     }
 
+    // How many milliseconds this packet is late.
+    fn lateness(&mut self) -> u64 {
+        if self.has_fault() {
+            u64::from(self.rng.next_u32() % 2000)
+        } else {
+            0
+        }
+    }
+
     fn send(&mut self, rt: &impl Abort, now: SocketTime, packet: Vec<u8>) {
         let delay = 10 + u64::from(self.rng.next_u32() % 40);
-        let due = now + Duration::from_millis(delay);
+        let due = now + Duration::from_millis(delay.saturating_add(self.lateness()));
         self.flying
             .push(Flying { due, packet })
             .expect(rt, "no room on the link");
@@ -52,6 +68,7 @@ impl Link {
 
     /// Takes a packet at this moment.
     pub fn put(&mut self, rt: &impl Abort, now: SocketTime, packet: Vec<u8>) {
+        self.seen.note(&packet);
         if self.has_fault() {
             return;
         }

@@ -1,5 +1,6 @@
 //! The messages of one direction, and which of them have arrived.
 
+use crate::run::{Effort, Run};
 use dcsctp_socket::{Message, PpId, SendOptions, StreamId};
 use rand_core::{Rng, SeedableRng};
 use rand_xoshiro::Xoshiro256PlusPlus;
@@ -7,25 +8,13 @@ use std::alloc::Global;
 use std::process::Abort;
 use std::time::Duration;
 
-/// How long the messages of a run are tried.
-#[derive(Clone, Copy, Debug, PartialEq, Eq)]
-pub enum Effort {
-    /// Until they are acknowledged.
-    Reliable,
-
-    /// They are sent once.
-    SentOnce,
-
-    /// For 100 milliseconds.
-    Lifetime,
-}
-
 // What a message is, by its number.
 #[derive(Clone, Copy)]
 struct Planned {
     stream: u16,
     size: usize,
     effort: Effort,
+    is_unordered: bool,
     has_arrived: bool,
 }
 
@@ -35,8 +24,14 @@ pub struct Messages {
     alloc: Global,
     planned: Vec<Planned>,
 
-    // One more than the number of the last message that arrived, for each stream.
+    // One more than the number of the last ordered message that arrived, for each stream.
     after_last: [usize; 4],
+
+    // One more than the greatest number that arrived, for each stream.
+    after_greatest: [usize; 4],
+
+    /// How many messages came behind one of their stream that was sent later.
+    pub overtaken: usize,
 }
 
 /// How many messages there are.
@@ -47,8 +42,8 @@ fn byte_at(number: usize, place: usize) -> u8 {
     ((number.wrapping_mul(31)).wrapping_add(place) % 251) as u8
 }
 
-// The message of a number: of 1 to 3,000 bytes. The last one of each of the four streams is reliable.
-fn plan_of(rng: &mut Xoshiro256PlusPlus, number: usize, effort: Effort) -> Planned {
+// The message of a number: of 1 to 5,000 bytes. The last one of each of the four streams is ordered and reliable.
+fn plan_of(rng: &mut Xoshiro256PlusPlus, number: usize, run: &Run) -> Planned {
     let is_last = COUNT - 4 <= number;
     Planned {
         stream: if is_last {
@@ -56,25 +51,32 @@ fn plan_of(rng: &mut Xoshiro256PlusPlus, number: usize, effort: Effort) -> Plann
         } else {
             (rng.next_u32() % 4) as u16
         },
-        size: 1 + (rng.next_u32() % 3000) as usize,
-        effort: if is_last { Effort::Reliable } else { effort },
+        size: 1 + (rng.next_u32() % 5000) as usize,
+        effort: if is_last {
+            Effort::Reliable
+        } else {
+            run.efforts[number % 4]
+        },
+        is_unordered: run.has_unordered && !is_last && number % 3 == 0,
         has_arrived: false,
     }
 }
 
 impl Messages {
-    /// The messages of a seed.
-    pub fn plan(rt: &impl Abort, alloc: Global, seed: u64, effort: Effort) -> Messages {
-        let mut rng = Xoshiro256PlusPlus::seed_from_u64(seed);
+    /// The messages of a run.
+    pub fn plan(rt: &impl Abort, alloc: Global, run: &Run) -> Messages {
+        let mut rng = Xoshiro256PlusPlus::seed_from_u64(run.seed.wrapping_add(2_000_000));
         let mut list = Vec::new(alloc);
         for number in 0..COUNT {
-            list.push(plan_of(&mut rng, number, effort))
+            list.push(plan_of(&mut rng, number, run))
                 .expect(rt, "no plan");
         }
         Messages {
             alloc,
             planned: list,
             after_last: [0; 4],
+            after_greatest: [0; 4],
+            overtaken: 0,
         }
     }
 
@@ -93,15 +95,36 @@ impl Messages {
     pub fn options(&self, rt: &impl Abort, number: usize) -> SendOptions {
         let planned = self.planned.get(number).expect(rt, "no such message");
         let mut options = SendOptions::default();
+        options.unordered = planned.is_unordered;
         match planned.effort {
             Effort::Reliable => {}
             Effort::SentOnce => options.max_retransmissions = Some(0),
+            Effort::SentTwice => options.max_retransmissions = Some(1),
             Effort::Lifetime => options.lifetime = Some(Duration::from_millis(100)),
         }
         options
     }
 
-    /// Notes that a message has arrived: whole, once, and behind those before it on its stream.
+    // Notes the number of a message that has arrived: an ordered one has to come behind those before it on its
+    // stream.
+    fn note(&mut self, rt: &impl Abort, number: usize, planned: &Planned) {
+        let stream = usize::from(planned.stream % 4);
+        let after = number.saturating_add(1);
+        if after < self.after_greatest[stream] {
+            self.overtaken = self.overtaken.saturating_add(1);
+        }
+        self.after_greatest[stream] = self.after_greatest[stream].max(after);
+        if planned.is_unordered {
+            return;
+        }
+        assert!(rt;
+            self.after_last[stream] <= number,
+            "{number} is out of order"
+        );
+        self.after_last[stream] = after;
+    }
+
+    /// Notes that a message has arrived: whole, once, and in its place.
     pub fn arrives(&mut self, rt: &impl Abort, message: &Message) {
         let number = message.ppid.0 as usize;
         let planned = *self.planned.get(number).expect(rt, "no such message");
@@ -112,24 +135,27 @@ impl Messages {
             assert_eq!(rt; byte, byte_at(number, place), "byte {place} of {number}");
         }
         assert!(rt; !planned.has_arrived, "{number} came twice");
-        let stream = usize::from(planned.stream % 4);
-        assert!(rt;
-            self.after_last[stream] <= number,
-            "{number} is out of order"
-        );
-        self.after_last[stream] = number + 1;
+        self.note(rt, number, &planned);
         if let Some(planned) = self.planned.get_mut(number) {
             planned.has_arrived = true;
         }
     }
 
-    /// Have all arrived that have to?
-    pub fn are_complete(&self) -> bool {
+    /// How many are missing that have to arrive, and how many of the others.
+    pub fn missing(&self) -> (usize, usize) {
+        let mut reliable = 0usize;
+        let mut limited = 0usize;
         for planned in &self.planned {
-            if !planned.has_arrived && planned.effort == Effort::Reliable {
-                return false;
+            if planned.has_arrived {
+                continue;
+            }
+            match planned.effort {
+                Effort::Reliable => reliable = reliable.saturating_add(1),
+                Effort::SentOnce | Effort::SentTwice | Effort::Lifetime => {
+                    limited = limited.saturating_add(1);
+                }
             }
         }
-        true
+        (reliable, limited)
     }
 }

@@ -1,15 +1,32 @@
-//! Messages that are given up (RFC 3758): those that arrive do so in order, and the last one of each stream, which is
-//! reliable, isn't held up by those before it.
+//! Messages that are given up (RFC 3758): those that arrive do so once, whole and in order, and the reliable ones
+//! among them, as the last of each stream, aren't held up.
 
-use crate::messages::Effort;
-use crate::simulation::runs;
-
-#[test]
-fn messages_sent_once_hold_nothing_up(rt: HostRuntime) {
-    runs(&rt, rt.alloc(), 5, 10, Effort::SentOnce);
-}
+use crate::run::{Effort, PLAIN};
+use crate::simulation::runs_each;
 
 #[test]
-fn messages_of_a_lifetime_hold_nothing_up(rt: HostRuntime) {
-    runs(&rt, rt.alloc(), 6, 10, Effort::Lifetime);
+fn messages_that_are_given_up_hold_nothing_up(rt: HostRuntime) {
+    let once = [Effort::SentOnce; 4];
+    let lifetime = [Effort::Lifetime; 4];
+    let mixed = [
+        Effort::SentOnce,
+        Effort::Reliable,
+        Effort::Lifetime,
+        Effort::SentTwice,
+    ];
+    for (name, efforts, has_unordered, interleaving) in [
+        ("sent once", once, false, false),
+        ("sent once, I-DATA", once, false, true),
+        ("a lifetime", lifetime, false, false),
+        ("a lifetime, I-DATA", lifetime, false, true),
+        ("mixed", mixed, true, false),
+        ("mixed, I-DATA", mixed, true, true),
+    ] {
+        let mut run = PLAIN;
+        run.name = name;
+        run.efforts = efforts;
+        run.has_unordered = has_unordered;
+        run.interleaving = interleaving;
+        runs_each(&rt, rt.alloc(), &run);
+    }
 }

@@ -1,13 +1,16 @@
 //! Whole runs: two sockets connect, send 300 messages each way on four streams, and come to rest.
 
 use crate::end::End;
-use crate::messages::Effort;
+use crate::run::Run;
 use dcsctp_socket::{DcSctpSocket, SocketTime};
 use std::alloc::Global;
 use std::process::Abort;
 
 // How many moments a run may have.
 const MOST_MOMENTS: u32 = 200_000;
+
+// How many seeds each kind of run has.
+const SEEDS: u64 = 20;
 
 // What happens at this moment.
 fn step(rt: &impl Abort, a: &mut End, b: &mut End, now: SocketTime) {
@@ -50,27 +53,28 @@ fn comes_to_rest(rt: &impl Abort, a: &mut End, b: &mut End) -> bool {
     false
 }
 
-// A connects to B, where so many of a hundred packets are lost and as many come twice.
-pub fn runs(rt: &impl Abort, alloc: Global, seed: u64, faults: u32, effort: Effort) {
-    let mut a = End::new(rt, alloc, seed, faults, effort);
-    let mut b = End::new(rt, alloc, seed.wrapping_add(500_000), faults, effort);
+// A connects to B, and both send all that they have.
+fn runs(rt: &impl Abort, alloc: Global, run: &Run) {
+    let mut other = *run;
+    other.seed = run.seed.wrapping_add(500_000);
+    let mut a = End::new(rt, alloc, run);
+    let mut b = End::new(rt, alloc, &other);
     a.socket.connect().expect(rt, "no association was begun");
     let has_rest = comes_to_rest(rt, &mut a, &mut b);
-    assert!(rt; has_rest, "seed {seed}: no rest");
-    a.is_over(rt, seed, "A");
-    b.is_over(rt, seed, "B");
+    assert!(rt; has_rest, "{}, seed {}: no rest", run.name, run.seed);
+    a.is_over(rt, run, "A");
+    b.is_over(rt, run, "B");
     drop(a);
     drop(b);
 }
 
-#[test]
-fn reliable_messages_arrive_where_nothing_is_lost(rt: HostRuntime) {
-    runs(&rt, rt.alloc(), 1, 0, Effort::Reliable);
-}
-
-#[test]
-fn reliable_messages_arrive_where_a_tenth_is_lost(rt: HostRuntime) {
-    for seed in [2, 3, 4] {
-        runs(&rt, rt.alloc(), seed, 10, Effort::Reliable);
+/// Runs by several seeds. Of a hundred packets none is lost in the first run, 10 are in the second, 20 in the third,
+/// 30 in the fourth, and so on.
+pub fn runs_each(rt: &impl Abort, alloc: Global, run: &Run) {
+    for seed in 0..SEEDS {
+        let mut one = *run;
+        one.seed = seed;
+        one.faults = (seed % 4) as u32 * 10;
+        runs(rt, alloc, &one);
     }
 }

@@ -18,7 +18,11 @@ mod cookie_echo;
 #[cfg(test)]
 mod damaged_init;
 #[cfg(test)]
+mod data_bytes;
+#[cfg(test)]
 mod driving;
+#[cfg(test)]
+mod forward_tsn;
 #[cfg(test)]
 mod init;
 #[cfg(test)]

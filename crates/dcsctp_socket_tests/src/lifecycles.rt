@@ -2,10 +2,10 @@
 
 use crate::checks::same;
 use crate::packets::{COOKIE_ECHO, INIT_ACK, unchecked_packet};
-use crate::sockets::{begins, opens, sends, socket_of_seven, takes, tells_nothing};
+use crate::sockets::{begins, opens, sends, socket_of_seven, takes, tells_nothing, waits};
 use crate::told::{message, sends_message, tells, tells_first};
 use dcsctp_socket::{
-    BatchSendError, DcSctpSocket, LifecycleId, SendError, SendOptions, Socket, SocketTime, StreamId,
+    BatchSendError, DcSctpSocket, LifecycleId, SendError, SendOptions, Socket, StreamId,
 };
 use dcsctp_testing::TwoWords;
 use std::alloc::Global;
@@ -27,12 +27,6 @@ fn quiet_socket(rt: &impl Abort, alloc: Global) -> Socket<TwoWords> {
         .set_buffered_amount_low_threshold(StreamId(1), 5000)
         .expect(rt, "a threshold");
     socket
-}
-
-// Tells the moment, in milliseconds.
-fn waits(rt: &impl Abort, socket: &mut Socket<TwoWords>, millis: u64) {
-    let now = SocketTime::zero() + Duration::from_millis(millis);
-    socket.advance_time(now).expect(rt, "a moment");
 }
 
 #[test]

@@ -2,10 +2,13 @@
 
 use crate::checks::{holds, same};
 use crate::packets::{COOKIE_ACK, COOKIE_ECHO, INIT, INIT_ACK};
-use dcsctp_socket::{DcSctpSocket, ErrorKind, Options, Socket, SocketEvent, SocketState};
+use dcsctp_socket::{
+    DcSctpSocket, ErrorKind, Options, Socket, SocketEvent, SocketState, SocketTime,
+};
 use dcsctp_testing::TwoWords;
 use std::alloc::Global;
 use std::process::Abort;
+use std::time::Duration;
 
 // Default options that look at no checksum.
 pub fn unchecked() -> Options {
@@ -34,6 +37,12 @@ pub fn socket_with(rt: &impl Abort, alloc: Global, options: &Options) -> Socket<
 // A socket that draws 100 and 6, which make tag 7 and first TSN 100, and looks at no checksum.
 pub fn socket_of_seven(rt: &impl Abort, alloc: Global) -> Socket<TwoWords> {
     socket_that_draws(rt, alloc, &unchecked(), 100, 6)
+}
+
+// Tells the moment, in milliseconds.
+pub fn waits(rt: &impl Abort, socket: &mut Socket<TwoWords>, millis: u64) {
+    let now = SocketTime::zero() + Duration::from_millis(millis);
+    socket.advance_time(now).expect(rt, "a moment");
 }
 
 // Hands a packet in.
