@@ -1,6 +1,6 @@
 //! The exchange: what each side does, step by step, and what it tells then.
 //!
-//! All was worked out by hand for the default options. A packet has 1,191 bytes at most, and so a chunk 1,160 of a
+//! All was worked out by hand for the default options. A packet has 1,188 bytes at most, and so a chunk 1,160 of a
 //! message. Packets are under way for no time, and acknowledgements come after 200 milliseconds at most: so the
 //! retransmission timeout is the least that there is, 400 milliseconds, and half of it the delay of an
 //! acknowledgement.
