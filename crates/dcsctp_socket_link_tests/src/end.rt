@@ -146,8 +146,9 @@ impl End {
     }
 
     /// Everything has to have been sent, nothing to wait, what has to arrive to have arrived, and the end to have
-    /// been connected once. On the wire there was what the run has, and nothing else of that kind. Where packets are
-    /// lost, messages that may be given up are missing, a FORWARD-TSN said so, and unordered messages were overtaken.
+    /// been connected once. On the wire there was nothing strange. Where messages may be given up some are missing,
+    /// and a FORWARD-TSN said so, but that isn't certain where nothing is lost; elsewhere neither is so. Where some
+    /// are unordered, some came behind later ones.
     pub fn is_over(&self, rt: &impl Abort, run: &Run, end: &str) {
         let (name, seed, seen) = (run.name, run.seed, self.link.seen);
         let (reliable, limited) = self.sent.missing();
@@ -163,7 +164,8 @@ impl End {
             [COUNT, 0, 1, 0, 0],
             "{name}, seed {seed}, {end}: sent, waiting, connections, missing, strange"
         );
-        if run.faults == 0 {
+        let is_limited = run.is_limited();
+        if is_limited && run.faults == 0 {
             return;
         }
         let shown = [
@@ -172,7 +174,6 @@ impl End {
             0 < seen.forward_tsns,
             0 < self.sent.overtaken,
         ];
-        let is_limited = run.is_limited();
         assert_eq!(rt;
             shown,
             [true, is_limited, is_limited, run.has_unordered],

@@ -5,15 +5,16 @@ use crate::run::Run;
 /// What one end has put on the wire.
 #[derive(Clone, Copy)]
 pub struct Seen {
-    run: Run,
+    interleaving: bool,
+    zero_checksum: bool,
 
-    /// Chunks of data, of the kind that the run has.
+    /// DATA, or with interleaving I-DATA.
     pub data: usize,
 
-    /// FORWARD-TSNs, or I-FORWARD-TSNs, where the run has them.
+    /// FORWARD-TSNs, or with interleaving I-FORWARD-TSNs.
     pub forward_tsns: usize,
 
-    /// Such chunks as the run hasn't; and packets with a checksum that are to have none, or the other way round.
+    /// Those of the other kind; and packets with a checksum that are to have none, or the other way round.
     pub strange: usize,
 }
 
@@ -41,7 +42,8 @@ impl Seen {
     /// Nothing was on the wire yet.
     pub fn nothing(run: &Run) -> Seen {
         Seen {
-            run: *run,
+            interleaving: run.interleaving,
+            zero_checksum: run.zero_checksum,
             data: 0,
             forward_tsns: 0,
             strange: 0,
@@ -50,10 +52,9 @@ impl Seen {
 
     // Notes a chunk: DATA is of kind 0, I-DATA of 64, FORWARD-TSN of 192, and I-FORWARD-TSN of 194.
     fn note_chunk(&mut self, kind: u8) {
-        let is_limited = self.run.is_limited();
-        match (kind, self.run.interleaving) {
+        match (kind, self.interleaving) {
             (0, false) | (64, true) => self.data = self.data.saturating_add(1),
-            (192, false) | (194, true) if is_limited => {
+            (192, false) | (194, true) => {
                 self.forward_tsns = self.forward_tsns.saturating_add(1);
             }
             (0 | 64 | 192 | 194, _) => self.strange = self.strange.saturating_add(1),
@@ -64,7 +65,7 @@ impl Seen {
     /// Notes a packet. INIT and COOKIE ECHO, of kinds 1 and 10, have a checksum in any case (RFC 9653, section 5.2).
     pub fn note(&mut self, packet: &[u8]) {
         let first = packet.get(12).copied();
-        let needs_checksum = !self.run.zero_checksum || first == Some(1) || first == Some(10);
+        let needs_checksum = !self.zero_checksum || first == Some(1) || first == Some(10);
         if has_checksum(packet) != needs_checksum {
             self.strange = self.strange.saturating_add(1);
         }
