@@ -37,7 +37,7 @@ impl<R: Rng> Context<R> {
     pub fn send_buffered_packets(&mut self) -> Result<(), AllocError>
         ensures { TakesOne R.stream FlushAt self.old result self.new }
     {
-        // So that no packet is made that would stay empty.
+        // So that hardly a packet is made that would stay empty.
         if !self.state.may_fill_first(&self.send_queue) {
             return Ok(());
         }

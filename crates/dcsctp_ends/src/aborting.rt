@@ -121,17 +121,10 @@ pub fn abort_association<R: Rng>(
     ensures turn { Takes R.stream (aborting_turn reason) context.old result context.new }
     ensures closed { is_closed (core_of context.old.state) ≡ true → IsOk result }
 {
-    match context.state {
-        State::Closed => {}
-        State::CookieWait(_) => end(context, reason)?,
-        State::CookieEchoed(_) => {
-            send_abort(context, reason)?;
-            end(context, reason)?;
-        }
-        State::Established(_) => {
-            send_abort(context, reason)?;
-            end(context, reason)?;
-        }
+    if let State::Closed = context.state {
+        return Ok(());
     }
+    send_abort(context, reason)?;
+    end(context, reason)?;
     Ok(())
 }
