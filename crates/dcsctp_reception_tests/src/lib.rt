@@ -3,7 +3,13 @@
 #![tactic(auto)]
 
 #[cfg(test)]
+mod arrivals;
+#[cfg(test)]
+mod checks;
+#[cfg(test)]
 mod messages;
+#[cfg(test)]
+mod packets;
 #[cfg(test)]
 mod receiver;
 #[cfg(test)]

@@ -1,193 +1,259 @@
 //! Messages out of chunks: in parts, in any order, twice, skipped, and with numbers that wrap.
 
-use crate::receiver::{interleaved, make_receiver, ordered, same};
-use dcsctp_api::StreamId;
-use dcsctp_reassembly::{Numbering, SkippedTo};
-
-// Ordered messages up to this one are skipped on stream 7.
-fn ssn(ssn: u16) -> SkippedTo {
-    SkippedTo::Ssn {
-        stream_id: StreamId(7),
-        ssn,
-    }
-}
-
-// Messages up to this one are skipped on stream 7.
-fn mid(is_unordered: bool, mid: u32) -> SkippedTo {
-    SkippedTo::Mid {
-        stream_id: StreamId(7),
-        is_unordered,
-        mid,
-    }
-}
+use crate::arrivals::Part::{First, Last, Middle, Whole};
+use crate::arrivals::Step::{Add, Begins, Counts, Gives, Rests, Skips, SkipsMessages};
+use crate::arrivals::{Step, run};
+use dcsctp_reassembly::Numbering::{InterleavedOrdered, InterleavedUnordered, Ordered, Unordered};
 
 #[test]
 fn ordered_messages_come_by_number(rt: HostRuntime) {
-    let mut receiver = make_receiver(rt.alloc(), 1000);
-    receiver.add(&rt, 1, (7, ordered(1)), "BE", "bb");
-    receiver.add(&rt, 2, (7, ordered(2)), "BE", "cc");
-    receiver.rests(&rt, "the first is missing", 996);
-    receiver.add(&rt, 3, (7, ordered(0)), "BE", "aa");
-    receiver.gives(&rt, "first", "aa");
-    receiver.gives(&rt, "second", "bb");
-    receiver.gives(&rt, "third", "cc");
-    receiver.add(&rt, 4, (7, ordered(3)), "B", "d");
-    receiver.add(&rt, 6, (7, ordered(3)), "E", "f");
-    receiver.add(&rt, 7, (7, ordered(4)), "BE", "g");
-    receiver.rests(&rt, "the middle is missing", 997);
-    receiver.add(&rt, 5, (7, ordered(3)), "", "e");
-    receiver.gives(&rt, "in three parts", "def");
-    receiver.gives(&rt, "behind it", "g");
-    receiver.rests(&rt, "all is taken", 1000);
-    same(&rt, "messages", receiver.queue.rx_messages_count(), 5);
+    static STEPS: &[(&str, Step)] = &[
+        ("one chunk each", Begins(1000)),
+        ("one chunk each", Add(1, 7, Ordered { ssn: 1 }, Whole, "bb")),
+        ("one chunk each", Add(2, 7, Ordered { ssn: 2 }, Whole, "cc")),
+        ("the first is missing", Rests(996)),
+        ("one chunk each", Add(3, 7, Ordered { ssn: 0 }, Whole, "aa")),
+        ("first", Gives("aa")),
+        ("second", Gives("bb")),
+        ("third", Gives("cc")),
+        ("in three parts", Add(4, 7, Ordered { ssn: 3 }, First, "d")),
+        ("in three parts", Add(6, 7, Ordered { ssn: 3 }, Last, "f")),
+        ("behind it", Add(7, 7, Ordered { ssn: 4 }, Whole, "g")),
+        ("the middle is missing", Rests(997)),
+        ("in three parts", Add(5, 7, Ordered { ssn: 3 }, Middle, "e")),
+        ("in three parts", Gives("def")),
+        ("behind it", Gives("g")),
+        ("all is taken", Rests(1000)),
+        ("messages", Counts(5)),
+    ];
+    run(&rt, STEPS);
 }
 
 #[test]
 fn stream_sequence_numbers_wrap(rt: HostRuntime) {
-    let mut receiver = make_receiver(rt.alloc(), 1000);
-    receiver.skip(&rt, 0xffff_fff0, ssn(30000));
-    receiver.skip(&rt, 0xffff_fff1, ssn(60000));
-    receiver.skip(&rt, 0xffff_fff2, ssn(65534));
-    receiver.add(&rt, 0xffff_ffff, (7, ordered(65535)), "B", "a");
-    receiver.add(&rt, 1, (7, ordered(0)), "BE", "c");
-    receiver.add(&rt, 2, (7, ordered(1)), "BE", "d");
-    receiver.rests(&rt, "65535 isn't whole", 997);
-    receiver.add(&rt, 0, (7, ordered(65535)), "E", "b");
-    receiver.gives(&rt, "65535", "ab");
-    receiver.gives(&rt, "0", "c");
-    receiver.gives(&rt, "1", "d");
-    receiver.rests(&rt, "all is taken", 1000);
+    static STEPS: &[(&str, Step)] = &[
+        ("near the wrap", Begins(1000)),
+        ("near the wrap", Skips(0xffff_fff0, 30000)),
+        ("near the wrap", Skips(0xffff_fff1, 60000)),
+        ("near the wrap", Skips(0xffff_fff2, 65534)),
+        (
+            "65535",
+            Add(0xffff_ffff, 7, Ordered { ssn: 65535 }, First, "a"),
+        ),
+        ("0", Add(1, 7, Ordered { ssn: 0 }, Whole, "c")),
+        ("1", Add(2, 7, Ordered { ssn: 1 }, Whole, "d")),
+        ("65535 isn't whole", Rests(997)),
+        ("65535", Add(0, 7, Ordered { ssn: 65535 }, Last, "b")),
+        ("65535", Gives("ab")),
+        ("0", Gives("c")),
+        ("1", Gives("d")),
+        ("all is taken", Rests(1000)),
+    ];
+    run(&rt, STEPS);
+}
+
+// Messages of this kind, the last before the wrap and the first behind it.
+macro_rules! identifiers_wrap {
+    ($is_unordered:literal, $kind:ident) => {
+        &[
+            ("near the wrap", Begins(1000)),
+            ("near the wrap", SkipsMessages(1, $is_unordered, 0x7fff_0000)),
+            ("near the wrap", SkipsMessages(2, $is_unordered, 0xfffe_0000)),
+            ("near the wrap", SkipsMessages(3, $is_unordered, 0xffff_fffe)),
+            ("the last identifier", Add(4, 7, $kind { mid: 0xffff_ffff, fsn: 1 }, Last, "b")),
+            ("the first identifier", Add(5, 7, $kind { mid: 0, fsn: 1 }, Last, "d")),
+            ("no beginning", Rests(998)),
+            ("the last identifier", Add(6, 7, $kind { mid: 0xffff_ffff, fsn: 0 }, First, "a")),
+            ("the last identifier", Gives("ab")),
+            ("the first identifier", Add(7, 7, $kind { mid: 0, fsn: 0 }, First, "c")),
+            ("the first identifier", Gives("cd")),
+            ("all is taken", Rests(1000)),
+        ]
+    };
 }
 
 #[test]
-fn message_identifiers_wrap(rt: HostRuntime) {
-    for is_unordered in [false, true] {
-        let mut receiver = make_receiver(rt.alloc(), 1000);
-        receiver.skip(&rt, 1, mid(is_unordered, 0x7fff_0000));
-        receiver.skip(&rt, 2, mid(is_unordered, 0xfffe_0000));
-        receiver.skip(&rt, 3, mid(is_unordered, 0xffff_fffe));
-        receiver.add(
-            &rt,
-            4,
-            (7, interleaved(is_unordered, 0xffff_ffff, 1)),
-            "E",
-            "b",
-        );
-        receiver.add(&rt, 5, (7, interleaved(is_unordered, 0, 1)), "E", "d");
-        receiver.rests(&rt, "no beginning", 998);
-        receiver.add(
-            &rt,
-            6,
-            (7, interleaved(is_unordered, 0xffff_ffff, 0)),
-            "B",
-            "a",
-        );
-        receiver.gives(&rt, "the last identifier", "ab");
-        receiver.add(&rt, 7, (7, interleaved(is_unordered, 0, 0)), "B", "c");
-        receiver.gives(&rt, "the first identifier", "cd");
-        receiver.rests(&rt, "all is taken", 1000);
-    }
+fn identifiers_of_ordered_messages_wrap(rt: HostRuntime) {
+    static STEPS: &[(&str, Step)] = identifiers_wrap!(false, InterleavedOrdered);
+    run(&rt, STEPS);
+}
+
+#[test]
+fn identifiers_of_unordered_messages_wrap(rt: HostRuntime) {
+    static STEPS: &[(&str, Step)] = identifiers_wrap!(true, InterleavedUnordered);
+    run(&rt, STEPS);
 }
 
 #[test]
 fn parts_go_by_tsns_across_the_wrap(rt: HostRuntime) {
-    for numbering in [ordered(0), Numbering::Unordered] {
-        let mut receiver = make_receiver(rt.alloc(), 1000);
-        receiver.add(&rt, 0xffff_fffe, (7, numbering), "B", "a");
-        receiver.add(&rt, 1, (7, numbering), "E", "d");
-        receiver.add(&rt, 0, (7, numbering), "", "c");
-        receiver.rests(&rt, "one is missing", 997);
-        receiver.add(&rt, 0xffff_ffff, (7, numbering), "", "b");
-        receiver.gives(&rt, "whole", "abcd");
-        receiver.rests(&rt, "all is taken", 1000);
-    }
+    static STEPS: &[(&str, Step)] = &[
+        ("ordered", Begins(1000)),
+        (
+            "ordered",
+            Add(0xffff_fffe, 7, Ordered { ssn: 0 }, First, "a"),
+        ),
+        ("ordered", Add(1, 7, Ordered { ssn: 0 }, Last, "d")),
+        ("ordered", Add(0, 7, Ordered { ssn: 0 }, Middle, "c")),
+        ("ordered: one is missing", Rests(997)),
+        (
+            "ordered",
+            Add(0xffff_ffff, 7, Ordered { ssn: 0 }, Middle, "b"),
+        ),
+        ("ordered: whole", Gives("abcd")),
+        ("ordered: all is taken", Rests(1000)),
+        ("unordered", Begins(1000)),
+        ("unordered", Add(0xffff_fffe, 7, Unordered, First, "a")),
+        ("unordered", Add(1, 7, Unordered, Last, "d")),
+        ("unordered", Add(0, 7, Unordered, Middle, "c")),
+        ("unordered: one is missing", Rests(997)),
+        ("unordered", Add(0xffff_ffff, 7, Unordered, Middle, "b")),
+        ("unordered: whole", Gives("abcd")),
+        ("unordered: all is taken", Rests(1000)),
+    ];
+    run(&rt, STEPS);
 }
 
 #[test]
 fn unordered_messages_come_once_whole(rt: HostRuntime) {
-    let mut receiver = make_receiver(rt.alloc(), 1000);
-    receiver.add(&rt, 10, (1, Numbering::Unordered), "B", "a");
-    receiver.add(&rt, 14, (1, Numbering::Unordered), "BE", "x");
-    receiver.gives(&rt, "of one chunk", "x");
-    receiver.add(&rt, 12, (1, Numbering::Unordered), "E", "c");
-    receiver.add(&rt, 15, (1, Numbering::Unordered), "B", "y");
-    receiver.add(&rt, 16, (1, Numbering::Unordered), "E", "z");
-    receiver.gives(&rt, "of two chunks", "yz");
-    receiver.add(&rt, 11, (1, Numbering::Unordered), "", "b");
-    receiver.gives(&rt, "of three chunks", "abc");
-    receiver.add(&rt, 21, (1, Numbering::Unordered), "E", "2");
-    receiver.add(&rt, 20, (1, Numbering::Unordered), "B", "1");
-    receiver.gives(&rt, "the end came first", "12");
-    receiver.rests(&rt, "all is taken", 1000);
+    static STEPS: &[(&str, Step)] = &[
+        ("of three chunks", Begins(1000)),
+        ("of three chunks", Add(10, 1, Unordered, First, "a")),
+        ("of one chunk", Add(14, 1, Unordered, Whole, "x")),
+        ("of one chunk", Gives("x")),
+        ("of three chunks", Add(12, 1, Unordered, Last, "c")),
+        ("of two chunks", Add(15, 1, Unordered, First, "y")),
+        ("of two chunks", Add(16, 1, Unordered, Last, "z")),
+        ("of two chunks", Gives("yz")),
+        ("of three chunks", Add(11, 1, Unordered, Middle, "b")),
+        ("of three chunks", Gives("abc")),
+        ("the end came first", Add(21, 1, Unordered, Last, "2")),
+        ("the end came first", Add(20, 1, Unordered, First, "1")),
+        ("the end came first", Gives("12")),
+        ("all is taken", Rests(1000)),
+    ];
+    run(&rt, STEPS);
 }
 
 #[test]
 fn interleaved_messages_go_by_fragment_numbers(rt: HostRuntime) {
-    let mut receiver = make_receiver(rt.alloc(), 1000);
-    receiver.add(&rt, 1, (3, interleaved(false, 0, 0)), "B", "a");
-    receiver.add(&rt, 2, (3, interleaved(false, 1, 0)), "B", "x");
-    receiver.add(&rt, 3, (3, interleaved(true, 5, 1)), "", "2");
-    receiver.rests(&rt, "none is whole", 997);
-    receiver.add(&rt, 4, (3, interleaved(false, 0, 1)), "E", "b");
-    receiver.gives(&rt, "the first", "ab");
-    receiver.add(&rt, 5, (3, interleaved(true, 5, 2)), "E", "3");
-    receiver.add(&rt, 6, (3, interleaved(false, 1, 1)), "E", "y");
-    receiver.gives(&rt, "the second", "xy");
-    receiver.add(&rt, 7, (3, interleaved(true, 5, 0)), "B", "1");
-    receiver.gives(&rt, "the unordered one", "123");
-    receiver.rests(&rt, "all is taken", 1000);
+    static STEPS: &[(&str, Step)] = &[
+        ("the first", Begins(1000)),
+        (
+            "the first",
+            Add(1, 3, InterleavedOrdered { mid: 0, fsn: 0 }, First, "a"),
+        ),
+        (
+            "the second",
+            Add(2, 3, InterleavedOrdered { mid: 1, fsn: 0 }, First, "x"),
+        ),
+        (
+            "the unordered one",
+            Add(3, 3, InterleavedUnordered { mid: 5, fsn: 1 }, Middle, "2"),
+        ),
+        ("none is whole", Rests(997)),
+        (
+            "the first",
+            Add(4, 3, InterleavedOrdered { mid: 0, fsn: 1 }, Last, "b"),
+        ),
+        ("the first", Gives("ab")),
+        (
+            "the unordered one",
+            Add(5, 3, InterleavedUnordered { mid: 5, fsn: 2 }, Last, "3"),
+        ),
+        (
+            "the second",
+            Add(6, 3, InterleavedOrdered { mid: 1, fsn: 1 }, Last, "y"),
+        ),
+        ("the second", Gives("xy")),
+        (
+            "the unordered one",
+            Add(7, 3, InterleavedUnordered { mid: 5, fsn: 0 }, First, "1"),
+        ),
+        ("the unordered one", Gives("123")),
+        ("all is taken", Rests(1000)),
+    ];
+    run(&rt, STEPS);
 }
 
 #[test]
 fn a_part_that_is_there_is_dropped(rt: HostRuntime) {
-    let mut receiver = make_receiver(rt.alloc(), 100);
-    let rows = [
-        (10, "B", "aa", 98),
-        (10, "B", "aa", 98),
-        (12, "", "cc", 96),
-        (12, "", "cc", 96),
-        (11, "", "bb", 94),
-        (11, "", "bb", 94),
-        (10, "B", "aa", 94),
-        (12, "", "cc", 94),
+    static STEPS: &[(&str, Step)] = &[
+        ("aa", Begins(100)),
+        ("aa", Add(10, 7, Ordered { ssn: 0 }, First, "aa")),
+        ("aa", Rests(98)),
+        ("aa again", Add(10, 7, Ordered { ssn: 0 }, First, "aa")),
+        ("aa again", Rests(98)),
+        ("cc", Add(12, 7, Ordered { ssn: 0 }, Middle, "cc")),
+        ("cc", Rests(96)),
+        ("cc again", Add(12, 7, Ordered { ssn: 0 }, Middle, "cc")),
+        ("cc again", Rests(96)),
+        ("bb", Add(11, 7, Ordered { ssn: 0 }, Middle, "bb")),
+        ("bb", Rests(94)),
+        ("bb again", Add(11, 7, Ordered { ssn: 0 }, Middle, "bb")),
+        ("bb again", Rests(94)),
+        (
+            "aa once joined",
+            Add(10, 7, Ordered { ssn: 0 }, First, "aa"),
+        ),
+        ("aa once joined", Rests(94)),
+        (
+            "cc once joined",
+            Add(12, 7, Ordered { ssn: 0 }, Middle, "cc"),
+        ),
+        ("cc once joined", Rests(94)),
+        ("whole", Add(13, 7, Ordered { ssn: 0 }, Last, "dd")),
+        ("whole", Gives("aabbccdd")),
+        ("all is taken", Rests(100)),
     ];
-    for (tsn, flags, bytes, remaining) in rows {
-        receiver.add(&rt, tsn, (7, ordered(0)), flags, bytes);
-        receiver.rests(&rt, bytes, remaining);
-    }
-    receiver.add(&rt, 13, (7, ordered(0)), "E", "dd");
-    receiver.gives(&rt, "whole", "aabbccdd");
-    receiver.rests(&rt, "all is taken", 100);
+    run(&rt, STEPS);
 }
 
 #[test]
 fn skipped_messages_make_way(rt: HostRuntime) {
-    let mut receiver = make_receiver(rt.alloc(), 100);
-    receiver.add(&rt, 2, (7, ordered(0)), "", "lost");
-    receiver.add(&rt, 4, (7, ordered(1)), "BE", "kept");
-    receiver.add(&rt, 5, (7, ordered(2)), "BE", "next");
-    receiver.add(&rt, 6, (7, ordered(4)), "BE", "later");
-    receiver.add(&rt, 7, (9, Numbering::Unordered), "B", "part");
-    receiver.rests(&rt, "the first isn't whole", 100 - 21);
-    receiver.skip(&rt, 4, ssn(1));
-    receiver.gives(&rt, "up to the number", "kept");
-    receiver.gives(&rt, "behind it", "next");
-    receiver.rests(&rt, "the rest waits", 100 - 9);
-    receiver.skip(&rt, 7, ssn(1));
-    receiver.rests(&rt, "the unordered part is dropped", 100 - 5);
-    receiver.add(&rt, 8, (7, ordered(1)), "BE", "late");
-    receiver.rests(&rt, "before the expected number", 100 - 5);
+    static STEPS: &[(&str, Step)] = &[
+        ("lost", Begins(100)),
+        ("lost", Add(2, 7, Ordered { ssn: 0 }, Middle, "lost")),
+        ("kept", Add(4, 7, Ordered { ssn: 1 }, Whole, "kept")),
+        ("next", Add(5, 7, Ordered { ssn: 2 }, Whole, "next")),
+        ("later", Add(6, 7, Ordered { ssn: 4 }, Whole, "later")),
+        ("unordered", Add(7, 9, Unordered, First, "part")),
+        ("the first isn't whole", Rests(100 - 21)),
+        ("up to the number", Skips(4, 1)),
+        ("up to the number", Gives("kept")),
+        ("behind it", Gives("next")),
+        ("the rest waits", Rests(100 - 9)),
+        ("the unordered part", Skips(7, 1)),
+        ("the unordered part is dropped", Rests(100 - 5)),
+        ("late", Add(8, 7, Ordered { ssn: 1 }, Whole, "late")),
+        ("before the expected number", Rests(100 - 5)),
+    ];
+    run(&rt, STEPS);
 }
 
 #[test]
 fn skipped_unordered_messages_are_dropped(rt: HostRuntime) {
-    let mut receiver = make_receiver(rt.alloc(), 100);
-    receiver.add(&rt, 0, (7, interleaved(true, 0, 0)), "B", "part");
-    receiver.add(&rt, 1, (7, interleaved(true, 1, 0)), "B", "part");
-    receiver.add(&rt, 2, (7, interleaved(true, 2, 0)), "B", "part");
-    receiver.skip(&rt, 1, mid(true, 1));
-    receiver.rests(&rt, "one is left", 96);
-    receiver.add(&rt, 3, (7, interleaved(true, 2, 1)), "E", "whole");
-    receiver.gives(&rt, "it becomes whole", "partwhole");
-    receiver.rests(&rt, "all is taken", 100);
+    static STEPS: &[(&str, Step)] = &[
+        ("0", Begins(100)),
+        (
+            "0",
+            Add(0, 7, InterleavedUnordered { mid: 0, fsn: 0 }, First, "part"),
+        ),
+        (
+            "1",
+            Add(1, 7, InterleavedUnordered { mid: 1, fsn: 0 }, First, "part"),
+        ),
+        (
+            "2",
+            Add(2, 7, InterleavedUnordered { mid: 2, fsn: 0 }, First, "part"),
+        ),
+        ("up to 1", SkipsMessages(1, true, 1)),
+        ("one is left", Rests(96)),
+        (
+            "2",
+            Add(3, 7, InterleavedUnordered { mid: 2, fsn: 1 }, Last, "whole"),
+        ),
+        ("it becomes whole", Gives("partwhole")),
+        ("all is taken", Rests(100)),
+    ];
+    run(&rt, STEPS);
 }
