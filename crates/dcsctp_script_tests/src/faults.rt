@@ -61,46 +61,105 @@ fn breaks_reading(rt: &impl Abort, alloc: Global, kind: io::ErrorKind, lines: &s
     same(rt, lines, printed.as_slice(), lines.as_bytes());
 }
 
+// How reading fails, what is printed, and the status.
+static READS: [(io::ErrorKind, &str, u8); 2] = [
+    (
+        io::ErrorKind::Other,
+        "A packet 1 00000000 INIT\nA Connecting\n",
+        1,
+    ),
+    (
+        io::ErrorKind::OutOfMemory,
+        "A packet 1 00000000 INIT\nA Connecting\nout of memory\n",
+        3,
+    ),
+];
+
 #[test]
 fn a_failed_read_ends_the_run(rt: HostRuntime) {
-    let lines = "A packet 1 00000000 INIT\nA Connecting\n";
-    breaks_reading(&rt, rt.alloc(), io::ErrorKind::Other, lines, 1);
-    let lines = "A packet 1 00000000 INIT\nA Connecting\nout of memory\n";
-    breaks_reading(&rt, rt.alloc(), io::ErrorKind::OutOfMemory, lines, 3);
+    for (kind, lines, code) in &READS {
+        breaks_reading(&rt, rt.alloc(), *kind, lines, *code);
+    }
 }
 
-// Runs a script of this line so often, and has writes fail so and so often: the run has to end, and what
-// was taken to be a front part of as many answers.
-fn breaks_writing(
-    rt: &impl Abort,
-    alloc: Global,
-    (line, answer): (&str, &str),
+// A script of one line, which stands there so often and prints one answer each time, and how its writes
+// fail: so and so often.
+struct Writes {
+    name: &'static str,
+    line: &'static str,
+    answer: &'static str,
     times: usize,
-    (kind, failures): (io::ErrorKind, u32),
-) {
-    let script = line.repeat(alloc, times).expect(rt, "no script");
-    let answers = answer.repeat(alloc, times).expect(rt, "no answers");
+    kind: io::ErrorKind,
+    failures: u32,
+}
+
+// Runs the script: the run has to end, and what was taken to be a front part of as many answers.
+fn breaks_writing(rt: &impl Abort, alloc: Global, writes: &Writes) {
+    let script = writes
+        .line
+        .repeat(alloc, writes.times)
+        .expect(rt, "no script");
+    let answers = writes
+        .answer
+        .repeat(alloc, writes.times)
+        .expect(rt, "no answers");
     let mut writer = FailingWriter {
         taken: Vec::new(alloc),
-        kind,
-        failures,
+        kind: writes.kind,
+        failures: writes.failures,
     };
     let status = run_script(alloc, &mut script.as_bytes(), &mut writer);
-    same(rt, line, status.code(), 1);
+    same(rt, writes.name, status.code(), 1);
     let is_front = answers.as_bytes().starts_with(&writer.taken);
-    holds(rt, line, is_front);
+    holds(rt, writes.name, is_front);
 }
+
+static WRITES: [Writes; 5] = [
+    Writes {
+        name: "always",
+        line: "state A\n",
+        answer: "A Closed\n",
+        times: 1,
+        kind: io::ErrorKind::Other,
+        failures: u32::MAX,
+    },
+    Writes {
+        name: "always, at a bad line",
+        line: "state",
+        answer: "line 1: bad\n",
+        times: 1,
+        kind: io::ErrorKind::Other,
+        failures: u32::MAX,
+    },
+    Writes {
+        name: "always, for want of memory",
+        line: "state B\n",
+        answer: "B Closed\n",
+        times: 1,
+        kind: io::ErrorKind::OutOfMemory,
+        failures: u32::MAX,
+    },
+    Writes {
+        name: "once, for want of memory",
+        line: "state A\n",
+        answer: "A Closed\n",
+        times: 1,
+        kind: io::ErrorKind::OutOfMemory,
+        failures: 1,
+    },
+    Writes {
+        name: "once among many lines",
+        line: "state B\n",
+        answer: "B Closed\n",
+        times: 2000,
+        kind: io::ErrorKind::OutOfMemory,
+        failures: 1,
+    },
+];
 
 #[test]
 fn a_failed_write_ends_the_run(rt: HostRuntime) {
-    let alloc = rt.alloc();
-    let (a, b) = (("state A\n", "A Closed\n"), ("state B\n", "B Closed\n"));
-    let always = (io::ErrorKind::Other, u32::MAX);
-    breaks_writing(&rt, alloc, a, 1, always);
-    breaks_writing(&rt, alloc, ("state", "line 1: bad\n"), 1, always);
-    let always = (io::ErrorKind::OutOfMemory, u32::MAX);
-    breaks_writing(&rt, alloc, b, 1, always);
-    let once = (io::ErrorKind::OutOfMemory, 1);
-    breaks_writing(&rt, alloc, a, 1, once);
-    breaks_writing(&rt, alloc, b, 2000, once);
+    for writes in &WRITES {
+        breaks_writing(&rt, rt.alloc(), writes);
+    }
 }

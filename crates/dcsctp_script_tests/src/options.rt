@@ -1,34 +1,63 @@
 //! The options that a script sets.
 
-use crate::scripts::{CONNECTED, HANDSHAKE, WORDS, prints, stops};
+use crate::scripts::{CONNECTED, HANDSHAKE, Script, WORDS, joined, run_all, runs};
+use dcsctp_script::Status::{self, BadLine, Done};
 use std::alloc::Global;
 use std::process::Abort;
 
+// Streams that the sides offer, and a method of A alone.
+const STREAMS: &str = "opt A announced_maximum_incoming_streams 10\n\
+    opt A announced_maximum_outgoing_streams 20\n\
+    opt B announced_maximum_incoming_streams 15\n\
+    opt B announced_maximum_outgoing_streams 5\n\
+    opt A zero_checksum_alternate_error_detection_method 1\n";
+
+static SET: &[Script] = &[
+    (
+        "bursts",
+        &[
+            "opt A max_burst 0\nopt B max_burst -1\nopt B max_burst 04\n",
+            WORDS,
+            "connect A\ngive B 1\ngive A 1\nstate A\n",
+        ],
+        &["A packet 1 00000000 INIT\nB packet 1 00000007 INIT-ACK\nA Connecting\n"],
+        Done,
+    ),
+    (
+        "streams",
+        &[STREAMS, WORDS, HANDSHAKE, "show A\nshow B\n"],
+        &[
+            CONNECTED,
+            "A established my 00000007 100 peer 00000009 200 caps 1 0 1 0 5 15 \
+            own 100 none last 199 0\n\
+            B established my 00000009 200 peer 00000007 100 caps 1 0 1 0 15 5 \
+            own 200 none last 99 0\n",
+        ],
+        Done,
+    ),
+    (
+        "a method of both",
+        &[
+            STREAMS,
+            "opt B zero_checksum_alternate_error_detection_method 1\n",
+            WORDS,
+            HANDSHAKE,
+            "show A\nshow B\n",
+        ],
+        &[
+            CONNECTED,
+            "A established my 00000007 100 peer 00000009 200 caps 1 0 1 1 5 15 \
+            own 100 none last 199 0\n\
+            B established my 00000009 200 peer 00000007 100 caps 1 0 1 1 15 5 \
+            own 200 none last 99 0\n",
+        ],
+        Done,
+    ),
+];
+
 #[test]
 fn options_are_set(rt: HostRuntime) {
-    let alloc = rt.alloc();
-    let burst = "opt A max_burst 0\nopt B max_burst -1\nopt B max_burst 04\n";
-    let commands = "connect A\ngive B 1\ngive A 1\nstate A\n";
-    let lines = "A packet 1 00000000 INIT\nB packet 1 00000007 INIT-ACK\nA Connecting\n";
-    prints(&rt, alloc, "bursts", &[burst, WORDS, commands], &[lines]);
-    let streams = "opt A announced_maximum_incoming_streams 10\n\
-        opt A announced_maximum_outgoing_streams 20\n\
-        opt B announced_maximum_incoming_streams 15\n\
-        opt B announced_maximum_outgoing_streams 5\n\
-        opt A zero_checksum_alternate_error_detection_method 1\n";
-    let shown = "A established my 00000007 100 peer 00000009 200 caps 1 0 1 0 5 15 \
-        own 100 none last 199 0\n\
-        B established my 00000009 200 peer 00000007 100 caps 1 0 1 0 15 5 \
-        own 200 none last 99 0\n";
-    let script = [streams, WORDS, HANDSHAKE, "show A\nshow B\n"];
-    prints(&rt, alloc, "streams", &script, &[CONNECTED, shown]);
-    let both = "opt B zero_checksum_alternate_error_detection_method 1\n";
-    let shown = "A established my 00000007 100 peer 00000009 200 caps 1 0 1 1 5 15 \
-        own 100 none last 199 0\n\
-        B established my 00000009 200 peer 00000007 100 caps 1 0 1 1 15 5 \
-        own 200 none last 99 0\n";
-    let script = [streams, both, WORDS, HANDSHAKE, "show A\nshow B\n"];
-    prints(&rt, alloc, "a method of both", &script, &[CONNECTED, shown]);
+    run_all(&rt, SET);
 }
 
 // The greatest number of 64 bits, and the one above it.
@@ -37,7 +66,7 @@ const MOST: &str = "18446744073709551615";
 const ABOVE: &str = "18446744073709551616";
 
 // Options, a value that each may have, and one that it may not have. First those that are numbers.
-const NUMBERS: [(&str, &str, &str); 18] = [
+static NUMBERS: &[(&str, &str, &str)] = &[
     ("local_port", "65535", "65536"),
     ("remote_port", "65535", "65536"),
     ("announced_maximum_incoming_streams", "0", "-1"),
@@ -67,7 +96,7 @@ const NUMBERS: [(&str, &str, &str); 18] = [
 ];
 
 // Times, in milliseconds.
-const TIMES: [(&str, &str, &str); 12] = [
+static TIMES: &[(&str, &str, &str)] = &[
     ("rtt_max", MOST, ABOVE),
     ("rto_initial", "0", "none"),
     ("rto_max", "60000", "-60000"),
@@ -83,7 +112,7 @@ const TIMES: [(&str, &str, &str); 12] = [
 ];
 
 // The burst, which may be negative; what may be without a limit; and what is true or false.
-const OTHERS: [(&str, &str, &str); 13] = [
+static OTHERS: &[(&str, &str, &str)] = &[
     ("max_burst", "2147483647", "2147483648"),
     ("max_burst", "-2147483648", "-2147483649"),
     ("max_burst", "-0", "--1"),
@@ -99,27 +128,30 @@ const OTHERS: [(&str, &str, &str); 13] = [
     ("enable_handover_with_outstanding_data", "false", "falsee"),
 ];
 
+// Sets this option on this side to this value: these lines have to be printed, and the run to end so.
+fn reads(
+    rt: &impl Abort,
+    alloc: Global,
+    (side, name, value): (&str, &str, &str),
+    lines: &str,
+    status: Status,
+) {
+    let script = joined(rt, alloc, &["opt ", side, " ", name, " ", value]);
+    runs(rt, alloc, name, (&script, lines), status);
+}
+
 // Sets each option on this side: its good value has to be taken, and the other to be a bad line.
-fn reads(rt: &impl Abort, alloc: Global, side: &str, rows: &[(&str, &str, &str)]) {
+fn reads_each(rt: &impl Abort, alloc: Global, side: &str, rows: &[(&str, &str, &str)]) {
     for (name, good, bad) in rows {
-        let good = ["opt ", side, " ", name, " ", good];
-        prints(rt, alloc, name, &good, &[]);
-        let bad = ["opt ", side, " ", name, " ", bad];
-        stops(rt, alloc, name, &bad, &["line 1: bad\n"]);
+        reads(rt, alloc, (side, name, good), "", Done);
+        reads(rt, alloc, (side, name, bad), "line 1: bad\n", BadLine);
     }
 }
 
 #[test]
-fn numbers_stay_within_their_types(rt: HostRuntime) {
-    reads(&rt, rt.alloc(), "A", &NUMBERS);
-}
-
-#[test]
-fn times_are_milliseconds(rt: HostRuntime) {
-    reads(&rt, rt.alloc(), "B", &TIMES);
-}
-
-#[test]
-fn bursts_limits_and_flags_are_read(rt: HostRuntime) {
-    reads(&rt, rt.alloc(), "B", &OTHERS);
+fn values_stay_within_their_types(rt: HostRuntime) {
+    let alloc = rt.alloc();
+    reads_each(&rt, alloc, "A", NUMBERS);
+    reads_each(&rt, alloc, "B", TIMES);
+    reads_each(&rt, alloc, "B", OTHERS);
 }

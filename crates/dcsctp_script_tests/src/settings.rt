@@ -141,28 +141,33 @@ fn clears(rt: &impl Abort, name: &str, expected: [bool; 5]) {
     same(rt, name, flags, expected);
 }
 
-#[test]
-fn flags_are_set_by_their_names(rt: HostRuntime) {
-    clears(
-        &rt,
+// Flags, and how all are where this one alone is cleared.
+static CLEARED: [(&str, [bool; 5]); 5] = [
+    (
         "enable_partial_reliability",
         [false, true, true, true, true],
-    );
-    clears(
-        &rt,
+    ),
+    (
         "enable_message_interleaving",
         [true, false, true, true, true],
-    );
-    clears(
-        &rt,
+    ),
+    (
         "heartbeat_interval_include_rtt",
         [true, true, false, true, true],
-    );
-    clears(
-        &rt,
+    ),
+    (
         "disable_checksum_verification",
         [true, true, true, false, true],
-    );
-    let last = [true, true, true, true, false];
-    clears(&rt, "enable_handover_with_outstanding_data", last);
+    ),
+    (
+        "enable_handover_with_outstanding_data",
+        [true, true, true, true, false],
+    ),
+];
+
+#[test]
+fn flags_are_set_by_their_names(rt: HostRuntime) {
+    for (name, expected) in &CLEARED {
+        clears(&rt, name, *expected);
+    }
 }
