@@ -13,7 +13,4 @@ pub use arrival::{handle_data, handle_i_data};
 pub use forward::{handle_forward_tsn, handle_i_forward_tsn};
 pub use packet_end::end_packet;
 pub use sack::handle_sack;
-pub use timers::{
-    acknowledgement_deadline, handle_acknowledgement_delay, handle_retransmission,
-    retransmission_deadline,
-};
+pub use timers::{handle_acknowledgement_delay, handle_retransmission};

@@ -1,29 +1,12 @@
 //! The delay of an acknowledgement (RFC 9260, section 6.2) and the retransmission timer (RFC 9260, section
 //! 6.3). Called where the time is told.
 
-ghost use Rattle.std.specs.Prelude.{◌≡◌};
-ghost use Rattle.dcsctp_machine.specs.TimeTurns.{deadline, own_timer};
+ghost use Rattle.dcsctp_machine.specs.TimeTurns.{own_timer};
 ghost use Rattle.dcsctp_machine.specs.turns.OwnTimers.{acknowledgement_delay, retransmission};
-ghost use Rattle.dcsctp_core.specs.View.{endpoint_of};
 ghost use Rattle.dcsctp_core.specs.Timing.{ExpiresAlways};
 
-use dcsctp_api::SocketTime;
 use dcsctp_core::Context;
 use rand_core::Rng;
-
-/// When a delayed acknowledgement is due, where one is delayed.
-pub fn acknowledgement_deadline<R: Rng>(context: &Context<R>) -> Option<SocketTime>
-    ensures { result ≡ deadline (endpoint_of context.now) (own_timer acknowledgement_delay) }
-{
-    context.state.acknowledgement_deadline()
-}
-
-/// When what is in flight is lost, where something is.
-pub fn retransmission_deadline<R: Rng>(context: &Context<R>) -> Option<SocketTime>
-    ensures { result ≡ deadline (endpoint_of context.now) (own_timer retransmission) }
-{
-    context.state.retransmission_deadline()
-}
 
 /// Tells the delay of an acknowledgement the present moment, and answers whether it is over: it is due then.
 /// It takes no memory.

@@ -2,8 +2,6 @@
 use Rattle.std.specs.Prelude.{◌≡◌, ◌==◌, ℕ, Option, None, Some, List, [], ◌∷◌}
 use Rattle.rand_core.specs.Stream.{Stream}
 use Rattle.dcsctp_machine.specs.declared.association.Held.{Held}
-use Rattle.dcsctp_machine.specs.declared.options.Options.{Options}
-use Rattle.dcsctp_machine.specs.Offer.{offer_of, negotiated}
 use Rattle.dcsctp_machine.specs.Cookie.{Cookie}
 use Rattle.dcsctp_machine.specs.Event.{Event, connected, connection_restarted}
 use Rattle.dcsctp_machine.specs.Packet.{Emission, cookie_ack}
@@ -11,23 +9,11 @@ use Rattle.dcsctp_machine.specs.Transfer.{SendQueueState}
 use Rattle.dcsctp_machine.specs.Endpoint.{Endpoint, Core, closed, cookie_wait, cookie_echoed, open_in, held_in}
 use Rattle.dcsctp_machine.specs.Outcome.{Outcome, still, noting}
 use Rattle.dcsctp_machine.specs.control.Effect.{connects, link_of}
-use Rattle.dcsctp_machine.specs.control.CookieEchoChanges.{Resolution, establish_new, restart, simultaneous_init, discard, maintain_existing, invalid_tag}
 use Rattle.dcsctp_machine.specs.turns.FlushOutcomes.{Answer, FlushAnswers, FlushKind, flush_answered}
 use Rattle.dcsctp_machine.specs.turns.HandshakeOutcomes.{connected_after}
-use Rattle.dcsctp_machine.specs.turns.CookieEchoOutcomes.{refused_echo_outcome, window_by_cookie, established_by, queue_kept, queue_begun, establish_by, EstablishAnswers}
-use Rattle.dcsctp_handshake.specs.declared.cookie_echo.CookieResolution.{CookieResolution}
-use Rattle.dcsctp_handshake.specs.declared.cookie_echo.CookieResolution.TheVariants.{EstablishNew, RestartDetected, SimultaneousInit, Discard, MaintainExisting, InvalidTag}
-use Rattle.dcsctp_core.specs.declared.transmission_control_block.Peer.{Peer}
+use Rattle.dcsctp_machine.specs.turns.CookieEchoOutcomes.{refused_echo_outcome, established_by, queue_kept, queue_begun, establish_by, EstablishAnswers}
 use Rattle.dcsctp_core.specs.View.{View}
 use Rattle.dcsctp_core.specs.Drawing.{long_word}
-
-abbrev pub resolution_of : CookieResolution → Resolution
-resolution_of EstablishNew = establish_new
-resolution_of RestartDetected = restart
-resolution_of SimultaneousInit = simultaneous_init
-resolution_of Discard = discard
-resolution_of MaintainExisting = maintain_existing
-resolution_of InvalidTag = invalid_tag
 
 -- ---- COOKIE ACK
 
@@ -55,11 +41,6 @@ AcknowledgementAt view o =
     × (o ≡ acknowledged_by (flush_answered answers) view.endpoint (held_in view.endpoint.core))
 
 -- ---- a cookie that makes an association
-
--- the peer that it shows
-abbrev pub peer_by_cookie : Options → Cookie → Peer
-peer_by_cookie options cookie =
-    record { pair = cookie.addressee; a_rwnd = window_by_cookie options cookie; capabilities = negotiated (offer_of options) cookie.offer }
 
 -- the endpoint that holds its association; what waits to be sent stays
 abbrev pub established_with : Endpoint → Cookie → ℕ → Endpoint

@@ -1,11 +1,1 @@
-mod AckLoop
-mod ActLemmas
-mod CallLemmas
-mod ChunkLemmas
-mod ChunkLoop
-mod DataTurns
-mod DispatchLemmas
-mod ExpiryLemmas
-mod MessageLemmas
-mod TimeLemmas
-mod UnknownLemmas
+mod AnsweredCalls

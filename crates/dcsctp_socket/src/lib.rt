@@ -33,15 +33,7 @@
 //! may move that moment, so it is asked anew.
 #![tactic(auto)]
 
-mod admission;
-mod calls;
-mod dispatch;
-mod messages;
-mod settings;
 mod socket;
-mod texts;
-mod timers;
-mod unknown;
 
 pub use dcsctp_api as api;
 pub use dcsctp_api::{

@@ -2,12 +2,12 @@
 
 ghost use Rattle.dcsctp_socket.specs.SocketView.{Settles};
 
-use crate::{calls, messages, settings, timers};
 use dcsctp_api::{
     Association, BatchSendError, DcSctpSocket, Message, Options, Pair, SendError, SendOptions,
     SocketEvent, SocketFault, SocketState, SocketTime, StreamId,
 };
 use dcsctp_core::Context;
+use dcsctp_decisions::poll_timeout;
 use dcsctp_machine::time_passes_quietly;
 use rand_core::Rng;
 use std::alloc::{AllocError, Global};
@@ -149,7 +149,7 @@ impl<R: Rng + Drop> DcSctpSocket for Socket<R> {
         if self.failed {
             return Err(SocketFault::Failed);
         }
-        let outcome = calls::handle_input(&mut self.context, packet);
+        let outcome = dcsctp_calls::handle_input(&mut self.context, packet);
         settled(&mut self.failed, outcome)
     }
 
@@ -166,7 +166,7 @@ impl<R: Rng + Drop> DcSctpSocket for Socket<R> {
         if self.failed {
             return Err(SocketFault::Failed);
         }
-        let outcome = calls::connect(&mut self.context);
+        let outcome = dcsctp_calls::connect(&mut self.context);
         settled(&mut self.failed, outcome)
     }
 
@@ -183,7 +183,7 @@ impl<R: Rng + Drop> DcSctpSocket for Socket<R> {
         if self.failed {
             return Err(SocketFault::Failed);
         }
-        let outcome = calls::close(&mut self.context);
+        let outcome = dcsctp_calls::close(&mut self.context);
         settled(&mut self.failed, outcome)
     }
 
@@ -202,14 +202,14 @@ impl<R: Rng + Drop> DcSctpSocket for Socket<R> {
             return Err(SocketFault::Failed);
         }
         time_passes_quietly();
-        let outcome = calls::advance_time(&mut self.context, now);
+        let outcome = dcsctp_calls::advance_time(&mut self.context, now);
         settled(&mut self.failed, outcome)
     }
 
     fn poll_timeout(&self) -> SocketTime
         ensures { result ≡ next_moment self.now.view.endpoint }
     {
-        timers::poll_timeout(&self.context)
+        poll_timeout(&self.context)
     }
 
     fn send(
@@ -227,7 +227,7 @@ impl<R: Rng + Drop> DcSctpSocket for Socket<R> {
         if self.failed {
             return Err(SocketFault::Failed);
         }
-        let outcome = messages::send(&mut self.context, message, options);
+        let outcome = dcsctp_calls::send(&mut self.context, message, options);
         settled(&mut self.failed, outcome)
     }
 
@@ -246,7 +246,7 @@ impl<R: Rng + Drop> DcSctpSocket for Socket<R> {
         if self.failed {
             return Err(SocketFault::Failed);
         }
-        let outcome = messages::send_many(&mut self.context, messages, options);
+        let outcome = dcsctp_calls::send_many(&mut self.context, messages, options);
         settled(&mut self.failed, outcome)
     }
 
@@ -255,7 +255,7 @@ impl<R: Rng + Drop> DcSctpSocket for Socket<R> {
         ensures generator { self.new.view.generator ≡ self.old.view.generator }
         ensures failed { self.new.failed ≡ self.old.failed }
     {
-        messages::get_next_message(&mut self.context)
+        dcsctp_calls::get_next_message(&mut self.context)
     }
 
     fn messages_ready_count(&self) -> usize {
@@ -274,7 +274,7 @@ impl<R: Rng + Drop> DcSctpSocket for Socket<R> {
         ensures call { user_view_of self.new ≡ with_setting (longest_message max_message_size) (user_view_of self.old) }
         ensures generator { self.new.view.generator ≡ self.old.view.generator }
     {
-        settings::set_max_message_size(&mut self.context, max_message_size);
+        dcsctp_calls::set_max_message_size(&mut self.context, max_message_size);
     }
 
     fn set_stream_priority(&mut self, stream_id: StreamId, priority: u16) -> Result<(), SocketFault>
@@ -286,7 +286,7 @@ impl<R: Rng + Drop> DcSctpSocket for Socket<R> {
         if self.failed {
             return Err(SocketFault::Failed);
         }
-        let outcome = settings::set_stream_priority(&mut self.context, stream_id, priority);
+        let outcome = dcsctp_calls::set_stream_priority(&mut self.context, stream_id, priority);
         settled(&mut self.failed, outcome)
     }
 
@@ -317,7 +317,7 @@ impl<R: Rng + Drop> DcSctpSocket for Socket<R> {
         if self.failed {
             return Err(SocketFault::Failed);
         }
-        let outcome = settings::set_buffered_amount_low_threshold(
+        let outcome = dcsctp_calls::set_buffered_amount_low_threshold(
             &mut self.context,
             stream_id,
             bytes,

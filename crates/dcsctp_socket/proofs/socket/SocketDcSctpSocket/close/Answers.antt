@@ -5,8 +5,8 @@ use Rattle.dcsctp_core.specs.View.{view_of}
 use Rattle.dcsctp_socket.specs.SocketView.{SocketView, user_view_of}
 use Rattle.dcsctp_machine.specs.declared.ends.AbortReason.TheVariants.{CloseCalled}
 use Rattle.dcsctp_machine.specs.control.Acts.{abort_with}
-use Rattle.dcsctp_socket.specs.Parts.{WorksCall, ActTurns}
-use Rattle.dcsctp_socket.proofs.ActLemmas.{closes}
+use Rattle.dcsctp_calls.specs.Parts.{WorksCall, ActTurns}
+use Rattle.dcsctp_socket.proofs.AnsweredCalls.{closes}
 use Rattle.dcsctp_socket.proofs.socket.SocketDcSctpSocket.close.Goals as goal
 
 pub returns-clause-call : goal.returns-clause-call

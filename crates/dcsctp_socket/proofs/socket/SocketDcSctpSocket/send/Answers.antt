@@ -4,8 +4,8 @@ use Rattle.dcsctp_api.specs.Messages.{Sends}
 use Rattle.dcsctp_core.specs.declared.context.Context.{Context}
 use Rattle.dcsctp_core.specs.View.{view_of}
 use Rattle.dcsctp_socket.specs.SocketView.{SocketView, user_view_of}
-use Rattle.dcsctp_socket.specs.MessageParts.{WorksSend}
-use Rattle.dcsctp_socket.proofs.MessageLemmas.{sends}
+use Rattle.dcsctp_calls.specs.MessageParts.{WorksSend}
+use Rattle.dcsctp_socket.proofs.AnsweredCalls.{sends}
 use Rattle.dcsctp_socket.proofs.socket.SocketDcSctpSocket.send.Goals as goal
 
 pub returns-clause-call : goal.returns-clause-call

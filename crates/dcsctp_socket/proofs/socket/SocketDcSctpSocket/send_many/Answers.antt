@@ -4,8 +4,8 @@ use Rattle.dcsctp_api.specs.Messages.{SendsMany}
 use Rattle.dcsctp_core.specs.declared.context.Context.{Context}
 use Rattle.dcsctp_core.specs.View.{view_of}
 use Rattle.dcsctp_socket.specs.SocketView.{SocketView, user_view_of}
-use Rattle.dcsctp_socket.specs.MessageParts.{WorksSendMany}
-use Rattle.dcsctp_socket.proofs.MessageLemmas.{sends_many}
+use Rattle.dcsctp_calls.specs.MessageParts.{WorksSendMany}
+use Rattle.dcsctp_socket.proofs.AnsweredCalls.{sends_many}
 use Rattle.dcsctp_socket.proofs.socket.SocketDcSctpSocket.send_many.Goals as goal
 
 pub returns-clause-call : goal.returns-clause-call

@@ -1,0 +1,11 @@
+mod AckLoop
+mod ActLemmas
+mod CallLemmas
+mod ChunkLemmas
+mod ChunkLoop
+mod DataTurns
+mod DispatchLemmas
+mod ExpiryLemmas
+mod MessageLemmas
+mod TimeLemmas
+mod UnknownLemmas

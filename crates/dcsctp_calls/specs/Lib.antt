@@ -1,0 +1,4 @@
+pub mod MessageParts
+pub mod Parts
+pub mod TimeParts
+pub mod Unknown

@@ -1,0 +1,54 @@
+-- What a socket does where it is told the time, by its parts.
+use Rattle.std.specs.Prelude.{ℕ, true, Result, Ok, Err, List, []}
+use Rattle.rand_core.specs.Stream.{Stream}
+use Rattle.dcsctp_machine.specs.Settings.{ports_of}
+use Rattle.dcsctp_machine.specs.Event.{Event}
+use Rattle.dcsctp_machine.specs.Endpoint.{Endpoint}
+use Rattle.dcsctp_machine.specs.Turn.{Input}
+use Rattle.dcsctp_machine.specs.TimeTurns.{unless_exhausted, ExpiryTurns, AdvanceTurns}
+use Rattle.dcsctp_machine.specs.CallTurns.{Turned, Turns}
+use Rattle.dcsctp_api.specs.Calls.{AddsFront}
+use Rattle.dcsctp_core.specs.declared.context.Context.{Context}
+use Rattle.dcsctp_core.specs.View.{View, view_of, MovesAll, CallMoves}
+
+-- The clock was moved, and what was due had its turns.
+pub record TimeMoves {R : Type 0} (stream : R → Stream) (moment : ℕ) (old new : View R) : Type 0 where
+  pub turns : List Turned
+  pub are : AdvanceTurns old.endpoint moment turns
+  pub moves : CallMoves stream old turns new
+
+-- A growth was refused in one of these turns.
+pub record TimeCut {R : Type 0} (moment : ℕ) (old : View R) (events : List (Event (List ℕ))) : Type 0 where
+  pub turns : List Turned
+  pub are : AdvanceTurns old.endpoint moment turns
+  pub adds : AddsFront (ports_of old.endpoint.options) turns old.events events
+
+abbrev pub WorksTime : {R E : Type 0} → (R → Stream) → ℕ → Context R → Result (Unit {0}) E → Context R → Type 0
+WorksTime stream moment old (Ok done) new = TimeMoves stream moment (view_of old) (view_of new)
+WorksTime stream moment old (Err error) new = TimeCut moment (view_of old) (view_of new).events
+
+-- ---- what is due
+
+-- Turns as these say took place.
+pub record TurnsMove {R : Type 0} (stream : R → Stream) (Allowed : Endpoint → List Turned → Type 0) (old new : View R) : Type 0 where
+  pub turns : List Turned
+  pub are : Allowed old.endpoint turns
+  pub moves : MovesAll stream old turns new
+
+-- A growth was refused in one of such turns.
+pub record TurnsCut {R : Type 0} (Allowed : Endpoint → List Turned → Type 0) (old : View R) (events : List (Event (List ℕ))) : Type 0 where
+  pub turns : List Turned
+  pub are : Allowed old.endpoint turns
+  pub adds : AddsFront (ports_of old.endpoint.options) turns old.events events
+
+abbrev pub WorksTurns : {R E : Type 0} → (R → Stream) → (Endpoint → List Turned → Type 0) → Context R → Result (Unit {0}) E → Context R → Type 0
+WorksTurns stream Allowed old (Ok done) new = TurnsMove stream Allowed (view_of old) (view_of new)
+WorksTurns stream Allowed old (Err error) new = TurnsCut Allowed (view_of old) (view_of new).events
+
+-- What follows where one timer has expired: an own abort, where too many errors were counted, and else these inputs.
+abbrev pub EndTurns : List Input → Endpoint → List Turned → Type 0
+EndTurns inputs e turns = Turns e (unless_exhausted e inputs) turns
+
+-- what follows the timers where one has expired
+abbrev pub TurnsBehind : Endpoint → List Turned → Type 0
+TurnsBehind e turns = ExpiryTurns [] true e turns

@@ -1,0 +1,107 @@
+-- Calls, by what their socket answers.
+use Rattle.std.proofs.Common.{◌≡◌, Bool, true, false, List, [], ◌∷◌, sym, ap, subst, ◌∙◌, Result, Ok, Err, map}
+use Rattle.rand_core.specs.Stream.{Stream}
+use Rattle.dcsctp_machine.specs.control.Acts.{connect, abort_with}
+use Rattle.dcsctp_api.specs.declared.errors.SocketFault.{SocketFault}
+use Rattle.dcsctp_api.specs.Calls.{UserView, Connects, Follows, FailsWhole, Closes, RanOut}
+use Rattle.dcsctp_core.specs.declared.context.Context.{Context}
+use Rattle.dcsctp_core.specs.View.{View, view_of}
+use Rattle.dcsctp_calls.specs.Parts.{WorksConnect, CallMoved, CallCut, ActTurns, WorksCall}
+use Rattle.dcsctp_socket.specs.SocketView.{Settles, user_view_of}
+use Rattle.dcsctp_machine.specs.declared.ends.AbortReason.TheVariants.{CloseCalled}
+use Rattle.dcsctp_machine.specs.declared.message.SendOptions.{SendOptions}
+use Rattle.dcsctp_machine.specs.Transfer.{MessageContent}
+use Rattle.dcsctp_machine.specs.turns.MessageOutcomes.{Sending, sending_of}
+use Rattle.dcsctp_api.specs.declared.errors.BatchSendError.{BatchSendError}
+use Rattle.dcsctp_api.specs.declared.errors.SendError.{SendError}
+use Rattle.dcsctp_api.specs.Messages.{Sends, SendsMany}
+use Rattle.dcsctp_calls.specs.MessageParts.{SendTurns, WorksSend, WorksSendMany}
+
+-- ---- connect
+
+pub connects : {R E : Type 0} (stream : R → Stream) (old new : Context R) (failed fails : Bool) (result : Result (Unit {0}) E) (answer : Result (Unit {0}) SocketFault)
+    → failed ≡ false → WorksConnect stream old result new → Settles failed result answer fails
+    → Connects (user_view_of (record { view = view_of old; failed = failed })) answer (user_view_of (record { view = view_of new; failed = fails }))
+connects stream old new failed fails (Ok done) answer runs worked settled =
+    let then : Follows (user_view_of (record { view = view_of old; failed = failed })) worked.turns (user_view_of (record { view = view_of new; failed = fails })) =
+    record {
+      runs = runs;
+      goes_on = settled.1 ∙ runs;
+      endpoint = worked.moves.endpoint;
+      events = worked.moves.events;
+      words = worked.moves.words;
+      pairs = worked.moves.pairs;
+    } in
+    subst (λ (a : Result (Unit {0}) SocketFault). Connects (user_view_of (record { view = view_of old; failed = failed })) a (user_view_of (record { view = view_of new; failed = fails })))
+    (sym settled.0) (worked.turns, worked.are, then)
+connects {R = R} stream old new failed fails (Err error) answer runs same settled =
+    let was : UserView = user_view_of (record { view = view_of old; failed = failed }) in
+    let now : UserView = user_view_of (record { view = view_of new; failed = fails }) in
+    let only : now ≡ record was { words = now.words; pairs = now.pairs; failed = true } =
+    ap (λ (v : View R). user_view_of (record { view = v; failed = fails })) same
+    ∙ ap (λ (f : Bool). let u : UserView = record was { words = now.words; pairs = now.pairs; failed = f } in u) settled.1 in
+    let out : FailsWhole was now = record { runs = runs; only = only } in
+    subst (λ (a : Result (Unit {0}) SocketFault). Connects was a now) (sym settled.0) out
+
+-- ---- close
+
+pub closes : {R E : Type 0} (stream : R → Stream) (old new : Context R) (failed fails : Bool) (result : Result (Unit {0}) E) (answer : Result (Unit {0}) SocketFault)
+    → failed ≡ false → WorksCall stream (ActTurns (abort_with CloseCalled)) old result new → Settles failed result answer fails
+    → Closes (user_view_of (record { view = view_of old; failed = failed })) answer (user_view_of (record { view = view_of new; failed = fails }))
+closes stream old new failed fails (Ok done) answer runs worked settled =
+    let was : UserView = user_view_of (record { view = view_of old; failed = failed }) in
+    let now : UserView = user_view_of (record { view = view_of new; failed = fails }) in
+    let then : Follows was worked.turns now =
+    record { runs = runs; goes_on = settled.1 ∙ runs; endpoint = worked.moves.endpoint; events = worked.moves.events; words = worked.moves.words; pairs = worked.moves.pairs } in
+    subst (λ (a : Result (Unit {0}) SocketFault). Closes was a now) (sym settled.0) (worked.turns, worked.are, then)
+closes stream old new failed fails (Err error) answer runs cut settled =
+    let was : UserView = user_view_of (record { view = view_of old; failed = failed }) in
+    let now : UserView = user_view_of (record { view = view_of new; failed = fails }) in
+    let out : RanOut was (ActTurns (abort_with CloseCalled) was.endpoint) now = record { runs = runs; fails = settled.1; turns = cut.turns; are = cut.are; events = cut.adds } in
+    subst (λ (a : Result (Unit {0}) SocketFault). Closes was a now) (sym settled.0) out
+
+-- ---- sending
+
+follows : {R : Type 0} (stream : R → Stream) (messages : List Sending) (old new : View R) (failed fails : Bool) (moved : CallMoved stream (SendTurns messages) old new)
+    → failed ≡ false → fails ≡ failed → Follows (user_view_of (record { view = old; failed = failed })) moved.turns (user_view_of (record { view = new; failed = fails }))
+follows stream messages old new failed fails moved runs same =
+    record {
+      runs = runs;
+      goes_on = same ∙ runs;
+      endpoint = moved.moves.endpoint;
+      events = moved.moves.events;
+      words = moved.moves.words;
+      pairs = moved.moves.pairs;
+    }
+
+ran_out : {R : Type 0} (messages : List Sending) (old new : View R) (failed fails : Bool) (cut : CallCut (SendTurns messages) old new.events) → failed ≡ false → fails ≡ true
+    → RanOut (user_view_of (record { view = old; failed = failed })) (SendTurns messages old.endpoint) (user_view_of (record { view = new; failed = fails }))
+ran_out messages old new failed fails cut runs stops = record { runs = runs; fails = stops; turns = cut.turns; are = cut.are; events = cut.adds }
+
+pub sends : {R E : Type 0} (stream : R → Stream) (message : MessageContent) (options : SendOptions) (old new : Context R) (failed fails : Bool)
+    (result : Result (Result (Unit {0}) SendError) E) (answer : Result (Result (Unit {0}) SendError) SocketFault) → failed ≡ false → WorksSend stream message options old result new → Settles failed result answer fails
+    → Sends message options (user_view_of (record { view = view_of old; failed = failed })) answer (user_view_of (record { view = view_of new; failed = fails }))
+sends stream message options old new failed fails (Ok value) answer runs worked settled =
+    let was : UserView = user_view_of (record { view = view_of old; failed = failed }) in
+    let now : UserView = user_view_of (record { view = view_of new; failed = fails }) in
+    subst (λ (a : Result (Result (Unit {0}) SendError) SocketFault). Sends message options was a now) (sym settled.0)
+    (worked.0, (worked.1.turns, worked.1.are, follows stream (sending_of options message ∷ []) (view_of old) (view_of new) failed fails worked.1 runs settled.1))
+sends stream message options old new failed fails (Err error) answer runs cut settled =
+    let was : UserView = user_view_of (record { view = view_of old; failed = failed }) in
+    let now : UserView = user_view_of (record { view = view_of new; failed = fails }) in
+    subst (λ (a : Result (Result (Unit {0}) SendError) SocketFault). Sends message options was a now) (sym settled.0)
+    (ran_out (sending_of options message ∷ []) (view_of old) (view_of new) failed fails cut runs settled.1)
+
+pub sends_many : {R E : Type 0} (stream : R → Stream) (messages : List MessageContent) (options : SendOptions) (old new : Context R) (failed fails : Bool)
+    (result : Result (Result (Unit {0}) BatchSendError) E) (answer : Result (Result (Unit {0}) BatchSendError) SocketFault) → failed ≡ false → WorksSendMany stream messages options old result new → Settles failed result answer fails
+    → SendsMany messages options (user_view_of (record { view = view_of old; failed = failed })) answer (user_view_of (record { view = view_of new; failed = fails }))
+sends_many stream messages options old new failed fails (Ok value) answer runs worked settled =
+    let was : UserView = user_view_of (record { view = view_of old; failed = failed }) in
+    let now : UserView = user_view_of (record { view = view_of new; failed = fails }) in
+    subst (λ (a : Result (Result (Unit {0}) BatchSendError) SocketFault). SendsMany messages options was a now) (sym settled.0)
+    (worked.0, (worked.1.turns, worked.1.are, follows stream (map (sending_of options) messages) (view_of old) (view_of new) failed fails worked.1 runs settled.1))
+sends_many stream messages options old new failed fails (Err error) answer runs cut settled =
+    let was : UserView = user_view_of (record { view = view_of old; failed = failed }) in
+    let now : UserView = user_view_of (record { view = view_of new; failed = fails }) in
+    subst (λ (a : Result (Result (Unit {0}) BatchSendError) SocketFault). SendsMany messages options was a now) (sym settled.0)
+    (ran_out (map (sending_of options) messages) (view_of old) (view_of new) failed fails cut runs settled.1)
