@@ -2,7 +2,7 @@
 
 use crate::checks::same;
 use crate::worlds::{are_connected, new_world};
-use dcsctp_socket::{DcSctpSocket, SocketState};
+use dcsctp_world::socket::{DcSctpSocket, SocketState};
 use dcsctp_testing::TwoWords;
 use dcsctp_world::{Call, Side, Step, World};
 use std::alloc::Global;
