@@ -44,15 +44,21 @@ static TEXTS: [Row; 9] = [
     ("three", &[MISSING, CLOSED, NO_DATA], "cause 2,cause 12: Close called,cause 9"),
 ];
 
-/// Asserts that the causes of each row have its text.
-fn have_their_texts(rt: &impl Abort, alloc: Global, rows: &[Row]) {
-    for (name, causes, expected) in rows {
-        let text = causes_text(alloc, causes).expect(rt, name);
-        same(rt, name, text.as_str(), expected);
-    }
+/// Asserts that the causes have this text.
+fn have_text(
+    rt: &impl Abort,
+    alloc: Global,
+    name: &str,
+    causes: &[ErrorCause<'_>],
+    expected: &str,
+) {
+    let text = causes_text(alloc, causes).expect(rt, name);
+    same(rt, name, text.as_str(), expected);
 }
 
 #[test]
 fn texts_of_causes_are_joined_by_commas(rt: HostRuntime) {
-    have_their_texts(&rt, rt.alloc(), &TEXTS);
+    for (name, causes, expected) in &TEXTS {
+        have_text(&rt, rt.alloc(), name, causes, expected);
+    }
 }

@@ -1,8 +1,7 @@
 //! Checksums, with the values that others publish (RFC 9260, appendix A).
 
-use crate::checks::{holds, same};
+use crate::checks::same;
 use dcsctp_checksum::{crc32c, packet_checksum};
-use std::process::Abort;
 
 #[rattlefmt::skip]
 const ASCENDING: [u8; 32] = [
@@ -26,33 +25,39 @@ static EXAMPLES: [(&str, &[u8], u32); 6] = [
     ("descending", &DESCENDING, 0x113F_DB5C),
 ];
 
-/// Asserts that the bytes of each named row have its checksum.
-fn have_their_checksums(rt: &impl Abort, rows: &[(&str, &[u8], u32)]) {
-    for (name, bytes, expected) in rows {
-        same(rt, name, crc32c(bytes), *expected);
+#[test]
+fn outside_examples_have_their_checksums(rt: HostRuntime) {
+    for (name, bytes, expected) in &EXAMPLES {
+        same(&rt, name, crc32c(bytes), *expected);
     }
 }
 
-#[test]
-fn outside_examples_have_their_checksums(rt: HostRuntime) {
-    have_their_checksums(&rt, &EXAMPLES);
-}
+// Packets of zeros but for the field, and but for the field and the byte behind it; and whether the checksum is
+// that of 32 zeros.
+#[rattlefmt::skip]
+static FIELDS: [(&str, &[u8; 32], bool); 2] = [
+    (
+        "the field differs",
+        &[
+            0, 0, 0, 0, 0, 0, 0, 0, 0xA5, 0xA5, 0xA5, 0xA5, 0, 0, 0, 0,
+            0, 0, 0, 0, 0, 0, 0, 0, 0, 0, 0, 0, 0, 0, 0, 0,
+        ],
+        true,
+    ),
+    (
+        "the byte behind it counts",
+        &[
+            0, 0, 0, 0, 0, 0, 0, 0, 0xA5, 0xA5, 0xA5, 0xA5, 1, 0, 0, 0,
+            0, 0, 0, 0, 0, 0, 0, 0, 0, 0, 0, 0, 0, 0, 0, 0,
+        ],
+        false,
+    ),
+];
 
-// The field's bytes are not read, so the checksum is that of 32 zeros.
 #[test]
 fn checksum_field_counts_as_zeros(rt: HostRuntime) {
-    let mut packet = [0; 32];
-    packet[8..12].copy_from_slice(&[0xA5; 4]);
-    same(
-        &rt,
-        "the field differs",
-        packet_checksum(&packet),
-        0x8A91_36AA,
-    );
-    packet[12] = 1;
-    holds(
-        &rt,
-        "the byte behind it counts",
-        packet_checksum(&packet) != 0x8A91_36AA,
-    );
+    for (name, packet, is_that_of_zeros) in &FIELDS {
+        let checksum = packet_checksum(packet.as_slice());
+        same(&rt, name, checksum == 0x8A91_36AA, *is_that_of_zeros);
+    }
 }

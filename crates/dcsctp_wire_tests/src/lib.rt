@@ -4,11 +4,15 @@
 #![tactic(auto)]
 
 #[cfg(test)]
+mod both_ways;
+#[cfg(test)]
 mod causes;
 #[cfg(test)]
 mod checks;
 #[cfg(test)]
 mod checksums;
+#[cfg(test)]
+mod entries;
 #[cfg(test)]
 mod gap_ack_blocks;
 #[cfg(test)]
@@ -17,5 +21,3 @@ mod kinds;
 mod numbers;
 #[cfg(test)]
 mod reading;
-#[cfg(test)]
-mod writing;
