@@ -1,302 +1,251 @@
-//! A queue with the events that it adds, as the tests of this crate use it. Each check ends its test
-//! where it fails.
+//! A queue with the events that it adds, and the lines that it takes.
 
-use crate::checks::{Place, missing, same};
-use crate::steps::{Change, How, Question};
+use crate::words::Words;
 use dcsctp_api::{Events, LifecycleId, Message, Options, PpId, SendOptions, SocketTime, StreamId};
 use dcsctp_send_queue::{DataToSend, SendQueue};
-use std::alloc::Global;
-use std::process::Abort;
+use std::alloc::{AllocError, Global};
+use std::fmt::Debug;
+use std::str;
 use std::time::Duration;
 
-/// A queue, and what it told.
+/// A queue, what it told, the moment, and how the next message is sent.
 pub struct Sender {
+    alloc: Global,
     queue: SendQueue,
     events: Events,
-    alloc: Global,
+    now: u64,
+    how: SendOptions,
 }
 
 // Written out: a derived one costs more to prove.
 impl Drop for Sender {
     fn drop(self) {
         let Sender {
+            alloc: _,
             queue: _,
             events: _,
-            alloc: _,
+            now: _,
+            how: _,
         } = self;
     }
 }
 
 // The moment so many milliseconds after the start.
-fn at(millis: u32) -> SocketTime {
-    SocketTime::zero() + Duration::from_millis(u64::from(millis))
+fn at(millis: u64) -> SocketTime {
+    SocketTime::zero() + Duration::from_millis(millis)
 }
 
-fn send_options(how: How) -> SendOptions {
-    let mut options = SendOptions::default();
-    match how {
-        How::Named(name) => options.lifecycle_id = LifecycleId::new(name),
-        How::Unordered => options.unordered = true,
-        How::Lives(millis) => options.lifetime = Some(Duration::from_millis(millis)),
-        How::LivesNamed(millis, name) => {
-            options.lifetime = Some(Duration::from_millis(millis));
-            options.lifecycle_id = LifecycleId::new(name);
-        }
-        How::Limited(millis, times) => {
-            options.unordered = true;
-            options.lifetime = Some(Duration::from_millis(millis));
-            options.max_retransmissions = Some(times);
-        }
+// The names of a fragment's numbers, in the order in which a line has them.
+static FRAGMENT: &[&str] = &[
+    "stream",
+    "message",
+    "ssn",
+    "mid",
+    "fsn",
+    "size",
+    "begins",
+    "ends",
+    "protocol",
+    "unordered",
+    "times",
+    "expires-at-25",
+];
+
+// The names of the numbers of a stream and of the whole queue.
+static STATE: &[&str] = &[
+    "amount",
+    "total",
+    "threshold",
+    "priority",
+    "has-data",
+    "has-ready",
+];
+
+// What a line expects of a fragment.
+fn shows(words: &mut Words, data: &DataToSend) {
+    let expires_at = data.expires_at.unwrap_or(SocketTime::zero());
+    words.check_all(
+        FRAGMENT,
+        &[
+            data.stream_id.0 as u64,
+            data.message_id,
+            data.ssn as u64,
+            data.mid as u64,
+            data.fsn as u64,
+            data.payload.len() as u64,
+            data.is_beginning as u64,
+            data.is_end as u64,
+            data.ppid.0 as u64,
+            data.is_unordered as u64,
+            data.max_retransmissions.unwrap_or(0) as u64,
+            (expires_at == at(25)) as u64,
+        ],
+    );
+    if !words.rest.is_empty() {
+        words.check_rest(str::from_utf8(&data.payload).unwrap_or("no text"));
     }
-    options
+}
+
+// The rest of a line is what `Debug` writes of this.
+fn is_shown(alloc: Global, words: &mut Words, found: &impl Debug) {
+    match format!(in alloc; "{found:?}") {
+        Err(_) => words.check_done(false),
+        Ok(shown) => words.check_rest(&shown),
+    }
 }
 
 impl Sender {
     /// A sender whose streams have this threshold, and all together that one.
-    pub fn new(alloc: Global, threshold: usize, total_threshold: usize) -> Sender {
+    pub fn new(alloc: Global, threshold: u64, total_threshold: u64) -> Sender {
         let mut options = Options::default();
-        options.default_stream_buffered_amount_low_threshold = threshold;
-        options.total_buffered_amount_low_threshold = total_threshold;
+        options.default_stream_buffered_amount_low_threshold = threshold as usize;
+        options.total_buffered_amount_low_threshold = total_threshold as usize;
         Sender {
+            alloc,
             queue: SendQueue::new(alloc, &options),
             events: Events::new(alloc),
-            alloc,
+            now: 0,
+            how: SendOptions::default(),
         }
     }
 
-    /// Begins anew.
-    pub fn begin(&mut self, threshold: usize, total_threshold: usize) {
+    // Begins anew.
+    fn begin(&mut self, threshold: u64, total_threshold: u64) {
         *self = Sender::new(self.alloc, threshold, total_threshold);
     }
 
-    // Adds a message of these bytes at the moment, in milliseconds.
-    fn add_at(
-        &mut self,
-        rt: &impl Abort,
-        millis: u32,
-        stream: u16,
-        bytes: &[u8],
-        options: &SendOptions,
-    ) {
-        let payload = Vec::from_slice(self.alloc, bytes).expect(rt, "memory for the payload");
-        assert!(rt; !payload.is_empty(), "a message has a payload");
-        let message = Message::new(StreamId(stream), PpId(53), payload);
-        self.queue
-            .add(at(millis), message, options)
-            .expect(rt, "memory for the message");
-    }
-
-    /// Adds a message of these bytes by default options.
-    pub fn add(&mut self, rt: &impl Abort, stream: u16, bytes: &[u8]) {
-        self.add_at(rt, 0, stream, bytes, &SendOptions::default());
-    }
-
-    /// Adds a message of these bytes at the moment, in milliseconds.
-    pub fn add_by(&mut self, rt: &impl Abort, millis: u32, stream: u16, bytes: &[u8], how: How) {
-        self.add_at(rt, millis, stream, bytes, &send_options(how));
-    }
-
-    // What is produced at the moment, in milliseconds.
-    fn produce_at(&mut self, rt: &impl Abort, millis: u32, max: usize) -> Option<DataToSend> {
-        if max == 0 {
-            return None;
-        }
-        self.queue
-            .produce(&mut self.events, at(millis), max)
-            .expect(rt, "memory for the fragment")
-    }
-
-    // The same, where there has to be something.
-    fn produced(&mut self, rt: &impl Abort, place: Place, millis: u32, max: usize) -> DataToSend {
-        match self.produce_at(rt, millis, max) {
-            None => missing(rt, place, "fragment"),
-            Some(data) => data,
-        }
-    }
-
-    /// Adds a message of one byte to stream 1 and takes it, so many times.
-    pub fn uses_up(&mut self, rt: &impl Abort, count: u32) {
-        for _ in 0..count {
-            self.add(rt, 1, b"x");
-            let _data = self.produce_at(rt, 0, 1);
-        }
-    }
-
-    /// Is there a fragment at this moment, in milliseconds, of at most so many bytes?
-    pub fn gives_any(
-        &mut self,
-        rt: &impl Abort,
-        place: Place,
-        millis: u32,
-        max: usize,
-        expected: bool,
-    ) {
-        let is_any = self.produce_at(rt, millis, max).is_some();
-        same(rt, place, is_any, expected);
-    }
-
-    /// The next fragment, of at most so many bytes, is of this stream and has these bytes.
-    pub fn gives(&mut self, rt: &impl Abort, place: Place, max: usize, stream: u16, bytes: &[u8]) {
-        let data = self.produced(rt, place, 0, max);
-        same(rt, place, data.stream_id, StreamId(stream));
-        same(rt, place, data.payload.as_slice(), bytes);
-    }
-
-    /// The next fragment, of at most so many bytes, is of this stream and has these numbers: SSN, MID
-    /// and FSN.
-    pub fn numbers(
-        &mut self,
-        rt: &impl Abort,
-        place: Place,
-        max: usize,
-        stream: u16,
-        expected: (u16, u32, u32),
-    ) {
-        let data = self.produced(rt, place, 0, max);
-        same(rt, place, data.stream_id, StreamId(stream));
-        same(rt, place, (data.ssn, data.mid, data.fsn), expected);
-    }
-
-    /// The fragment at this moment is of this stream and message, and of the stream's first message.
-    pub fn is_of(
-        &mut self,
-        rt: &impl Abort,
-        place: Place,
-        millis: u32,
-        max: usize,
-        expected: (u16, u64),
-    ) {
-        let data = self.produced(rt, place, millis, max);
-        same(rt, place, (data.stream_id.0, data.message_id), expected);
-        same(rt, place, (data.ssn, data.mid), (0, 0));
-    }
-
-    /// The fragment at moment 9 is of the second message that was added: at moment 5, unordered, for 20 ms and
-    /// at most 3 times again. FSN and size, and whether it begins or ends the message.
-    pub fn is_marked(
-        &mut self,
-        rt: &impl Abort,
-        place: Place,
-        max: usize,
-        numbers: (u32, usize),
-        ends: (bool, bool),
-    ) {
-        let data = self.produced(rt, place, 9, max);
-        same(rt, place, (data.fsn, data.payload.len()), numbers);
-        same(rt, place, (data.is_beginning, data.is_end), ends);
-        same(rt, place, (data.message_id, data.ppid.0), (1, 53));
-        same(rt, place, (data.ssn, data.mid), (0, 0));
-        same(rt, place, data.is_unordered, true);
-        same(rt, place, data.max_retransmissions, Some(3));
-        let expiry = data.expires_at.map(|moment| moment.as_nanos());
-        same(rt, place, expiry, Some(25_000_000));
-    }
-
-    // The next event, as `Debug` writes it.
-    fn tells_next(&mut self, rt: &impl Abort, place: Place, expected: &str) {
-        match self.events.next_event() {
-            None => missing(rt, place, expected),
-            Some(event) => {
-                let shown = format!(in self.alloc; "{event:?}").expect(rt, "memory for the text");
-                same(rt, place, shown.as_str(), expected);
+    // Adds a message of these bytes, in the way that was asked for.
+    fn add(&mut self, words: &mut Words, stream: StreamId, bytes: &str) {
+        let is_done = match Vec::from_slice(self.alloc, bytes.as_bytes()) {
+            Err(_) => false,
+            Ok(payload) => {
+                if payload.is_empty() {
+                    false
+                } else {
+                    let message = Message::new(stream, PpId(53), payload);
+                    self.queue.add(at(self.now), message, &self.how).is_ok()
+                }
             }
+        };
+        words.check_done(is_done);
+        self.how = SendOptions::default();
+    }
+
+    // A fragment of at most so many bytes leaves, of one at least.
+    fn fragment(&mut self, words: &mut Words, max: u64) {
+        let max = max.max(1) as usize;
+        match self.queue.produce(&mut self.events, at(self.now), max) {
+            Err(_) => words.check_done(false),
+            Ok(None) => words.check("size", 0),
+            Ok(Some(data)) => shows(words, &data),
         }
     }
 
-    /// These events were added since the last call, as `Debug` writes them.
-    pub fn tells(&mut self, rt: &impl Abort, place: Place, expected: &[&str]) {
-        for index in 0..expected.len() {
-            self.tells_next(rt, place, expected[index]);
+    // Adds a message of one byte to stream 1 and takes it, so many times.
+    fn use_up(&mut self, words: &mut Words) {
+        for _ in 0..words.number() {
+            self.add(words, StreamId(1), "x");
+            self.fragment(words, 1);
         }
-        let is_any = self.events.next_event().is_some();
-        same(rt, place, is_any, false);
     }
 
-    /// Prepares a stream to be reset.
-    pub fn prepare(&mut self, rt: &impl Abort, stream: u16) {
-        self.queue
-            .prepare_reset_stream(&mut self.events, StreamId(stream))
-            .expect(rt, "memory for the stream");
+    // The next event, as `Debug` writes it, or nothing.
+    fn tells(&mut self, words: &mut Words) {
+        match self.events.next_event() {
+            None => words.check_rest(""),
+            Some(event) => is_shown(self.alloc, words, &event),
+        }
     }
 
-    /// These streams are handed out where at most so many are asked for.
-    pub fn hands_out(&mut self, rt: &impl Abort, place: Place, max: usize, expected: &[StreamId]) {
-        let ids = self
-            .queue
-            .get_streams_ready_to_reset(max)
-            .expect(rt, "memory for the list");
-        same(rt, place, ids.as_slice(), expected);
+    // The streams that are handed out, as `Debug` writes them.
+    fn hand_out(&mut self, words: &mut Words) {
+        let max = words.number() as usize;
+        match self.queue.get_streams_ready_to_reset(max) {
+            Err(_) => words.check_done(false),
+            Ok(ids) => is_shown(self.alloc, words, &ids),
+        }
     }
 
-    /// Is the message under way dropped, where this one of this stream is named?
-    pub fn discards(
-        &mut self,
-        rt: &impl Abort,
-        place: Place,
-        stream: u16,
-        message: u64,
-        expected: bool,
-    ) {
-        let discarded = self
-            .queue
-            .discard(&mut self.events, StreamId(stream), message)
-            .expect(rt, "memory for the events");
-        same(rt, place, discarded, expected);
-    }
-
-    /// Gives a stream a priority.
-    pub fn set_priority(&mut self, rt: &impl Abort, stream: u16, priority: u16) {
-        self.queue
-            .set_priority(StreamId(stream), priority)
-            .expect(rt, "memory for the stream");
-    }
-
-    /// The priority of a stream.
-    pub fn priority(&self, rt: &impl Abort, place: Place, stream: u16, expected: u16) {
-        same(
-            rt,
-            place,
-            self.queue.get_priority(StreamId(stream)),
-            expected,
+    // What a line expects of a stream and of the whole queue.
+    fn state(&self, words: &mut Words, stream: StreamId) {
+        words.check_all(
+            STATE,
+            &[
+                self.queue.buffered_amount(stream) as u64,
+                self.queue.total_buffered_amount() as u64,
+                self.queue.buffered_amount_low_threshold(stream) as u64,
+                self.queue.get_priority(stream) as u64,
+                self.queue.has_data_to_send() as u64,
+                self.queue.has_streams_ready_to_be_reset() as u64,
+            ],
         );
     }
 
-    /// Gives a stream a threshold of its own.
-    pub fn set_threshold(&mut self, rt: &impl Abort, stream: u16, threshold: usize) {
-        self.queue
-            .set_buffered_amount_low_threshold(StreamId(stream), threshold)
-            .expect(rt, "memory for the stream");
+    // Is the message under way dropped, where it is this one?
+    fn discard(&mut self, words: &mut Words, stream: StreamId) {
+        match self.queue.discard(&mut self.events, stream, words.number()) {
+            Err(_) => words.check_done(false),
+            Ok(discarded) => words.check("done", discarded as u64),
+        }
     }
 
-    /// The threshold of a stream.
-    pub fn threshold(&self, rt: &impl Abort, place: Place, stream: u16, expected: usize) {
-        let found = self.queue.buffered_amount_low_threshold(StreamId(stream));
-        same(rt, place, found, expected);
-    }
-
-    /// The amount on the stream, and on all streams together.
-    pub fn amounts(&self, rt: &impl Abort, place: Place, stream: u16, expected: (usize, usize)) {
-        let amount = self.queue.buffered_amount(StreamId(stream));
-        let total = self.queue.total_buffered_amount();
-        same(rt, place, (amount, total), expected);
-    }
-
-    /// The answer to a question.
-    pub fn is(&self, rt: &impl Abort, place: Place, question: Question, expected: bool) {
-        let answer = match question {
-            Question::HasData => self.queue.has_data_to_send(),
-            Question::HasReady => self.queue.has_streams_ready_to_be_reset(),
+    // Takes a line that prepares a stream to be reset, or gives it a priority or a threshold.
+    fn change(&mut self, words: &mut Words, keyword: &str, stream: StreamId) {
+        let changed = match keyword {
+            "prepare" => self.queue.prepare_reset_stream(&mut self.events, stream),
+            "priority" => self.queue.set_priority(stream, words.short()),
+            "threshold" => self
+                .queue
+                .set_buffered_amount_low_threshold(stream, words.number() as usize),
+            _ => Err(AllocError),
         };
-        same(rt, place, answer, expected);
+        words.check_done(changed.is_ok());
     }
 
-    /// Changes the queue as a whole.
-    pub fn change(&mut self, change: Change) {
-        match change {
-            Change::Commit => self.queue.commit_reset_streams(),
-            Change::RollBack => self.queue.rollback_reset_streams(),
-            Change::Reset => self.queue.reset(),
-            Change::Interleave => self.queue.enable_message_interleaving(true),
+    // Takes a line on a stream.
+    fn take_on_stream(&mut self, words: &mut Words, keyword: &str) {
+        let stream = StreamId(words.short());
+        match keyword {
+            "add" => {
+                let bytes = words.next();
+                self.add(words, stream, bytes);
+            }
+            "state" => self.state(words, stream),
+            "discard" => self.discard(words, stream),
+            _ => self.change(words, keyword, stream),
+        }
+    }
+
+    // Takes a line that begins with a number.
+    fn take_number(&mut self, words: &mut Words, keyword: &str) {
+        match keyword {
+            "begin" => self.begin(words.number(), words.number()),
+            "now" => self.now = words.number(),
+            "name" => self.how.lifecycle_id = LifecycleId::new(words.number()),
+            "lifetime" => self.how.lifetime = Some(Duration::from_millis(words.number())),
+            "times" => self.how.max_retransmissions = Some(words.short()),
+            "use-up" => self.use_up(words),
+            "fragment" => {
+                let max = words.number();
+                self.fragment(words, max);
+            }
+            "hand-out" => self.hand_out(words),
+            _ => self.take_on_stream(words, keyword),
+        }
+    }
+
+    /// Takes a line.
+    pub fn take(&mut self, words: &mut Words) {
+        match words.next() {
+            "" => {}
+            "#" => words.name_test(),
+            "unordered" => self.how.unordered = true,
+            "commit" => self.queue.commit_reset_streams(),
+            "roll-back" => self.queue.rollback_reset_streams(),
+            "reset" => self.queue.reset(),
+            "interleave" => self.queue.enable_message_interleaving(true),
+            "tells" => self.tells(words),
+            keyword => self.take_number(words, keyword),
         }
     }
 }
