@@ -1,7 +1,7 @@
 //! What the arguments of the program say.
 
 /// What the program is to do.
-#[derive(Clone, Copy, Debug, PartialEq, Eq)]
+#[derive(Clone, Copy)]
 pub enum Command {
     /// Connects so many pairs of sockets, one after another.
     Handshakes(u32),
@@ -14,7 +14,7 @@ pub enum Command {
 }
 
 /// Which messages are carried, and how.
-#[derive(Clone, Copy, Debug, PartialEq, Eq)]
+#[derive(Clone, Copy)]
 pub struct Plan {
     /// How many messages there are beside those that are queued before.
     pub count: u32,
@@ -42,7 +42,7 @@ pub struct Plan {
 }
 
 /// Which pairs are kept.
-#[derive(Clone, Copy, Debug, PartialEq, Eq)]
+#[derive(Clone, Copy)]
 pub struct Holding {
     /// How many pairs there are.
     pub pairs: u32,

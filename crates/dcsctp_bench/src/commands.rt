@@ -45,23 +45,23 @@ fn shake_hands(rt: &(impl Print + Alloc<A = Global>), count: u32) -> Result<(), 
 
 // Prints what has arrived.
 fn print_arrived(rt: &impl Print, ledger: &Ledger) -> Result<(), Failure> {
-    println!(rt; "messages {}", ledger.count())?;
-    println!(rt; "bytes {}", ledger.bytes())?;
+    println!(rt; "messages {}", ledger.count)?;
+    println!(rt; "bytes {}", ledger.bytes)?;
     Ok(())
 }
 
 // Prints how many packets were sent, and how many of them were lost.
 fn print_packets(rt: &impl Print, pair: &Pair) -> Result<(), Failure> {
-    println!(rt; "packets-out {}", pair.packets(Side::A))?;
-    println!(rt; "packets-back {}", pair.packets(Side::B))?;
-    println!(rt; "lost {}", pair.link().lost())?;
+    println!(rt; "packets-out {}", pair.a.packets)?;
+    println!(rt; "packets-back {}", pair.b.packets)?;
+    println!(rt; "lost {}", pair.link.lost)?;
     Ok(())
 }
 
 // Connects, and lets the messages run.
 fn run(pair: &mut Pair, traffic: &mut Traffic, loss: u32) -> Result<(), Failure> {
     pair.connect()?;
-    pair.set_loss(loss);
+    pair.link.loss = loss;
     traffic.run(pair)
 }
 
@@ -69,7 +69,7 @@ fn carry(rt: &(impl Print + Alloc<A = Global>), plan: &Plan) -> Result<(), Failu
     let mut traffic = Traffic::new(rt.alloc(), plan, Side::A)?;
     let mut pair = Pair::new(rt.alloc(), &options(plan.without_checksum))?;
     let outcome = run(&mut pair, &mut traffic, plan.loss);
-    print_arrived(rt, traffic.ledger())?;
+    print_arrived(rt, &traffic.ledger)?;
     if plan.shows_counts {
         print_packets(rt, &pair)?;
     }

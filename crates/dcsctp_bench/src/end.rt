@@ -14,31 +14,16 @@ use std::alloc::Global;
 /// A socket whose words a small generator gives.
 pub type BenchSocket = Socket<Xoshiro256PlusPlus>;
 
-// What a socket has told.
-#[derive(Clone, Copy)]
-struct Told {
-    packets: u64,
-    is_connected: bool,
-}
-
-impl Told {
-    // Notes an event that is no packet.
-    fn note(&mut self, event: &SocketEvent) -> Result<(), Failure> {
-        match event {
-            SocketEvent::OnConnected() => self.is_connected = true,
-            SocketEvent::OnError(kind, _) => return Err(Failure::Told(*kind)),
-            SocketEvent::OnClosed() | SocketEvent::OnAborted(..) => return Err(Failure::Ended),
-            _ => {}
-        }
-        Ok(())
-    }
-}
-
 /// A socket, and what it has told. After each call all its events are taken.
 #[derive(Drop)]
 pub struct End {
-    socket: BenchSocket,
-    told: Told,
+    pub socket: BenchSocket,
+
+    /// How many packets it has sent.
+    pub packets: u64,
+
+    /// Has it connected?
+    pub is_connected: bool,
 
     // Whom its packets go to.
     peer: Side,
@@ -51,30 +36,23 @@ impl End {
     {
         let rng = Xoshiro256PlusPlus::seed_from_u64(seed);
         let socket = Socket::new(alloc, "bench", options, rng)?;
-        let told = Told {
-            packets: 0,
-            is_connected: false,
-        };
         Ok(End {
             socket,
-            told,
+            packets: 0,
+            is_connected: false,
             peer: side.other(),
         })
     }
 
-    /// Its socket alone.
-    pub fn into_socket(self) -> BenchSocket {
-        self.socket
-    }
-
-    /// Has it connected?
-    pub fn is_connected(&self) -> bool {
-        self.told.is_connected
-    }
-
-    /// How many packets it has sent.
-    pub fn packets(&self) -> u64 {
-        self.told.packets
+    // Notes an event that is no packet.
+    fn note(&mut self, event: &SocketEvent) -> Result<(), Failure> {
+        match event {
+            SocketEvent::OnConnected() => self.is_connected = true,
+            SocketEvent::OnError(kind, _) => return Err(Failure::Told(*kind)),
+            SocketEvent::OnClosed() | SocketEvent::OnAborted(..) => return Err(Failure::Ended),
+            _ => {}
+        }
+        Ok(())
     }
 
     // Takes all events: packets go by the link.
@@ -83,10 +61,10 @@ impl End {
             match self.socket.poll_event() {
                 None => break,
                 Some(SocketEvent::SendPacket(packet)) => {
-                    self.told.packets = self.told.packets.saturating_add(1);
+                    self.packets = self.packets.saturating_add(1);
                     link.put(self.peer, packet.as_slice())?;
                 }
-                Some(event) => self.told.note(&event)?,
+                Some(event) => self.note(&event)?,
             }
         }
         Ok(())

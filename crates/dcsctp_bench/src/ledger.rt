@@ -11,8 +11,12 @@ use std::alloc::{AllocError, Global};
 pub struct Ledger {
     alloc: Global,
     plan: Plan,
-    total: u32,
-    options: SendOptions,
+
+    /// How many messages there are.
+    pub total: u32,
+
+    /// How they are sent.
+    pub options: SendOptions,
 
     // By number.
     has_arrived: Vec<bool>,
@@ -20,8 +24,11 @@ pub struct Ledger {
     // By stream the number that comes next, where messages are ordered.
     next: Vec<u32>,
 
-    count: u32,
-    bytes: u64,
+    /// How many have arrived.
+    pub count: u32,
+
+    /// The bytes of those that have.
+    pub bytes: u64,
 }
 
 // Each byte of a message.
@@ -53,31 +60,6 @@ impl Ledger {
             count: 0,
             bytes: 0,
         })
-    }
-
-    /// How many messages there are.
-    pub fn total(&self) -> u32 {
-        self.total
-    }
-
-    /// How the messages are sent.
-    pub fn options(&self) -> SendOptions {
-        self.options
-    }
-
-    /// How many have arrived.
-    pub fn count(&self) -> u32 {
-        self.count
-    }
-
-    /// The bytes of those that have arrived.
-    pub fn bytes(&self) -> u64 {
-        self.bytes
-    }
-
-    /// Have all arrived?
-    pub fn is_complete(&self) -> bool {
-        self.count == self.total
     }
 
     // The stream of a message: they take turns.

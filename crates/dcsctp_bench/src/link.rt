@@ -6,7 +6,7 @@ use std::alloc::{AllocError, Global};
 use std::collections::VecDeque;
 
 /// One of two sockets.
-#[derive(Clone, Copy, Debug, PartialEq, Eq)]
+#[derive(Clone, Copy, PartialEq)]
 pub enum Side {
     /// The one that connects.
     A,
@@ -38,11 +38,14 @@ pub struct Link {
     alloc: Global,
     flying: VecDeque<Parcel>,
 
-    // Says which packets are lost: this many of a thousand.
+    // Says which packets are lost.
     rng: Xoshiro256PlusPlus,
-    loss: u32,
 
-    lost: u64,
+    /// So many of a thousand packets are lost from now on.
+    pub loss: u32,
+
+    /// How many were lost.
+    pub lost: u64,
 }
 
 impl Link {
@@ -55,16 +58,6 @@ impl Link {
             loss: 0,
             lost: 0,
         }
-    }
-
-    /// From now on so many of a thousand packets are lost.
-    pub fn set_loss(&mut self, loss: u32) {
-        self.loss = loss;
-    }
-
-    /// How many packets were lost.
-    pub fn lost(&self) -> u64 {
-        self.lost
     }
 
     // Is the next packet lost?

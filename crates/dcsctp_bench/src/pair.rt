@@ -23,9 +23,9 @@ pub fn options(without_checksum: bool) -> Options {
 /// Two sockets, the link between them, and the present moment of both.
 #[derive(Drop)]
 pub struct Pair {
-    a: End,
-    b: End,
-    link: Link,
+    pub a: End,
+    pub b: End,
+    pub link: Link,
     now: SocketTime,
 }
 
@@ -45,25 +45,7 @@ impl Pair {
 
     /// Both sockets alone.
     pub fn into_sockets(self) -> (BenchSocket, BenchSocket) {
-        (self.a.into_socket(), self.b.into_socket())
-    }
-
-    /// The link.
-    pub fn link(&self) -> &Link {
-        &self.link
-    }
-
-    /// How many packets a side has sent.
-    pub fn packets(&self, side: Side) -> u64 {
-        match side {
-            Side::A => self.a.packets(),
-            Side::B => self.b.packets(),
-        }
-    }
-
-    /// From now on so many of a thousand packets are lost.
-    pub fn set_loss(&mut self, loss: u32) {
-        self.link.set_loss(loss);
+        (self.a.socket, self.b.socket)
     }
 
     /// Connects the two.
@@ -74,7 +56,7 @@ impl Pair {
                 break;
             }
         }
-        if self.a.is_connected() && self.b.is_connected() {
+        if self.a.is_connected && self.b.is_connected {
             Ok(())
         } else {
             Err(Failure::NotConnected)

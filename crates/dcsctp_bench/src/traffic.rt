@@ -25,7 +25,10 @@ const PATIENCE: u32 = 120_000;
 pub struct Traffic {
     from: Side,
     queued: u32,
-    ledger: Ledger,
+
+    /// Which messages have arrived.
+    pub ledger: Ledger,
+
     sent: u32,
     sent_bytes: u64,
 
@@ -46,18 +49,13 @@ impl Traffic {
         })
     }
 
-    /// Which messages have arrived.
-    pub fn ledger(&self) -> &Ledger {
-        &self.ledger
-    }
-
     /// Sends all messages, until they have arrived.
     pub fn run(&mut self, pair: &mut Pair) -> Result<(), Failure> {
         for _ in 0..self.queued {
             self.send(pair)?;
         }
         for _ in 0..u64::MAX {
-            if self.ledger.is_complete() {
+            if self.ledger.count == self.ledger.total {
                 break;
             }
             let has_given = self.give(pair)?;
@@ -73,7 +71,7 @@ impl Traffic {
     fn send(&mut self, pair: &mut Pair) -> Result<(), Failure> {
         let message = self.ledger.message(self.sent)?;
         let bytes = u64::try_from(message.payload.len()).unwrap_or(u64::MAX);
-        pair.send(self.from, message, &self.ledger.options())?;
+        pair.send(self.from, message, &self.ledger.options)?;
         self.sent = self.sent.saturating_add(1);
         self.sent_bytes = self.sent_bytes.saturating_add(bytes);
         Ok(())
@@ -81,8 +79,8 @@ impl Traffic {
 
     // Is there a message to send, and room for it between the two users?
     fn may_send(&self) -> bool {
-        let between = self.sent_bytes.saturating_sub(self.ledger.bytes());
-        self.sent < self.ledger.total() && between < WINDOW
+        let between = self.sent_bytes.saturating_sub(self.ledger.bytes);
+        self.sent < self.ledger.total && between < WINDOW
     }
 
     // Sends messages as long as there is room, and answers whether one was sent.
@@ -128,7 +126,7 @@ impl Traffic {
     // Lets time pass, but not for ever.
     fn wait(&mut self, pair: &mut Pair) -> Result<(), Failure> {
         if PATIENCE <= self.idle {
-            return Err(Failure::Stuck(self.ledger.count()));
+            return Err(Failure::Stuck(self.ledger.count));
         }
         self.idle = self.idle.saturating_add(1);
         pair.pass(Duration::from_millis(TICK))

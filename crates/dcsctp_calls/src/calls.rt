@@ -107,10 +107,7 @@ fn handle_packet<R: Rng>(
 
 /// Works a packet (RFC 9260, section 8.5): it is counted, read, admitted or refused, and each chunk
 /// has its turn. The one error is that a growth was refused.
-pub fn handle_input<R: Rng>(
-    context: &mut Context<R>,
-    packet: &[u8],
-) -> Result<(), AllocError>
+pub fn handle_input<R: Rng>(context: &mut Context<R>, packet: &[u8]) -> Result<(), AllocError>
     ensures { WorksInput R.stream packet.now context.old result context.new }
 {
     context.begin_call();
@@ -152,10 +149,7 @@ pub fn close<R: Rng>(context: &mut Context<R>) -> Result<(), AllocError>
 
 /// Tells the time: the clock is moved, and the timers that are due have their turns (RFC 9260, sections 5.1
 /// and 8.3). An earlier moment changes nothing. The one error is that a growth was refused.
-pub fn advance_time<R: Rng>(
-    context: &mut Context<R>,
-    now: SocketTime,
-) -> Result<(), AllocError>
+pub fn advance_time<R: Rng>(context: &mut Context<R>, now: SocketTime) -> Result<(), AllocError>
     ensures turn { WorksTime R.stream now context.old result context.new }
     ensures earlier { now < context.old.moment → IsOk result }
     ensures waits { Waits (endpoint_of context.old) now → IsOk result }

@@ -2,8 +2,8 @@
 
 use crate::checks::same;
 use crate::worlds::{are_connected, new_world};
-use dcsctp_world::socket::{DcSctpSocket, SocketState};
 use dcsctp_testing::TwoWords;
+use dcsctp_world::socket::{DcSctpSocket, SocketState};
 use dcsctp_world::{Call, Side, Step, World};
 use std::alloc::Global;
 use std::mem;

@@ -2,8 +2,8 @@
 
 use crate::checks::same;
 use crate::worlds::new_world;
-use dcsctp_world::socket::{DcSctpSocket, ErrorKind, SocketEvent, SocketState, SocketTime};
 use dcsctp_testing::TwoWords;
+use dcsctp_world::socket::{DcSctpSocket, ErrorKind, SocketEvent, SocketState, SocketTime};
 use dcsctp_world::{Call, Side, Step, World};
 use std::process::Abort;
 use std::time::Duration;

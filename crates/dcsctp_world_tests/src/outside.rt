@@ -2,8 +2,8 @@
 
 use crate::checks::{holds, same};
 use crate::worlds::{are_connected, new_world};
-use dcsctp_world::socket::{DcSctpSocket, ErrorKind, Options, SocketEvent, SocketState};
 use dcsctp_testing::TwoWords;
+use dcsctp_world::socket::{DcSctpSocket, ErrorKind, Options, SocketEvent, SocketState};
 use dcsctp_world::{Act, Call, Outside, Reply, Side, Step, World};
 use std::alloc::Global;
 use std::process::Abort;

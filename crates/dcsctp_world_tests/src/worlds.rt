@@ -1,8 +1,8 @@
 //! Two sockets that find each other, whatever the schedule.
 
 use crate::checks::{holds, same};
-use dcsctp_world::socket::{DcSctpSocket, Options, SocketEvent, SocketState, StreamId};
 use dcsctp_testing::TwoWords;
+use dcsctp_world::socket::{DcSctpSocket, Options, SocketEvent, SocketState, StreamId};
 use dcsctp_world::{Act, Call, Reply, Side, Step, World};
 use std::alloc::Global;
 use std::process::Abort;
