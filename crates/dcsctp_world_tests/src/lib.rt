@@ -7,10 +7,6 @@
 #[cfg(test)]
 mod checks;
 #[cfg(test)]
-mod lost_packets;
-#[cfg(test)]
-mod no_answer;
-#[cfg(test)]
 mod outside;
 #[cfg(test)]
 mod worlds;
