@@ -1,25 +1,24 @@
-//! A retransmission queue with the send queue in front of it, for tests.
+//! A retransmission queue with the send queue in front of it, and the lines that they take.
 
-use crate::checks::{Place, missing, same};
-use crate::steps::{How, Negotiated, Number, Question};
-use dcsctp_api::{
-    Events, LifecycleId, Message, PpId, SendOptions, SocketEvent, SocketTime, StreamId,
-};
+use crate::words::Words;
+use dcsctp_api::{Events, LifecycleId, Message, PpId, SendOptions, SocketTime, StreamId};
 use dcsctp_machine::Options;
-use dcsctp_retransmission::{ForwardTsn, HandleSackResult, RetransmissionQueue, Skipped};
-use dcsctp_send_queue::SendQueue;
-use dcsctp_wire::{GapAckBlock, SkippedMessages, SkippedStream};
+use dcsctp_retransmission::{HandleSackResult, RetransmissionQueue};
+use dcsctp_send_queue::{DataToSend, SendQueue};
+use dcsctp_wire::GapAckBlock;
 use std::alloc::Global;
-use std::process::Abort;
+use std::fmt::Debug;
 use std::time::Duration;
 
-/// The two queues, what they told, and what the latest SACK did.
+/// The two queues, what they told, the moment, how the next message is sent, and what the latest SACK did.
 pub struct Line {
     alloc: Global,
     queue: SendQueue,
     sent: RetransmissionQueue,
     events: Events,
-    rtt: Option<u128>,
+    now: u32,
+    how: SendOptions,
+    rtt: Option<Duration>,
     is_new: bool,
 }
 
@@ -31,39 +30,51 @@ impl Drop for Line {
             queue: _,
             sent: _,
             events: _,
+            now: _,
+            how: _,
             rtt: _,
             is_new: _,
         } = self;
     }
 }
 
+// The names of the numbers of the queue and of the latest SACK, in the order in which a line has them.
+static STATE: &[&str] = &[
+    "cwnd",
+    "rwnd",
+    "next-tsn",
+    "last-tsn",
+    "unacked",
+    "rtx-packets",
+    "rtx-bytes",
+    "can-send",
+    "has-fast",
+    "has-timer",
+    "expires",
+    "is-new",
+    "has-rtt",
+    "rtt",
+];
+
+// The names of the numbers of a chunk.
+static CHUNK: &[&str] = &["stream", "fsn", "size", "begins", "ends"];
+
 // The moment so many milliseconds after the first.
-fn at(millis: u64) -> SocketTime {
-    SocketTime::zero() + Duration::from_millis(millis)
+fn at(millis: u32) -> SocketTime {
+    SocketTime::zero() + Duration::from_millis(millis as u64)
 }
 
-fn send_options(how: How) -> SendOptions {
-    let mut options = SendOptions::default();
-    match how {
-        How::Plain => {}
-        How::Limited(times, id) => {
-            options.max_retransmissions = Some(times);
-            options.lifecycle_id = LifecycleId::new(id);
-        }
-        How::Unordered(times, id) => {
-            options.unordered = true;
-            options.max_retransmissions = Some(times);
-            options.lifecycle_id = LifecycleId::new(id);
-        }
-        How::Lives(millis, id) => {
-            options.lifetime = Some(Duration::from_millis(millis));
-            options.lifecycle_id = LifecycleId::new(id);
-        }
+// The milliseconds of a moment. One between two of them has a number that no line has.
+fn millis(moment: SocketTime) -> u128 {
+    let nanos = moment.as_nanos();
+    if nanos % 1_000_000 == 0 {
+        nanos / 1_000_000
+    } else {
+        u128::MAX
     }
-    options
 }
 
-/// Options with packets of 1,000 bytes, four of them in flight at first, and 1 s as the timeout.
+// Options with packets of 1,000 bytes, four of them in flight at first, and 1 s as the timeout.
 fn options() -> Options {
     let mut options = Options::default();
     options.mtu = 1000;
@@ -73,15 +84,34 @@ fn options() -> Options {
     options
 }
 
+// The rest of a line is what `Debug` writes of this.
+fn is_shown(alloc: Global, words: &mut Words, found: &impl Debug) {
+    match format!(in alloc; "{found:?}") {
+        Err(_) => words.check_done(false),
+        Ok(shown) => words.check_rest(&shown),
+    }
+}
+
+// What a line expects of a chunk.
+fn shows(words: &mut Words, data: &DataToSend) {
+    words.check_all(
+        CHUNK,
+        &[
+            data.stream_id.0 as u128,
+            data.fsn as u128,
+            data.payload.len() as u128,
+            data.is_beginning as u128,
+            data.is_end as u128,
+        ],
+    );
+}
+
 impl Line {
-    /// Nothing waits, and the peer's window is this.
-    pub fn new(alloc: Global, first_tsn: u32, window: u32, negotiated: Negotiated) -> Line {
+    /// Nothing waits, and the peer's window is this. What was negotiated: partial reliability, and
+    /// interleaving.
+    pub fn new(alloc: Global, first_tsn: u32, window: u32, negotiated: (bool, bool)) -> Line {
         let options = options();
-        let (partial_reliability, interleaving) = match negotiated {
-            Negotiated::Nothing => (false, false),
-            Negotiated::PartialReliability => (true, false),
-            Negotiated::Interleaving => (true, true),
-        };
+        let (partial_reliability, interleaving) = negotiated;
         let sent = RetransmissionQueue::new(
             alloc,
             &options,
@@ -95,299 +125,218 @@ impl Line {
             queue: SendQueue::new(alloc, &options),
             sent,
             events: Events::new(alloc),
+            now: 0,
+            how: SendOptions::default(),
             rtt: None,
             is_new: false,
         }
     }
 
-    /// Begins anew.
-    pub fn begin(&mut self, first_tsn: u32, window: u32, negotiated: Negotiated) {
+    // Begins anew.
+    fn begin(&mut self, words: &mut Words) {
+        let first_tsn = words.number();
+        let window = words.number();
+        let negotiated = (words.number() == 1, words.number() == 1);
         *self = Line::new(self.alloc, first_tsn, window, negotiated);
     }
 
-    /// Adds a message of so many bytes, which may not be none.
-    pub fn add(&mut self, rt: &impl Abort, stream: u16, size: usize, how: How) {
-        let payload = vec![in self.alloc; 7u8; size].expect(rt, "memory for the payload");
-        assert!(rt; !payload.is_empty(), "a message has a payload");
-        let message = Message::new(StreamId(stream), PpId(51), payload);
-        self.queue
-            .add(at(0), message, &send_options(how))
-            .expect(rt, "memory for the message");
+    // Adds a message of so many bytes, of one at least, in the way that was asked for.
+    fn add(&mut self, words: &mut Words, stream: StreamId, size: u32) {
+        let is_done = match vec![in self.alloc; 7u8; size as usize] {
+            Err(_) => false,
+            Ok(payload) => {
+                if payload.is_empty() {
+                    false
+                } else {
+                    let message = Message::new(stream, PpId(51), payload);
+                    self.queue.add(at(0), message, &self.how).is_ok()
+                }
+            }
+        };
+        words.check_done(is_done);
+        self.how = SendOptions::default();
     }
 
-    /// Adds so many messages of so many bytes, with no limits.
-    pub fn add_many(&mut self, rt: &impl Abort, count: usize, size: usize) {
+    // Adds so many messages of so many bytes to stream 1.
+    fn add_many(&mut self, words: &mut Words) {
+        let count = words.number();
+        let size = words.number();
         for _ in 0..count {
-            self.add(rt, 1, size, How::Plain);
+            self.add(words, StreamId(1), size);
         }
     }
 
-    // The TSNs that go into a packet of so many bytes.
-    fn given(&mut self, rt: &impl Abort, millis: u64, bytes: usize) -> Vec<u32> {
-        self.sent
-            .get_chunks_to_send(&mut self.events, &mut self.queue, at(millis), bytes)
-            .expect(rt, "memory for the packet")
-    }
-
-    /// Asserts which TSNs go into a packet of so many bytes.
-    pub fn sends(
-        &mut self,
-        rt: &impl Abort,
-        place: Place,
-        millis: u64,
-        bytes: usize,
-        tsns: &[u32],
-    ) {
-        let given = self.given(rt, millis, bytes);
-        same(rt, place, given.as_slice(), tsns);
-    }
-
-    /// Asserts which TSNs go into a packet of so many bytes, as a fast retransmission.
-    pub fn sends_fast(
-        &mut self,
-        rt: &impl Abort,
-        place: Place,
-        millis: u64,
-        bytes: usize,
-        tsns: &[u32],
-    ) {
-        let given = self
+    // Which TSNs go into a packet of so many bytes.
+    fn send(&mut self, words: &mut Words) {
+        let bytes = words.number() as usize;
+        let moment = at(self.now);
+        match self
             .sent
-            .get_chunks_for_fast_retransmit(at(millis), bytes)
-            .expect(rt, "memory for the packet");
-        same(rt, place, given.as_slice(), tsns);
-    }
-
-    /// Asserts that one chunk goes into each of so many packets of 1,000 bytes, and into no more.
-    pub fn fills(&mut self, rt: &impl Abort, place: Place, count: usize) {
-        for _ in 0..count {
-            same(rt, place, self.given(rt, 0, 1000).len(), 1);
+            .get_chunks_to_send(&mut self.events, &mut self.queue, moment, bytes)
+        {
+            Err(_) => words.check_done(false),
+            Ok(tsns) => is_shown(self.alloc, words, &tsns),
         }
-        same(rt, place, self.given(rt, 0, 1000).len(), 0);
     }
 
-    /// Hands a SACK in, keeps what it measured, and answers whether it is valid.
-    fn takes(
-        &mut self,
-        rt: &impl Abort,
-        millis: u64,
-        cumulative: u32,
-        window: u32,
-        blocks: &[GapAckBlock],
-    ) -> bool {
-        let outcome = self
+    // The same, as a fast retransmission.
+    fn send_fast(&mut self, words: &mut Words) {
+        let bytes = words.number() as usize;
+        match self
             .sent
-            .handle_sack(&mut self.events, at(millis), cumulative, window, blocks)
-            .expect(rt, "memory for the SACK");
-        match outcome {
-            HandleSackResult::Invalid => false,
-            HandleSackResult::Valid {
-                rtt,
-                reset_error_counter,
-            } => {
-                self.rtt = rtt.map(|rtt| rtt.as_nanos());
+            .get_chunks_for_fast_retransmit(at(self.now), bytes)
+        {
+            Err(_) => words.check_done(false),
+            Ok(tsns) => is_shown(self.alloc, words, &tsns),
+        }
+    }
+
+    // Is a SACK with this cumulative TSN and window valid? What it measured is kept.
+    fn sack(&mut self, words: &mut Words, blocks: &[GapAckBlock]) {
+        let cumulative = words.number();
+        let window = words.number();
+        let moment = at(self.now);
+        match self
+            .sent
+            .handle_sack(&mut self.events, moment, cumulative, window, blocks)
+        {
+            Err(_) => words.check_done(false),
+            Ok(HandleSackResult::Invalid) => words.check("valid", 0),
+            Ok(
+                HandleSackResult::Valid {
+                    rtt,
+                    reset_error_counter,
+                },
+            ) => {
+                self.rtt = rtt;
                 self.is_new = reset_error_counter;
-                true
+                words.check("valid", 1);
             }
         }
     }
 
-    /// Hands a SACK in that has to be valid, with a large window.
-    pub fn acknowledges(
-        &mut self,
-        rt: &impl Abort,
-        place: Place,
-        millis: u64,
-        cumulative: u32,
-        blocks: &[GapAckBlock],
-    ) {
-        let is_valid = self.takes(rt, millis, cumulative, 100_000, blocks);
-        same(rt, place, is_valid, true);
-    }
-
-    /// Asserts whether a SACK of this cumulative TSN and window is valid.
-    pub fn is_valid(
-        &mut self,
-        rt: &impl Abort,
-        place: Place,
-        millis: u64,
-        sack: (u32, u32),
-        expected: bool,
-    ) {
-        let (cumulative, window) = sack;
-        let is_valid = self.takes(rt, millis, cumulative, window, &[]);
-        same(rt, place, is_valid, expected);
-    }
-
-    /// Asserts which round trip the latest SACK measured, in nanoseconds.
-    pub fn measured(&self, rt: &impl Abort, place: Place, nanos: Option<u128>) {
-        same(rt, place, self.rtt, nanos);
-    }
-
-    /// Asserts whether the retransmission timer expires.
-    pub fn times_out(&mut self, rt: &impl Abort, place: Place, millis: u64, expires: bool) {
-        same(rt, place, self.sent.handle_timeout(at(millis)), expires);
-    }
-
-    /// Asserts when the retransmission timer expires, in milliseconds.
-    pub fn expires(&self, rt: &impl Abort, place: Place, millis: Option<u64>) {
-        let deadline = self.sent.next_timeout().map(|moment| moment.as_nanos());
-        let expected = millis.map(|millis| at(millis).as_nanos());
-        same(rt, place, deadline, expected);
-    }
-
-    /// Asserts whether a FORWARD-TSN is due.
-    pub fn is_due(&mut self, rt: &impl Abort, place: Place, millis: u64, expected: bool) {
-        let is_due = self
+    // Is a FORWARD-TSN due?
+    fn forward(&mut self, words: &mut Words) {
+        let moment = at(self.now);
+        match self
             .sent
-            .should_send_forward_tsn(&mut self.events, &mut self.queue, at(millis))
-            .expect(rt, "memory for what is given up");
-        same(rt, place, is_due, expected);
-    }
-
-    fn forward_tsn(&mut self, rt: &impl Abort) -> ForwardTsn {
-        self.sent
-            .create_forward_tsn()
-            .expect(rt, "memory for the chunk")
-    }
-
-    /// Asserts what a FORWARD-TSN says.
-    pub fn skips(&mut self, rt: &impl Abort, place: Place, tsn: u32, stream_id: u16, ssn: u16) {
-        let chunk = self.forward_tsn(rt);
-        let streams = [SkippedStream { stream_id, ssn }];
-        same(rt, place, chunk.new_cumulative_tsn, tsn);
-        match &chunk.skipped {
-            Skipped::Messages(_) => missing(rt, place, "streams"),
-            Skipped::Streams(skipped) => same(rt, place, skipped.as_slice(), streams.as_slice()),
+            .should_send_forward_tsn(&mut self.events, &mut self.queue, moment)
+        {
+            Err(_) => words.check_done(false),
+            Ok(is_due) => words.check("due", is_due as u128),
         }
     }
 
-    /// Asserts what an I-FORWARD-TSN says.
-    pub fn skips_messages(
-        &mut self,
-        rt: &impl Abort,
-        place: Place,
-        tsn: u32,
-        messages: &[SkippedMessages],
-    ) {
-        let chunk = self.forward_tsn(rt);
-        same(rt, place, chunk.new_cumulative_tsn, tsn);
-        match &chunk.skipped {
-            Skipped::Streams(_) => missing(rt, place, "messages"),
-            Skipped::Messages(skipped) => same(rt, place, skipped.as_slice(), messages),
+    // What a FORWARD-TSN says, as `Debug` writes it.
+    fn skip(&mut self, words: &mut Words) {
+        match self.sent.create_forward_tsn() {
+            Err(_) => words.check_done(false),
+            Ok(chunk) => is_shown(self.alloc, words, &chunk),
         }
     }
 
-    /// Asserts how a FORWARD-TSN writes what it skips.
-    pub fn skips_bytes(&mut self, rt: &impl Abort, place: Place, bytes: &[u8]) {
-        let written = self
-            .forward_tsn(rt)
-            .skipped_bytes(self.alloc)
-            .expect(rt, "memory for the bytes");
-        same(rt, place, written.as_slice(), bytes);
+    // How a FORWARD-TSN writes what it skips.
+    fn skip_bytes(&mut self, words: &mut Words) {
+        match self.sent.create_forward_tsn() {
+            Err(_) => words.check_done(false),
+            Ok(chunk) => match chunk.skipped_bytes(self.alloc) {
+                Err(_) => words.check_done(false),
+                Ok(bytes) => is_shown(self.alloc, words, &bytes),
+            },
+        }
     }
 
-    /// Outgoing streams are reset.
-    pub fn begin_reset(&mut self) {
-        self.sent.begin_reset_streams();
+    // The next event, as `Debug` writes it, or nothing.
+    fn tells(&mut self, words: &mut Words) {
+        match self.events.next_event() {
+            None => words.check_rest(""),
+            Some(event) => is_shown(self.alloc, words, &event),
+        }
     }
 
-    // The next event of a message's life, by its name and the message's.
-    fn next_told(&mut self) -> Option<(&'static str, u64)> {
-        // No test here has more events than this that name no message.
-        for _ in 0..100 {
-            let told = take_name(self.events.next_event()?);
-            if told.is_some() {
-                return told;
+    // What a line expects of the chunk of a TSN; its size is 0 where there is none.
+    fn chunk(&self, words: &mut Words) {
+        match self.sent.chunk(words.number()) {
+            None => words.check("size", 0),
+            Some(data) => shows(words, data),
+        }
+    }
+
+    // What a line expects of the queue and of the latest SACK.
+    fn state(&self, words: &mut Words) {
+        let deadline = self.sent.next_timeout();
+        words.check_all(
+            STATE,
+            &[
+                self.sent.cwnd() as u128,
+                self.sent.rwnd() as u128,
+                self.sent.next_tsn() as u128,
+                self.sent.last_assigned_tsn() as u128,
+                self.sent.unacked_items() as u128,
+                self.sent.rtx_packets_count() as u128,
+                self.sent.rtx_bytes_count() as u128,
+                self.sent.can_send_data() as u128,
+                self.sent.has_data_to_be_fast_retransmitted() as u128,
+                deadline.is_some() as u128,
+                millis(deadline.unwrap_or(SocketTime::zero())),
+                self.is_new as u128,
+                self.rtt.is_some() as u128,
+                self.rtt.unwrap_or(Duration::ZERO).as_nanos(),
+            ],
+        );
+    }
+
+    // Takes a line that begins with a number.
+    fn take_number(&mut self, words: &mut Words, keyword: &str) {
+        match keyword {
+            "now" => self.now = words.number(),
+            "name" => self.how.lifecycle_id = LifecycleId::new(words.number() as u64),
+            "lifetime" => self.how.lifetime = Some(Duration::from_millis(words.number() as u64)),
+            "times" => self.how.max_retransmissions = Some(words.short()),
+            "add" => {
+                let stream = StreamId(words.short());
+                let size = words.number();
+                self.add(words, stream, size);
             }
-        }
-        None
-    }
-
-    /// Asserts that no further event of a message's life comes.
-    pub fn tells_nothing(&mut self, rt: &impl Abort, place: Place) {
-        same(rt, place, self.next_told().is_none(), true);
-    }
-
-    /// Asserts which event of a message's life comes next.
-    pub fn tells(&mut self, rt: &impl Abort, place: Place, kind: &str, id: u64) {
-        match self.next_told() {
-            None => missing(rt, place, "event"),
-            Some((found_kind, found_id)) => {
-                same(rt, place, found_kind, kind);
-                same(rt, place, found_id, id);
+            "add-many" => self.add_many(words),
+            "sack-block" => {
+                let start = words.short();
+                let end = words.short();
+                self.sack(words, &[GapAckBlock { start, end }]);
             }
+            "chunk" => self.chunk(words),
+            _ => words.check_done(false),
         }
     }
 
-    /// Asserts what the chunk of a TSN is: FSN and size, and whether it begins or ends its message.
-    pub fn holds(
-        &self,
-        rt: &impl Abort,
-        place: Place,
-        tsn: u32,
-        numbers: (u32, usize),
-        ends: (bool, bool),
-    ) {
-        match self.sent.chunk(tsn) {
-            None => missing(rt, place, "chunk"),
-            Some(fragment) => {
-                same(rt, place, fragment.stream_id.0, 7);
-                same(rt, place, (fragment.fsn, fragment.payload.len()), numbers);
-                same(rt, place, (fragment.is_beginning, fragment.is_end), ends);
+    /// Takes a line.
+    pub fn take(&mut self, words: &mut Words) {
+        match words.next() {
+            "" => {}
+            "#" => words.name_test(),
+            "begin" => self.begin(words),
+            "send" => self.send(words),
+            "send-fast" => self.send_fast(words),
+            "sack" => self.sack(words, &[]),
+            "state" => self.state(words),
+            "tells" => self.tells(words),
+            keyword => self.take_forward(words, keyword),
+        }
+    }
+
+    // Takes a line on what is given up, or on the timer.
+    fn take_forward(&mut self, words: &mut Words, keyword: &str) {
+        match keyword {
+            "time-out" => {
+                let is_over = self.sent.handle_timeout(at(self.now));
+                words.check("is-over", is_over as u128);
             }
+            "forward" => self.forward(words),
+            "skip" => self.skip(words),
+            "skip-bytes" => self.skip_bytes(words),
+            "begin-reset" => self.sent.begin_reset_streams(),
+            "unordered" => self.how.unordered = true,
+            _ => self.take_number(words, keyword),
         }
     }
-
-    /// Asserts that there is no chunk of a TSN.
-    pub fn holds_none(&self, rt: &impl Abort, place: Place, tsn: u32) {
-        same(rt, place, self.sent.chunk(tsn).is_none(), true);
-    }
-
-    /// Asserts a number that the retransmission queue tells.
-    pub fn has(&self, rt: &impl Abort, place: Place, number: Number, expected: u64) {
-        same(rt, place, self.number(number), expected);
-    }
-
-    fn number(&self, number: Number) -> u64 {
-        match number {
-            Number::Cwnd => self.sent.cwnd() as u64,
-            Number::Rwnd => self.sent.rwnd() as u64,
-            Number::NextTsn => u64::from(self.sent.next_tsn()),
-            Number::LastAssignedTsn => u64::from(self.sent.last_assigned_tsn()),
-            Number::UnackedItems => self.sent.unacked_items() as u64,
-            Number::RtxPackets => self.sent.rtx_packets_count() as u64,
-            Number::RtxBytes => self.sent.rtx_bytes_count(),
-        }
-    }
-
-    /// Asserts the answer to a question.
-    pub fn is(&self, rt: &impl Abort, place: Place, question: Question, expected: bool) {
-        same(rt, place, self.answer(question), expected);
-    }
-
-    fn answer(&self, question: Question) -> bool {
-        match question {
-            Question::CanSend => self.sent.can_send_data(),
-            Question::HasFastRetransmit => self.sent.has_data_to_be_fast_retransmitted(),
-            Question::IsNew => self.is_new,
-        }
-    }
-}
-
-// The name of a lifecycle event, and the message that it names.
-fn name_of(event: &SocketEvent) -> Option<(&'static str, u64)> {
-    match event {
-        SocketEvent::OnLifecycleMessageFullySent(id) => Some(("fully sent", id.value())),
-        SocketEvent::OnLifecycleMessageDelivered(id) => Some(("delivered", id.value())),
-        SocketEvent::OnLifecycleMessageMaybeExpired(id) => Some(("maybe expired", id.value())),
-        SocketEvent::OnLifecycleMessageExpired(id) => Some(("expired", id.value())),
-        SocketEvent::OnLifecycleEnd(id) => Some(("end", id.value())),
-        _ => None,
-    }
-}
-
-// The same, and the event is done with: it is dropped on one way alone, and not in each arm.
-fn take_name(event: SocketEvent) -> Option<(&'static str, u64)> {
-    name_of(&event)
 }

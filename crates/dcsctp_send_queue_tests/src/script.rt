@@ -1,4 +1,25 @@
 //! What a test does to a queue and what it expects of it, as a text with a line for each step.
+//!
+//! `# NAME` names the test that follows. An empty line is passed over. S stands for a stream.
+//!
+//!     begin N N                   a new queue: the threshold of each stream, and that of all together
+//!     now N                       the moment from here on, in milliseconds; after `begin` it is 0
+//!     name N, lifetime N, times N, unordered
+//!                                 the next message has this name in events, lives so many milliseconds, is
+//!                                 sent again so often at most, or is unordered
+//!     add S BYTES                 a message
+//!     use-up N                    adds a message of one byte to stream 1 and takes it, so many times
+//!     fragment N [NUMBERS] [BYTES]    the next fragment, of at most N bytes; `size 0`: there is none
+//!     discard S N done N          is the message under way dropped, where it is this one?
+//!     prepare S, commit, roll-back    a reset of streams
+//!     hand-out N [S, ..]          the streams that are handed out, N at most
+//!     reset, interleave           a new association begins; messages are interleaved from now on
+//!     priority S N, threshold S N     gives the stream a priority or a threshold of its own
+//!     state S NUMBERS             what the queue answers
+//!     tells [EVENT]               the next event, as `Debug` writes it; without one: there is none
+//!
+//! NUMBERS are some of the names that `sender` lists, in that order, with a number behind each: 1 for what
+//! is so, 0 for what isn't.
 
 use crate::sender::Sender;
 use crate::words::Words;

@@ -1,0 +1,63 @@
+//! What a test does to the two queues and what it expects of them, as a text with a line for each step.
+//!
+//! `# NAME` names the test that follows. An empty line is passed over. S stands for a stream.
+//!
+//!     begin N N N N               new queues: the first TSN, the peer's window, and whether partial
+//!                                 reliability and interleaving were negotiated
+//!     now N                       the moment from here on, in milliseconds; after `begin` it is 0
+//!     name N, lifetime N, times N, unordered
+//!                                 the next message has this name in events, lives so many milliseconds, is
+//!                                 sent again so often at most, or is unordered
+//!     add S N, add-many N N       a message of so many bytes; so many messages on stream 1
+//!     send N [TSN, ..]            what goes into a packet of N bytes
+//!     send-fast N [TSN, ..]       the same, as a fast retransmission
+//!     sack N N valid N            a SACK of this cumulative TSN and window
+//!     sack-block N N N N valid N  the same, behind the offsets of the first and last TSN of a gap ack block
+//!     time-out is-over N          is the retransmission timer over?
+//!     begin-reset                 outgoing streams are reset
+//!     forward due N               is a FORWARD-TSN due?
+//!     skip CHUNK                  what it says, as `Debug` writes it
+//!     skip-bytes [BYTE, ..]       how it writes what it skips
+//!     chunk TSN NUMBERS           the chunk of a TSN; `size 0`: there is none
+//!     state NUMBERS               what the queue answers, and what the latest SACK did
+//!     tells [EVENT]               the next event, as `Debug` writes it; without one: there is none
+//!
+//! NUMBERS are some of the names that `line` lists, in that order, with a number behind each: 1 for what is
+//! so, 0 for what isn't. `expires` is in milliseconds, and `rtt` in nanoseconds.
+
+use crate::line::Line;
+use crate::words::Words;
+use std::alloc::AllocGlobal;
+use std::process::Abort;
+
+/// Takes the lines of a text one after the other.
+pub fn run<R: Abort + AllocGlobal>(rt: &R, text: &'static str) {
+    let mut line = Line::new(rt.alloc(), 0, 0, (false, false));
+    let mut words = Words {
+        test: "",
+        line: "",
+        rest: "",
+        lines: text,
+        fault: "",
+    };
+    take_lines(rt, &mut line, &mut words);
+}
+
+// Takes all lines, of each of which nothing may be left over.
+fn take_lines(rt: &impl Abort, line: &mut Line, words: &mut Words) {
+    for _ in 0..words.lines.len() {
+        words.next_line();
+        line.take(words);
+        if !words.rest.is_empty() || !words.fault.is_empty() {
+            fail(rt, words);
+        }
+        if words.lines.is_empty() {
+            return;
+        }
+    }
+}
+
+// Ends the test.
+fn fail(rt: &impl Abort, words: &Words) -> ! {
+    panic!(rt; "{}: {}: {}", words.test, words.line, words.fault)
+}
