@@ -13,21 +13,6 @@ pub fn same<T: PartialEq + Debug + Drop>(rt: &impl Abort, name: &str, found: T, 
     );
 }
 
-// This has to hold.
-pub fn holds(rt: &impl Abort, name: &str, it_holds: bool) {
-    assert!(rt; it_holds, "{name}");
-}
-
-// The two values of each row have to be equal.
-pub fn all_same<T: PartialEq + Debug>(rt: &impl Abort, rows: &[(&str, T, T)]) {
-    for (name, found, expected) in rows {
-        assert!(rt;
-            found == expected,
-            "{name}: {found:?} in place of {expected:?}"
-        );
-    }
-}
-
 // `Debug` has to write this text of the value.
 pub fn shows<T: Debug>(rt: &impl Abort, alloc: Global, name: &str, value: &T, expected: &str) {
     let shown = format!(in alloc; "{value:?}").expect(rt, "memory for the text");

@@ -1,6 +1,6 @@
 //! Moments, and the durations between them.
 
-use crate::checks::{all_same, holds, same};
+use crate::checks::same;
 use crate::identifiers::greater;
 use dcsctp_api::{SocketTime, socket_time_order};
 use std::time::Duration;
@@ -13,19 +13,14 @@ fn moments_stop_at_both_ends(rt: HostRuntime) {
     let zero = SocketTime::zero();
     let last = SocketTime::infinite_future();
     same(&rt, "the last in nanoseconds", last.as_nanos(), LAST_NANOS);
-    all_same(
+    let moments = (last + second, zero - second);
+    same(&rt, "a second beyond an end", moments, (last, zero));
+    let durations = (zero - last, last - zero);
+    same(
         &rt,
-        &[
-            ("the last and a second", last + second, last),
-            ("the first less a second", zero - second, zero),
-        ],
-    );
-    all_same(
-        &rt,
-        &[
-            ("from the last to the first", zero - last, Duration::ZERO),
-            ("from the first to the last", last - zero, Duration::MAX),
-        ],
+        "from end to end",
+        durations,
+        (Duration::ZERO, Duration::MAX),
     );
 }
 
@@ -34,15 +29,15 @@ fn moments_are_counted_in_nanoseconds(rt: HostRuntime) {
     let early = SocketTime::zero() + Duration::from_millis(1500);
     let late = early + Duration::from_nanos(1);
     let before = late - Duration::from_secs(1);
-    all_same(
+    let nanos = (early.as_nanos(), before.as_nanos());
+    same(
         &rt,
-        &[
-            ("early", early.as_nanos(), 1_500_000_000),
-            ("late less a second", before.as_nanos(), 500_000_001),
-        ],
+        "early, late less a second",
+        nanos,
+        (1_500_000_000, 500_000_001),
     );
     same(&rt, "between", late - early, Duration::from_nanos(1));
-    holds(&rt, "early is before late", early < late);
-    same(&rt, "greater", greater(late, early), late);
+    let compared = (early < late, greater(late, early));
+    same(&rt, "early is before late", compared, (true, late));
     socket_time_order();
 }
