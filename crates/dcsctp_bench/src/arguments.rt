@@ -9,8 +9,8 @@ pub enum Command {
     /// Carries messages.
     Messages(Plan),
 
-    /// Keeps pairs of connected sockets.
-    Hold(Holding),
+    /// Keeps so many pairs of connected sockets, each, where the flag says so, after 1 MiB went each way.
+    Hold(u32, bool),
 }
 
 /// Which messages are carried, and how.
@@ -41,16 +41,6 @@ pub struct Plan {
     pub shows_counts: bool,
 }
 
-/// Which pairs are kept.
-#[derive(Clone, Copy)]
-pub struct Holding {
-    /// How many pairs there are.
-    pub pairs: u32,
-
-    /// Each has carried 1 MiB each way.
-    pub is_used: bool,
-}
-
 // The most messages or pairs that a run may have.
 const MOST: u32 = 100_000_000;
 
@@ -72,29 +62,23 @@ impl Plan {
         }
     }
 
-    // The plan with what a word adds to it; none where the word says nothing.
-    fn with(self, word: &str) -> Option<Plan> {
-        let mut plan = self;
-        match word {
-            "unordered" => plan.is_unordered = true,
-            "zero-checksum" => plan.without_checksum = true,
-            "counts" => plan.shows_counts = true,
-            _ => return self.with_number(word),
+    // Adds what a word says; none where it says nothing.
+    fn add(&mut self, word: &str) -> Option<()> {
+        match word.split_once('=') {
+            None => match word {
+                "unordered" => self.is_unordered = true,
+                "zero-checksum" => self.without_checksum = true,
+                "counts" => self.shows_counts = true,
+                _ => return None,
+            },
+            Some(("streams", value)) => self.streams = u16::try_from(number(
+                value, 1, 65535,
+            )?).ok()?,
+            Some(("loss", value)) => self.loss = number(value, 0, 1000)?,
+            Some(("queued", value)) => self.queued = number(value, 0, MOST)?,
+            Some(_) => return None,
         }
-        Some(plan)
-    }
-
-    // The same for a word that has a number.
-    fn with_number(self, word: &str) -> Option<Plan> {
-        let (name, value) = word.split_once('=')?;
-        let mut plan = self;
-        match name {
-            "streams" => plan.streams = u16::try_from(number(value, 1, 65535)?).ok()?,
-            "loss" => plan.loss = number(value, 0, 1000)?,
-            "queued" => plan.queued = number(value, 0, MOST)?,
-            _ => return None,
-        }
-        Some(plan)
+        Some(())
     }
 }
 
@@ -107,41 +91,28 @@ fn number(text: &str, least: u32, most: u32) -> Option<u32> {
     Some(number)
 }
 
-// The count that this word is.
-fn count(word: Option<&String>) -> Option<u32> {
-    number(word?.as_str(), 1, MOST)
-}
-
-// The plan of messages that these words say.
-fn parse_plan(words: &[String]) -> Option<Plan> {
-    let messages = count(words.first())?;
-    let size = number(words.get(1)?.as_str(), 1, LONGEST)?;
-    let mut plan = Plan::new(messages, usize::try_from(size).ok()?);
-    for word in words.get(2..)? {
-        plan = plan.with(word.as_str())?;
+// The plan of so many messages that these words say, of which the first is their size.
+fn parse_plan(count: u32, words: &[String]) -> Option<Plan> {
+    let (first, rest) = words.split_first()?;
+    let size = number(first.as_str(), 1, LONGEST)?;
+    let mut plan = Plan::new(count, usize::try_from(size).ok()?);
+    for word in rest {
+        plan.add(word.as_str())?;
     }
     Some(plan)
 }
 
-// The pairs that these words say.
-fn parse_holding(words: &[String]) -> Option<Holding> {
-    let pairs = count(words.first())?;
-    let is_used = match words.get(1) {
-        None => false,
-        Some(word) if word.as_str() == "used" => true,
-        Some(_) => return None,
-    };
-    Some(Holding { pairs, is_used })
-}
-
 /// The command that these words say, without the name of the program; none where they say no command.
 pub fn parse_command(words: &[String]) -> Option<Command> {
-    let (name, rest) = words.split_first()?;
-    let command = match name.as_str() {
-        "handshakes" if rest.len() == 1 => Command::Handshakes(count(rest.first())?),
-        "messages" => Command::Messages(parse_plan(rest)?),
-        "hold" if rest.len() <= 2 => Command::Hold(parse_holding(rest)?),
-        _ => return None,
-    };
-    Some(command)
+    let count = number(words.get(1)?.as_str(), 1, MOST)?;
+    let rest = words.get(2..)?;
+    match words.first()?.as_str() {
+        "handshakes" if rest.is_empty() => Some(Command::Handshakes(count)),
+        "messages" => Some(Command::Messages(parse_plan(count, rest)?)),
+        "hold" if rest.is_empty() => Some(Command::Hold(count, false)),
+        "hold" if rest.len() == 1 && rest.first()?.as_str() == "used" => {
+            Some(Command::Hold(count, true))
+        }
+        _ => None,
+    }
 }

@@ -1,61 +1,54 @@
 //! What the program does at each command, and what it prints of it.
 
-use crate::arguments::{Command, Holding, Plan};
-use crate::end::BenchSocket;
+use crate::arguments::{Command, Plan};
 use crate::failure::Failure;
-use crate::ledger::Ledger;
-use crate::link::Side;
-use crate::pair::{Pair, options};
+use crate::pair::{BenchSocket, Pair};
 use crate::traffic::Traffic;
 use std::alloc::{AllocError, Global};
-use std::mem::size_of;
+use std::mem::{size_of, swap};
 
 /// Obeys a command, and prints what was done. Where it fails, what was done up to there is printed.
 pub fn obey(rt: &(impl Print + Alloc<A = Global>), command: Command) -> Result<(), Failure> {
     match command {
         Command::Handshakes(count) => shake_hands(rt, count),
         Command::Messages(plan) => carry(rt, &plan),
-        Command::Hold(holding) => hold(rt, holding),
+        Command::Hold(count, is_used) => hold(rt, count, is_used),
     }
 }
 
-// Makes two sockets, connects them and drops them.
-fn shake_hands_once(alloc: Global) -> Result<(), Failure> {
-    let mut pair = Pair::new(alloc, &options(false))?;
-    let outcome = pair.connect();
-    drop(pair);
-    outcome
-}
-
-// Does so many times, up to the first that fails, and counts those that were connected.
-fn connect_in_turn(alloc: Global, count: u32, connected: &mut u32) -> Result<(), Failure> {
-    for _ in 0..count {
-        shake_hands_once(alloc)?;
-        *connected = connected.saturating_add(1);
+// Carries 1 MiB each way.
+fn carry_both_ways(alloc: Global, pair: &mut Pair) -> Result<(), Failure> {
+    for _ in 0..2 {
+        let mut traffic = Traffic::new(alloc, &Plan::new(1024, 1024))?;
+        traffic.run(pair)?;
+        swap(&mut pair.a.socket, &mut pair.b.socket);
     }
     Ok(())
 }
 
+// Two connected sockets; where they are to be used, after 1 MiB went each way.
+fn connected(alloc: Global, is_used: bool) -> Result<Pair, Failure> {
+    let mut pair = Pair::new(alloc, false)?;
+    pair.connect()?;
+    if is_used {
+        carry_both_ways(alloc, &mut pair)?;
+    }
+    Ok(pair)
+}
+
+// Connects two sockets and drops them, so many times, up to the first that fails.
 fn shake_hands(rt: &(impl Print + Alloc<A = Global>), count: u32) -> Result<(), Failure> {
-    let mut connected = 0;
-    let outcome = connect_in_turn(rt.alloc(), count, &mut connected);
-    println!(rt; "connected {connected}")?;
+    let mut connections = 0u32;
+    let mut outcome = Ok(());
+    for _ in 0..count {
+        outcome = connected(rt.alloc(), false).map(drop);
+        if outcome.is_err() {
+            break;
+        }
+        connections = connections.saturating_add(1);
+    }
+    println!(rt; "connected {connections}")?;
     outcome
-}
-
-// Prints what has arrived.
-fn print_arrived(rt: &impl Print, ledger: &Ledger) -> Result<(), Failure> {
-    println!(rt; "messages {}", ledger.count)?;
-    println!(rt; "bytes {}", ledger.bytes)?;
-    Ok(())
-}
-
-// Prints how many packets were sent, and how many of them were lost.
-fn print_packets(rt: &impl Print, pair: &Pair) -> Result<(), Failure> {
-    println!(rt; "packets-out {}", pair.a.packets)?;
-    println!(rt; "packets-back {}", pair.b.packets)?;
-    println!(rt; "lost {}", pair.link.lost)?;
-    Ok(())
 }
 
 // Connects, and lets the messages run.
@@ -65,53 +58,39 @@ fn run(pair: &mut Pair, traffic: &mut Traffic, loss: u32) -> Result<(), Failure>
     traffic.run(pair)
 }
 
-fn carry(rt: &(impl Print + Alloc<A = Global>), plan: &Plan) -> Result<(), Failure> {
-    let mut traffic = Traffic::new(rt.alloc(), plan, Side::A)?;
-    let mut pair = Pair::new(rt.alloc(), &options(plan.without_checksum))?;
-    let outcome = run(&mut pair, &mut traffic, plan.loss);
-    print_arrived(rt, &traffic.ledger)?;
-    if plan.shows_counts {
-        print_packets(rt, &pair)?;
-    }
-    outcome
-}
-
-// Carries 1 MiB one way.
-fn carry_one_way(alloc: Global, pair: &mut Pair, from: Side) -> Result<(), Failure> {
-    let mut traffic = Traffic::new(alloc, &Plan::new(1024, 1024), from)?;
-    traffic.run(pair)
-}
-
-// Connects two sockets and, where they are to be used, carries 1 MiB each way.
-fn prepare(alloc: Global, pair: &mut Pair, is_used: bool) -> Result<(), Failure> {
-    pair.connect()?;
-    if is_used {
-        carry_one_way(alloc, pair, Side::A)?;
-        carry_one_way(alloc, pair, Side::B)?;
+// Prints what has arrived and, where asked, how many packets were sent, and how many of them were lost.
+fn print_carried(
+    rt: &impl Print,
+    pair: &Pair,
+    traffic: &Traffic,
+    shows_counts: bool,
+) -> Result<(), Failure> {
+    let (messages, bytes) = (traffic.ledger.count, traffic.ledger.bytes);
+    println!(rt; "messages {messages}\nbytes {bytes}")?;
+    if shows_counts {
+        let (out, back, lost) = (pair.a.packets, pair.b.packets, pair.link.lost);
+        println!(rt; "packets-out {out}\npackets-back {back}\nlost {lost}")?;
     }
     Ok(())
 }
 
-// Two connected sockets.
-fn connected(alloc: Global, is_used: bool) -> Result<(BenchSocket, BenchSocket), Failure> {
-    let mut pair = Pair::new(alloc, &options(false))?;
-    prepare(alloc, &mut pair, is_used)?;
-    Ok(pair.into_sockets())
+fn carry(rt: &(impl Print + Alloc<A = Global>), plan: &Plan) -> Result<(), Failure> {
+    let mut traffic = Traffic::new(rt.alloc(), plan)?;
+    let mut pair = Pair::new(rt.alloc(), plan.without_checksum)?;
+    let outcome = run(&mut pair, &mut traffic, plan.loss);
+    print_carried(rt, &pair, &traffic, plan.shows_counts)?;
+    outcome
 }
 
-// All pairs that are to be held. There is room for no other, so that each takes what it needs alone.
-fn held(alloc: Global, holding: Holding) -> Result<Vec<(BenchSocket, BenchSocket)>, Failure> {
-    let room = usize::try_from(holding.pairs).unwrap_or(0);
-    let mut pairs = Vec::with_capacity(alloc, room)?;
-    for _ in 0..holding.pairs {
-        pairs.push(connected(alloc, holding.is_used)?)?;
+// Makes pairs and keeps them. There is room for no other, so that each takes what it needs alone.
+fn hold(rt: &(impl Print + Alloc<A = Global>), count: u32, is_used: bool) -> Result<(), Failure> {
+    let room = usize::try_from(count).unwrap_or(0);
+    let mut pairs = Vec::<(BenchSocket, BenchSocket)>::with_capacity(rt.alloc(), room)?;
+    for _ in 0..count {
+        let pair = connected(rt.alloc(), is_used)?;
+        pairs.push(pair.into_sockets())?;
     }
-    Ok(pairs)
-}
-
-fn hold(rt: &(impl Print + Alloc<A = Global>), holding: Holding) -> Result<(), Failure> {
-    let pairs = held(rt.alloc(), holding)?;
-    println!(rt; "pairs {}", pairs.len())?;
-    println!(rt; "socket-bytes {}", size_of::<BenchSocket>())?;
+    let bytes = size_of::<BenchSocket>();
+    println!(rt; "pairs {}\nsocket-bytes {bytes}", pairs.len())?;
     Ok(())
 }

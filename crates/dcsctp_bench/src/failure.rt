@@ -2,44 +2,51 @@
 
 use dcsctp_socket::{ErrorKind, SendError, SocketFault};
 use std::alloc::{AllocError, AllocFailed};
+use std::fmt::{self, Display, Formatter};
 use std::io;
-use thiserror::Error;
 
 /// Why a run failed.
-#[derive(Clone, Copy, Debug, Error)]
+#[derive(Clone, Copy)]
 pub enum Failure {
     /// Memory ran out.
-    #[error("out of memory")]
     OutOfMemory,
 
     /// What was done could not be printed.
-    #[error("the output could not be written")]
     Output,
 
     /// The four packets were handed over, and a socket isn't connected.
-    #[error("not connected")]
     NotConnected,
 
     /// A socket told an error of this kind.
-    #[error("a socket told an error: {0:?}")]
     Told(ErrorKind),
 
     /// An association ended.
-    #[error("an association ended")]
     Ended,
 
     /// A socket took no message.
-    #[error("a message was refused: {0}")]
     Refused(SendError),
 
     /// A message is not the one that was sent: its stream, its length, its bytes, its place among those
     /// of its stream, or that it came before. It bears this number.
-    #[error("message {0} is wrong")]
     Wrong(u32),
 
     /// No message came for a long time. So many came before.
-    #[error("stuck after {0} messages")]
     Stuck(u32),
+}
+
+impl Display for Failure {
+    fn fmt<W: fmt::Write>(&self, f: &mut Formatter<W>) -> fmt::Result {
+        match self {
+            Failure::OutOfMemory => f.write_str("out of memory"),
+            Failure::Output => f.write_str("the output could not be written"),
+            Failure::NotConnected => f.write_str("not connected"),
+            Failure::Told(kind) => write!(f, "a socket told an error: {kind:?}"),
+            Failure::Ended => f.write_str("an association ended"),
+            Failure::Refused(error) => write!(f, "a message was refused: {error}"),
+            Failure::Wrong(number) => write!(f, "message {number} is wrong"),
+            Failure::Stuck(count) => write!(f, "stuck after {count} messages"),
+        }
+    }
 }
 
 impl From<AllocError> for Failure {

@@ -17,10 +17,8 @@
 
 mod arguments;
 mod commands;
-mod end;
 mod failure;
 mod ledger;
-mod link;
 mod pair;
 mod traffic;
 
@@ -34,25 +32,17 @@ const USAGE: &str = "usage: dcsctp_bench handshakes N
        dcsctp_bench messages N SIZE [unordered] [streams=K] [loss=PERMILLE] [queued=Q] [zero-checksum] [counts]
        dcsctp_bench hold N [used]";
 
-// The words behind the name of the program.
-fn words(rt: &(impl Env + Alloc<A = Global>)) -> io::Result<Vec<String>> {
+// The command that the arguments say; none where they say no command.
+fn command(rt: &(impl Env + Alloc<A = Global>)) -> io::Result<Option<Command>> {
     let mut words = Vec::new(rt.alloc());
     for word in env::args(rt)?.skip(1) {
         words.push(word)?;
     }
-    Ok(words)
-}
-
-// The command that the arguments say; none where they say no command, or can't be read.
-fn command(rt: &(impl Env + Alloc<A = Global>)) -> Option<Command> {
-    match words(rt) {
-        Ok(words) => parse_command(words.as_slice()),
-        Err(_) => None,
-    }
+    Ok(parse_command(words.as_slice()))
 }
 
 fn main(rt: HostRuntime) -> ExitCode {
-    let Some(command) = command(&rt) else {
+    let Ok(Some(command)) = command(&rt) else {
         let _ = eprintln!(rt; "{USAGE}");
         return ExitCode::from(2);
     };

@@ -1,23 +1,138 @@
-//! Two sockets and the link between them.
+//! Two sockets and the link between them: packets wait in it in the order in which they were sent.
 
-use crate::end::{BenchSocket, End};
+ghost use Rattle.dcsctp_machine.specs.Settings.{IsValid};
+
 use crate::failure::Failure;
-use crate::link::{Link, Side};
 use dcsctp_socket::{
-    Message, Options, SendOptions, SocketTime,
+    DcSctpSocket, Options, Socket, SocketEvent, SocketFault, SocketTime,
     ZERO_CHECKSUM_ALTERNATE_ERROR_DETECTION_METHOD_LOWER_LAYER_DTLS,
 };
-use std::alloc::Global;
+use rand_core::{Rng, SeedableRng};
+use rand_xoshiro::Xoshiro256PlusPlus;
+use std::alloc::{AllocError, Global};
+use std::collections::VecDeque;
 use std::time::Duration;
 
-/// The default options, where asked with an offer to go without checksums (RFC 9653).
-pub fn options(without_checksum: bool) -> Options {
-    let mut options = Options::default();
-    if without_checksum {
-        options.zero_checksum_alternate_error_detection_method =
-            ZERO_CHECKSUM_ALTERNATE_ERROR_DETECTION_METHOD_LOWER_LAYER_DTLS;
+/// A socket whose words a small generator gives.
+pub type BenchSocket = Socket<Xoshiro256PlusPlus>;
+
+/// One of two sockets.
+#[derive(Clone, Copy)]
+pub enum Side {
+    /// The one that connects, and then sends messages.
+    A,
+
+    /// The one that is connected to.
+    B,
+}
+
+// A packet under way, and whom it goes to.
+#[derive(Drop)]
+struct Parcel {
+    to: Side,
+    packet: Vec<u8>,
+}
+
+/// Packets under way, both ways.
+pub struct Link {
+    alloc: Global,
+    flying: VecDeque<Parcel>,
+
+    // Says which packets are lost.
+    rng: Xoshiro256PlusPlus,
+
+    /// So many of a thousand packets are lost.
+    pub loss: u32,
+
+    /// How many packets were lost.
+    pub lost: u64,
+}
+
+// Written out: a derived one would be proved at each exit of each function that has a link.
+impl Drop for Link {
+    fn drop(self) {
+        let Link {
+            alloc: _,
+            flying: _,
+            rng: _,
+            loss: _,
+            lost: _,
+        } = self;
     }
-    options
+}
+
+impl Link {
+    // Puts a copy of a packet behind all others, or loses it.
+    fn put(&mut self, to: Side, packet: &[u8]) -> Result<(), AllocError> {
+        if 0 < self.loss && self.rng.next_u32() % 1000 < self.loss {
+            self.lost = self.lost.saturating_add(1);
+            return Ok(());
+        }
+        let packet = Vec::from_slice(self.alloc, packet)?;
+        self.flying.push_back(Parcel { to, packet })?;
+        Ok(())
+    }
+}
+
+/// A socket, and what it has told.
+#[derive(Drop)]
+pub struct End {
+    pub socket: BenchSocket,
+
+    // Whom its packets go to.
+    peer: Side,
+
+    is_connected: bool,
+
+    /// How many packets it has sent.
+    pub packets: u64,
+}
+
+impl End {
+    // A closed socket, whose words come from a seed, and whose packets go to the other side.
+    fn new(alloc: Global, peer: Side, options: &Options, seed: u64) -> Result<End, SocketFault>
+        requires { IsValid options.now }
+    {
+        let rng = Xoshiro256PlusPlus::seed_from_u64(seed);
+        Ok(End {
+            socket: Socket::new(alloc, "bench", options, rng)?,
+            peer,
+            is_connected: false,
+            packets: 0,
+        })
+    }
+
+    // Notes an event: a packet goes by the link.
+    fn note(&mut self, link: &mut Link, event: &SocketEvent) -> Result<(), Failure> {
+        match event {
+            SocketEvent::SendPacket(packet) => {
+                self.packets = self.packets.saturating_add(1);
+                link.put(self.peer, packet.as_slice())?;
+            }
+            SocketEvent::OnConnected() => self.is_connected = true,
+            SocketEvent::OnError(kind, _) => return Err(Failure::Told(*kind)),
+            SocketEvent::OnClosed() | SocketEvent::OnAborted(..) => return Err(Failure::Ended),
+            _ => {}
+        }
+        Ok(())
+    }
+
+    /// Takes all events. It stands behind each call of the socket.
+    pub fn drain(&mut self, link: &mut Link) -> Result<(), Failure> {
+        for _ in 0..u64::MAX {
+            let Some(event) = self.socket.poll_event() else {
+                break;
+            };
+            self.note(link, &event)?;
+        }
+        Ok(())
+    }
+
+    // Takes a packet in.
+    fn take(&mut self, link: &mut Link, packet: &[u8]) -> Result<(), Failure> {
+        self.socket.handle_input(packet)?;
+        self.drain(link)
+    }
 }
 
 /// Two sockets, the link between them, and the present moment of both.
@@ -30,15 +145,30 @@ pub struct Pair {
 }
 
 impl Pair {
-    /// Two closed sockets with these options.
-    pub fn new(alloc: Global, options: &Options) -> Result<Pair, Failure> {
+    /// Two closed sockets with the default options, where asked with an offer to go without checksums
+    /// (RFC 9653), and a link that loses nothing.
+    pub fn new(alloc: Global, without_checksum: bool) -> Result<Pair, Failure> {
+        let mut options = Options::default();
+        if without_checksum {
+            options.zero_checksum_alternate_error_detection_method =
+                ZERO_CHECKSUM_ALTERNATE_ERROR_DETECTION_METHOD_LOWER_LAYER_DTLS;
+        }
         if !options.is_valid() {
             return Err(Failure::NotConnected);
         }
+        let a = End::new(alloc, Side::B, &options, 1)?;
+        let b = End::new(alloc, Side::A, &options, 2)?;
+        let link = Link {
+            alloc,
+            flying: VecDeque::new(alloc),
+            rng: Xoshiro256PlusPlus::seed_from_u64(7),
+            loss: 0,
+            lost: 0,
+        };
         Ok(Pair {
-            a: End::new(alloc, Side::A, options, 1)?,
-            b: End::new(alloc, Side::B, options, 2)?,
-            link: Link::new(alloc),
+            a,
+            b,
+            link,
             now: SocketTime::zero(),
         })
     }
@@ -50,28 +180,27 @@ impl Pair {
 
     /// Connects the two.
     pub fn connect(&mut self) -> Result<(), Failure> {
-        self.a.connect(&mut self.link)?;
+        self.a.socket.connect()?;
+        self.a.drain(&mut self.link)?;
         for _ in 0..u64::MAX {
             if self.deliver()?.is_none() {
                 break;
             }
         }
-        if self.a.is_connected && self.b.is_connected {
-            Ok(())
-        } else {
-            Err(Failure::NotConnected)
+        if !self.a.is_connected || !self.b.is_connected {
+            return Err(Failure::NotConnected);
         }
+        Ok(())
     }
 
     /// Hands over the packet that was sent first, and says to whom; none where no packet is under way.
     pub fn deliver(&mut self) -> Result<Option<Side>, Failure> {
-        let Some(parcel) = self.link.take() else {
+        let Some(parcel) = self.link.flying.pop_front() else {
             return Ok(None);
         };
-        let packet = parcel.packet.as_slice();
         match parcel.to {
-            Side::A => self.a.handle_input(&mut self.link, packet)?,
-            Side::B => self.b.handle_input(&mut self.link, packet)?,
+            Side::A => self.a.take(&mut self.link, parcel.packet.as_slice())?,
+            Side::B => self.b.take(&mut self.link, parcel.packet.as_slice())?,
         }
         Ok(Some(parcel.to))
     }
@@ -79,28 +208,9 @@ impl Pair {
     /// Lets time pass for both.
     pub fn pass(&mut self, time: Duration) -> Result<(), Failure> {
         self.now = self.now + time;
-        self.a.advance_time(&mut self.link, self.now)?;
-        self.b.advance_time(&mut self.link, self.now)
-    }
-
-    /// Sends a message from a side.
-    pub fn send(
-        &mut self,
-        from: Side,
-        message: Message,
-        options: &SendOptions,
-    ) -> Result<(), Failure> {
-        match from {
-            Side::A => self.a.send(&mut self.link, message, options),
-            Side::B => self.b.send(&mut self.link, message, options),
-        }
-    }
-
-    /// Takes the message that became ready first on a side, where one is ready.
-    pub fn get_next_message(&mut self, side: Side) -> Result<Option<Message>, Failure> {
-        match side {
-            Side::A => self.a.get_next_message(&mut self.link),
-            Side::B => self.b.get_next_message(&mut self.link),
-        }
+        self.a.socket.advance_time(self.now)?;
+        self.a.drain(&mut self.link)?;
+        self.b.socket.advance_time(self.now)?;
+        self.b.drain(&mut self.link)
     }
 }

@@ -6,8 +6,8 @@
 use crate::arguments::Plan;
 use crate::failure::Failure;
 use crate::ledger::Ledger;
-use crate::link::Side;
-use crate::pair::Pair;
+use crate::pair::{Pair, Side};
+use dcsctp_socket::{DcSctpSocket, SendOptions};
 use std::alloc::{AllocError, Global};
 use std::time::Duration;
 
@@ -20,11 +20,11 @@ const TICK: u64 = 10;
 // After so many ticks without a message it is said that none will come: 20 minutes.
 const PATIENCE: u32 = 120_000;
 
-/// Messages from one side to the other.
+/// Messages from the first socket of a pair to the second.
 #[derive(Drop)]
 pub struct Traffic {
-    from: Side,
     queued: u32,
+    options: SendOptions,
 
     /// Which messages have arrived.
     pub ledger: Ledger,
@@ -37,11 +37,13 @@ pub struct Traffic {
 }
 
 impl Traffic {
-    /// The messages of a plan, from this side.
-    pub fn new(alloc: Global, plan: &Plan, from: Side) -> Result<Traffic, AllocError> {
+    /// The messages of a plan.
+    pub fn new(alloc: Global, plan: &Plan) -> Result<Traffic, AllocError> {
+        let mut options = SendOptions::default();
+        options.unordered = plan.is_unordered;
         Ok(Traffic {
-            from,
             queued: plan.queued,
+            options,
             ledger: Ledger::new(alloc, plan)?,
             sent: 0,
             sent_bytes: 0,
@@ -51,16 +53,15 @@ impl Traffic {
 
     /// Sends all messages, until they have arrived.
     pub fn run(&mut self, pair: &mut Pair) -> Result<(), Failure> {
-        for _ in 0..self.queued {
-            self.send(pair)?;
-        }
+        self.give(pair, self.queued, u64::MAX)?;
         for _ in 0..u64::MAX {
             if self.ledger.count == self.ledger.total {
                 break;
             }
-            let has_given = self.give(pair)?;
+            let sent = self.sent;
+            self.give(pair, self.ledger.total, WINDOW)?;
             let has_moved = self.deliver(pair)?;
-            if !has_given && !has_moved {
+            if sent == self.sent && !has_moved {
                 self.wait(pair)?;
             }
         }
@@ -71,42 +72,36 @@ impl Traffic {
     fn send(&mut self, pair: &mut Pair) -> Result<(), Failure> {
         let message = self.ledger.message(self.sent)?;
         let bytes = u64::try_from(message.payload.len()).unwrap_or(u64::MAX);
-        pair.send(self.from, message, &self.ledger.options)?;
+        let answer = pair.a.socket.send(message, &self.options)?;
+        answer.map_err(Failure::Refused)?;
+        pair.a.drain(&mut pair.link)?;
         self.sent = self.sent.saturating_add(1);
         self.sent_bytes = self.sent_bytes.saturating_add(bytes);
         Ok(())
     }
 
-    // Is there a message to send, and room for it between the two users?
-    fn may_send(&self) -> bool {
-        let between = self.sent_bytes.saturating_sub(self.ledger.bytes);
-        self.sent < self.ledger.total && between < WINDOW
-    }
-
-    // Sends messages as long as there is room, and answers whether one was sent.
-    fn give(&mut self, pair: &mut Pair) -> Result<bool, Failure> {
-        let before = self.sent;
+    // Sends messages up to this number, as long as fewer bytes than the window are between the two users.
+    fn give(&mut self, pair: &mut Pair, end: u32, window: u64) -> Result<(), Failure> {
         for _ in 0..u64::MAX {
-            if !self.may_send() {
+            let between = self.sent_bytes.saturating_sub(self.ledger.bytes);
+            if end <= self.sent || window <= between {
                 break;
             }
             self.send(pair)?;
         }
-        Ok(before < self.sent)
+        Ok(())
     }
 
     // Hands over packets until none is under way, and answers whether there was one.
     fn deliver(&mut self, pair: &mut Pair) -> Result<bool, Failure> {
-        let to = self.from.other();
         let mut has_moved = false;
         for _ in 0..u64::MAX {
-            let Some(side) = pair.deliver()? else {
-                break;
-            };
-            has_moved = true;
-            if side == to {
-                self.take(pair)?;
+            match pair.deliver()? {
+                None => break,
+                Some(Side::A) => {}
+                Some(Side::B) => self.take(pair)?,
             }
+            has_moved = true;
         }
         Ok(has_moved)
     }
@@ -114,7 +109,9 @@ impl Traffic {
     // Takes the messages that are ready.
     fn take(&mut self, pair: &mut Pair) -> Result<(), Failure> {
         for _ in 0..u64::MAX {
-            let Some(message) = pair.get_next_message(self.from.other())? else {
+            let message = pair.b.socket.get_next_message();
+            pair.b.drain(&mut pair.link)?;
+            let Some(message) = message else {
                 break;
             };
             self.ledger.note(&message)?;
