@@ -1,36 +1,30 @@
 //! The loop that README shows.
 
-use crate::checks::same;
-use crate::packets::{COOKIE_ECHO, INIT, INIT_ACK};
+use crate::checks::{Line, fails, same};
+use crate::packets::packet_of;
 use dcsctp_example::{Told, client};
 use dcsctp_socket::{ErrorKind, SocketEvent};
 use dcsctp_testing::TwoWords;
-use std::alloc::Global;
 use std::process::Abort;
 
 // Bytes that are no packet, and the answer to the client's INIT.
-fn incoming(rt: &impl Abort, alloc: Global) -> Vec<Vec<u8>> {
-    let no_packet = Vec::from_array(alloc, [1, 2, 3]).expect(rt, "no bytes");
-    let init_ack = Vec::from_array(alloc, INIT_ACK).expect(rt, "no packet");
-    Vec::from_array(alloc, [no_packet, init_ack]).expect(rt, "no packets")
+fn incoming(rt: &impl Abort, line: Line<'_>) -> Vec<Vec<u8>> {
+    let no_packet = packet_of(rt, line, "010203");
+    let init_ack = packet_of(rt, line, "INIT_ACK");
+    Vec::from_array(line.alloc, [no_packet, init_ack]).expect(rt, "no packets")
 }
 
 // INIT and COOKIE ECHO have to come, and an error.
-fn connects(rt: &impl Abort, told: &Told) {
+fn connects(rt: &impl Abort, line: Line<'_>, told: &Told) {
     let [init, cookie_echo] = told.packets.as_slice() else {
-        rt.panic("there are not two packets")
+        fails(rt, line, "there are not two packets")
     };
-    same(rt, "INIT", init.as_slice(), INIT.as_slice());
-    same(
-        rt,
-        "COOKIE ECHO",
-        cookie_echo.as_slice(),
-        COOKIE_ECHO.as_slice(),
-    );
+    same(rt, line, init, &packet_of(rt, line, "INIT"));
+    same(rt, line, cookie_echo, &packet_of(rt, line, "COOKIE_ECHO"));
     let [SocketEvent::OnError(kind, _)] = told.events.as_slice() else {
-        rt.panic("there is not one error")
+        fails(rt, line, "there is not one error")
     };
-    same(rt, "the error", *kind, ErrorKind::ParseFailed);
+    same(rt, line, *kind, ErrorKind::ParseFailed);
 }
 
 #[test]
@@ -40,7 +34,12 @@ fn a_client_is_driven_by_a_loop(rt: HostRuntime) {
         first: 100,
         second: 6,
     };
-    let packets = incoming(&rt, rt.alloc());
+    let line = Line {
+        alloc: rt.alloc(),
+        number: 0,
+        text: "a client",
+    };
+    let packets = incoming(&rt, line);
     let told = client(rt.alloc(), generator, &packets).expect(&rt, "a call failed");
-    connects(&rt, &told);
+    connects(&rt, line, &told);
 }

@@ -1,8 +1,8 @@
 //! Tests of `dcsctp_socket` by its public calls: packets that were put together by hand, and what comes
 //! of them.
 //!
-//! A helper asserts and returns no error, and a socket is dropped by a call: each early end of a function
-//! that owns a socket, and each end of a block, is proved to give all of it back.
+//! A test is a script, which one runner goes through (`script`): a text costs the prover nothing, however long
+//! it is. A helper asserts and returns no error, and a socket is lent to it.
 #![tactic(auto)]
 
 #[cfg(test)]
@@ -13,6 +13,8 @@ mod association;
 mod checks;
 #[cfg(test)]
 mod closing;
+#[cfg(test)]
+mod commands;
 #[cfg(test)]
 mod cookie_echo;
 #[cfg(test)]
@@ -36,8 +38,10 @@ mod pairs;
 #[cfg(test)]
 mod plenty;
 #[cfg(test)]
+mod script;
+#[cfg(test)]
 mod settings;
 #[cfg(test)]
-mod sockets;
+mod stage;
 #[cfg(test)]
 mod told;

@@ -1,162 +1,117 @@
 //! How a message fares, told under its name; and the texts of refusals.
 
-use crate::checks::same;
-use crate::packets::{COOKIE_ECHO, INIT_ACK, unchecked_packet};
-use crate::sockets::{begins, opens, sends, socket_of_seven, takes, tells_nothing, waits};
-use crate::told::{message, sends_message, tells, tells_first};
-use dcsctp_socket::{
-    BatchSendError, DcSctpSocket, LifecycleId, SendError, SendOptions, Socket, StreamId,
-};
-use dcsctp_testing::TwoWords;
+use crate::checks::{Line, same};
+use crate::script::run;
+use dcsctp_socket::{BatchSendError, SendError};
 use std::alloc::Global;
 use std::fmt::Display;
 use std::process::Abort;
-use std::time::Duration;
 
-// A message of this name.
-fn named(name: u64) -> SendOptions {
-    let mut options = SendOptions::default();
-    options.lifecycle_id = LifecycleId::new(name);
-    options
-}
+const FATES: &str = r#"
+    == a refused message ends and is an error
+    sending lifecycle_id 5
+    A send 1 0 = Err(EmptyPayload)
+    A tells OnLifecycleEnd(5)
+    A tells OnError(ProtocolViolation, "Unable to send empty message")
+    sending all default
+    A send 1 262145 = Err(MessageTooLarge { len: 262145, limit: 262144 })
+    A tells OnError(ProtocolViolation, "Unable to send too large message")
+    sending lifecycle_id 6
+    A send 1 1 = Ok(())
 
-// A socket of tag 7 that doesn't tell that little waits on stream 1.
-fn quiet_socket(rt: &impl Abort, alloc: Global) -> Socket<TwoWords> {
-    let mut socket = socket_of_seven(rt, alloc);
-    socket
-        .set_buffered_amount_low_threshold(StreamId(1), 5000)
-        .expect(rt, "a threshold");
-    socket
-}
+    // A doesn't tell that little waits on stream 1.
+    == a message is fully sent and then delivered
+    // one byte, in a packet of 12 + 16 + 4 bytes, and a SACK of TSN 100
+    A sets threshold 1 5000
+    A opens
+    sending lifecycle_id 5
+    A send 1 1 = Ok(())
+    A tells OnLifecycleMessageFullySent(5)
+    A sends any of 32
+    A takes 13881388 00000007 00000000 03000010 00000064 00100000 00000000
+    A tells OnLifecycleMessageDelivered(5)
+    A tells OnLifecycleEnd(5)
+    A takes 13881388 00000007 00000000 03000010 00000064 00100000 00000000
+
+    // 2,000 bytes are 1,160 and 840: the second packet has 12 + 16 + 840. The SACK of the first fragment alone
+    // delivers no message
+    == by its last fragment
+    A sets threshold 1 5000
+    A opens
+    sending lifecycle_id 5
+    A send 1 2000 = Ok(())
+    A sends any of 1188
+    A tells OnLifecycleMessageFullySent(5)
+    A sends any of 868
+    A takes 13881388 00000007 00000000 03000010 00000064 00100000 00000000
+    A takes 13881388 00000007 00000000 03000010 00000065 00100000 00000000
+    A tells OnLifecycleMessageDelivered(5)
+    A tells OnLifecycleEnd(5)
+
+    == it has waited for 200 milliseconds when the INIT ACK comes
+    A sets threshold 1 5000
+    sending lifecycle_id 5
+    sending lifetime 100
+    A send 1 1 = Ok(())
+    A connects
+    A sends INIT
+    A waits 200
+    A takes INIT_ACK
+    A tells OnLifecycleMessageExpired(5)
+    A tells OnLifecycleEnd(5)
+    A sends COOKIE_ECHO
+    A amount 1 = 0
+
+    == it may not be sent again, and isn't acknowledged in 500 milliseconds
+    A sets threshold 1 5000
+    A opens
+    sending lifecycle_id 5
+    sending max_retransmissions 0
+    A send 1 1 = Ok(())
+    A tells OnLifecycleMessageFullySent(5)
+    A sends any of 32
+    A waits 499
+    A waits 500
+    A tells OnLifecycleMessageMaybeExpired(5)
+    A tells OnLifecycleEnd(5)
+    A sends any
+"#;
 
 #[test]
-fn a_refused_message_ends_and_is_an_error(rt: HostRuntime) {
-    let alloc = rt.alloc();
-    let mut socket = socket_of_seven(&rt, alloc);
-    let refused = Err(SendError::EmptyPayload);
-    let empty = message(&rt, alloc, 1, 0);
-    sends_message(&rt, &mut socket, empty, &named(5), refused);
-    let told = [("end", 5), ("Unable to send empty message", 0)];
-    tells(&rt, &mut socket, "with a name", &told);
-    let refused = Err(SendError::MessageTooLarge {
-        len: 262_145,
-        limit: 262_144,
-    });
-    let long = message(&rt, alloc, 1, 262_145);
-    let plain = SendOptions::default();
-    sends_message(&rt, &mut socket, long, &plain, refused);
-    let told = [("Unable to send too large message", 0)];
-    tells(&rt, &mut socket, "without a name", &told);
-    let one = message(&rt, alloc, 1, 1);
-    sends_message(&rt, &mut socket, one, &named(6), Ok(()));
-    tells_nothing(&rt, &mut socket);
-    drop(socket);
-}
-
-// A SACK of TSN 100 comes for a message of one byte, which goes out in a packet of 12 + 16 + 4 bytes.
-#[test]
-fn a_message_is_sent_and_then_delivered(rt: HostRuntime) {
-    let alloc = rt.alloc();
-    let mut socket = quiet_socket(&rt, alloc);
-    opens(&rt, &mut socket);
-    let one = message(&rt, alloc, 1, 1);
-    sends_message(&rt, &mut socket, one, &named(5), Ok(()));
-    let sent = [("fully sent", 5), ("packet", 32)];
-    tells(&rt, &mut socket, "sent", &sent);
-    let sack = [3, 0, 0, 16, 0, 0, 0, 100, 0, 0x10, 0, 0, 0, 0, 0, 0];
-    let packet = unchecked_packet(&rt, alloc, 7, &[&sack]);
-    takes(&rt, &mut socket, &packet);
-    let delivered = [("delivered", 5), ("end", 5)];
-    tells(&rt, &mut socket, "delivered", &delivered);
-    takes(&rt, &mut socket, &packet);
-    tells_nothing(&rt, &mut socket);
-    drop(socket);
-}
-
-// 2,000 bytes are 1,160 and 840: the second packet has 12 + 16 + 840 bytes. A SACK of the first fragment alone, of
-// TSN 100, delivers no message.
-#[test]
-fn a_message_is_fully_sent_by_its_last_fragment(rt: HostRuntime) {
-    let alloc = rt.alloc();
-    let mut socket = quiet_socket(&rt, alloc);
-    opens(&rt, &mut socket);
-    let long = message(&rt, alloc, 1, 2000);
-    sends_message(&rt, &mut socket, long, &named(5), Ok(()));
-    let sent = [("packet", 1188), ("fully sent", 5), ("packet", 868)];
-    tells(&rt, &mut socket, "sent", &sent);
-    let first = [3, 0, 0, 16, 0, 0, 0, 100, 0, 0x10, 0, 0, 0, 0, 0, 0];
-    let first = unchecked_packet(&rt, alloc, 7, &[&first]);
-    takes(&rt, &mut socket, &first);
-    tells_nothing(&rt, &mut socket);
-    let second = [3, 0, 0, 16, 0, 0, 0, 101, 0, 0x10, 0, 0, 0, 0, 0, 0];
-    let second = unchecked_packet(&rt, alloc, 7, &[&second]);
-    takes(&rt, &mut socket, &second);
-    let delivered = [("delivered", 5), ("end", 5)];
-    tells(&rt, &mut socket, "delivered", &delivered);
-    drop(socket);
-}
-
-// It has waited for 200 milliseconds when the INIT ACK comes.
-#[test]
-fn a_message_expires_before_it_is_sent(rt: HostRuntime) {
-    let alloc = rt.alloc();
-    let mut socket = quiet_socket(&rt, alloc);
-    let mut options = named(5);
-    options.lifetime = Some(Duration::from_millis(100));
-    let one = message(&rt, alloc, 1, 1);
-    sends_message(&rt, &mut socket, one, &options, Ok(()));
-    begins(&rt, &mut socket);
-    waits(&rt, &mut socket, 200);
-    takes(&rt, &mut socket, &INIT_ACK);
-    tells_first(&rt, &mut socket, "expired", &[("expired", 5), ("end", 5)]);
-    sends(&rt, &mut socket, "COOKIE ECHO", &COOKIE_ECHO);
-    same(&rt, "waits", socket.buffered_amount(StreamId(1)), 0);
-    drop(socket);
-}
-
-// It may not be sent again, and isn't acknowledged in 500 milliseconds.
-#[test]
-fn a_message_may_have_expired_once_it_was_sent(rt: HostRuntime) {
-    let alloc = rt.alloc();
-    let mut socket = quiet_socket(&rt, alloc);
-    opens(&rt, &mut socket);
-    let mut options = named(5);
-    options.max_retransmissions = Some(0);
-    let one = message(&rt, alloc, 1, 1);
-    sends_message(&rt, &mut socket, one, &options, Ok(()));
-    let sent = [("fully sent", 5), ("packet", 32)];
-    tells(&rt, &mut socket, "sent", &sent);
-    waits(&rt, &mut socket, 499);
-    tells_nothing(&rt, &mut socket);
-    waits(&rt, &mut socket, 500);
-    let given_up = [("maybe expired", 5), ("end", 5)];
-    tells_first(&rt, &mut socket, "given up", &given_up);
-    drop(socket);
+fn a_message_is_followed_by_its_name(rt: HostRuntime) {
+    run(&rt, rt.alloc(), FATES);
 }
 
 // `Display` has to write this text.
 fn is_displayed_as<T: Display>(rt: &impl Abort, alloc: Global, value: &T, expected: &str) {
     let text = format!(in alloc; "{value}").expect(rt, "memory for the text");
-    same(rt, "Display", text.as_str(), expected);
+    let line = Line {
+        alloc,
+        number: 0,
+        text: "Display",
+    };
+    same(rt, line, text.as_str(), expected);
 }
+
+const TOO_LARGE: SendError = SendError::MessageTooLarge { len: 4, limit: 3 };
+
+static REFUSALS: [(SendError, &str); 4] = [
+    (SendError::EmptyPayload, "message payload cannot be empty"),
+    (
+        TOO_LARGE,
+        "message size (4) exceeds configured max_message_size (3)",
+    ),
+    (SendError::ResourceExhaustion, "send queue is full"),
+    (SendError::ShuttingDown, "socket is shutting down or closed"),
+];
 
 #[test]
 fn refusals_are_displayed(rt: HostRuntime) {
-    let too_large = SendError::MessageTooLarge { len: 4, limit: 3 };
-    let rows = [
-        (SendError::EmptyPayload, "message payload cannot be empty"),
-        (
-            too_large,
-            "message size (4) exceeds configured max_message_size (3)",
-        ),
-        (SendError::ResourceExhaustion, "send queue is full"),
-        (SendError::ShuttingDown, "socket is shutting down or closed"),
-    ];
     let alloc = rt.alloc();
-    for (error, text) in &rows {
+    for (error, text) in &REFUSALS {
         is_displayed_as(&rt, alloc, error, text);
     }
-    let refused = [(0, SendError::EmptyPayload), (2, too_large)];
+    let refused = [(0, SendError::EmptyPayload), (2, TOO_LARGE)];
     let refused = Vec::from_array(alloc, refused).expect(&rt, "no list");
     is_displayed_as(
         &rt,

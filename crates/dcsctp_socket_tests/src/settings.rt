@@ -1,46 +1,37 @@
 //! What a user sets of a socket, and reads of it.
 
-use crate::checks::same;
-use crate::sockets::{socket_of_seven, tells_nothing};
-use dcsctp_socket::{DcSctpSocket, Socket, StreamId};
-use dcsctp_testing::TwoWords;
-use std::process::Abort;
+use crate::script::run;
 
-// The priority, the threshold and the buffered amount of a stream.
-fn shows(rt: &impl Abort, socket: &Socket<TwoWords>, name: &str, id: u16, expected: [usize; 3]) {
-    let id = StreamId(id);
-    let found = [
-        socket.get_stream_priority(id) as usize,
-        socket.buffered_amount_low_threshold(id),
-        socket.buffered_amount(id),
-    ];
-    same(rt, name, found, expected);
-}
+const SETTINGS: &str = r#"
+    == a stream keeps what is set
+    // 1 at first
+    A priority 1 = 256
+    A threshold 1 = 0
+    A amount 1 = 0
+    // 1 with a priority
+    A sets priority 1 5
+    A priority 1 = 5
+    A threshold 1 = 0
+    A amount 1 = 0
+    // 1 with both
+    A sets threshold 1 7
+    A priority 1 = 5
+    A threshold 1 = 7
+    A amount 1 = 0
+    // 2
+    A priority 2 = 256
+    A threshold 2 = 0
+    A amount 2 = 0
 
-#[test]
-fn a_stream_keeps_what_is_set(rt: HostRuntime) {
-    let mut socket = socket_of_seven(&rt, rt.alloc());
-    shows(&rt, &socket, "1 at first", 1, [256, 0, 0]);
-    socket
-        .set_stream_priority(StreamId(1), 5)
-        .expect(&rt, "a priority");
-    shows(&rt, &socket, "1 with a priority", 1, [5, 0, 0]);
-    socket
-        .set_buffered_amount_low_threshold(StreamId(1), 7)
-        .expect(&rt, "a threshold");
-    shows(&rt, &socket, "1 with both", 1, [5, 7, 0]);
-    shows(&rt, &socket, "2", 2, [256, 0, 0]);
-    tells_nothing(&rt, &mut socket);
-    drop(socket);
-}
+    == the longest message is set
+    A longest = 262144
+    A sets longest 12
+    A longest = 12
+    // another option
+    A mtu = 1191
+"#;
 
 #[test]
-fn the_longest_message_is_set(rt: HostRuntime) {
-    let mut socket = socket_of_seven(&rt, rt.alloc());
-    same(&rt, "default", socket.options().max_message_size, 262144);
-    socket.set_max_message_size(12);
-    same(&rt, "set", socket.options().max_message_size, 12);
-    same(&rt, "another option", socket.options().mtu, 1191);
-    tells_nothing(&rt, &mut socket);
-    drop(socket);
+fn a_socket_keeps_what_is_set(rt: HostRuntime) {
+    run(&rt, rt.alloc(), SETTINGS);
 }

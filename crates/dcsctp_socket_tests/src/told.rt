@@ -1,69 +1,58 @@
-//! What a socket tells of messages, by short names; and messages that it is given.
+//! What a socket tells next.
 
-use crate::checks::same;
-use crate::sockets::tells_nothing;
-use dcsctp_socket::{
-    DcSctpSocket, Message, PpId, SendError, SendOptions, Socket, SocketEvent, StreamId,
-};
+use crate::checks::{Line, fails, same, shows, value_of};
+use crate::packets::packet_of;
+use dcsctp_socket::{DcSctpSocket, Socket, SocketEvent};
 use dcsctp_testing::TwoWords;
-use std::alloc::Global;
 use std::process::Abort;
 
-// A message of so many zeros on this stream.
-pub fn message(rt: &impl Abort, alloc: Global, stream: u16, len: usize) -> Message {
-    let mut payload = Vec::new(alloc);
-    payload.resize(len, 0).expect(rt, "no bytes");
-    Message::new(StreamId(stream), PpId(51), payload)
+// The events of a packet that can't be read, and of one under tag 0 that isn't an INIT alone.
+const UNREADABLE: &str = r#"OnError(ParseFailed, "Failed to parse SCTP packet")"#;
+
+const NO_INIT: &str =
+    r#"OnError(ParseFailed, "Only a single INIT chunk can be present in packets sent on verification_tag = 0")"#;
+
+/// No event may be left.
+pub fn is_quiet(rt: &impl Abort, line: Line<'_>, socket: &mut Socket<TwoWords>) {
+    shows(rt, line, &socket.poll_event(), "None");
 }
 
-// Sends such a message, which has to be answered so.
-pub fn sends_message(
-    rt: &impl Abort,
-    socket: &mut Socket<TwoWords>,
-    message: Message,
-    options: &SendOptions,
-    expected: Result<(), SendError>,
-) {
-    let answer = socket.send(message, options).expect(rt, "a message");
-    same(rt, "the answer", answer, expected);
-}
-
-// The event by a name and a number: of a packet that is its length, of an error its text stands in place of a
-// name.
-fn name_of(event: &SocketEvent) -> (&str, u64) {
-    match event {
-        SocketEvent::SendPacket(packet) => ("packet", packet.len() as u64),
-        SocketEvent::OnConnected() => ("connected", 0),
-        SocketEvent::OnError(_, text) => (text.as_str(), 0),
-        SocketEvent::OnBufferedAmountLow(id) => ("low", u64::from(id.0)),
-        SocketEvent::OnTotalBufferedAmountLow() => ("all low", 0),
-        SocketEvent::OnLifecycleMessageFullySent(id) => ("fully sent", id.value()),
-        SocketEvent::OnLifecycleMessageMaybeExpired(id) => ("maybe expired", id.value()),
-        SocketEvent::OnLifecycleMessageExpired(id) => ("expired", id.value()),
-        SocketEvent::OnLifecycleMessageDelivered(id) => ("delivered", id.value()),
-        SocketEvent::OnLifecycleEnd(id) => ("end", id.value()),
-        _ => ("another event", 0),
+/// The next event has to be this one.
+pub fn tells(rt: &impl Abort, line: Line<'_>, socket: &mut Socket<TwoWords>, event: &str) {
+    let expected = match event {
+        "UNREADABLE" => UNREADABLE,
+        "NO_INIT" => NO_INIT,
+        event => event,
+    };
+    match socket.poll_event() {
+        Some(found) => shows(rt, line, &found, expected),
+        None => fails(rt, line, "no event is left"),
     }
 }
 
-// The next events have to be these.
-pub fn tells_first(
+/// The next event has to be this packet, or one of so many bytes, and is given.
+pub fn sends(
     rt: &impl Abort,
+    line: Line<'_>,
     socket: &mut Socket<TwoWords>,
-    name: &str,
-    expected: &[(&str, u64)],
-) {
-    for event in expected {
-        let Some(found) = socket.poll_event() else {
-            rt.panic("an event is missing")
-        };
-        same(rt, name, name_of(&found), *event);
-        drop(found);
+    words: &str,
+) -> Vec<u8> {
+    let packet = next_packet(rt, line, socket);
+    is_packet(rt, line, &packet, words);
+    packet
+}
+
+fn next_packet(rt: &impl Abort, line: Line<'_>, socket: &mut Socket<TwoWords>) -> Vec<u8> {
+    match socket.poll_event() {
+        Some(SocketEvent::SendPacket(packet)) => packet,
+        _ => fails(rt, line, "no packet was sent"),
     }
 }
 
-// The next events have to be these, and no event may follow.
-pub fn tells(rt: &impl Abort, socket: &mut Socket<TwoWords>, name: &str, expected: &[(&str, u64)]) {
-    tells_first(rt, socket, name, expected);
-    tells_nothing(rt, socket);
+fn is_packet(rt: &impl Abort, line: Line<'_>, packet: &[u8], words: &str) {
+    match words.strip_prefix("any of ") {
+        _ if words == "any" => {}
+        Some(len) => same(rt, line, packet.len(), value_of(rt, line, len)),
+        None => same(rt, line, packet, packet_of(rt, line, words).as_slice()),
+    }
 }
