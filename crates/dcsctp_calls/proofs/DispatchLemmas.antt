@@ -1,14 +1,15 @@
--- Turns of chunks that break the protocol, of a SHUTDOWN ACK, a SHUTDOWN COMPLETE and of those that aren't known.
+-- Turns of chunks that break the protocol, of a SHUTDOWN ACK, a SHUTDOWN COMPLETE, heartbeats, an ERROR and of those that aren't known.
 use Rattle.std.proofs.Common.{◌≡◌, ◌==◌, ℕ, Bool, true, false, cond, Option, None, Some, List, [], ◌∷◌, refl, sym, ap, subst, ◌∙◌}
 use Rattle.std.proofs.lemmas.List.{append-nil}
 use Rattle.rand_core.specs.Stream.{Stream}
 use Rattle.dcsctp_wire.specs.declared.chunk.Chunk.{Chunk}
 use Rattle.dcsctp_wire.specs.declared.chunk.Chunk.TheVariants as kinds
-use Rattle.dcsctp_wire.specs.Content.{chunk_content}
+use Rattle.dcsctp_wire.specs.Content.{chunk_content, error_chunk}
 use Rattle.dcsctp_machine.specs.declared.ends.Violation.{Violation}
 use Rattle.dcsctp_machine.specs.declared.ends.AbortReason.TheVariants as reasons
+use Rattle.dcsctp_machine.specs.Cause.{Cause}
 use Rattle.dcsctp_machine.specs.Event.{Event}
-use Rattle.dcsctp_machine.specs.Packet.{Plain, Content, content_in, init, init_ack, cookie_echo, cookie_ack, re_config, abort, shutdown, shutdown_ack, shutdown_complete, plain, unknown, heartbeat, heartbeat_ack, Emission}
+use Rattle.dcsctp_machine.specs.Packet.{Plain, Content, content_in, init, init_ack, cookie_echo, cookie_ack, re_config, abort, shutdown, shutdown_ack, shutdown_complete, plain, unknown, heartbeat, heartbeat_ack, unworked, Emission}
 use Rattle.dcsctp_wire.specs.Content.{ParameterContent}
 use Rattle.dcsctp_machine.specs.turns.HeartbeatOutcomes.{heartbeat_outcome, heartbeat_ack_outcome, answered}
 use Rattle.dcsctp_heartbeat.specs.Heartbeats.{heartbeat_turn, heartbeat_ack_turn}
@@ -18,7 +19,7 @@ use Rattle.dcsctp_machine.specs.Following.{next_chunk, dropped_rest}
 use Rattle.dcsctp_machine.specs.Turn.{ContentTurn}
 use Rattle.dcsctp_machine.specs.CallTurns.{Turned, ChunkTurns}
 use Rattle.dcsctp_machine.specs.turns.EndOutcomes.{aborting_outcome, reflected_outcome, ShutdownAckTurn, ShutdownCompleteTurn}
-use Rattle.dcsctp_machine.specs.turns.PlainOutcomes.{violation_at, PlainTurnBy, PlainTurn}
+use Rattle.dcsctp_machine.specs.turns.PlainOutcomes.{violation_at, PlainTurnBy, PlainTurn, error_outcome}
 use Rattle.dcsctp_core.specs.declared.state.State.{State}
 use Rattle.dcsctp_core.specs.declared.state.State.TheVariants.{Closed, CookieWait, CookieEchoed, Established}
 use Rattle.dcsctp_core.specs.declared.context.Context.{Context}
@@ -26,7 +27,7 @@ use Rattle.dcsctp_core.specs.declared.following.Following.TheVariants.{NextChunk
 use Rattle.dcsctp_core.specs.View.{View, core_of, endpoint_of, view_of, Moves, MovesAll, CutTurn}
 use Rattle.dcsctp_core.specs.Handling.{TakesIn, CutIn}
 use Rattle.dcsctp_core.proofs.Moving.{moves_one, moves_still}
-use Rattle.dcsctp_ends.specs.Ends.{violation_in, aborting_turn, shutdown_ack_turn}
+use Rattle.dcsctp_ends.specs.Ends.{violation_in, aborting_turn, shutdown_ack_turn, error_turn}
 use Rattle.dcsctp_calls.specs.Parts.{ChunkMoves, ChunkCut, AckMoves}
 use Rattle.dcsctp_calls.specs.Unknown.{unknown_turn}
 use Rattle.dcsctp_calls.proofs.AckLoop.{no_ack}
@@ -188,6 +189,18 @@ heartbeat_is context tag parameters none = plain_at (endpoint_of context) (heart
 pub heartbeat_ack_is : {R : Type 0} (context : Context R) (tag : ℕ) (parameters : List ParameterContent) → violation_at (core_of context.state) (heartbeat_ack parameters) ≡ None
     → ContentTurn (endpoint_of context) tag (plain (heartbeat_ack parameters)) (heartbeat_ack_turn parameters (view_of context))
 heartbeat_ack_is context tag parameters none = plain_at (endpoint_of context) (heartbeat_ack parameters) (heartbeat_ack_turn parameters (view_of context)) none refl
+
+-- ---- an ERROR
+
+pub error_follows : (e : Endpoint) (core : Core) (causes : List Cause) → (error_outcome e core causes).following ≡ next_chunk
+error_follows e closed causes = refl
+error_follows e (cookie_wait my) causes = refl
+error_follows e (cookie_echoed my held cookie) causes = refl
+error_follows e (open_in phase my held) causes = refl
+
+pub error_is : {R : Type 0} (context : Context R) (tag : ℕ) (causes : List Cause) → violation_at (core_of context.state) (unworked (error_chunk causes)) ≡ None
+    → ContentTurn (endpoint_of context) tag (plain (unworked (error_chunk causes))) (error_turn causes (view_of context))
+error_is context tag causes none = plain_at (endpoint_of context) (unworked (error_chunk causes)) (error_turn causes (view_of context)) none refl
 
 -- ---- turns that may turn out in more than one way
 

@@ -12,7 +12,9 @@ use dcsctp_core::{Context, Following};
 use dcsctp_data::{
     handle_data, handle_forward_tsn, handle_i_data, handle_i_forward_tsn, handle_sack,
 };
-use dcsctp_ends::{abort_association, handle_abort, handle_shutdown_ack, violation_of};
+use dcsctp_ends::{
+    abort_association, handle_abort, handle_error, handle_shutdown_ack, violation_of,
+};
 use dcsctp_handshake::{handle_cookie_ack, handle_cookie_echo, handle_init, handle_init_ack};
 use dcsctp_heartbeat::{handle_heartbeat_ack, handle_heartbeat_request};
 use dcsctp_machine::AbortReason;
@@ -73,6 +75,10 @@ fn work_chunk<R: Rng>(
             handle_heartbeat_ack(context, ack)?;
             Ok(Following::NextChunk)
         }
+        Chunk::Error(error) => {
+            handle_error(context, error)?;
+            Ok(Following::NextChunk)
+        }
         Chunk::Unknown(unknown) => handle_unknown(context, unknown),
         // No phase that there is awaits it.
         Chunk::ShutdownComplete(_) => Ok(Following::NextChunk),
@@ -98,7 +104,6 @@ fn work_chunk<R: Rng>(
         }
         // No handler works these yet.
         Chunk::Shutdown(_) => Ok(Following::NextChunk),
-        Chunk::Error(_) => Ok(Following::NextChunk),
         Chunk::ReConfig(_) => Ok(Following::NextChunk),
     }
 }

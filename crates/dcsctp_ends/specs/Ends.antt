@@ -1,11 +1,11 @@
--- What the handlers of ends do, as turns of a socket's view (RFC 9260, section 9.1).
+-- What the handlers of ends and of ERROR do, as turns of a socket's view (RFC 9260, sections 3.3.10 and 9.1).
 use Rattle.std.specs.Prelude.{ℕ, Option, None, List}
 use Rattle.dcsctp_machine.specs.declared.ends.Violation.{Violation}
 use Rattle.dcsctp_machine.specs.declared.ends.AbortReason.{AbortReason}
 use Rattle.dcsctp_machine.specs.Cause.{Cause}
 use Rattle.dcsctp_machine.specs.Outcome.{Outcome}
 use Rattle.dcsctp_machine.specs.turns.EndOutcomes.{abort_outcome, abort_sent, aborting_outcome, reflected_outcome}
-use Rattle.dcsctp_machine.specs.turns.PlainOutcomes.{violation_at}
+use Rattle.dcsctp_machine.specs.turns.PlainOutcomes.{violation_at, error_outcome}
 use Rattle.dcsctp_machine.specs.Packet.{Content, plain}
 use Rattle.dcsctp_machine.specs.Endpoint.{Core}
 use Rattle.dcsctp_core.specs.View.{View}
@@ -13,6 +13,10 @@ use Rattle.dcsctp_core.specs.View.{View}
 -- An ABORT with these causes came.
 abbrev pub abort_turn : {R : Type 0} → List Cause → View R → Outcome
 abort_turn causes view = abort_outcome view.endpoint causes view.endpoint.core
+
+-- An ERROR with these causes came.
+abbrev pub error_turn : {R : Type 0} → List Cause → View R → Outcome
+error_turn causes view = error_outcome view.endpoint view.endpoint.core causes
 
 -- ABORT goes out, where a peer is held.
 abbrev pub abort_sent_turn : {R : Type 0} → AbortReason → View R → Outcome

@@ -12,6 +12,7 @@ pub mod ControlLemmas
 pub mod CookieEchoFacts
 pub mod DataLemmas
 pub mod DeliveryLemmas
+pub mod ErrorFacts
 pub mod FlushFacts
 pub mod FlushKeeps
 pub mod FlushLemmas

@@ -4,14 +4,14 @@ use Rattle.dcsctp_machine.specs.declared.association.Pair.{Pair}
 use Rattle.dcsctp_machine.specs.declared.association.Held.{Held}
 use Rattle.dcsctp_machine.specs.declared.ends.Violation.{Violation}
 use Rattle.dcsctp_machine.specs.declared.ends.AbortReason.TheVariants as reasons
-use Rattle.dcsctp_machine.specs.declared.kinds.ErrorKind.TheVariants.{ParseFailed}
-use Rattle.dcsctp_machine.specs.Cause.{causes_of}
+use Rattle.dcsctp_machine.specs.declared.kinds.ErrorKind.TheVariants.{ParseFailed, PeerReported}
+use Rattle.dcsctp_machine.specs.Cause.{Cause, causes_of}
 use Rattle.dcsctp_machine.specs.Event.{Event, error}
 use Rattle.dcsctp_machine.specs.Packet.{Plain, plain, unknown, heartbeat, heartbeat_ack, unworked, Emission}
 use Rattle.dcsctp_machine.specs.Endpoint.{Endpoint, Core, closed, cookie_wait, cookie_echoed, open_in, OpenPhase, established, shutdown_pending, shutdown_sent, shutdown_received, shutdown_ack_sent}
 use Rattle.dcsctp_machine.specs.Outcome.{Outcome, still, reports, quiet, sends, fits, to_peer}
 use Rattle.dcsctp_machine.specs.turns.EndOutcomes.{abort_to, aborting_outcome}
-use Rattle.dcsctp_machine.specs.turns.PlainOutcomes.{PlainTurn, PlainTurnBy, violation_at, is_reported, after_unknown, unknown_text, unknown_bytes, unknown_error, unknown_report, unknown_told}
+use Rattle.dcsctp_machine.specs.turns.PlainOutcomes.{PlainTurn, PlainTurnBy, violation_at, is_reported, after_unknown, unknown_text, unknown_bytes, unknown_error, unknown_report, unknown_told, error_outcome}
 use Rattle.dcsctp_machine.specs.control.Effect.{Change, unchanged}
 use Rattle.dcsctp_machine.specs.control.Effect as effects
 use Rattle.dcsctp_machine.specs.control.Choices.{Choices}
@@ -19,6 +19,7 @@ use Rattle.dcsctp_machine.specs.control.Acts.{plain_change}
 use Rattle.dcsctp_machine.specs.Following.{next_chunk}
 use Rattle.dcsctp_machine.specs.turns.HeartbeatOutcomes.{heartbeat_outcome, heartbeat_ack_outcome, answered, info_in, counter_of, invalid_info_text}
 use Rattle.dcsctp_wire.specs.Content.{ParameterContent, data_chunk, init_chunk, init_ack_chunk, sack_chunk, heartbeat_chunk, heartbeat_ack_chunk, abort_chunk, shutdown_chunk, shutdown_ack_chunk, error_chunk, cookie_echo_chunk, cookie_ack_chunk, shutdown_complete_chunk, i_data_chunk, re_config_chunk, forward_tsn_chunk, i_forward_tsn_chunk, unknown_chunk}
+use Rattle.dcsctp_wire.specs.Texts.{causes_text}
 use Rattle.dcsctp_machine.proofs.DataLemmas.{flushed_chunk, data_at, forward_at, sack_at}
 use Rattle.dcsctp_machine.specs.Controlled.{signs_of_events, IsControlled, ControlledChunk}
 use Rattle.dcsctp_machine.proofs.ControlHandshake.{no_choices, filling_where, still_controlled, ControlledAt}
@@ -143,6 +144,18 @@ heartbeat_ack_at : (e : Endpoint) (core : Core) (tag : ℕ) (chunk : Plain) (cou
 heartbeat_ack_at e core tag chunk None is = quietly e core tag chunk (reports e ParseFailed invalid_info_text) (record { core = is; options = refl; signs = refl; effects = refl; following = refl })
 heartbeat_ack_at e core tag chunk (Some counter) is = counted_at (counter == e.heartbeat_counter) e core tag chunk is
 
+-- ---- an ERROR
+
+-- The user alone is told.
+told_of : (e : Endpoint) (core : Core) (tag : ℕ) (chunk : Plain) (text : List ℕ) → e.core ≡ core → ControlledAt e core tag (plain chunk) (reports e PeerReported text)
+told_of e core tag chunk text is = quietly e core tag chunk (reports e PeerReported text) (record { core = is; options = refl; signs = refl; effects = refl; following = refl })
+
+error_at : (e : Endpoint) (core : Core) (tag : ℕ) (chunk : Plain) (causes : List Cause) → e.core ≡ core → ControlledAt e core tag (plain chunk) (error_outcome e core causes)
+error_at e closed tag chunk causes is = rests_at e closed tag chunk is
+error_at e (cookie_wait my) tag chunk causes is = rests_at e (cookie_wait my) tag chunk is
+error_at e (cookie_echoed my held cookie) tag chunk causes is = told_of e (cookie_echoed my held cookie) tag chunk (causes_text causes) is
+error_at e (open_in phase my held) tag chunk causes is = told_of e (open_in phase my held) tag chunk (causes_text causes) is
+
 -- ---- one that breaks the protocol
 
 abbrev violating : Endpoint → Held → Violation → Choices
@@ -185,6 +198,7 @@ plain_by e tag (unworked (i_data_chunk chunk)) None o is turn = flushed_chunk e 
 plain_by e tag (unworked (sack_chunk chunk)) None o is turn = flushed_chunk e e.core tag (unworked (sack_chunk chunk)) o (sack_at e e.below.transfer chunk.cumulative_tsn_ack o turn)
 plain_by e tag (unworked (forward_tsn_chunk tsn streams)) None o is turn = flushed_chunk e e.core tag (unworked (forward_tsn_chunk tsn streams)) o (forward_at e e.below.transfer tsn o turn)
 plain_by e tag (unworked (i_forward_tsn_chunk tsn streams)) None o is turn = flushed_chunk e e.core tag (unworked (i_forward_tsn_chunk tsn streams)) o (forward_at e e.below.transfer tsn o turn)
+plain_by e tag (unworked (error_chunk causes)) None o is turn = subst (At e tag (unworked (error_chunk causes))) (sym turn) (error_at e e.core tag (unworked (error_chunk causes)) causes refl)
 plain_by e tag (unworked (init_chunk chunk)) None o is turn = rests e tag (unworked (init_chunk chunk)) o turn
 plain_by e tag (unworked (init_ack_chunk chunk)) None o is turn = rests e tag (unworked (init_ack_chunk chunk)) o turn
 plain_by e tag (unworked (heartbeat_chunk parameters)) None o is turn = rests e tag (unworked (heartbeat_chunk parameters)) o turn
@@ -192,7 +206,6 @@ plain_by e tag (unworked (heartbeat_ack_chunk parameters)) None o is turn = rest
 plain_by e tag (unworked (abort_chunk reflected causes)) None o is turn = rests e tag (unworked (abort_chunk reflected causes)) o turn
 plain_by e tag (unworked (shutdown_chunk tsn)) None o is turn = rests e tag (unworked (shutdown_chunk tsn)) o turn
 plain_by e tag (unworked shutdown_ack_chunk) None o is turn = rests e tag (unworked shutdown_ack_chunk) o turn
-plain_by e tag (unworked (error_chunk causes)) None o is turn = rests e tag (unworked (error_chunk causes)) o turn
 plain_by e tag (unworked (cookie_echo_chunk cookie)) None o is turn = rests e tag (unworked (cookie_echo_chunk cookie)) o turn
 plain_by e tag (unworked cookie_ack_chunk) None o is turn = rests e tag (unworked cookie_ack_chunk) o turn
 plain_by e tag (unworked (shutdown_complete_chunk reflected)) None o is turn = rests e tag (unworked (shutdown_complete_chunk reflected)) o turn

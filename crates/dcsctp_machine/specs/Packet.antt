@@ -16,15 +16,15 @@ pub record Introduction : Type 0 where
   -- its receive window
   pub window : ℕ
 
--- A chunk that speaks of no association: data, acknowledgements, heartbeats, errors, and what is unknown. Each kind that
--- is told apart has its constructor here; what other chapters ask of kinds stands beside them, and names them alone.
+-- A chunk that speaks of no association: data, acknowledgements, heartbeats, errors, and what is unknown. What other
+-- chapters ask of kinds stands beside them, and names them alone.
 pub data Plain : Type 0 where
   -- a chunk of a type that isn't known (RFC 9260, section 3.2): type, flags, value
   unknown : ℕ → ℕ → List ℕ → Plain
   -- HEARTBEAT and HEARTBEAT ACK (RFC 9260, sections 3.3.5 and 3.3.6): their parameters
   heartbeat : List ParameterContent → Plain
   heartbeat_ack : List ParameterContent → Plain
-  -- a kind that no handler works yet, as it stands in its packet
+  -- any other kind, as it stands in its packet: those of data, SACK and ERROR are told apart by it, and the others aren't worked
   unworked : ChunkContent → Plain
 
 -- is it a DATA chunk?

@@ -11,14 +11,15 @@ use Rattle.dcsctp_machine.specs.declared.ends.Violation.{Violation}
 use Rattle.dcsctp_machine.specs.declared.ends.AbortReason.TheVariants as reasons
 use Rattle.dcsctp_machine.specs.declared.kinds.ErrorKind.TheVariants.{ParseFailed}
 use Rattle.dcsctp_machine.specs.Settings.{packet_size_limit}
+use Rattle.dcsctp_machine.specs.Cause.{Cause}
 use Rattle.dcsctp_machine.specs.Event.{error}
 use Rattle.dcsctp_machine.specs.Packet.{Plain, plain, unknown, heartbeat, heartbeat_ack, unworked, Emission}
 use Rattle.dcsctp_machine.specs.Endpoint.{Endpoint, Core, closed, cookie_wait, cookie_echoed, open_in, established, shutdown_pending, shutdown_sent, shutdown_received, shutdown_ack_sent}
 use Rattle.dcsctp_machine.specs.Outcome.{Outcome, still, quiet, sends, to_peer}
 use Rattle.dcsctp_machine.specs.Outcome.{fits as fits_mtu}
-use Rattle.dcsctp_wire.specs.Content.{ParameterContent, data_chunk, sack_chunk, i_data_chunk, forward_tsn_chunk, i_forward_tsn_chunk}
+use Rattle.dcsctp_wire.specs.Content.{ParameterContent, data_chunk, sack_chunk, error_chunk, i_data_chunk, forward_tsn_chunk, i_forward_tsn_chunk}
 use Rattle.dcsctp_machine.specs.turns.HeartbeatOutcomes.{heartbeat_outcome, info_in, counter_of, answered, heartbeat_ack_outcome}
-use Rattle.dcsctp_machine.specs.turns.PlainOutcomes.{PlainTurn, PlainTurnBy, violation_at, is_reported, after_unknown, unknown_text, unknown_bytes, unknown_error, unknown_report, unknown_told}
+use Rattle.dcsctp_machine.specs.turns.PlainOutcomes.{PlainTurn, PlainTurnBy, violation_at, is_reported, after_unknown, unknown_text, unknown_bytes, unknown_error, unknown_report, unknown_told, error_outcome}
 use Rattle.dcsctp_machine.specs.Fitting.{FitsHeld, FitsCore, FitsEndpoint, Sendable, TurnFits}
 use Rattle.dcsctp_refinement.proofs.Aborting.{aborting_fits}
 use Rattle.dcsctp_refinement.proofs.Bytes.{both, in_two}
@@ -63,6 +64,14 @@ unknown_fits e (open_in shutdown_pending my held) type chunk true h own each = a
 unknown_fits e (open_in shutdown_sent my held) type chunk true h own each = absurd own
 unknown_fits e (open_in shutdown_received my held) type chunk true h own each = absurd own
 unknown_fits e (open_in shutdown_ack_sent my held) type chunk true h own each = absurd own
+
+-- ---- an ERROR
+
+error_fits : (e : Endpoint) (core : Core) (causes : List Cause) → FitsEndpoint e → TurnFits (error_outcome e core causes)
+error_fits e closed causes h = still_fits e h
+error_fits e (cookie_wait my) causes h = still_fits e h
+error_fits e (cookie_echoed my held cookie) causes h = record { after = h; sends = (tt, tt) }
+error_fits e (open_in phase my held) causes h = record { after = h; sends = (tt, tt) }
 
 -- ---- heartbeats
 
@@ -115,6 +124,7 @@ plain_by e (unworked (i_data_chunk chunk)) None o turn h good = data_fits e chun
 plain_by e (unworked (sack_chunk chunk)) None o turn h good = sack_fits e e.below.transfer chunk.cumulative_tsn_ack o turn h
 plain_by e (unworked (forward_tsn_chunk tsn streams)) None o turn h good = forward_fits e e.below.transfer tsn o turn h
 plain_by e (unworked (i_forward_tsn_chunk tsn streams)) None o turn h good = forward_fits e e.below.transfer tsn o turn h
+plain_by e (unworked (error_chunk causes)) None o turn h good = subst TurnFits (sym turn) (error_fits e e.core causes h)
 plain_by e (unworked chunk) None o turn h good = subst TurnFits (sym turn) (still_fits e h)
 
 pub plain_fits : (e : Endpoint) (chunk : Plain) (o : Outcome) → PlainTurn e chunk o → FitsEndpoint e → Sendable (plain chunk) → TurnFits o

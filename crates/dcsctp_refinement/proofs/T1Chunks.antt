@@ -7,10 +7,11 @@ use Rattle.dcsctp_machine.specs.Endpoint.{Endpoint, Core, closed, cookie_wait, c
 use Rattle.dcsctp_machine.specs.Outcome.{Outcome, still, quiet, sends, fits, to_peer}
 use Rattle.dcsctp_machine.specs.turns.EndOutcomes.{ShutdownAckTurn, ShutdownCompleteTurn}
 use Rattle.dcsctp_machine.specs.declared.association.Held.{Held}
-use Rattle.dcsctp_wire.specs.Content.{ParameterContent, data_chunk, sack_chunk, i_data_chunk, forward_tsn_chunk, i_forward_tsn_chunk}
+use Rattle.dcsctp_machine.specs.Cause.{Cause}
+use Rattle.dcsctp_wire.specs.Content.{ParameterContent, data_chunk, sack_chunk, error_chunk, i_data_chunk, forward_tsn_chunk, i_forward_tsn_chunk}
 use Rattle.dcsctp_machine.specs.turns.HeartbeatOutcomes.{heartbeat_outcome, info_in, counter_of, answered, heartbeat_ack_outcome, interval_expired, beating, heartbeat_emission, beat, interval_outcome}
 use Rattle.dcsctp_machine.specs.turns.OwnTimers.{OwnTimer, acknowledgement_delay, retransmission, heartbeat_interval, heartbeat_timeout, TimerTurn}
-use Rattle.dcsctp_machine.specs.turns.PlainOutcomes.{PlainTurn, PlainTurnBy, violation_at, is_reported, after_unknown, unknown_bytes, unknown_told}
+use Rattle.dcsctp_machine.specs.turns.PlainOutcomes.{PlainTurn, PlainTurnBy, violation_at, is_reported, after_unknown, unknown_bytes, unknown_told, error_outcome}
 use Rattle.dcsctp_refinement.proofs.T1Data.{data_up, forward_up, sack_up, delay_up, loss_up}
 use Rattle.dcsctp_refinement.proofs.T1Turns.{Awaits, Up, UpAfter, aborting_up}
 
@@ -21,6 +22,14 @@ unknown_up e closed type chunk true h = h
 unknown_up e (cookie_wait my) type chunk true h = h
 unknown_up e (cookie_echoed my held cookie) type chunk true h = h
 unknown_up e (open_in phase my held) type chunk true h = h
+
+-- ---- an ERROR
+
+error_up : (e : Endpoint) (core : Core) (causes : List Cause) → Up e → UpAfter (error_outcome e core causes)
+error_up e closed causes h = h
+error_up e (cookie_wait my) causes h = h
+error_up e (cookie_echoed my held cookie) causes h = h
+error_up e (open_in phase my held) causes h = h
 
 -- ---- heartbeats
 
@@ -69,6 +78,7 @@ plain_by e (unworked (i_data_chunk chunk)) None o turn h = data_up e chunk.flags
 plain_by e (unworked (sack_chunk chunk)) None o turn h = sack_up e e.below.transfer chunk.cumulative_tsn_ack o turn h
 plain_by e (unworked (forward_tsn_chunk tsn streams)) None o turn h = forward_up e e.below.transfer tsn o turn h
 plain_by e (unworked (i_forward_tsn_chunk tsn streams)) None o turn h = forward_up e e.below.transfer tsn o turn h
+plain_by e (unworked (error_chunk causes)) None o turn h = subst UpAfter (sym turn) (error_up e e.core causes h)
 plain_by e (unworked chunk) None o turn h = subst UpAfter (sym turn) h
 
 pub plain_up : (e : Endpoint) (chunk : Plain) (o : Outcome) → PlainTurn e chunk o → Up e → UpAfter o

@@ -2,14 +2,16 @@
 use Rattle.std.specs.Prelude.{◌≡◌, ◌==◌, ℕ, ◌+◌, ◌-◌, ◌/◌, ◌%◌, Bool, true, false, Option, None, Some, List, [], ◌∷◌, ◌++◌, length, take, nat_le, codes, if◌then◌else◌}
 use Rattle.std.specs.Int.{w16, to_be_bytes}
 use Rattle.std.specs.Fmt.{decimal}
-use Rattle.dcsctp_wire.specs.Content.{data_chunk, i_data_chunk, sack_chunk, forward_tsn_chunk, i_forward_tsn_chunk, unrecognized_chunk_type}
+use Rattle.dcsctp_wire.specs.Content.{data_chunk, i_data_chunk, sack_chunk, error_chunk, forward_tsn_chunk, i_forward_tsn_chunk, unrecognized_chunk_type}
+use Rattle.dcsctp_wire.specs.Texts.{causes_text}
 use Rattle.dcsctp_machine.specs.declared.association.Held.{Held}
 use Rattle.dcsctp_machine.specs.declared.capabilities.Capabilities.{Capabilities}
 use Rattle.dcsctp_machine.specs.declared.ends.Violation.{Violation}
 use Rattle.dcsctp_machine.specs.declared.ends.Violation.TheVariants.{DataWithInterleaving, InterleavedDataWithout, ForwardTsnWithout}
 use Rattle.dcsctp_machine.specs.declared.ends.AbortReason.TheVariants as reasons
-use Rattle.dcsctp_machine.specs.declared.kinds.ErrorKind.TheVariants.{ParseFailed}
+use Rattle.dcsctp_machine.specs.declared.kinds.ErrorKind.TheVariants.{ParseFailed, PeerReported}
 use Rattle.dcsctp_machine.specs.Settings.{packet_size_limit}
+use Rattle.dcsctp_machine.specs.Cause.{Cause}
 use Rattle.dcsctp_machine.specs.Event.{error}
 use Rattle.dcsctp_machine.specs.Packet.{Plain, unknown, heartbeat, heartbeat_ack, unworked, plain, error_of, Emission}
 use Rattle.dcsctp_machine.specs.Endpoint.{Endpoint, Core, cookie_echoed, open_in}
@@ -88,9 +90,17 @@ abbrev pub unknown_outcome : Endpoint → Core → ℕ → ℕ → List ℕ → 
 unknown_outcome e core type flags value =
     record (if is_reported type then unknown_told e core type (unknown_bytes type flags value) else still e) { following = after_unknown type }
 
+-- ---- an ERROR (RFC 9260, section 3.3.10)
+
+-- The user is told the texts of its causes, where a peer is held.
+abbrev pub error_outcome : Endpoint → Core → List Cause → Outcome
+error_outcome e (cookie_echoed my held cookie) causes = reports e PeerReported (causes_text causes)
+error_outcome e (open_in phase my held) causes = reports e PeerReported (causes_text causes)
+error_outcome e core causes = still e
+
 -- ---- every kind
 
--- One that breaks the protocol ends the association; those of data are told apart; and one that no handler works changes nothing.
+-- One that breaks the protocol ends the association; those of data and ERROR are told apart; and one that no handler works changes nothing.
 abbrev pub PlainTurnBy : Endpoint → Plain → Option Violation → Outcome → Type 0
 PlainTurnBy e chunk (Some violation) o = o ≡ aborting_outcome e e.core (reasons.Violation violation)
 PlainTurnBy e (unknown type flags value) None o = o ≡ unknown_outcome e e.core type flags value
@@ -101,6 +111,7 @@ PlainTurnBy e (unworked (i_data_chunk chunk)) None o = DataTurn e chunk.flags.im
 PlainTurnBy e (unworked (sack_chunk chunk)) None o = SackTurn e e.below.transfer chunk.cumulative_tsn_ack o
 PlainTurnBy e (unworked (forward_tsn_chunk tsn streams)) None o = ForwardTurn e e.below.transfer tsn o
 PlainTurnBy e (unworked (i_forward_tsn_chunk tsn streams)) None o = ForwardTurn e e.below.transfer tsn o
+PlainTurnBy e (unworked (error_chunk causes)) None o = o ≡ error_outcome e e.core causes
 PlainTurnBy e (unworked chunk) None o = o ≡ still e
 
 abbrev pub PlainTurn : Endpoint → Plain → Outcome → Type 0

@@ -8,13 +8,13 @@ use Rattle.dcsctp_machine.specs.Packet.{introduction_in, cookie_in, init_ack, co
 use Rattle.dcsctp_machine.specs.Packet as machine
 use Rattle.dcsctp_core.specs.View.{core_of, view_of, endpoint_of}
 use Rattle.dcsctp_handshake.specs.Handshake.{InitAckAt, CookieAckAt, CookieEchoAt}
-use Rattle.dcsctp_ends.specs.Ends.{abort_turn}
+use Rattle.dcsctp_ends.specs.Ends.{abort_turn, error_turn}
 use Rattle.dcsctp_calls.proofs.ChunkLemmas.{init_cut, rests, works_chunk, works_one, works_whole}
 use Rattle.dcsctp_calls.specs.Unknown.{unknown_turn}
 use Rattle.dcsctp_data.specs.Data.{DataAt, ForwardAt}
 use Rattle.dcsctp_data.specs.Sacks.{SackAt}
 use Rattle.dcsctp_calls.proofs.DataTurns.{data_goes, forward_goes, sack_goes, cookie_ack_goes}
-use Rattle.dcsctp_calls.proofs.DispatchLemmas.{none_for, ack_worked, ack_cut, complete_worked, unknown_is, tries_worked, tries_cut, heartbeat_follows, heartbeat_ack_follows, heartbeat_is, heartbeat_ack_is, plain_at, takes_worked, takes_cut}
+use Rattle.dcsctp_calls.proofs.DispatchLemmas.{none_for, ack_worked, ack_cut, complete_worked, unknown_is, tries_worked, tries_cut, heartbeat_follows, heartbeat_ack_follows, heartbeat_is, heartbeat_ack_is, error_follows, error_is, plain_at, takes_worked, takes_cut}
 use Rattle.dcsctp_calls.proofs.dispatch.work_chunk.Goals as goal
 
 -- An INIT whose turn was cut added nothing.
@@ -78,8 +78,22 @@ returns-in_err-handle_shutdown_ack-in-ShutdownAck g c =
     (rw (err_from_is_err_and c.from_residual-in_err-handle_shutdown_ack-in-ShutdownAck.result c.from_residual-in_err-handle_shutdown_ack-in-ShutdownAck.ensures.1).1
     (ack_cut c.args.context.now (view_of c.handle_shutdown_ack.new.context) c.args.header_tag c.in_err-handle_shutdown_ack-in-ShutdownAck.ensures))
 
-pub returns-in-Error : goal.returns-in-Error
-returns-in-Error g c = rw c.in-Error.is (rests g.R.Rng.stream (view_of c.args.context.now) c.args.header_tag _ (none_for (core_of c.args.context.now.state) _ _ c.in-Error.is c.requires) refl)
+pub returns-in_ok-handle_error-in-Error : goal.returns-in_ok-handle_error-in-Error
+returns-in_ok-handle_error-in-Error g c =
+    let old = c.args.context.now in
+    let causes = map cause_content c.in-Error.error.error_causes.items in
+    rw c.in-Error.is
+    (tries_worked g.R.Rng.stream old c.handle_error.new.context c.args.header_tag _ (error_turn causes (view_of old))
+    (error_is old c.args.header_tag causes (none_for (core_of old.state) _ _ c.in-Error.is c.requires)) (error_follows (endpoint_of old) (core_of old.state) causes) c.in_ok-handle_error-in-Error.ensures)
+
+pub returns-in_err-handle_error-in-Error : goal.returns-in_err-handle_error-in-Error
+returns-in_err-handle_error-in-Error g c =
+    let old = c.args.context.now in
+    let causes = map cause_content c.in-Error.error.error_causes.items in
+    rw c.in-Error.is
+    (rw (err_from_is_err_and c.from_residual-in_err-handle_error-in-Error.result c.from_residual-in_err-handle_error-in-Error.ensures.1).1
+    (tries_cut old (view_of c.handle_error.new.context) c.args.header_tag _ (error_turn causes (view_of old))
+    (error_is old c.args.header_tag causes (none_for (core_of old.state) _ _ c.in-Error.is c.requires)) c.in_err-handle_error-in-Error.ensures))
 
 pub returns-in-ShutdownComplete : goal.returns-in-ShutdownComplete
 returns-in-ShutdownComplete g c = rw c.in-ShutdownComplete.is (complete_worked g.R.Rng.stream c.args.context.now c.args.header_tag _)
