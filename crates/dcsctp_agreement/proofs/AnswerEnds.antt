@@ -159,8 +159,8 @@ module _ (my : Pair) where
       let rest : List Effect = (work_parameters my is_reached has_worked first.held parameters).effects in
       all_answer-append all first.effects rest (informed_answers held number result (is_outstanding number held.own_outstanding) parameters)
       (all_answer-more (reconfiguration_response number result) parameters rest (parameters_answer is_reached has_worked first.held parameters))
-  parameters_answer is_reached has_worked held (other_reset_parameter type value ∷ parameters) =
-      all_answer-more (other_reset_parameter type value) parameters (work_parameters my is_reached has_worked held parameters).effects
+  parameters_answer is_reached has_worked held (other_reset_parameter parameter ∷ parameters) =
+      all_answer-more (other_reset_parameter parameter) parameters (work_parameters my is_reached has_worked held parameters).effects
       (parameters_answer is_reached has_worked held parameters)
 
   chunk_answers : (is_reached : Bool) (held : Held) (parameters : List ResetParameter) → AllAnswer parameters (work_chunk my is_reached held parameters).effects

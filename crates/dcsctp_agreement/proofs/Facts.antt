@@ -82,7 +82,7 @@ abbrev pub TrueParameter : List Effect → List Effect → ℕ → ResetParamete
 TrueParameter mine theirs tag (outgoing_reset_request number answered reset) = Unit {0}
 TrueParameter mine theirs tag (incoming_reset_request number streams) = ⊥
 TrueParameter mine theirs tag (reconfiguration_response number result) = TrueResult mine theirs tag number result
-TrueParameter mine theirs tag (other_reset_parameter type value) = Unit {0}
+TrueParameter mine theirs tag (other_reset_parameter parameter) = Unit {0}
 
 abbrev pub TrueParameters : List Effect → List Effect → ℕ → List ResetParameter → Type 0
 TrueParameters mine theirs tag [] = Unit {0}

@@ -19,7 +19,7 @@ requests_true mine theirs tag [] h = tt
 requests_true mine theirs tag (outgoing_reset_request number answered reset ∷ parameters) h = (tt, requests_true mine theirs tag parameters h)
 requests_true mine theirs tag (incoming_reset_request number streams ∷ parameters) h = absurd h
 requests_true mine theirs tag (reconfiguration_response number result ∷ parameters) h = absurd h
-requests_true mine theirs tag (other_reset_parameter type value ∷ parameters) h = absurd h
+requests_true mine theirs tag (other_reset_parameter parameter ∷ parameters) h = absurd h
 
 behind_true : (my_offer their_offer : Offer) (mine theirs : List Effect) (tag : ℕ) (content : Content) → Behind content → TrueFront my_offer their_offer mine theirs tag content
 behind_true my_offer their_offer mine theirs tag (init introduction) h = absurd h

@@ -54,7 +54,7 @@ parameter_grows : (mine theirs mine' theirs' : List Effect) (tag : ℕ) (paramet
 parameter_grows mine theirs mine' theirs' tag (outgoing_reset_request number answered reset) v w h = tt
 parameter_grows mine theirs mine' theirs' tag (incoming_reset_request number streams) v w h = h
 parameter_grows mine theirs mine' theirs' tag (reconfiguration_response number result) v w h = result_grows mine theirs mine' theirs' tag number result v w h
-parameter_grows mine theirs mine' theirs' tag (other_reset_parameter type value) v w h = tt
+parameter_grows mine theirs mine' theirs' tag (other_reset_parameter parameter) v w h = tt
 
 pub parameters_grow : (mine theirs mine' theirs' : List Effect) (tag : ℕ) (parameters : List ResetParameter) → Within mine mine' → Within theirs theirs'
     → TrueParameters mine theirs tag parameters → TrueParameters mine' theirs' tag parameters

@@ -52,7 +52,7 @@ module _ (my : Pair) where
   parameters_link is_reached has_worked held (reconfiguration_response number result ∷ parameters) =
       let first : Informed = informed_where my held number result (is_outstanding number held.own_outstanding) in
       parameters_link is_reached has_worked first.held parameters ∙ informed_link held number result (is_outstanding number held.own_outstanding)
-  parameters_link is_reached has_worked held (other_reset_parameter type value ∷ parameters) = parameters_link is_reached has_worked held parameters
+  parameters_link is_reached has_worked held (other_reset_parameter parameter ∷ parameters) = parameters_link is_reached has_worked held parameters
 
   chunk_link : (is_reached : Bool) (held : Held) (parameters : List ResetParameter) → link_of my (work_chunk my is_reached held parameters).held ≡ link_of my held
   chunk_link is_reached held [] = refl
@@ -122,7 +122,7 @@ module _ (core : Core) (my : Pair) where
       all_say-append core first.effects (work_parameters my is_reached has_worked first.held parameters).effects
       (informed_says held number result (is_outstanding number held.own_outstanding) h)
       (parameters_say is_reached has_worked first.held parameters (holds_same held first.held h (informed_link my held number result (is_outstanding number held.own_outstanding))))
-  parameters_say is_reached has_worked held (other_reset_parameter type value ∷ parameters) h = parameters_say is_reached has_worked held parameters h
+  parameters_say is_reached has_worked held (other_reset_parameter parameter ∷ parameters) h = parameters_say is_reached has_worked held parameters h
 
   chunk_says : (is_reached : Bool) (held : Held) (parameters : List ResetParameter) → HoldsNow held → AllSay core (work_chunk my is_reached held parameters).effects
   chunk_says is_reached held [] h = tt

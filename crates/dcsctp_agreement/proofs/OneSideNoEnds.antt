@@ -97,7 +97,7 @@ no_ends-parameters my is_reached has_worked held (reconfiguration_response numbe
     no_ends-append first.effects (work_parameters my is_reached has_worked first.held parameters).effects
     (no_ends-informed my held number result (is_outstanding number held.own_outstanding))
     (no_ends-parameters my is_reached has_worked first.held parameters)
-no_ends-parameters my is_reached has_worked held (other_reset_parameter type value ∷ parameters) = no_ends-parameters my is_reached has_worked held parameters
+no_ends-parameters my is_reached has_worked held (other_reset_parameter parameter ∷ parameters) = no_ends-parameters my is_reached has_worked held parameters
 
 no_ends-chunk : (my : Pair) (is_reached : Bool) (held : Held) (parameters : List ResetParameter) → ends_in (work_chunk my is_reached held parameters).effects ≡ 0
 no_ends-chunk my is_reached held [] = refl

@@ -176,7 +176,7 @@ module _ (link : Link) (waiting : Option Link) where
       leads-append link waiting held first.held rest.held first.effects rest.effects
       (informed_leads_where held number result (is_outstanding number held.own_outstanding) (is_outstanding_means number held.own_outstanding))
       (parameters_lead is_reached has_worked first.held parameters) past s
-  parameters_lead is_reached has_worked held (other_reset_parameter type value ∷ parameters) past s = parameters_lead is_reached has_worked held parameters past s
+  parameters_lead is_reached has_worked held (other_reset_parameter parameter ∷ parameters) past s = parameters_lead is_reached has_worked held parameters past s
 
   -- ---- the chunk
 

@@ -90,9 +90,9 @@ parameters_kept my_offer their_offer mine theirs my is_reached false held (recon
     then_answer my_offer their_offer mine theirs my held first (work_parameters my is_reached false first.held parameters) one
     (parameters_kept my_offer their_offer (after_effects first.effects mine) theirs my is_reached false first.held parameters (one.tags tags) one.facts
     (parameters_grow theirs mine theirs (after_effects first.effects mine) my.tag parameters (same theirs) (after_within first.effects mine) are.1))
-parameters_kept my_offer their_offer mine theirs my is_reached true held (other_reset_parameter type value ∷ parameters) tags h are =
+parameters_kept my_offer their_offer mine theirs my is_reached true held (other_reset_parameter parameter ∷ parameters) tags h are =
     parameters_kept my_offer their_offer mine theirs my is_reached true held parameters tags h are.1
-parameters_kept my_offer their_offer mine theirs my is_reached false held (other_reset_parameter type value ∷ parameters) tags h are =
+parameters_kept my_offer their_offer mine theirs my is_reached false held (other_reset_parameter parameter ∷ parameters) tags h are =
     parameters_kept my_offer their_offer mine theirs my is_reached false held parameters tags h are.1
 
 -- ---- the chunk

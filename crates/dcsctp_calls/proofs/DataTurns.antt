@@ -1,7 +1,10 @@
--- Behind the turns of data the next chunk follows.
+-- Behind the turns of data, COOKIE ACK and RE-CONFIG the next chunk follows.
 use Rattle.std.proofs.Common.{◌≡◌, ℕ, Bool, true, false, cond, Option, None, Some, List, [], ◌∷◌, refl, ap, ◌∙◌}
+use Rattle.dcsctp_machine.specs.declared.association.Pair.{Pair}
 use Rattle.dcsctp_machine.specs.declared.association.Held.{Held}
+use Rattle.dcsctp_machine.specs.Event.{Event}
 use Rattle.dcsctp_machine.specs.Packet.{Emission}
+use Rattle.dcsctp_machine.specs.Reconfiguration.{ResetParameter}
 use Rattle.dcsctp_machine.specs.Transfer.{Transfer}
 use Rattle.dcsctp_machine.specs.Endpoint.{Endpoint, Core, closed, cookie_wait, cookie_echoed, open_in, held_in}
 use Rattle.dcsctp_machine.specs.Following.{next_chunk}
@@ -9,6 +12,7 @@ use Rattle.dcsctp_machine.specs.Outcome.{Outcome, quiet, sends}
 use Rattle.dcsctp_machine.specs.turns.DataOutcomes.{no_user_data_outcome, ReceiveTurn, DataTurn, ForwardTurn, is_sack_valid, SackWhere, SackBy, SackTurn}
 use Rattle.dcsctp_machine.specs.turns.FlushOutcomes.{Answer, first_ask, packets_allowed, draft_to, flush_answered}
 use Rattle.dcsctp_machine.specs.turns.HandshakeOutcomes.{connected_after, cookie_ack_by, CookieAckAnswers, CookieAckTurn}
+use Rattle.dcsctp_machine.specs.turns.ResetOutcomes.{responses_outcome, responses_by, ResponseAnswers, worked_in, answered_in, resets_worked, told_of, WorksResets, ResetTurn}
 use Rattle.dcsctp_machine.proofs.FlushKeeps.{flush_keeps}
 
 -- The next chunk follows.
@@ -63,3 +67,27 @@ cookie_ack_by_goes e (open_in phase mine held) answers allowed = refl
 
 pub cookie_ack_goes : (e : Endpoint) (o : Outcome) → CookieAckTurn e o → GoesOn o
 cookie_ack_goes e o turn = goes_as o _ turn.2 (cookie_ack_by_goes e e.core turn.0 turn.1)
+
+-- ---- RE-CONFIG
+
+responses_go : (refused : Bool) (e : Endpoint) (told : List (Event Emission)) (held : Held) (parameters responses : List ResetParameter) (answers : List Answer)
+    → ResponseAnswers refused e held responses answers → GoesOn (responses_by refused e told held parameters responses answers)
+responses_go true e told held parameters responses answers none = refl
+responses_go false e told held parameters responses answers allowed =
+    let after : Endpoint = (responses_outcome e held responses).after in
+    (flush_keeps first_ask (packets_allowed after.options.max_burst after.core) after (draft_to held) answers allowed).following
+
+works_go : (e : Endpoint) (my : Pair) (held : Held) (parameters : List ResetParameter) (o : Outcome) → WorksResets e my held parameters o → GoesOn o
+works_go e my held parameters o h =
+    let worked = worked_in e my held parameters in
+    goes_as o _ h.is
+    (responses_go worked.is_refused (resets_worked e (answered_in held worked parameters) worked.held h.left) (told_of e parameters worked.effects) worked.held parameters worked.answers h.answers h.allowed)
+
+reset_by_goes : (e : Endpoint) (core : Core) (parameters : List ResetParameter) (o : Outcome) → ResetTurn e core parameters o → GoesOn o
+reset_by_goes e closed parameters o is = goes_as o _ is refl
+reset_by_goes e (cookie_wait my) parameters o is = goes_as o _ is refl
+reset_by_goes e (cookie_echoed my held cookie) parameters o turn = works_go e my held parameters o turn
+reset_by_goes e (open_in phase my held) parameters o turn = works_go e my held parameters o turn
+
+pub reset_goes : (e : Endpoint) (parameters : List ResetParameter) (o : Outcome) → ResetTurn e e.core parameters o → GoesOn o
+reset_goes e parameters o turn = reset_by_goes e e.core parameters o turn

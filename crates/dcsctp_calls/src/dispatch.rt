@@ -18,6 +18,7 @@ use dcsctp_ends::{
 use dcsctp_handshake::{handle_cookie_ack, handle_cookie_echo, handle_init, handle_init_ack};
 use dcsctp_heartbeat::{handle_heartbeat_ack, handle_heartbeat_request};
 use dcsctp_machine::AbortReason;
+use dcsctp_resets::handle_re_config;
 use dcsctp_wire::Chunk;
 use rand_core::Rng;
 use std::alloc::AllocError;
@@ -102,8 +103,11 @@ fn work_chunk<R: Rng>(
             handle_i_forward_tsn(context, forward_tsn)?;
             Ok(Following::NextChunk)
         }
-        // No handler works these yet.
+        Chunk::ReConfig(re_config) => {
+            handle_re_config(context, re_config)?;
+            Ok(Following::NextChunk)
+        }
+        // No handler works it yet.
         Chunk::Shutdown(_) => Ok(Following::NextChunk),
-        Chunk::ReConfig(_) => Ok(Following::NextChunk),
     }
 }

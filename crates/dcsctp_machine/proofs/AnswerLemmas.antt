@@ -1,12 +1,11 @@
 -- An ask that isn't idle may be answered whatever the user was told: where memory is refused while a packet is filled, this is
 -- what completes its turn.
-use Rattle.std.proofs.Common.{◌≡◌, ◌≤◌, ◌<◌, ◌+◌, ◌-◌, ◌%◌, ◌^◌, ◌&&◌, ◌==◌, ℕ, zero, suc, Bool, true, false, cond, nat_le, Option, None, Some, List, [], ◌∷◌, ◌++◌, map, length, refl, sym, subst, ap, ◌∙◌, arith, length-append, flat_map, MatchBool}
+use Rattle.std.proofs.Common.{◌≡◌, ◌≤◌, ◌+◌, ◌-◌, ◌%◌, ◌^◌, ◌&&◌, ◌==◌, ℕ, zero, suc, Bool, true, false, cond, nat_le, Option, None, Some, List, [], ◌∷◌, ◌++◌, length, refl, sym, subst, ap, ◌∙◌, arith, length-append, flat_map}
 use Rattle.std.specs.List.{AllByRecursion}
 use Rattle.std.proofs.lemmas.List.{append-nil}
 use Rattle.std.proofs.lemmas.Bool.Decides.{nat_tests}
 use Rattle.dcsctp_wire.specs.declared.chunk.user_data.DataFlags.{DataFlags}
 use Rattle.dcsctp_wire.specs.Content.{SackContent, data_chunk, i_data_chunk, sack_chunk}
-use Rattle.dcsctp_wire.specs.ReadsBack.{FitsSack}
 use Rattle.dcsctp_wire.specs.Spelling.{chunk_bytes, other_bytes, data_fields, i_data_fields}
 use Rattle.dcsctp_machine.specs.Settings.{packet_size_limit}
 use Rattle.dcsctp_machine.specs.Packet.{Plain, unworked, plain_out, Content, chunk_out, Emission}
@@ -15,7 +14,7 @@ use Rattle.dcsctp_machine.specs.Endpoint.{Endpoint}
 use Rattle.dcsctp_machine.specs.Outcome.{contents_len}
 use Rattle.dcsctp_machine.specs.control.Choices.{plain_contents}
 use Rattle.dcsctp_machine.specs.turns.TransferMoves.{acknowledged}
-use Rattle.dcsctp_machine.specs.turns.FlushOutcomes.{Told, Answer, answer_contents, filled, IsWithin, Ask, room_in, where_fits, wants_sack, IsSackOf, Acknowledges, is_none, IsData, FitsPlain, Gives, GivesWhere, Answered, AnsweredBelow, timers_with, nothing_waits, asked, next_draft, later_ask, Answers, at_limit, at_empty, after_packet}
+use Rattle.dcsctp_machine.specs.turns.FlushOutcomes.{Told, Answer, answer_contents, filled, IsWithin, Ask, room_in, where_fits, wants_sack, Acknowledges, is_none, IsData, FitsPlain, Gives, GivesWhere, Answered, AnsweredBelow, timers_with, nothing_waits, asked, next_draft, later_ask, Answers, at_limit, at_empty, after_packet}
 
 -- ---- how long a packet is
 

@@ -5,7 +5,7 @@ use Rattle.std.specs.Prelude.{codes}
 use Rattle.dcsctp_wire.specs.declared.reconfiguration.ReconfigurationResponseResult.TheVariants.{SuccessNothingToDo, SuccessPerformed, Denied, ErrorWrongSSN, ErrorRequestAlreadyInProgress, ErrorBadSequenceNumber, InProgress}
 use Rattle.dcsctp_wire.specs.Spelling.{result_code, parameter_bytes, parameters_len, list_bytes, other_bytes, header_bytes, checksum_field, packet_bytes_of, chunk_bytes}
 use Rattle.dcsctp_machine.specs.Cause.{missing_mandatory_parameter, cookie_received_while_shutting_down, user_initiated_abort, protocol_violation}
-use Rattle.dcsctp_wire.specs.Content.{unknown_cause}
+use Rattle.dcsctp_wire.specs.Content.{unknown_cause, unknown_parameter}
 use Rattle.dcsctp_machine.specs.Reconfiguration.{outgoing_reset_request, incoming_reset_request, reconfiguration_response, other_reset_parameter}
 use Rattle.dcsctp_machine.specs.Packet.{Content, cookie_echo, cookie_ack, re_config, abort, shutdown, shutdown_ack, shutdown_complete, chunk_out, emission_bytes}
 use Rattle.dcsctp_machine.specs.control.CookieEchoChanges.{shutting_down_error}
@@ -130,7 +130,7 @@ unfolding parameter_bytes parameters_len list_bytes
 request_after_response = refl
 
 -- SSN/TSN Reset Request (RFC 6525, section 4.3)
-another_parameter : bytes_of (re_config (other_reset_parameter 15 (1 ∷ 2 ∷ 3 ∷ 4 ∷ []) ∷ [])) ≡ 130 ∷ 0 ∷ 0 ∷ 12 ∷ 0 ∷ 15 ∷ 0 ∷ 8 ∷ 1 ∷ 2 ∷ 3 ∷ 4 ∷ []
+another_parameter : bytes_of (re_config (other_reset_parameter (unknown_parameter 15 (1 ∷ 2 ∷ 3 ∷ 4 ∷ [])) ∷ [])) ≡ 130 ∷ 0 ∷ 0 ∷ 12 ∷ 0 ∷ 15 ∷ 0 ∷ 8 ∷ 1 ∷ 2 ∷ 3 ∷ 4 ∷ []
 unfolding parameter_bytes parameters_len list_bytes
 another_parameter = refl
 

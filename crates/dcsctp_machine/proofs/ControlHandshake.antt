@@ -1,5 +1,5 @@
 -- Turns of the handshake at an endpoint are turns of its association: INIT ACK, COOKIE ACK and connect.
-use Rattle.std.proofs.Common.{◌≡◌, ℕ, Bool, true, false, Option, None, Some, List, [], ◌∷◌, refl, sym, subst, ap}
+use Rattle.std.proofs.Common.{◌≡◌, ℕ, Bool, true, false, Option, None, Some, List, [], ◌∷◌, refl, sym, subst}
 use Rattle.std.specs.Prelude.{◌==◌, if◌then◌else◌}
 use Rattle.dcsctp_machine.specs.declared.association.Pair.{Pair}
 use Rattle.dcsctp_machine.specs.declared.association.Held.{Held}
@@ -7,15 +7,15 @@ use Rattle.dcsctp_machine.specs.declared.word.Word.{Word}
 use Rattle.dcsctp_machine.specs.declared.word.Word.TheVariants.{U32, U64}
 use Rattle.dcsctp_machine.specs.declared.kinds.ErrorKind.TheVariants.{ProtocolViolation}
 use Rattle.dcsctp_machine.specs.Cause.{Cause}
-use Rattle.dcsctp_machine.specs.Event.{Event, aborted, connected}
-use Rattle.dcsctp_machine.specs.Packet.{Introduction, Content, init_ack, cookie_echo, cookie_ack, abort, Emission}
+use Rattle.dcsctp_machine.specs.Event.{aborted, connected}
+use Rattle.dcsctp_machine.specs.Packet.{Introduction, Content, init_ack, cookie_echo, cookie_ack, abort}
 use Rattle.dcsctp_machine.specs.Endpoint.{Endpoint, Core, closed, cookie_wait, cookie_echoed, open_in, established}
 use Rattle.dcsctp_machine.specs.Outcome.{Outcome, noting, still, quiet, sends, fits, drawing}
 use Rattle.dcsctp_machine.specs.Following.{next_chunk}
 use Rattle.dcsctp_machine.specs.turns.FlushOutcomes.{Answer, draft_to, flush_answered, allows_packet}
 use Rattle.dcsctp_machine.specs.turns.EndOutcomes.{ended_outcome, abort_outcome}
 use Rattle.dcsctp_machine.specs.turns.HandshakeOutcomes.{pair_from, init_emission, awaits_init_ack, connect_outcome, ConnectTurn, no_cookie_text, abort_emission, awaits_cookie_ack, echo_emission, EchoAnswers, init_ack_by, InitAckAnswers, InitAckTurn, CookieAckAnswers, CookieAckTurn, connected_after, cookie_ack_by}
-use Rattle.dcsctp_machine.specs.control.Effect.{holds, connects, Change, unchanged, emitted_alone, link_of}
+use Rattle.dcsctp_machine.specs.control.Effect.{holds, connects, Change, unchanged, link_of}
 use Rattle.dcsctp_machine.specs.control.Choices.{Filling, Choices, nothing_to_send, idle_choices}
 use Rattle.dcsctp_machine.specs.control.FlushChanges.{Flushed}
 use Rattle.dcsctp_machine.specs.control.HandshakeChanges.{connect_change, init_ack_change, held_by_init_ack}

@@ -24,6 +24,7 @@ use Rattle.dcsctp_machine.specs.Controlled.{IsControlled, ControlledChunk, Contr
 use Rattle.dcsctp_machine.specs.Laws.{FitsPair, FitsOwn, FitsAnswer, ChunksAreControlled, ActsAreControlled, StandsBefore}
 use Rattle.dcsctp_machine.proofs.DataLemmas.{flushed_act, flush_turn_at}
 use Rattle.dcsctp_machine.proofs.PlainLemmas.{plain_controlled}
+use Rattle.dcsctp_machine.proofs.ResetLemmas.{reset_controlled}
 use Rattle.dcsctp_machine.proofs.LawLemmas.{names_read_back}
 use Rattle.dcsctp_machine.proofs.ControlHandshake.{choices_of, ControlledAt, still_controlled, init_ack_controlled, cookie_ack_controlled, abort_controlled, connect_controlled}
 use Rattle.dcsctp_machine.proofs.ControlEnds.{aborting_controlled, shutdown_ack_controlled, shutdown_complete_controlled}
@@ -137,7 +138,7 @@ chunks_are_controlled e tag (init theirs) o turn fitting =
 chunks_are_controlled e tag (init_ack theirs cookie) o turn fitting = init_ack_controlled e tag theirs cookie o turn
 chunks_are_controlled e tag (cookie_echo cookie) o turn fitting = cookie_echo_controlled e tag cookie o turn
 chunks_are_controlled e tag cookie_ack o turn fitting = cookie_ack_controlled e tag o turn
-chunks_are_controlled e tag (re_config parameters) o turn fitting = turn
+chunks_are_controlled e tag (re_config parameters) o turn fitting = reset_controlled e tag parameters o turn
 chunks_are_controlled e tag (abort reflected causes) o turn fitting = abort_controlled e tag reflected causes o turn
 chunks_are_controlled e tag (shutdown cumulative_tsn) o turn fitting = turn
 chunks_are_controlled e tag shutdown_ack o turn fitting = shutdown_ack_controlled e tag o turn

@@ -1,18 +1,18 @@
 -- The turns of data are turns of the association: packets that speak of none, and a flush.
-use Rattle.std.proofs.Common.{◌≡◌, ◌||◌, ℕ, Bool, true, false, cond, is_none, Option, None, Some, List, [], ◌∷◌, ◌++◌, map, refl, sym, subst, ap, ◌∙◌, append_assoc}
+use Rattle.std.proofs.Common.{◌≡◌, ℕ, Bool, true, false, cond, Option, None, Some, List, [], ◌∷◌, ◌++◌, map, refl, sym, subst, ap, ◌∙◌, append_assoc}
 use Rattle.std.proofs.lemmas.List.{append-nil, map-append}
 use Rattle.dcsctp_machine.specs.declared.association.Held.{Held}
 use Rattle.dcsctp_machine.specs.declared.word.Word.{Word}
 use Rattle.dcsctp_machine.specs.declared.kinds.ErrorKind.TheVariants.{ProtocolViolation, NotConnected}
 use Rattle.dcsctp_machine.specs.Settings.{SameOptions}
 use Rattle.dcsctp_machine.specs.Event.{Event, error}
-use Rattle.dcsctp_machine.specs.Packet.{Plain, plain, unworked, error_of, Content, Emission}
+use Rattle.dcsctp_machine.specs.Packet.{Plain, plain, error_of, Content, Emission}
 use Rattle.dcsctp_wire.specs.Content.{no_user_data}
 use Rattle.dcsctp_machine.specs.Transfer.{MessageContent, TrackerState, Transfer}
-use Rattle.dcsctp_machine.specs.Endpoint.{Endpoint, Core, closed, cookie_wait, cookie_echoed, open_in, OpenPhase, established, shutdown_pending, shutdown_sent, shutdown_received, shutdown_ack_sent, held_in}
+use Rattle.dcsctp_machine.specs.Endpoint.{Endpoint, Core, closed, cookie_wait, cookie_echoed, open_in, established, shutdown_pending, shutdown_sent, shutdown_received, shutdown_ack_sent, held_in}
 use Rattle.dcsctp_machine.specs.Following.{next_chunk}
 use Rattle.dcsctp_machine.specs.Outcome.{Outcome, still, quiet, sends, fits, to_peer, behind, then_outcome}
-use Rattle.dcsctp_machine.specs.control.Effect.{Effect, Change, emitted}
+use Rattle.dcsctp_machine.specs.control.Effect.{Effect, emitted}
 use Rattle.dcsctp_machine.specs.control.Choices.{Choices, plain_contents}
 use Rattle.dcsctp_machine.specs.control.FlushChanges.{further_packets, Flushed}
 use Rattle.dcsctp_machine.specs.control.Acts.{flushes, sent_by, flush_change, plain_change}
@@ -20,8 +20,8 @@ use Rattle.dcsctp_machine.specs.Controlled.{Sign, signs_of_events, signs_of_effe
 use Rattle.dcsctp_machine.specs.turns.FlushOutcomes.{Answer, filled, draft_to, flush_of, room_in, where_fits, FlushAnswers}
 use Rattle.dcsctp_machine.specs.turns.TransferMoves.{delivered_events, acknowledged, delay_over}
 use Rattle.dcsctp_machine.specs.turns.HeartbeatOutcomes.{error_counted}
-use Rattle.dcsctp_machine.specs.turns.MessageOutcomes.{MessageRefusal, empty_payload, message_too_large, shutting_down, resource_exhaustion, message_refusal, refusal_events, Sending, message_queued, queue_by, queue_one, queue_all, takes_any, SendAnswers, send_by, SendTurn}
-use Rattle.dcsctp_machine.specs.turns.DataOutcomes.{with_transfer, with_tracker, flush_by, AnswersTo, FlushTurn, no_user_data_text, no_user_data_outcome, not_connected_text, ReceiveTurn, DataTurn, ForwardTurn, no_tcb_text, is_sack_valid, SendsAtOnce, FastRetransmits, sack_taken, AcknowledgesBy, SackWhere, SackBy, SackTurn, acknowledging, AnswersPacket, EndWhere, EndsBy, TakeWhere, TakeTurn, delay_outcome, LossTurn}
+use Rattle.dcsctp_machine.specs.turns.MessageOutcomes.{MessageRefusal, message_refusal, refusal_events, Sending, queue_by, queue_one, queue_all, takes_any, SendAnswers, send_by, SendTurn}
+use Rattle.dcsctp_machine.specs.turns.DataOutcomes.{with_transfer, with_tracker, flush_by, AnswersTo, FlushTurn, no_user_data_text, no_user_data_outcome, not_connected_text, ReceiveTurn, DataTurn, ForwardTurn, no_tcb_text, is_sack_valid, FastRetransmits, sack_taken, AcknowledgesBy, SackWhere, SackBy, SackTurn, acknowledging, EndWhere, EndsBy, TakeWhere, TakeTurn, delay_outcome, LossTurn}
 use Rattle.dcsctp_machine.proofs.ControlHandshake.{no_choices, ControlledAt}
 use Rattle.dcsctp_machine.proofs.FlushKeeps.{IsPeerTag, all_chunks, filling_of, flush_effects, flush_is, flush_controlled, further_then, further_notes_then, signs_append, goes_out_signs, goes_out_keeps}
 

@@ -9,8 +9,6 @@ use Rattle.dcsctp_machine.specs.Packet.{Plain, plain, unworked, cookie_ack, Emis
 use Rattle.dcsctp_machine.specs.Transfer.{Below}
 use Rattle.dcsctp_machine.specs.Endpoint.{Endpoint, cookie_echoed, open_in, established}
 use Rattle.dcsctp_machine.specs.Following.{next_chunk}
-use Rattle.dcsctp_machine.specs.Outcome.{noting}
-use Rattle.dcsctp_machine.specs.control.Effect.{Link, Effect, connects, begins}
 use Rattle.dcsctp_machine.specs.turns.FlushOutcomes.{Answer, Told, amount_is_low, message_is_sent, flush_of, packets_allowed}
 use Rattle.dcsctp_machine.proofs.HandshakeTurnFacts.{socket, mine, held, packet_of}
 

@@ -15,7 +15,7 @@ use Rattle.dcsctp_machine.specs.Outcome.{Outcome, still, quiet, sends, behind, t
 use Rattle.dcsctp_machine.specs.control.Effect.{Link, link_of, holds, connects}
 use Rattle.dcsctp_machine.specs.control.HandshakeChanges.{held_by_init_ack}
 use Rattle.dcsctp_machine.specs.control.CookieEchoChanges.{held_by_cookie}
-use Rattle.dcsctp_machine.specs.turns.FlushOutcomes.{Answer, answer_contents, filled, goes_out, asked, next_draft, draft_to, flush_of, packets_allowed, nothing_waits, Ask, first_ask, later_ask, GivesWhere, AnsweredBelow, Answered, Answers, at_limit, at_empty, after_packet, FlushAnswers, flush_answered, flush_outcome, allows_packet, IdleBelow, IsIdle}
+use Rattle.dcsctp_machine.specs.turns.FlushOutcomes.{Answer, answer_contents, filled, goes_out, asked, next_draft, flush_of, packets_allowed, nothing_waits, Ask, first_ask, later_ask, GivesWhere, AnsweredBelow, Answered, Answers, at_limit, at_empty, after_packet, FlushAnswers, flush_answered, flush_outcome, allows_packet, IdleBelow, IsIdle}
 use Rattle.dcsctp_machine.specs.turns.HandshakeOutcomes.{echo_emission, awaits_cookie_ack, connected_after, EchoAnswers, InitAckAnswers, InitAckTurn, init_ack_by, init_ack_outcome, CookieAckAnswers, CookieAckTurn, cookie_ack_by, cookie_ack_outcome}
 use Rattle.dcsctp_machine.specs.turns.CookieEchoOutcomes.{established_by, EstablishAnswers, establish_by, establish_outcome}
 

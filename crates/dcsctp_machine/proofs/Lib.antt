@@ -26,6 +26,8 @@ pub mod MayBeWorkedLemmas
 pub mod MessageFacts
 pub mod PlainLemmas
 pub mod ReadBackLemmas
+pub mod ResetFacts
+pub mod ResetLemmas
 pub mod SettingFacts
 pub mod SocketLemmas
 pub mod StandardFacts

@@ -7,7 +7,7 @@ use Rattle.dcsctp_machine.specs.Event.{Event, sent, packets_in}
 use Rattle.dcsctp_machine.specs.Packet.{Content, Emission}
 use Rattle.dcsctp_machine.specs.Endpoint.{Endpoint}
 use Rattle.dcsctp_machine.specs.Outcome.{contents_len}
-use Rattle.dcsctp_machine.specs.turns.FlushOutcomes.{Told, amount_is_low, total_amount_is_low, message_is_sent, message_may_have_expired, message_has_expired, message_ends, told_event, Answer, answer_contents, filled, goes_out, asked, next_draft, flush_of, Ask, first_ask, later_ask, Answered, Answers, at_limit, at_empty, after_packet, packets_allowed, IsWithin, IsFlushEvent}
+use Rattle.dcsctp_machine.specs.turns.FlushOutcomes.{Told, amount_is_low, total_amount_is_low, message_is_sent, message_may_have_expired, message_has_expired, message_ends, told_event, Answer, answer_contents, filled, goes_out, asked, next_draft, flush_of, Ask, first_ask, later_ask, Answers, at_limit, at_empty, after_packet, packets_allowed, IsWithin, IsFlushEvent}
 use Rattle.dcsctp_machine.specs.Laws.{FlushKeepsLimits}
 use Rattle.dcsctp_machine.proofs.FlushKeeps.{asked_keeps, next_is_empty}
 

@@ -17,6 +17,7 @@ use Rattle.dcsctp_machine.specs.turns.HandshakeOutcomes.{init_outcome}
 use Rattle.dcsctp_machine.proofs.PlainLemmas.{plain_controlled}
 use Rattle.dcsctp_machine.proofs.ControlHandshake.{init_ack_controlled, cookie_ack_controlled, abort_controlled}
 use Rattle.dcsctp_machine.proofs.ControlEnds.{shutdown_ack_controlled, shutdown_complete_controlled}
+use Rattle.dcsctp_machine.proofs.ResetLemmas.{reset_controlled}
 use Rattle.dcsctp_machine.proofs.ControlEcho.{cookie_echo_controlled}
 
 emits_keeps_options : (e : Endpoint) (words : List Word) (emission : Emission) → (emits e words emission).after.options ≡ e.options
@@ -56,7 +57,7 @@ content_keeps_options e tag (init theirs) o turn =
 content_keeps_options e tag (init_ack theirs cookie) o turn = controlled_keeps e tag (init_ack theirs cookie) o (init_ack_controlled e tag theirs cookie o turn)
 content_keeps_options e tag (cookie_echo cookie) o turn = controlled_keeps e tag (cookie_echo cookie) o (cookie_echo_controlled e tag cookie o turn)
 content_keeps_options e tag cookie_ack o turn = controlled_keeps e tag cookie_ack o (cookie_ack_controlled e tag o turn)
-content_keeps_options e tag (re_config parameters) o turn = controlled_keeps e tag (re_config parameters) o turn
+content_keeps_options e tag (re_config parameters) o turn = controlled_keeps e tag (re_config parameters) o (reset_controlled e tag parameters o turn)
 content_keeps_options e tag (abort reflected causes) o turn = controlled_keeps e tag (abort reflected causes) o (abort_controlled e tag reflected causes o turn)
 content_keeps_options e tag (shutdown cumulative_tsn) o turn = controlled_keeps e tag (shutdown cumulative_tsn) o turn
 content_keeps_options e tag shutdown_ack o turn = controlled_keeps e tag shutdown_ack o (shutdown_ack_controlled e tag o turn)

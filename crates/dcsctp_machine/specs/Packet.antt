@@ -6,7 +6,7 @@ use Rattle.dcsctp_machine.specs.Offer.{Offer, offer_parameters, offer_announced}
 use Rattle.dcsctp_wire.specs.Content.{ParameterContent, state_cookie, InitContent, ChunkContent, data_chunk, init_chunk, init_ack_chunk, heartbeat_chunk, heartbeat_ack_chunk, abort_chunk, shutdown_chunk, shutdown_ack_chunk, error_chunk, cookie_echo_chunk, cookie_ack_chunk, shutdown_complete_chunk, re_config_chunk, unknown_chunk, PacketContent}
 use Rattle.dcsctp_wire.specs.Spelling.{packet_bytes}
 use Rattle.dcsctp_machine.specs.Cause.{Cause}
-use Rattle.dcsctp_machine.specs.Reconfiguration.{ResetParameter, reset_parameter_content}
+use Rattle.dcsctp_machine.specs.Reconfiguration.{ResetParameter, reset_parameter_content, reset_parameter_in}
 
 -- what INIT and INIT ACK say of their sender
 pub record Introduction : Type 0 where
@@ -85,13 +85,14 @@ cookie_in [] = None
 cookie_in (state_cookie cookie ∷ parameters) = Some cookie
 cookie_in (parameter ∷ parameters) = cookie_in parameters
 
--- What a chunk says. SHUTDOWN and RE-CONFIG are no contents of their own where they are read, as long as no handler works them.
+-- What a chunk says. SHUTDOWN is no content of its own where it is read, as long as no handler works it.
 abbrev pub content_in : ChunkContent → Content
 content_in (init_chunk chunk) = init (introduction_in chunk)
 content_in (init_ack_chunk chunk) = init_ack (introduction_in chunk) (cookie_in chunk.parameters)
 content_in (abort_chunk reflected causes) = abort reflected causes
 content_in (cookie_echo_chunk cookie) = cookie_echo cookie
 content_in cookie_ack_chunk = cookie_ack
+content_in (re_config_chunk parameters) = re_config (map reset_parameter_in parameters)
 content_in shutdown_ack_chunk = shutdown_ack
 content_in (shutdown_complete_chunk reflected) = shutdown_complete reflected
 content_in (unknown_chunk type flags value) = plain (unknown type flags value)

@@ -11,6 +11,7 @@ use Rattle.dcsctp_machine.specs.turns.DataOutcomes.{FlushTurn, EndsBy, TakeTurn}
 use Rattle.dcsctp_machine.specs.turns.MessageOutcomes.{Sending, SendTurn}
 use Rattle.dcsctp_machine.specs.turns.OwnTimers.{OwnTimer, TimerTurn}
 use Rattle.dcsctp_machine.specs.turns.PlainOutcomes.{PlainTurn}
+use Rattle.dcsctp_machine.specs.turns.ResetOutcomes.{ResetTurn}
 use Rattle.dcsctp_machine.specs.turns.SettingOutcomes.{Setting, setting_outcome}
 use Rattle.dcsctp_machine.specs.turns.TimerOutcomes.{T1AgainTurn, t1_gives_up_outcome}
 use Rattle.dcsctp_machine.specs.control.Acts.{Act, connect, t1_expires, shut_down, step_of_shutdown, shutdown_repeats, abort_with, hands_over, flushes, request_again}
@@ -71,7 +72,7 @@ ContentTurn e tag (init theirs) o = InitTurn e theirs o
 ContentTurn e tag (init_ack theirs cookie) o = InitAckTurn e theirs cookie o
 ContentTurn e tag (cookie_echo cookie) o = CookieEchoTurn e tag cookie o
 ContentTurn e tag cookie_ack o = CookieAckTurn e o
-ContentTurn e tag (re_config parameters) o = ControlledChunk e tag (re_config parameters) o
+ContentTurn e tag (re_config parameters) o = ResetTurn e e.core parameters o
 ContentTurn e tag (abort reflected causes) o = o ≡ abort_outcome e causes e.core
 ContentTurn e tag (shutdown cumulative_tsn) o = ControlledChunk e tag (shutdown cumulative_tsn) o
 ContentTurn e tag shutdown_ack o = ShutdownAckTurn e e.core tag o

@@ -7,6 +7,7 @@ pub mod HeartbeatOutcomes
 pub mod MessageOutcomes
 pub mod OwnTimers
 pub mod PlainOutcomes
+pub mod ResetOutcomes
 pub mod SettingOutcomes
 pub mod TimerOutcomes
 pub mod TransferMoves

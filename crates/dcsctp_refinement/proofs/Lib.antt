@@ -16,6 +16,7 @@ mod Idle
 mod IdleTurns
 mod Moves
 mod PlainFits
+mod Resets
 mod Sendable
 mod Sent
 mod Signs

@@ -24,6 +24,7 @@ use Rattle.dcsctp_machine.proofs.ControlEnds.{shutdown_ack_controlled, shutdown_
 use Rattle.dcsctp_machine.proofs.ControlEcho.{cookie_echo_controlled}
 use Rattle.dcsctp_machine.proofs.ControlLemmas.{begin_stands}
 use Rattle.dcsctp_machine.proofs.PlainLemmas.{plain_controlled}
+use Rattle.dcsctp_machine.proofs.ResetLemmas.{reset_controlled}
 use Rattle.dcsctp_agreement.specs.OneSide.{AnswersEndRequests}
 use Rattle.dcsctp_refinement.specs.OneSocket.{EndsByAnswer, SocketRequestsEndByAnswers}
 
@@ -119,7 +120,7 @@ chunk_ends law e tag (init theirs) t h = same_ends t (init_outcome e theirs e.co
 chunk_ends law e tag (init_ack theirs cookie) t h = by_chunk law e tag (init_ack theirs cookie) t h.is (init_ack_controlled e tag theirs cookie t.outcome h.comes)
 chunk_ends law e tag (cookie_echo cookie) t h = by_chunk law e tag (cookie_echo cookie) t h.is (cookie_echo_controlled e tag cookie t.outcome h.comes)
 chunk_ends law e tag cookie_ack t h = by_chunk law e tag cookie_ack t h.is (cookie_ack_controlled e tag t.outcome h.comes)
-chunk_ends law e tag (re_config parameters) t h = by_chunk law e tag (re_config parameters) t h.is h.comes
+chunk_ends law e tag (re_config parameters) t h = by_chunk law e tag (re_config parameters) t h.is (reset_controlled e tag parameters t.outcome h.comes)
 chunk_ends law e tag (abort reflected causes) t h = by_chunk law e tag (abort reflected causes) t h.is (abort_controlled e tag reflected causes t.outcome h.comes)
 chunk_ends law e tag (shutdown tsn) t h = by_chunk law e tag (shutdown tsn) t h.is h.comes
 chunk_ends law e tag shutdown_ack t h = by_chunk law e tag shutdown_ack t h.is (shutdown_ack_controlled e tag t.outcome h.comes)

@@ -13,15 +13,15 @@ use Rattle.dcsctp_machine.specs.CallTurns.{Turned, IsTurn, AlongTurns, after_all
 use Rattle.dcsctp_machine.specs.Sockets.{of_side, turns_after}
 use Rattle.dcsctp_machine.proofs.AlongLemmas.{MayCome, run_along_where}
 use Rattle.dcsctp_refinement.specs.Deadlines.{SocketsRunT1}
+use Rattle.dcsctp_refinement.proofs.Resets.{reset_up}
 use Rattle.dcsctp_refinement.proofs.T1Turns.{Awaits, Up, UpAfter, init_up, connect_up, init_ack_up, cookie_ack_up, echo_up, abort_up, aborting_up, goes_on_up, again_up, gives_up_up}
 use Rattle.dcsctp_refinement.proofs.T1Chunks.{plain_up, timer_up, shutdown_ack_up, shutdown_complete_up}
 use Rattle.dcsctp_refinement.proofs.T1Data.{flush_turn_up, end_up, take_up, send_up}
 
 -- ---- what may come
 
--- A chunk that is read: so far neither RE-CONFIG nor SHUTDOWN.
+-- A chunk that is read: so far no SHUTDOWN.
 abbrev IsRead : Content → Type 0
-IsRead (re_config parameters) = ⊥
 IsRead (shutdown tsn) = ⊥
 IsRead content = Unit {0}
 
@@ -98,7 +98,7 @@ chunk_up e tag (init theirs) o may turn h = subst UpAfter (sym turn.2) (init_up 
 chunk_up e tag (init_ack theirs cookie) o may turn h = subst UpAfter (sym turn.3) (init_ack_up e theirs cookie e.core turn.0 turn.1 turn.2 h)
 chunk_up e tag (cookie_echo bytes) o may turn h = subst UpAfter (sym turn.3) (echo_up e e.core tag (cookie_at bytes) turn.0 turn.1 turn.2 h h)
 chunk_up e tag cookie_ack o may turn h = subst UpAfter (sym turn.2) (cookie_ack_up e e.core turn.0 turn.1 h)
-chunk_up e tag (re_config parameters) o may turn h = absurd may
+chunk_up e tag (re_config parameters) o may turn h = reset_up e e.core parameters o turn h
 chunk_up e tag (abort reflected causes) o may turn h = subst UpAfter (sym turn) (abort_up e causes e.core h)
 chunk_up e tag (shutdown tsn) o may turn h = absurd may
 chunk_up e tag shutdown_ack o may turn h = shutdown_ack_up e e.core tag o turn h h

@@ -23,6 +23,7 @@ use Rattle.dcsctp_machine.proofs.ControlEnds.{shutdown_ack_controlled, shutdown_
 use Rattle.dcsctp_machine.proofs.ControlEcho.{cookie_echo_controlled}
 use Rattle.dcsctp_machine.proofs.ControlLemmas.{begin_stands}
 use Rattle.dcsctp_machine.proofs.PlainLemmas.{plain_controlled}
+use Rattle.dcsctp_machine.proofs.ResetLemmas.{reset_controlled}
 use Rattle.dcsctp_agreement.specs.OneSide.{ends_in, OneEnd, it_ends, it_stays, EndsOnce}
 use Rattle.dcsctp_refinement.specs.OneSocket.{ends_told, TellsEnd, SocketsTellEnds}
 use Rattle.dcsctp_refinement.specs.OneSocket as told
@@ -128,7 +129,7 @@ chunk_tells law e tag (init theirs) t h = rests e t (init_outcome e theirs e.cor
 chunk_tells law e tag (init_ack theirs cookie) t h = by_chunk law e tag (init_ack theirs cookie) t (init_ack_controlled e tag theirs cookie t.outcome h.comes)
 chunk_tells law e tag (cookie_echo cookie) t h = by_chunk law e tag (cookie_echo cookie) t (cookie_echo_controlled e tag cookie t.outcome h.comes)
 chunk_tells law e tag cookie_ack t h = by_chunk law e tag cookie_ack t (cookie_ack_controlled e tag t.outcome h.comes)
-chunk_tells law e tag (re_config parameters) t h = by_chunk law e tag (re_config parameters) t h.comes
+chunk_tells law e tag (re_config parameters) t h = by_chunk law e tag (re_config parameters) t (reset_controlled e tag parameters t.outcome h.comes)
 chunk_tells law e tag (abort reflected causes) t h = by_chunk law e tag (abort reflected causes) t (abort_controlled e tag reflected causes t.outcome h.comes)
 chunk_tells law e tag (shutdown tsn) t h = by_chunk law e tag (shutdown tsn) t h.comes
 chunk_tells law e tag shutdown_ack t h = by_chunk law e tag shutdown_ack t (shutdown_ack_controlled e tag t.outcome h.comes)

@@ -28,6 +28,7 @@ use Rattle.dcsctp_machine.specs.Fitting.{AllSent, FitsHeld, FitsCore, FitsEndpoi
 use Rattle.dcsctp_refinement.proofs.Bytes.{ReadPairs, read_pairs_fit}
 use Rattle.dcsctp_refinement.proofs.FlushFits.{still_fits, draft_sendable, flushed_fits}
 use Rattle.dcsctp_refinement.proofs.PlainFits.{plain_fits}
+use Rattle.dcsctp_refinement.proofs.Resets.{reset_fits}
 use Rattle.dcsctp_refinement.proofs.Sendable.{init_sendable, init_ack_sendable, echo_sendable, ack_sendable, abort_sendable}
 use Rattle.dcsctp_refinement.proofs.Sent.{all_sent_append}
 
@@ -242,7 +243,7 @@ turn_fits law e tag (init theirs) o turn h tagged good = subst TurnFits (sym tur
 turn_fits law e tag (init_ack theirs cookie) o turn h tagged good = subst TurnFits (sym turn.3) (init_ack_fits e theirs cookie e.core turn.0 turn.1 turn.2 h h.core good)
 turn_fits law e tag (cookie_echo bytes) o turn h tagged good = subst TurnFits (sym turn.3) (echo_fits e e.core tag bytes (cookie_at bytes) turn.0 turn.1 turn.2 refl h h.core good.fits)
 turn_fits law e tag cookie_ack o turn h tagged good = subst TurnFits (sym turn.2) (cookie_ack_fits e e.core turn.0 turn.1 h h.core)
-turn_fits law e tag (re_config parameters) o turn h tagged good = absurd (cc)
+turn_fits law e tag (re_config parameters) o turn h tagged good = reset_fits e e.core parameters o turn h h.core good
 turn_fits law e tag (abort reflected causes) o turn h tagged good = subst TurnFits (sym turn) (abort_fits e causes e.core h)
 turn_fits law e tag (shutdown cumulative_tsn) o turn h tagged good = absurd (cc)
 turn_fits law e tag shutdown_ack o turn h tagged good = shutdown_ack_fits e e.core tag o turn h h.core tagged

@@ -38,6 +38,8 @@ mod pairs;
 #[cfg(test)]
 mod plenty;
 #[cfg(test)]
+mod resets;
+#[cfg(test)]
 mod script;
 #[cfg(test)]
 mod settings;

@@ -1,21 +1,19 @@
 -- What tells the peer to wait no longer, from what was given up.
-use Rattle.std.proofs.Common.{◌≡◌, ◌∙◌, ℕ, ◌+◌, ◌*◌, ◌%◌, ◌^◌, ◌<◌, ◌≤◌, ◌&&◌, Result, Ok, Err, Bool, true, false, Option, None, List, [], ◌++◌, length, length-append, map, refl, ap, sym, subst, arith}
+use Rattle.std.proofs.Common.{◌≡◌, ◌∙◌, ℕ, ◌+◌, ◌^◌, ◌<◌, ◌≤◌, ◌&&◌, Result, Ok, Err, Bool, true, false, Option, None, List, ◌++◌, length, length-append, map, refl, ap, sym, subst, arith}
 use Rattle.std.specs.List.{AllByRecursion}
 use Rattle.std.specs.Int.{w32, to_be_bytes}
 use Rattle.std.specs.declared.alloc.AllocError.{AllocError}
-use Rattle.dcsctp_wire.specs.Content.{ChunkContent, forward_tsn_chunk, i_forward_tsn_chunk}
+use Rattle.dcsctp_wire.specs.Content.{forward_tsn_chunk, i_forward_tsn_chunk}
 use Rattle.dcsctp_wire.specs.ReadsBack.{IsByte, FitsChunk}
 use Rattle.dcsctp_wire.specs.Spelling.{chunk_bytes}
 use Rattle.dcsctp_wire.proofs.Lengths.{length-chunk_bytes}
-use Rattle.dcsctp_build.specs.Building.{Building, bytes_remaining}
+use Rattle.dcsctp_build.specs.Building.{Building}
 use Rattle.dcsctp_machine.specs.Event.{Event}
 use Rattle.dcsctp_machine.specs.Packet.{unworked}
 use Rattle.dcsctp_machine.specs.Transfer.{SendQueueState, RetransmissionState, Transfer}
 use Rattle.dcsctp_machine.specs.turns.FlushOutcomes.{IsForward}
-use Rattle.dcsctp_send_queue.specs.declared.backlog.Backlog.{Backlog}
 use Rattle.dcsctp_send_queue.specs.Backlog.{queue_state}
 use Rattle.dcsctp_outstanding.specs.declared.item.Item.{Item}
-use Rattle.dcsctp_retransmission.specs.declared.forward_tsn.ForwardTsn.{ForwardTsn}
 use Rattle.dcsctp_retransmission.specs.declared.forward_tsn.Skipped.{Skipped}
 use Rattle.dcsctp_retransmission.specs.declared.forward_tsn.Skipped.TheVariants.{Streams, Messages}
 use Rattle.dcsctp_retransmission.specs.Queue.{QueueModel, header_of, retransmission_state}

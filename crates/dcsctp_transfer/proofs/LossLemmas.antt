@@ -1,5 +1,5 @@
 -- What is in flight is lost, as the values that are shown tell it.
-use Rattle.std.proofs.Common.{◌≡◌, ◌∙◌, ℕ, zero, suc, ◌+◌, ◌-◌, ◌*◌, ◌/◌, ◌%◌, ◌^◌, ◌≤◌, min, Bool, true, false, if◌then◌else◌, List, [], ◌∷◌, length, refl, ap, sym, arith}
+use Rattle.std.proofs.Common.{◌≡◌, ◌∙◌, ℕ, zero, suc, ◌+◌, ◌%◌, ◌^◌, ◌≤◌, Bool, true, false, if◌then◌else◌, List, [], ◌∷◌, length, refl, ap, arith}
 use Rattle.std.proofs.lemmas.List.Sums.{sum_by-cons}
 use Rattle.dcsctp_machine.specs.Transfer.{RetransmissionState, Transfer}
 use Rattle.dcsctp_machine.specs.turns.TransferMoves.{LosesAll}
@@ -10,7 +10,6 @@ use Rattle.dcsctp_outstanding.specs.declared.progress.Progress.{Progress}
 use Rattle.dcsctp_outstanding.specs.declared.progress.Change.TheVariants.{Mark}
 use Rattle.dcsctp_outstanding.specs.Progress.{is_unacknowledged, is_in_flight, marked}
 use Rattle.dcsctp_outstanding.specs.Items.{counted, size_of, in_flight_size, bytes_in_flight, unacknowledged_count, unacknowledged_items, changed_item, changed_between}
-use Rattle.dcsctp_outstanding.specs.Outstanding.{next_tsn}
 use Rattle.dcsctp_outstanding.proofs.ItemsLemmas.{length-changed_between}
 use Rattle.dcsctp_retransmission.specs.Queue.{QueueModel, retransmission_state, queue_after_expiry}
 use Rattle.dcsctp_transfer.specs.Sacks.{LosesWhere}

@@ -1,6 +1,7 @@
 -- What comes in, as the values that are shown tell it.
-use Rattle.std.proofs.Common.{◌≡◌, ◌==◌, ℕ, ◌+◌, ◌-◌, ◌*◌, ◌%◌, ◌^◌, ◌<◌, ◌≤◌, nat_le, nat_lt, not, ◌&&◌, ◌||◌, Bool, true, false, if◌then◌else◌, List, [], ◌∷◌, ◌++◌, length, refl, ap, ◌∙◌, arith}
+use Rattle.std.proofs.Common.{◌≡◌, ◌==◌, ℕ, ◌+◌, ◌-◌, ◌*◌, ◌%◌, ◌^◌, ◌<◌, ◌≤◌, nat_le, nat_lt, not, ◌&&◌, ◌||◌, Bool, true, false, if◌then◌else◌, Result, Ok, Err, OnOk, OnErr, List, [], ◌∷◌, ◌++◌, length, refl, ap, ◌∙◌, append_assoc, arith}
 use Rattle.std.proofs.lemmas.Bool.Decides.{nat_tests}
+use Rattle.std.specs.declared.alloc.AllocError.{AllocError}
 use Rattle.dcsctp_machine.specs.Transfer.{MessageContent, RetransmissionState, TimeoutState, Transfer}
 use Rattle.dcsctp_machine.specs.turns.TransferMoves as moves
 use Rattle.dcsctp_send.specs.Timer.{TimerModel, running_deadline}
@@ -18,7 +19,9 @@ use Rattle.dcsctp_reassembly.specs.declared.stream.Taken.{Taken}
 use Rattle.dcsctp_reassembly.specs.Runs.{RunModel, PartModel, WholeModel, whole_of}
 use Rattle.dcsctp_reassembly.specs.Streams.{StreamModel, ChunkModel, ready_with, OrderedOutcome, UnorderedOutcome, TakesUnordered, TakesInOrder, TakesNumbered}
 use Rattle.dcsctp_reassembly.specs.Reassembly.{IncomingModel, TakesChunk, TakesData}
-use Rattle.dcsctp_reassembly.specs.Queue.{QueueModel, queued_bytes, reassembly_state, can_count, is_deferred, with_deferred, with_waiting, skipping, is_forward_deferred, Takes, Forwards}
+use Rattle.dcsctp_reassembly.specs.Skipping.{ResetsStreams as Resets}
+use Rattle.dcsctp_reassembly.specs.Queue.{QueueModel, WaitingModel, arrived, queued_bytes, reassembly_state, can_count, is_deferred, with_deferred, with_waiting, skipping, is_forward_deferred, Takes, Forwards, Works, WorksAll, actions_of, Leaves, StaysDeferred}
+use Rattle.dcsctp_machine.specs.turns.ResetOutcomes.{ResetsStreams}
 
 -- ---- the receive window
 
@@ -160,6 +163,49 @@ gains_by_skipping tsn entries old new waits works = by_wait (is_forward_deferred
     by_wait true is = let same = waits is in same_ready old new (ap (λ (q : QueueModel). q.incoming.ready) same) (ap (λ (q : QueueModel). q.max_size) same)
     by_wait false is = let worked = works is in record { ready = record { more = _; is = worked.incoming.ready }; window = worked.window }
 
+-- ---- streams that are reset
+
+kept_in_front : (before between after : List MessageContent) → StartsWith before between → StartsWith between after → StartsWith before after
+kept_in_front before between after first second =
+    record { more = first.more ++ second.more; is = second.is ∙ ap (λ (messages : List MessageContent). messages ++ second.more) first.is ∙ append_assoc before first.more second.more }
+
+works_behind : (action : WaitingModel) (old new : IncomingModel) → Works action old new → StartsWith old.ready new.ready
+works_behind (arrived tsn chunk) old new works = data_behind tsn chunk old new works
+works_behind (skipping tsn entries) old new works = record { more = _; is = works.ready }
+
+all_behind : (actions : List WaitingModel) (old new : IncomingModel) → WorksAll actions old new → StartsWith old.ready new.ready
+all_behind [] old new works = stays_in_front old.ready new.ready (ap (λ (incoming : IncomingModel). incoming.ready) works)
+all_behind (action ∷ actions) old new works =
+    kept_in_front old.ready works.0.ready new.ready (works_behind action old works.0 works.1) (all_behind actions works.0 new works.2)
+
+reset_keeps : (streams : List ℕ) (old new : IncomingModel) → Resets streams old new → new.ready ≡ old.ready
+reset_keeps [] old new resets = resets.kept.ready
+reset_keeps (reset ∷ streams) old new resets = resets.kept.ready
+
+-- what is ready stays in front, also where there is no memory for something that waited
+pub gains_by_reset : (streams : List ℕ) (old new : QueueModel) → Leaves streams old new → GainsReady old new
+gains_by_reset streams old new leaves =
+    record {
+      ready = kept_in_front old.incoming.ready leaves.between.ready new.incoming.ready
+          (stays_in_front old.incoming.ready leaves.between.ready (reset_keeps streams old.incoming leaves.between leaves.resets))
+          (all_behind (actions_of old.deferral) leaves.between new.incoming leaves.works);
+      window = leaves.window;
+    }
+
+pub gains_by_part : (streams : List ℕ) (old new : QueueModel) → StaysDeferred streams old new → GainsReady old new
+gains_by_part streams old new stays =
+    record {
+      ready = kept_in_front old.incoming.ready stays.between.ready new.incoming.ready
+          (stays_in_front old.incoming.ready stays.between.ready (reset_keeps streams old.incoming stays.between stays.resets))
+          (kept_in_front stays.between.ready stays.works.between.ready new.incoming.ready (all_behind stays.works.done stays.between stays.works.between stays.works.works)
+          (stays_in_front stays.works.between.ready new.incoming.ready stays.works.same.ready));
+      window = stays.window;
+    }
+
+pub gains_by_answer : (result : Result (Unit {0}) AllocError) (streams : List ℕ) (old new : QueueModel) → OnOk result (Leaves streams old new) → OnErr result (StaysDeferred streams old new) → GainsReady old new
+gains_by_answer (Ok done) streams old new leaves stays = gains_by_reset streams old new leaves
+gains_by_answer (Err error) streams old new leaves stays = gains_by_part streams old new stays
+
 -- ---- all of it
 
 -- what is shown of a tracker and a queue beside what goes out
@@ -204,3 +250,7 @@ pub moved_forward : (retransmission : RetransmissionState) (timeout : TimeoutSta
 moved_forward retransmission timeout tsn old_tracker new_tracker old new valid forwards gains =
     takes_where _ _ _ (valid_shown old_tracker tsn ∙ valid)
     (taken retransmission timeout old_tracker new_tracker old new false forwards.1.acknowledgement forwards.1.delay gains)
+
+pub streams_reset : (retransmission : RetransmissionState) (timeout : TimeoutState) (tracker : TrackerModel) (old new : QueueModel) → GainsReady old new
+    → ResetsStreams (shown retransmission timeout tracker old) (shown retransmission timeout tracker new)
+streams_reset retransmission timeout tracker old new gains = record { reassembly = gains_by old new gains.ready gains.window; rest = refl }

@@ -1,5 +1,5 @@
 -- What tells the peer to wait no longer for messages that were given up (RFC 3758, section 3.5; RFC 8260, section 2.3.1).
-use Rattle.std.specs.Prelude.{◌≡◌, ◌≤◌, ℕ, min, length, Bool, true, false, Option, None, Some, List, [], ◌++◌, map}
+use Rattle.std.specs.Prelude.{◌≡◌, ◌≤◌, ℕ, min, length, Bool, false, Option, None, Some, List, [], ◌++◌, map}
 use Rattle.dcsctp_wire.specs.Content.{ChunkContent, forward_tsn_chunk, i_forward_tsn_chunk}
 use Rattle.dcsctp_wire.specs.ReadsBack.{FitsChunk}
 use Rattle.dcsctp_wire.specs.Spelling.{chunk_bytes}

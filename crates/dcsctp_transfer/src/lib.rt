@@ -6,6 +6,7 @@
 mod forwarding;
 mod queued_messages;
 mod receiving;
+mod resets;
 mod sacks;
 mod sending;
 mod transfer;

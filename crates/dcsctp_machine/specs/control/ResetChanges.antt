@@ -143,7 +143,7 @@ work_parameters my is_reached has_worked held (incoming_reset_request number str
 work_parameters my is_reached has_worked held (reconfiguration_response number result ∷ parameters) =
     let first : Informed = informed_where my held number result (is_outstanding number held.own_outstanding) in
     after_answer first (work_parameters my is_reached has_worked first.held parameters)
-work_parameters my is_reached has_worked held (other_reset_parameter type value ∷ parameters) = work_parameters my is_reached has_worked held parameters
+work_parameters my is_reached has_worked held (other_reset_parameter parameter ∷ parameters) = work_parameters my is_reached has_worked held parameters
 
 -- ---- the chunk
 

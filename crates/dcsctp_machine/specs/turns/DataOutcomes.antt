@@ -4,11 +4,10 @@ use Rattle.std.specs.List.{AllByRecursion}
 use Rattle.dcsctp_wire.specs.Content.{no_user_data, sack_chunk}
 use Rattle.dcsctp_machine.specs.declared.association.Held.{Held}
 use Rattle.dcsctp_machine.specs.declared.kinds.ErrorKind.TheVariants.{ProtocolViolation, NotConnected}
-use Rattle.dcsctp_machine.specs.Settings.{packet_size_limit}
 use Rattle.dcsctp_machine.specs.Event.{error}
 use Rattle.dcsctp_machine.specs.Packet.{Plain, unworked, error_of, plain, Emission}
 use Rattle.dcsctp_machine.specs.Transfer.{MessageContent, RetransmissionState, TrackerState, Transfer}
-use Rattle.dcsctp_machine.specs.Endpoint.{Endpoint, Core, closed, cookie_wait, cookie_echoed, open_in, held_in}
+use Rattle.dcsctp_machine.specs.Endpoint.{Endpoint, held_in}
 use Rattle.dcsctp_machine.specs.Outcome.{Outcome, still, reports, emits, behind, to_peer}
 use Rattle.dcsctp_machine.specs.control.Choices.{plain_contents}
 use Rattle.dcsctp_machine.specs.turns.FlushOutcomes.{Answer, goes_out, draft_to, flush_of, room_in, where_fits, IsWithin, IsSackOf, IsData, FitsPlain, filled, FlushAnswers}

@@ -1,9 +1,9 @@
 -- What the transfer layer makes of what it is told. Which data it holds and how far it reaches is its own; what stands here is
 -- what the rest of a socket relies on.
-use Rattle.std.specs.Prelude.{◌≡◌, ◌⊎◌, ◌==◌, ◌≤◌, ◌<◌, ℕ, ◌+◌, ◌-◌, ◌*◌, ◌%◌, ◌^◌, Bool, true, false, not, ◌&&◌, ◌||◌, nat_le, nat_lt, Option, None, Some, IsSome, List, [], ◌∷◌, ◌++◌, if◌then◌else◌}
+use Rattle.std.specs.Prelude.{◌≡◌, ◌≤◌, ℕ, ◌+◌, ◌-◌, ◌*◌, ◌%◌, ◌^◌, Bool, true, false, not, ◌&&◌, ◌||◌, nat_le, nat_lt, None, IsSome, List, [], ◌∷◌, ◌++◌}
 use Rattle.dcsctp_machine.specs.Event.{Event, lifecycle_message_delivered, lifecycle_end}
 use Rattle.dcsctp_machine.specs.Packet.{Emission}
-use Rattle.dcsctp_machine.specs.Transfer.{MessageContent, RetransmissionState, TrackerState, ReassemblyState, Transfer}
+use Rattle.dcsctp_machine.specs.Transfer.{MessageContent, TrackerState, ReassemblyState, Transfer}
 
 -- ---- data that comes in
 

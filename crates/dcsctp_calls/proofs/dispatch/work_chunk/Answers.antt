@@ -4,7 +4,7 @@ use Rattle.dcsctp_wire.specs.Content.{cause_content, parameter_content}
 use Rattle.dcsctp_machine.specs.turns.HeartbeatOutcomes.{counter_of, info_in}
 use Rattle.dcsctp_heartbeat.specs.Heartbeats.{heartbeat_turn, heartbeat_ack_turn}
 use Rattle.dcsctp_wire.specs.Content.{init_content, data_content, i_data_content, sack_content, data_chunk, i_data_chunk, sack_chunk, forward_tsn_chunk, i_forward_tsn_chunk}
-use Rattle.dcsctp_machine.specs.Packet.{introduction_in, cookie_in, init_ack, cookie_echo, cookie_ack, plain, unworked}
+use Rattle.dcsctp_machine.specs.Packet.{introduction_in, cookie_in, init_ack, cookie_echo, cookie_ack, re_config, plain, unworked}
 use Rattle.dcsctp_machine.specs.Packet as machine
 use Rattle.dcsctp_core.specs.View.{core_of, view_of, endpoint_of}
 use Rattle.dcsctp_handshake.specs.Handshake.{InitAckAt, CookieAckAt, CookieEchoAt}
@@ -13,7 +13,9 @@ use Rattle.dcsctp_calls.proofs.ChunkLemmas.{init_cut, rests, works_chunk, works_
 use Rattle.dcsctp_calls.specs.Unknown.{unknown_turn}
 use Rattle.dcsctp_data.specs.Data.{DataAt, ForwardAt}
 use Rattle.dcsctp_data.specs.Sacks.{SackAt}
-use Rattle.dcsctp_calls.proofs.DataTurns.{data_goes, forward_goes, sack_goes, cookie_ack_goes}
+use Rattle.dcsctp_resets.specs.Requests.{reset_parameters}
+use Rattle.dcsctp_resets.specs.Resets.{ReConfigAt}
+use Rattle.dcsctp_calls.proofs.DataTurns.{data_goes, forward_goes, sack_goes, cookie_ack_goes, reset_goes}
 use Rattle.dcsctp_calls.proofs.DispatchLemmas.{none_for, ack_worked, ack_cut, complete_worked, unknown_is, tries_worked, tries_cut, heartbeat_follows, heartbeat_ack_follows, heartbeat_is, heartbeat_ack_is, error_follows, error_is, plain_at, takes_worked, takes_cut}
 use Rattle.dcsctp_calls.proofs.dispatch.work_chunk.Goals as goal
 
@@ -98,8 +100,20 @@ returns-in_err-handle_error-in-Error g c =
 pub returns-in-ShutdownComplete : goal.returns-in-ShutdownComplete
 returns-in-ShutdownComplete g c = rw c.in-ShutdownComplete.is (complete_worked g.R.Rng.stream c.args.context.now c.args.header_tag _)
 
-pub returns-in-ReConfig : goal.returns-in-ReConfig
-returns-in-ReConfig g c = rw c.in-ReConfig.is (rests g.R.Rng.stream (view_of c.args.context.now) c.args.header_tag _ (none_for (core_of c.args.context.now.state) _ _ c.in-ReConfig.is c.requires) refl)
+pub returns-in_ok-handle_re_config-in-ReConfig : goal.returns-in_ok-handle_re_config-in-ReConfig
+returns-in_ok-handle_re_config-in-ReConfig g c =
+    let old = view_of c.args.context.now in
+    let parameters = reset_parameters c.in-ReConfig.re_config.parameters.items in
+    rw c.in-ReConfig.is
+    (takes_worked g.R.Rng.stream old (view_of c.handle_re_config.new.context) c.args.header_tag (re_config parameters) (ReConfigAt parameters) (λ o turn. turn)
+    (λ o turn. reset_goes old.endpoint parameters o turn) c.in_ok-handle_re_config-in-ReConfig.ensures)
+
+pub returns-in_err-handle_re_config-in-ReConfig : goal.returns-in_err-handle_re_config-in-ReConfig
+returns-in_err-handle_re_config-in-ReConfig g c =
+    let parameters = reset_parameters c.in-ReConfig.re_config.parameters.items in
+    rw c.in-ReConfig.is
+    (rw (err_from_is_err_and c.from_residual-in_err-handle_re_config-in-ReConfig.result c.from_residual-in_err-handle_re_config-in-ReConfig.ensures.1).1
+    (takes_cut (view_of c.args.context.now) c.args.header_tag (re_config parameters) (ReConfigAt parameters) _ (λ o turn. turn) c.in_err-handle_re_config-in-ReConfig.ensures))
 
 pub returns-in-Unknown : goal.returns-in-Unknown
 returns-in-Unknown g c =

@@ -1,4 +1,4 @@
-use Rattle.std.proofs.Common.{◌∙◌, Bool, None, Some, min, refl, ap, sym, subst}
+use Rattle.std.proofs.Common.{◌∙◌, Bool, None, Some, min, refl, ap, subst}
 use Rattle.std.proofs.lemmas.Result.{err_from_is_err_and}
 use Rattle.dcsctp_machine.specs.Endpoint.{moment_after}
 use Rattle.dcsctp_machine.specs.Transfer.{RetransmissionState, Transfer}

@@ -1,0 +1,3 @@
+pub mod HandlingLemmas
+pub mod RequestLemmas
+pub mod StreamLemmas

@@ -1,0 +1,53 @@
+//! How requests of the peer to reset streams are answered, byte by byte (RFC 6525, sections 4.1, 4.2, 4.4 and 5.2).
+//!
+//! The first TSN of tag 7 is 100, which is its first number too. Packets go without a checksum, so that a whole one
+//! can be written down.
+
+use crate::script::run;
+
+const REQUESTS: &str = r#"
+    == requests are answered by their numbers
+    option zero_checksum_alternate_error_detection_method 1
+    A connects
+    A sends any
+    B receives
+    B sends any
+    A receives
+    A sends any
+    B receives
+    B tells OnConnected
+    B sends any
+    A receives
+    A tells OnConnected
+
+    // 100 is the first one, and all has come that was sent before it: performed
+    B takes 13881388 00000009 00000000 82000018 000d0014 00000064 00000000 00000063 00010002
+    B tells OnIncomingStreamReset([1, 2])
+    B sends 13881388 00000007 00000000 82000010 0010000c 00000064 00000001
+
+    // again: the same answer alone
+    B takes 13881388 00000009 00000000 82000018 000d0014 00000064 00000000 00000063 00010002
+    B sends 13881388 00000007 00000000 82000010 0010000c 00000064 00000001
+
+    // 102 isn't awaited: a bad sequence number
+    B takes 13881388 00000009 00000000 82000018 000d0014 00000066 00000000 00000063 00010002
+    B sends 13881388 00000007 00000000 82000010 0010000c 00000066 00000005
+
+    // 101, behind TSN 100, which hasn't come: in progress
+    B takes 13881388 00000009 00000000 82000016 000d0012 00000065 00000000 00000064 00010000
+    B sends 13881388 00000007 00000000 82000010 0010000c 00000065 00000006
+
+    // 101 again, where it asks the other side to reset: nothing to do
+    B takes 13881388 00000009 00000000 8200000e 000e000a 00000065 00030000
+    B sends 13881388 00000007 00000000 82000010 0010000c 00000065 00000000
+
+    // two requests of a chunk are answered in one packet, each for itself
+    B takes 13881388 00000009 00000000 82000022 000e000a 00000066 00030000 000d0012 00000067 00000000 00000063 00040000
+    B tells OnIncomingStreamReset([4])
+    B sends 13881388 00000007 00000000 8200001c 0010000c 00000066 00000000 0010000c 00000067 00000001
+"#;
+
+#[test]
+fn requests_are_answered_by_their_numbers(rt: HostRuntime) {
+    run(&rt, rt.alloc(), REQUESTS);
+}
