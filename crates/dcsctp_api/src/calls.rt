@@ -3,12 +3,14 @@
 ghost use Rattle.std.specs.Prelude.{◌≡◌, true, false, IsOk, ◌<◌, map, length};
 ghost use Rattle.dcsctp_api.specs.Calls.{UserView, PollsEvent, HandlesInput, Connects, Closes, Sets, with_setting, stream_shown, is_closed, socket_state_of};
 ghost use Rattle.dcsctp_api.specs.Messages.{Sends, SendsMany, TakesNext, ready_messages};
+ghost use Rattle.dcsctp_api.specs.Resets.{ResetsOwn};
+ghost use Rattle.dcsctp_machine.specs.Ids.{stream_numbers};
 ghost use Rattle.dcsctp_machine.specs.Transfer.{message_content};
 ghost use Rattle.dcsctp_machine.specs.turns.SettingOutcomes.{stream_priority, stream_low_threshold, longest_message};
 ghost use Rattle.dcsctp_machine.specs.TimeTurns.{Waits, next_moment};
 ghost use Rattle.dcsctp_api.specs.Time.{Advances, OnlyMovesClock};
 
-use crate::errors::{BatchSendError, SendError, SocketFault};
+use crate::errors::{BatchSendError, ResetStreamsError, SendError, SocketFault};
 use crate::events::SocketEvent;
 use crate::state::SocketState;
 use dcsctp_machine::{Message, Options, SendOptions, SocketTime, StreamId};
@@ -94,6 +96,21 @@ pub trait DcSctpSocket {
         options: &SendOptions,
     ) -> Result<Result<(), BatchSendError>, SocketFault>
         ensures { SendsMany (map message_content messages.items) options.now (user_view self.old) result
+            (user_view self.new) };
+
+    /// Resets streams (RFC 6525, section 5.1.2), one after another: their messages that aren't begun are
+    /// dropped, which is told as it is of others that are given up, and no other is begun on them until the
+    /// reset was performed, or failed. A stream that waits for a reset already stays as it is. Then what waits
+    /// goes out, and with it, where no other reset is outstanding, the request to reset the streams of which
+    /// no message is under way.
+    ///
+    /// It is refused where no association with a peer is held, or where resets weren't negotiated. Nothing
+    /// changes and nothing is told then.
+    fn reset_streams(
+        &mut self,
+        stream_ids: &[StreamId],
+    ) -> Result<Result<(), ResetStreamsError>, SocketFault>
+        ensures { ResetsOwn (stream_numbers stream_ids.now) (user_view self.old) result
             (user_view self.new) };
 
     /// Takes the message that became ready first, where one is ready, and gives its bytes back to the receive

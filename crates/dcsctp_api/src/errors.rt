@@ -42,6 +42,18 @@ pub enum SendError {
 #[error("batch send failed with errors: {0:?}")]
 pub struct BatchSendError(pub Vec<(usize, SendError)>);
 
+/// Why no stream can be reset.
+#[derive(Clone, Copy, Debug, PartialEq, Eq, Error)]
+pub enum ResetStreamsError {
+    /// No association with a peer is held.
+    #[error("socket is not connected")]
+    NotConnected,
+
+    /// Resets of streams weren't negotiated (RFC 6525, section 5.1.1).
+    #[error("peer does not support stream resetting")]
+    NotSupported,
+}
+
 /// A refused allocation is `OutOfMemory`.
 impl From<AllocError> for SocketFault {
     ghost use Rattle.std.specs.Prelude.{◌≡◌};

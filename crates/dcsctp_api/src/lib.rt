@@ -17,7 +17,7 @@ pub use dcsctp_machine::{
     ZERO_CHECKSUM_ALTERNATE_ERROR_DETECTION_METHOD_LOWER_LAYER_DTLS,
     ZERO_CHECKSUM_ALTERNATE_ERROR_DETECTION_METHOD_NONE, ZeroChecksumAlternateErrorDetectionMethod,
 };
-pub use errors::{BatchSendError, SendError, SocketFault};
+pub use errors::{BatchSendError, ResetStreamsError, SendError, SocketFault};
 pub use events::{Events, SocketEvent};
 pub use laws::{
     lifecycle_id_hash, lifecycle_id_order, pp_id_hash, send_options_default, socket_time_order,

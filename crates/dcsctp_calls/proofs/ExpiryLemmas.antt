@@ -19,7 +19,8 @@ use Rattle.dcsctp_machine.specs.turns.EndOutcomes.{aborting_outcome}
 use Rattle.dcsctp_machine.specs.turns.FlushOutcomes.{Answer, first_ask, packets_allowed, draft_to, flush_answered}
 use Rattle.dcsctp_machine.specs.turns.HandshakeOutcomes.{echo_emission, EchoAnswers}
 use Rattle.dcsctp_machine.specs.turns.HeartbeatOutcomes.{error_counted, interval_outcome, is_exhausted, timeout_outcome}
-use Rattle.dcsctp_machine.specs.turns.OwnTimers.{OwnTimer, acknowledgement_delay, retransmission, heartbeat_interval, heartbeat_timeout, TimerTurn}
+use Rattle.dcsctp_machine.specs.turns.OwnTimers.{OwnTimer, acknowledgement_delay, retransmission, heartbeat_interval, heartbeat_timeout, reconfiguration, TimerTurn}
+use Rattle.dcsctp_machine.specs.turns.ReconfigurationOutcomes.{reconfiguration_outcome}
 use Rattle.dcsctp_machine.specs.turns.TimerOutcomes.{t1_goes_on, t1_again_by, AgainAnswers, t1_gives_up_outcome}
 use Rattle.dcsctp_machine.proofs.AnswerLemmas.{any_answers}
 use Rattle.dcsctp_machine.proofs.TurnLemmas.{events_of-append}
@@ -95,6 +96,7 @@ own_comes e acknowledgement_delay = (delay_outcome e e.below.transfer, refl)
 own_comes e retransmission = loss_comes e e.below.transfer
 own_comes e heartbeat_interval = (interval_outcome e e.core, refl)
 own_comes e heartbeat_timeout = (timeout_outcome e, refl)
+own_comes e reconfiguration = (reconfiguration_outcome e (held_in e.core) e.outstanding, refl)
 
 timer_comes : (e : Endpoint) (timer : Timer) → Comes e (expiry_input e timer)
 timer_comes e t1_timer = t1_comes e (has_restart e.timers.t1)

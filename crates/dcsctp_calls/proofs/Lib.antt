@@ -7,5 +7,6 @@ mod DataTurns
 mod DispatchLemmas
 mod ExpiryLemmas
 mod MessageLemmas
+mod ResettingLemmas
 mod TimeLemmas
 mod UnknownLemmas

@@ -1,4 +1,5 @@
 pub mod MessageParts
 pub mod Parts
+pub mod ResetParts
 pub mod TimeParts
 pub mod Unknown

@@ -1,13 +1,15 @@
-//! Messages that a user sends and takes, over the parts of a socket.
+//! Messages that a user sends and takes, and streams that a user resets, over the parts of a socket.
 
 ghost use Rattle.std.specs.Prelude.{map};
+ghost use Rattle.dcsctp_machine.specs.Ids.{stream_numbers};
 ghost use Rattle.dcsctp_machine.specs.Transfer.{message_content};
 ghost use Rattle.dcsctp_core.specs.View.{view_of};
 ghost use Rattle.dcsctp_calls.specs.MessageParts.{WorksSend, WorksSendMany, WorksTake};
+ghost use Rattle.dcsctp_calls.specs.ResetParts.{WorksReset};
 
-use dcsctp_api::{BatchSendError, Message, SendError, SendOptions};
+use dcsctp_api::{BatchSendError, Message, ResetStreamsError, SendError, SendOptions, StreamId};
 use dcsctp_core::Context;
-use dcsctp_messages::{do_send, do_send_many};
+use dcsctp_messages::{do_reset_streams, do_send, do_send_many};
 use rand_core::Rng;
 use std::alloc::AllocError;
 
@@ -34,6 +36,17 @@ pub fn send_many<R: Rng>(
 {
     context.begin_call();
     do_send_many(context, messages, options)
+}
+
+/// Resets own streams. The one error is that a growth was refused. The first events of the turn may stand then.
+pub fn reset_streams<R: Rng>(
+    context: &mut Context<R>,
+    stream_ids: &[StreamId],
+) -> Result<Result<(), ResetStreamsError>, AllocError>
+    ensures { WorksReset R.stream (stream_numbers stream_ids.now) context.old result context.new }
+{
+    context.begin_call();
+    do_reset_streams(context, stream_ids)
 }
 
 /// Takes the message that became ready first, where one is ready. It takes no memory.

@@ -5,15 +5,15 @@ use Rattle.rand_core.specs.Stream.{Stream}
 use Rattle.dcsctp_build.specs.Building.{Building}
 use Rattle.dcsctp_machine.specs.Event.{Event}
 use Rattle.dcsctp_machine.specs.Packet.{Emission}
-use Rattle.dcsctp_machine.specs.Transfer.{SendQueueState, Transfer, has_data}
+use Rattle.dcsctp_machine.specs.Transfer.{SendQueueState, Transfer, has_data, is_none_ready}
 use Rattle.dcsctp_machine.specs.turns.FlushOutcomes.{Ask, first_ask, later_ask}
 use Rattle.dcsctp_transfer.specs.Filling.{TellsMore, is_sack_wanted, Acknowledges}
 use Rattle.dcsctp_transfer.proofs.TellingLemmas.{tells_then}
 use Rattle.dcsctp_core.specs.declared.context.Context.{Context}
 use Rattle.dcsctp_core.specs.declared.state.State.{State}
 use Rattle.dcsctp_core.specs.View.{View, transfer_of, view_of}
-use Rattle.dcsctp_core.specs.Flushing.{packet_for, AcknowledgesBelow, ForwardsAt, HasNoData, WantsNone, can_send_below, TriesData, Fills, FillsWith, AskCut, AsksWith, SendsUnlessEmpty, KeepsSize}
-use Rattle.dcsctp_core.proofs.FillLemmas.{idle_parts, fills_later}
+use Rattle.dcsctp_core.specs.Flushing.{packet_for, AcknowledgesBelow, ForwardsAt, BeginsAt, HasNoData, HasNoReset, WantsNone, can_send_below, TriesData, Fills, FillsWith, AskCut, AsksWith, SendsUnlessEmpty, KeepsSize}
+use Rattle.dcsctp_core.proofs.FillLemmas.{idle_parts, idle_ready, fills_later}
 use Rattle.dcsctp_core.proofs.FirstLemmas.{transfer_is, fills_first, IsBusy, cut_busy}
 use Rattle.dcsctp_core.proofs.FlushLemmas.{asks_for, ask_cut}
 
@@ -69,17 +69,85 @@ forward_refused packet acked old along state draft events ack some tells =
     cut_busy first_ask (view_of old) draft events
     (busy_by old.send_queue (transfer_of old.state) (λ none. some (data_stays old.send_queue (transfer_of old.state) along old.state state packet acked refl ack none))) tells
 
-pub first_returns : {R E : Type 0} (packet acked given_packet filled : Building) (old : Context R) (along : Bool) (state : State) (given : Context R) (result : Result (Unit {0}) E) (new : Context R)
+-- ---- a reset
+
+-- What acknowledges leaves the streams that are ready.
+reset_stays : (queue : SendQueueState) (found : Option Transfer) (along : Bool) (old new : State) (packet filled : Building) → transfer_of old ≡ found → AcknowledgesBelow found along old packet new filled
+    → HasNoReset queue found → HasNoReset queue (transfer_of new)
+reset_stays queue None along old new packet filled holds ack none = subst (HasNoReset queue) (sym (ap transfer_of ack.0 ∙ holds)) tt
+reset_stays queue (Some transfer) along old new packet filled holds ack none =
+    subst (HasNoReset queue) (sym (ap transfer_of ack.1 ∙ transfer_is old transfer ack.0 holds)) none
+
+-- So does what gives messages up, where nothing is outstanding.
+forward_leaves : {R : Type 0} (found : Option Transfer) (old new : View R) (packet filled : Building) → ForwardsAt found old packet new filled → found ≡ old.endpoint.below.transfer
+    → HasNoData old.endpoint.below.queue found → HasNoReset old.endpoint.below.queue found → HasNoReset new.endpoint.below.queue new.endpoint.below.transfer
+forward_leaves {R = R} None old new packet filled forward holds none ready =
+    subst (λ (v : View R). HasNoReset v.endpoint.below.queue v.endpoint.below.transfer) (sym forward.0) (subst (HasNoReset old.endpoint.below.queue) holds tt)
+forward_leaves {R = R} (Some transfer) old new packet filled forward holds none ready =
+    subst (λ (v : View R). HasNoReset v.endpoint.below.queue v.endpoint.below.transfer) (sym forward.5)
+    (ap (λ (q : SendQueueState). is_none_ready q.ready_streams) (forward.3.idle none.1).2 ∙ ready)
+
+-- What begins a reset leaves what waits as it is, where no stream is ready.
+begin_stays : {R : Type 0} (found : Option Transfer) (old new : View R) (packet filled : Building) → BeginsAt found old packet new filled → found ≡ old.endpoint.below.transfer
+    → HasNoReset old.endpoint.below.queue found → HasNoData old.endpoint.below.queue found → HasNoData new.endpoint.below.queue new.endpoint.below.transfer
+begin_stays {R = R} None old new packet filled begin holds ready none =
+    subst (λ (v : View R). HasNoData v.endpoint.below.queue v.endpoint.below.transfer) (sym begin.0) (subst (HasNoData old.endpoint.below.queue) holds tt)
+begin_stays {R = R} (Some transfer) old new packet filled begin holds ready none =
+    subst (λ (v : View R). HasNoData v.endpoint.below.queue v.endpoint.below.transfer) (sym begin.5)
+    (subst (HasNoData begin.1) holds (ap has_data (begin.3 ready) ∙ none.0, none.1))
+
+-- It tells nothing.
+begin_tells : {R : Type 0} (found : Option Transfer) (old new : View R) (packet filled : Building) → BeginsAt found old packet new filled → new.events ≡ old.events
+begin_tells {R = R} None old new packet filled begin = ap (λ (v : View R). v.events) begin.0
+begin_tells {R = R} (Some transfer) old new packet filled begin = ap (λ (v : View R). v.events) begin.5
+
+-- Nothing waits, nothing is outstanding and no stream is ready.
+abbrev HasNothing : SendQueueState → Option Transfer → Type 0
+HasNothing queue found = HasNoData queue found × HasNoReset queue found
+
+busy_or_none : (queue : SendQueueState) (found : Option Transfer) → (HasNothing queue found → ⊥) → IsBusy queue found
+busy_or_none queue None some = some (tt, tt)
+busy_or_none queue (Some transfer) some = λ idle. some ((idle_parts queue transfer idle).0, idle_ready queue transfer idle)
+
+-- so behind what acknowledges and what gives messages up, where it was so before
+nothing_behind : {R : Type 0} (packet acked given_packet : Building) (old : Context R) (along : Bool) (state : State) (given : Context R)
+    → AcknowledgesBelow (transfer_of old.state) along old.state packet state acked → ForwardsAt (transfer_of state) (view_of (record old { state = state })) acked (view_of given) given_packet
+    → HasNothing old.send_queue (transfer_of old.state) → HasNothing given.send_queue (transfer_of given.state)
+nothing_behind packet acked given_packet old along state given ack forward none =
+    let waits : HasNoData old.send_queue (transfer_of state) = data_stays old.send_queue (transfer_of old.state) along old.state state packet acked refl ack none.0 in
+    let ready : HasNoReset old.send_queue (transfer_of state) = reset_stays old.send_queue (transfer_of old.state) along old.state state packet acked refl ack none.1 in
+    let mid : View _ = view_of (record old { state = state }) in
+    (forward_stays (transfer_of state) mid (view_of given) acked given_packet forward refl waits, forward_leaves (transfer_of state) mid (view_of given) acked given_packet forward refl waits ready)
+
+-- a growth was refused behind them
+behind_refused : {R : Type 0} (packet acked given_packet : Building) (old : Context R) (along : Bool) (state : State) (given : Context R) (draft : Emission) (events : List (Event (List ℕ)))
+    → AcknowledgesBelow (transfer_of old.state) along old.state packet state acked → ForwardsAt (transfer_of state) (view_of (record old { state = state })) acked (view_of given) given_packet
+    → (HasNothing given.send_queue (transfer_of given.state) → ⊥) → TellsMore (view_of given).events events → AskCut first_ask (view_of old) draft events
+behind_refused packet acked given_packet old along state given draft events ack forward some tells =
+    let mid : View _ = view_of (record old { state = state }) in
+    cut_busy first_ask (view_of old) draft events
+    (busy_or_none old.send_queue (transfer_of old.state) (λ none. some (nothing_behind packet acked given_packet old along state given ack forward none)))
+    (tells_then (view_of old).events (view_of given).events events (forward_tells (transfer_of state) mid (view_of given) acked given_packet forward) tells)
+
+-- no memory for a request
+pub reset_refused : {R : Type 0} (packet acked given_packet : Building) (old : Context R) (along : Bool) (state : State) (given : Context R) (draft : Emission) (events : List (Event (List ℕ)))
+    → AcknowledgesBelow (transfer_of old.state) along old.state packet state acked → ForwardsAt (transfer_of state) (view_of (record old { state = state })) acked (view_of given) given_packet
+    → (HasNoReset given.send_queue (transfer_of given.state) → ⊥) → events ≡ (view_of given).events → AskCut first_ask (view_of old) draft events
+reset_refused packet acked given_packet old along state given draft events ack forward some same =
+    behind_refused packet acked given_packet old along state given draft events ack forward (λ none. some none.1)
+    (subst (TellsMore (view_of given).events) (sym same) (nothing_told (view_of given).events))
+
+pub first_returns : {R E : Type 0} (packet acked given_packet request_packet filled : Building) (old : Context R) (along : Bool) (state : State) (given begun : Context R) (result : Result (Unit {0}) E) (new : Context R)
     → along ≡ (has_data old.send_queue || can_send_below (transfer_of old.state)) → AcknowledgesBelow (transfer_of old.state) along old.state packet state acked
     → ForwardsAt (transfer_of state) (view_of (record old { state = state })) acked (view_of given) given_packet
-    → TriesData given_packet given result new filled → (HasNoData given.send_queue (transfer_of given.state) → IsOk result) → FillsWith first_ask packet old result new filled
-first_returns packet acked given_packet filled old along state given (Ok done) new is ack forward h idle =
-    λ draft built. fills_first old along state draft (view_of given) (view_of new) packet acked given_packet filled is built ack forward h
-first_returns packet acked given_packet filled old along state given (Err error) new is ack forward h idle =
-    let mid : View _ = view_of (record old { state = state }) in
-    λ draft built. forward_refused packet acked old along state draft (view_of new).events ack
-    (λ none. cc (idle (forward_stays (transfer_of state) mid (view_of given) acked given_packet forward refl none)))
-    (tells_then (view_of old).events (view_of given).events (view_of new).events (forward_tells (transfer_of state) mid (view_of given) acked given_packet forward) h)
+    → BeginsAt (transfer_of given.state) (view_of given) given_packet (view_of begun) request_packet
+    → TriesData request_packet begun result new filled → (HasNoData begun.send_queue (transfer_of begun.state) → IsOk result) → FillsWith first_ask packet old result new filled
+first_returns packet acked given_packet request_packet filled old along state given begun (Ok done) new is ack forward begin h idle =
+    λ draft built. fills_first old along state draft (view_of given) (view_of begun) (view_of new) packet acked given_packet request_packet filled is built ack forward begin h
+first_returns packet acked given_packet request_packet filled old along state given begun (Err error) new is ack forward begin h idle =
+    λ draft built. behind_refused packet acked given_packet old along state given draft (view_of new).events ack forward
+    (λ none. cc (idle (begin_stays (transfer_of given.state) (view_of given) (view_of begun) given_packet request_packet begin refl none.1 none.0)))
+    (subst (λ (es : List (Event (List ℕ))). TellsMore es (view_of new).events) (begin_tells (transfer_of given.state) (view_of given) (view_of begun) given_packet request_packet begin) h)
 
 -- no memory for a SACK
 wants_none : (queue : SendQueueState) (found : Option Transfer) (along : Bool) → (WantsNone found along → ⊥) → IsBusy queue found

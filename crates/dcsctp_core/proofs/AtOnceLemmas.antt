@@ -57,7 +57,7 @@ at_once_by {R = R} stream v held transfer after packet filled_packet is_sent new
     ∙ ap (λ (b : Building). record b { body = b.body ++ flat_map chunk_bytes fills.chunks }) built
     ∙ ap (λ (bytes : List ℕ). record (packet_for e.options draft) { body = bytes }) (body_of_chunks fills.chunks) in
     let goes_if : is_sent ≡ not (is_none contents) = sent_is ∙ ap not (ap (λ (b : Building). is_none b.body) packed ∙ none_as_bytes contents) in
-    let answer : Answer = record { acknowledgements = []; data_chunks = chunks; told = []; after = e } in
+    let answer : Answer = record { acknowledgements = []; begun = None; data_chunks = chunks; told = []; after = e } in
     let o : Outcome = goes_out (with_transfer e after) [] draft.with_checksum draft.packet.tag contents in
     let turn : SendsAtOnce e held transfer o =
     record {

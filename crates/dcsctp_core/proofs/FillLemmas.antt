@@ -1,5 +1,5 @@
 -- How a packet of a flush is filled, as an answer of the transfer layer.
-use Rattle.std.proofs.Common.{◌≡◌, ◌&&◌, ◌||◌, ◌==◌, not, nat_le, ℕ, Bool, true, false, Option, None, Some, List, [], ◌∷◌, ◌++◌, length, map, refl, sym, ap, subst, ◌∙◌, append_assoc, arith}
+use Rattle.std.proofs.Common.{◌≡◌, ◌&&◌, ◌||◌, ◌==◌, not, nat_le, ℕ, zero, suc, Bool, true, false, Option, None, Some, List, [], ◌∷◌, ◌++◌, length, map, take, refl, sym, ap, subst, ◌∙◌, append_assoc, arith}
 use Rattle.std.specs.Prelude.{if◌then◌else◌}
 use Rattle.std.specs.List.{AllByRecursion, flat_map}
 use Rattle.std.proofs.lemmas.List.{append-nil, map-append}
@@ -12,10 +12,12 @@ use Rattle.dcsctp_machine.specs.declared.options.Options.{Options}
 use Rattle.dcsctp_machine.specs.Settings.{Ports, ports_of}
 use Rattle.dcsctp_machine.specs.Event.{Event}
 use Rattle.dcsctp_machine.specs.Packet.{Plain, plain, unworked, Content, Emission}
-use Rattle.dcsctp_machine.specs.Transfer.{SendQueueState, TrackerState, Transfer, has_data, can_send, must_give, is_idle}
-use Rattle.dcsctp_machine.specs.Endpoint.{Endpoint, Timers}
+use Rattle.dcsctp_machine.specs.Transfer.{SendQueueState, TrackerState, Transfer, has_data, can_send, must_give, is_none_ready, is_idle}
+use Rattle.dcsctp_machine.specs.declared.association.Held.{Held}
+use Rattle.dcsctp_machine.specs.Endpoint.{Endpoint, Timers, held_in}
 use Rattle.dcsctp_machine.specs.control.Choices.{plain_contents}
-use Rattle.dcsctp_machine.specs.turns.FlushOutcomes.{Told, amount_is_low, total_amount_is_low, message_is_sent, message_may_have_expired, message_has_expired, message_ends, told_event, Answer, answer_contents, filled, Ask, first_ask, later_ask, room_in, where_fits, wants_sack, IsSackOf, IsForward, IsData, FitsPlain, is_none, next_forward, GivesUp, Gives, GivesWhere, AnsweredBelow, timers_with, nothing_waits}
+use Rattle.dcsctp_machine.specs.turns.BegunResets.{BegunReset, stream_field, streams_within, last_assigned_tsn, begun_where, request_contents, after_begun}
+use Rattle.dcsctp_machine.specs.turns.FlushOutcomes.{Told, amount_is_low, total_amount_is_low, message_is_sent, message_may_have_expired, message_has_expired, message_ends, told_event, Answer, answer_contents, filled, Ask, first_ask, later_ask, room_in, where_fits, begun_at, BeginsReset, wants_sack, IsSackOf, IsForward, IsData, FitsPlain, is_none, next_forward, GivesUp, Gives, GivesWhere, AnsweredBelow, timers_with, nothing_waits}
 use Rattle.dcsctp_machine.specs.turns.FlushOutcomes as asks
 use Rattle.dcsctp_api.specs.Calls.{user_event}
 use Rattle.dcsctp_transfer.specs.Filling.{told_content, IsDataChunk, has_chunks, FillsPacket, with_chunk}
@@ -66,17 +68,28 @@ timers_are e (chunk ∷ chunks) any is = ap (λ (b : Bool). timers_where b e) is
 
 -- ---- where nothing waits
 
-parts_of : (a b c d : Bool) → (not a && b && not c && not d) ≡ true → ((a ≡ false) × (b ≡ true)) × ((c ≡ false) × (d ≡ false))
-parts_of false true false false is = ((refl, refl), (refl, refl))
-parts_of false true false true is = absurd (cc)
-parts_of false true true d is = absurd (cc)
-parts_of false false c d is = absurd (cc)
-parts_of true b c d is = absurd (cc)
+parts_of : (a r b c d : Bool) → (not a && r && b && not c && not d) ≡ true → ((a ≡ false) × (b ≡ true)) × ((c ≡ false) × (d ≡ false))
+parts_of false true true false false is = ((refl, refl), (refl, refl))
+parts_of false true true false true is = absurd (cc)
+parts_of false true true true d is = absurd (cc)
+parts_of false true false c d is = absurd (cc)
+parts_of false false b c d is = absurd (cc)
+parts_of true r b c d is = absurd (cc)
+
+ready_of : (a r b c d : Bool) → (not a && r && b && not c && not d) ≡ true → r ≡ true
+ready_of false true b c d is = refl
+ready_of false false b c d is = absurd (cc)
+ready_of true r b c d is = absurd (cc)
+
+-- no stream is to be reset
+pub idle_ready : (queue : SendQueueState) (transfer : Transfer) → is_idle queue transfer ≡ true → is_none_ready queue.ready_streams ≡ true
+idle_ready queue transfer is =
+    ready_of (has_data queue) (is_none_ready queue.ready_streams) (transfer.retransmission.outstanding_items == 0) transfer.tracker.owes_acknowledgement transfer.tracker.is_acknowledgement_due is
 
 pub idle_parts : (queue : SendQueueState) (transfer : Transfer) → is_idle queue transfer ≡ true
     → ((has_data queue ≡ false) × (transfer.retransmission.outstanding_items ≡ 0)) × ((transfer.tracker.owes_acknowledgement ≡ false) × (transfer.tracker.is_acknowledgement_due ≡ false))
 idle_parts queue transfer is =
-    let parts = parts_of (has_data queue) (transfer.retransmission.outstanding_items == 0) transfer.tracker.owes_acknowledgement transfer.tracker.is_acknowledgement_due is in
+    let parts = parts_of (has_data queue) (is_none_ready queue.ready_streams) (transfer.retransmission.outstanding_items == 0) transfer.tracker.owes_acknowledgement transfer.tracker.is_acknowledgement_due is in
     ((parts.0.0, zero_of transfer.retransmission.outstanding_items parts.0.1), parts.1)
   where
     zero_of : (n : ℕ) → (n == 0) ≡ true → n ≡ 0
@@ -93,20 +106,45 @@ idle_wants first_ask queue transfer is =
 
 -- ---- an answer out of its parts
 
--- what the transfer layer gave: what acknowledges or gives messages up, and data
-abbrev answer_by : List Plain → List ChunkContent → List Told → Endpoint → Answer
-answer_by sacks chunks told after = record { acknowledgements = sacks; data_chunks = map unworked chunks; told = told; after = after }
+-- what the transfer layer gave: what acknowledges or gives messages up, the request of a reset, and data
+abbrev answer_by : List Plain → Option BegunReset → List ChunkContent → List Told → Endpoint → Answer
+answer_by sacks begun chunks told after = record { acknowledgements = sacks; begun = begun; data_chunks = map unworked chunks; told = told; after = after }
 
--- the packet with both behind what it holds
-packet_is : (options : Options) (draft : Emission) (sacks : List Plain) (chunks : List ChunkContent) (told : List Told) (after : Endpoint) (filled_packet : Building)
-    → filled_packet ≡ record (packet_for options (filled draft (plain_contents sacks))) { body = (packet_for options (filled draft (plain_contents sacks))).body ++ flat_map chunk_bytes chunks }
-    → filled_packet ≡ packet_for options (filled draft (answer_contents (answer_by sacks chunks told after)))
-packet_is options draft sacks chunks told after filled_packet is =
-    let front : List Content = draft.packet.contents ++ plain_contents sacks in
+-- the packet with all of it behind what it holds
+packet_is : (options : Options) (draft : Emission) (sacks : List Plain) (begun : Option BegunReset) (chunks : List ChunkContent) (told : List Told) (after : Endpoint) (filled_packet : Building)
+    → filled_packet ≡ record (packet_for options (filled draft (plain_contents sacks ++ request_contents begun))) {
+      body = (packet_for options (filled draft (plain_contents sacks ++ request_contents begun))).body ++ flat_map chunk_bytes chunks;
+    }
+    → filled_packet ≡ packet_for options (filled draft (answer_contents (answer_by sacks begun chunks told after)))
+packet_is options draft sacks begun chunks told after filled_packet is =
+    let behind : List Content = plain_contents sacks ++ request_contents begun in
+    let front : List Content = draft.packet.contents ++ behind in
     let more : List Content = plain_contents (map unworked chunks) in
     is
-    ∙ ap (λ (bytes : List ℕ). record (packet_for options (filled draft (plain_contents sacks))) { body = body_of front ++ bytes }) (body_of_chunks chunks)
-    ∙ ap (λ (bytes : List ℕ). record (packet_for options draft) { body = bytes }) (sym (body_append front more) ∙ ap body_of (append_assoc draft.packet.contents (plain_contents sacks) more))
+    ∙ ap (λ (bytes : List ℕ). record (packet_for options (filled draft behind)) { body = body_of front ++ bytes }) (body_of_chunks chunks)
+    ∙ ap (λ (bytes : List ℕ). record (packet_for options draft) { body = bytes })
+    (sym (body_append front more) ∙ ap body_of (append_assoc draft.packet.contents behind more ∙ ap (λ (cs : List Content). draft.packet.contents ++ cs) (append_assoc (plain_contents sacks) (request_contents begun) more)))
+
+-- Where no stream is ready, no reset is begun.
+pub none_begun : (ask : Ask) (held : Option Held) (room last_tsn : ℕ) (queue : SendQueueState) → is_none_ready queue.ready_streams ≡ true → begun_at ask held room last_tsn queue ≡ None
+none_begun later_ask held room last_tsn queue none = refl
+none_begun first_ask None room last_tsn queue none = refl
+none_begun first_ask (Some held) room last_tsn queue none =
+    ap (λ (streams : List ℕ). begun_where held.own_outstanding held.own_next last_tsn (map stream_field (take (streams_within room) streams))) (empty queue.ready_streams none)
+    ∙ ap (λ (streams : List ℕ). begun_where held.own_outstanding held.own_next last_tsn (map stream_field streams)) (take_none (streams_within room))
+    ∙ nothing held.own_outstanding
+  where
+    empty : (streams : List ℕ) → is_none_ready streams ≡ true → streams ≡ []
+    empty [] is = refl
+    empty (stream ∷ streams) is = absurd (cc)
+
+    take_none : (n : ℕ) → take {A = ℕ} n [] ≡ []
+    take_none zero = refl
+    take_none (suc n) = refl
+
+    nothing : (outstanding : Option ℕ) → begun_where outstanding held.own_next last_tsn [] ≡ None
+    nothing None = refl
+    nothing (Some number) = refl
 
 -- what is asked where nothing waits changes nothing
 same_endpoint : (e : Endpoint) (transfer after : Transfer) (left : SendQueueState) → e.below.transfer ≡ Some transfer → after ≡ transfer → left ≡ e.below.queue
@@ -158,29 +196,40 @@ gave_none ask e mid events =
       idle = λ no_items. (refl, refl, refl, refl, refl);
     }
 
--- the parts of an answer: the transfer layer once what acknowledges is in the packet, once what gives messages up is, and once data is
+-- the endpoint once it was given
+abbrev pub given_endpoint : Endpoint → Option BegunReset → Bool → ℕ → SendQueueState → Transfer → Endpoint
+given_endpoint e begun any later left after =
+    record (after_begun begun e) { timers = timers_where any (after_begun begun e); no_forward_tsn_before = later; below = record { queue = left; transfer = Some after } }
+
+-- The parts of an answer: the transfer layer once what acknowledges is in the packet, once what gives messages up is, and once data
+-- is; and the queue behind what gives messages up, behind a reset that is begun, and behind data.
 pub record Parts {R : Type 0} (ask : Ask) (old : View R) (draft : Emission) (transfer : Transfer) (new : View R) (filled_packet : Building) : Type 0 where
   pub mid : Transfer
   pub given : Transfer
   pub after : Transfer
   pub waits : SendQueueState
+  pub handed : SendQueueState
   pub left : SendQueueState
   pub telling : List (Event (List ℕ))
   pub later : ℕ
   pub sacks : List Plain
   pub forwards : List Plain
+  pub begun : Option BegunReset
   pub any : Bool
   pub holds : old.endpoint.below.transfer ≡ Some transfer
   pub acknowledges : asks.Acknowledges (wants_sack ask old.endpoint.below.queue transfer) (room_in old.endpoint draft) transfer mid.tracker sacks
   pub mid_is : mid ≡ record transfer { tracker = mid.tracker }
   pub gave : Gave ask old.endpoint mid given waits old.events telling later forwards
-  pub fills : FillsPacket given waits telling (packet_for old.endpoint.options (filled draft (plain_contents (sacks ++ forwards)))) after left new.events filled_packet any
-  pub is : new ≡ record old { endpoint = record old.endpoint { timers = timers_where any old.endpoint; no_forward_tsn_before = later; below = record { queue = left; transfer = Some after } }; events = new.events }
+  pub begins : BeginsReset ask old.endpoint (room_in old.endpoint (filled draft (plain_contents (sacks ++ forwards)))) transfer begun
+  pub untouched : is_none_ready waits.ready_streams ≡ true → handed ≡ waits
+  pub fills : FillsPacket given handed telling (packet_for old.endpoint.options (filled draft (plain_contents (sacks ++ forwards) ++ request_contents begun))) after left new.events filled_packet any
+  pub is : new ≡ record old { endpoint = given_endpoint old.endpoint begun any later left after; events = new.events }
+
+abbrev answer_from : Endpoint → List Plain → Option BegunReset → List ChunkContent → List Told → Bool → ℕ → SendQueueState → Transfer → Answer
+answer_from e sacks begun chunks told any later left after = answer_by sacks begun chunks told (given_endpoint e begun any later left after)
 
 abbrev answer_of : {R : Type 0} {ask : Ask} {old : View R} {draft : Emission} {transfer : Transfer} {new : View R} {filled_packet : Building} → Parts ask old draft transfer new filled_packet → Answer
-answer_of {old = old} p =
-    answer_by (p.sacks ++ p.forwards) p.fills.chunks (p.gave.told ++ p.fills.told)
-    (record old.endpoint { timers = timers_where p.any old.endpoint; no_forward_tsn_before = p.later; below = record { queue = p.left; transfer = Some p.after } })
+answer_of {old = old} p = answer_from old.endpoint (p.sacks ++ p.forwards) p.begun p.fills.chunks (p.gave.told ++ p.fills.told) p.any p.later p.left p.after
 
 -- nothing is asked for, so none of it goes out
 no_sacks : (b : Bool) (room : ℕ) (transfer : Transfer) (after : TrackerState) (sacks : List Plain) → b ≡ false → asks.Acknowledges b room transfer after sacks → (after ≡ transfer.tracker) × (sacks ≡ [])
@@ -196,27 +245,33 @@ idle_answer ask old draft transfer new filled_packet p idle =
     let parts = idle_parts e.below.queue transfer idle in
     let none = no_sacks (wants_sack ask e.below.queue transfer) (room_in e draft) transfer p.mid.tracker p.sacks (idle_wants ask e.below.queue transfer idle) p.acknowledges in
     let mid : p.mid ≡ transfer = same_mid transfer p.mid p.mid_is none.0 in
-    let gave = p.gave.idle (ap (λ (t : Transfer). t.retransmission.outstanding_items) mid ∙ parts.0.1) in
+    let none_out : transfer.retransmission.outstanding_items ≡ 0 = parts.0.1 in
+    let gave = p.gave.idle (ap (λ (t : Transfer). t.retransmission.outstanding_items) mid ∙ none_out) in
     let given : p.given ≡ transfer = gave.0 ∙ mid in
-    let rests = p.fills.idle (ap has_data gave.1 ∙ parts.0.0) (ap (λ (t : Transfer). t.retransmission.outstanding_items) given ∙ parts.0.1) in
+    let ready : is_none_ready e.below.queue.ready_streams ≡ true = idle_ready e.below.queue transfer idle in
+    let handed : p.handed ≡ e.below.queue = p.untouched (ap (λ (q : SendQueueState). is_none_ready q.ready_streams) gave.1 ∙ ready) ∙ gave.1 in
+    let begun : p.begun ≡ None =
+    p.begins.is ∙ none_begun ask (held_in e.core) _ (last_assigned_tsn p.begins.retransmission) p.begins.queue (ap (λ (q : SendQueueState). is_none_ready q.ready_streams) (p.begins.idle none_out).0 ∙ ready) in
+    let rests = p.fills.idle (ap has_data handed ∙ parts.0.0) (ap (λ (t : Transfer). t.retransmission.outstanding_items) given ∙ none_out) in
     let chunks : p.fills.chunks ≡ [] = no_chunks p.fills.chunks p.any p.fills.answers rests.0 in
     let after : p.after ≡ transfer = rests.1 ∙ given in
     let told : List Told = p.gave.told ++ p.fills.told in
-    ap (λ (sacks : List Plain). answer_by (sacks ++ p.forwards) p.fills.chunks told (answer_of p).after) none.1
-    ∙ ap (λ (forwards : List Plain). answer_by forwards p.fills.chunks told (answer_of p).after) gave.4
-    ∙ ap (λ (chunks : List ChunkContent). answer_by [] chunks told (answer_of p).after) chunks
-    ∙ ap (λ (told : List Told). answer_by [] [] (told ++ p.fills.told) (answer_of p).after) gave.2
-    ∙ ap (λ (told : List Told). answer_by [] [] told (answer_of p).after) rests.3
-    ∙ ap (λ (b : Bool). answer_by [] [] [] (record e { timers = timers_where b e; no_forward_tsn_before = p.later; below = record { queue = p.left; transfer = Some p.after } })) rests.0
-    ∙ ap (λ (later : ℕ). answer_by [] [] [] (record e { no_forward_tsn_before = later; below = record { queue = p.left; transfer = Some p.after } })) gave.3
-    ∙ ap (answer_by [] [] []) (same_endpoint e transfer p.after p.left p.holds after (rests.2 ∙ gave.1))
+    ap (λ (sacks : List Plain). answer_from e (sacks ++ p.forwards) p.begun p.fills.chunks told p.any p.later p.left p.after) none.1
+    ∙ ap (λ (forwards : List Plain). answer_from e forwards p.begun p.fills.chunks told p.any p.later p.left p.after) gave.4
+    ∙ ap (λ (begun : Option BegunReset). answer_from e [] begun p.fills.chunks told p.any p.later p.left p.after) begun
+    ∙ ap (λ (chunks : List ChunkContent). answer_from e [] None chunks told p.any p.later p.left p.after) chunks
+    ∙ ap (λ (told : List Told). answer_from e [] None [] (told ++ p.fills.told) p.any p.later p.left p.after) gave.2
+    ∙ ap (λ (told : List Told). answer_from e [] None [] told p.any p.later p.left p.after) rests.3
+    ∙ ap (λ (b : Bool). answer_from e [] None [] [] b p.later p.left p.after) rests.0
+    ∙ ap (λ (later : ℕ). answer_from e [] None [] [] false later p.left p.after) gave.3
+    ∙ ap (answer_by [] None [] []) (same_endpoint e transfer p.after p.left p.holds after (rests.2 ∙ handed))
 
 -- no data: so none had to go
 rest_may : {R : Type 0} (ask : Ask) (old : View R) (draft : Emission) (transfer : Transfer) (new : View R) (filled_packet : Building) (p : Parts ask old draft transfer new filled_packet)
-    → is_none (map unworked p.fills.chunks) ≡ true → must_give (room_in old.endpoint (filled draft (plain_contents (p.sacks ++ p.forwards)))) p.left p.after.retransmission ≡ false
+    → is_none (map unworked p.fills.chunks) ≡ true → must_give (room_in old.endpoint (filled draft (plain_contents (p.sacks ++ p.forwards) ++ request_contents p.begun))) p.left p.after.retransmission ≡ false
 rest_may ask old draft transfer new filled_packet p none =
     let false_any : p.any ≡ false = p.fills.answers ∙ not_true (has_chunks p.fills.chunks) (sym (none_of p.fills.chunks) ∙ none) in
-    ap (λ (room : ℕ). must_give room p.left p.after.retransmission) (sym (room_is old.endpoint (filled draft (plain_contents (p.sacks ++ p.forwards))))) ∙ p.fills.gives false_any
+    ap (λ (room : ℕ). must_give room p.left p.after.retransmission) (sym (room_is old.endpoint (filled draft (plain_contents (p.sacks ++ p.forwards) ++ request_contents p.begun)))) ∙ p.fills.gives false_any
   where
     not_true : (b : Bool) → not b ≡ true → b ≡ false
     not_true true is = absurd (cc)
@@ -255,6 +310,7 @@ gives_by ask old draft transfer new filled_packet p =
       parts = refl;
       acknowledges = subst (λ (t : TrackerState). asks.Acknowledges (wants_sack ask old.endpoint.below.queue transfer) (room_in old.endpoint draft) transfer t p.sacks) (sym kept) p.acknowledges;
       gives_up = gives_up_before ask old.endpoint transfer p.mid p.later p.forwards p.mid_is p.gave.gives_up;
+      begins = p.begins;
       kind = subst (λ (b : Bool). AllByRecursion (IsData b) (map unworked p.fills.chunks)) interleaving (data_kinds given.retransmission.message_interleaving p.fills.chunks p.fills.are_data);
       fit = data_fit p.fills.chunks p.fills.fits;
       data_goes = rest_may ask old draft transfer new filled_packet p;
@@ -275,13 +331,14 @@ fills_by {R = R} ask old draft transfer new filled_packet p =
     let e : Endpoint = old.endpoint in
     record {
       answer = answer_of p;
-      kept = ap (λ (t : Timers). record e { timers = t; no_forward_tsn_before = p.later; below = record { queue = p.left; transfer = Some p.after } }) (timers_are e p.fills.chunks p.any p.fills.answers);
+      kept = ap (λ (t : Timers). record (after_begun p.begun e) { timers = t; no_forward_tsn_before = p.later; below = record { queue = p.left; transfer = Some p.after } })
+          (timers_are (after_begun p.begun e) p.fills.chunks p.any p.fills.answers);
       by_transfer = subst (AnsweredBelow ask e draft (answer_of p)) (sym p.holds) (gives_where ask old draft transfer new filled_packet p (is_idle e.below.queue transfer) refl);
       endpoint = ap (λ (v : View R). v.endpoint) p.is;
       events = told_then old.events p.telling new.events p.gave.told p.fills.told p.gave.tells p.fills.tells
           ∙ ap (λ (es : List (Event (List ℕ))). old.events ++ es) (told_user (ports_of e.options) (p.gave.told ++ p.fills.told));
       rest = p.is ∙ ap (λ (x : Endpoint). record old { endpoint = x; events = new.events }) (sym (ap (λ (v : View R). v.endpoint) p.is));
-      packet = packet_is e.options draft (p.sacks ++ p.forwards) p.fills.chunks (p.gave.told ++ p.fills.told) (answer_of p).after filled_packet p.fills.adds;
+      packet = packet_is e.options draft (p.sacks ++ p.forwards) p.begun p.fills.chunks (p.gave.told ++ p.fills.told) (answer_of p).after filled_packet p.fills.adds;
     }
 
 -- ---- where no peer is held
@@ -312,16 +369,20 @@ later_by old draft (Some transfer) new packet filled_packet holds is h =
       given = transfer;
       after = h.1;
       waits = old.endpoint.below.queue;
+      handed = old.endpoint.below.queue;
       left = h.2;
       telling = old.events;
       later = old.endpoint.no_forward_tsn_before;
       sacks = [];
       forwards = [];
+      begun = None;
       any = h.0;
       holds = holds;
       acknowledges = (refl, refl);
       mid_is = refl;
       gave = gave_none later_ask old.endpoint transfer old.events;
+      begins = record { queue = old.endpoint.below.queue; retransmission = transfer.retransmission; negotiated = λ without. (refl, refl); idle = λ none. (refl, refl); is = refl };
+      untouched = λ none. refl;
       fills = subst (λ (b : Building). FillsPacket transfer old.endpoint.below.queue old.events b h.1 h.2 new.events filled_packet h.0)
           (is ∙ ap (λ (contents : List Content). packet_for old.endpoint.options (record draft { packet = record draft.packet { contents = contents } })) (sym (append-nil draft.packet.contents))) h.3;
       is = h.4;

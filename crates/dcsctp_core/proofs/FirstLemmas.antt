@@ -1,16 +1,17 @@
 -- How the first packet of a flush is filled: what acknowledges goes before data.
 use Rattle.std.proofs.Common.{◌≡◌, ◌||◌, ◌≤◌, ◌<◌, nat_le, ℕ, Bool, true, false, Option, None, Some, List, [], ◌∷◌, ◌++◌, length, map, append_assoc, refl, sym, ap, subst, ◌∙◌, arith}
 use Rattle.std.specs.Prelude.{if◌then◌else◌}
-use Rattle.std.specs.List.{AllByRecursion}
+use Rattle.std.specs.List.{AllByRecursion, flat_map}
 use Rattle.std.proofs.lemmas.Bool.Decides.{nat_tests}
 use Rattle.std.proofs.lemmas.List.{append-nil, map-append}
 use Rattle.dcsctp_build.specs.Building.{Building, bytes_remaining}
 use Rattle.dcsctp_machine.specs.Settings.{ports_of}
 use Rattle.dcsctp_machine.specs.Event.{Event}
-use Rattle.dcsctp_machine.specs.Packet.{Plain, plain, unworked, Content, Emission}
-use Rattle.dcsctp_machine.specs.Transfer.{SendQueueState, Transfer, has_data, is_idle}
-use Rattle.dcsctp_machine.specs.Endpoint.{Endpoint, Core, RunningTimer}
+use Rattle.dcsctp_machine.specs.Packet.{Plain, plain, unworked, Content, chunk_out, Emission}
+use Rattle.dcsctp_machine.specs.Transfer.{SendQueueState, RetransmissionState, TimeoutState, Transfer, has_data, is_idle}
+use Rattle.dcsctp_machine.specs.Endpoint.{Endpoint, Core, OutstandingRequest, RunningTimer, started, held_in}
 use Rattle.dcsctp_machine.specs.control.Choices.{plain_contents}
+use Rattle.dcsctp_machine.specs.turns.BegunResets.{BegunReset, last_assigned_tsn, begun_in, request_contents, reconfiguration_settings, rto_of, core_asking, after_begun}
 use Rattle.dcsctp_machine.specs.turns.FlushOutcomes.{Told, told_event, Answer, answer_contents, filled, goes_out, asked, Ask, first_ask, later_ask, room_in, where_fits, wants_sack, IsForward, FitsPlain, GivesUp, Answered, nothing_waits}
 use Rattle.dcsctp_machine.specs.turns.FlushOutcomes as asks
 use Rattle.dcsctp_wire.specs.Content.{ChunkContent, sack_chunk}
@@ -21,11 +22,11 @@ use Rattle.dcsctp_transfer.specs.Forwarding.{Forwards}
 use Rattle.dcsctp_core.specs.declared.context.Context.{Context}
 use Rattle.dcsctp_core.specs.declared.state.State.{State}
 use Rattle.dcsctp_core.specs.declared.state.State.TheVariants.{Closed, CookieWait, CookieEchoed, Established}
-use Rattle.dcsctp_core.specs.View.{View, core_of, tie_of, t1_of, transfer_of, endpoint_of, view_of}
-use Rattle.dcsctp_core.specs.Flushing.{packet_for, state_with, AcknowledgesBelow, forward_where, ForwardsAt, FillsData, timers_where, Fills, AskCut, can_send_below}
+use Rattle.dcsctp_core.specs.View.{View, core_of, tie_of, t1_of, outstanding_of, reconfiguration_of, transfer_of, endpoint_of, view_of}
+use Rattle.dcsctp_core.specs.Flushing.{packet_for, state_with, AcknowledgesBelow, forward_where, ForwardsAt, BeginsAt, FillsData, timers_where, Fills, AskCut, can_send_below}
 use Rattle.dcsctp_machine.proofs.AnswerLemmas.{some_answer, some_answered}
-use Rattle.dcsctp_core.proofs.FillLemmas.{told_user, Gave, gives_up_none, fills_by, fills_nothing, chunk_packet}
-use Rattle.dcsctp_core.proofs.SentLemmas.{room_is}
+use Rattle.dcsctp_core.proofs.FillLemmas.{told_user, Gave, gives_up_none, given_endpoint, fills_by, fills_nothing, chunk_packet}
+use Rattle.dcsctp_core.proofs.SentLemmas.{body_append, room_is}
 
 -- ---- a state with something else below its association
 
@@ -47,6 +48,18 @@ t1_stays (CookieWait wait) transfer = refl
 t1_stays (CookieEchoed echoed) transfer = refl
 t1_stays (Established tcb) transfer = refl
 
+outstanding_stays : (state : State) (transfer : Transfer) → outstanding_of (state_with state transfer) ≡ outstanding_of state
+outstanding_stays Closed transfer = refl
+outstanding_stays (CookieWait wait) transfer = refl
+outstanding_stays (CookieEchoed echoed) transfer = refl
+outstanding_stays (Established tcb) transfer = refl
+
+reconfiguration_stays : (state : State) (transfer : Transfer) → reconfiguration_of (state_with state transfer) ≡ reconfiguration_of state
+reconfiguration_stays Closed transfer = refl
+reconfiguration_stays (CookieWait wait) transfer = refl
+reconfiguration_stays (CookieEchoed echoed) transfer = refl
+reconfiguration_stays (Established tcb) transfer = refl
+
 pub transfer_is : (state : State) (old transfer : Transfer) → transfer_of state ≡ Some old → transfer_of (state_with state transfer) ≡ Some transfer
 transfer_is Closed old transfer holds = absurd (cc)
 transfer_is (CookieWait wait) old transfer holds = absurd (cc)
@@ -54,12 +67,13 @@ transfer_is (CookieEchoed echoed) old transfer holds = refl
 transfer_is (Established tcb) old transfer holds = refl
 
 -- the endpoint of a context whose state is told apart
-abbrev with_parts : {R : Type 0} → Context R → Core → ℕ → Option RunningTimer → Option Transfer → Endpoint
-with_parts context core tie t1 transfer =
+abbrev with_parts : {R : Type 0} → Context R → Core → ℕ → Option RunningTimer → Option OutstandingRequest → Option RunningTimer → Option Transfer → Endpoint
+with_parts context core tie t1 outstanding reconfiguration transfer =
     record (endpoint_of context) {
       core = core;
       tie = tie;
-      timers = record (endpoint_of context).timers { t1 = t1 };
+      outstanding = outstanding;
+      timers = record (endpoint_of context).timers { t1 = t1; reconfiguration = reconfiguration };
       below = record (endpoint_of context).below { transfer = transfer };
     }
 
@@ -68,10 +82,12 @@ pub endpoint_with : {R : Type 0} (context : Context R) (old transfer : Transfer)
 endpoint_with context old transfer holds =
     let s : State = context.state in
     let t : State = state_with s transfer in
-    ap (λ (core : Core). with_parts context core (tie_of t) (t1_of t) (transfer_of t)) (core_stays s transfer)
-    ∙ ap (λ (tie : ℕ). with_parts context (core_of s) tie (t1_of t) (transfer_of t)) (tie_stays s transfer)
-    ∙ ap (λ (t1 : Option RunningTimer). with_parts context (core_of s) (tie_of s) t1 (transfer_of t)) (t1_stays s transfer)
-    ∙ ap (λ (below : Option Transfer). with_parts context (core_of s) (tie_of s) (t1_of s) below) (transfer_is s old transfer holds)
+    ap (λ (core : Core). with_parts context core (tie_of t) (t1_of t) (outstanding_of t) (reconfiguration_of t) (transfer_of t)) (core_stays s transfer)
+    ∙ ap (λ (tie : ℕ). with_parts context (core_of s) tie (t1_of t) (outstanding_of t) (reconfiguration_of t) (transfer_of t)) (tie_stays s transfer)
+    ∙ ap (λ (t1 : Option RunningTimer). with_parts context (core_of s) (tie_of s) t1 (outstanding_of t) (reconfiguration_of t) (transfer_of t)) (t1_stays s transfer)
+    ∙ ap (λ (own : Option OutstandingRequest). with_parts context (core_of s) (tie_of s) (t1_of s) own (reconfiguration_of t) (transfer_of t)) (outstanding_stays s transfer)
+    ∙ ap (λ (timer : Option RunningTimer). with_parts context (core_of s) (tie_of s) (t1_of s) (outstanding_of s) timer (transfer_of t)) (reconfiguration_stays s transfer)
+    ∙ ap (λ (below : Option Transfer). with_parts context (core_of s) (tie_of s) (t1_of s) (outstanding_of s) (reconfiguration_of s) below) (transfer_is s old transfer holds)
 
 -- ---- what acknowledges, and then data
 
@@ -195,82 +211,131 @@ forwarded_view old next given waits events =
       events = events;
     }
 
-first_by : {R : Type 0} (old : View R) (draft : Emission) (transfer mid : Transfer) (given new : View R) (before acked_packet given_packet filled_packet : Building)
+-- the view once a reset was begun behind that
+abbrev begun_in_view : {R : Type 0} → View R → Option ℕ → Transfer → SendQueueState → SendQueueState → List (Event (List ℕ)) → Option BegunReset → View R
+begun_in_view old next given waits handed events begun =
+    record (forwarded_view old next given waits events) {
+      endpoint = record (after_begun begun (forwarded_view old next given waits events).endpoint) { below = record { queue = handed; transfer = Some given } };
+    }
+
+-- contents one behind the other
+filled_behind : (draft : Emission) (front back : List Content) → filled (filled draft front) back ≡ filled draft (front ++ back)
+filled_behind draft front back =
+    ap (λ (contents : List Content). record draft { packet = record draft.packet { contents = contents } }) (append_assoc draft.packet.contents front back)
+
+-- the packet with the request of a reset
+request_behind : (e : Endpoint) (draft : Emission) (begun : Option BegunReset) (packet filled_packet : Building) → packet ≡ packet_for e.options draft
+    → filled_packet ≡ record packet { body = packet.body ++ flat_map chunk_bytes (map chunk_out (request_contents begun)) } → filled_packet ≡ packet_for e.options (filled draft (request_contents begun))
+request_behind e draft begun packet filled_packet is adds =
+    adds
+    ∙ ap (λ (b : Building). record b { body = b.body ++ flat_map chunk_bytes (map chunk_out (request_contents begun)) }) is
+    ∙ ap (λ (bytes : List ℕ). record (packet_for e.options draft) { body = bytes }) (sym (body_append draft.packet.contents (request_contents begun)))
+
+-- What gives messages up leaves the retransmission timeout, and so a reset that is begun behind it starts the same timer.
+begun_behind : (begun : Option BegunReset) (e : Endpoint) (any : Bool) (later : ℕ) (waits handed left : SendQueueState) (given after : Transfer) → rto_of (Some given) ≡ rto_of e.below.transfer
+    → let f : Endpoint = record (after_begun begun (record e { no_forward_tsn_before = later; below = record { queue = waits; transfer = Some given } })) { below = record { queue = handed; transfer = Some given } } in
+    record f { timers = timers_where any f; below = record { queue = left; transfer = Some after } } ≡ given_endpoint e begun any later left after
+begun_behind None e true later waits handed left given after same = refl
+begun_behind None e false later waits handed left given after same = refl
+begun_behind (Some begun) e true later waits handed left given after same =
+    ap (λ (rto : ℕ). let f : Endpoint = record e {
+      core = core_asking e.core;
+      outstanding = Some (record { last_tsn = begun.reset.last_tsn; streams = begun.reset.streams; waits_for_retry = false });
+      timers = record e.timers { reconfiguration = started e.moment (reconfiguration_settings rto) };
+    } in
+    let g : Endpoint = record f { timers = timers_where true f; no_forward_tsn_before = later; below = record { queue = left; transfer = Some after } } in g) same
+begun_behind (Some begun) e false later waits handed left given after same =
+    ap (λ (rto : ℕ). let f : Endpoint = record e {
+      core = core_asking e.core;
+      outstanding = Some (record { last_tsn = begun.reset.last_tsn; streams = begun.reset.streams; waits_for_retry = false });
+      timers = record e.timers { reconfiguration = started e.moment (reconfiguration_settings rto) };
+      no_forward_tsn_before = later;
+      below = record { queue = left; transfer = Some after };
+    } in f) same
+
+first_by : {R : Type 0} (old : View R) (draft : Emission) (transfer mid : Transfer) (given begun_view new : View R) (before acked_packet given_packet request_packet filled_packet : Building)
     → old.endpoint.below.transfer ≡ Some transfer
     → before ≡ packet_for old.endpoint.options draft
     → Acknowledges (wants_sack first_ask old.endpoint.below.queue transfer) transfer before mid acked_packet
     → ForwardsAt (Some mid) (acknowledged_view old mid) acked_packet given given_packet
-    → FillsData given.endpoint.below.transfer given given_packet new filled_packet
+    → BeginsAt given.endpoint.below.transfer given given_packet begun_view request_packet
+    → FillsData begun_view.endpoint.below.transfer begun_view request_packet new filled_packet
     → Fills first_ask old draft new filled_packet
-first_by {R = R} old draft transfer mid given new before acked_packet given_packet filled_packet holds is ack forward data_in =
+first_by {R = R} old draft transfer mid given begun_view new before acked_packet given_packet request_packet filled_packet holds is ack forward begin data_in =
     let e : Endpoint = old.endpoint in
     let a = acked e draft (wants_sack first_ask e.below.queue transfer) transfer mid before acked_packet is ack in
     let next : Option ℕ = forward.0 in
     let after : Transfer = forward.1 in
     let waits : SendQueueState = forward.2 in
     let up = given_up e (filled draft (plain_contents a.sacks)) mid after waits old.events given.events next acked_packet given_packet a.is forward.4 forward.3 in
-    let there : FillsData (Some after) (forwarded_view old next after waits given.events) given_packet new filled_packet =
-    subst (λ (v : View R). FillsData v.endpoint.below.transfer v given_packet new filled_packet) forward.5 data_in in
+    let here : BeginsAt (Some after) (forwarded_view old next after waits given.events) given_packet begun_view request_packet =
+    subst (λ (v : View R). BeginsAt v.endpoint.below.transfer v given_packet begun_view request_packet) forward.5 begin in
+    let begun : Option BegunReset = here.0 in
+    let there : FillsData (Some after) (begun_in_view old next after waits here.1 given.events begun) request_packet new filled_packet =
+    subst (λ (v : View R). FillsData v.endpoint.below.transfer v request_packet new filled_packet) here.5 data_in in
+    let behind : Emission = filled draft (plain_contents (a.sacks ++ up.forwards)) in
+    let given_is : given_packet ≡ packet_for e.options behind = up.is ∙ ap (packet_for e.options) (filled_twice draft a.sacks up.forwards) in
+    let before_is : mid.retransmission ≡ transfer.retransmission = ap (λ (t : Transfer). t.retransmission) a.mid_is in
+    let timeout_is : after.timeout ≡ transfer.timeout = ap (λ (t : Transfer). t.timeout) forward.3.rest ∙ ap (λ (t : Transfer). t.timeout) a.mid_is in
     fills_by first_ask old draft transfer new filled_packet
     (record {
       mid = mid;
       given = after;
       after = there.1;
       waits = waits;
+      handed = here.1;
       left = there.2;
       telling = given.events;
       later = forward_where next e.no_forward_tsn_before;
       sacks = a.sacks;
       forwards = up.forwards;
+      begun = begun;
       any = there.0;
       holds = holds;
       acknowledges = a.acknowledges;
       mid_is = a.mid_is;
       gave = up.gave;
-      fills = subst (λ (b : Building). FillsPacket after waits given.events b there.1 there.2 new.events filled_packet there.0)
-          (up.is ∙ ap (packet_for e.options) (filled_twice draft a.sacks up.forwards)) there.3;
-      is = there.4 ∙ same_timers next after waits there.0 there.1 there.2;
+      begins = record {
+        queue = waits;
+        retransmission = after.retransmission;
+        negotiated = λ without. let same = forward.3.negotiated (ap (λ (r : RetransmissionState). r.partial_reliability) before_is ∙ without) in
+            (same.2, ap (λ (t : Transfer). t.retransmission) same.1 ∙ before_is);
+        idle = λ none. let same = forward.3.idle (ap (λ (r : RetransmissionState). r.outstanding_items) before_is ∙ none) in
+            (same.2, ap (λ (t : Transfer). t.retransmission) same.1 ∙ before_is);
+        is = here.2 ∙ ap (λ (room : ℕ). begun_in (held_in e.core) room (last_assigned_tsn after.retransmission) waits) (ap bytes_remaining given_is ∙ room_is e behind);
+      };
+      untouched = here.3;
+      fills = subst (λ (b : Building). FillsPacket after here.1 given.events b there.1 there.2 new.events filled_packet there.0)
+          (request_behind e behind begun given_packet request_packet given_is here.4 ∙ ap (packet_for e.options) (filled_behind draft (plain_contents (a.sacks ++ up.forwards)) (request_contents begun))) there.3;
+      is = there.4
+          ∙ ap (λ (x : Endpoint). record old { endpoint = x; events = new.events })
+          (begun_behind begun e there.0 (forward_where next e.no_forward_tsn_before) waits here.1 there.2 after there.1 (ap (λ (t : TimeoutState). t.rto) timeout_is ∙ sym (ap rto_of holds)));
     })
-  where
-    same_timers : (next : Option ℕ) (given_to : Transfer) (waits : SendQueueState) (any : Bool) (after : Transfer) (left : SendQueueState)
-        → record (forwarded_view old next given_to waits given.events) {
-          endpoint = record (forwarded_view old next given_to waits given.events).endpoint {
-            timers = timers_where any (forwarded_view old next given_to waits given.events).endpoint;
-            below = record { queue = left; transfer = Some after };
-          };
-          events = new.events;
-        }
-        ≡ record old {
-          endpoint = record old.endpoint {
-            timers = timers_where any old.endpoint;
-            no_forward_tsn_before = forward_where next old.endpoint.no_forward_tsn_before;
-            below = record { queue = left; transfer = Some after };
-          };
-          events = new.events;
-        }
-    same_timers next given_to waits true after left = refl
-    same_timers next given_to waits false after left = refl
 
 along_is : (found : Option Transfer) (queue : SendQueueState) (transfer : Transfer) (along : Bool) → found ≡ Some transfer → along ≡ (has_data queue || can_send_below found)
     → is_sack_wanted along transfer ≡ wants_sack first_ask queue transfer
 along_is found queue transfer along holds is = ap (λ (b : Bool). is_sack_wanted b transfer) (is ∙ ap (λ (f : Option Transfer). has_data queue || can_send_below f) holds)
 
-first_where : {R : Type 0} (old : Context R) (found : Option Transfer) (along : Bool) (state : State) (draft : Emission) (given new : View R) (before acked_packet given_packet filled_packet : Building)
+first_where : {R : Type 0} (old : Context R) (found : Option Transfer) (along : Bool) (state : State) (draft : Emission) (given begun_view new : View R) (before acked_packet given_packet request_packet filled_packet : Building)
     → transfer_of old.state ≡ found → along ≡ (has_data old.send_queue || can_send_below found) → before ≡ packet_for old.options draft
     → AcknowledgesBelow found along old.state before state acked_packet
     → ForwardsAt (transfer_of state) (view_of (record old { state = state })) acked_packet given given_packet
-    → FillsData given.endpoint.below.transfer given given_packet new filled_packet
+    → BeginsAt given.endpoint.below.transfer given given_packet begun_view request_packet
+    → FillsData begun_view.endpoint.below.transfer begun_view request_packet new filled_packet
     → Fills first_ask (view_of old) draft new filled_packet
-first_where {R = R} old None along state draft given new before acked_packet given_packet filled_packet holds is built ack forward data_in =
+first_where {R = R} old None along state draft given begun_view new before acked_packet given_packet request_packet filled_packet holds is built ack forward begin data_in =
     let same : state ≡ old.state = ack.0 in
     let up : ForwardsAt None (view_of old) acked_packet given given_packet =
     subst (λ (f : Option Transfer). ForwardsAt f (view_of old) acked_packet given given_packet) holds
     (subst (λ (s : State). ForwardsAt (transfer_of s) (view_of (record old { state = s })) acked_packet given given_packet) same forward) in
-    let here : FillsData None (view_of old) given_packet new filled_packet =
-    subst (λ (f : Option Transfer). FillsData f (view_of old) given_packet new filled_packet) holds
-    (subst (λ (v : View R). FillsData v.endpoint.below.transfer v given_packet new filled_packet) up.0 data_in) in
-    fills_nothing first_ask (view_of old) draft new filled_packet holds here.0 (here.1 ∙ up.1 ∙ ack.1 ∙ built)
-first_where {R = R} old (Some transfer) along state draft given new before acked_packet given_packet filled_packet holds is built ack forward data_in =
+    let at : BeginsAt None (view_of old) given_packet begun_view request_packet =
+    subst (λ (f : Option Transfer). BeginsAt f (view_of old) given_packet begun_view request_packet) holds
+    (subst (λ (v : View R). BeginsAt v.endpoint.below.transfer v given_packet begun_view request_packet) up.0 begin) in
+    let here : FillsData None (view_of old) request_packet new filled_packet =
+    subst (λ (f : Option Transfer). FillsData f (view_of old) request_packet new filled_packet) holds
+    (subst (λ (v : View R). FillsData v.endpoint.below.transfer v request_packet new filled_packet) at.0 data_in) in
+    fills_nothing first_ask (view_of old) draft new filled_packet holds here.0 (here.1 ∙ at.1 ∙ up.1 ∙ ack.1 ∙ built)
+first_where {R = R} old (Some transfer) along state draft given begun_view new before acked_packet given_packet request_packet filled_packet holds is built ack forward begin data_in =
     let mid : Transfer = ack.0 in
     let at_state : ForwardsAt (transfer_of (state_with old.state mid)) (view_of (record old { state = state_with old.state mid })) acked_packet given given_packet =
     subst (λ (s : State). ForwardsAt (transfer_of s) (view_of (record old { state = s })) acked_packet given given_packet) ack.1 forward in
@@ -278,19 +343,20 @@ first_where {R = R} old (Some transfer) along state draft given new before acked
     subst (λ (f : Option Transfer). ForwardsAt f (view_of (record old { state = state_with old.state mid })) acked_packet given given_packet) (transfer_is old.state transfer mid holds) at_state in
     let view : view_of (record old { state = state_with old.state mid }) ≡ acknowledged_view (view_of old) mid =
     ap (λ (e : Endpoint). record (view_of old) { endpoint = e }) (endpoint_with old transfer mid holds) in
-    first_by (view_of old) draft transfer mid given new before acked_packet given_packet filled_packet holds built
+    first_by (view_of old) draft transfer mid given begun_view new before acked_packet given_packet request_packet filled_packet holds built
     (subst (λ (b : Bool). Acknowledges b transfer before mid acked_packet) (along_is (Some transfer) old.send_queue transfer along refl is) ack.2)
     (subst (λ (v : View R). ForwardsAt (Some mid) v acked_packet given given_packet) view found)
-    data_in
+    begin data_in
 
-pub fills_first : {R : Type 0} (old : Context R) (along : Bool) (state : State) (draft : Emission) (given new : View R) (before acked_packet given_packet filled_packet : Building)
+pub fills_first : {R : Type 0} (old : Context R) (along : Bool) (state : State) (draft : Emission) (given begun_view new : View R) (before acked_packet given_packet request_packet filled_packet : Building)
     → along ≡ (has_data old.send_queue || can_send_below (transfer_of old.state)) → before ≡ packet_for old.options draft
     → AcknowledgesBelow (transfer_of old.state) along old.state before state acked_packet
     → ForwardsAt (transfer_of state) (view_of (record old { state = state })) acked_packet given given_packet
-    → FillsData given.endpoint.below.transfer given given_packet new filled_packet
+    → BeginsAt given.endpoint.below.transfer given given_packet begun_view request_packet
+    → FillsData begun_view.endpoint.below.transfer begun_view request_packet new filled_packet
     → Fills first_ask (view_of old) draft new filled_packet
-fills_first old along state draft given new before acked_packet given_packet filled_packet is built ack forward data_in =
-    first_where old (transfer_of old.state) along state draft given new before acked_packet given_packet filled_packet refl is built ack forward data_in
+fills_first old along state draft given begun_view new before acked_packet given_packet request_packet filled_packet is built ack forward begin data_in =
+    first_where old (transfer_of old.state) along state draft given begun_view new before acked_packet given_packet request_packet filled_packet refl is built ack forward begin data_in
 
 -- ---- where a growth was refused
 

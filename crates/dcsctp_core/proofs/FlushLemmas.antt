@@ -1,5 +1,5 @@
 -- A flush out of its packets, one after another.
-use Rattle.std.proofs.Common.{◌≡◌, not, ℕ, suc, Bool, true, false, Some, List, [], ◌∷◌, ◌++◌, length, map, refl, sym, ap, subst, ◌∙◌, append_assoc, inl, inr, arith}
+use Rattle.std.proofs.Common.{◌≡◌, not, ℕ, suc, Bool, true, false, Option, None, Some, List, [], ◌∷◌, ◌++◌, length, map, refl, sym, ap, subst, ◌∙◌, append_assoc, inl, inr, arith}
 use Rattle.std.proofs.lemmas.List.{append-nil, map-append}
 use Rattle.rand_core.specs.Stream.{Stream}
 use Rattle.dcsctp_build.specs.Building.{Building}
@@ -12,8 +12,9 @@ use Rattle.dcsctp_machine.specs.Settings.{ports_of, packet_size_limit}
 use Rattle.dcsctp_machine.specs.Event.{Event, sent}
 use Rattle.dcsctp_machine.specs.Packet.{Content, Emission, emission_bytes}
 use Rattle.dcsctp_machine.specs.Endpoint.{Endpoint, Core, closed, cookie_wait, cookie_echoed, open_in, held_in}
-use Rattle.dcsctp_machine.specs.Outcome.{Outcome, still, counted, contents_len, then_outcome}
-use Rattle.dcsctp_machine.specs.control.Effect.{drawn_in}
+use Rattle.dcsctp_machine.specs.Outcome.{Outcome, still, counted, contents_len, then_outcome, noting}
+use Rattle.dcsctp_machine.specs.control.Effect.{Effect, drawn_in}
+use Rattle.dcsctp_machine.specs.turns.BegunResets.{BegunReset, begun_effects}
 use Rattle.dcsctp_machine.specs.turns.FlushOutcomes.{told_event, Answer, answer_contents, filled, goes_out, asked, next_draft, draft_to, flush_of, Ask, later_ask, IsWithin, Answered, Answers, at_limit, at_empty, after_packet, is_none}
 use Rattle.dcsctp_machine.proofs.AnswerLemmas.{any_answers, answers_from}
 use Rattle.dcsctp_machine.proofs.FlushKeeps.{Keeps, asked_keeps}
@@ -76,6 +77,15 @@ body_none : (options : Options) (draft : Emission) (contents : List Content) (pa
     → is_none packet.body ≡ is_none (filled draft contents).packet.contents
 body_none options draft contents packet is = ap (λ (b : Building). is_none b.body) is ∙ none_as_bytes (filled draft contents).packet.contents
 
+-- A request that is noted draws no pair.
+begun_drawn : (begun : Option BegunReset) (effects : List Effect) → drawn_in (begun_effects begun ++ effects) ≡ drawn_in effects
+begun_drawn None effects = refl
+begun_drawn (Some begun) effects = refl
+
+begun_moves : {R : Type 0} (stream : R → Stream) (old : View R) (begun : Option BegunReset) (o : Outcome) (new : View R) → Moves stream old o new → Moves stream old (noting (begun_effects begun) o) new
+begun_moves stream old begun o new m =
+    record { endpoint = m.endpoint; events = m.events; words = m.words; pairs = m.pairs ∙ ap (λ (ps : List Pair). old.pairs ++ ps) (sym (begun_drawn begun o.effects)); drawn = m.drawn }
+
 pub asks_for : {R : Type 0} (stream : R → Stream) (ask : Ask) (old mid new : View R) (draft : Emission) (packet : Building) (is_sent : Bool) → Fills ask old draft mid packet → KeepsSize packet
     → is_sent ≡ not (is_none packet.body) → new ≡ sent_where is_sent packet mid → AsksFor stream ask old draft is_sent new
 asks_for {R = R} stream ask old mid new draft packet is_sent f size goes is =
@@ -85,7 +95,7 @@ asks_for {R = R} stream ask old mid new draft packet is_sent f size goes is =
       answer = f.answer;
       allowed = answered_by ask old mid draft packet f size;
       goes = same;
-      moves = subst (λ (v : View R). Moves stream old (asked old.endpoint draft f.answer) v) (sym (is ∙ ap (λ (b : Bool). sent_where b packet mid) same)) (out_moves stream ask old mid draft packet f contents refl);
+      moves = subst (λ (v : View R). Moves stream old (asked old.endpoint draft f.answer) v) (sym (is ∙ ap (λ (b : Bool). sent_where b packet mid) same)) (begun_moves stream old f.answer.begun _ _ (out_moves stream ask old mid draft packet f contents refl));
     }
 
 -- the packet found no place among the events
@@ -132,7 +142,7 @@ pub flushes_last : {R : Type 0} (stream : R → Stream) (ask : Ask) (n : ℕ) (o
 flushes_last stream ask n old new draft is_sent not_sent h =
     let o : Outcome = asked old.endpoint draft h.answer in
     let empty : (filled draft (answer_contents h.answer)).packet.contents ≡ [] = none_is (filled draft (answer_contents h.answer)).packet.contents is_sent h.goes not_sent in
-    let keeps : Keeps old.endpoint o = asked_keeps ask old.endpoint draft h.answer h.allowed in
+    let keeps : Keeps h.answer.begun old.endpoint o = asked_keeps ask old.endpoint draft h.answer h.allowed in
     record {
       answers = h.answer ∷ [];
       allowed = at_empty ask n old.endpoint draft h.answer h.allowed empty;
@@ -146,7 +156,7 @@ pub flushes_further : {R : Type 0} (stream : R → Stream) (ask : Ask) (n : ℕ)
 flushes_further stream ask n old mid new draft next is_sent was_sent h follows rest =
     let e : Endpoint = old.endpoint in
     let o : Outcome = asked e draft h.answer in
-    let keeps : Keeps e o = asked_keeps ask e draft h.answer h.allowed in
+    let keeps : Keeps h.answer.begun e o = asked_keeps ask e draft h.answer h.allowed in
     let answers : Answers later_ask n o.after (next_draft e.core draft) rest.answers =
     subst (λ (x : Endpoint). Answers later_ask n x (next_draft e.core draft) rest.answers) h.moves.endpoint
     (subst (λ (d : Emission). Answers later_ask n mid.endpoint d rest.answers) (sym follows) rest.allowed) in
@@ -180,7 +190,7 @@ pub flush_cut_further : {R : Type 0} (stream : R → Stream) (ask : Ask) (n : �
 flush_cut_further stream ask n old mid draft next events is_sent was_sent h follows rest =
     let e : Endpoint = old.endpoint in
     let o : Outcome = asked e draft h.answer in
-    let keeps : Keeps e o = asked_keeps ask e draft h.answer h.allowed in
+    let keeps : Keeps h.answer.begun e o = asked_keeps ask e draft h.answer h.allowed in
     let same : mid.endpoint ≡ o.after = h.moves.endpoint in
     let answers : Answers later_ask n o.after (next_draft e.core draft) rest.answers =
     subst (λ (x : Endpoint). Answers later_ask n x (next_draft e.core draft) rest.answers) same (subst (λ (d : Emission). Answers later_ask n mid.endpoint d rest.answers) (sym follows) rest.allowed) in

@@ -8,5 +8,6 @@ pub mod FirstLemmas
 pub mod FlushLemmas
 pub mod LoopLemmas
 pub mod Moving
+pub mod ResetLemmas
 pub mod RestLemmas
 pub mod SentLemmas

@@ -5,12 +5,13 @@ use Rattle.dcsctp_build.specs.Building.{Building}
 use Rattle.dcsctp_machine.specs.declared.association.Held.{Held}
 use Rattle.dcsctp_machine.specs.Event.{Event}
 use Rattle.dcsctp_machine.specs.Packet.{Emission}
-use Rattle.dcsctp_machine.specs.Endpoint.{Endpoint, held_in}
+use Rattle.dcsctp_machine.specs.Endpoint.{Endpoint, Core, closed, cookie_wait, cookie_echoed, open_in, held_in}
 use Rattle.dcsctp_machine.specs.Outcome.{Outcome, still}
+use Rattle.dcsctp_machine.specs.turns.BegunResets.{BegunReset, held_asking, held_begun, core_asking, after_begun}
 use Rattle.dcsctp_machine.specs.turns.DataOutcomes.{flush_by, AnswersTo}
 use Rattle.dcsctp_machine.specs.turns.FlushOutcomes.{Answer, draft_to, next_draft, flush_of, packets_allowed, Ask, first_ask, later_ask}
 use Rattle.dcsctp_machine.proofs.AnswerLemmas.{any_answers}
-use Rattle.dcsctp_machine.proofs.FlushKeeps.{asked_keeps}
+use Rattle.dcsctp_machine.proofs.FlushKeeps.{asked_keeps, later_begins}
 use Rattle.dcsctp_core.specs.declared.context.Context.{Context}
 use Rattle.dcsctp_machine.specs.declared.options.Options.{Options}
 use Rattle.dcsctp_core.specs.declared.state.State.{State}
@@ -38,7 +39,8 @@ pub completes_on : {R : Type 0} (stream : R → Stream) (held : Held) (allowed :
 completes_on stream held allowed start more here next is_sent was_sent c h =
     let follows : next_draft here.endpoint.core (draft_to held) ≡ draft_to held = next_to here.endpoint.core (draft_to held) held c.core in
     record {
-      core = ap (λ (e : Endpoint). held_in e.core) h.moves.endpoint ∙ ap held_in (asked_keeps later_ask here.endpoint (draft_to held) h.answer h.allowed).core ∙ c.core;
+      core = ap (λ (e : Endpoint). held_in e.core) h.moves.endpoint ∙ ap held_in (asked_keeps later_ask here.endpoint (draft_to held) h.answer h.allowed).core
+          ∙ ap (λ (b : Option BegunReset). held_in (after_begun b here.endpoint).core) (later_begins here.endpoint (draft_to held) h.answer h.allowed) ∙ c.core;
       done = λ new rest. c.done new (flushes_further stream later_ask more here next new (draft_to held) (draft_to held) is_sent was_sent h follows rest);
       cut = λ events rest. c.cut events (flush_cut_further stream later_ask more here next (draft_to held) (draft_to held) events is_sent was_sent h follows rest);
     }
@@ -112,20 +114,38 @@ pub first_last : {R : Type 0} (stream : R → Stream) (n : ℕ) (old new : View 
 first_last stream n old new draft is_sent some not_sent h =
     subst (λ (m : ℕ). FlushesFor stream first_ask m old draft new) (sym (one_less n some)) (flushes_last stream first_ask (n - 1) old new draft is_sent not_sent h)
 
-still_held : {R : Type 0} (stream : R → Stream) (old mid : View R) (draft : Emission) (held : Held) (is_sent : Bool) → held_in old.endpoint.core ≡ Some held → AsksFor stream first_ask old draft is_sent mid
-    → held_in mid.endpoint.core ≡ Some held
+-- what is known of the peer once a reset was begun
+asking_held : (core : Core) (held : Held) → held_in core ≡ Some held → held_in (core_asking core) ≡ Some (held_asking held)
+asking_held closed held is = absurd (cc)
+asking_held (cookie_wait my) held is = absurd (cc)
+asking_held (cookie_echoed my own cookie) held is = let here : own ≡ held = cc in ap (λ (h : Held). Some (held_asking h)) here
+asking_held (open_in phase my own) held is = let here : own ≡ held = cc in ap (λ (h : Held). Some (held_asking h)) here
+
+held_after : (begun : Option BegunReset) (e : Endpoint) (held : Held) → held_in e.core ≡ Some held → held_in (after_begun begun e).core ≡ Some (held_begun begun held)
+held_after None e held is = is
+held_after (Some begun) e held is = asking_held e.core held is
+
+-- A packet to it is the same.
+same_draft : (begun : Option BegunReset) (held : Held) → draft_to held ≡ draft_to (held_begun begun held)
+same_draft None held = refl
+same_draft (Some begun) held = refl
+
+still_held : {R : Type 0} (stream : R → Stream) (old mid : View R) (draft : Emission) (held : Held) (is_sent : Bool) → held_in old.endpoint.core ≡ Some held
+    → (h : AsksFor stream first_ask old draft is_sent mid) → held_in mid.endpoint.core ≡ Some (held_begun h.answer.begun held)
 still_held stream old mid draft held is_sent holds h =
-    ap (λ (e : Endpoint). held_in e.core) h.moves.endpoint ∙ ap held_in (asked_keeps first_ask old.endpoint draft h.answer h.allowed).core ∙ holds
+    ap (λ (e : Endpoint). held_in e.core) h.moves.endpoint ∙ ap held_in (asked_keeps first_ask old.endpoint draft h.answer h.allowed).core ∙ held_after h.answer.begun old.endpoint held holds
 
 pub first_then : {R E : Type 0} (stream : R → Stream) (n : ℕ) (old mid : View R) (draft : Emission) (held : Held) (result : Result (Unit {0}) E) (new : View R) (is_sent : Bool) → 0 < n → is_sent ≡ true
     → held_in old.endpoint.core ≡ Some held → AsksFor stream first_ask old draft is_sent mid
-    → (held_in mid.endpoint.core ≡ Some held → FlushesBy stream later_ask (n - 1) (draft_to held) mid result new) → FlushesBy stream first_ask n draft old result new
+    → ((after : Held) → held_in mid.endpoint.core ≡ Some after → FlushesBy stream later_ask (n - 1) (draft_to after) mid result new) → FlushesBy stream first_ask n draft old result new
 first_then stream n old mid draft held (Ok done) new is_sent some was_sent holds h rest =
     subst (λ (m : ℕ). FlushesFor stream first_ask m old draft new) (sym (one_less n some))
-    (flushes_further stream first_ask (n - 1) old mid new draft (draft_to held) is_sent was_sent h (next_to old.endpoint.core draft held holds) (rest (still_held stream old mid draft held is_sent holds h)))
+    (flushes_further stream first_ask (n - 1) old mid new draft (draft_to (held_begun h.answer.begun held)) is_sent was_sent h (next_to old.endpoint.core draft held holds ∙ same_draft h.answer.begun held)
+    (rest (held_begun h.answer.begun held) (still_held stream old mid draft held is_sent holds h)))
 first_then stream n old mid draft held (Err error) new is_sent some was_sent holds h rest =
     subst (λ (m : ℕ). FlushCut first_ask m old draft new.events) (sym (one_less n some))
-    (flush_cut_further stream first_ask (n - 1) old mid draft (draft_to held) new.events is_sent was_sent h (next_to old.endpoint.core draft held holds) (rest (still_held stream old mid draft held is_sent holds h)))
+    (flush_cut_further stream first_ask (n - 1) old mid draft (draft_to (held_begun h.answer.begun held)) new.events is_sent was_sent h
+    (next_to old.endpoint.core draft held holds ∙ same_draft h.answer.begun held) (rest (held_begun h.answer.begun held) (still_held stream old mid draft held is_sent holds h)))
 
 -- ---- a flush by itself
 

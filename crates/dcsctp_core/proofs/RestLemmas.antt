@@ -3,10 +3,11 @@ use Rattle.std.proofs.Common.{◌≡◌, ◌==◌, ◌&&◌, ◌||◌, ℕ, zero
 use Rattle.rand_core.specs.Stream.{Stream}
 use Rattle.dcsctp_machine.specs.declared.association.Held.{Held}
 use Rattle.dcsctp_machine.specs.Packet.{Emission}
-use Rattle.dcsctp_machine.specs.Transfer.{SendQueueState, RetransmissionState, Transfer, can_send, has_free_tsn, has_data, least_chunk, must_give, is_idle}
+use Rattle.dcsctp_machine.specs.Transfer.{SendQueueState, RetransmissionState, Transfer, can_send, has_free_tsn, has_data, least_chunk, must_give, is_none_ready, is_idle}
 use Rattle.dcsctp_machine.specs.Endpoint.{Endpoint, held_in}
+use Rattle.dcsctp_machine.specs.turns.BegunResets.{last_assigned_tsn}
 use Rattle.dcsctp_machine.specs.turns.DataOutcomes.{flush_by, AnswersTo}
-use Rattle.dcsctp_machine.specs.turns.FlushOutcomes.{draft_to, flush_of, packets_allowed, Ask, first_ask, room_in, Acknowledges, Gives, GivesWhere, AnsweredBelow, nothing_waits}
+use Rattle.dcsctp_machine.specs.turns.FlushOutcomes.{draft_to, flush_of, packets_allowed, Ask, first_ask, later_ask, room_in, begun_at, Acknowledges, Gives, GivesWhere, AnsweredBelow, nothing_waits}
 use Rattle.dcsctp_transfer.specs.Filling.{may_give}
 use Rattle.dcsctp_core.specs.declared.context.Context.{Context}
 use Rattle.dcsctp_core.specs.declared.transmission_control_block.TransmissionControlBlock.{TransmissionControlBlock}
@@ -14,6 +15,7 @@ use Rattle.dcsctp_core.specs.View.{View, core_of, tcb_of, transfer_of, held_of, 
 use Rattle.dcsctp_core.specs.Handling.{TakesIn, FlushAt}
 use Rattle.dcsctp_core.specs.Flushing.{NeedsNone, AsksFor, FlushesFor}
 use Rattle.dcsctp_core.proofs.Moving.{moves_still}
+use Rattle.dcsctp_core.proofs.FillLemmas.{none_begun}
 use Rattle.dcsctp_core.proofs.FlushLemmas.{flushes_none, flushes_last}
 use Rattle.dcsctp_core.proofs.LoopLemmas.{held_by_tcb, flush_no_peer}
 
@@ -35,6 +37,11 @@ not_given : (room : ℕ) (queue : SendQueueState) (state : RetransmissionState) 
 not_given room queue state is =
     not_all (nat_lt 0 state.marked_items) (can_send state) (state.marked_items == 0) (nat_le (least_chunk state.message_interleaving) room) (has_free_tsn state) (has_data queue) is
 
+-- Nor is a reset begun, where no stream is ready.
+rest_begun : (ask : Ask) (held : Option Held) (room last_tsn : ℕ) (queue : SendQueueState) → (ask ≡ first_ask → is_none_ready queue.ready_streams ≡ true) → None ≡ begun_at ask held room last_tsn queue
+rest_begun later_ask held room last_tsn queue none = refl
+rest_begun first_ask held room last_tsn queue none = sym (none_begun first_ask held room last_tsn queue (none refl))
+
 gives_none : (ask : Ask) (e : Endpoint) (draft : Emission) (transfer : Transfer) → e.below.transfer ≡ Some transfer → NeedsNone ask e.below.queue (Some transfer) → Gives ask e draft transfer (nothing_waits e)
 gives_none ask e draft transfer holds needs =
     record {
@@ -55,9 +62,16 @@ gives_none ask e draft transfer holds needs =
         kind = tt;
         fit = tt;
       };
+      begins = record {
+        queue = e.below.queue;
+        retransmission = transfer.retransmission;
+        negotiated = λ without. (refl, refl);
+        idle = λ none. (refl, refl);
+        is = rest_begun ask (held_in e.core) _ (last_assigned_tsn transfer.retransmission) e.below.queue needs.1;
+      };
       kind = tt;
       fit = tt;
-      data_goes = λ none. not_given _ e.below.queue transfer.retransmission needs.1;
+      data_goes = λ none. not_given _ e.below.queue transfer.retransmission needs.2;
       partial_reliability = refl;
       message_interleaving = refl;
       timeout = refl;

@@ -2,16 +2,17 @@
 use Rattle.std.specs.Prelude.{◌≡◌, ◌⊎◌, ◌≤◌, ◌<◌, ◌+◌, ℕ, length, Bool, true, false, not, Option, None, Some, Result, Ok, Err, List, [], ◌∷◌, ◌++◌, map}
 use Rattle.std.specs.List.{flat_map}
 use Rattle.rand_core.specs.Stream.{Stream}
-use Rattle.dcsctp_build.specs.Building.{Building}
+use Rattle.dcsctp_build.specs.Building.{Building, bytes_remaining}
 use Rattle.dcsctp_wire.specs.Spelling.{chunk_bytes, header_bytes, packet_bytes_of}
 use Rattle.dcsctp_machine.specs.declared.options.Options.{Options}
 use Rattle.dcsctp_machine.specs.Settings.{ports_of, packet_size_limit}
 use Rattle.dcsctp_machine.specs.Event.{Event, sent}
 use Rattle.dcsctp_machine.specs.Packet.{Content, chunk_out, Emission}
-use Rattle.dcsctp_machine.specs.Transfer.{SendQueueState, Transfer, has_data, can_send}
+use Rattle.dcsctp_machine.specs.Transfer.{SendQueueState, Transfer, has_data, can_send, is_none_ready}
 use Rattle.dcsctp_machine.specs.Endpoint.{Endpoint, Timers, heartbeats_begun, held_in}
 use Rattle.dcsctp_machine.specs.declared.association.Held.{Held}
 use Rattle.dcsctp_machine.specs.Outcome.{counted}
+use Rattle.dcsctp_machine.specs.turns.BegunResets.{BegunReset, last_assigned_tsn, begun_in, request_contents, after_begun}
 use Rattle.dcsctp_machine.specs.turns.FlushOutcomes.{told_event, Answer, answer_contents, filled, asked, flush_of, packets_allowed, Ask, first_ask, wants_sack, AnsweredBelow, timers_with, Answered, Answers, is_none, later_ask, draft_to}
 use Rattle.dcsctp_api.specs.Calls.{user_event}
 use Rattle.dcsctp_transfer.specs.Filling.{TellsMore, FillsPacket, may_give, Acknowledges, is_sack_wanted}
@@ -73,10 +74,17 @@ abbrev pub HasNoData : SendQueueState → Option Transfer → Type 0
 HasNoData queue None = Unit {0}
 HasNoData queue (Some transfer) = (has_data queue ≡ false) × (transfer.retransmission.outstanding_items ≡ 0)
 
--- Nothing has to go into a packet to the peer that is held: neither what acknowledges nor data.
+-- No stream is ready to be reset, where a peer is held.
+abbrev pub HasNoReset : SendQueueState → Option Transfer → Type 0
+HasNoReset queue None = Unit {0}
+HasNoReset queue (Some transfer) = is_none_ready queue.ready_streams ≡ true
+
+-- Nothing has to go into a packet to the peer that is held: neither what acknowledges nor data; and into the first none that
+-- resets streams.
 abbrev pub NeedsNone : Ask → SendQueueState → Option Transfer → Type 0
 NeedsNone ask queue None = Unit {0}
-NeedsNone ask queue (Some transfer) = (wants_sack ask queue transfer ≡ false) × (may_give queue transfer.retransmission ≡ false)
+NeedsNone ask queue (Some transfer) =
+    (wants_sack ask queue transfer ≡ false) × (ask ≡ first_ask → is_none_ready queue.ready_streams ≡ true) × (may_give queue transfer.retransmission ≡ false)
 
 -- No SACK is asked for.
 abbrev pub WantsNone : Option Transfer → Bool → Type 0
@@ -115,6 +123,16 @@ ForwardsAt (Some transfer) old packet new filled =
       events = new.events;
     })
 
+-- A reset was begun where none is outstanding, one is ready and it fits; its request is in the packet, and nothing else has moved.
+abbrev pub BeginsAt : {R : Type 0} → Option Transfer → View R → Building → View R → Building → Type 0
+BeginsAt None old packet new filled = (new ≡ old) × (filled ≡ packet)
+BeginsAt (Some transfer) old packet new filled =
+    (begun : Option BegunReset) × (left : SendQueueState)
+    × (begun ≡ begun_in (held_in old.endpoint.core) (bytes_remaining packet) (last_assigned_tsn transfer.retransmission) old.endpoint.below.queue)
+    × (is_none_ready old.endpoint.below.queue.ready_streams ≡ true → left ≡ old.endpoint.below.queue)
+    × (filled ≡ record packet { body = packet.body ++ flat_map chunk_bytes (map chunk_out (request_contents begun)) })
+    × (new ≡ record old { endpoint = record (after_begun begun old.endpoint) { below = record old.endpoint.below { queue = left } } })
+
 -- A packet was filled with data, and nothing else has moved.
 abbrev pub FillsData : {R : Type 0} → Option Transfer → View R → Building → View R → Building → Type 0
 FillsData None old packet new filled = (new ≡ old) × (filled ≡ packet)
@@ -130,8 +148,8 @@ FillsData (Some transfer) old packet new filled =
 pub record Fills {R : Type 0} (ask : Ask) (old : View R) (draft : Emission) (new : View R) (filled_packet : Building) : Type 0 where
   pub answer : Answer
   pub kept : answer.after
-      ≡ record old.endpoint {
-        timers = timers_with old.endpoint answer.data_chunks;
+      ≡ record (after_begun answer.begun old.endpoint) {
+        timers = timers_with (after_begun answer.begun old.endpoint) answer.data_chunks;
         no_forward_tsn_before = answer.after.no_forward_tsn_before;
         below = answer.after.below;
       }
@@ -180,6 +198,11 @@ TriesData packet old (Err error) new filled = TellsMore (view_of old).events (vi
 abbrev pub TriesForward : {R E : Type 0} → Building → Context R → Result (Unit {0}) E → Context R → Building → Type 0
 TriesForward packet old (Ok done) new filled = ForwardsAt (transfer_of old.state) (view_of old) packet (view_of new) filled
 TriesForward packet old (Err error) new filled = TellsMore (view_of old).events (view_of new).events
+
+-- What begins a reset, by whether a growth was refused.
+abbrev pub TriesReset : {R E : Type 0} → Building → Context R → Result (Unit {0}) E → Context R → Building → Type 0
+TriesReset packet old (Ok done) new filled = BeginsAt (transfer_of old.state) (view_of old) packet (view_of new) filled
+TriesReset packet old (Err error) new filled = (view_of new).events ≡ (view_of old).events
 
 -- ---- as many as may be
 

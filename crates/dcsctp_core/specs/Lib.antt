@@ -1,8 +1,11 @@
+pub mod Answering
 pub mod Below
 pub mod Drawing
 pub mod Errors
 pub mod Flushing
 pub mod Handling
+pub mod Reconfiguring
+pub mod Resetting
 pub mod Timing
 pub mod View
 pub use Rattle.dcsctp_api.specs.Events

@@ -8,7 +8,8 @@ use Rattle.dcsctp_machine.specs.declared.word.Word.TheVariants.{U32, U64}
 use Rattle.dcsctp_machine.specs.Event.{Event}
 use Rattle.dcsctp_machine.specs.declared.association.Held.{Held}
 use Rattle.dcsctp_machine.specs.Transfer.{Transfer, new_transfer}
-use Rattle.dcsctp_machine.specs.Endpoint.{Endpoint, Core, closed, cookie_wait, cookie_echoed, open_in, established, RunningTimer, stopped_timers, heartbeats_begun, fresh_endpoint}
+use Rattle.dcsctp_machine.specs.Endpoint.{Endpoint, Core, closed, cookie_wait, cookie_echoed, open_in, established, OutstandingRequest, RunningTimer, stopped_timers, heartbeats_begun, fresh_endpoint}
+use Rattle.dcsctp_machine.specs.Ids.{stream_numbers}
 use Rattle.dcsctp_machine.specs.Outcome.{Outcome, count_up}
 use Rattle.dcsctp_machine.specs.Following.{next_chunk}
 use Rattle.dcsctp_machine.specs.control.HandshakeChanges.{new_held}
@@ -20,6 +21,7 @@ use Rattle.dcsctp_api.specs.Calls.{user_event}
 use Rattle.dcsctp_core.specs.declared.state.State.{State}
 use Rattle.dcsctp_core.specs.declared.state.State.TheVariants.{Closed, CookieWait, CookieEchoed, Established}
 use Rattle.dcsctp_core.specs.declared.transmission_control_block.Peer.{Peer}
+use Rattle.dcsctp_core.specs.declared.transmission_control_block.ResetRequest.{ResetRequest}
 use Rattle.dcsctp_core.specs.declared.transmission_control_block.TransmissionControlBlock.{TransmissionControlBlock}
 use Rattle.dcsctp_core.specs.declared.context.Context.{Context}
 
@@ -32,6 +34,15 @@ pub record View (R : Type 0) : Type 0 where
   pub pairs : List Pair
   pub generator : R
 
+-- the number of an own request to reset streams, and what it wants
+abbrev pub number_of : Option ResetRequest → Option ℕ
+number_of None = None
+number_of (Some request) = Some request.number
+
+abbrev pub request_of : Option ResetRequest → Option OutstandingRequest
+request_of None = None
+request_of (Some request) = Some (record { last_tsn = request.last_tsn; streams = stream_numbers request.streams.items; waits_for_retry = request.waits_for_retry })
+
 -- what an association keeps of its peer
 abbrev pub held_of : TransmissionControlBlock → Held
 held_of tcb =
@@ -39,7 +50,7 @@ held_of tcb =
       peer = tcb.peer;
       capabilities = tcb.capabilities;
       own_next = tcb.next_outgoing_reset_req_seq_nbr;
-      own_outstanding = None;
+      own_outstanding = number_of tcb.reset_request;
       peer_last = tcb.last_processed_req_seq_nbr;
       peer_result = tcb.last_processed_req_result;
     }
@@ -76,10 +87,25 @@ t1_of (CookieWait wait) = wait.t1_init.running
 t1_of (CookieEchoed echoed) = echoed.t1_cookie.running
 t1_of (Established tcb) = None
 
+-- the own request that is outstanding, and the timer by which it is sent again
+abbrev pub outstanding_of : State → Option OutstandingRequest
+outstanding_of Closed = None
+outstanding_of (CookieWait wait) = None
+outstanding_of (CookieEchoed echoed) = request_of echoed.tcb.reset_request
+outstanding_of (Established tcb) = request_of tcb.reset_request
+
+abbrev pub reconfiguration_of : State → Option RunningTimer
+reconfiguration_of Closed = None
+reconfiguration_of (CookieWait wait) = None
+reconfiguration_of (CookieEchoed echoed) = echoed.tcb.reconfiguration.running
+reconfiguration_of (Established tcb) = tcb.reconfiguration.running
+
 -- An association that was just made, with this peer and this tie tag.
 pub record IsNew (options : Options) (own : Pair) (peer : Peer) (tie : ℕ) (tcb : TransmissionControlBlock) : Type 0 where
   pub my : tcb.my ≡ own
   pub held : held_of tcb ≡ new_held own peer.pair peer.capabilities
+  pub outstanding : request_of tcb.reset_request ≡ None
+  pub reconfiguration : tcb.reconfiguration.running ≡ None
   pub tie_tag : tcb.tie_tag ≡ tie
   pub transfer : tcb.transfer ≡ new_transfer options peer.capabilities own.first_tsn peer.pair.first_tsn peer.a_rwnd
 
@@ -96,10 +122,12 @@ endpoint_of context =
       moment = context.moment;
       core = core_of context.state;
       tie = tie_of context.state;
+      outstanding = outstanding_of context.state;
       error_count = context.tx_error_counter.count;
       heartbeat_counter = context.heartbeat_counter;
       timers = record stopped_timers {
         t1 = t1_of context.state;
+        reconfiguration = reconfiguration_of context.state;
         heartbeat_interval = context.heartbeat_interval.running;
         heartbeat_timeout = context.heartbeat_timeout.running;
       };

@@ -92,11 +92,12 @@ impl<R: Rng> Context<R> {
     ghost use Rattle.dcsctp_machine.specs.Outcome.{counted};
     ghost use Rattle.dcsctp_wire.specs.Content.{chunk_content};
     ghost use Rattle.dcsctp_machine.specs.TimeTurns.{own_timer};
-    ghost use Rattle.dcsctp_machine.specs.turns.OwnTimers.{heartbeat_interval, heartbeat_timeout, retransmission};
+    ghost use Rattle.dcsctp_machine.specs.turns.OwnTimers.{heartbeat_interval, heartbeat_timeout, reconfiguration, retransmission};
     ghost use Rattle.dcsctp_machine.specs.turns.HeartbeatOutcomes.{interval_expired, beating, timeout_outcome, answered, is_exhausted};
     ghost use Rattle.dcsctp_send.specs.Timer.{running_deadline};
     ghost use Rattle.dcsctp_core.specs.Timing.{where_expired, is_timer_due, ExpiresAlways};
-    ghost use Rattle.dcsctp_core.specs.View.{Moves, view_of, endpoint_of, begun_heartbeats, message_counted, fresh_view, call_start};
+    ghost use Rattle.dcsctp_core.specs.Reconfiguring.{request_over};
+    ghost use Rattle.dcsctp_core.specs.View.{Moves, view_of, endpoint_of, outstanding_of, begun_heartbeats, message_counted, fresh_view, call_start};
     ghost use Rattle.dcsctp_core.specs.Drawing.{Draws, Keeps};
     ghost use Rattle.dcsctp_core.specs.Handling.{Tries, Emits, arrival_turn, report_turn, close_turn, end_event};
 
@@ -311,6 +312,23 @@ impl<R: Rng> Context<R> {
             return true;
         }
         false
+    }
+
+    /// Tells the reconfiguration timer the present moment, and answers whether it expires. The own request that is
+    /// outstanding waits no longer then, and an error is counted, unless the peer had answered that it is in progress
+    /// (RFC 6525, section 5.1.1). It takes no memory.
+    pub fn expire_reconfiguration(&mut self) -> bool
+        ensures answer { result ≡ is_timer_due (endpoint_of self.old) (own_timer reconfiguration) }
+        ensures left { view_of self.new ≡ where_expired result (request_over (endpoint_of self.old)
+            (outstanding_of self.old.state)) (view_of self.old) }
+    {
+        if !self.state.expire_reconfiguration(self.moment) {
+            return false;
+        }
+        if self.state.end_retry() {
+            self.tx_error_counter.increment();
+        }
+        true
     }
 
     /// Were more errors counted than the options allow (RFC 9260, section 8.1)?

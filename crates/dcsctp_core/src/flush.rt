@@ -5,7 +5,7 @@ ghost use Rattle.dcsctp_machine.specs.Transfer.{has_data};
 ghost use Rattle.dcsctp_machine.specs.turns.FlushOutcomes.{packets_allowed, first_ask, later_ask};
 ghost use Rattle.dcsctp_core.specs.View.{core_of, transfer_of, endpoint_of, view_of};
 ghost use Rattle.dcsctp_core.specs.Below.{AtOnceAt};
-ghost use Rattle.dcsctp_core.specs.Flushing.{Flushes, FurtherAt, AsksWith, FillsWith, TriesForward, forward_where, TriesData, HasNoData, can_send_below, SendsUnlessEmpty, KeepsSize};
+ghost use Rattle.dcsctp_core.specs.Flushing.{Flushes, FurtherAt, AsksWith, FillsWith, TriesForward, forward_where, TriesReset, TriesData, HasNoData, HasNoReset, can_send_below, SendsUnlessEmpty, KeepsSize};
 ghost use Rattle.dcsctp_core.specs.Handling.{TakesOne, FlushAt};
 
 use crate::context::Context;
@@ -132,14 +132,24 @@ impl<R: Rng> Context<R> {
         self.send_unless_empty(packet)
     }
 
-    // Puts into the first packet what acknowledges, what gives messages up, and then data.
+    // Puts into the first packet what acknowledges, what gives messages up, the request of a reset, and then data.
     fn fill_first(&mut self, packet: &mut SctpPacketBuilder) -> Result<(), AllocError>
         ensures { FillsWith first_ask packet.old self.old result self.new packet.new }
     {
         let may_follow = self.may_send_data();
         self.state.acknowledge(may_follow, packet)?;
         self.forward_tsn(packet)?;
+        self.begin_reset(packet)?;
         self.fill_with_data(packet)
+    }
+
+    // Begins a reset of streams, where one is ready for it and its request fits into the packet.
+    fn begin_reset(&mut self, packet: &mut SctpPacketBuilder) -> Result<(), AllocError>
+        ensures turn { TriesReset packet.old self.old result self.new packet.new }
+        ensures idle { HasNoReset self.old.send_queue (transfer_of self.old.state) → IsOk result }
+    {
+        self.state
+            .begin_reset(self.alloc, self.moment, &mut self.send_queue, packet)
     }
 
     // Puts a FORWARD-TSN into a packet where messages were given up, no sooner after the last one than it may be

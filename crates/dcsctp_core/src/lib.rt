@@ -1,11 +1,14 @@
 //! The core of a socket: its state, and what all handlers share.
 #![tactic(auto)]
 
+mod answering;
 mod context;
 mod ending;
 mod expiry;
 mod flush;
 mod following;
+mod reconfiguration;
+mod resetting;
 mod state;
 mod transferring;
 mod transmission_control_block;
@@ -14,6 +17,7 @@ mod tx_error_counter;
 pub use context::Context;
 pub use expiry::Expiry;
 pub use following::Following;
+pub use resetting::stream_bytes;
 pub use state::{CookieEchoState, CookieWaitState, State};
-pub use transmission_control_block::{Peer, TransmissionControlBlock};
+pub use transmission_control_block::{Peer, ResetRequest, TransmissionControlBlock};
 pub use tx_error_counter::TxErrorCounter;

@@ -53,8 +53,8 @@ impl State {
         }
     }
 
-    /// May anything go into the first packet of a flush to the peer that is held: a SACK, a FORWARD-TSN, or data?
-    /// A SACK that is delayed goes along where data may follow.
+    /// May anything go into the first packet of a flush to the peer that is held: a SACK, a FORWARD-TSN, the
+    /// request of a reset, or data? A SACK that is delayed goes along where data may follow.
     pub(crate) fn may_fill_first(&self, queue: &QueuedMessages) -> bool
         ensures { result ≡ false → NeedsNone first_ask queue.now (transfer_of self.now) }
     {
@@ -310,5 +310,5 @@ fn may_fill_first(transfer: &Transfer, queue: &QueuedMessages) -> bool
     ensures { result ≡ false → NeedsNone first_ask queue.now (Some transfer.now) }
 {
     let may_follow = queue.has_data_to_send() || transfer.can_send_data();
-    transfer.may_fill_first(queue, may_follow)
+    transfer.may_fill_first(queue, may_follow) || queue.has_streams_ready_to_be_reset()
 }

@@ -2,13 +2,14 @@
 
 ghost use Rattle.std.specs.Prelude.{◌≡◌, ◌==◌, Some, IfOk};
 ghost use Rattle.dcsctp_machine.specs.Settings.{IsValid};
-ghost use Rattle.dcsctp_core.specs.View.{held_of, IsNew};
+ghost use Rattle.dcsctp_core.specs.View.{held_of, number_of, IsNew};
 ghost use Rattle.dcsctp_core.specs.Flushing.{empty_packet};
 
 use dcsctp_api::{
-    Association, Capabilities, Held, Options, Pair, Phase, ReconfigurationResponseResult,
+    Association, Capabilities, Held, Options, Pair, Phase, ReconfigurationResponseResult, StreamId,
 };
 use dcsctp_build::SctpPacketBuilder;
+use dcsctp_send::{BackoffAlgorithm, Timer};
 use dcsctp_transfer::Transfer;
 use std::alloc::{AllocError, Global};
 
@@ -23,6 +24,22 @@ pub struct Peer {
 
     /// What both ends support.
     pub capabilities: Capabilities,
+}
+
+/// An own request to reset streams that isn't answered yet (RFC 6525, section 4.1).
+#[derive(Drop)]
+pub struct ResetRequest {
+    /// Its number.
+    pub number: u32,
+
+    /// The last TSN that was given out before it.
+    pub last_tsn: u32,
+
+    /// The streams that it resets.
+    pub streams: Vec<StreamId>,
+
+    /// Was it answered 'in progress', so that it waits to be sent again?
+    pub waits_for_retry: bool,
 }
 
 /// An association, from the moment at which the peer is known.
@@ -45,6 +62,12 @@ pub struct TransmissionControlBlock {
 
     /// The number of the next own request to reset streams (RFC 6525, section 4.1).
     pub next_outgoing_reset_req_seq_nbr: u32,
+
+    /// The one that is outstanding.
+    pub reset_request: Option<ResetRequest>,
+
+    /// When it is sent again (RFC 6525, section 5.1.1). It runs while one is outstanding.
+    pub reconfiguration: Timer,
 
     /// The number of the last request of the peer that was accepted.
     pub last_processed_req_seq_nbr: u32,
@@ -78,6 +101,13 @@ impl TransmissionControlBlock {
                 &peer.capabilities,
             ),
             next_outgoing_reset_req_seq_nbr: my.first_tsn,
+            reset_request: None,
+            reconfiguration: Timer::new(
+                options.rto_initial,
+                BackoffAlgorithm::Exponential,
+                None,
+                None,
+            ),
             last_processed_req_seq_nbr: peer.pair.first_tsn.wrapping_sub(1),
             last_processed_req_result: ReconfigurationResponseResult::SuccessNothingToDo,
         }
@@ -104,6 +134,16 @@ impl TransmissionControlBlock {
         Ok(builder.write_checksum(!self.capabilities.zero_checksum_enabled()))
     }
 
+    // The number of the own request that is outstanding, where one is.
+    pub(crate) fn outstanding_number(&self) -> Option<u32>
+        ensures { result ≡ number_of self.now.reset_request }
+    {
+        match &self.reset_request {
+            None => None,
+            Some(request) => Some(request.number),
+        }
+    }
+
     /// The association as a user sees it, in this phase.
     pub(crate) fn association(&self, phase: Phase) -> Association
         ensures { result ≡ record {
@@ -117,7 +157,7 @@ impl TransmissionControlBlock {
             peer: self.peer,
             capabilities: self.capabilities,
             own_next: self.next_outgoing_reset_req_seq_nbr,
-            own_outstanding: None,
+            own_outstanding: self.outstanding_number(),
             peer_last: self.last_processed_req_seq_nbr,
             peer_result: self.last_processed_req_result,
         };

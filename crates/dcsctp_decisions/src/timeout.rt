@@ -2,7 +2,7 @@
 
 ghost use Rattle.std.specs.Prelude.{◌≡◌};
 ghost use Rattle.dcsctp_machine.specs.TimeTurns.{own_timer, next_moment};
-ghost use Rattle.dcsctp_machine.specs.turns.OwnTimers.{acknowledgement_delay, retransmission};
+ghost use Rattle.dcsctp_machine.specs.turns.OwnTimers.{acknowledgement_delay, reconfiguration, retransmission};
 ghost use Rattle.dcsctp_machine.specs.TimeTurns.{deadline};
 ghost use Rattle.dcsctp_core.specs.View.{endpoint_of};
 ghost use Rattle.dcsctp_decisions.specs.NextDeadline.{earlier_of, next_by};
@@ -23,6 +23,13 @@ fn retransmission_deadline<R: Rng>(context: &Context<R>) -> Option<SocketTime>
     ensures { result ≡ deadline (endpoint_of context.now) (own_timer retransmission) }
 {
     context.state.retransmission_deadline()
+}
+
+// When the own request to reset streams is sent again, where one is outstanding.
+fn reconfiguration_deadline<R: Rng>(context: &Context<R>) -> Option<SocketTime>
+    ensures { result ≡ deadline (endpoint_of context.now) (own_timer reconfiguration) }
+{
+    context.state.reconfiguration_deadline()
 }
 
 // The earlier of two moments, of which each may be missing.
@@ -66,9 +73,10 @@ pub fn poll_timeout<R: Rng>(context: &Context<R>) -> SocketTime
                 retransmission_deadline(context),
             );
             let interval = earlier(own, context.heartbeat_interval_deadline());
+            let answer = earlier(interval, context.heartbeat_timeout_deadline());
             not_before(
                 context.moment,
-                earlier(interval, context.heartbeat_timeout_deadline()),
+                earlier(answer, reconfiguration_deadline(context)),
             )
         }
         State::Closed => not_before(context.moment, context.state.t1_deadline()),

@@ -1,5 +1,5 @@
 -- The steps of an INIT ACK's turn: its cookie is echoed, in front of a flush.
-use Rattle.std.proofs.Common.{◌≡◌, ◌⊎◌, ◌≤◌, ◌<◌, ℕ, ◌+◌, Bool, true, false, cond, Option, None, Some, List, [], ◌∷◌, ◌++◌, length, refl, sym, ap, subst, ◌∙◌, inl, inr, arith}
+use Rattle.std.proofs.Common.{◌≡◌, ◌⊎◌, ◌≤◌, ◌<◌, ℕ, ◌+◌, Bool, true, false, cond, Option, None, Some, List, [], ◌∷◌, length, refl, sym, ap, subst, ◌∙◌, inl, inr, arith}
 use Rattle.std.proofs.lemmas.List.{append-nil}
 use Rattle.std.proofs.lemmas.Bool.Decides.{nat_tests}
 use Rattle.rand_core.specs.Stream.{Stream}
@@ -13,11 +13,11 @@ use Rattle.dcsctp_machine.specs.Settings.{ports_of, packet_size_limit}
 use Rattle.dcsctp_machine.specs.Event.{Event}
 use Rattle.dcsctp_machine.specs.Packet.{Introduction, cookie_echo}
 use Rattle.dcsctp_machine.specs.Endpoint.{Endpoint, Core, closed, cookie_wait, cookie_echoed, open_in}
-use Rattle.dcsctp_machine.specs.Outcome.{Outcome, noting, quiet, contents_len, fits, still}
+use Rattle.dcsctp_machine.specs.Outcome.{Outcome, quiet, contents_len, fits, still}
 use Rattle.dcsctp_machine.specs.Following.{next_chunk}
-use Rattle.dcsctp_machine.specs.control.Effect.{Link, holds, link_of}
+use Rattle.dcsctp_machine.specs.control.Effect.{holds, link_of}
 use Rattle.dcsctp_machine.specs.control.HandshakeChanges.{held_by_init_ack}
-use Rattle.dcsctp_machine.specs.turns.FlushOutcomes.{Answer, FlushKind, first_ask, flush_of, flush_answered, packets_allowed}
+use Rattle.dcsctp_machine.specs.turns.FlushOutcomes.{Answer, first_ask, flush_of, flush_answered, packets_allowed}
 use Rattle.dcsctp_machine.specs.turns.HandshakeOutcomes.{awaits_cookie_ack, echo_emission, send_echo_by, accepted_init_ack_by, init_ack_by, refused_init_ack_outcome, EchoAnswers, InitAckAnswers}
 use Rattle.dcsctp_machine.specs.turns.TimerOutcomes.{AgainAnswers}
 use Rattle.dcsctp_machine.proofs.AnswerLemmas.{any_answers}

@@ -1,15 +1,14 @@
 -- The steps of an association that is held: it is established where its COOKIE ACK is awaited, and a flush follows.
-use Rattle.std.proofs.Common.{◌≡◌, ◌==◌, ℕ, Bool, Option, None, Some, List, [], ◌∷◌, ◌++◌, map, refl, sym, ap, subst, ◌∙◌}
+use Rattle.std.proofs.Common.{◌≡◌, ℕ, Option, Some, List, [], ◌∷◌, ◌++◌, refl, sym, ap, subst, ◌∙◌}
 use Rattle.std.proofs.lemmas.List.{append-nil}
 use Rattle.rand_core.specs.Stream.{Stream}
 use Rattle.dcsctp_machine.specs.declared.association.Pair.{Pair}
 use Rattle.dcsctp_machine.specs.declared.association.Held.{Held}
 use Rattle.dcsctp_machine.specs.Settings.{ports_of}
 use Rattle.dcsctp_machine.specs.Event.{Event, connected}
-use Rattle.dcsctp_machine.specs.Packet.{Emission, cookie_ack}
 use Rattle.dcsctp_machine.specs.Endpoint.{Endpoint, Core, cookie_echoed, open_in, established, held_in}
 use Rattle.dcsctp_machine.specs.Outcome.{Outcome, noting, still}
-use Rattle.dcsctp_machine.specs.control.Effect.{Effect, connects, link_of}
+use Rattle.dcsctp_machine.specs.control.Effect.{connects, link_of}
 use Rattle.dcsctp_machine.specs.turns.DataOutcomes.{flush_by, AnswersTo}
 use Rattle.dcsctp_machine.specs.turns.FlushOutcomes.{Answer, first_ask, draft_to, flush_of, flush_answered, packets_allowed}
 use Rattle.dcsctp_machine.specs.turns.HandshakeOutcomes.{connected_after, cookie_ack_by, CookieAckAnswers}
@@ -19,9 +18,8 @@ use Rattle.dcsctp_api.specs.declared.events.SocketEvent.TheVariants.{OnConnected
 use Rattle.dcsctp_core.specs.declared.context.Context.{Context}
 use Rattle.dcsctp_core.specs.declared.state.State.{State}
 use Rattle.dcsctp_core.specs.declared.state.CookieEchoState.{CookieEchoState}
-use Rattle.dcsctp_core.specs.declared.state.State.TheVariants.{CookieEchoed, Established}
-use Rattle.dcsctp_core.specs.declared.transmission_control_block.TransmissionControlBlock.{TransmissionControlBlock}
-use Rattle.dcsctp_core.specs.View.{View, Moves, CutTurn, core_of, held_of, view_of, endpoint_of, begun_heartbeats, established_from}
+use Rattle.dcsctp_core.specs.declared.state.State.TheVariants.{CookieEchoed}
+use Rattle.dcsctp_core.specs.View.{View, Moves, CutTurn, held_of, view_of, endpoint_of, begun_heartbeats, established_from}
 use Rattle.dcsctp_core.specs.Handling.{TakesIn, CutIn, FlushAt}
 use Rattle.dcsctp_core.proofs.Composing.{behind, moves_behind, cut_behind, moves_noting, cut_noting, cut_first, added_one}
 use Rattle.dcsctp_core.proofs.Moving.{moves_still}

@@ -1,11 +1,11 @@
 -- What is known of T1 where its handler goes on or gives up.
-use Rattle.std.proofs.Common.{◌≡◌, ℕ, Bool, true, false, cond, Option, None, Some, List, [], ◌∷◌, ◌++◌, refl, sym, ap, subst, ◌∙◌}
+use Rattle.std.proofs.Common.{◌≡◌, ℕ, Bool, true, false, cond, Option, None, Some, List, [], refl, sym, ap, subst, ◌∙◌}
 use Rattle.std.specs.Option.{option_map}
 use Rattle.rand_core.specs.Stream.{Stream}
 use Rattle.dcsctp_machine.specs.declared.association.Pair.{Pair}
 use Rattle.dcsctp_machine.specs.declared.association.Held.{Held}
 use Rattle.dcsctp_machine.specs.Event.{Event}
-use Rattle.dcsctp_machine.specs.Endpoint.{Endpoint, Core, cookie_wait, cookie_echoed, RunningTimer, is_due, is_restarted, going_on, expired}
+use Rattle.dcsctp_machine.specs.Endpoint.{Endpoint, Core, cookie_wait, cookie_echoed, RunningTimer, is_due, is_restarted, going_on}
 use Rattle.dcsctp_machine.specs.Outcome.{Outcome, still, emits}
 use Rattle.dcsctp_machine.specs.TimeTurns.{deadline_of, has_come, has_restart, t1_timer}
 use Rattle.dcsctp_machine.specs.Turn.{ActTurn}

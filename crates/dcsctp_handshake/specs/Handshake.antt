@@ -58,7 +58,9 @@ send_init_turn mine view = emits view.endpoint [] (init_emission view.endpoint m
 
 -- the endpoint that awaits an INIT ACK, with nothing held of a peer
 abbrev pub awaiting : Endpoint → Pair → Endpoint
-awaiting e mine = record (awaits_init_ack e mine) { tie = 0; below = record e.below { transfer = None } }
+awaiting e mine =
+    let after : Endpoint = awaits_init_ack e mine in
+    record after { tie = 0; outstanding = None; timers = record after.timers { reconfiguration = None }; below = record e.below { transfer = None } }
 
 abbrev pub connect_turn : {R : Type 0} → (R → Stream) → View R → Outcome
 connect_turn stream view = connect_outcome view.endpoint view.endpoint.core (first_word (stream view.generator)) (second_word (stream view.generator))

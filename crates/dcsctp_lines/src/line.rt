@@ -26,6 +26,9 @@ pub enum Command {
     /// The user of this socket sends a message of this stream and these bytes.
     Send(Side, StreamId, Vec<u8>),
 
+    /// The user of this socket resets these streams.
+    Reset(Side, Vec<StreamId>),
+
     /// The user of this socket takes a message, which is printed.
     Receive(Side),
 
@@ -58,7 +61,7 @@ pub enum Line<'a> {
 /// The line that a text is. Its second field always names a side.
 ///
 /// None where the keyword or the side is unknown, a field is missing or one too many, the number of a
-/// packet or of milliseconds isn't one up to 2^64 - 1, or bytes aren't written as such. The name and the
+/// packet or of milliseconds isn't one up to 2^64 - 1, or bytes or streams aren't written as such. The name and the
 /// value of an option and a list of words are not looked at here. The one error is want of memory.
 pub fn parse_line(alloc: Global, text: &str) -> Result<Option<Line<'_>>, AllocError> {
     let Some((keyword, rest)) = text.split_once(' ') else {
@@ -110,6 +113,7 @@ fn line_with_rest<'a>(
     match keyword {
         "input" => input_line(alloc, side, rest),
         "send" => send_line(alloc, side, rest),
+        "reset" => reset_line(alloc, side, rest),
         _ => Ok(line_with_text(keyword, side, rest)),
     }
 }
@@ -139,7 +143,19 @@ fn send_line<'a>(alloc: Global, side: Side, rest: &str) -> Result<Option<Line<'a
     }
 }
 
-// Such a line, but for one with bytes.
+// A line that resets streams, whose numbers are joined by commas. The one error is want of memory.
+fn reset_line<'a>(alloc: Global, side: Side, text: &str) -> Result<Option<Line<'a>>, AllocError> {
+    let mut stream_ids = Vec::new(alloc);
+    for field in text.split(',') {
+        let Some(stream) = number(field, 0xffff) else {
+            return Ok(None);
+        };
+        stream_ids.push(StreamId(stream as u16))?;
+    }
+    Ok(Some(Line::Command(Command::Reset(side, stream_ids))))
+}
+
+// Such a line, but for one with bytes or streams.
 fn line_with_text<'a>(keyword: &str, side: Side, rest: &'a str) -> Option<Line<'a>> {
     match keyword {
         "opt" => {

@@ -7,14 +7,14 @@ use Rattle.dcsctp_machine.specs.declared.schedule.Side.{Side}
 use Rattle.dcsctp_machine.specs.declared.schedule.Side.TheVariants as sides
 use Rattle.dcsctp_machine.specs.declared.ends.AbortReason.TheVariants.{CloseCalled, TooManyErrors}
 use Rattle.dcsctp_machine.specs.declared.ends.AbortReason.{AbortReason}
-use Rattle.dcsctp_machine.specs.Schedule.{connect_call, close_call, advance_call, set_call, send_call, send_many_call, take_call, StepContent, call_step, delivery_step, OutsideContent, input_outside, ActContent, step_act, outside_act}
+use Rattle.dcsctp_machine.specs.Schedule.{connect_call, close_call, advance_call, set_call, send_call, send_many_call, reset_call, take_call, StepContent, call_step, delivery_step, OutsideContent, input_outside, ActContent, step_act, outside_act}
 use Rattle.dcsctp_wire.specs.Content.{ChunkContent}
 use Rattle.dcsctp_machine.specs.Packet.{Content, init, init_ack, cookie_echo, cookie_ack, re_config, abort, shutdown, shutdown_ack, shutdown_complete, plain, Packet, content_in, packet_in}
 use Rattle.dcsctp_machine.specs.Admission.{Admission, all_chunks, shutdown_acks_alone, refused, admits, shutdown_acks_in}
 use Rattle.dcsctp_machine.specs.Endpoint.{Endpoint, Core, closed, cookie_wait, cookie_echoed, open_in, fresh_endpoint}
 use Rattle.dcsctp_machine.specs.Following.{Following, next_chunk, packet_end, dropped_rest}
 use Rattle.dcsctp_machine.specs.control.Acts.{connect, abort_with, t1_expires, flushes}
-use Rattle.dcsctp_machine.specs.Turn.{Input, arrival, refusal, packet_begins, chunk_input, packet_ends, act_input, user_sets, user_sends, user_takes, timer_expires, time_passes, unreadable_text}
+use Rattle.dcsctp_machine.specs.Turn.{Input, arrival, refusal, packet_begins, chunk_input, packet_ends, act_input, user_sets, user_sends, user_resets, user_takes, timer_expires, time_passes, unreadable_text}
 use Rattle.dcsctp_machine.specs.TimeTurns.{Timer, t1_timer, own_timer, timers_in, deadline, has_come, has_restart, expiry_input, inputs_behind, after_expiries, ExpiryThen, ExpiryTurns, MomentTurns, TimeTurns}
 use Rattle.dcsctp_machine.specs.turns.HeartbeatOutcomes.{is_exhausted}
 use Rattle.dcsctp_machine.specs.turns.MessageOutcomes.{Sending, sending_of}
@@ -42,6 +42,7 @@ pub record MayCome (May : Input → Type 0) : Type 0 where
   pub flushed : May (act_input flushes)
   pub sets : (setting : Setting) → May (user_sets setting)
   pub sends : (messages : List Sending) → May (user_sends messages)
+  pub resets : (ids : List ℕ) → May (user_resets ids)
   pub takes : May user_takes
   pub own_expires : (timer : OwnTimer) → May (timer_expires timer)
   pub passes : (moment : ℕ) → May (time_passes moment)
@@ -63,6 +64,7 @@ anything_may_come =
       flushed = tt;
       sets = λ setting. tt;
       sends = λ messages. tt;
+      resets = λ ids. tt;
       takes = tt;
       own_expires = λ timer. tt;
       passes = λ moment. tt;
@@ -196,6 +198,7 @@ module _ (Good : Endpoint → Turned → Type 0) (May : Input → Type 0) (come 
       turns_along e (user_sends (sending_of options message ∷ []) ∷ []) ts (come.sends (sending_of options message ∷ []), tt) turns
   step_along e packets (call_step side (send_many_call messages options)) ts turns =
       turns_along e (user_sends (map (sending_of options) messages) ∷ []) ts (come.sends (map (sending_of options) messages), tt) turns
+  step_along e packets (call_step side (reset_call ids)) ts turns = turns_along e (user_resets ids ∷ []) ts (come.resets ids, tt) turns
   step_along e packets (call_step side take_call) ts turns = turns_along e (user_takes ∷ []) ts (come.takes, tt) turns
   step_along e packets (delivery_step side number) ts turns = delivery_along e (numbered number packets) ts turns
 

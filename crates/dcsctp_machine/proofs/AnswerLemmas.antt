@@ -1,20 +1,26 @@
 -- An ask that isn't idle may be answered whatever the user was told: where memory is refused while a packet is filled, this is
 -- what completes its turn.
-use Rattle.std.proofs.Common.{◌≡◌, ◌≤◌, ◌+◌, ◌-◌, ◌%◌, ◌^◌, ◌&&◌, ◌==◌, ℕ, zero, suc, Bool, true, false, cond, nat_le, Option, None, Some, List, [], ◌∷◌, ◌++◌, length, refl, sym, subst, ap, ◌∙◌, arith, length-append, flat_map}
+use Rattle.std.proofs.Common.{◌≡◌, ◌≤◌, ◌+◌, ◌-◌, ◌%◌, ◌^◌, ◌&&◌, ◌==◌, ℕ, zero, suc, Bool, true, false, cond, nat_le, Option, None, Some, List, [], ◌∷◌, ◌++◌, map, length, refl, sym, subst, ap, ◌∙◌, arith, length-append, flat_map, ◌*◌, take}
 use Rattle.std.specs.List.{AllByRecursion}
-use Rattle.std.proofs.lemmas.List.{append-nil}
+use Rattle.std.proofs.lemmas.List.{append-nil, length-take, length-replicate, length-map}
 use Rattle.std.proofs.lemmas.Bool.Decides.{nat_tests}
 use Rattle.dcsctp_wire.specs.declared.chunk.user_data.DataFlags.{DataFlags}
-use Rattle.dcsctp_wire.specs.Content.{SackContent, data_chunk, i_data_chunk, sack_chunk}
-use Rattle.dcsctp_wire.specs.Spelling.{chunk_bytes, other_bytes, data_fields, i_data_fields}
+use Rattle.dcsctp_wire.specs.Content.{SackContent, data_chunk, i_data_chunk, sack_chunk, ParameterContent, outgoing_ssn_reset_request}
+use Rattle.dcsctp_wire.specs.Spelling.{chunk_bytes, other_bytes, data_fields, i_data_fields, zeros, parameter_value, parameter_len, parameter_bytes, list_bytes}
 use Rattle.dcsctp_machine.specs.Settings.{packet_size_limit}
 use Rattle.dcsctp_machine.specs.Packet.{Plain, unworked, plain_out, Content, chunk_out, Emission}
 use Rattle.dcsctp_machine.specs.Transfer.{SendQueueState, RetransmissionState, TrackerState, Transfer, can_send, has_free_tsn, has_data, least_chunk, must_give, is_idle}
-use Rattle.dcsctp_machine.specs.Endpoint.{Endpoint}
+use Rattle.dcsctp_machine.specs.Endpoint.{Endpoint, held_in}
 use Rattle.dcsctp_machine.specs.Outcome.{contents_len}
 use Rattle.dcsctp_machine.specs.control.Choices.{plain_contents}
 use Rattle.dcsctp_machine.specs.turns.TransferMoves.{acknowledged}
-use Rattle.dcsctp_machine.specs.turns.FlushOutcomes.{Told, Answer, answer_contents, filled, IsWithin, Ask, room_in, where_fits, wants_sack, Acknowledges, is_none, IsData, FitsPlain, Gives, GivesWhere, Answered, AnsweredBelow, timers_with, nothing_waits, asked, next_draft, later_ask, Answers, at_limit, at_empty, after_packet}
+use Rattle.dcsctp_machine.specs.turns.FlushOutcomes.{Told, Answer, answer_contents, filled, IsWithin, Ask, room_in, where_fits, wants_sack, Acknowledges, is_none, IsData, FitsPlain, Gives, GivesWhere, Answered, AnsweredBelow, timers_with, nothing_waits, asked, next_draft, later_ask, Answers, at_limit, at_empty, after_packet, first_ask, begun_at}
+use Rattle.std.specs.Int.{w16, w32, to_be_bytes}
+use Rattle.dcsctp_wire.specs.Format.{padding_of}
+use Rattle.dcsctp_machine.specs.declared.association.Held.{Held}
+use Rattle.dcsctp_machine.specs.Reconfiguration.{RequestedReset}
+use Rattle.dcsctp_machine.specs.control.FlushChanges.{reset_request}
+use Rattle.dcsctp_machine.specs.turns.BegunResets.{BegunReset, streams_within, last_assigned_tsn, begun_where, begun_in, request_contents, after_begun, stream_field}
 
 -- ---- how long a packet is
 
@@ -44,6 +50,17 @@ two_within e draft one two within first second =
     let both = len_append one two in
     let front = len_append draft.packet.contents one in
     omega (arith, within, first, second, all, both, front)
+
+pub three_within : (e : Endpoint) (draft : Emission) (one two three : List Content) → IsWithin e draft → contents_len one ≤ room_in e draft → contents_len two ≤ room_in e (filled draft one)
+    → contents_len three ≤ room_in e (filled draft (one ++ two)) → IsWithin e (filled draft (one ++ (two ++ three)))
+three_within e draft one two three within first second third =
+    let all = len_append draft.packet.contents (one ++ (two ++ three)) in
+    let last = len_append one (two ++ three) in
+    let both = len_append two three in
+    let front = len_append draft.packet.contents one in
+    let middle = len_append draft.packet.contents (one ++ two) in
+    let pair = len_append one two in
+    omega (arith, within, first, second, third, all, last, both, front, middle, pair)
 
 -- ---- an answer
 
@@ -119,27 +136,76 @@ least_goes false room queue state is none =
     ap (λ (b : Bool). can_send state && state.marked_items == 0 && b && has_free_tsn state && has_data queue) is
     ∙ and_false (can_send state) (state.marked_items == 0) (has_free_tsn state) (has_data queue)
 
+-- ---- the request of a reset
+
+pub streams_len : (streams : List ℕ) → length (flat_map (to_be_bytes w16) streams) ≡ 2 * length streams
+streams_len [] = refl
+streams_len (stream ∷ streams) = let rest = streams_len streams in omega (arith, rest)
+
+pub request_len : (number : ℕ) (reset : RequestedReset) → contents_len (reset_request number reset ∷ []) ≡ 20 + 2 * length reset.streams + padding_of (20 + 2 * length reset.streams)
+unfolding parameter_bytes list_bytes
+request_len number reset =
+    let streams : List ℕ = flat_map (to_be_bytes w16) reset.streams in
+    let parameter : ParameterContent = outgoing_ssn_reset_request number number reset.last_tsn streams in
+    let value : List ℕ = parameter_value parameter in
+    omega (
+      arith,
+      streams_len reset.streams,
+      length-append (to_be_bytes w32 number ++ to_be_bytes w32 number ++ to_be_bytes w32 reset.last_tsn) streams,
+      length-append value (zeros (padding_of (parameter_len parameter))),
+      length-replicate {A = ℕ} (padding_of (parameter_len parameter)) 0,
+      length-append (parameter_bytes parameter) [],
+      length-append (chunk_bytes (chunk_out (reset_request number reset))) [],
+    )
+
+-- Where it names as many streams as fit, its chunk fits.
+begun_len : (outstanding : Option ℕ) (number last_tsn room : ℕ) (streams : List ℕ) → length streams ≤ streams_within room → contents_len (request_contents (begun_where outstanding number last_tsn streams)) ≤ room
+begun_len None number last_tsn room [] few = omega arith
+begun_len None number last_tsn room (stream ∷ streams) few =
+    let all = request_len number (record { last_tsn = last_tsn; streams = stream ∷ streams }) in
+    omega (arith, few, all)
+begun_len (Some other) number last_tsn room [] few = omega arith
+begun_len (Some other) number last_tsn room (stream ∷ streams) few = omega arith
+
+begun_in_len : (held : Option Held) (room last_tsn : ℕ) (queue : SendQueueState) → contents_len (request_contents (begun_in held room last_tsn queue)) ≤ room
+begun_in_len None room last_tsn queue = omega arith
+begun_in_len (Some held) room last_tsn queue =
+    let streams : List ℕ = take (streams_within room) queue.ready_streams in
+    let few = length-take (streams_within room) queue.ready_streams in
+    let same = length-map streams stream_field in
+    begun_len held.own_outstanding held.own_next last_tsn room (map stream_field streams) (omega (arith, few, same))
+
+pub begun_at_len : (ask : Ask) (held : Option Held) (room last_tsn : ℕ) (queue : SendQueueState) → contents_len (request_contents (begun_at ask held room last_tsn queue)) ≤ room
+begun_at_len first_ask held room last_tsn queue = begun_in_len held room last_tsn queue
+begun_at_len later_ask held room last_tsn queue = omega arith
+
 -- ---- what completes a turn
 
 abbrev pub transfer_told : Ask → Endpoint → Transfer → Transfer
 transfer_told ask e transfer = record transfer { tracker = tracker_where (wants_sack ask e.below.queue transfer) transfer }
 
+abbrev pub some_begun : Ask → Endpoint → Emission → Transfer → List Plain → Option BegunReset
+some_begun ask e draft transfer sacks =
+    begun_at ask (held_in e.core) (room_in e (filled draft (plain_contents sacks))) (last_assigned_tsn transfer.retransmission) e.below.queue
+
 abbrev pub some_answer : Ask → Endpoint → Emission → Transfer → List Told → Answer
 some_answer ask e draft transfer told =
     let sacks : List Plain = sacks_where (wants_sack ask e.below.queue transfer) (room_in e draft) transfer in
-    let chunks : List Plain = where_fits (room_in e (filled draft (plain_contents sacks))) (least_of transfer.retransmission.message_interleaving) in
+    let begun : Option BegunReset = some_begun ask e draft transfer sacks in
+    let chunks : List Plain = where_fits (room_in e (filled draft (plain_contents sacks ++ request_contents begun))) (least_of transfer.retransmission.message_interleaving) in
     record {
       acknowledgements = sacks;
+      begun = begun;
       data_chunks = chunks;
       told = told;
-      after = record e { timers = timers_with e chunks; below = record e.below { transfer = Some (transfer_told ask e transfer) } };
+      after = record (after_begun begun e) { timers = timers_with (after_begun begun e) chunks; no_forward_tsn_before = e.no_forward_tsn_before; below = record e.below { transfer = Some (transfer_told ask e transfer) } };
     }
 
 some_gives : (ask : Ask) (e : Endpoint) (draft : Emission) (transfer : Transfer) (told : List Told) → Gives ask e draft transfer (some_answer ask e draft transfer told)
 some_gives ask e draft transfer told =
     let wants : Bool = wants_sack ask e.below.queue transfer in
     let sacks : List Plain = sacks_where wants (room_in e draft) transfer in
-    let room : ℕ = room_in e (filled draft (plain_contents sacks)) in
+    let room : ℕ = room_in e (filled draft (plain_contents sacks ++ request_contents (some_begun ask e draft transfer sacks))) in
     let interleaving : Bool = transfer.retransmission.message_interleaving in
     let test : Bool = nat_le (length (chunk_bytes (plain_out (least_of interleaving)))) room in
     record {
@@ -160,6 +226,7 @@ some_gives ask e draft transfer told =
         kind = tt;
         fit = tt;
       };
+      begins = record { queue = e.below.queue; retransmission = transfer.retransmission; negotiated = λ without. (refl, refl); idle = λ none. (refl, refl); is = refl };
       kind = least_kind test interleaving;
       fit = least_fits test interleaving;
       data_goes = λ none. least_goes test room e.below.queue transfer.retransmission (ap (λ (n : ℕ). nat_le n room) (sym (least_len interleaving))) none;
@@ -173,12 +240,15 @@ pub some_answered : (ask : Ask) (e : Endpoint) (draft : Emission) (transfer : Tr
     → Answered ask e draft (some_answer ask e draft transfer told)
 some_answered ask e draft transfer told holds busy =
     let sacks : List Plain = sacks_where (wants_sack ask e.below.queue transfer) (room_in e draft) transfer in
-    let room : ℕ = room_in e (filled draft (plain_contents sacks)) in
+    let begun : List Content = request_contents (some_begun ask e draft transfer sacks) in
+    let room : ℕ = room_in e (filled draft (plain_contents sacks ++ begun)) in
     let answer : Answer = some_answer ask e draft transfer told in
     record {
       kept = refl;
-      within = λ within. two_within e draft (plain_contents sacks) (plain_contents answer.data_chunks) within
-          (sacks_len (wants_sack ask e.below.queue transfer) (room_in e draft) transfer) (where_fits_len room (least_of transfer.retransmission.message_interleaving));
+      within = λ within. three_within e draft (plain_contents sacks) begun (plain_contents answer.data_chunks) within
+          (sacks_len (wants_sack ask e.below.queue transfer) (room_in e draft) transfer)
+          (begun_at_len ask (held_in e.core) (room_in e (filled draft (plain_contents sacks))) (last_assigned_tsn transfer.retransmission) e.below.queue)
+          (where_fits_len room (least_of transfer.retransmission.message_interleaving));
       by_transfer = subst (AnsweredBelow ask e draft answer) (sym holds)
           (subst (λ (b : Bool). GivesWhere b ask e draft transfer answer) (sym busy) (some_gives ask e draft transfer told));
     }

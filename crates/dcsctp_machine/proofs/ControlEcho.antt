@@ -7,40 +7,28 @@ use Rattle.dcsctp_machine.specs.declared.association.Held.{Held}
 use Rattle.dcsctp_machine.specs.declared.word.Word.TheVariants.{U64}
 use Rattle.dcsctp_machine.specs.Cookie.{Cookie, cookie_at}
 use Rattle.dcsctp_machine.specs.Event.{Event, connected, connection_restarted}
-use Rattle.dcsctp_machine.specs.Packet.{cookie_echo, cookie_ack, Emission}
+use Rattle.dcsctp_machine.specs.Packet.{cookie_echo, Emission}
 use Rattle.dcsctp_machine.specs.Transfer.{SendQueueState}
 use Rattle.dcsctp_machine.specs.Endpoint.{Endpoint, Core, closed, cookie_wait, cookie_echoed, open_in, OpenPhase, established, shutdown_pending, shutdown_sent, shutdown_received, shutdown_ack_sent}
-use Rattle.dcsctp_machine.specs.Outcome.{Outcome, noting}
-use Rattle.dcsctp_machine.specs.Following.{next_chunk}
+use Rattle.dcsctp_machine.specs.Outcome.{Outcome}
 use Rattle.dcsctp_machine.specs.turns.FlushOutcomes.{Answer, flush_answered}
 use Rattle.dcsctp_machine.specs.turns.HandshakeOutcomes.{connected_after}
-use Rattle.dcsctp_machine.specs.turns.CookieEchoOutcomes.{established_by, acknowledgement, establish_by, queue_kept, queue_begun, restart_by_in, restart_by_where, acknowledge_by, maintain_by, resolved_by, cookie_echo_by, EstablishAnswers, RestartAnswersIn, RestartAnswers, MaintainAnswers, ResolvedAnswers, EchoedAnswers, CookieEchoTurn}
+use Rattle.dcsctp_machine.specs.turns.CookieEchoOutcomes.{established_by, acknowledgement, establish_by, queue_kept, queue_begun, restart_by_in, restart_by_where, maintain_by, resolved_by, cookie_echo_by, EstablishAnswers, RestartAnswersIn, RestartAnswers, MaintainAnswers, ResolvedAnswers, EchoedAnswers, CookieEchoTurn}
 use Rattle.dcsctp_machine.specs.control.Effect.{holds, connects, link_of}
-use Rattle.dcsctp_machine.specs.control.FlushChanges.{Flushed}
 use Rattle.dcsctp_machine.specs.control.CookieEchoChanges.{Resolution, establish_new, restart, simultaneous_init, discard, maintain_existing, invalid_tag, case_by, case_with_peer, resolve, held_by_cookie, new_association_change, restart_change_where_open, restart_change, maintain_change, resolved_change, read_echo_change}
 use Rattle.dcsctp_machine.specs.Controlled.{has_connected, signs_of_events, IsControlled, ControlledChunk}
-use Rattle.dcsctp_machine.proofs.FlushKeeps.{IsPeerTag, flush_is, flush_controlled}
+use Rattle.dcsctp_machine.proofs.FlushKeeps.{IsPeerTag, rebuilds_open, flush_controlled}
 use Rattle.dcsctp_machine.proofs.ControlHandshake.{choosing, still_controlled}
 
 -- ---- one that makes an association
-
--- the turn with these events, by what the flush makes of the peer
-abbrev MadeBy : Endpoint → Cookie → SendQueueState → ℕ → List (Event Emission) → List Answer → Flushed → Type 0
-MadeBy e cookie queue tie events answers after =
-    IsControlled e (establish_by (flush_answered answers) e cookie queue tie events)
-    (record {
-      core = open_in established cookie.maker after.held;
-      effects = holds (link_of cookie.maker (held_by_cookie e.options cookie)) ∷ connects (link_of cookie.maker (held_by_cookie e.options cookie)) ∷ after.effects;
-      following = next_chunk;
-    })
 
 made : (e : Endpoint) (cookie : Cookie) (queue : SendQueueState) (tie : ℕ) (events : List (Event Emission)) (answers : List Answer) → signs_of_events events ≡ has_connected ∷ []
     → EstablishAnswers e cookie queue tie answers → IsControlled e (establish_by (flush_answered answers) e cookie queue tie events) (new_association_change e.options cookie (choosing e true answers))
 made e cookie queue tie events answers told h =
     let held : Held = held_by_cookie e.options cookie in
-    subst (MadeBy e cookie queue tie events answers) (sym (flush_is cookie.addressee.tag held (cookie_ack ∷ []) answers))
-    (flush_controlled e (established_by e cookie queue tie) (U64 tie ∷ []) events (acknowledgement held cookie) held.own_next answers (open_in established cookie.maker held)
-    (holds (link_of cookie.maker held) ∷ connects (link_of cookie.maker held) ∷ []) (holds (link_of cookie.maker held) ∷ connects (link_of cookie.maker held) ∷ []) refl refl refl h told refl refl)
+    flush_controlled e (established_by e cookie queue tie) (U64 tie ∷ []) events (acknowledgement held cookie) answers (λ x. open_in established cookie.maker x) held
+    (holds (link_of cookie.maker held) ∷ connects (link_of cookie.maker held) ∷ []) (holds (link_of cookie.maker held) ∷ connects (link_of cookie.maker held) ∷ [])
+    (rebuilds_open established cookie.maker held) refl refl refl h told refl refl
 
 -- ---- a restart
 
@@ -60,16 +48,6 @@ restart_at e cookie tie (cookie_echoed mine held echoed) answers is h = made e c
 restart_at e cookie tie (open_in phase mine held) answers is h = restart_in e cookie tie phase mine held answers is h
 
 -- ---- the association that is held
-
--- the turn where COOKIE ACK is awaited, and where the association is open, by what the flush makes of the peer
-abbrev ConnectedBy : Endpoint → Cookie → Pair → Held → List Answer → Flushed → Type 0
-ConnectedBy e cookie mine held answers after =
-    IsControlled e (noting (connects (link_of mine held) ∷ []) (acknowledge_by (flush_answered answers) (connected_after e mine held) held cookie (connected ∷ [])))
-    (record { core = open_in established mine after.held; effects = connects (link_of mine held) ∷ after.effects; following = next_chunk })
-
-abbrev AnsweredBy : Endpoint → Cookie → OpenPhase → Pair → Held → List Answer → Flushed → Type 0
-AnsweredBy e cookie phase mine held answers after =
-    IsControlled e (acknowledge_by (flush_answered answers) e held cookie []) (record { core = open_in phase mine after.held; effects = after.effects; following = next_chunk })
 
 -- The cookie's addressee is the peer.
 is_of_peer : (a b c d : Bool) → case_by a b c d ≡ maintain_existing → b ≡ true
@@ -92,13 +70,11 @@ maintain_at : (e : Endpoint) (cookie : Cookie) (core : Core) (header : ℕ) (ans
 maintain_at e cookie closed header answers is case h = still_controlled e closed is
 maintain_at e cookie (cookie_wait mine) header answers is case h = still_controlled e (cookie_wait mine) is
 maintain_at e cookie (cookie_echoed mine held echoed) header answers is case h =
-    subst (ConnectedBy e cookie mine held answers) (sym (flush_is cookie.addressee.tag held (cookie_ack ∷ []) answers))
-    (flush_controlled e (connected_after e mine held) [] (connected ∷ []) (acknowledgement held cookie) held.own_next answers (open_in established mine held) (connects (link_of mine held) ∷ []) (connects (link_of mine held) ∷ [])
-    refl refl (peer_of mine held e.tie header cookie case) h refl refl refl)
+    flush_controlled e (connected_after e mine held) [] (connected ∷ []) (acknowledgement held cookie) answers (λ x. open_in established mine x) held (connects (link_of mine held) ∷ []) (connects (link_of mine held) ∷ [])
+    (rebuilds_open established mine held) refl refl (peer_of mine held e.tie header cookie case) h refl refl refl
 maintain_at e cookie (open_in phase mine held) header answers is case h =
-    subst (AnsweredBy e cookie phase mine held answers) (sym (flush_is cookie.addressee.tag held (cookie_ack ∷ []) answers))
-    (flush_controlled e e [] [] (acknowledgement held cookie) held.own_next answers (open_in phase mine held) [] []
-    is refl (subst (λ (core : Core). IsPeerTag core cookie.addressee.tag) (sym is) (peer_of mine held e.tie header cookie case)) h refl refl refl)
+    flush_controlled e e [] [] (acknowledgement held cookie) answers (λ x. open_in phase mine x) held [] [] (rebuilds_open phase mine held)
+    is refl (subst (λ (core : Core). IsPeerTag core cookie.addressee.tag) (sym is) (peer_of mine held e.tie header cookie case)) h refl refl refl
 
 -- ---- every case
 

@@ -1,6 +1,6 @@
 -- Turns of the handshake at an endpoint are turns of its association: INIT ACK, COOKIE ACK and connect.
 use Rattle.std.proofs.Common.{◌≡◌, ℕ, Bool, true, false, Option, None, Some, List, [], ◌∷◌, refl, sym, subst}
-use Rattle.std.specs.Prelude.{◌==◌, if◌then◌else◌}
+use Rattle.std.specs.Prelude.{if◌then◌else◌}
 use Rattle.dcsctp_machine.specs.declared.association.Pair.{Pair}
 use Rattle.dcsctp_machine.specs.declared.association.Held.{Held}
 use Rattle.dcsctp_machine.specs.declared.word.Word.{Word}
@@ -11,17 +11,15 @@ use Rattle.dcsctp_machine.specs.Event.{aborted, connected}
 use Rattle.dcsctp_machine.specs.Packet.{Introduction, Content, init_ack, cookie_echo, cookie_ack, abort}
 use Rattle.dcsctp_machine.specs.Endpoint.{Endpoint, Core, closed, cookie_wait, cookie_echoed, open_in, established}
 use Rattle.dcsctp_machine.specs.Outcome.{Outcome, noting, still, quiet, sends, fits, drawing}
-use Rattle.dcsctp_machine.specs.Following.{next_chunk}
 use Rattle.dcsctp_machine.specs.turns.FlushOutcomes.{Answer, draft_to, flush_answered, allows_packet}
 use Rattle.dcsctp_machine.specs.turns.EndOutcomes.{ended_outcome, abort_outcome}
 use Rattle.dcsctp_machine.specs.turns.HandshakeOutcomes.{pair_from, init_emission, awaits_init_ack, connect_outcome, ConnectTurn, no_cookie_text, abort_emission, awaits_cookie_ack, echo_emission, EchoAnswers, init_ack_by, InitAckAnswers, InitAckTurn, CookieAckAnswers, CookieAckTurn, connected_after, cookie_ack_by}
 use Rattle.dcsctp_machine.specs.control.Effect.{holds, connects, Change, unchanged, link_of}
 use Rattle.dcsctp_machine.specs.control.Choices.{Filling, Choices, nothing_to_send, idle_choices}
-use Rattle.dcsctp_machine.specs.control.FlushChanges.{Flushed}
 use Rattle.dcsctp_machine.specs.control.HandshakeChanges.{connect_change, init_ack_change, held_by_init_ack}
 use Rattle.dcsctp_machine.specs.control.Acts.{connect, ChunkChange}
 use Rattle.dcsctp_machine.specs.Controlled.{IsControlled, ControlledChunk, ControlledAct}
-use Rattle.dcsctp_machine.proofs.FlushKeeps.{filling_of, flush_is, flush_controlled}
+use Rattle.dcsctp_machine.proofs.FlushKeeps.{filling_of, rebuilds_open, rebuilds_echoed, flush_controlled}
 
 -- ---- what a turn chooses
 
@@ -79,13 +77,6 @@ refused_where : (b : Bool) (e : Endpoint) (mine : Pair) (theirs : Introduction)
 refused_where true e mine theirs = record { core = refl; options = refl; signs = refl; effects = refl; following = refl }
 refused_where false e mine theirs = record { core = refl; options = refl; signs = refl; effects = refl; following = refl }
 
--- the turn with a cookie that fits, by what the flush makes of the peer
-abbrev EchoedBy : Endpoint → Pair → Introduction → List ℕ → ℕ → List Answer → Flushed → Type 0
-EchoedBy e mine theirs cookie tie answers after =
-    IsControlled e (noting (holds (link_of mine (held_by_init_ack e.options mine theirs)) ∷ [])
-    (flush_answered answers (awaits_cookie_ack e mine theirs cookie tie) (U64 tie ∷ []) [] true theirs.pair.tag (cookie_echo cookie ∷ [])))
-    (record { core = cookie_echoed mine after.held cookie; effects = holds (link_of mine (held_by_init_ack e.options mine theirs)) ∷ after.effects; following = next_chunk })
-
 -- With one, its COOKIE ECHO goes out where it fits and where a packet is allowed.
 echoed_where : (b : Bool) (e : Endpoint) (mine : Pair) (theirs : Introduction) (cookie : List ℕ) (tie : ℕ) (answers : List Answer)
     → EchoAnswers b (awaits_cookie_ack e mine theirs cookie tie) theirs.pair.tag cookie answers
@@ -94,9 +85,8 @@ echoed_where : (b : Bool) (e : Endpoint) (mine : Pair) (theirs : Introduction) (
     (init_ack_change e.options (cookie_wait mine) theirs (Some cookie) (choosing e b answers))
 echoed_where true e mine theirs cookie tie answers h =
     let held : Held = held_by_init_ack e.options mine theirs in
-    subst (EchoedBy e mine theirs cookie tie answers) (sym (flush_is theirs.pair.tag held (cookie_echo cookie ∷ []) answers))
-    (flush_controlled e (awaits_cookie_ack e mine theirs cookie tie) (U64 tie ∷ []) [] (echo_emission theirs.pair.tag cookie) held.own_next answers (cookie_echoed mine held cookie)
-    (holds (link_of mine held) ∷ []) (holds (link_of mine held) ∷ []) refl refl refl h refl refl refl)
+    flush_controlled e (awaits_cookie_ack e mine theirs cookie tie) (U64 tie ∷ []) [] (echo_emission theirs.pair.tag cookie) answers (λ x. cookie_echoed mine x cookie) held
+    (holds (link_of mine held) ∷ []) (holds (link_of mine held) ∷ []) (rebuilds_echoed mine cookie held) refl refl refl h refl refl refl
 echoed_where false e mine theirs cookie tie answers h = record { core = refl; options = refl; signs = refl; effects = refl; following = refl }
 
 init_ack_at : (e : Endpoint) (core : Core) (tag : ℕ) (theirs : Introduction) (cookie : Option (List ℕ)) (word : ℕ) (answers : List Answer) → e.core ≡ core
@@ -117,14 +107,6 @@ init_ack_controlled e tag theirs cookie o turn = subst (ControlledChunk e tag (i
 
 -- ---- COOKIE ACK
 
--- the turn, by what the flush makes of the peer
-abbrev ConnectedBy : Endpoint → Pair → Held → List Answer → Flushed → Type 0
-ConnectedBy e mine held answers after =
-    IsControlled e
-    (noting (connects (link_of mine held) ∷ [])
-    (flush_answered answers (connected_after e mine held) [] (connected ∷ []) (held.capabilities.zero_checksum_method.0 == 0) held.peer.tag []))
-    (record { core = open_in established mine after.held; effects = connects (link_of mine held) ∷ after.effects; following = next_chunk })
-
 cookie_ack_at : (e : Endpoint) (core : Core) (tag : ℕ) (answers : List Answer) → e.core ≡ core → CookieAckAnswers e core answers
     → ControlledAt e core tag cookie_ack (cookie_ack_by (flush_answered answers) e core)
 cookie_ack_at e closed tag answers is h = (_, (no_choices e true, tt, refl), still_controlled e closed is)
@@ -132,8 +114,8 @@ cookie_ack_at e (cookie_wait mine) tag answers is h = (_, (no_choices e true, tt
 cookie_ack_at e (cookie_echoed mine held cookie) tag answers is h = (
   _,
   (choosing e true answers, tt, refl),
-  subst (ConnectedBy e mine held answers) (sym (flush_is held.peer.tag held [] answers))
-      (flush_controlled e (connected_after e mine held) [] (connected ∷ []) (draft_to held) held.own_next answers (open_in established mine held) (connects (link_of mine held) ∷ []) (connects (link_of mine held) ∷ []) refl refl refl h refl refl refl),
+  flush_controlled e (connected_after e mine held) [] (connected ∷ []) (draft_to held) answers (λ x. open_in established mine x) held (connects (link_of mine held) ∷ []) (connects (link_of mine held) ∷ [])
+      (rebuilds_open established mine held) refl refl refl h refl refl refl,
 )
 cookie_ack_at e (open_in phase mine held) tag answers is h = (_, (no_choices e true, tt, refl), still_controlled e (open_in phase mine held) is)
 

@@ -14,16 +14,18 @@ use Rattle.dcsctp_machine.specs.Following.{next_chunk}
 use Rattle.dcsctp_machine.specs.Outcome.{Outcome, still, quiet, sends, fits, to_peer, behind, then_outcome}
 use Rattle.dcsctp_machine.specs.control.Effect.{Effect, emitted}
 use Rattle.dcsctp_machine.specs.control.Choices.{Choices, plain_contents}
-use Rattle.dcsctp_machine.specs.control.FlushChanges.{further_packets, Flushed}
+use Rattle.dcsctp_machine.specs.control.FlushChanges.{further_packets, flush}
 use Rattle.dcsctp_machine.specs.control.Acts.{flushes, sent_by, flush_change, plain_change}
 use Rattle.dcsctp_machine.specs.Controlled.{Sign, signs_of_events, signs_of_effects, IsControlled, ControlledAct}
-use Rattle.dcsctp_machine.specs.turns.FlushOutcomes.{Answer, filled, draft_to, flush_of, room_in, where_fits, FlushAnswers}
+use Rattle.dcsctp_machine.specs.turns.FlushOutcomes.{Answer, told_event, filled, draft_to, flush_of, room_in, where_fits, FlushAnswers, packets_allowed}
 use Rattle.dcsctp_machine.specs.turns.TransferMoves.{delivered_events, acknowledged, delay_over}
 use Rattle.dcsctp_machine.specs.turns.HeartbeatOutcomes.{error_counted}
 use Rattle.dcsctp_machine.specs.turns.MessageOutcomes.{MessageRefusal, message_refusal, refusal_events, Sending, queue_by, queue_one, queue_all, takes_any, SendAnswers, send_by, SendTurn}
+use Rattle.dcsctp_machine.specs.turns.PreparedResets.{ResetRefusal, reset_refusal, with_queue, PreparesResets, OwnResetsWhere, OwnResetsTurn}
 use Rattle.dcsctp_machine.specs.turns.DataOutcomes.{with_transfer, with_tracker, flush_by, AnswersTo, FlushTurn, no_user_data_text, no_user_data_outcome, not_connected_text, ReceiveTurn, DataTurn, ForwardTurn, no_tcb_text, is_sack_valid, FastRetransmits, sack_taken, AcknowledgesBy, SackWhere, SackBy, SackTurn, acknowledging, EndWhere, EndsBy, TakeWhere, TakeTurn, delay_outcome, LossTurn}
 use Rattle.dcsctp_machine.proofs.ControlHandshake.{no_choices, ControlledAt}
-use Rattle.dcsctp_machine.proofs.FlushKeeps.{IsPeerTag, all_chunks, filling_of, flush_effects, flush_is, flush_controlled, further_then, further_notes_then, signs_append, goes_out_signs, goes_out_keeps}
+use Rattle.dcsctp_machine.proofs.FlushKeeps.{IsPeerTag, all_chunks, begun_by, filling_of, flush_effects, IsBegun, flush_is, first_begins, Rebuilds, rebuilds_open, rebuilds_echoed, FlushesTo, flush_controlled, further_then, further_notes_then, told_signs, signs_append, goes_out_signs, goes_out_keeps}
+use Rattle.dcsctp_machine.specs.turns.BegunResets.{BegunReset, request_contents, begun_effects, held_begun}
 
 -- ---- what a turn of data chooses
 
@@ -70,28 +72,16 @@ flushed_as e core o p is h = subst (FlushedAt e core) (sym is) h
 
 -- ---- packets, and then a flush
 
--- the association with what is held of its peer, and the turn by what the flush makes of that
-abbrev SentBy : Endpoint → (Held → Core) → ℕ → List (List Plain) → Outcome → Flushed → Type 0
-SentBy e rebuilt tag packets o after = IsControlled e o (record { core = rebuilt after.held; effects = further_packets tag packets ++ after.effects; following = next_chunk })
-
-sent_controlled : (e base : Endpoint) (rebuilt : Held → Core) (held : Held) (events : List (Event Emission)) (packets : List (List Plain)) (answers : List Answer)
-    → base.core ≡ rebuilt held → SameOptions e.options base.options → IsPeerTag (rebuilt held) held.peer.tag → FlushAnswers base (draft_to held) answers
-    → signs_of_events events ≡ signs_of_effects (further_packets held.peer.tag packets)
-    → SentBy e rebuilt held.peer.tag packets (behind [] events (flush_of base (draft_to held) answers)) (record { held = held; effects = flush_effects held.peer.tag held.own_next [] answers })
-sent_controlled e base rebuilt held events packets answers is same peer h told =
-    let tag : ℕ = held.peer.tag in
-    flush_controlled e base [] events (draft_to held) held.own_next answers (rebuilt held) (further_packets tag packets) [] is same
-    (subst (λ (core : Core). IsPeerTag core tag) (sym is) peer) h told (further_then tag packets (flush_effects tag held.own_next [] answers))
-    (further_notes_then tag packets (flush_effects tag held.own_next [] answers))
-
-sent_change : (e base : Endpoint) (rebuilt : Held → Core) (held : Held) (events : List (Event Emission)) (packets : List (List Plain)) (answers : List Answer)
+sent_change : (e base : Endpoint) (rebuilt : Held → Core) (held : Held) (events : List (Event Emission)) (packets : List (List Plain)) (answers : List Answer) → Rebuilds rebuilt held
     → base.core ≡ rebuilt held → SameOptions e.options base.options → IsPeerTag (rebuilt held) held.peer.tag → FlushAnswers base (draft_to held) answers
     → signs_of_events events ≡ signs_of_effects (further_packets held.peer.tag packets)
     → IsControlled e (behind [] events (flush_of base (draft_to held) answers))
     (record { core = rebuilt (sent_by held (chosen e packets answers)).held; effects = (sent_by held (chosen e packets answers)).effects; following = next_chunk })
-sent_change e base rebuilt held events packets answers is same peer h told =
-    subst (SentBy e rebuilt held.peer.tag packets (behind [] events (flush_of base (draft_to held) answers))) (sym (flush_is held.peer.tag held [] answers))
-    (sent_controlled e base rebuilt held events packets answers is same peer h told)
+sent_change e base rebuilt held events packets answers builds is same peer h told =
+    let tag : ℕ = held.peer.tag in
+    flush_controlled e base [] events (draft_to held) answers rebuilt held (further_packets tag packets) [] builds is same
+    (subst (λ (core : Core). IsPeerTag core tag) (sym is) peer) h told (further_then tag packets (flush_effects tag [] answers))
+    (further_notes_then tag packets (flush_effects tag [] answers))
 
 pub sent_at : (e base : Endpoint) (core : Core) (held : Held) (events : List (Event Emission)) (packets : List (List Plain)) (answers : List Answer)
     → held_in core ≡ Some held → base.core ≡ core → SameOptions e.options base.options → FlushAnswers base (draft_to held) answers
@@ -103,12 +93,12 @@ sent_at e base (cookie_echoed my own cookie) held events packets answers holds i
     let here : own ≡ held = cc in
     subst (λ (x : Held). FlushAnswers base (draft_to x) answers → signs_of_events events ≡ signs_of_effects (further_packets x.peer.tag packets)
     → FlushedAt e (cookie_echoed my own cookie) (behind [] events (flush_of base (draft_to x) answers))) here
-    (λ a t. (packets, answers, sent_change e base (λ (x : Held). cookie_echoed my x cookie) own events packets answers is same refl a t)) h told
+    (λ a t. (packets, answers, sent_change e base (λ (x : Held). cookie_echoed my x cookie) own events packets answers (rebuilds_echoed my cookie own) is same refl a t)) h told
 sent_at e base (open_in phase my own) held events packets answers holds is same h told =
     let here : own ≡ held = cc in
     subst (λ (x : Held). FlushAnswers base (draft_to x) answers → signs_of_events events ≡ signs_of_effects (further_packets x.peer.tag packets)
     → FlushedAt e (open_in phase my own) (behind [] events (flush_of base (draft_to x) answers))) here
-    (λ a t. (packets, answers, sent_change e base (λ (x : Held). open_in phase my x) own events packets answers is same refl a t)) h told
+    (λ a t. (packets, answers, sent_change e base (λ (x : Held). open_in phase my x) own events packets answers (rebuilds_open phase my own) is same refl a t)) h told
 
 -- a flush by itself, where a peer is held
 flush_at : (e base : Endpoint) (core : Core) (peer : Option Held) (answers : List Answer) → held_in core ≡ peer → base.core ≡ core → SameOptions e.options base.options → AnswersTo base peer answers
@@ -211,24 +201,42 @@ abbrev fronted : List Plain → List Answer → List Answer
 fronted front [] = []
 fronted front (answer ∷ answers) = record answer { acknowledgements = front ++ answer.acknowledgements } ∷ answers
 
-same_packets : (tag number : ℕ) (front : List Plain) (answers : List Answer) → flush_effects tag number (plain_contents front) answers ≡ flush_effects tag number [] (fronted front answers)
-same_packets tag number front [] = refl
-same_packets tag number front (answer ∷ answers) =
-    ap (λ (contents : List Content). emitted tag contents ++ further_packets tag (map all_chunks answers))
-    (sym (append_assoc (plain_contents front) (plain_contents answer.acknowledgements) (plain_contents answer.data_chunks))
-    ∙ ap (λ (contents : List Content). contents ++ plain_contents answer.data_chunks) (sym (map-append plain front answer.acknowledgements)))
+-- three lists of contents, by what stands in front
+shifted : (front acknowledgements : List Plain) (rest : List Content) → plain_contents front ++ (plain_contents acknowledgements ++ rest) ≡ plain_contents (front ++ acknowledgements) ++ rest
+shifted front acknowledgements rest =
+    sym (append_assoc (plain_contents front) (plain_contents acknowledgements) rest)
+    ∙ ap (λ (contents : List Content). contents ++ rest) (sym (map-append plain front acknowledgements))
 
-front_controlled : (e base : Endpoint) (rebuilt : Held → Core) (held : Held) (front : List Plain) (answers : List Answer)
+same_packets : (tag : ℕ) (front : List Plain) (answers : List Answer) → flush_effects tag (plain_contents front) answers ≡ flush_effects tag [] (fronted front answers)
+same_packets tag front [] = refl
+same_packets tag front (answer ∷ answers) =
+    ap (λ (contents : List Content). begun_effects answer.begun ++ (emitted tag contents ++ further_packets tag (map all_chunks answers)))
+    (shifted front answer.acknowledgements (request_contents answer.begun ++ plain_contents answer.data_chunks))
+
+same_begun : (front : List Plain) (answers : List Answer) → begun_by (fronted front answers) ≡ begun_by answers
+same_begun front [] = refl
+same_begun front (answer ∷ answers) = refl
+
+-- the flush that stands in the change is that of the turn
+same_flush : (tag : ℕ) (held : Held) (front : List Plain) (answers : List Answer) → IsBegun (begun_by answers) held
+    → flush tag held (plain_contents front) (filling_of answers) ≡ flush tag held [] (filling_of (fronted front answers))
+same_flush tag held front answers begun =
+    flush_is tag held (plain_contents front) answers begun
+    ∙ ap (λ (effects : List Effect). record { held = held_begun (begun_by answers) held; effects = effects }) (same_packets tag front answers)
+    ∙ ap (λ (b : Option BegunReset). record { held = held_begun b held; effects = flush_effects tag [] (fronted front answers) }) (sym (same_begun front answers))
+    ∙ sym (flush_is tag held [] (fronted front answers) (subst (λ (b : Option BegunReset). IsBegun b held) (sym (same_begun front answers)) begun))
+
+front_controlled : (e base : Endpoint) (rebuilt : Held → Core) (held : Held) (front : List Plain) (answers : List Answer) → Rebuilds rebuilt held
     → base.core ≡ rebuilt held → SameOptions e.options base.options → IsPeerTag (rebuilt held) held.peer.tag → FlushAnswers base (filled (draft_to held) (plain_contents front)) answers
     → IsControlled e (flush_of base (filled (draft_to held) (plain_contents front)) answers)
     (record { core = rebuilt (sent_by held (chosen e [] (fronted front answers))).held; effects = (sent_by held (chosen e [] (fronted front answers))).effects; following = next_chunk })
-front_controlled e base rebuilt held front answers is same peer h =
+front_controlled e base rebuilt held front answers builds is same peer h =
     let tag : ℕ = held.peer.tag in
-    let o : Outcome = flush_of base (filled (draft_to held) (plain_contents front)) answers in
-    subst (SentBy e rebuilt tag [] o) (sym (flush_is tag held [] (fronted front answers)))
-    (subst (λ (effects : List Effect). IsControlled e o (record { core = rebuilt held; effects = effects; following = next_chunk })) (same_packets tag held.own_next front answers)
-    (flush_controlled e base [] [] (filled (draft_to held) (plain_contents front)) held.own_next answers (rebuilt held) [] [] is same
-    (subst (λ (core : Core). IsPeerTag core tag) (sym is) peer) h refl refl refl))
+    let draft : Emission = filled (draft_to held) (plain_contents front) in
+    let o : Outcome = flush_of base draft answers in
+    subst (FlushesTo e o rebuilt [])
+    (same_flush tag held front answers (first_begins (packets_allowed base.options.max_burst base.core) base held draft answers (ap held_in is ∙ builds.holds) h))
+    (flush_controlled e base [] [] draft answers rebuilt held [] [] builds is same (subst (λ (core : Core). IsPeerTag core tag) (sym is) peer) h refl refl refl)
 
 front_at : (e base : Endpoint) (core : Core) (held : Held) (front : List Plain) (answers : List Answer) → held_in core ≡ Some held → base.core ≡ core → SameOptions e.options base.options
     → FlushAnswers base (filled (draft_to held) (plain_contents front)) answers → FlushedAt e core (flush_of base (filled (draft_to held) (plain_contents front)) answers)
@@ -238,12 +246,12 @@ front_at e base (cookie_echoed my own cookie) held front answers holds is same h
     let here : own ≡ held = cc in
     subst (λ (x : Held). FlushAnswers base (filled (draft_to x) (plain_contents front)) answers
     → FlushedAt e (cookie_echoed my own cookie) (flush_of base (filled (draft_to x) (plain_contents front)) answers)) here
-    (λ a. ([], fronted front answers, front_controlled e base (λ (x : Held). cookie_echoed my x cookie) own front answers is same refl a)) h
+    (λ a. ([], fronted front answers, front_controlled e base (λ (x : Held). cookie_echoed my x cookie) own front answers (rebuilds_echoed my cookie own) is same refl a)) h
 front_at e base (open_in phase my own) held front answers holds is same h =
     let here : own ≡ held = cc in
     subst (λ (x : Held). FlushAnswers base (filled (draft_to x) (plain_contents front)) answers
     → FlushedAt e (open_in phase my own) (flush_of base (filled (draft_to x) (plain_contents front)) answers)) here
-    (λ a. ([], fronted front answers, front_controlled e base (λ (x : Held). open_in phase my x) own front answers is same refl a)) h
+    (λ a. ([], fronted front answers, front_controlled e base (λ (x : Held). open_in phase my x) own front answers (rebuilds_open phase my own) is same refl a)) h
 
 end_where_at : (b : Bool) (e : Endpoint) (core : Core) (peer : Option Held) (transfer : Transfer) (tracker : TrackerState) (o : Outcome) → held_in core ≡ peer → e.core ≡ core
     → EndWhere b e peer transfer tracker o → FlushedAt e core o
@@ -324,6 +332,23 @@ send_at e messages o turn =
     flushed_as e e.core o (behind [] queued.events (send_by (takes_any e messages) queued.after turn.0))
     (turn.2 ∙ behind_messages queued (send_by (takes_any e messages) queued.after turn.0) q.words q.effects)
     (sends_where (takes_any e messages) e queued.after queued.events turn.0 q.core (subst (SameOptions e.options) (sym q.options) refl) q.signs turn.1)
+
+-- ---- own streams that the user resets
+
+prepares_at : (e : Endpoint) (ids : List ℕ) (o : Outcome) → PreparesResets e ids o → FlushedAt e e.core o
+prepares_at e ids o turn =
+    let base : Endpoint = with_queue e turn.queue in
+    let peer : Option Held = held_in e.core in
+    let events : List (Event Emission) = map told_event turn.told in
+    flushed_as e e.core o (behind [] events (flush_by base peer turn.flushes.0)) (turn.is ∙ ap (behind [] events) turn.flushes.2)
+    (sends_to e base e.core peer events turn.flushes.0 refl refl refl (told_signs turn.told) turn.flushes.1)
+
+resets_where_at : (refusal : Option ResetRefusal) (e : Endpoint) (ids : List ℕ) (o : Outcome) → OwnResetsWhere refusal e ids o → FlushedAt e e.core o
+resets_where_at None e ids o turn = prepares_at e ids o turn
+resets_where_at (Some refusal) e ids o turn = flushed_as e e.core o (still e) turn (still_at e e e.core refl refl)
+
+pub resets_at : (e : Endpoint) (ids : List ℕ) (o : Outcome) → OwnResetsTurn e ids o → FlushedAt e e.core o
+resets_at e ids o turn = resets_where_at (reset_refusal e) e ids o turn
 
 -- ---- timers
 

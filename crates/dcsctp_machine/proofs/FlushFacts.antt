@@ -1,6 +1,6 @@
 -- Outside examples of a flush with answers, worked by hand and computed by the definitions: a wrong rule in specs/ would not
 -- check here.
-use Rattle.std.proofs.Common.{◌≡◌, ℕ, true, false, List, [], ◌∷◌, refl}
+use Rattle.std.proofs.Common.{◌≡◌, ℕ, true, false, None, List, [], ◌∷◌, refl}
 use Rattle.std.specs.Prelude.{pos, negsuc}
 use Rattle.dcsctp_wire.specs.declared.chunk.user_data.DataFlags.{DataFlags}
 use Rattle.dcsctp_wire.specs.Content.{data_chunk}
@@ -28,7 +28,7 @@ abbrev flushing : Endpoint → ℕ → Endpoint
 flushing e count = socket e 1191 (pos 4) (open_in established mine held) count
 
 abbrev answering : Endpoint → List Plain → List Told → Below → Answer
-answering e chunks told below = record { acknowledgements = []; data_chunks = chunks; told = told; after = record e { below = below } }
+answering e chunks told below = record { acknowledgements = []; begun = None; data_chunks = chunks; told = told; after = record e { below = below } }
 
 abbrev acknowledgement : Emission
 acknowledgement = record { with_checksum = false; packet = record { tag = 9; contents = cookie_ack ∷ [] } }

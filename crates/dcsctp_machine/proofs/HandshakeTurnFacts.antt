@@ -52,7 +52,7 @@ queue is_interleaved =
       total_buffered_amount = 30;
       default_threshold = 0;
       default_priority = 256;
-      streams = record { stream = 3; buffered_amount = 30; low_threshold = 7; priority = 5; messages = 1; is_paused = false } ∷ record { stream = 4; buffered_amount = 0; low_threshold = 0; priority = 256; messages = 0; is_paused = true } ∷ [];
+      streams = record { stream = 3; buffered_amount = 30; low_threshold = 7; priority = 5; messages = 1; is_paused = false; is_handed_out = false } ∷ record { stream = 4; buffered_amount = 0; low_threshold = 0; priority = 256; messages = 0; is_paused = true; is_handed_out = false } ∷ [];
       under_way = Some (record { stream = 3; number = 12 });
       ready_streams = 4 ∷ [];
     }
@@ -60,7 +60,7 @@ queue is_interleaved =
 -- and with the message before its first byte again
 abbrev pub queue_at_start : SendQueueState
 queue_at_start =
-    record (queue true) { total_buffered_amount = 42; streams = record { stream = 3; buffered_amount = 42; low_threshold = 7; priority = 5; messages = 1; is_paused = false } ∷ record { stream = 4; buffered_amount = 0; low_threshold = 0; priority = 256; messages = 0; is_paused = false } ∷ []; under_way = None; ready_streams = [] }
+    record (queue true) { total_buffered_amount = 42; streams = record { stream = 3; buffered_amount = 42; low_threshold = 7; priority = 5; messages = 1; is_paused = false; is_handed_out = false } ∷ record { stream = 4; buffered_amount = 0; low_threshold = 0; priority = 256; messages = 0; is_paused = false; is_handed_out = false } ∷ []; under_way = None; ready_streams = [] }
 
 -- 5 seconds after it was made
 abbrev pub socket : Endpoint → ℕ → ℤ → Core → ℕ → Endpoint
@@ -171,7 +171,8 @@ abbrev echoing : Endpoint → ℕ → ℤ → ℕ → ℕ → Endpoint
 echoing e mtu max_burst cwnd packets_sent =
     record (socket e mtu max_burst (cookie_echoed mine held foreign_cookie) packets_sent) {
       tie = 55;
-      timers = record e.timers { t1 = t1_due 7_000_000_000 2_000_000_000 };
+      outstanding = None;
+      timers = record e.timers { t1 = t1_due 7_000_000_000 2_000_000_000; reconfiguration = None };
       peer_implementation = DcsctpCc;
       below = record { queue = queue_at_start; transfer = transfer_begun cwnd };
     }

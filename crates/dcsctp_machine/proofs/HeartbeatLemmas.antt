@@ -1,4 +1,5 @@
--- The turns of the timers of an open association are turns of the association: packets that speak of none.
+-- The turns of the timers of an open association are turns of the association: packets that speak of none, or a request
+-- again.
 use Rattle.std.proofs.Common.{◌≡◌, Bool, true, false, cond, List, [], ◌∷◌, refl, sym, subst}
 use Rattle.dcsctp_machine.specs.declared.association.Held.{Held}
 use Rattle.dcsctp_machine.specs.Packet.{Plain, heartbeat}
@@ -10,9 +11,10 @@ use Rattle.dcsctp_machine.specs.control.Acts.{flushes, flush_change}
 use Rattle.dcsctp_machine.specs.control.Choices.{Choices}
 use Rattle.dcsctp_machine.specs.Controlled.{IsControlled, ControlledAct}
 use Rattle.dcsctp_machine.specs.turns.HeartbeatOutcomes.{interval_expired, beating, heartbeat_emission, interval_outcome, timeout_outcome}
-use Rattle.dcsctp_machine.specs.turns.OwnTimers.{OwnTimer, acknowledgement_delay, retransmission, heartbeat_interval, heartbeat_timeout, TimerTurn}
+use Rattle.dcsctp_machine.specs.turns.OwnTimers.{OwnTimer, acknowledgement_delay, retransmission, heartbeat_interval, heartbeat_timeout, reconfiguration, TimerTurn, timer_act}
 use Rattle.dcsctp_machine.proofs.DataLemmas.{FlushedAt, flushed_act, delay_at, loss_at}
 use Rattle.dcsctp_machine.proofs.ControlHandshake.{no_choices, filling_where}
+use Rattle.dcsctp_machine.proofs.ReconfigurationLemmas.{reconfiguration_at}
 
 -- what a timer chooses: these packets, and no flush
 abbrev sending : Endpoint → List (List Plain) → Choices
@@ -47,8 +49,9 @@ timeout_at e (cookie_wait my) is = (sending e [], record { core = is; options = 
 timeout_at e (cookie_echoed my held cookie) is = (sending e [], record { core = is; options = refl; signs = refl; effects = refl; following = refl })
 timeout_at e (open_in phase my held) is = (sending e [], record { core = is; options = refl; signs = refl; effects = refl; following = refl })
 
-pub timer_controlled : (e : Endpoint) (timer : OwnTimer) (o : Outcome) → TimerTurn e timer o → ControlledAct e flushes o
+pub timer_controlled : (e : Endpoint) (timer : OwnTimer) (o : Outcome) → TimerTurn e timer o → ControlledAct e (timer_act e timer) o
 timer_controlled e acknowledgement_delay o turn = flushed_act e o (subst (FlushedAt e e.core) (sym turn) (delay_at e e.below.transfer))
 timer_controlled e retransmission o turn = flushed_act e o (loss_at e e.below.transfer o turn)
 timer_controlled e heartbeat_interval o turn = subst (ControlledAct e flushes) (sym turn) (interval_at e e.core refl)
 timer_controlled e heartbeat_timeout o turn = subst (ControlledAct e flushes) (sym turn) (timeout_at e e.core refl)
+timer_controlled e reconfiguration o turn = subst (ControlledAct e (timer_act e reconfiguration)) (sym turn) (reconfiguration_at e e.core e.outstanding refl)

@@ -25,7 +25,10 @@ pub mod LimitLemmas
 pub mod MayBeWorkedLemmas
 pub mod MessageFacts
 pub mod PlainLemmas
+pub mod PreparedFacts
 pub mod ReadBackLemmas
+pub mod ReconfigurationFacts
+pub mod ReconfigurationLemmas
 pub mod ResetFacts
 pub mod ResetLemmas
 pub mod SettingFacts

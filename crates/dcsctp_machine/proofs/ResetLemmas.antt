@@ -17,13 +17,13 @@ use Rattle.dcsctp_machine.specs.Outcome.{fits as fits_mtu, sends as sends_out}
 use Rattle.dcsctp_machine.specs.Following.{next_chunk}
 use Rattle.dcsctp_machine.specs.control.Effect.{Effect, accepts, performs, completes, fails, sends, noted, unchanged}
 use Rattle.dcsctp_machine.specs.control.Choices.{Choices}
-use Rattle.dcsctp_machine.specs.control.FlushChanges.{Flushed}
-use Rattle.dcsctp_machine.specs.control.ResetChanges.{Place, again, next, astray, place_of, Answered, worked, repeated, outgoing_by, incoming_by, Informed, informed_by, is_outstanding, informed_where, WorkedParameters, work_parameters, work_chunk, answers_emitted, reset_sent, reset_worked, re_config_change}
+use Rattle.dcsctp_machine.specs.control.FlushChanges.{Flushed, flush}
+use Rattle.dcsctp_machine.specs.control.ResetChanges.{Place, again, next, astray, place_of, Answered, worked, repeated, outgoing_by, incoming_by, Informed, informed_by, is_outstanding, informed_where, WorkedParameters, work_parameters, work_chunk, reset_sent, reset_worked, re_config_change}
 use Rattle.dcsctp_machine.specs.Controlled.{Sign, packet_sent, peer_reset_performed, own_reset_performed, own_reset_failed, signs_of_events, signs_of_effects, IsControlled, ControlledChunk}
 use Rattle.dcsctp_machine.specs.turns.FlushOutcomes.{Answer, draft_to, flush_of, FlushAnswers}
 use Rattle.dcsctp_machine.specs.turns.ResetOutcomes.{requested_in, is_reached, worked_in, OwnAnswer, unanswered, retried, over, answered_in, reset_events, told_of, core_with, resets_worked, reset_refusal_text, responses_by, ResponseAnswers, WorksResets, ResetTurn}
 use Rattle.dcsctp_machine.proofs.ControlHandshake.{no_choices, ControlledAt, still_controlled}
-use Rattle.dcsctp_machine.proofs.FlushKeeps.{IsPeerTag, filling_of, flush_effects, flush_is, flush_controlled, signs_append}
+use Rattle.dcsctp_machine.proofs.FlushKeeps.{IsPeerTag, filling_of, flush_effects, Rebuilds, rebuilds_open, rebuilds_echoed, FlushesTo, flush_controlled, signs_append}
 
 -- ---- what the parameters bring
 
@@ -189,38 +189,39 @@ abbrev MovesTo : Endpoint → (Held → Core) → List Effect → Outcome → Fl
 MovesTo e rebuilt es o after = IsControlled e o (record { core = rebuilt after.held; effects = es ++ after.effects; following = next_chunk })
 
 -- a flush behind effects
-flushes_behind : (e base : Endpoint) (core : Core) (held : Held) (before es : List Effect) (events : List (Event Emission)) (answers : List Answer)
-    → base.core ≡ core → SameOptions e.options base.options → IsPeerTag core held.peer.tag → FlushAnswers base (draft_to held) answers
+flushes_behind : (e base : Endpoint) (rebuilt : Held → Core) (held : Held) (before es : List Effect) (events : List (Event Emission)) (answers : List Answer) → Rebuilds rebuilt held
+    → base.core ≡ rebuilt held → SameOptions e.options base.options → IsPeerTag (rebuilt held) held.peer.tag → FlushAnswers base (draft_to held) answers
     → Shows before es → signs_of_events events ≡ signs_of_effects before
-    → IsControlled e (noting es (behind [] events (flush_of base (draft_to held) answers)))
-    (record { core = core; effects = before ++ flush_effects held.peer.tag held.own_next [] answers; following = next_chunk })
-flushes_behind e base core held before es events answers is same peer h shown told =
-    let more : List Effect = flush_effects held.peer.tag held.own_next [] answers in
-    flush_controlled e base [] events (draft_to held) held.own_next answers core before es is same
+    → FlushesTo e (noting es (behind [] events (flush_of base (draft_to held) answers))) rebuilt before (flush held.peer.tag held [] (filling_of answers))
+flushes_behind e base rebuilt held before es events answers builds is same peer h shown told =
+    let more : List Effect = flush_effects held.peer.tag [] answers in
+    flush_controlled e base [] events (draft_to held) answers rebuilt held before es builds is same
     (subst (λ (c : Core). IsPeerTag c held.peer.tag) (sym is) peer) h told (shown.signs more) (shown.notes more)
 
 -- the flush of the association, behind its answers
-abbrev sent_then : List Effect → Held → List Answer → Flushed
-sent_then front held answers = record { held = held; effects = front ++ flush_effects held.peer.tag held.own_next [] answers }
+abbrev pub sent_then : List Effect → Held → List Answer → Flushed
+sent_then front held answers =
+    let after : Flushed = flush held.peer.tag held [] (filling_of answers) in
+    record after { effects = front ++ after.effects }
 
 -- without answers, or where they don't fit
-silently : (e base : Endpoint) (rebuilt : Held → Core) (held : Held) (es : List Effect) (told : List (Event Emission)) (answers : List Answer)
+silently : (e base : Endpoint) (rebuilt : Held → Core) (held : Held) (es : List Effect) (told : List (Event Emission)) (answers : List Answer) → Rebuilds rebuilt held
     → base.core ≡ rebuilt held → SameOptions e.options base.options → IsPeerTag (rebuilt held) held.peer.tag → FlushAnswers base (draft_to held) answers → AreResets es
     → signs_of_events told ≡ signs_of_effects es
     → MovesTo e rebuilt es (noting es (behind [] (told ++ []) (flush_of base (draft_to held) answers))) (sent_then [] held answers)
-silently e base rebuilt held es told answers is same peer h are shown =
-    flushes_behind e base (rebuilt held) held es es (told ++ []) answers is same peer h (shows es are) (ap signs_of_events (append-nil told) ∙ shown)
+silently e base rebuilt held es told answers builds is same peer h are shown =
+    flushes_behind e base rebuilt held es es (told ++ []) answers builds is same peer h (shows es are) (ap signs_of_events (append-nil told) ∙ shown)
 
 -- with answers that fit
-answering : (e base : Endpoint) (rebuilt : Held → Core) (held : Held) (es : List Effect) (told : List (Event Emission)) (emission : Emission) (answers : List Answer)
+answering : (e base : Endpoint) (rebuilt : Held → Core) (held : Held) (es : List Effect) (told : List (Event Emission)) (emission : Emission) (answers : List Answer) → Rebuilds rebuilt held
     → base.core ≡ rebuilt held → SameOptions e.options base.options → IsPeerTag (rebuilt held) held.peer.tag → FlushAnswers base (draft_to held) answers → AreResets es
     → signs_of_events told ≡ signs_of_effects es
     → MovesTo e rebuilt es (noting es (behind [] (told ++ sent emission ∷ []) (flush_of base (draft_to held) answers))) (sent_then (sends emission.packet ∷ []) held answers)
-answering e base rebuilt held es told emission answers is same peer h are shown =
-    let more : List Effect = flush_effects held.peer.tag held.own_next [] answers in
+answering e base rebuilt held es told emission answers builds is same peer h are shown =
+    let after : Flushed = flush held.peer.tag held [] (filling_of answers) in
     let o : Outcome = noting es (behind [] (told ++ sent emission ∷ []) (flush_of base (draft_to held) answers)) in
-    subst (λ (all : List Effect). IsControlled e o (record { core = rebuilt held; effects = all; following = next_chunk })) (append_assoc es (sends emission.packet ∷ []) more)
-    (flushes_behind e base (rebuilt held) held (es ++ sends emission.packet ∷ []) es (told ++ sent emission ∷ []) answers is same peer h (shows_packet es emission.packet are)
+    subst (λ (all : List Effect). IsControlled e o (record { core = rebuilt after.held; effects = all; following = next_chunk })) (append_assoc es (sends emission.packet ∷ []) after.effects)
+    (flushes_behind e base rebuilt held (es ++ sends emission.packet ∷ []) es (told ++ sent emission ∷ []) answers builds is same peer h (shows_packet es emission.packet are)
     (signs_append told (sent emission ∷ []) ∙ ap (λ (ss : List Sign). ss ++ packet_sent emission.packet ∷ []) shown ∙ sym (in_front es (sends emission.packet ∷ []) are).signs))
 
 -- An error behind what the user is told shows nothing more.
@@ -240,38 +241,29 @@ refusing e base core es told text is same are shown =
 abbrev choosing : Endpoint → Bool → Bool → List Answer → Choices
 choosing e reached fits answers = record (no_choices e fits) { is_reached = reached; filling = filling_of answers }
 
--- Its flush begins no request.
-sent_is : (e : Endpoint) (reached fits : Bool) (held : Held) (responses : List ResetParameter) (answers : List Answer)
-    → reset_sent false held responses (choosing e reached fits answers) ≡ sent_then (answers_emitted fits held.peer.tag responses) held answers
-sent_is e reached fits held responses answers =
-    ap (λ (f : Flushed). record f { effects = answers_emitted fits held.peer.tag responses ++ f.effects }) (flush_is held.peer.tag held [] answers)
-
 -- where the answers fit or not
 fitting : (b : Bool) (e base : Endpoint) (reached : Bool) (rebuilt : Held → Core) (held : Held) (es : List Effect) (told : List (Event Emission)) (response : ResetParameter) (responses : List ResetParameter) (answers : List Answer)
-    → base.core ≡ rebuilt held → SameOptions e.options base.options → IsPeerTag (rebuilt held) held.peer.tag → AreResets es → signs_of_events told ≡ signs_of_effects es
+    → Rebuilds rebuilt held → base.core ≡ rebuilt held → SameOptions e.options base.options → IsPeerTag (rebuilt held) held.peer.tag → AreResets es → signs_of_events told ≡ signs_of_effects es
     → let o : Outcome = cond b (sends_out base [] [] (to_peer held (re_config (response ∷ responses)))) (quiet base [] []) in
     FlushAnswers o.after (draft_to held) answers
     → MovesTo e rebuilt es (noting es (behind [] (told ++ o.events) (flush_of o.after (draft_to held) answers))) (reset_sent false held (response ∷ responses) (choosing e reached b answers))
-fitting true e base reached rebuilt held es told response responses answers is same peer are shown h =
-    subst (MovesTo e rebuilt es _) (sym (sent_is e reached true held (response ∷ responses) answers))
-    (answering e (counted base) rebuilt held es told (to_peer held (re_config (response ∷ responses))) answers is same peer h are shown)
-fitting false e base reached rebuilt held es told response responses answers is same peer are shown h =
-    subst (MovesTo e rebuilt es _) (sym (sent_is e reached false held (response ∷ responses) answers)) (silently e base rebuilt held es told answers is same peer h are shown)
+fitting true e base reached rebuilt held es told response responses answers builds is same peer are shown h =
+    answering e (counted base) rebuilt held es told (to_peer held (re_config (response ∷ responses))) answers builds is same peer h are shown
+fitting false e base reached rebuilt held es told response responses answers builds is same peer are shown h = silently e base rebuilt held es told answers builds is same peer h are shown
 
 -- do the answers fit?
 abbrev responses_fit : Endpoint → Held → List ResetParameter → Bool
 responses_fit base held responses = fits_mtu base (to_peer held (re_config responses))
 
 sent_at : (refused : Bool) (e base : Endpoint) (reached : Bool) (rebuilt : Held → Core) (held : Held) (es : List Effect) (told : List (Event Emission)) (parameters responses : List ResetParameter) (answers : List Answer)
-    → base.core ≡ rebuilt held → SameOptions e.options base.options → IsPeerTag (rebuilt held) held.peer.tag → AreResets es → signs_of_events told ≡ signs_of_effects es
+    → Rebuilds rebuilt held → base.core ≡ rebuilt held → SameOptions e.options base.options → IsPeerTag (rebuilt held) held.peer.tag → AreResets es → signs_of_events told ≡ signs_of_effects es
     → ResponseAnswers refused base held responses answers
     → MovesTo e rebuilt es (noting es (responses_by refused base told held parameters responses answers)) (reset_sent refused held responses (choosing e reached (responses_fit base held responses) answers))
-sent_at true e base reached rebuilt held es told parameters responses answers is same peer are shown h =
+sent_at true e base reached rebuilt held es told parameters responses answers builds is same peer are shown h =
     refusing e base (rebuilt held) es told (reset_refusal_text parameters) is same are shown
-sent_at false e base reached rebuilt held es told parameters [] answers is same peer are shown h =
-    subst (MovesTo e rebuilt es _) (sym (sent_is e reached (responses_fit base held []) held [] answers)) (silently e base rebuilt held es told answers is same peer h are shown)
-sent_at false e base reached rebuilt held es told parameters (response ∷ responses) answers is same peer are shown h =
-    fitting (responses_fit base held (response ∷ responses)) e base reached rebuilt held es told response responses answers is same peer are shown h
+sent_at false e base reached rebuilt held es told parameters [] answers builds is same peer are shown h = silently e base rebuilt held es told answers builds is same peer h are shown
+sent_at false e base reached rebuilt held es told parameters (response ∷ responses) answers builds is same peer are shown h =
+    fitting (responses_fit base held (response ∷ responses)) e base reached rebuilt held es told response responses answers builds is same peer are shown h
 
 -- ---- the turn
 
@@ -292,9 +284,9 @@ ResetBy e rebuilt my held parameters o choices =
     IsControlled e o (record { core = rebuilt (reset_worked my held parameters choices).held; effects = (reset_worked my held parameters choices).effects; following = next_chunk })
 
 resets_at : (e : Endpoint) (rebuilt : Held → Core) (my : Pair) (held : Held) (parameters : List ResetParameter) (o : Outcome) → e.core ≡ rebuilt held
-    → ((h : Held) → core_with (rebuilt held) h ≡ rebuilt h) → ((h : Held) → IsPeerTag (rebuilt h) h.peer.tag)
+    → ((h : Held) → core_with (rebuilt held) h ≡ rebuilt h) → ((h : Held) → IsPeerTag (rebuilt h) h.peer.tag) → ((h : Held) → Rebuilds rebuilt h)
     → WorksResets e my held parameters o → (choices : Choices) × ResetBy e rebuilt my held parameters o choices
-resets_at e rebuilt my held parameters o is with peer turn =
+resets_at e rebuilt my held parameters o is with peer builds turn =
     let reached : Bool = is_reached e.below.transfer (requested_in parameters) in
     let w : WorkedParameters = worked_in e my held parameters in
     let brought = chunk_brings my reached held parameters in
@@ -304,17 +296,17 @@ resets_at e rebuilt my held parameters o is with peer turn =
       choices,
       subst (λ (x : Outcome). ResetBy e rebuilt my held parameters x choices) (sym turn.is)
           (sent_at w.is_refused e base reached rebuilt w.held w.effects (told_of e parameters w.effects) parameters w.answers turn.answers
-          (kept.core ∙ ap (λ (c : Core). core_with c w.held) is ∙ with w.held) (subst (SameOptions e.options) (sym kept.options) refl) (peer w.held) brought.are
+          (builds w.held) (kept.core ∙ ap (λ (c : Core). core_with c w.held) is ∙ with w.held) (subst (SameOptions e.options) (sym kept.options) refl) (peer w.held) brought.are
           (told_signs _ _ w.effects brought.are) turn.allowed),
     )
 
 -- as a turn of the association that is held
 held_at : (e : Endpoint) (core : Core) (rebuilt : Held → Core) (tag : ℕ) (my : Pair) (held : Held) (parameters : List ResetParameter) (o : Outcome)
-    → e.core ≡ core → core ≡ rebuilt held → ((h : Held) → core_with (rebuilt held) h ≡ rebuilt h) → ((h : Held) → IsPeerTag (rebuilt h) h.peer.tag)
+    → e.core ≡ core → core ≡ rebuilt held → ((h : Held) → core_with (rebuilt held) h ≡ rebuilt h) → ((h : Held) → IsPeerTag (rebuilt h) h.peer.tag) → ((h : Held) → Rebuilds rebuilt h)
     → ((choices : Choices) → re_config_change core parameters choices ≡ record { core = rebuilt (reset_worked my held parameters choices).held; effects = (reset_worked my held parameters choices).effects; following = next_chunk })
     → WorksResets e my held parameters o → ControlledAt e core tag (re_config parameters) o
-held_at e core rebuilt tag my held parameters o is here with peer change turn =
-    let at = resets_at e rebuilt my held parameters o (is ∙ here) with peer turn in
+held_at e core rebuilt tag my held parameters o is here with peer builds change turn =
+    let at = resets_at e rebuilt my held parameters o (is ∙ here) with peer builds turn in
     (re_config_change core parameters at.0, (at.0, tt, refl), subst (IsControlled e o) (sym (change at.0)) at.1)
 
 reset_at : (e : Endpoint) (core : Core) (tag : ℕ) (parameters : List ResetParameter) (o : Outcome) → e.core ≡ core → ResetTurn e core parameters o → ControlledAt e core tag (re_config parameters) o
@@ -322,9 +314,9 @@ reset_at e closed tag parameters o is turn = subst (ControlledAt e closed tag (r
 reset_at e (cookie_wait my) tag parameters o is turn =
     subst (ControlledAt e (cookie_wait my) tag (re_config parameters)) (sym turn) (unchanged (cookie_wait my), (no_choices e false, tt, refl), still_controlled e (cookie_wait my) is)
 reset_at e (cookie_echoed my held cookie) tag parameters o is turn =
-    held_at e (cookie_echoed my held cookie) (λ h. cookie_echoed my h cookie) tag my held parameters o is refl (λ h. refl) (λ h. refl) (λ choices. refl) turn
+    held_at e (cookie_echoed my held cookie) (λ h. cookie_echoed my h cookie) tag my held parameters o is refl (λ h. refl) (λ h. refl) (rebuilds_echoed my cookie) (λ choices. refl) turn
 reset_at e (open_in phase my held) tag parameters o is turn =
-    held_at e (open_in phase my held) (λ h. open_in phase my h) tag my held parameters o is refl (λ h. refl) (λ h. refl) (λ choices. refl) turn
+    held_at e (open_in phase my held) (λ h. open_in phase my h) tag my held parameters o is refl (λ h. refl) (λ h. refl) (rebuilds_open phase my) (λ choices. refl) turn
 
 pub reset_controlled : (e : Endpoint) (tag : ℕ) (parameters : List ResetParameter) (o : Outcome) → ResetTurn e e.core parameters o → ControlledChunk e tag (re_config parameters) o
 reset_controlled e tag parameters o turn = reset_at e e.core tag parameters o refl turn

@@ -5,7 +5,7 @@ use Rattle.dcsctp_machine.specs.Endpoint.{Endpoint}
 use Rattle.dcsctp_machine.specs.turns.SettingOutcomes.{stream_priority, stream_low_threshold, longest_message, set_in_queue, endpoint_with}
 
 stream : ℕ → ℕ → ℕ → QueuedStream
-stream id threshold priority = record { stream = id; buffered_amount = 0; low_threshold = threshold; priority = priority; messages = 0; is_paused = false }
+stream id threshold priority = record { stream = id; buffered_amount = 0; low_threshold = threshold; priority = priority; messages = 0; is_paused = false; is_handed_out = false }
 
 -- a queue of these streams, with the defaults of the options
 queue : List QueuedStream → SendQueueState
@@ -65,6 +65,6 @@ one_to_send : has_data (queue_added 1 12 (queue [])) ≡ true
 unfolding queue stream
 one_to_send = refl
 
-none_while_paused : has_data (queue (record (stream 1 0 5) { buffered_amount = 12; messages = 1; is_paused = true } ∷ [])) ≡ false
+none_while_paused : has_data (queue (record (stream 1 0 5) { buffered_amount = 12; messages = 1; is_paused = true; is_handed_out = false } ∷ [])) ≡ false
 unfolding queue stream
 none_while_paused = refl

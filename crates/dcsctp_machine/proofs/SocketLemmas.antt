@@ -7,13 +7,14 @@ use Rattle.dcsctp_machine.specs.Settings.{SameOptions}
 use Rattle.dcsctp_machine.specs.Endpoint.{Endpoint, Core, fresh_endpoint}
 use Rattle.dcsctp_machine.specs.Outcome.{Outcome}
 use Rattle.dcsctp_machine.specs.control.Acts.{Act, shutdown_repeats, flushes}
+use Rattle.dcsctp_machine.specs.turns.OwnTimers.{timer_act}
 use Rattle.dcsctp_machine.specs.Controlled.{ControlledAct}
-use Rattle.dcsctp_machine.specs.Turn.{Input, arrival, refusal, packet_begins, chunk_input, packet_ends, act_input, user_sets, user_sends, user_takes, timer_expires, time_passes, Turn, BeginTurn, has_data}
+use Rattle.dcsctp_machine.specs.Turn.{Input, arrival, refusal, packet_begins, chunk_input, packet_ends, act_input, user_sets, user_sends, user_resets, user_takes, timer_expires, time_passes, Turn, BeginTurn, has_data}
 use Rattle.dcsctp_machine.specs.CallTurns.{Turned, IsTurn, AlongTurns, after_all}
 use Rattle.dcsctp_machine.specs.Sockets.{Both, of_side, Worked, SocketRun, turns_after, endpoint_after, TurnsOfAct}
 use Rattle.dcsctp_machine.specs.Laws.{SocketsKeepOptions}
 use Rattle.dcsctp_machine.proofs.TurnLemmas.{same_after, same_of_equal, content_keeps_options}
-use Rattle.dcsctp_machine.proofs.DataLemmas.{flushed_act, end_at, take_at, send_at}
+use Rattle.dcsctp_machine.proofs.DataLemmas.{flushed_act, end_at, take_at, send_at, resets_at}
 use Rattle.dcsctp_machine.proofs.HeartbeatLemmas.{timer_controlled}
 use Rattle.dcsctp_machine.proofs.AlongLemmas.{act_along, run_along}
 use Rattle.dcsctp_machine.proofs.ControlLemmas.{begin_stands, acts_are_controlled}
@@ -35,8 +36,9 @@ turn_keeps e packet_ends o turn = kept_by_act e flushes o (flushed_act e o (end_
 turn_keeps e (act_input act) o turn = kept_by_act e act o (acts_are_controlled e act o turn)
 turn_keeps e (user_sets setting) o turn = subst (λ (x : Outcome). SameOptions e.options x.after.options) (sym turn) refl
 turn_keeps e (user_sends messages) o turn = kept_by_act e flushes o (flushed_act e o (send_at e messages o turn))
+turn_keeps e (user_resets ids) o turn = kept_by_act e flushes o (flushed_act e o (resets_at e ids o turn))
 turn_keeps e user_takes o turn = kept_by_act e flushes o (flushed_act e o (take_at e e.below.transfer o turn))
-turn_keeps e (timer_expires timer) o turn = kept_by_act e flushes o (timer_controlled e timer o turn)
+turn_keeps e (timer_expires timer) o turn = kept_by_act e (timer_act e timer) o (timer_controlled e timer o turn)
 turn_keeps e (time_passes moment) o turn = same_of_equal e.options o.after.options (ap (λ (x : Outcome). x.after.options) turn)
 
 -- ---- calls and runs

@@ -6,8 +6,6 @@ use Rattle.dcsctp_machine.specs.declared.association.Held.{Held}
 use Rattle.dcsctp_machine.specs.Packet.{cookie_echo}
 use Rattle.dcsctp_machine.specs.Endpoint.{Endpoint, Core, closed, cookie_wait, cookie_echoed, open_in}
 use Rattle.dcsctp_machine.specs.Outcome.{Outcome, still, quiet, sends, fits}
-use Rattle.dcsctp_machine.specs.Following.{next_chunk}
-use Rattle.dcsctp_machine.specs.control.FlushChanges.{Flushed}
 use Rattle.dcsctp_machine.specs.control.Acts.{t1_expires}
 use Rattle.dcsctp_machine.specs.control.Choices.{Choices}
 use Rattle.dcsctp_machine.specs.control.HandshakeChanges.{t1_again_change, t1_gives_up_change}
@@ -15,11 +13,11 @@ use Rattle.dcsctp_machine.specs.Controlled.{IsControlled, ControlledAct}
 use Rattle.dcsctp_machine.specs.turns.FlushOutcomes.{Answer, flush_answered}
 use Rattle.dcsctp_machine.specs.turns.HandshakeOutcomes.{init_emission, echo_emission, EchoAnswers}
 use Rattle.dcsctp_machine.specs.turns.TimerOutcomes.{t1_goes_on, AgainAnswers, t1_again_by, T1AgainTurn, t1_gives_up_outcome}
-use Rattle.dcsctp_machine.specs.turns.OwnTimers.{acknowledgement_delay, retransmission, heartbeat_interval, heartbeat_timeout}
+use Rattle.dcsctp_machine.specs.turns.OwnTimers.{acknowledgement_delay, retransmission, heartbeat_interval, heartbeat_timeout, reconfiguration}
 use Rattle.dcsctp_machine.specs.Turn.{clock_at}
 use Rattle.dcsctp_machine.specs.CallTurns.{Turned, Turns}
 use Rattle.dcsctp_machine.specs.TimeTurns.{Timer, t1_timer, own_timer, timers_in, timers_told, AwaitsNoCookieAck, deadline, with_deadline, deadlines_of, earliest, next_of, has_come, ExpiryThen, ExpiryTurns, DueTurns, MomentTurns, TimeTurns, NoneIsDue, Waits, MoveClock, TimePassesQuietly}
-use Rattle.dcsctp_machine.proofs.FlushKeeps.{IsPeerTag, flush_is, flush_controlled}
+use Rattle.dcsctp_machine.proofs.FlushKeeps.{IsPeerTag, rebuilds_echoed, flush_controlled}
 use Rattle.dcsctp_machine.proofs.ControlHandshake.{no_choices, choosing, still_controlled}
 
 -- ---- as a turn of the association
@@ -29,20 +27,13 @@ init_where : (b : Bool) (e : Endpoint) (mine : Pair) → e.core ≡ cookie_wait 
 init_where true e mine is = record { core = is; options = refl; signs = refl; effects = refl; following = refl }
 init_where false e mine is = record { core = is; options = refl; signs = refl; effects = refl; following = refl }
 
--- by what the flush makes of the peer
-abbrev EchoedBy : Endpoint → Pair → Held → List ℕ → List Answer → Flushed → Type 0
-EchoedBy e mine held cookie answers after =
-    IsControlled e (flush_answered answers (t1_goes_on e) [] [] true held.peer.tag (cookie_echo cookie ∷ []))
-    (record { core = cookie_echoed mine after.held cookie; effects = after.effects; following = next_chunk })
-
 echo_where : (b : Bool) (e : Endpoint) (mine : Pair) (held : Held) (cookie : List ℕ) (answers : List Answer) → e.core ≡ cookie_echoed mine held cookie
     → EchoAnswers b (t1_goes_on e) held.peer.tag cookie answers
     → IsControlled e (if b then flush_answered answers (t1_goes_on e) [] [] true held.peer.tag (cookie_echo cookie ∷ []) else quiet (t1_goes_on e) [] [])
     (t1_again_change e.options (cookie_echoed mine held cookie) (choosing e b answers))
 echo_where true e mine held cookie answers is h =
-    subst (EchoedBy e mine held cookie answers) (sym (flush_is held.peer.tag held (cookie_echo cookie ∷ []) answers))
-    (flush_controlled e (t1_goes_on e) [] [] (echo_emission held.peer.tag cookie) held.own_next answers (cookie_echoed mine held cookie) [] []
-    is refl (subst (λ (core : Core). IsPeerTag core held.peer.tag) (sym is) refl) h refl refl refl)
+    flush_controlled e (t1_goes_on e) [] [] (echo_emission held.peer.tag cookie) answers (λ x. cookie_echoed mine x cookie) held [] [] (rebuilds_echoed mine cookie held)
+    is refl (subst (λ (core : Core). IsPeerTag core held.peer.tag) (sym is) refl) h refl refl refl
 echo_where false e mine held cookie answers is h = record { core = is; options = refl; signs = refl; effects = refl; following = refl }
 
 again_at : (e : Endpoint) (core : Core) (answers : List Answer) → e.core ≡ core → AgainAnswers (t1_goes_on e) core answers
@@ -110,6 +101,7 @@ clock_keeps moment e (own_timer acknowledgement_delay) = refl
 clock_keeps moment e (own_timer retransmission) = refl
 clock_keeps moment e (own_timer heartbeat_interval) = refl
 clock_keeps moment e (own_timer heartbeat_timeout) = refl
+clock_keeps moment e (own_timer reconfiguration) = refl
 
 none_at : (moment : ℕ) (e : Endpoint) (timers : List Timer) → AllWait moment e timers → NoneIsDue (clock_at moment e) timers
 none_at moment e [] wait = tt

@@ -21,12 +21,12 @@ use Rattle.dcsctp_machine.specs.Cookie.{Cookie, cookie_bytes, cookie_at}
 use Rattle.dcsctp_machine.specs.Packet.{Introduction, Content, init, shutdown_ack, Packet, Emission, cookie_parameters, packet_in}
 use Rattle.dcsctp_machine.specs.Endpoint.{Endpoint, Core, closed, cookie_wait, cookie_echoed, open_in}
 use Rattle.dcsctp_machine.specs.World.{MayBeWorked, ChunkChanges}
-use Rattle.dcsctp_machine.specs.control.Acts.{Act, shutdown_repeats, flushes, act_change, chunk_change}
+use Rattle.dcsctp_machine.specs.control.Acts.{Act, shutdown_repeats, act_change, chunk_change}
 use Rattle.dcsctp_machine.specs.control.Choices.{Choices}
 use Rattle.dcsctp_machine.specs.control.ShutdownChanges.{reflected_change}
 use Rattle.dcsctp_machine.specs.Outcome.{Outcome, count_up}
 use Rattle.dcsctp_machine.specs.turns.HandshakeOutcomes.{InitTurn}
-use Rattle.dcsctp_machine.specs.turns.OwnTimers.{OwnTimer}
+use Rattle.dcsctp_machine.specs.turns.OwnTimers.{OwnTimer, timer_act}
 use Rattle.dcsctp_machine.specs.turns.FlushOutcomes.{Answer, FlushAnswers, flush_of, IsWithin, KeepsLimits}
 
 -- Two ends hold the same: the features are equal, and what comes in at one goes out at the other.
@@ -154,9 +154,9 @@ ChunksAreControlled =
 abbrev pub ActsAreControlled : Type 0
 ActsAreControlled = (e : Endpoint) (act : Act) (o : Outcome) → ActTurn e act o → ControlledAct e act o
 
--- The timers of an open association send packets that speak of none, as a flush does.
+-- The timers of an open association send packets that speak of none, as a flush does, or the request that is outstanding again.
 abbrev pub TimersAreControlled : Type 0
-TimersAreControlled = (e : Endpoint) (timer : OwnTimer) (o : Outcome) → Turn e (timer_expires timer) o → ControlledAct e flushes o
+TimersAreControlled = (e : Endpoint) (timer : OwnTimer) (o : Outcome) → Turn e (timer_expires timer) o → ControlledAct e (timer_act e timer) o
 
 -- where each of a packet's chunks fits at its turn
 abbrev pub FitsTurns : Endpoint → List Content → List Turned → Type 0

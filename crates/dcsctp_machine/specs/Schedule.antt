@@ -11,6 +11,7 @@ use Rattle.dcsctp_machine.specs.declared.schedule.Outside.{Outside}
 use Rattle.dcsctp_machine.specs.declared.schedule.Outside.TheVariants as outsides
 use Rattle.dcsctp_machine.specs.declared.schedule.Act.{Act}
 use Rattle.dcsctp_machine.specs.declared.schedule.Act.TheVariants as acts
+use Rattle.dcsctp_machine.specs.Ids.{stream_numbers}
 use Rattle.dcsctp_machine.specs.Transfer.{MessageContent, message_content}
 use Rattle.dcsctp_machine.specs.turns.SettingOutcomes.{Setting, stream_priority, stream_low_threshold, longest_message}
 
@@ -25,6 +26,8 @@ pub data CallContent : Type 0 where
   send_call : MessageContent → SendOptions → CallContent
   -- several of them, all in one way
   send_many_call : List MessageContent → SendOptions → CallContent
+  -- The streams of these numbers are reset.
+  reset_call : List ℕ → CallContent
   -- The message that became ready first is taken.
   take_call : CallContent
 
@@ -55,6 +58,7 @@ call_content (calls.SetBufferedAmountLowThreshold id bytes) = set_call (stream_l
 call_content (calls.SetMaxMessageSize bytes) = set_call (longest_message bytes)
 call_content (calls.Send message options) = send_call (message_content message) options
 call_content (calls.SendMany messages options) = send_many_call (map message_content messages.items) options
+call_content (calls.ResetStreams ids) = reset_call (stream_numbers ids.items)
 call_content calls.GetNextMessage = take_call
 
 abbrev pub step_content : Step → StepContent

@@ -6,12 +6,12 @@ use Rattle.dcsctp_machine.specs.declared.ends.AbortReason.TheVariants.{CloseCall
 use Rattle.dcsctp_machine.specs.declared.options.Options.{Options}
 use Rattle.dcsctp_machine.specs.declared.schedule.Side.{Side}
 use Rattle.dcsctp_machine.specs.declared.schedule.Side.TheVariants as sides
-use Rattle.dcsctp_machine.specs.Schedule.{CallContent, connect_call, close_call, StepContent, call_step, delivery_step, OutsideContent, input_outside, ActContent, step_act, outside_act, advance_call, set_call, send_call, send_many_call, take_call}
+use Rattle.dcsctp_machine.specs.Schedule.{CallContent, connect_call, close_call, StepContent, call_step, delivery_step, OutsideContent, input_outside, ActContent, step_act, outside_act, advance_call, set_call, send_call, send_many_call, reset_call, take_call}
 use Rattle.dcsctp_machine.specs.Settings.{ports_of}
 use Rattle.dcsctp_machine.specs.Event.{Event, event_map, packets_in}
 use Rattle.dcsctp_machine.specs.Packet.{emission_bytes}
 use Rattle.dcsctp_machine.specs.Endpoint.{Endpoint, fresh_endpoint, association_of}
-use Rattle.dcsctp_machine.specs.Turn.{act_input, user_sets, user_sends, user_takes}
+use Rattle.dcsctp_machine.specs.Turn.{act_input, user_sets, user_sends, user_resets, user_takes}
 use Rattle.dcsctp_machine.specs.turns.MessageOutcomes.{sending_of}
 use Rattle.dcsctp_machine.specs.control.Acts.{connect, abort_with}
 use Rattle.dcsctp_machine.specs.TimeTurns.{AdvanceTurns}
@@ -51,6 +51,7 @@ UserTurns e (advance_call moment) turns = AdvanceTurns e moment turns
 UserTurns e (set_call setting) turns = Turns e (user_sets setting ∷ []) turns
 UserTurns e (send_call message options) turns = Turns e (user_sends (sending_of options message ∷ []) ∷ []) turns
 UserTurns e (send_many_call messages options) turns = Turns e (user_sends (map (sending_of options) messages) ∷ []) turns
+UserTurns e (reset_call ids) turns = Turns e (user_resets ids ∷ []) turns
 UserTurns e take_call turns = Turns e (user_takes ∷ []) turns
 
 abbrev pub side_of : StepContent → Side

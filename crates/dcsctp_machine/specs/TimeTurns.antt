@@ -6,7 +6,7 @@ use Rattle.dcsctp_machine.specs.control.Acts.{t1_expires, abort_with, flushes}
 use Rattle.dcsctp_machine.specs.declared.ends.AbortReason.TheVariants.{TooManyErrors}
 use Rattle.dcsctp_machine.specs.Transfer.{Transfer}
 use Rattle.dcsctp_machine.specs.turns.HeartbeatOutcomes.{is_exhausted}
-use Rattle.dcsctp_machine.specs.turns.OwnTimers.{OwnTimer, acknowledgement_delay, retransmission, heartbeat_interval, heartbeat_timeout}
+use Rattle.dcsctp_machine.specs.turns.OwnTimers.{OwnTimer, acknowledgement_delay, retransmission, heartbeat_interval, heartbeat_timeout, reconfiguration}
 use Rattle.dcsctp_machine.specs.Turn.{Input, act_input, timer_expires, time_passes, clock_at}
 use Rattle.dcsctp_machine.specs.CallTurns.{Turned, IsTurn, Turns, after_all, words_of, effects_of, events_of}
 
@@ -23,7 +23,8 @@ timers_in closed = []
 timers_in (cookie_wait mine) = t1_timer ∷ []
 timers_in (cookie_echoed mine held cookie) = own_timer acknowledgement_delay ∷ t1_timer ∷ []
 timers_in (open_in phase mine held) =
-    own_timer acknowledgement_delay ∷ own_timer retransmission ∷ own_timer heartbeat_interval ∷ own_timer heartbeat_timeout ∷ []
+    own_timer acknowledgement_delay ∷ own_timer retransmission ∷ own_timer heartbeat_interval ∷ own_timer heartbeat_timeout
+    ∷ own_timer reconfiguration ∷ []
 
 -- Those whose deadlines count. While the COOKIE ECHO isn't answered it is T1 alone.
 abbrev pub timers_told : Core → List Timer
@@ -52,6 +53,7 @@ deadline e (own_timer acknowledgement_delay) = delay_deadline e.below.transfer
 deadline e (own_timer retransmission) = loss_deadline e.below.transfer
 deadline e (own_timer heartbeat_interval) = deadline_of e.timers.heartbeat_interval
 deadline e (own_timer heartbeat_timeout) = deadline_of e.timers.heartbeat_timeout
+deadline e (own_timer reconfiguration) = deadline_of e.timers.reconfiguration
 
 -- these, and one more, where there is one
 abbrev pub with_deadline : Option ℕ → List ℕ → List ℕ

@@ -34,6 +34,8 @@ pub record QueuedStream : Type 0 where
   pub messages : ℕ
   -- Is it to be reset (RFC 6525, section 5.1.2)? Then none of its messages is begun.
   pub is_paused : Bool
+  -- Is its reset requested? It stays paused until it is known what became of that.
+  pub is_handed_out : Bool
 
 -- What waits to be sent.
 pub record SendQueueState : Type 0 where
@@ -68,7 +70,7 @@ empty_queue options =
 -- a stream that was never used
 abbrev pub unused_stream : SendQueueState → ℕ → QueuedStream
 unused_stream queue id =
-    record { stream = id; buffered_amount = 0; low_threshold = queue.default_threshold; priority = queue.default_priority; messages = 0; is_paused = false }
+    record { stream = id; buffered_amount = 0; low_threshold = queue.default_threshold; priority = queue.default_priority; messages = 0; is_paused = false; is_handed_out = false }
 
 -- the stream of this number among these, or else this one
 abbrev pub stream_among : QueuedStream → ℕ → List QueuedStream → QueuedStream
@@ -107,7 +109,14 @@ begun_again queue (Some message) =
     }
 
 abbrev pub resumed : QueuedStream → QueuedStream
-resumed stream = record stream { is_paused = false }
+resumed stream = record stream { is_paused = false; is_handed_out = false }
+
+-- It is known what became of the reset of those that are handed out: their messages may be begun again.
+abbrev pub handed_back : QueuedStream → QueuedStream
+handed_back stream = if stream.is_handed_out then resumed stream else stream
+
+abbrev pub queue_handed_back : SendQueueState → SendQueueState
+queue_handed_back queue = record queue { streams = map handed_back queue.streams }
 
 -- The message under way begins again, and no stream waits for a reset.
 abbrev pub queue_after_reset : SendQueueState → SendQueueState
@@ -275,10 +284,15 @@ abbrev pub must_give : ℕ → SendQueueState → RetransmissionState → Bool
 must_give room queue state =
     can_send state && state.marked_items == 0 && nat_le (least_chunk state.message_interleaving) room && has_free_tsn state && has_data queue
 
--- Nothing waits, nothing is in flight, and nothing is to be acknowledged.
+-- is no stream to be reset?
+abbrev pub is_none_ready : List ℕ → Bool
+is_none_ready [] = true
+is_none_ready (stream ∷ streams) = false
+
+-- Nothing waits, nothing is in flight, nothing is to be acknowledged, and no stream is to be reset.
 abbrev pub is_idle : SendQueueState → Transfer → Bool
 is_idle queue transfer =
-    not (has_data queue) && transfer.retransmission.outstanding_items == 0
+    not (has_data queue) && is_none_ready queue.ready_streams && transfer.retransmission.outstanding_items == 0
     && not transfer.tracker.owes_acknowledgement && not transfer.tracker.is_acknowledgement_due
 
 -- as it is before any association or message

@@ -11,6 +11,7 @@ use Rattle.dcsctp_machine.specs.turns.DataOutcomes.{FlushTurn, EndsBy, TakeTurn}
 use Rattle.dcsctp_machine.specs.turns.MessageOutcomes.{Sending, SendTurn}
 use Rattle.dcsctp_machine.specs.turns.OwnTimers.{OwnTimer, TimerTurn}
 use Rattle.dcsctp_machine.specs.turns.PlainOutcomes.{PlainTurn}
+use Rattle.dcsctp_machine.specs.turns.PreparedResets.{OwnResetsTurn}
 use Rattle.dcsctp_machine.specs.turns.ResetOutcomes.{ResetTurn}
 use Rattle.dcsctp_machine.specs.turns.SettingOutcomes.{Setting, setting_outcome}
 use Rattle.dcsctp_machine.specs.turns.TimerOutcomes.{T1AgainTurn, t1_gives_up_outcome}
@@ -34,6 +35,8 @@ pub data Input : Type 0 where
   user_sets : Setting → Input
   -- The user sends these messages.
   user_sends : List Sending → Input
+  -- The user resets the streams of these numbers.
+  user_resets : List ℕ → Input
   -- The user takes a message that came in.
   user_takes : Input
   -- A timer of an association expires.
@@ -105,6 +108,7 @@ Turn e packet_ends o = EndTurn e o
 Turn e (act_input act) o = ActTurn e act o
 Turn e (user_sets setting) o = o ≡ setting_outcome e setting
 Turn e (user_sends messages) o = SendTurn e messages o
+Turn e (user_resets ids) o = OwnResetsTurn e ids o
 Turn e user_takes o = TakeTurn e e.below.transfer o
 Turn e (timer_expires timer) o = TimerTurn e timer o
 Turn e (time_passes moment) o = o ≡ still (clock_at moment e)

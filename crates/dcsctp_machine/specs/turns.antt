@@ -1,3 +1,4 @@
+pub mod BegunResets
 pub mod CookieEchoOutcomes
 pub mod DataOutcomes
 pub mod EndOutcomes
@@ -7,6 +8,8 @@ pub mod HeartbeatOutcomes
 pub mod MessageOutcomes
 pub mod OwnTimers
 pub mod PlainOutcomes
+pub mod PreparedResets
+pub mod ReconfigurationOutcomes
 pub mod ResetOutcomes
 pub mod SettingOutcomes
 pub mod TimerOutcomes

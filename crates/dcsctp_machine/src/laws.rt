@@ -89,7 +89,8 @@ pub fn acts_are_controlled()
     ensures { ActsAreControlled }
 {}
 
-/// Each turn of a timer of an open association is a turn of the association: a flush (RFC 9260, section 8.3).
+/// Each turn of a timer of an open association is a turn of the association: a flush (RFC 9260, section 8.3), or the
+/// request that is outstanding again (RFC 6525, section 5.1.1).
 pub fn timers_are_controlled()
     ensures { TimersAreControlled }
 {}

@@ -1,6 +1,7 @@
 //! What happens to two sockets: calls of their users, deliveries, and what comes from outside.
 
 ghost use Rattle.std.specs.Prelude.{◌≡◌, IfOk};
+ghost use Rattle.dcsctp_machine.specs.Ids.{stream_numbers};
 ghost use Rattle.dcsctp_machine.specs.Schedule.{call_content, step_content};
 
 use crate::ids::StreamId;
@@ -45,8 +46,22 @@ pub enum Call {
     /// It sends several messages, all in one way.
     SendMany(Vec<Message>, SendOptions),
 
+    /// It resets these streams (RFC 6525, section 5.1.2).
+    ResetStreams(Vec<StreamId>),
+
     /// It takes the message that became ready first.
     GetNextMessage,
+}
+
+// The same numbers. The one error is want of memory.
+fn copied_streams(ids: &Vec<StreamId>) -> Result<Vec<StreamId>, AllocError>
+    ensures { IfOk result (λ copies. stream_numbers copies.items ≡ stream_numbers ids.now.items) }
+{
+    let mut copies = Vec::with_capacity(*ids.allocator(), ids.len())?;
+    for id in ids {
+        copies.push(*id)?;
+    }
+    Ok(copies)
 }
 
 /// A step of a schedule.
@@ -78,6 +93,7 @@ impl Call {
             Call::SendMany(messages, options) => {
                 Ok(Call::SendMany(copied_messages(messages)?, *options))
             }
+            Call::ResetStreams(ids) => Ok(Call::ResetStreams(copied_streams(ids)?)),
             Call::GetNextMessage => Ok(Call::GetNextMessage),
         }
     }

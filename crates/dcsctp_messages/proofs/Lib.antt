@@ -1,4 +1,5 @@
 pub mod QueueingLemmas
 pub mod RefusalLemmas
+pub mod ResettingLemmas
 pub mod SendingLemmas
 pub mod TakingLemmas

@@ -1,11 +1,10 @@
 -- What is told of a message that is refused: its end first.
-use Rattle.std.proofs.Common.{◌≡◌, ℕ, Option, None, Some, List, [], ◌∷◌, ◌++◌, refl, ap, ◌∙◌}
+use Rattle.std.proofs.Common.{◌≡◌, Option, None, Some, [], ◌∷◌, ◌++◌, refl, ap, ◌∙◌}
 use Rattle.std.specs.Option.{option_map}
 use Rattle.rand_core.specs.Stream.{Stream}
 use Rattle.dcsctp_machine.specs.declared.ids.LifecycleId.{LifecycleId}
 use Rattle.dcsctp_machine.specs.Ids.{lifecycle_number}
-use Rattle.dcsctp_machine.specs.Event.{Event, error}
-use Rattle.dcsctp_machine.specs.Packet.{Emission}
+use Rattle.dcsctp_machine.specs.Event.{error}
 use Rattle.dcsctp_machine.specs.turns.MessageOutcomes.{MessageRefusal, refusal_kind, refusal_text, refusal_events}
 use Rattle.dcsctp_core.specs.View.{View, Moves, CutTurn}
 use Rattle.dcsctp_core.proofs.Composing.{cut_after}

@@ -1,11 +1,9 @@
 -- Messages that are queued, and then a flush where one was taken.
-use Rattle.std.proofs.Common.{◌≡◌, ◌||◌, ℕ, Bool, true, false, Option, None, Some, Result, Ok, Err, List, [], ◌∷◌, ◌++◌, refl, sym, ap, subst, ◌∙◌}
+use Rattle.std.proofs.Common.{◌≡◌, ◌||◌, ℕ, Bool, true, false, Option, None, Some, Result, Ok, Err, List, [], ◌∷◌, refl, sym, ap, subst}
 use Rattle.std.specs.Prelude.{is_none}
-use Rattle.std.proofs.lemmas.List.{append-nil}
 use Rattle.rand_core.specs.Stream.{Stream}
 use Rattle.dcsctp_machine.specs.declared.association.Held.{Held}
 use Rattle.dcsctp_machine.specs.Event.{Event}
-use Rattle.dcsctp_machine.specs.Packet.{Emission}
 use Rattle.dcsctp_machine.specs.Endpoint.{Endpoint, held_in}
 use Rattle.dcsctp_machine.specs.Outcome.{Outcome, still, then_outcome}
 use Rattle.dcsctp_machine.specs.turns.FlushOutcomes.{Answer, draft_to, first_ask, packets_allowed}
@@ -39,7 +37,7 @@ follows_flush taken e o is h = subst (λ (b : Bool). Follows b e o) (sym is) (h.
 follows_none : (taken : Bool) (e : Endpoint) → taken ≡ false → Follows taken e (still e)
 follows_none taken e is = subst (λ (b : Bool). Follows b e (still e)) (sym is) ([], refl, refl)
 
-any_to : (e : Endpoint) (peer : Option Held) → (answers : List Answer) × AnswersTo e peer answers
+pub any_to : (e : Endpoint) (peer : Option Held) → (answers : List Answer) × AnswersTo e peer answers
 any_to e None = ([], refl)
 any_to e (Some held) = any_answers first_ask (packets_allowed e.options.max_burst e.core) e (draft_to held)
 

@@ -1,10 +1,10 @@
 -- A message that is taken is a turn of the socket's view.
-use Rattle.std.proofs.Common.{◌≡◌, ℕ, Option, None, Some, List, [], ◌∷◌, refl, sym, ap, subst, ◌∙◌}
+use Rattle.std.proofs.Common.{◌≡◌, Option, None, Some, List, refl, sym, ap, subst, ◌∙◌}
 use Rattle.dcsctp_machine.specs.declared.message.Message.{Message}
-use Rattle.dcsctp_machine.specs.Transfer.{MessageContent, message_content, Transfer}
+use Rattle.dcsctp_machine.specs.Transfer.{MessageContent, Transfer}
 use Rattle.dcsctp_machine.specs.Endpoint.{Endpoint}
 use Rattle.dcsctp_machine.specs.Outcome.{Outcome, still}
-use Rattle.dcsctp_machine.specs.turns.DataOutcomes.{with_transfer, TakesMessage, TakeWhere, TakeTurn}
+use Rattle.dcsctp_machine.specs.turns.DataOutcomes.{with_transfer, TakeWhere, TakeTurn}
 use Rattle.dcsctp_api.specs.Messages.{IsFirst, ready_below}
 use Rattle.dcsctp_core.specs.declared.context.Context.{Context}
 use Rattle.dcsctp_core.specs.declared.state.State.{State}

@@ -1,2 +1,3 @@
+pub mod Resetting
 pub mod Sending
 pub mod Taking

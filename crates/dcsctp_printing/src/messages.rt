@@ -1,7 +1,7 @@
-//! Printing messages that are taken, and why one is refused, on a line.
+//! Printing messages that are taken, and why a message or a reset is refused, on a line.
 
 use crate::printing::side_name;
-use dcsctp_api::{Message, SendError};
+use dcsctp_api::{Message, ResetStreamsError, SendError};
 use dcsctp_machine::Side;
 use std::io::{self, Write};
 
@@ -42,6 +42,22 @@ pub fn print_refusal<W: Write>(side: Side, error: &SendError, output: &mut W) ->
         SendError::MessageTooLarge { len: _, limit: _ } => 2,
         SendError::ResourceExhaustion => 3,
         SendError::ShuttingDown => 4,
+    };
+    writeln!(output, "{name} refused E{number}")
+}
+
+/// Prints why a side reset no stream, by the number of the reason.
+///
+/// The one error is the writer's, which may have taken a part of the line then.
+pub fn print_reset_refusal<W: Write>(
+    side: Side,
+    error: &ResetStreamsError,
+    output: &mut W,
+) -> io::Result<()> {
+    let name = side_name(side);
+    let number = match error {
+        ResetStreamsError::NotConnected => 6,
+        ResetStreamsError::NotSupported => 7,
     };
     writeln!(output, "{name} refused E{number}")
 }

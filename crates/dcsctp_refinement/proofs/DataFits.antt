@@ -1,5 +1,5 @@
 -- The turns of data leave numbers that fit their fields, and send what is read as itself.
-use Rattle.std.proofs.Common.{◌<◌, ◌^◌, ◌++◌, ℕ, Bool, true, false, cond, Option, None, Some, List, [], ◌∷◌, refl, sym, subst, arith}
+use Rattle.std.proofs.Common.{◌<◌, ◌^◌, ◌++◌, ℕ, Bool, true, false, cond, Option, None, Some, List, [], ◌∷◌, map, refl, sym, subst, arith}
 use Rattle.dcsctp_wire.specs.Content.{no_user_data, sack_chunk}
 use Rattle.dcsctp_wire.specs.Spelling.{parameters_len}
 use Rattle.dcsctp_machine.specs.declared.association.Held.{Held}
@@ -7,34 +7,20 @@ use Rattle.dcsctp_machine.specs.declared.kinds.ErrorKind.TheVariants.{ProtocolVi
 use Rattle.dcsctp_machine.specs.Event.{error}
 use Rattle.dcsctp_machine.specs.Packet.{Plain, plain, unworked, error_of, Content}
 use Rattle.dcsctp_machine.specs.Transfer.{Below, MessageContent, TrackerState, Transfer}
-use Rattle.dcsctp_machine.specs.Endpoint.{Endpoint, Core, closed, cookie_wait, cookie_echoed, open_in, established, shutdown_pending, shutdown_sent, shutdown_received, shutdown_ack_sent, held_in}
+use Rattle.dcsctp_machine.specs.Endpoint.{Endpoint, held_in}
 use Rattle.dcsctp_machine.specs.Outcome.{Outcome, still, quiet, sends, behind, then_outcome, to_peer}
 use Rattle.dcsctp_machine.specs.Outcome.{fits as fits_mtu}
 use Rattle.dcsctp_machine.specs.control.Choices.{plain_contents}
-use Rattle.dcsctp_machine.specs.turns.FlushOutcomes.{Answer, goes_out, draft_to, flush_of, room_in}
+use Rattle.dcsctp_machine.specs.turns.FlushOutcomes.{Answer, told_event, goes_out, draft_to, flush_of, room_in}
 use Rattle.dcsctp_machine.specs.turns.TransferMoves.{acknowledged, delay_over, delivered_events}
 use Rattle.dcsctp_machine.specs.turns.MessageOutcomes.{MessageRefusal, message_refusal, refusal_events, Sending, queue_by, queue_one, queue_all, takes_any, SendAnswers, send_by, SendTurn}
+use Rattle.dcsctp_machine.specs.turns.PreparedResets.{ResetRefusal, reset_refusal, with_queue, PreparesResets, OwnResetsWhere, OwnResetsTurn}
 use Rattle.dcsctp_machine.specs.turns.DataOutcomes.{TakeWhere, TakeTurn, with_transfer, with_tracker, flush_by, AnswersTo, FlushTurn, no_user_data_text, no_user_data_outcome, ReceiveTurn, DataTurn, ForwardTurn, is_sack_valid, SendsAtOnce, FastRetransmits, sack_taken, AcknowledgesBy, SackWhere, SackBy, SackTurn, IsSack, acknowledging, AnswersPacket, EndWhere, EndsBy, delay_outcome, LossTurn}
-use Rattle.dcsctp_machine.specs.Fitting.{AllSent, FitsHeld, FitsCore, FitsEndpoint, IsSendable, Sendable, TurnFits}
+use Rattle.dcsctp_machine.specs.Fitting.{AllSent, FitsHeld, FitsEndpoint, IsSendable, Sendable, TurnFits}
 use Rattle.dcsctp_machine.proofs.FlushKeeps.{goes_out_keeps}
-use Rattle.dcsctp_refinement.proofs.FlushFits.{kept_fits, still_fits, data_sendable, where_fits_sendable, sack_sendable, goes_out_sends, draft_sendable, flush_fits, behind_fits}
+use Rattle.dcsctp_refinement.proofs.FlushFits.{kept_fits, still_fits, data_sendable, where_fits_sendable, sack_sendable, told_sends, goes_out_sends, draft_sendable, flush_fits, behind_fits}
 use Rattle.dcsctp_refinement.proofs.Sent.{all_sent_append}
-
--- ---- what is held of a peer
-
-abbrev FitsPeer : Option Held → Type 0
-FitsPeer None = Unit {0}
-FitsPeer (Some held) = FitsHeld held
-
-peer_fits : (core : Core) → FitsCore core → FitsPeer (held_in core)
-peer_fits closed own = tt
-peer_fits (cookie_wait my) own = tt
-peer_fits (cookie_echoed my held cookie) own = own.1
-peer_fits (open_in established my held) own = own.1
-peer_fits (open_in shutdown_pending my held) own = absurd own
-peer_fits (open_in shutdown_sent my held) own = absurd own
-peer_fits (open_in shutdown_received my held) own = absurd own
-peer_fits (open_in shutdown_ack_sent my held) own = absurd own
+use Rattle.dcsctp_refinement.proofs.BegunSends.{FitsPeer, peer_fits}
 
 -- ---- turns that send nothing
 
@@ -102,7 +88,7 @@ at_once_fits e held transfer o turn h fits =
     let contents : List Content = plain_contents turn.chunks in
     subst TurnFits (sym turn.is)
     (record {
-      after = kept_fits base (goes_out base [] with_checksum held.peer.tag contents) (goes_out_keeps base [] with_checksum held.peer.tag contents) (transfer_fits e turn.left h);
+      after = kept_fits None base (goes_out base [] with_checksum held.peer.tag contents) (goes_out_keeps base [] with_checksum held.peer.tag contents) (transfer_fits e turn.left h);
       sends = goes_out_sends base [] with_checksum held.peer.tag contents tt fits.peer.tag
           (data_sendable transfer.retransmission.message_interleaving turn.chunks turn.kind turn.fit);
     })
@@ -196,6 +182,22 @@ send_fits e messages o turn h =
     let all : TurnFits queued = all_queued_fit e messages h in
     subst TurnFits (sym turn.2)
     (then_fits queued (send_by (takes_any e messages) queued.after turn.0) all (send_where_fits (takes_any e messages) queued.after turn.0 turn.1 all.after))
+
+-- ---- own streams that the user resets
+
+prepares_fits : (e : Endpoint) (ids : List ℕ) (o : Outcome) → PreparesResets e ids o → FitsEndpoint e → TurnFits o
+prepares_fits e ids o turn h =
+    let base : Endpoint = with_queue e turn.queue in
+    subst TurnFits (sym turn.is)
+    (behind_fits [] (map told_event turn.told) turn.flushed (told_sends turn.told)
+    (flush_turn_fits base turn.flushed turn.flushes (below_fits e base.below h)))
+
+resets_where_fits : (refusal : Option ResetRefusal) (e : Endpoint) (ids : List ℕ) (o : Outcome) → OwnResetsWhere refusal e ids o → FitsEndpoint e → TurnFits o
+resets_where_fits None e ids o turn h = prepares_fits e ids o turn h
+resets_where_fits (Some refusal) e ids o turn h = subst TurnFits (sym turn) (still_fits e h)
+
+pub resets_fits : (e : Endpoint) (ids : List ℕ) (o : Outcome) → OwnResetsTurn e ids o → FitsEndpoint e → TurnFits o
+resets_fits e ids o turn h = resets_where_fits (reset_refusal e) e ids o turn h
 
 -- ---- timers
 

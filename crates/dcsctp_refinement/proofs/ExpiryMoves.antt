@@ -8,23 +8,25 @@ use Rattle.dcsctp_machine.specs.declared.options.Options.{Options}
 use Rattle.dcsctp_machine.specs.declared.association.Held.{Held}
 use Rattle.dcsctp_machine.specs.declared.ends.AbortReason.TheVariants.{TooManyErrors}
 use Rattle.dcsctp_machine.specs.Packet.{heartbeat, plain}
-use Rattle.dcsctp_machine.specs.Endpoint.{Endpoint, Core, closed, cookie_wait, cookie_echoed, open_in, established, shutdown_pending, shutdown_sent, shutdown_received, shutdown_ack_sent}
+use Rattle.dcsctp_machine.specs.Endpoint.{Endpoint, Core, closed, cookie_wait, cookie_echoed, open_in, established, shutdown_pending, shutdown_sent, shutdown_received, shutdown_ack_sent, held_in}
 use Rattle.dcsctp_machine.specs.Outcome.{Outcome}
 use Rattle.dcsctp_machine.specs.Turn.{Input, act_input, timer_expires}
 use Rattle.dcsctp_machine.specs.TimeTurns.{Timer, t1_timer, own_timer, deadline, has_come, has_restart, expiry_input, inputs_behind, after_expiries, ExpiryThen, ExpiryTurns}
 use Rattle.dcsctp_machine.specs.CallTurns.{Turned, IsTurn, Turns}
 use Rattle.dcsctp_machine.specs.turns.HeartbeatOutcomes.{is_exhausted, interval_expired, beating, heartbeat_emission, interval_outcome}
-use Rattle.dcsctp_machine.specs.turns.OwnTimers.{OwnTimer, acknowledgement_delay, retransmission, heartbeat_interval, heartbeat_timeout, TimerTurn}
+use Rattle.dcsctp_machine.specs.turns.OwnTimers.{OwnTimer, acknowledgement_delay, retransmission, heartbeat_interval, heartbeat_timeout, reconfiguration, TimerTurn, timer_act}
 use Rattle.dcsctp_machine.specs.control.Effect.{Effect, Change}
-use Rattle.dcsctp_machine.specs.control.Acts.{flushes, flush_change, abort_with, t1_expires, act_change}
+use Rattle.dcsctp_machine.specs.control.Acts.{Act, flushes, abort_with, t1_expires, act_change}
 use Rattle.dcsctp_machine.specs.Fitting.{FitsHeld, FitsCore, FitsEndpoint, Sendable, TurnFits}
 use Rattle.dcsctp_machine.specs.World.{SideState, after_changes, does}
 use Rattle.dcsctp_machine.specs.Sockets.{endpoint_after}
 use Rattle.dcsctp_machine.proofs.DataLemmas.{flushed_act, flush_turn_at}
 use Rattle.dcsctp_machine.proofs.HeartbeatLemmas.{timer_controlled}
+use Rattle.dcsctp_refinement.proofs.BegunSends.{peer_fits}
 use Rattle.dcsctp_refinement.proofs.Bytes.{in_four}
 use Rattle.dcsctp_refinement.proofs.DataFits.{flush_turn_fits, delay_fits, loss_fits}
-use Rattle.dcsctp_refinement.proofs.FlushMoves.{FlushFollows, flush_follows}
+use Rattle.dcsctp_refinement.proofs.ActMoves.{TakesNoOptions, ActFollows, act_follows}
+use Rattle.dcsctp_refinement.proofs.RequestAgain.{reconfiguration_fits}
 use Rattle.dcsctp_refinement.proofs.TurnsFit.{emits_fit}
 use Rattle.dcsctp_refinement.proofs.Follow.{Followed, after_last}
 use Rattle.dcsctp_refinement.proofs.TimeMoves.{T1Follows, t1_follows}
@@ -57,8 +59,16 @@ timer_fits e acknowledgement_delay o turn h = subst TurnFits (sym turn) (delay_f
 timer_fits e retransmission o turn h = loss_fits e e.below.transfer o turn h
 timer_fits e heartbeat_interval o turn h = subst TurnFits (sym turn) (interval_fits e e.core h h.core)
 timer_fits e heartbeat_timeout o turn h = subst TurnFits (sym turn) (record { after = record { valid = h.valid; options = h.options; core = h.core; t1 = h.t1 }; sends = tt })
+timer_fits e reconfiguration o turn h = subst TurnFits (sym turn) (reconfiguration_fits e (held_in e.core) e.outstanding h (peer_fits e.core h.core))
 
 -- ---- one expiry, and what follows it
+
+no_options : (e : Endpoint) (timer : OwnTimer) → TakesNoOptions (timer_act e timer)
+no_options e acknowledgement_delay p q core choices = refl
+no_options e retransmission p q core choices = refl
+no_options e heartbeat_interval p q core choices = refl
+no_options e heartbeat_timeout p q core choices = refl
+no_options e reconfiguration p q core choices = refl
 
 -- what may come behind so many turns, from wherever the side stands then
 abbrev MovesBehind : Options → List Turned → List Effect → List Turned → Type 0
@@ -68,10 +78,11 @@ own_moves : Below → (options : Options) (turns : List Turned) (side : SideStat
     → IsTurn (endpoint_after options turns) (timer_expires timer) t → MovesBehind options (turns ++ t ∷ []) theirs more → SideMoves options turns side theirs (t ∷ more)
 own_moves law options turns side theirs timer t more h turn rest =
     let e : Endpoint = endpoint_after options turns in
-    let followed : FlushFollows options turns side t =
-    flush_follows law.effects_mean options turns side t h (timer_controlled e timer t.outcome turn.comes) (timer_fits e timer t.outcome turn.comes h.fits) in
-    let change : Change = flush_change side.core followed.choices in
-    moves_then options turns side theirs (t ∷ []) more (does flushes) (change ∷ []) (followed.choices, refl) (rest (after_changes side (change ∷ [])) followed.follows)
+    let act : Act = timer_act e timer in
+    let followed : ActFollows options turns side act t =
+    act_follows law.effects_mean options turns side act t (no_options e timer) h (timer_controlled e timer t.outcome turn.comes) (timer_fits e timer t.outcome turn.comes h.fits) in
+    let change : Change = act_change side.options side.core act followed.choices in
+    moves_then options turns side theirs (t ∷ []) more (does act) (change ∷ []) (followed.choices, refl) (rest (after_changes side (change ∷ [])) followed.follows)
 
 t1_moves : Below → (options : Options) (turns : List Turned) (side : SideState) (theirs : List Effect) (again : Bool) (t : Turned) (more : List Turned) → Followed options turns side
     → IsTurn (endpoint_after options turns) (act_input (t1_expires again)) t → MovesBehind options (turns ++ t ∷ []) theirs more → SideMoves options turns side theirs (t ∷ more)

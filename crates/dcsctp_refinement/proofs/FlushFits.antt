@@ -1,5 +1,5 @@
 -- A flush leaves numbers that fit their fields, and sends what is read as itself, whatever its answers.
-use Rattle.std.proofs.Common.{◌≡◌, ℕ, ◌<◌, ◌^◌, Bool, true, false, Option, None, Some, List, [], ◌∷◌, ◌++◌, map, length, refl, sym, subst}
+use Rattle.std.proofs.Common.{◌≡◌, ℕ, ◌<◌, ◌^◌, Bool, true, false, Option, None, Some, List, [], ◌∷◌, ◌++◌, map, length, refl, sym, subst, arith}
 use Rattle.std.specs.Prelude.{nat_le, if◌then◌else◌}
 use Rattle.std.specs.List.{AllByRecursion}
 use Rattle.dcsctp_wire.specs.Content.{SackContent, data_chunk, sack_chunk, i_data_chunk, forward_tsn_chunk, i_forward_tsn_chunk}
@@ -10,25 +10,27 @@ use Rattle.dcsctp_machine.specs.Settings.{IsValid, FitsOptions}
 use Rattle.dcsctp_machine.specs.Event.{Event, sent}
 use Rattle.dcsctp_machine.specs.Packet.{Plain, unworked, plain, plain_out, Content, Emission, content_in}
 use Rattle.dcsctp_machine.specs.Transfer.{Transfer, TrackerState, is_idle}
-use Rattle.dcsctp_machine.specs.Endpoint.{Endpoint, Core, closed, cookie_wait, cookie_echoed, open_in, established, shutdown_pending, shutdown_sent, shutdown_received, shutdown_ack_sent}
+use Rattle.dcsctp_machine.specs.Endpoint.{Endpoint, Core, closed, cookie_wait, cookie_echoed, open_in, established, shutdown_pending, shutdown_sent, shutdown_received, shutdown_ack_sent, held_in}
 use Rattle.dcsctp_machine.specs.Outcome.{Outcome, still, behind}
 use Rattle.dcsctp_machine.specs.Deadlines.{T1Runs}
 use Rattle.dcsctp_machine.specs.control.Choices.{plain_contents}
 use Rattle.dcsctp_machine.specs.turns.FlushOutcomes.{Told, amount_is_low, total_amount_is_low, message_is_sent, message_may_have_expired, message_has_expired, message_ends, told_event, Answer, answer_contents, filled, goes_out, asked, draft_to, next_draft, flush_of, Ask, first_ask, later_ask, where_fits, wants_sack, room_in, IsSackOf, Acknowledges, IsForward, IsData, FitsPlain, nothing_waits, Gives, GivesWhere, AnsweredBelow, Answered, Answers, at_limit, at_empty, after_packet, packets_allowed, FlushAnswers, flush_answered}
 use Rattle.dcsctp_machine.specs.Fitting.{AllSent, FitsHeld, FitsCore, FitsEndpoint, IsSendable, Sendable, SendablePacket, TurnFits}
-use Rattle.dcsctp_machine.proofs.FlushKeeps.{Keeps, asked_keeps, flush_keeps}
+use Rattle.dcsctp_machine.proofs.FlushKeeps.{Keeps, asked_keeps, begun_by, flush_keeps}
 use Rattle.dcsctp_refinement.proofs.Sent.{all_sent_append}
+use Rattle.dcsctp_machine.specs.turns.BegunResets.{BegunReset, last_assigned_tsn, request_contents}
+use Rattle.dcsctp_refinement.proofs.BegunSends.{begun_fits, begun_runs, peer_fits, begun_sends}
 
 -- ---- what stays
 
--- where the association, the options and T1 stay, all fits that did
-pub kept_fits : (e : Endpoint) (o : Outcome) → Keeps e o → FitsEndpoint e → FitsEndpoint o.after
-kept_fits e o keeps h =
+-- where the options and T1 stay, and the association but for a request, all fits that did
+pub kept_fits : (begun : Option BegunReset) (e : Endpoint) (o : Outcome) → Keeps begun e o → FitsEndpoint e → FitsEndpoint o.after
+kept_fits begun e o keeps h =
     record {
       valid = subst IsValid (sym keeps.options) h.valid;
       options = subst FitsOptions (sym keeps.options) h.options;
-      core = subst FitsCore (sym keeps.core) h.core;
-      t1 = subst (T1Runs o.after.core) (sym keeps.t1) (subst (λ (core : Core). T1Runs core e.timers.t1) (sym keeps.core) h.t1);
+      core = subst FitsCore (sym keeps.core) (begun_fits begun e h.core);
+      t1 = subst (T1Runs o.after.core) (sym keeps.t1) (subst (λ (core : Core). T1Runs core e.timers.t1) (sym keeps.core) (begun_runs begun e h.t1));
     }
 
 pub still_fits : (e : Endpoint) → FitsEndpoint e → TurnFits (still e)
@@ -92,30 +94,36 @@ plain_sendable (chunk ∷ first) second some each = (some.0, plain_sendable firs
 abbrev AnswerSends : Answer → Type 0
 AnswerSends answer = AllByRecursion Sendable (answer_contents answer)
 
-given_sends : (ask : Ask) (e : Endpoint) (draft : Emission) (transfer : Transfer) (answer : Answer) → Gives ask e draft transfer answer → AnswerSends answer
-given_sends ask e draft transfer answer h =
+given_sends : (ask : Ask) (e : Endpoint) (draft : Emission) (transfer : Transfer) (answer : Answer) → FitsEndpoint e → Gives ask e draft transfer answer → AnswerSends answer
+given_sends ask e draft transfer answer own h =
     let sacks : AllByRecursion Sendable (plain_contents h.sacks) =
     sacks_sendable (wants_sack ask e.below.queue transfer) (room_in e draft) transfer h.left.tracker h.sacks h.acknowledges in
     let forwards : AllByRecursion Sendable (plain_contents h.forwards) =
     forwards_sendable transfer.retransmission.message_interleaving h.forwards h.gives_up.kind h.gives_up.fit in
-    both_sendable (plain_contents answer.acknowledgements) (plain_contents answer.data_chunks)
+    let room : ℕ = room_in e (filled draft (plain_contents answer.acknowledgements)) in
+    let small : room < 2 ^ 16 = omega (arith, own.valid.greatest_size) in
+    let request : AllByRecursion Sendable (request_contents answer.begun) =
+    subst (λ (b : Option BegunReset). AllByRecursion Sendable (request_contents b)) (sym h.begins.is)
+    (begun_sends ask (held_in e.core) room (last_assigned_tsn h.begins.retransmission) h.begins.queue (peer_fits e.core own.core) (omega arith) small) in
+    both_sendable (plain_contents answer.acknowledgements) (request_contents answer.begun ++ plain_contents answer.data_chunks)
     (subst (λ (cs : List Plain). AllByRecursion Sendable (plain_contents cs)) (sym h.parts) (plain_sendable h.sacks h.forwards sacks forwards))
-    (data_sendable transfer.retransmission.message_interleaving answer.data_chunks h.kind h.fit)
+    (both_sendable (request_contents answer.begun) (plain_contents answer.data_chunks) request
+    (data_sendable transfer.retransmission.message_interleaving answer.data_chunks h.kind h.fit))
 
 nothing_sends : (e : Endpoint) (answer : Answer) → answer ≡ nothing_waits e → AnswerSends answer
 nothing_sends e answer is = subst AnswerSends (sym is) tt
 
-where_sends : (idle : Bool) (ask : Ask) (e : Endpoint) (draft : Emission) (transfer : Transfer) (answer : Answer) → GivesWhere idle ask e draft transfer answer → AnswerSends answer
-where_sends true ask e draft transfer answer h = nothing_sends e answer h
-where_sends false ask e draft transfer answer h = given_sends ask e draft transfer answer h
+where_sends : (idle : Bool) (ask : Ask) (e : Endpoint) (draft : Emission) (transfer : Transfer) (answer : Answer) → FitsEndpoint e → GivesWhere idle ask e draft transfer answer → AnswerSends answer
+where_sends true ask e draft transfer answer own h = nothing_sends e answer h
+where_sends false ask e draft transfer answer own h = given_sends ask e draft transfer answer own h
 
-below_sends : (ask : Ask) (e : Endpoint) (draft : Emission) (answer : Answer) (transfer : Option Transfer) → AnsweredBelow ask e draft answer transfer → AnswerSends answer
-below_sends ask e draft answer None h = nothing_sends e answer h
-below_sends ask e draft answer (Some transfer) h = where_sends (is_idle e.below.queue transfer) ask e draft transfer answer h
+below_sends : (ask : Ask) (e : Endpoint) (draft : Emission) (answer : Answer) (transfer : Option Transfer) → FitsEndpoint e → AnsweredBelow ask e draft answer transfer → AnswerSends answer
+below_sends ask e draft answer None own h = nothing_sends e answer h
+below_sends ask e draft answer (Some transfer) own h = where_sends (is_idle e.below.queue transfer) ask e draft transfer answer own h
 
 -- ---- its packets
 
-told_sends : (told : List Told) → AllSent IsSendable (map told_event told)
+pub told_sends : (told : List Told) → AllSent IsSendable (map told_event told)
 told_sends [] = tt
 told_sends (amount_is_low stream ∷ told) = (tt, told_sends told)
 told_sends (total_amount_is_low ∷ told) = (tt, told_sends told)
@@ -131,10 +139,10 @@ goes_out_sends e told with_checksum tag (content ∷ contents) before tag_fits e
     all_sent_append IsSendable told (sent (record { with_checksum = with_checksum; packet = record { tag = tag; contents = content ∷ contents } }) ∷ []) before
     (record { tag = tag_fits; contents = each }, tt)
 
-asked_sends : (ask : Ask) (e : Endpoint) (draft : Emission) (answer : Answer) → Answered ask e draft answer → IsSendable draft → AllSent IsSendable (asked e draft answer).events
-asked_sends ask e draft answer h good =
+asked_sends : (ask : Ask) (e : Endpoint) (draft : Emission) (answer : Answer) → FitsEndpoint e → Answered ask e draft answer → IsSendable draft → AllSent IsSendable (asked e draft answer).events
+asked_sends ask e draft answer own h good =
     goes_out_sends answer.after (map told_event answer.told) draft.with_checksum draft.packet.tag (filled draft (answer_contents answer)).packet.contents (told_sends answer.told) good.tag
-    (both_sendable draft.packet.contents (answer_contents answer) good.contents (below_sends ask e draft answer e.below.transfer h.by_transfer))
+    (both_sendable draft.packet.contents (answer_contents answer) good.contents (below_sends ask e draft answer e.below.transfer own h.by_transfer))
 
 pub draft_sendable : (held : Held) → FitsHeld held → IsSendable (draft_to held)
 draft_sendable held fits = record { tag = fits.peer.tag; contents = tt }
@@ -152,12 +160,12 @@ next_sendable (open_in shutdown_ack_sent my held) draft own good = absurd own
 flush_sends : (ask : Ask) (n : ℕ) (e : Endpoint) (draft : Emission) (answers : List Answer) → Answers ask n e draft answers → FitsEndpoint e → IsSendable draft
     → AllSent IsSendable (flush_of e draft answers).events
 flush_sends _ _ _ _ _ (at_limit ask e draft) h good = tt
-flush_sends _ _ _ _ _ (at_empty ask more e draft answer is empty) h good = all_sent_append IsSendable (asked e draft answer).events [] (asked_sends ask e draft answer is good) tt
+flush_sends _ _ _ _ _ (at_empty ask more e draft answer is empty) h good = all_sent_append IsSendable (asked e draft answer).events [] (asked_sends ask e draft answer h is good) tt
 flush_sends _ _ _ _ _ (after_packet ask more e draft answer answers is some rest) h good =
     let after : Endpoint = (asked e draft answer).after in
     let next : Emission = next_draft e.core draft in
-    all_sent_append IsSendable (asked e draft answer).events (flush_of after next answers).events (asked_sends ask e draft answer is good)
-    (flush_sends later_ask more after next answers rest (kept_fits e (asked e draft answer) (asked_keeps ask e draft answer is) h) (next_sendable e.core draft h.core good))
+    all_sent_append IsSendable (asked e draft answer).events (flush_of after next answers).events (asked_sends ask e draft answer h is good)
+    (flush_sends later_ask more after next answers rest (kept_fits answer.begun e (asked e draft answer) (asked_keeps ask e draft answer is) h) (next_sendable e.core draft h.core good))
 
 -- ---- the flush
 
@@ -165,7 +173,7 @@ pub flush_fits : (e : Endpoint) (draft : Emission) (answers : List Answer) → F
 flush_fits e draft answers allowed h good =
     let n : ℕ = packets_allowed e.options.max_burst e.core in
     record {
-      after = kept_fits e (flush_of e draft answers) (flush_keeps first_ask n e draft answers allowed) h;
+      after = kept_fits (begun_by answers) e (flush_of e draft answers) (flush_keeps first_ask n e draft answers allowed) h;
       sends = flush_sends first_ask n e draft answers allowed h good;
     }
 

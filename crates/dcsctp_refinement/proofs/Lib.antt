@@ -1,11 +1,12 @@
 mod Aborting
+mod ActMoves
+mod BegunSends
 mod Bytes
 mod DataFits
 mod Deliver
 mod ExpiryMoves
 pub mod Follow
 mod FlushFits
-mod FlushMoves
 mod Fresh
 mod HandshakeEnds
 mod HandshakeReads
@@ -16,6 +17,7 @@ mod Idle
 mod IdleTurns
 mod Moves
 mod PlainFits
+mod RequestAgain
 mod Resets
 mod Sendable
 mod Sent

@@ -30,7 +30,7 @@ use Rattle.dcsctp_agreement.proofs.Alone.{packet_turns}
 use Rattle.dcsctp_refinement.proofs.DataFits.{end_fits}
 use Rattle.dcsctp_refinement.proofs.Deliver.{IsSent, sent_at, reads_as_sent, Fits, ChunksFit, EndFits, chunk_turns_fit, nothing_ends, packet_end_fits, acks_sendable}
 use Rattle.dcsctp_refinement.proofs.Follow.{Went, Followed, after_last, follow_turns, follow_idle}
-use Rattle.dcsctp_refinement.proofs.FlushMoves.{FlushFollows, flush_follows}
+use Rattle.dcsctp_refinement.proofs.ActMoves.{ActFollows, act_follows}
 use Rattle.dcsctp_refinement.proofs.TurnsFit.{connect_fits}
 
 -- the laws below that the runs of sockets rest on
@@ -168,7 +168,7 @@ begin_rests e (open_in shutdown_ack_sent my held) has o fits turn = absurd fits
 pub flush_moves : Below → (options : Options) (turns : List Turned) (side : SideState) (theirs : List Effect) (t : Turned) → Followed options turns side
     → ControlledAct (endpoint_after options turns) flushes t.outcome → TurnFits t.outcome → SideMoves options turns side theirs (t ∷ [])
 flush_moves law options turns side theirs t h controlled fits =
-    let followed : FlushFollows options turns side t = flush_follows law.effects_mean options turns side t h controlled fits in
+    let followed : ActFollows options turns side flushes t = act_follows law.effects_mean options turns side flushes t (λ p q core choices. refl) h controlled fits in
     moves_once options turns side theirs (t ∷ []) (does flushes) (flush_change side.core followed.choices ∷ []) (followed.choices, refl) followed.follows
 
 -- The end of a packet is one.

@@ -7,9 +7,10 @@ use Rattle.dcsctp_machine.specs.declared.word.Word.TheVariants.{U32}
 use Rattle.dcsctp_machine.specs.Packet.{Introduction, Content, init, init_ack, cookie_echo, cookie_ack, re_config, abort, shutdown, shutdown_ack, shutdown_complete, plain, Emission}
 use Rattle.dcsctp_machine.specs.Endpoint.{Endpoint, Core, closed, cookie_wait, cookie_echoed, open_in, established, shutdown_pending, shutdown_sent, shutdown_received, shutdown_ack_sent, fresh_endpoint}
 use Rattle.dcsctp_machine.specs.Outcome.{Outcome, quiet, sends as sends_packet, fits, emits, to_peer}
-use Rattle.dcsctp_machine.proofs.DataLemmas.{flushed_act, end_at, send_at, take_at}
+use Rattle.dcsctp_machine.proofs.DataLemmas.{flushed_act, end_at, send_at, resets_at, take_at}
+use Rattle.dcsctp_machine.specs.turns.OwnTimers.{timer_act}
 use Rattle.dcsctp_machine.proofs.HeartbeatLemmas.{timer_controlled}
-use Rattle.dcsctp_machine.specs.Turn.{Input, arrival, refusal, packet_begins, chunk_input, packet_ends, act_input, user_sets, user_sends, user_takes, timer_expires, time_passes, has_data}
+use Rattle.dcsctp_machine.specs.Turn.{Input, arrival, refusal, packet_begins, chunk_input, packet_ends, act_input, user_sets, user_sends, user_resets, user_takes, timer_expires, time_passes, has_data}
 use Rattle.dcsctp_machine.specs.turns.HandshakeOutcomes.{pair_from, renewed_pair, renewed_outcome, init_ack_emission, init_outcome}
 use Rattle.dcsctp_machine.specs.control.Effect.{Effect, draws, sends, holds, connects, ends, begins, completes, fails, accepts, performs, noted, Change}
 use Rattle.dcsctp_machine.specs.control.Acts.{Act, shutdown_repeats, flushes}
@@ -142,8 +143,9 @@ turn_ends law e packet_ends t h = by_act law.answers e flushes t (flushed_act e 
 turn_ends law e (act_input act) t h = by_act law.answers e act t (law.acts e act t.outcome h.comes)
 turn_ends law e (user_sets setting) t h = same_ends t _ h.comes nothing_ended
 turn_ends law e (user_sends messages) t h = by_act law.answers e flushes t (flushed_act e t.outcome (send_at e messages t.outcome h.comes))
+turn_ends law e (user_resets ids) t h = by_act law.answers e flushes t (flushed_act e t.outcome (resets_at e ids t.outcome h.comes))
 turn_ends law e user_takes t h = by_act law.answers e flushes t (flushed_act e t.outcome (take_at e e.below.transfer t.outcome h.comes))
-turn_ends law e (timer_expires timer) t h = by_act law.answers e flushes t (timer_controlled e timer t.outcome h.comes)
+turn_ends law e (timer_expires timer) t h = by_act law.answers e (timer_act e timer) t (timer_controlled e timer t.outcome h.comes)
 turn_ends law e (time_passes moment) t h = same_ends t _ h.comes nothing_ended
 
 -- ---- a run

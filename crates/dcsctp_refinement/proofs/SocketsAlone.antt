@@ -5,9 +5,10 @@ use Rattle.dcsctp_machine.specs.Settings.{IsValid, SameOptions}
 use Rattle.dcsctp_machine.specs.Packet.{Content, init, init_ack, cookie_echo, cookie_ack, re_config, abort, shutdown, shutdown_ack, shutdown_complete, plain}
 use Rattle.dcsctp_machine.specs.Endpoint.{Endpoint, Core, fresh_endpoint}
 use Rattle.dcsctp_machine.specs.Outcome.{Outcome}
-use Rattle.dcsctp_machine.proofs.DataLemmas.{flushed_act, end_at, send_at, take_at}
+use Rattle.dcsctp_machine.proofs.DataLemmas.{flushed_act, end_at, send_at, resets_at, take_at}
+use Rattle.dcsctp_machine.specs.turns.OwnTimers.{timer_act}
 use Rattle.dcsctp_machine.proofs.HeartbeatLemmas.{timer_controlled}
-use Rattle.dcsctp_machine.specs.Turn.{Input, arrival, refusal, packet_begins, chunk_input, packet_ends, act_input, user_sets, user_sends, user_takes, timer_expires, time_passes, has_data}
+use Rattle.dcsctp_machine.specs.Turn.{Input, arrival, refusal, packet_begins, chunk_input, packet_ends, act_input, user_sets, user_sends, user_resets, user_takes, timer_expires, time_passes, has_data}
 use Rattle.dcsctp_machine.specs.control.Effect.{Effect, noted, Change}
 use Rattle.dcsctp_machine.specs.control.Choices.{Choices}
 use Rattle.dcsctp_machine.specs.control.Acts.{Act, connect, t1_expires, shut_down, step_of_shutdown, shutdown_repeats, abort_with, hands_over, flushes, request_again, act_change, chunk_change}
@@ -77,8 +78,9 @@ turn_moves law e packet_ends t h valid = moves_by_act e flushes t (flushed_act e
 turn_moves law e (act_input act) t h valid = moves_by_act e act t (law.acts e act t.outcome h.comes)
 turn_moves law e (user_sets setting) t h valid = rests_as e t _ h.comes refl refl refl
 turn_moves law e (user_sends messages) t h valid = moves_by_act e flushes t (flushed_act e t.outcome (send_at e messages t.outcome h.comes))
+turn_moves law e (user_resets ids) t h valid = moves_by_act e flushes t (flushed_act e t.outcome (resets_at e ids t.outcome h.comes))
 turn_moves law e user_takes t h valid = moves_by_act e flushes t (flushed_act e t.outcome (take_at e e.below.transfer t.outcome h.comes))
-turn_moves law e (timer_expires timer) t h valid = moves_by_act e flushes t (timer_controlled e timer t.outcome h.comes)
+turn_moves law e (timer_expires timer) t h valid = moves_by_act e (timer_act e timer) t (timer_controlled e timer t.outcome h.comes)
 turn_moves law e (time_passes moment) t h valid = rests_as e t _ h.comes refl refl refl
 
 -- ---- the longest message has no part in it

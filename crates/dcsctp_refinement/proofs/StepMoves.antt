@@ -5,10 +5,10 @@ use Rattle.std.specs.List.{slice_get}
 use Rattle.dcsctp_machine.specs.declared.ends.AbortReason.{AbortReason}
 use Rattle.dcsctp_machine.specs.declared.ends.AbortReason.TheVariants.{CloseCalled, TooManyErrors}
 use Rattle.dcsctp_machine.specs.declared.options.Options.{Options}
-use Rattle.dcsctp_machine.specs.Schedule.{connect_call, close_call, advance_call, set_call, send_call, send_many_call, take_call, StepContent, call_step, delivery_step}
+use Rattle.dcsctp_machine.specs.Schedule.{connect_call, close_call, advance_call, set_call, send_call, send_many_call, reset_call, take_call, StepContent, call_step, delivery_step}
 use Rattle.dcsctp_machine.specs.Settings.{FitsOptions}
 use Rattle.dcsctp_machine.specs.Endpoint.{Endpoint, Core}
-use Rattle.dcsctp_machine.specs.Turn.{Input, ActTurn, act_input, user_sets, user_sends, user_takes}
+use Rattle.dcsctp_machine.specs.Turn.{Input, ActTurn, act_input, user_sets, user_sends, user_resets, user_takes}
 use Rattle.dcsctp_machine.specs.TimeTurns.{timers_in, DueTurns, MomentTurns, TimeTurns}
 use Rattle.dcsctp_machine.specs.Outcome.{Outcome}
 use Rattle.dcsctp_machine.specs.Controlled.{IsControlled, ControlledAct}
@@ -21,8 +21,8 @@ use Rattle.dcsctp_machine.specs.control.Effect.{Effect, Change, unchanged}
 use Rattle.dcsctp_machine.specs.control.Acts.{abort_with, flushes, act_change}
 use Rattle.dcsctp_machine.specs.World.{SideState, acted, does}
 use Rattle.dcsctp_machine.specs.Sockets.{endpoint_after, packets_shown, StepTurns}
-use Rattle.dcsctp_machine.proofs.DataLemmas.{flushed_act, send_at, take_at}
-use Rattle.dcsctp_refinement.proofs.DataFits.{send_fits, take_fits}
+use Rattle.dcsctp_machine.proofs.DataLemmas.{flushed_act, send_at, resets_at, take_at}
+use Rattle.dcsctp_refinement.proofs.DataFits.{send_fits, resets_fits, take_fits}
 use Rattle.dcsctp_refinement.proofs.Aborting.{aborting_fits}
 use Rattle.dcsctp_refinement.proofs.Follow.{Followed, after_last, follow_turns, follow_idle}
 use Rattle.dcsctp_refinement.proofs.TimeMoves.{clock_follows}
@@ -108,7 +108,7 @@ setting_moves options turns side theirs setting [] h turn = absurd turn
 setting_moves options turns side theirs setting (t ∷ []) h turn = rests options turns side theirs (t ∷ []) (setting_follows options turns side setting t h turn.0.comes)
 setting_moves options turns side theirs setting (t ∷ next ∷ more) h turn = absurd turn.1
 
--- ---- what the user sends and takes
+-- ---- what the user sends, resets and takes
 
 -- Each turn of this input is a flush of the association.
 abbrev IsFlush : Endpoint → Input → Type 0
@@ -124,6 +124,9 @@ flush_once law options turns side theirs input (t ∷ next ∷ more) h is_flush 
 send_is_flush : (e : Endpoint) (messages : List Sending) → FitsEndpoint e → IsFlush e (user_sends messages)
 send_is_flush e messages fits t turn = (flushed_act e t.outcome (send_at e messages t.outcome turn.comes), send_fits e messages t.outcome turn.comes fits)
 
+resets_is_flush : (e : Endpoint) (ids : List ℕ) → FitsEndpoint e → IsFlush e (user_resets ids)
+resets_is_flush e ids fits t turn = (flushed_act e t.outcome (resets_at e ids t.outcome turn.comes), resets_fits e ids t.outcome turn.comes fits)
+
 take_is_flush : (e : Endpoint) → FitsEndpoint e → IsFlush e user_takes
 take_is_flush e fits t turn =
     (flushed_act e t.outcome (take_at e e.below.transfer t.outcome turn.comes), take_fits e e.below.transfer t.outcome turn.comes fits)
@@ -132,6 +135,11 @@ send_moves : Below → (options : Options) (turns : List Turned) (side : SideSta
     → Turns (endpoint_after options turns) (user_sends messages ∷ []) more → SideMoves options turns side theirs more
 send_moves law options turns side theirs messages more h turn =
     flush_once law options turns side theirs (user_sends messages) more h (send_is_flush (endpoint_after options turns) messages h.fits) turn
+
+resets_moves : Below → (options : Options) (turns : List Turned) (side : SideState) (theirs : List Effect) (ids : List ℕ) (more : List Turned) → Followed options turns side
+    → Turns (endpoint_after options turns) (user_resets ids ∷ []) more → SideMoves options turns side theirs more
+resets_moves law options turns side theirs ids more h turn =
+    flush_once law options turns side theirs (user_resets ids) more h (resets_is_flush (endpoint_after options turns) ids h.fits) turn
 
 take_moves : Below → (options : Options) (turns : List Turned) (side : SideState) (theirs : List Effect) (more : List Turned) → Followed options turns side
     → Turns (endpoint_after options turns) (user_takes ∷ []) more → SideMoves options turns side theirs more
@@ -152,6 +160,7 @@ step_moves law options other turns others side theirs (call_step which (send_cal
     send_moves law options turns side theirs.past (sending_of how message ∷ []) more h done
 step_moves law options other turns others side theirs (call_step which (send_many_call messages how)) more h k fits done =
     send_moves law options turns side theirs.past (map (sending_of how) messages) more h done
+step_moves law options other turns others side theirs (call_step which (reset_call ids)) more h k fits done = resets_moves law options turns side theirs.past ids more h done
 step_moves law options other turns others side theirs (call_step which take_call) more h k fits done = take_moves law options turns side theirs.past more h done
 step_moves law options other turns others side theirs (delivery_step which zero) more h k fits done = nothing_happens options turns side theirs.past more h done
 step_moves law options other turns others side theirs (delivery_step which (suc index)) more h k fits done =

@@ -3,14 +3,17 @@ use Rattle.std.proofs.Common.{◌==◌, ℕ, Bool, true, false, cond, Option, No
 use Rattle.dcsctp_machine.specs.declared.ends.Violation.{Violation}
 use Rattle.dcsctp_machine.specs.declared.ends.AbortReason.TheVariants as reasons
 use Rattle.dcsctp_machine.specs.Packet.{Plain, plain, unknown, heartbeat, heartbeat_ack, unworked, Emission}
-use Rattle.dcsctp_machine.specs.Endpoint.{Endpoint, Core, closed, cookie_wait, cookie_echoed, open_in, established, shutdown_pending, shutdown_sent, shutdown_received, shutdown_ack_sent}
+use Rattle.dcsctp_machine.specs.Endpoint.{Endpoint, Core, closed, cookie_wait, cookie_echoed, open_in, established, shutdown_pending, shutdown_sent, shutdown_received, shutdown_ack_sent, OutstandingRequest, held_in}
 use Rattle.dcsctp_machine.specs.Outcome.{Outcome, still, quiet, sends, fits, to_peer}
 use Rattle.dcsctp_machine.specs.turns.EndOutcomes.{ShutdownAckTurn, ShutdownCompleteTurn}
 use Rattle.dcsctp_machine.specs.declared.association.Held.{Held}
 use Rattle.dcsctp_machine.specs.Cause.{Cause}
 use Rattle.dcsctp_wire.specs.Content.{ParameterContent, data_chunk, sack_chunk, error_chunk, i_data_chunk, forward_tsn_chunk, i_forward_tsn_chunk}
-use Rattle.dcsctp_machine.specs.turns.HeartbeatOutcomes.{heartbeat_outcome, info_in, counter_of, answered, heartbeat_ack_outcome, interval_expired, beating, heartbeat_emission, beat, interval_outcome}
-use Rattle.dcsctp_machine.specs.turns.OwnTimers.{OwnTimer, acknowledgement_delay, retransmission, heartbeat_interval, heartbeat_timeout, TimerTurn}
+use Rattle.dcsctp_machine.specs.turns.HeartbeatOutcomes.{heartbeat_outcome, info_in, counter_of, answered, heartbeat_ack_outcome, interval_expired, beating, heartbeat_emission, beat, interval_outcome, is_exhausted}
+use Rattle.dcsctp_machine.specs.turns.OwnTimers.{OwnTimer, acknowledgement_delay, retransmission, heartbeat_interval, heartbeat_timeout, reconfiguration, TimerTurn}
+use Rattle.dcsctp_machine.specs.turns.ReconfigurationOutcomes.{reset_again, request_emitted, request_unless, request_errors, request_expired, reconfiguration_outcome}
+use Rattle.dcsctp_machine.specs.Reconfiguration.{RequestedReset}
+use Rattle.dcsctp_machine.specs.control.FlushChanges.{reset_request}
 use Rattle.dcsctp_machine.specs.turns.PlainOutcomes.{PlainTurn, PlainTurnBy, violation_at, is_reported, after_unknown, unknown_bytes, unknown_told, error_outcome}
 use Rattle.dcsctp_refinement.proofs.T1Data.{data_up, forward_up, sack_up, delay_up, loss_up}
 use Rattle.dcsctp_refinement.proofs.T1Turns.{Awaits, Up, UpAfter, aborting_up}
@@ -60,11 +63,30 @@ interval_up e (cookie_wait my) h = h
 interval_up e (cookie_echoed my held cookie) h = beat_up (interval_expired e) held h
 interval_up e (open_in phase my held) h = beat_up (interval_expired e) held h
 
+-- ---- a request to reset streams again
+
+request_up : (e : Endpoint) (held : Held) (number : Option ℕ) (reset : RequestedReset) → Up e → UpAfter (request_emitted e held number reset)
+request_up e held None reset h = h
+request_up e held (Some number) reset h = sent_up (fits e (to_peer held (reset_request number reset))) e (to_peer held (reset_request number reset)) h
+
+unless_up : (b : Bool) (e : Endpoint) (held : Held) (reset : RequestedReset) → Up e → UpAfter (request_unless b e held reset)
+unless_up true e held reset h = h
+unless_up false e held reset h = request_up e held held.own_outstanding reset h
+
+reconfiguration_up : (e : Endpoint) (peer : Option Held) (request : Option OutstandingRequest) → Up e → UpAfter (reconfiguration_outcome e peer request)
+reconfiguration_up e None request h = h
+reconfiguration_up e (Some held) None h = h
+reconfiguration_up e (Some held) (Some request) h =
+    unless_up (is_exhausted e.options.max_retransmissions (request_errors e request)) (request_expired e request) held (reset_again (Some request)) h
+
+-- ---- each timer
+
 pub timer_up : (e : Endpoint) (timer : OwnTimer) (o : Outcome) → TimerTurn e timer o → Up e → UpAfter o
 timer_up e acknowledgement_delay o turn h = subst UpAfter (sym turn) (delay_up e e.below.transfer h)
 timer_up e retransmission o turn h = loss_up e e.below.transfer o turn h
 timer_up e heartbeat_interval o turn h = subst UpAfter (sym turn) (interval_up e e.core h)
 timer_up e heartbeat_timeout o turn h = subst UpAfter (sym turn) h
+timer_up e reconfiguration o turn h = subst UpAfter (sym turn) (reconfiguration_up e (held_in e.core) e.outstanding h)
 
 -- ---- each
 

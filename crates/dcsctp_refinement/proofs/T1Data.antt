@@ -12,6 +12,7 @@ use Rattle.dcsctp_machine.specs.control.Choices.{plain_contents}
 use Rattle.dcsctp_machine.specs.turns.FlushOutcomes.{Answer, goes_out, draft_to}
 use Rattle.dcsctp_machine.specs.turns.TransferMoves.{acknowledged}
 use Rattle.dcsctp_machine.specs.turns.MessageOutcomes.{MessageRefusal, message_refusal, Sending, queue_by, queue_one, queue_all, takes_any, SendAnswers, send_by, SendTurn}
+use Rattle.dcsctp_machine.specs.turns.PreparedResets.{ResetRefusal, reset_refusal, with_queue, OwnResetsWhere, OwnResetsTurn}
 use Rattle.dcsctp_machine.specs.turns.DataOutcomes.{with_transfer, with_tracker, flush_by, AnswersTo, FlushTurn, no_user_data_text, no_user_data_outcome, ReceiveTurn, DataTurn, ForwardTurn, is_sack_valid, FastRetransmits, sack_taken, AcknowledgesBy, SackWhere, SackBy, SackTurn, acknowledging, EndWhere, EndsBy, TakeWhere, TakeTurn, delay_outcome, LossTurn}
 use Rattle.dcsctp_machine.proofs.FlushKeeps.{goes_out_keeps}
 use Rattle.dcsctp_refinement.proofs.T1Turns.{Up, UpAfter, kept_up, flush_up}
@@ -56,7 +57,7 @@ fast_up true e held transfer o turn h =
     let base : Endpoint = with_transfer e turn.left in
     let with_checksum : Bool = (draft_to held).with_checksum in
     subst UpAfter (sym turn.is)
-    (kept_up base (goes_out base [] with_checksum held.peer.tag (plain_contents turn.chunks)) (goes_out_keeps base [] with_checksum held.peer.tag (plain_contents turn.chunks)) h)
+    (kept_up None base (goes_out base [] with_checksum held.peer.tag (plain_contents turn.chunks)) (goes_out_keeps base [] with_checksum held.peer.tag (plain_contents turn.chunks)) h)
 
 acknowledges_up : (e : Endpoint) (held : Held) (transfer : Transfer) (o : Outcome) → AcknowledgesBy e held transfer o → Up e → UpAfter o
 acknowledges_up e held transfer o turn h =
@@ -113,6 +114,15 @@ send_where_up true e answers allowed h = to_up e (held_in e.core) answers allowe
 pub send_up : (e : Endpoint) (messages : List Sending) (o : Outcome) → SendTurn e messages o → Up e → UpAfter o
 send_up e messages o turn h =
     subst UpAfter (sym turn.2) (send_where_up (takes_any e messages) (queue_all e messages).after turn.0 turn.1 (queue_all_up e messages h))
+
+-- ---- own streams that the user resets
+
+resets_where_up : (refusal : Option ResetRefusal) (e : Endpoint) (ids : List ℕ) (o : Outcome) → OwnResetsWhere refusal e ids o → Up e → UpAfter o
+resets_where_up None e ids o turn h = subst UpAfter (sym turn.is) (flush_turn_up (with_queue e turn.queue) turn.flushed turn.flushes h)
+resets_where_up (Some refusal) e ids o turn h = subst UpAfter (sym turn) h
+
+pub resets_up : (e : Endpoint) (ids : List ℕ) (o : Outcome) → OwnResetsTurn e ids o → Up e → UpAfter o
+resets_up e ids o turn h = resets_where_up (reset_refusal e) e ids o turn h
 
 -- ---- timers
 

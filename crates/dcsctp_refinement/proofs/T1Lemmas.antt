@@ -6,7 +6,7 @@ use Rattle.dcsctp_machine.specs.Packet.{Content, init, init_ack, cookie_echo, co
 use Rattle.dcsctp_machine.specs.Deadlines.{T1Runs}
 use Rattle.dcsctp_machine.specs.Endpoint.{Endpoint, Core, closed, cookie_wait, cookie_echoed, open_in, established, shutdown_pending, shutdown_sent, shutdown_received, shutdown_ack_sent, RunningTimer, going_on, fresh_endpoint}
 use Rattle.dcsctp_machine.specs.Outcome.{Outcome, still}
-use Rattle.dcsctp_machine.specs.Turn.{Input, arrival, refusal, packet_begins, chunk_input, packet_ends, act_input, user_sets, user_sends, user_takes, timer_expires, time_passes, has_data, BeginTurn, ContentTurn, ActTurn}
+use Rattle.dcsctp_machine.specs.Turn.{Input, arrival, refusal, packet_begins, chunk_input, packet_ends, act_input, user_sets, user_sends, user_resets, user_takes, timer_expires, time_passes, has_data, BeginTurn, ContentTurn, ActTurn}
 use Rattle.dcsctp_machine.specs.turns.TimerOutcomes.{t1_goes_on}
 use Rattle.dcsctp_machine.specs.control.Acts.{Act, connect, t1_expires, shut_down, step_of_shutdown, shutdown_repeats, abort_with, hands_over, flushes, request_again}
 use Rattle.dcsctp_machine.specs.CallTurns.{Turned, IsTurn, AlongTurns, after_all}
@@ -16,7 +16,7 @@ use Rattle.dcsctp_refinement.specs.Deadlines.{SocketsRunT1}
 use Rattle.dcsctp_refinement.proofs.Resets.{reset_up}
 use Rattle.dcsctp_refinement.proofs.T1Turns.{Awaits, Up, UpAfter, init_up, connect_up, init_ack_up, cookie_ack_up, echo_up, abort_up, aborting_up, goes_on_up, again_up, gives_up_up}
 use Rattle.dcsctp_refinement.proofs.T1Chunks.{plain_up, timer_up, shutdown_ack_up, shutdown_complete_up}
-use Rattle.dcsctp_refinement.proofs.T1Data.{flush_turn_up, end_up, take_up, send_up}
+use Rattle.dcsctp_refinement.proofs.T1Data.{flush_turn_up, end_up, take_up, send_up, resets_up}
 
 -- ---- what may come
 
@@ -72,6 +72,7 @@ these_may_come =
       flushed = tt;
       sets = λ setting. tt;
       sends = λ messages. tt;
+      resets = λ ids. tt;
       takes = tt;
       own_expires = λ timer. tt;
       passes = λ moment. tt;
@@ -127,6 +128,7 @@ turn_up e packet_ends t may turn h = end_up e e.below.transfer t.outcome turn.co
 turn_up e (act_input act) t may turn h = act_up e act t.outcome may turn.comes h
 turn_up e (user_sets setting) t may turn h = subst UpAfter (sym turn.comes) h
 turn_up e (user_sends messages) t may turn h = send_up e messages t.outcome turn.comes h
+turn_up e (user_resets ids) t may turn h = resets_up e ids t.outcome turn.comes h
 turn_up e user_takes t may turn h = take_up e e.below.transfer t.outcome turn.comes h
 turn_up e (timer_expires timer) t may turn h = timer_up e timer t.outcome turn.comes h
 turn_up e (time_passes moment) t may turn h = subst UpAfter (sym turn.comes) h

@@ -19,7 +19,8 @@ use Rattle.dcsctp_machine.specs.turns.HandshakeOutcomes.{pair_from, renewed_pair
 use Rattle.dcsctp_machine.specs.turns.TimerOutcomes.{AgainAnswers, again_by, t1_gives_up_outcome}
 use Rattle.dcsctp_machine.specs.turns.CookieEchoOutcomes.{established_by, acknowledgement, EstablishAnswers, establish_by, queue_kept, queue_begun, RestartAnswers, restart_by_where, MaintainAnswers, maintain_by, ResolvedAnswers, resolved_by, EchoedAnswers, cookie_echo_by}
 use Rattle.dcsctp_machine.specs.control.CookieEchoChanges.{held_by_cookie, Resolution, establish_new, restart, simultaneous_init, discard, maintain_existing, invalid_tag, resolve}
-use Rattle.dcsctp_machine.proofs.FlushKeeps.{Keeps, flush_keeps}
+use Rattle.dcsctp_machine.proofs.FlushKeeps.{Keeps, begun_by, flush_keeps}
+use Rattle.dcsctp_machine.specs.turns.BegunResets.{BegunReset, core_asking, after_begun}
 
 -- T1 runs while the association connects, and no shutdown is under way: so far none begins.
 abbrev pub Awaits : Core → Option RunningTimer → Type 0
@@ -50,12 +51,26 @@ emits_up e words emission h = packet_up (fits e emission) e words [] emission h
 
 -- ---- a flush
 
--- where the association and T1 stay
-pub kept_up : (e : Endpoint) (o : Outcome) → Keeps e o → Up e → UpAfter o
-kept_up e o keeps h = subst (Awaits o.after.core) (sym keeps.t1) (subst (λ (core : Core). Awaits core e.timers.t1) (sym keeps.core) h)
+asking_awaits : (core : Core) (t1 : Option RunningTimer) → Awaits core t1 → Awaits (core_asking core) t1
+asking_awaits closed t1 h = h
+asking_awaits (cookie_wait my) t1 h = h
+asking_awaits (cookie_echoed my held cookie) t1 h = h
+asking_awaits (open_in established my held) t1 h = h
+asking_awaits (open_in shutdown_pending my held) t1 h = absurd h
+asking_awaits (open_in shutdown_sent my held) t1 h = absurd h
+asking_awaits (open_in shutdown_received my held) t1 h = absurd h
+asking_awaits (open_in shutdown_ack_sent my held) t1 h = absurd h
+
+begun_up : (begun : Option BegunReset) (e : Endpoint) → Up e → Awaits (after_begun begun e).core e.timers.t1
+begun_up None e h = h
+begun_up (Some begun) e h = asking_awaits e.core e.timers.t1 h
+
+-- where T1 stays, and the association but for a request
+pub kept_up : (begun : Option BegunReset) (e : Endpoint) (o : Outcome) → Keeps begun e o → Up e → UpAfter o
+kept_up begun e o keeps h = subst (Awaits o.after.core) (sym keeps.t1) (subst (λ (core : Core). Awaits core e.timers.t1) (sym keeps.core) (begun_up begun e h))
 
 pub flush_up : (e : Endpoint) (draft : Emission) (answers : List Answer) → FlushAnswers e draft answers → Up e → UpAfter (flush_of e draft answers)
-flush_up e draft answers allowed h = kept_up e (flush_of e draft answers) (flush_keeps first_ask (packets_allowed e.options.max_burst e.core) e draft answers allowed) h
+flush_up e draft answers allowed h = kept_up (begun_by answers) e (flush_of e draft answers) (flush_keeps first_ask (packets_allowed e.options.max_burst e.core) e draft answers allowed) h
 
 echoed_up : (b : Bool) (e : Endpoint) (words : List Word) (tag : ℕ) (cookie : List ℕ) (answers : List Answer) → EchoAnswers b e tag cookie answers → Up e
     → UpAfter (cond b (flush_answered answers e words [] true tag (cookie_echo cookie ∷ [])) (quiet e words []))

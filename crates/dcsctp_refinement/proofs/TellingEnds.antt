@@ -7,9 +7,10 @@ use Rattle.dcsctp_machine.specs.Packet.{Introduction, Content, init, init_ack, c
 use Rattle.dcsctp_machine.specs.Endpoint.{Endpoint, Core, cookie_wait, cookie_echoed, open_in, established, shutdown_pending, shutdown_sent, shutdown_received, shutdown_ack_sent, fresh_endpoint}
 use Rattle.dcsctp_machine.specs.Endpoint as machine
 use Rattle.dcsctp_machine.specs.Outcome.{Outcome, still, quiet, sends as sends_packet, fits, to_peer, emits}
-use Rattle.dcsctp_machine.proofs.DataLemmas.{flushed_act, end_at, send_at, take_at}
+use Rattle.dcsctp_machine.proofs.DataLemmas.{flushed_act, end_at, send_at, resets_at, take_at}
+use Rattle.dcsctp_machine.specs.turns.OwnTimers.{timer_act}
 use Rattle.dcsctp_machine.proofs.HeartbeatLemmas.{timer_controlled}
-use Rattle.dcsctp_machine.specs.Turn.{Input, arrival, refusal, packet_begins, chunk_input, packet_ends, act_input, user_sets, user_sends, user_takes, timer_expires, time_passes, has_data}
+use Rattle.dcsctp_machine.specs.Turn.{Input, arrival, refusal, packet_begins, chunk_input, packet_ends, act_input, user_sets, user_sends, user_resets, user_takes, timer_expires, time_passes, has_data}
 use Rattle.dcsctp_machine.specs.turns.HandshakeOutcomes.{pair_from, renewed_pair, init_ack_emission, init_outcome}
 use Rattle.dcsctp_machine.specs.control.Effect.{Effect, draws, sends, holds, connects, ends, begins, completes, fails, accepts, performs, Change}
 use Rattle.dcsctp_machine.specs.control.Acts.{Act, act_change, shutdown_repeats, flushes}
@@ -154,8 +155,9 @@ turn_tells law e packet_ends t h = by_act law.once e flushes t (flushed_act e t.
 turn_tells law e (act_input act) t h = by_act law.once e act t (law.acts e act t.outcome h.comes)
 turn_tells law e (user_sets setting) t h = rests e t _ h.comes (record { core = refl; none = refl })
 turn_tells law e (user_sends messages) t h = by_act law.once e flushes t (flushed_act e t.outcome (send_at e messages t.outcome h.comes))
+turn_tells law e (user_resets ids) t h = by_act law.once e flushes t (flushed_act e t.outcome (resets_at e ids t.outcome h.comes))
 turn_tells law e user_takes t h = by_act law.once e flushes t (flushed_act e t.outcome (take_at e e.below.transfer t.outcome h.comes))
-turn_tells law e (timer_expires timer) t h = by_act law.once e flushes t (timer_controlled e timer t.outcome h.comes)
+turn_tells law e (timer_expires timer) t h = by_act law.once e (timer_act e timer) t (timer_controlled e timer t.outcome h.comes)
 turn_tells law e (time_passes moment) t h = rests e t _ h.comes (record { core = refl; none = refl })
 
 pub ends_are_told : EndLaws → SocketsTellEnds

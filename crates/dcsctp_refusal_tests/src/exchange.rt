@@ -9,11 +9,11 @@ use crate::messages::How::{self, Lives, Named, Plain, SentOnce, Unordered};
 use crate::told::Told::{self, Event, Packet};
 use crate::told::{
     ABORT, COOKIE_ACK, COOKIE_ECHO, DATA, FORWARD_TSN, HEARTBEAT, HEARTBEAT_ACK, INIT, INIT_ACK,
-    SACK, is_told,
+    RE_CONFIG, SACK, is_told,
 };
 use Act::{
-    Closes, Connects, Expires, Loses, Passes, Reads, Sends, SendsMany, SetsPriority, SetsThreshold,
-    Takes, TakesNoPackets,
+    Closes, Connects, Expires, Loses, Passes, Reads, Resets, Sends, SendsMany, SetsPriority,
+    SetsThreshold, Takes, TakesNoPackets,
 };
 use Name::{A, B};
 use dcsctp_socket::SocketEvent;
@@ -48,6 +48,9 @@ pub enum Act {
 
     /// It sends messages on these streams, of so many bytes each, by one call.
     SendsMany(&'static [(u16, u16)]),
+
+    /// It resets these streams.
+    Resets(&'static [u16]),
 
     /// It gives this stream this priority.
     SetsPriority(u16, u16),
@@ -187,6 +190,25 @@ pub static EXCHANGE: &[Step] = &[
     (A, Passes(30_600), &[]),
     (A, Takes, &[Packet(&[HEARTBEAT_ACK])]),
     (B, Takes, &[]),
+    // Streams are reset; the second request is lost, and goes out again after the retransmission timeout (RFC 6525,
+    // sections 5.1 and 5.2).
+    (A, Resets(&[2, 1]), &[Packet(&[RE_CONFIG])]),
+    (
+        B,
+        Takes,
+        &[Event("incoming reset", 2), Packet(&[RE_CONFIG])],
+    ),
+    (A, Takes, &[Event("reset performed", 2)]),
+    (A, Resets(&[3]), &[Packet(&[RE_CONFIG])]),
+    (B, Loses, &[]),
+    (A, Expires(31_000), &[Packet(&[RE_CONFIG])]),
+    (B, Passes(31_000), &[]),
+    (
+        B,
+        Takes,
+        &[Event("incoming reset", 1), Packet(&[RE_CONFIG])],
+    ),
+    (A, Takes, &[Event("reset performed", 1)]),
     // Some messages are taken, and the others are lost with the association (RFC 9260, section 9.1). So many events
     // stand then that the last one of each side needs room: it was doubled as it grew, to 16 at A and 4 at B.
     (A, Reads(2), &[]),

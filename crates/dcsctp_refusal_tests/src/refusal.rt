@@ -62,6 +62,7 @@ fn each_call_fails(rt: &impl Abort, own: &mut Side) {
         ("close", socket.close().err()),
         ("send", socket.send(one, &plain).err()),
         ("send_many", socket.send_many(several, &plain).err()),
+        ("reset_streams", socket.reset_streams(&[StreamId(2)]).err()),
         (
             "set_stream_priority",
             socket.set_stream_priority(StreamId(2), 7).err(),

@@ -78,6 +78,7 @@ impl Side {
             Act::TakesNoPackets(count) => Ok(self.take_no_packets(count)),
             Act::Sends(stream, size, how) => self.send(rt, stream, size, how),
             Act::SendsMany(rows) => self.send_many(rt, rows),
+            Act::Resets(ids) => self.reset(rt, ids),
             Act::SetsPriority(stream, priority) => {
                 Ok(self.socket.set_stream_priority(StreamId(stream), priority))
             }
@@ -139,6 +140,21 @@ impl Side {
             Err(fault) => Ok(Err(fault)),
             Ok(answer) => {
                 assert_eq!(rt; answer, Ok(()), "several messages");
+                Ok(Ok(()))
+            }
+        }
+    }
+
+    // Resets streams, which has to be taken.
+    fn reset(&mut self, rt: &impl Abort, ids: &[u16]) -> Answer {
+        let mut streams = Vec::with_capacity(self.alloc, ids.len())?;
+        for id in ids {
+            streams.push(StreamId(*id))?;
+        }
+        match self.socket.reset_streams(&streams) {
+            Err(fault) => Ok(Err(fault)),
+            Ok(answer) => {
+                assert_eq!(rt; answer, Ok(()), "a reset of streams");
                 Ok(Ok(()))
             }
         }

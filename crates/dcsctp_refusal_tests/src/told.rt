@@ -2,7 +2,7 @@
 
 use dcsctp_socket::{ErrorKind, SocketEvent};
 
-// The types of chunks (RFC 9260, section 3.2; RFC 3758, section 3.2).
+// The types of chunks (RFC 9260, section 3.2; RFC 3758, section 3.2; RFC 6525, section 3.1).
 pub const DATA: u8 = 0;
 
 pub const INIT: u8 = 1;
@@ -21,6 +21,8 @@ pub const COOKIE_ECHO: u8 = 10;
 
 pub const COOKIE_ACK: u8 = 11;
 
+pub const RE_CONFIG: u8 = 130;
+
 pub const FORWARD_TSN: u8 = 192;
 
 /// An event.
@@ -29,7 +31,7 @@ pub enum Told {
     /// A packet with chunks of these types, and no others.
     Packet(&'static [u8]),
 
-    /// Another event, by its name and the number of its stream or message, else 0.
+    /// Another event, by its name and the number of its stream or message, or how many streams it names, else 0.
     Event(&'static str, u64),
 }
 
@@ -64,6 +66,8 @@ fn name_of(event: &SocketEvent) -> (&'static str, u64) {
         SocketEvent::OnClosed() => ("closed", 0),
         SocketEvent::OnAborted(ErrorKind::PeerReported, _) => ("aborted by the peer", 0),
         SocketEvent::OnError(ErrorKind::ParseFailed, _) => ("unreadable", 0),
+        SocketEvent::OnIncomingStreamReset(ids) => ("incoming reset", ids.len() as u64),
+        SocketEvent::OnStreamsResetPerformed(ids) => ("reset performed", ids.len() as u64),
         SocketEvent::OnBufferedAmountLow(id) => ("low", u64::from(id.0)),
         SocketEvent::OnLifecycleMessageFullySent(id) => ("fully sent", id.value()),
         SocketEvent::OnLifecycleMessageMaybeExpired(id) => ("maybe expired", id.value()),

@@ -1,9 +1,9 @@
 -- A RE-CONFIG comes in: its streams, its answers, and all of its turn.
-use Rattle.std.proofs.Common.{◌≡◌, ◌==◌, ◌+◌, ℕ, nat_le, not, length, arith, Bool, true, false, Option, None, Some, Result, Ok, Err, List, [], ◌∷◌, ◌++◌, map, refl, sym, ap, subst, ◌∙◌, append_assoc}
+use Rattle.std.proofs.Common.{◌≡◌, ◌==◌, ◌+◌, ℕ, nat_le, not, length, arith, Bool, true, false, Option, None, Some, Result, Ok, Err, List, [], ◌∷◌, ◌++◌, map, take, refl, sym, ap, subst, ◌∙◌, append_assoc}
 use Rattle.std.specs.Prelude.{is_some, IsTrue, ◌↔◌, ◌≢◌}
 use Rattle.std.specs.Option.{option_map}
 use Rattle.std.proofs.lemmas.Bool.Decides.{nat_tests}
-use Rattle.std.proofs.lemmas.List.{append-nil}
+use Rattle.std.proofs.lemmas.List.{append-nil, map-append}
 use Rattle.rand_core.specs.Stream.{Stream}
 use Rattle.dcsctp_wire.specs.declared.parameter.Parameter.{Parameter}
 use Rattle.dcsctp_wire.specs.Content.{re_config_chunk}
@@ -18,14 +18,14 @@ use Rattle.dcsctp_machine.specs.Event.{Event, sent, incoming_stream_reset}
 use Rattle.dcsctp_machine.specs.Packet.{Content, re_config, chunk_out, Emission, emission_bytes}
 use Rattle.dcsctp_machine.specs.Reconfiguration.{RequestedReset, ResetParameter, outgoing_reset_request, incoming_reset_request, reconfiguration_response, other_reset_parameter, reset_parameter_content}
 use Rattle.dcsctp_machine.specs.Transfer.{Transfer}
-use Rattle.dcsctp_machine.specs.Endpoint.{Endpoint, Core, held_in}
+use Rattle.dcsctp_machine.specs.Endpoint.{Endpoint, Core, cookie_echoed, open_in, established, held_in}
 use Rattle.std.specs.Prelude.{if◌then◌else◌}
 use Rattle.dcsctp_machine.specs.Outcome.{Outcome, still, quiet, sends, emits, counted, fits, noting, to_peer}
 use Rattle.dcsctp_machine.specs.control.Effect.{Effect, drawn_in}
 use Rattle.dcsctp_machine.specs.control.ResetChanges.{Place, again, next, astray, place_of, Answered, incoming_by, Informed, informed_by, is_outstanding, informed_where, WorkedParameters, work_parameters, work_chunk}
 use Rattle.dcsctp_machine.specs.turns.FlushOutcomes.{is_none, Answer, draft_to, flush_of, first_ask, packets_allowed}
 use Rattle.dcsctp_machine.specs.turns.DataOutcomes.{flush_by, AnswersTo, FlushTurn}
-use Rattle.dcsctp_machine.specs.turns.ResetOutcomes.{requested_in, is_reached, worked_in, OwnAnswer, unanswered, own_answer, in_progress_among, answered_in, worked_part, own_streams, has_reset, ResetsBelow, ResetsStreams, their_streams, told_of, core_with, resets_worked, reset_refusal_text, responses_outcome, responses_by, ResponseAnswers, resets_by, WorksResets, ResetTurn}
+use Rattle.dcsctp_machine.specs.turns.ResetOutcomes.{requested_in, is_reached, worked_in, OwnAnswer, unanswered, retried, over, own_moved, own_answer, in_progress_among, answered_in, worked_part, own_streams, has_reset, ResetsBelow, ResetsStreams, their_streams, told_of, core_with, resets_worked, reset_refusal_text, responses_outcome, responses_by, ResponseAnswers, resets_by, WorksResets, ResetTurn}
 use Rattle.dcsctp_machine.proofs.AnswerLemmas.{any_answers}
 use Rattle.dcsctp_machine.proofs.TurnLemmas.{drawn_in-append}
 use Rattle.dcsctp_api.specs.Calls.{user_event}
@@ -33,19 +33,23 @@ use Rattle.dcsctp_core.specs.declared.context.Context.{Context}
 use Rattle.dcsctp_core.specs.declared.state.State.{State}
 use Rattle.dcsctp_core.specs.declared.transmission_control_block.TransmissionControlBlock.{TransmissionControlBlock}
 use Rattle.dcsctp_core.specs.declared.state.State.TheVariants.{Closed, CookieWait, CookieEchoed, Established}
-use Rattle.dcsctp_core.specs.View.{View, Drawn, tcb_of, held_of, core_of, transfer_of, endpoint_of, view_of, Moves}
+use Rattle.dcsctp_core.specs.Reconfiguring.{request_in}
+use Rattle.dcsctp_core.specs.View.{View, Drawn, number_of, tcb_of, held_of, core_of, outstanding_of, transfer_of, endpoint_of, view_of, Moves}
 use Rattle.dcsctp_core.specs.Handling.{Tries, Emits, emitted, report_turn, FlushAt, TakesIn, CutIn, TakesOne}
 use Rattle.dcsctp_core.specs.Below.{ChangesBelow}
 use Rattle.dcsctp_core.proofs.BelowLemmas.{below_view, same_view}
 use Rattle.dcsctp_core.proofs.Moving.{moves_still}
-use Rattle.dcsctp_core.proofs.Composing.{behind, Adds, Draws, moves_behind, moves_as, cut_behind, cut_first, moves_noting, cut_noting}
+use Rattle.dcsctp_core.proofs.Composing.{behind, Adds, Draws, moves_behind, moves_as, cut_behind, cut_first, cut_longer, moves_noting, cut_noting}
 use Rattle.dcsctp_resets.specs.declared.requests.LastRequest.{LastRequest}
 use Rattle.dcsctp_resets.specs.declared.requests.Treatment.{Treatment}
 use Rattle.dcsctp_resets.specs.declared.requests.Treatment.TheVariants.{Nothing, Deferred, Performed}
 use Rattle.dcsctp_resets.specs.declared.requests.WorkedRequests.{WorkedRequests}
-use Rattle.dcsctp_resets.specs.Requests.{reset_parameters, held_with, is_performed, treated_events, WorksChunk}
+use Rattle.dcsctp_resets.specs.declared.requests.OwnAnswer.TheVariants as own
+use Rattle.dcsctp_resets.specs.declared.requests.OwnAnswer as requests
+use Rattle.dcsctp_resets.specs.Requests.{reset_parameters, held_with, held_out, held_now, is_performed, treated_events, left_out, own_kind, own_events, told_so, WorksChunk}
 use Rattle.dcsctp_resets.proofs.RequestLemmas.{resets_of, has_both}
-use Rattle.dcsctp_resets.specs.Resets.{ReConfigAt, last_in, core_asked, asked_at, left_at, is_performed_for, told_for, Treats, responses_to, responses_turn, FinishAt}
+use Rattle.dcsctp_resets.specs.Resets.{ReConfigAt, last_in, core_asked, asked_at, left_at, is_performed_for, told_for, Treats, core_settled, settled_at, own_told, told_both, told_where, responses_to, responses_turn, FinishAt}
+use Rattle.dcsctp_resets.proofs.SettlingLemmas.{none_numbered}
 
 -- ---- the answers, and what waits behind them
 
@@ -208,7 +212,7 @@ emitted_where stream v emission bytes true is =
 emitted_where stream v emission bytes false is = record { endpoint = refl; events = sym (append-nil v.events); words = sym (append-nil v.words); pairs = sym (append-nil v.pairs); drawn = refl }
 
 -- a packet of one chunk to the peer
-emits_moves : {R : Type 0} (stream : R → Stream) (v : View R) (held : Held) (content : Content)
+pub emits_moves : {R : Type 0} (stream : R → Stream) (v : View R) (held : Held) (content : Content)
     → Moves stream v (emits v.endpoint [] (to_peer held content)) (emitted (held.capabilities.zero_checksum_method.0 == 0) held.peer.tag (chunk_out content) v)
 emits_moves {R = R} stream v held content =
     let options = v.endpoint.options in
@@ -259,6 +263,11 @@ finish_by stream old mid (Err fault) new held b parameters responses is holds fi
 
 -- ---- what was decided of the streams
 
+abbrev CarriedAs : {R : Type 0} → WorkedRequests → Option RequestedReset → Context R → View R → Type 0
+CarriedAs w reset old new =
+    (left : Option Transfer) × ResetsBelow (is_performed_for w.treatment reset) (transfer_of old.state) left
+    × (new ≡ left_at (settled_at (own_kind w.own) (view_of old)) left (told_where w reset old))
+
 abbrev TreatsAs : {R : Type 0} → Treatment → Option RequestedReset → Context R → View R → Type 0
 TreatsAs treatment reset old new =
     (left : Option Transfer) × ResetsBelow (is_performed_for treatment reset) (transfer_of old.state) left × (new ≡ left_at (view_of old) left (told_for treatment reset))
@@ -274,24 +283,45 @@ deferred_by {R = R} old (Err fault) new reset same = ap (λ (v : View R). v.even
 
 -- ---- all of it
 
--- a peer that is held, with what lies below
+-- a peer that is held, with the own request
 pub record Peer (state : State) : Type 0 where
   pub my : Pair
   pub held : Held
   pub holds : held_in (core_of state) ≡ Some held
-  pub none : held.own_outstanding ≡ None
-  pub last : held_with held (last_in state) ≡ held
-  pub asked : (last : LastRequest) → core_asked last (core_of state) ≡ core_with (core_of state) (held_with held last)
-  pub keeps : (last : LastRequest) → held_in (core_asked last (core_of state)) ≡ Some (held_with held last)
+  pub own : number_of (request_in state) ≡ held.own_outstanding
+  pub last : held_out (number_of (request_in state)) (held_with held (last_in state)) ≡ held
+  pub settled : (answer : OwnAnswer) (last : LastRequest) → core_settled answer (core_asked last (core_of state)) ≡ core_with (core_of state) (held_out (left_out answer held.own_outstanding) (held_with held last))
+  pub keeps : (held : Held) → held_in (core_with (core_of state) held) ≡ Some held
   pub turn : (e : Endpoint) (parameters : List ResetParameter) (o : Outcome) → WorksResets e my held parameters o → ResetTurn e (core_of state) parameters o
+
+echoed_settled : (my : Pair) (held : Held) (cookie : List ℕ) (answer : OwnAnswer) (last : LastRequest)
+    → core_settled answer (core_asked last (cookie_echoed my held cookie)) ≡ core_with (cookie_echoed my held cookie) (held_out (left_out answer held.own_outstanding) (held_with held last))
+echoed_settled my held cookie unanswered last = refl
+echoed_settled my held cookie retried last = refl
+echoed_settled my held cookie over last = refl
+
+open_settled : (my : Pair) (held : Held) (answer : OwnAnswer) (last : LastRequest)
+    → core_settled answer (core_asked last (open_in established my held)) ≡ core_with (open_in established my held) (held_out (left_out answer held.own_outstanding) (held_with held last))
+open_settled my held unanswered last = refl
+open_settled my held retried last = refl
+open_settled my held over last = refl
 
 pub peer_of : (state : State) → is_some (transfer_of state) ≡ true → Peer state
 peer_of Closed some = absurd (cc)
 peer_of (CookieWait wait) some = absurd (cc)
 peer_of (CookieEchoed echoed) some =
-    record { my = echoed.tcb.my; held = held_of echoed.tcb; holds = refl; none = refl; last = refl; asked = λ last. refl; keeps = λ last. refl; turn = λ e parameters o h. h }
+    record {
+      my = echoed.tcb.my;
+      held = held_of echoed.tcb;
+      holds = refl;
+      own = refl;
+      last = refl;
+      settled = echoed_settled echoed.tcb.my (held_of echoed.tcb) echoed.cookie.items;
+      keeps = λ held. refl;
+      turn = λ e parameters o h. h;
+    }
 peer_of (Established tcb) some =
-    record { my = tcb.my; held = held_of tcb; holds = refl; none = refl; last = refl; asked = λ last. refl; keeps = λ last. refl; turn = λ e parameters o h. h }
+    record { my = tcb.my; held = held_of tcb; holds = refl; own = refl; last = refl; settled = open_settled tcb.my (held_of tcb); keeps = λ held. refl; turn = λ e parameters o h. h }
 
 -- Without one nothing happens.
 pub unheld : (e : Endpoint) (state : State) (parameters : List ResetParameter) → is_some (transfer_of state) ≡ false → ResetTurn e (core_of state) parameters (still e)
@@ -378,6 +408,24 @@ wanted Deferred (Some reset) none = record { performed = refl; told = λ ports. 
 wanted Nothing None none = record { performed = refl; told = λ ports. refl }
 wanted Nothing (Some reset) none = record { performed = refl; told = λ ports. refl }
 
+-- what is told of the own request, and of both
+own_user : (ports : Ports) (answer : requests.OwnAnswer) (streams : List ℕ) → map (user_event ports) (own_events answer streams) ≡ own_told answer streams
+own_user ports own.Unanswered streams = refl
+own_user ports own.InProgress streams = refl
+own_user ports own.Performed streams = refl
+own_user ports own.Failed streams = refl
+
+both_user : (ports : Ports) (first : Bool) (answer : requests.OwnAnswer) (treatment : Treatment) (reset : Option RequestedReset) (streams : List ℕ) → Wanted treatment reset
+    → map (user_event ports) (told_so first answer treatment (their_streams reset) streams) ≡ told_both first answer treatment reset streams
+both_user ports true answer treatment reset streams w =
+    map-append (user_event ports) (own_events answer streams) (treated_events treatment (their_streams reset))
+    ∙ ap (λ (es : List (Event (List ℕ))). es ++ map (user_event ports) (treated_events treatment (their_streams reset))) (own_user ports answer streams)
+    ∙ ap (λ (es : List (Event (List ℕ))). own_told answer streams ++ es) (w.told ports)
+both_user ports false answer treatment reset streams w =
+    map-append (user_event ports) (treated_events treatment (their_streams reset)) (own_events answer streams)
+    ∙ ap (λ (es : List (Event (List ℕ))). es ++ map (user_event ports) (own_events answer streams)) (w.told ports)
+    ∙ ap (λ (es : List (Event (List ℕ))). told_for treatment reset ++ es) (own_user ports answer streams)
+
 -- behind what the user is told
 responses_behind : (refused : Bool) (e : Endpoint) (told : List (Event Emission)) (held : Held) (parameters responses : List ResetParameter) (answers : List Answer)
     → responses_by refused e told held parameters responses answers ≡ behind [] told (responses_by refused e [] held parameters responses answers)
@@ -387,13 +435,9 @@ responses_behind false e told held parameters responses answers =
     let flush : Outcome = flush_of sent.after (draft_to held) answers in
     ap (λ (events : List (Event Emission)). let o : Outcome = record flush { events = events } in o) (append_assoc told sent.events flush.events)
 
--- Nothing becomes of an own request where there is none.
-nobody_asked : (own after : Option ℕ) (parameters : List ResetParameter) → own ≡ None → own_answer own after (in_progress_among own parameters) ≡ unanswered
-nobody_asked own after parameters none = ap (λ (o : Option ℕ). own_answer o after (in_progress_among o parameters)) none
-
 -- what the parameters make of the numbers, as the code keeps it
 abbrev kept_by : Held → List Effect → WorkedRequests → WorkedParameters
-kept_by held effects w = record { held = held_with held w.last; effects = effects; answers = reset_parameters w.responses.items; is_refused = w.is_refused }
+kept_by held effects w = record { held = held_now held w; effects = effects; answers = reset_parameters w.responses.items; is_refused = w.is_refused }
 
 abbrev WorksBy : Endpoint → Held → List ResetParameter → Outcome → WorkedParameters → Type 0
 WorksBy e held parameters o worked =
@@ -404,132 +448,225 @@ WorksBy e held parameters o worked =
 works_resets : (e : Endpoint) (my : Pair) (held : Held) (parameters : List ResetParameter) (o : Outcome) → WorksBy e held parameters o (worked_in e my held parameters) → WorksResets e my held parameters o
 works_resets e my held parameters o h = record { left = h.0; below = h.1; answers = h.2; allowed = h.3; is = h.4 }
 
+-- what was made of the parameters of a chunk that came in
+abbrev WorkedAt : {R : Type 0} → Context R → List ResetParameter → WorkedRequests → Type 0
+WorkedAt old parameters w = WorksChunk (is_reached (transfer_of old.state) (requested_in parameters)) (last_in old.state) (number_of (request_in old.state)) parameters w
+
 -- What the code keeps is what the machine makes of the parameters.
-kept_is : {R : Type 0} (old : Context R) (p : Peer old.state) (parameters : List ResetParameter) (w : WorkedRequests) (h : WorksChunk (is_reached (transfer_of old.state) (requested_in parameters)) (last_in old.state) parameters w)
-    → worked_in (endpoint_of old) p.my p.held parameters ≡ kept_by p.held (h.effects p.held) w
+kept_is : {R : Type 0} (old : Context R) (p : Peer old.state) (parameters : List ResetParameter) (w : WorkedRequests) (h : WorkedAt old parameters w)
+    → worked_in (endpoint_of old) p.my p.held parameters ≡ kept_by p.held (h.effects p.my p.held) w
 kept_is old p parameters w h =
-    ap (work_all p.my (is_reached (transfer_of old.state) (requested_in parameters)) parameters) (sym p.last) ∙ h.whole p.my p.held p.none
+    ap (work_all p.my (is_reached (transfer_of old.state) (requested_in parameters)) parameters) (sym p.last) ∙ h.whole p.my p.held
   where
     work_all : Pair → Bool → List ResetParameter → Held → WorkedParameters
     work_all my reached ps held = work_chunk my reached held ps
 
-wanted_of : {R : Type 0} (old : Context R) (p : Peer old.state) (parameters : List ResetParameter) (w : WorkedRequests) (h : WorksChunk (is_reached (transfer_of old.state) (requested_in parameters)) (last_in old.state) parameters w)
-    → Wanted w.treatment (requested_in parameters)
+wanted_of : {R : Type 0} (old : Context R) (p : Peer old.state) (parameters : List ResetParameter) (w : WorkedRequests) (h : WorkedAt old parameters w) → Wanted w.treatment (requested_in parameters)
 wanted_of old p parameters w h =
     wanted w.treatment (requested_in parameters)
-    (λ none. sym (h.treats p.held).has ∙ ap (λ (x : WorkedParameters). has_reset x.effects) (sym (kept_is old p parameters w h))
+    (λ none. sym (h.treats p.my p.held).has ∙ ap (λ (x : WorkedParameters). has_reset x.effects) (sym (kept_is old p parameters w h))
     ∙ chunk_unrequested p.my (is_reached (transfer_of old.state) (requested_in parameters)) p.held parameters none)
 
--- the view once the streams were treated
-abbrev pub treated_view : {R : Type 0} → Context R → WorkedRequests → List ResetParameter → Option Transfer → View R
-treated_view old w parameters left = left_at (asked_at w.last (view_of old)) left (told_for w.treatment (requested_in parameters))
+-- Nothing becomes of an own request where there is none.
+kind_none : (answer : requests.OwnAnswer) → own_kind answer ≡ unanswered → answer ≡ own.Unanswered
+kind_none own.Unanswered is = refl
+kind_none own.InProgress is = absurd (cc)
+kind_none own.Performed is = absurd (cc)
+kind_none own.Failed is = absurd (cc)
+
+pub nobody_asked : {R : Type 0} (old asked : Context R) (w : WorkedRequests) (parameters : List ResetParameter) → WorkedAt old parameters w → view_of asked ≡ asked_at w.last (view_of old)
+    → outstanding_of asked.state ≡ None → w.own ≡ own.Unanswered
+nobody_asked {R = R} old asked w parameters h here none =
+    let before : outstanding_of old.state ≡ None = sym (ap (λ (v : View R). v.endpoint.outstanding) here) ∙ none in
+    kind_none w.own (h.own ∙ ap (λ (n : Option ℕ). own_answer n w.outstanding (in_progress_among n (worked_part false parameters))) (none_numbered old.state before))
+
+-- the view once both requests were treated
+abbrev pub carried_view : {R : Type 0} → Context R → WorkedRequests → List ResetParameter → Option Transfer → View R
+carried_view old w parameters left =
+    left_at (settled_at (own_kind w.own) (asked_at w.last (view_of old))) left (told_both w.is_own_first w.own w.treatment (requested_in parameters) (own_streams (outstanding_of old.state)))
 
 -- the events that were added by then
-abbrev told_by : WorkedRequests → List ResetParameter → List (Event Emission)
-told_by w parameters = treated_events w.treatment (their_streams (requested_in parameters))
+abbrev told_by : {R : Type 0} → Context R → WorkedRequests → List ResetParameter → List (Event Emission)
+told_by old w parameters = told_so w.is_own_first w.own w.treatment (their_streams (requested_in parameters)) (own_streams (outstanding_of old.state))
 
 -- its outcome, from that of what comes behind
 abbrev all_of : List Effect → List (Event Emission) → Outcome → Outcome
 all_of effects told later = noting effects (behind [] told later)
 
-works_by : {R : Type 0} (old : Context R) (p : Peer old.state) (parameters : List ResetParameter) (w : WorkedRequests) (h : WorksChunk (is_reached (transfer_of old.state) (requested_in parameters)) (last_in old.state) parameters w)
-    (left : Option Transfer) (later : Outcome) → ResetsBelow (is_performed_for w.treatment (requested_in parameters)) (transfer_of old.state) left
-    → FinishAt (held_with p.held w.last) w.is_refused parameters (reset_parameters w.responses.items) (treated_view old w parameters left) later
-    → WorksBy (endpoint_of old) p.held parameters (all_of (h.effects p.held) (told_by w parameters) later) (kept_by p.held (h.effects p.held) w)
+-- where what comes behind begins
+begins_there : (answer : OwnAnswer) (e : Endpoint) (asked core : Core) (left : Option Transfer) (held : Held) → core_settled answer asked ≡ core_with e.core held
+    → (let moved : Endpoint = own_moved answer (record e { core = asked }) in record moved { core = core_settled answer asked; below = record moved.below { transfer = left } }) ≡ resets_worked e answer held left
+begins_there unanswered e asked core left held is = ap (λ (c : Core). let x : Endpoint = record e { core = c; below = record e.below { transfer = left } } in x) is
+begins_there retried e asked core left held is =
+    let moved : Endpoint = own_moved retried e in ap (λ (c : Core). let x : Endpoint = record moved { core = c; below = record moved.below { transfer = left } } in x) is
+begins_there over e asked core left held is =
+    let moved : Endpoint = own_moved over e in ap (λ (c : Core). let x : Endpoint = record moved { core = c; below = record moved.below { transfer = left } } in x) is
+
+-- what is known of the association by then
+core_by : {R : Type 0} (old : Context R) (p : Peer old.state) (parameters : List ResetParameter) (w : WorkedRequests) → WorkedAt old parameters w
+    → core_settled (own_kind w.own) (core_asked w.last (core_of old.state)) ≡ core_with (core_of old.state) (held_now p.held w)
+core_by old p parameters w h =
+    p.settled (own_kind w.own) w.last
+    ∙ ap (λ (n : Option ℕ). core_with (core_of old.state) (held_out n (held_with p.held w.last))) (ap (left_out (own_kind w.own)) (sym p.own) ∙ sym h.left)
+
+-- what becomes of the own request
+kind_by : {R : Type 0} (old : Context R) (p : Peer old.state) (parameters : List ResetParameter) (w : WorkedRequests) (h : WorkedAt old parameters w)
+    → own_kind w.own ≡ answered_in p.held (kept_by p.held (h.effects p.my p.held) w) parameters
+kind_by old p parameters w h = h.own ∙ ap (λ (n : Option ℕ). own_answer n w.outstanding (in_progress_among n (worked_part false parameters))) p.own
+
+endpoint_by : {R : Type 0} (old : Context R) (p : Peer old.state) (parameters : List ResetParameter) (w : WorkedRequests) (h : WorkedAt old parameters w) (left : Option Transfer)
+    → (carried_view old w parameters left).endpoint ≡ resets_worked (endpoint_of old) (answered_in p.held (kept_by p.held (h.effects p.my p.held) w) parameters) (held_now p.held w) left
+endpoint_by old p parameters w h left =
+    begins_there (own_kind w.own) (endpoint_of old) (core_asked w.last (core_of old.state)) (core_of old.state) left (held_now p.held w) (core_by old p parameters w h)
+    ∙ ap (λ (a : OwnAnswer). resets_worked (endpoint_of old) a (held_now p.held w) left) (kind_by old p parameters w h)
+
+works_by : {R : Type 0} (old : Context R) (p : Peer old.state) (parameters : List ResetParameter) (w : WorkedRequests) (h : WorkedAt old parameters w) (left : Option Transfer) (later : Outcome)
+    → ResetsBelow (is_performed_for w.treatment (requested_in parameters)) (transfer_of old.state) left
+    → FinishAt (held_now p.held w) w.is_refused parameters (reset_parameters w.responses.items) (carried_view old w parameters left) later
+    → WorksBy (endpoint_of old) p.held parameters (all_of (h.effects p.my p.held) (told_by old w parameters) later) (kept_by p.held (h.effects p.my p.held) w)
 works_by old p parameters w h left later below turn =
     let e : Endpoint = endpoint_of old in
-    let held : Held = held_with p.held w.last in
+    let held : Held = held_now p.held w in
     let responses : List ResetParameter = reset_parameters w.responses.items in
-    let kept : WorkedParameters = kept_by p.held (h.effects p.held) w in
-    let here : Endpoint = (treated_view old w parameters left).endpoint in
-    let there : here ≡ resets_worked e (answered_in p.held kept parameters) held left =
-    ap (λ (c : Core). let x : Endpoint = record e { core = c; below = record e.below { transfer = left } } in x) (p.asked w.last)
-    ∙ ap (λ (a : OwnAnswer). resets_worked e a held left) (sym (nobody_asked p.held.own_outstanding held.own_outstanding (worked_part false parameters) p.none)) in
-    let told : told_of e parameters kept.effects ≡ told_by w parameters = (h.treats p.held).told (their_streams (requested_in parameters)) (own_streams e.outstanding) in (
+    let effects : List Effect = h.effects p.my p.held in
+    let kept : WorkedParameters = kept_by p.held effects w in
+    let here : Endpoint = (carried_view old w parameters left).endpoint in
+    let there : here ≡ resets_worked e (answered_in p.held kept parameters) held left = endpoint_by old p parameters w h left in
+    let told : told_of e parameters kept.effects ≡ told_by old w parameters = (h.treats p.my p.held).told (their_streams (requested_in parameters)) (own_streams e.outstanding) in (
       left,
-      subst (λ (b : Bool). ResetsBelow b e.below.transfer left) (sym ((h.treats p.held).has ∙ (wanted_of old p parameters w h).performed)) below,
+      subst (λ (b : Bool). ResetsBelow b e.below.transfer left) (sym ((h.treats p.my p.held).has ∙ (wanted_of old p parameters w h).performed)) below,
       turn.0,
       subst (λ (x : Endpoint). ResponseAnswers w.is_refused x held responses turn.0) there turn.1,
-      ap (all_of (h.effects p.held) (told_by w parameters)) turn.2
-          ∙ ap (λ (o : Outcome). let x : Outcome = noting (h.effects p.held) o in x) (sym (responses_behind w.is_refused here (told_by w parameters) held parameters responses turn.0))
-          ∙ ap (λ (x : Endpoint). let o : Outcome = noting (h.effects p.held) (responses_by w.is_refused x (told_by w parameters) held parameters responses turn.0) in o) there
-          ∙ ap (λ (events : List (Event Emission)). let o : Outcome = noting (h.effects p.held) (responses_by w.is_refused (resets_worked e (answered_in p.held kept parameters) held left) events held parameters responses turn.0) in o) (sym told),
+      ap (all_of effects (told_by old w parameters)) turn.2
+          ∙ ap (λ (o : Outcome). let x : Outcome = noting effects o in x) (sym (responses_behind w.is_refused here (told_by old w parameters) held parameters responses turn.0))
+          ∙ ap (λ (x : Endpoint). let o : Outcome = noting effects (responses_by w.is_refused x (told_by old w parameters) held parameters responses turn.0) in o) there
+          ∙ ap (λ (events : List (Event Emission)). let o : Outcome = noting effects (responses_by w.is_refused (resets_worked e (answered_in p.held kept parameters) held left) events held parameters responses turn.0) in o) (sym told),
     )
 
-turn_by : {R : Type 0} (old : Context R) (p : Peer old.state) (parameters : List ResetParameter) (w : WorkedRequests) (h : WorksChunk (is_reached (transfer_of old.state) (requested_in parameters)) (last_in old.state) parameters w)
-    (left : Option Transfer) (later : Outcome) → ResetsBelow (is_performed_for w.treatment (requested_in parameters)) (transfer_of old.state) left
-    → FinishAt (held_with p.held w.last) w.is_refused parameters (reset_parameters w.responses.items) (treated_view old w parameters left) later
-    → ReConfigAt parameters (view_of old) (all_of (h.effects p.held) (told_by w parameters) later)
+turn_by : {R : Type 0} (old : Context R) (p : Peer old.state) (parameters : List ResetParameter) (w : WorkedRequests) (h : WorkedAt old parameters w) (left : Option Transfer) (later : Outcome)
+    → ResetsBelow (is_performed_for w.treatment (requested_in parameters)) (transfer_of old.state) left
+    → FinishAt (held_now p.held w) w.is_refused parameters (reset_parameters w.responses.items) (carried_view old w parameters left) later
+    → ReConfigAt parameters (view_of old) (all_of (h.effects p.my p.held) (told_by old w parameters) later)
 turn_by old p parameters w h left later below turn =
-    let o : Outcome = all_of (h.effects p.held) (told_by w parameters) later in
+    let o : Outcome = all_of (h.effects p.my p.held) (told_by old w parameters) later in
     p.turn (endpoint_of old) parameters o
     (works_resets (endpoint_of old) p.my p.held parameters o
     (subst (WorksBy (endpoint_of old) p.held parameters o) (sym (kept_is old p parameters w h)) (works_by old p parameters w h left later below turn)))
 
-adds_told : {R : Type 0} (old : Context R) (p : Peer old.state) (parameters : List ResetParameter) (w : WorkedRequests) (h : WorksChunk (is_reached (transfer_of old.state) (requested_in parameters)) (last_in old.state) parameters w)
-    (left : Option Transfer) → Adds (view_of old) (told_by w parameters) (treated_view old w parameters left)
+-- Its ports stay.
+settled_ports : (answer : OwnAnswer) (e : Endpoint) → ports_of (own_moved answer e).options ≡ ports_of e.options
+settled_ports unanswered e = refl
+settled_ports retried e = refl
+settled_ports over e = refl
+
+adds_told : {R : Type 0} (old : Context R) (p : Peer old.state) (parameters : List ResetParameter) (w : WorkedRequests) (h : WorkedAt old parameters w) (left : Option Transfer)
+    → Adds (view_of old) (told_by old w parameters) (carried_view old w parameters left)
 adds_told old p parameters w h left =
-    record { ports = refl; events = ap (λ (es : List (Event (List ℕ))). (view_of old).events ++ es) (sym ((wanted_of old p parameters w h).told (ports_of old.options))) }
+    record {
+      ports = settled_ports (own_kind w.own) (record (endpoint_of old) { core = core_asked w.last (core_of old.state) });
+      events = ap (λ (es : List (Event (List ℕ))). (view_of old).events ++ es)
+          (sym (both_user (ports_of old.options) w.is_own_first w.own w.treatment (requested_in parameters) (own_streams (outstanding_of old.state)) (wanted_of old p parameters w h)));
+    }
 
 drawn_behind : (front rest : List Effect) → drawn_in front ≡ [] → drawn_in rest ≡ drawn_in (front ++ rest)
 drawn_behind front rest none = ap (λ (ps : List Pair). ps ++ drawn_in rest) (sym none) ∙ sym (drawn_in-append front rest)
 
-pub reset_done : {R : Type 0} (stream : R → Stream) (old : Context R) (p : Peer old.state) (parameters : List ResetParameter) (w : WorkedRequests)
-    → WorksChunk (is_reached (transfer_of old.state) (requested_in parameters)) (last_in old.state) parameters w → (left : Option Transfer) → ResetsBelow (is_performed_for w.treatment (requested_in parameters)) (transfer_of old.state) left
-    → (new : View R) → TakesIn stream (FinishAt (held_with p.held w.last) w.is_refused parameters (reset_parameters w.responses.items)) (treated_view old w parameters left) new → TakesIn stream (ReConfigAt parameters) (view_of old) new
+pub reset_done : {R : Type 0} (stream : R → Stream) (old : Context R) (p : Peer old.state) (parameters : List ResetParameter) (w : WorkedRequests) → WorkedAt old parameters w → (left : Option Transfer)
+    → ResetsBelow (is_performed_for w.treatment (requested_in parameters)) (transfer_of old.state) left
+    → (new : View R) → TakesIn stream (FinishAt (held_now p.held w) w.is_refused parameters (reset_parameters w.responses.items)) (carried_view old w parameters left) new → TakesIn stream (ReConfigAt parameters) (view_of old) new
 reset_done stream old p parameters w h left below new second =
-    let told : List (Event Emission) = told_by w parameters in
+    let told : List (Event Emission) = told_by old w parameters in
     record {
-      outcome = all_of (h.effects p.held) told second.outcome;
+      outcome = all_of (h.effects p.my p.held) told second.outcome;
       turn = turn_by old p parameters w h left second.outcome below second.turn;
-      moves = moves_noting stream (view_of old) new (h.effects p.held) (behind [] told second.outcome) (drawn_behind (h.effects p.held) second.outcome.effects (h.treats p.held).drawn)
-          (moves_behind stream (view_of old) (treated_view old w parameters left) new [] told second.outcome (adds_told old p parameters w h left)
+      moves = moves_noting stream (view_of old) new (h.effects p.my p.held) (behind [] told second.outcome) (drawn_behind (h.effects p.my p.held) second.outcome.effects (h.treats p.my p.held).drawn)
+          (moves_behind stream (view_of old) (carried_view old w parameters left) new [] told second.outcome (adds_told old p parameters w h left)
           (record { words = sym (append-nil (view_of old).words); pairs = refl; drawn = refl }) second.moves);
     }
 
-pub reset_cut : {R : Type 0} (old : Context R) (p : Peer old.state) (parameters : List ResetParameter) (w : WorkedRequests)
-    → WorksChunk (is_reached (transfer_of old.state) (requested_in parameters)) (last_in old.state) parameters w → (left : Option Transfer) → ResetsBelow (is_performed_for w.treatment (requested_in parameters)) (transfer_of old.state) left
-    → (events : List (Event (List ℕ))) → CutIn (FinishAt (held_with p.held w.last) w.is_refused parameters (reset_parameters w.responses.items)) (treated_view old w parameters left) events
+pub reset_cut : {R : Type 0} (old : Context R) (p : Peer old.state) (parameters : List ResetParameter) (w : WorkedRequests) → WorkedAt old parameters w → (left : Option Transfer)
+    → ResetsBelow (is_performed_for w.treatment (requested_in parameters)) (transfer_of old.state) left
+    → (events : List (Event (List ℕ))) → CutIn (FinishAt (held_now p.held w) w.is_refused parameters (reset_parameters w.responses.items)) (carried_view old w parameters left) events
     → CutIn (ReConfigAt parameters) (view_of old) events
 reset_cut old p parameters w h left below events second =
-    let told : List (Event Emission) = told_by w parameters in
+    let told : List (Event Emission) = told_by old w parameters in
     record {
-      outcome = all_of (h.effects p.held) told second.outcome;
+      outcome = all_of (h.effects p.my p.held) told second.outcome;
       turn = turn_by old p parameters w h left second.outcome below second.turn;
-      cut = cut_noting (view_of old) (h.effects p.held) (behind [] told second.outcome) events
-          (cut_behind (view_of old) (treated_view old w parameters left) [] told second.outcome events (adds_told old p parameters w h left) second.cut);
+      cut = cut_noting (view_of old) (h.effects p.my p.held) (behind [] told second.outcome) events
+          (cut_behind (view_of old) (carried_view old w parameters left) [] told second.outcome events (adds_told old p parameters w h left) second.cut);
     }
 
 -- by whether a growth was refused
-pub reset_by : {R E : Type 0} (stream : R → Stream) (old mid : Context R) (p : Peer old.state) (parameters : List ResetParameter) (w : WorkedRequests)
-    → WorksChunk (is_reached (transfer_of old.state) (requested_in parameters)) (last_in old.state) parameters w → (left : Option Transfer) → ResetsBelow (is_performed_for w.treatment (requested_in parameters)) (transfer_of old.state) left
-    → view_of mid ≡ treated_view old w parameters left → (result : Result (Unit {0}) E) (new : Context R)
-    → TakesOne stream (FinishAt (held_with p.held w.last) w.is_refused parameters (reset_parameters w.responses.items)) mid result new → TakesOne stream (ReConfigAt parameters) old result new
+pub reset_by : {R E : Type 0} (stream : R → Stream) (old mid : Context R) (p : Peer old.state) (parameters : List ResetParameter) (w : WorkedRequests) → WorkedAt old parameters w → (left : Option Transfer)
+    → ResetsBelow (is_performed_for w.treatment (requested_in parameters)) (transfer_of old.state) left → view_of mid ≡ carried_view old w parameters left → (result : Result (Unit {0}) E) (new : Context R)
+    → TakesOne stream (FinishAt (held_now p.held w) w.is_refused parameters (reset_parameters w.responses.items)) mid result new → TakesOne stream (ReConfigAt parameters) old result new
 reset_by {R = R} stream old mid p parameters w h left below here (Ok done) new second =
     reset_done stream old p parameters w h left below (view_of new)
-    (subst (λ (v : View R). TakesIn stream (FinishAt (held_with p.held w.last) w.is_refused parameters (reset_parameters w.responses.items)) v (view_of new)) here second)
+    (subst (λ (v : View R). TakesIn stream (FinishAt (held_now p.held w) w.is_refused parameters (reset_parameters w.responses.items)) v (view_of new)) here second)
 reset_by {R = R} stream old mid p parameters w h left below here (Err fault) new second =
     reset_cut old p parameters w h left below (view_of new).events
-    (subst (λ (v : View R). CutIn (FinishAt (held_with p.held w.last) w.is_refused parameters (reset_parameters w.responses.items)) v (view_of new).events) here second)
+    (subst (λ (v : View R). CutIn (FinishAt (held_now p.held w) w.is_refused parameters (reset_parameters w.responses.items)) v (view_of new).events) here second)
 
 -- The peer is held still.
-pub still_held : {R : Type 0} (old mid : Context R) (p : Peer old.state) (w : WorkedRequests) (parameters : List ResetParameter) (left : Option Transfer) → view_of mid ≡ treated_view old w parameters left
-    → held_in (core_of mid.state) ≡ Some (held_with p.held w.last)
-still_held {R = R} old mid p w parameters left here = ap (λ (v : View R). held_in v.endpoint.core) here ∙ p.keeps w.last
+pub still_held : {R : Type 0} (old mid : Context R) (p : Peer old.state) (w : WorkedRequests) (parameters : List ResetParameter) (left : Option Transfer) → WorkedAt old parameters w
+    → view_of mid ≡ carried_view old w parameters left → held_in (core_of mid.state) ≡ Some (held_now p.held w)
+still_held {R = R} old mid p w parameters left h here =
+    ap (λ (v : View R). held_in v.endpoint.core) here ∙ ap held_in (core_by old p parameters w h) ∙ p.keeps (held_now p.held w)
 
 -- answers in memory, where there are some
 pub some_said : (responses : List Parameter) → (length responses == 0) ≡ false → is_none (reset_parameters responses) ≡ false
 some_said [] some = absurd (cc)
 some_said (response ∷ responses) some = refl
 
--- the streams were treated, behind the numbers
-pub treated_so : {R : Type 0} (old asked mid : Context R) (w : WorkedRequests) (reset : Option RequestedReset) (parameters : List ResetParameter) → view_of asked ≡ asked_at w.last (view_of old)
-    → reset ≡ requested_in parameters → TreatsAs w.treatment reset asked (view_of mid)
-    → (left : Option Transfer) × ResetsBelow (is_performed_for w.treatment (requested_in parameters)) (transfer_of old.state) left × (view_of mid ≡ treated_view old w parameters left)
-treated_so {R = R} old asked mid w reset parameters here wanted h =
-    let below : transfer_of asked.state ≡ transfer_of old.state = ap (λ (v : View R). v.endpoint.below.transfer) here in (
+-- both requests were treated, behind the numbers
+pub carried_so : {R : Type 0} (old asked mid : Context R) (w : WorkedRequests) (reset : Option RequestedReset) (parameters : List ResetParameter) → view_of asked ≡ asked_at w.last (view_of old)
+    → reset ≡ requested_in parameters → CarriedAs w reset asked (view_of mid)
+    → (left : Option Transfer) × ResetsBelow (is_performed_for w.treatment (requested_in parameters)) (transfer_of old.state) left × (view_of mid ≡ carried_view old w parameters left)
+carried_so {R = R} old asked mid w reset parameters here wanted h =
+    let below : transfer_of asked.state ≡ transfer_of old.state = ap (λ (v : View R). v.endpoint.below.transfer) here in
+    let told : Option RequestedReset → List (Event (List ℕ)) = λ r. told_both w.is_own_first w.own w.treatment r (own_streams (outstanding_of old.state)) in (
       h.0,
       subst (λ (r : Option RequestedReset). ResetsBelow (is_performed_for w.treatment r) (transfer_of old.state) h.0) wanted
           (subst (λ (f : Option Transfer). ResetsBelow (is_performed_for w.treatment reset) f h.0) below h.1),
-      h.2 ∙ ap (λ (v : View R). left_at v h.0 (told_for w.treatment reset)) here ∙ ap (λ (r : Option RequestedReset). left_at (asked_at w.last (view_of old)) h.0 (told_for w.treatment r)) wanted,
+      h.2
+          ∙ ap (λ (v : View R). left_at (settled_at (own_kind w.own) v) h.0 (told_both w.is_own_first w.own w.treatment reset (own_streams v.endpoint.outstanding))) here
+          ∙ ap (λ (r : Option RequestedReset). left_at (settled_at (own_kind w.own) (asked_at w.last (view_of old))) h.0 (told r)) wanted,
     )
+
+-- What the user is told of both comes first.
+told_first : (e : Endpoint) (my : Pair) (held : Held) (parameters : List ResetParameter) (o : Outcome) → WorksResets e my held parameters o
+    → (more : List (Event Emission)) × (o.events ≡ told_of e parameters (worked_in e my held parameters).effects ++ more)
+told_first e my held parameters o h =
+    let w : WorkedParameters = worked_in e my held parameters in
+    let there : Endpoint = resets_worked e (answered_in held w parameters) w.held h.left in (
+      (responses_by w.is_refused there [] w.held parameters w.answers h.answers).events,
+      ap (λ (x : Outcome). x.events) h.is ∙ ap (λ (x : Outcome). x.events) (responses_behind w.is_refused there (told_of e parameters w.effects) w.held parameters w.answers h.answers),
+    )
+
+-- Where it was cut before both were told, a front part of what is told was added.
+pub carried_cut : {R : Type 0} (old asked mid : Context R) (p : Peer old.state) (w : WorkedRequests) (reset : Option RequestedReset) (parameters : List ResetParameter) → WorkedAt old parameters w
+    → view_of asked ≡ asked_at w.last (view_of old) → reset ≡ requested_in parameters → (count : ℕ) × ((view_of mid).events ≡ (view_of asked).events ++ take count (told_where w reset asked))
+    → CutIn (ReConfigAt parameters) (view_of old) (view_of mid).events
+carried_cut {R = R} old asked mid p w reset parameters h here wanted cut =
+    let e : Endpoint = endpoint_of old in
+    let worked : WorkedParameters = worked_in e p.my p.held parameters in
+    let any = any_turn e p.my p.held parameters in
+    let first = told_first e p.my p.held parameters any.0 any.1 in
+    let before : Outcome = record any.0 { events = told_of e parameters worked.effects } in
+    let streams : List ℕ = own_streams (outstanding_of old.state) in
+    let told : told_where w reset asked ≡ map (user_event (ports_of old.options)) (told_of e parameters worked.effects) =
+    ap (λ (r : Option RequestedReset). told_both w.is_own_first w.own w.treatment r (own_streams (outstanding_of asked.state))) wanted
+    ∙ ap (λ (v : View R). told_both w.is_own_first w.own w.treatment (requested_in parameters) (own_streams v.endpoint.outstanding)) here
+    ∙ sym (both_user (ports_of old.options) w.is_own_first w.own w.treatment (requested_in parameters) streams (wanted_of old p parameters w h))
+    ∙ ap (map (user_event (ports_of old.options)))
+    (sym ((h.treats p.my p.held).told (their_streams (requested_in parameters)) streams) ∙ ap (λ (x : WorkedParameters). told_of e parameters x.effects) (sym (kept_is old p parameters w h))) in
+    record {
+      outcome = any.0;
+      turn = p.turn e parameters any.0 any.1;
+      cut = cut_longer (view_of old) before any.0 first.0 (view_of mid).events first.1
+          (record {
+            count = cut.0;
+            added = cut.1 ∙ ap (λ (v : View R). v.events ++ take cut.0 (told_where w reset asked)) here ∙ ap (λ (es : List (Event (List ℕ))). (view_of old).events ++ take cut.0 es) told;
+          });
+    }

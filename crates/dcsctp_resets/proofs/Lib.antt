@@ -1,3 +1,5 @@
 pub mod HandlingLemmas
+pub mod RepeatingLemmas
 pub mod RequestLemmas
+pub mod SettlingLemmas
 pub mod StreamLemmas

@@ -1,2 +1,3 @@
+pub mod Repeating
 pub mod Requests
 pub mod Resets

@@ -6,14 +6,15 @@ ghost use Rattle.dcsctp_wire.specs.Content.{re_config_chunk};
 ghost use Rattle.std.specs.Prelude.{map};
 ghost use Rattle.dcsctp_machine.specs.Reconfiguration.{reset_parameter_content};
 ghost use Rattle.dcsctp_machine.specs.turns.ResetOutcomes.{requested_in, is_reached, reset_refusal_text, ResetsStreams};
-ghost use Rattle.dcsctp_core.specs.View.{transfer_of, view_of};
+ghost use Rattle.dcsctp_core.specs.Reconfiguring.{request_in};
+ghost use Rattle.dcsctp_core.specs.View.{number_of, transfer_of, view_of};
 ghost use Rattle.dcsctp_core.specs.Below.{ChangesBelow};
 ghost use Rattle.dcsctp_core.specs.Handling.{Emits, TakesOne, Tries, report_turn};
 ghost use Rattle.dcsctp_resets.specs.Requests.{AreResponses, WorksChunk, reset_parameters};
-ghost use Rattle.dcsctp_resets.specs.Resets.{ReConfigAt, Finishes, Performs, Treats, asked_at, last_in, responses_turn, wanted_by};
+ghost use Rattle.dcsctp_resets.specs.Resets.{CarriesOut, Finishes, Performs, ReConfigAt, Settles, Tells, Treats, asked_at, last_in, responses_turn, wanted_by};
 
 use crate::reading::{requested, streams_of};
-use crate::requests::{LastRequest, Treatment, WorkedRequests, work_requests};
+use crate::requests::{LastRequest, OwnAnswer, Treatment, WorkedRequests, work_requests};
 use dcsctp_api::{ErrorKind, ReconfigurationResponseResult, SocketEvent, StreamId};
 use dcsctp_core::{Context, State};
 use dcsctp_wire::{Chunk, OutgoingSsnResetRequestParameter, Parameter, ReConfigChunk};
@@ -70,11 +71,12 @@ fn work(
 ) -> Result<WorkedRequests, AllocError>
     ensures { IfOk result (λ worked. WorksChunk
         (is_reached (transfer_of state.now) (requested_in (reset_parameters parameters.now)))
-        (last_in state.now) (reset_parameters parameters.now) worked) }
+        (last_in state.now) (number_of (request_in state.now)) (reset_parameters parameters.now) worked) }
 {
     let last = last_request(state);
+    let outstanding = state.outstanding_number();
     let is_reached = is_reached(state, requested(parameters));
-    work_requests(alloc, last, is_reached, parameters)
+    work_requests(alloc, last, outstanding, is_reached, parameters)
 }
 
 // ---- the streams
@@ -167,6 +169,70 @@ fn treat<R: Rng>(
             Treatment::Performed => perform(context, &request),
         },
     }
+}
+
+// ---- the own request
+
+// The peer has answered the own request so (RFC 6525, section 5.2.7). One that is in progress is sent again
+// later; one that has ended gives its streams back to the send queue, and what the user is told of it is
+// answered. It takes no memory.
+fn settle<R: Rng>(context: &mut Context<R>, own: OwnAnswer) -> Option<SocketEvent>
+    ensures { Settles own context.old result context.new }
+{
+    match own {
+        OwnAnswer::Unanswered => None,
+        OwnAnswer::InProgress => {
+            context.state.retry_reset(context.moment);
+            None
+        }
+        OwnAnswer::Performed => {
+            context.send_queue.commit_reset_streams();
+            match context.state.end_reset() {
+                None => None,
+                Some(request) => Some(SocketEvent::OnStreamsResetPerformed(request.streams)),
+            }
+        }
+        OwnAnswer::Failed => {
+            context.send_queue.rollback_reset_streams();
+            match context.state.end_reset() {
+                None => None,
+                Some(request) => Some(SocketEvent::OnStreamsResetFailed(request.streams)),
+            }
+        }
+    }
+}
+
+// Tells the user of it, where there is something to tell. The one error is that a growth was refused. Nothing
+// has changed then.
+fn tell<R: Rng>(context: &mut Context<R>, event: Option<SocketEvent>) -> Result<(), AllocError>
+    ensures { Tells event context.old result context.new }
+{
+    match event {
+        None => Ok(()),
+        Some(event) => {
+            context.events.add(event)?;
+            Ok(())
+        }
+    }
+}
+
+// Does with the own request, and with the streams that the peer wants reset, what was decided, and tells the
+// user of both in the order in which it was decided. The one error is that a growth was refused. The first of
+// the two events may stand then.
+fn carry_out<R: Rng>(
+    context: &mut Context<R>,
+    request: Option<OutgoingSsnResetRequestParameter<'_>>,
+    worked: &WorkedRequests,
+) -> Result<(), AllocError>
+    ensures { CarriesOut worked.now (option_map wanted_by request.entry) context.old result context.new }
+{
+    let told = settle(context, worked.own);
+    if worked.is_own_first {
+        tell(context, told)?;
+        return treat(context, request, worked.treatment);
+    }
+    treat(context, request, worked.treatment)?;
+    tell(context, told)
 }
 
 // ---- the answers
@@ -266,15 +332,17 @@ fn handle_parameters<R: Rng>(
     }
     let worked = work(context.alloc, &context.state, parameters)?;
     keep_last(context, worked.last);
-    treat(context, requested(parameters), worked.treatment)?;
+    carry_out(context, requested(parameters), &worked)?;
     finish(context, parameters, worked)
 }
 
 /// Works a RE-CONFIG (RFC 6525, section 5.2): each request of the peer is answered, in one packet, and a flush
 /// follows. An Outgoing SSN Reset Request with the next number resets the streams that it names once all has
 /// come that was sent before it, of which the user is told; until then it is in progress, and is worked again
-/// where it comes again. For an Incoming SSN Reset Request nothing is reset. A response answers nothing, since
-/// no own request is begun so far.
+/// where it comes again. For an Incoming SSN Reset Request nothing is reset.
+///
+/// An answer to the own request that is outstanding ends it (section 5.2.7): its streams are reset, or aren't,
+/// of which the user is told, and both take messages again. One that is in progress is sent again later.
 ///
 /// A chunk without parameters, or with a second Outgoing SSN Reset Request, is reported, and no answer goes
 /// out; what stood before the second request was worked. Without a peer nothing happens.

@@ -5,6 +5,8 @@
 
 mod handling;
 mod reading;
+mod reconfiguration;
 mod requests;
 
 pub use handling::handle_re_config;
+pub use reconfiguration::handle_reconfiguration;

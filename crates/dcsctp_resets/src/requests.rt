@@ -1,11 +1,11 @@
-//! What the parameters of a RE-CONFIG make of the peer's requests, and how these are answered (RFC 6525,
-//! section 5.2). It is a decision, and changes nothing of a socket.
+//! What the parameters of a RE-CONFIG make of the peer's requests, how these are answered, and what becomes of the
+//! own one (RFC 6525, section 5.2). It is a decision, and changes nothing of a socket.
 
 ghost use Rattle.std.specs.Prelude.{◌≡◌, ◌&&◌, false, OnOk, IfOk};
 ghost use Rattle.dcsctp_machine.specs.declared.association.Held.{Held};
-ghost use Rattle.dcsctp_machine.specs.control.ResetChanges.{outgoing_by, incoming_by};
+ghost use Rattle.dcsctp_machine.specs.control.ResetChanges.{outgoing_by, incoming_by, is_outstanding};
 ghost use Rattle.dcsctp_machine.specs.control.ResetChanges as changes;
-ghost use Rattle.dcsctp_resets.specs.Requests.{AnswersAs, Responds, WorksOne, WorksChunk, held_with, in_place, is_outgoing, reset_parameters, said_by};
+ghost use Rattle.dcsctp_resets.specs.Requests.{AnswersAs, Responds, WorksOne, WorksChunk, held_with, in_place, is_outgoing, own_ended, reset_parameters, said_by, with_response};
 
 use dcsctp_wire::{Parameter, ReconfigurationResponseParameter, ReconfigurationResponseResult};
 use std::alloc::{AllocError, Global};
@@ -31,6 +31,22 @@ pub enum Treatment {
 
     /// They are reset now.
     Performed,
+}
+
+/// What becomes of the own request to reset streams.
+#[derive(Clone, Copy, Debug, PartialEq, Eq)]
+pub enum OwnAnswer {
+    /// Nothing: it isn't answered, or there is none.
+    Unanswered,
+
+    /// It is in progress, and is sent again later.
+    InProgress,
+
+    /// It was performed.
+    Performed,
+
+    /// It failed.
+    Failed,
 }
 
 /// Where a request's number stands to the last one.
@@ -70,6 +86,15 @@ pub struct WorkedRequests {
 
     /// Was an Outgoing SSN Reset Request among them?
     pub has_worked: bool,
+
+    /// The number of the own request that is outstanding from here on.
+    pub outstanding: Option<u32>,
+
+    /// What becomes of the own request.
+    pub own: OwnAnswer,
+
+    /// Did it end before an Outgoing SSN Reset Request was worked?
+    pub is_own_first: bool,
 
     /// Are they an error: none at all, or a second Outgoing SSN Reset Request?
     pub is_refused: bool,
@@ -209,8 +234,39 @@ impl WorkedRequests {
         Ok(())
     }
 
-    // Works a parameter. A response is one to a request that isn't outstanding: none is begun so far. The one
-    // error is that a growth was refused.
+    // The own request has ended so. What the user is told of it comes first where no request of the peer was worked.
+    fn end_own(&mut self, answer: OwnAnswer)
+        ensures { self.new ≡ own_ended answer self.old }
+    {
+        self.outstanding = None;
+        self.own = answer;
+        self.is_own_first = !self.has_worked;
+    }
+
+    // Takes an answer to a request of this number: where it is the own one that is outstanding, that was performed,
+    // has failed, or is in progress (RFC 6525, section 5.2.7).
+    fn take_response(&mut self, number: u32, answer: ReconfigurationResponseResult)
+        ensures { self.new ≡ with_response (is_outstanding number self.old.outstanding) answer self.old }
+    {
+        match self.outstanding {
+            Some(outstanding) if outstanding == number => match answer {
+                ReconfigurationResponseResult::SuccessPerformed
+                | ReconfigurationResponseResult::SuccessNothingToDo => {
+                    self.end_own(OwnAnswer::Performed)
+                }
+                ReconfigurationResponseResult::Denied
+                | ReconfigurationResponseResult::ErrorWrongSSN
+                | ReconfigurationResponseResult::ErrorRequestAlreadyInProgress
+                | ReconfigurationResponseResult::ErrorBadSequenceNumber => {
+                    self.end_own(OwnAnswer::Failed)
+                }
+                ReconfigurationResponseResult::InProgress => self.own = OwnAnswer::InProgress,
+            },
+            Some(_) | None => {}
+        }
+    }
+
+    // Works a parameter. The one error is that a growth was refused.
     fn work(&mut self, is_reached: bool, parameter: &Parameter<'_>) -> Result<(), AllocError>
         requires { (self.old.has_worked && is_outgoing (said_by parameter.now)) ≡ false }
         ensures { OnOk result (WorksOne is_reached (said_by parameter.now) self.old self.new) }
@@ -232,7 +288,10 @@ impl WorkedRequests {
                 self.last = answered.last;
                 Ok(())
             }
-            Parameter::ReconfigurationResponse(_) => Ok(()),
+            Parameter::ReconfigurationResponse(response) => {
+                self.take_response(response.response_seq_nbr, response.result);
+                Ok(())
+            }
             Parameter::HeartbeatInfo { .. } => Ok(()),
             Parameter::StateCookie { .. } => Ok(()),
             Parameter::SupportedExtensions { .. } => Ok(()),
@@ -245,21 +304,25 @@ impl WorkedRequests {
 
 /// Works the parameters of a RE-CONFIG, up to a second Outgoing SSN Reset Request: a chunk with two is an
 /// error, as is one without any parameter. `is_reached` says whether all has come that was sent before the
-/// first such request.
+/// first such request, and `outstanding` is the number of the own request, where one is outstanding.
 ///
 /// The one error is that a growth was refused.
 pub(crate) fn work_requests(
     alloc: Global,
     last: LastRequest,
+    outstanding: Option<u32>,
     is_reached: bool,
     parameters: &[Parameter<'_>],
 ) -> Result<WorkedRequests, AllocError>
-    ensures { IfOk result (λ worked. WorksChunk is_reached last (reset_parameters parameters.now) worked) }
+    ensures { IfOk result (λ worked. WorksChunk is_reached last outstanding (reset_parameters parameters.now) worked) }
 {
     let mut worked = WorkedRequests {
         last,
         treatment: Treatment::Nothing,
         has_worked: false,
+        outstanding,
+        own: OwnAnswer::Unanswered,
+        is_own_first: false,
         is_refused: parameters.is_empty(),
         responses: Vec::new(alloc),
     };

@@ -7,7 +7,8 @@ use dcsctp_api::{DcSctpSocket, Message, PpId, SendOptions, SocketEvent, StreamId
 use dcsctp_lines::{Command, Line, parse_line};
 use dcsctp_machine::{Call, Outside, Side, Step};
 use dcsctp_printing::{
-    print_association, print_event, print_refusal, print_state, print_taken, print_timeout,
+    print_association, print_event, print_refusal, print_reset_refusal, print_state, print_taken,
+    print_timeout,
 };
 use dcsctp_world::{Reply, World};
 use std::alloc::Global;
@@ -121,6 +122,7 @@ impl Run {
     fn act<W: Write>(&mut self, command: Command, output: &mut W) -> Result<(), Failure> {
         match command {
             Command::Send(side, stream_id, payload) => self.send(side, stream_id, payload, output),
+            Command::Reset(side, stream_ids) => self.reset(side, stream_ids, output),
             Command::Receive(side) => self.receive(side, output),
             Command::Connect(side) => self.apply(Step::Call(side, Call::Connect)),
             Command::Close(side) => self.apply(Step::Call(side, Call::Close)),
@@ -148,6 +150,22 @@ impl Run {
         written(self.print_events(output))?;
         match reply {
             Reply::Sent(Err(error)) => written(print_refusal(side, &error, output)),
+            _ => Ok(()),
+        }
+    }
+
+    // Resets streams, and prints what comes of it and why it is refused, where it is.
+    fn reset<W: Write>(
+        &mut self,
+        side: Side,
+        stream_ids: Vec<StreamId>,
+        output: &mut W,
+    ) -> Result<(), Failure> {
+        let call = Call::ResetStreams(stream_ids);
+        let reply = self.world.apply(&Step::Call(side, call))?;
+        written(self.print_events(output))?;
+        match reply {
+            Reply::Reset(Err(error)) => written(print_reset_refusal(side, &error, output)),
             _ => Ok(()),
         }
     }

@@ -1,6 +1,7 @@
 pub mod FragmentLemmas
 pub mod FrontLemmas
 pub mod GoingOnLemmas
+pub mod PreparedLemmas
 pub mod QueueLemmas
 pub mod QueuedLemmas
 pub mod ReadyLemmas

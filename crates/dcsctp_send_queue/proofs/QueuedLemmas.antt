@@ -17,16 +17,16 @@ use Rattle.dcsctp_machine.specs.turns.SettingOutcomes.{stream_priority, stream_l
 use Rattle.dcsctp_send_queue.specs.Resets.{with_priority, with_threshold, may_send}
 use Rattle.dcsctp_send_queue.proofs.QueueLemmas.{same_test, other_test, less_test, not_less_test, changed-none, IsBelow-out, used_lost, found_in-none}
 
-equal_of : (a b : ℕ) → (a == b) ≡ true → a ≡ b
+pub equal_of : (a b : ℕ) → (a == b) ≡ true → a ≡ b
 equal_of a b e = grind (arith, nat_tests)
 
-differs_of : (a b : ℕ) → (a == b) ≡ false → a ≢ b
+pub differs_of : (a b : ℕ) → (a == b) ≡ false → a ≢ b
 differs_of a b e = grind (arith, nat_tests)
 
-less_of : (a b : ℕ) → nat_lt a b ≡ true → a < b
+pub less_of : (a b : ℕ) → nat_lt a b ≡ true → a < b
 less_of a b e = grind (arith, nat_tests)
 
-above_of : (a b : ℕ) → (a == b) ≡ false → nat_lt a b ≡ false → b < a
+pub above_of : (a b : ℕ) → (a == b) ≡ false → nat_lt a b ≡ false → b < a
 above_of a b e l = grind (arith, nat_tests)
 
 -- ---- a stream by its number
@@ -77,16 +77,16 @@ among_here d q id qs e = ap (λ (b : Bool). if b then q else stream_among d id q
 among_behind : (d q : QueuedStream) (id : ℕ) (qs : List QueuedStream) → (q.stream == id) ≡ false → stream_among d id (q ∷ qs) ≡ stream_among d id qs
 among_behind d q id qs e = ap (λ (b : Bool). if b then q else stream_among d id qs) e
 
-changed_here : (id : ℕ) (f : Stream → Stream) (x : Stream) (xs : List Stream) → (x.id == id) ≡ true → changed id f (x ∷ xs) ≡ f x ∷ changed id f xs
+pub changed_here : (id : ℕ) (f : Stream → Stream) (x : Stream) (xs : List Stream) → (x.id == id) ≡ true → changed id f (x ∷ xs) ≡ f x ∷ changed id f xs
 changed_here id f x xs e = ap (λ (b : Bool). (if b then f x else x) ∷ changed id f xs) e
 
-changed_behind : (id : ℕ) (f : Stream → Stream) (x : Stream) (xs : List Stream) → (x.id == id) ≡ false → changed id f (x ∷ xs) ≡ x ∷ changed id f xs
+pub changed_behind : (id : ℕ) (f : Stream → Stream) (x : Stream) (xs : List Stream) → (x.id == id) ≡ false → changed id f (x ∷ xs) ≡ x ∷ changed id f xs
 changed_behind id f x xs e = ap (λ (b : Bool). (if b then f x else x) ∷ changed id f xs) e
 
-used_if : (u : Stream) (id : ℕ) (streams : List Stream) (b : Bool) → is_used id streams ≡ b → used_with u id streams ≡ (if b then streams else with_stream u streams)
+pub used_if : (u : Stream) (id : ℕ) (streams : List Stream) (b : Bool) → is_used id streams ≡ b → used_with u id streams ≡ (if b then streams else with_stream u streams)
 used_if u id streams b e = ap (λ (c : Bool). if c then streams else with_stream u streams) e
 
-used_here : (u x : Stream) (id : ℕ) (xs : List Stream) → (x.id == id) ≡ true → used_with u id (x ∷ xs) ≡ x ∷ xs
+pub used_here : (u x : Stream) (id : ℕ) (xs : List Stream) → (x.id == id) ≡ true → used_with u id (x ∷ xs) ≡ x ∷ xs
 used_here u x id xs e = used_if u id (x ∷ xs) true (rw e refl)
 
 skip : (u x : Stream) (xs : List Stream) (b : Bool) → (if b then x ∷ xs else x ∷ with_stream u xs) ≡ x ∷ (if b then xs else with_stream u xs)
@@ -96,19 +96,19 @@ skip u x xs false = refl
 with_stream_behind : (u x : Stream) (xs : List Stream) → nat_lt x.id u.id ≡ true → with_stream u (x ∷ xs) ≡ x ∷ with_stream u xs
 with_stream_behind u x xs l = ap (λ (b : Bool). if b then x ∷ with_stream u xs else u ∷ x ∷ xs) l
 
-with_stream_in_front : (u x : Stream) (xs : List Stream) → nat_lt x.id u.id ≡ false → with_stream u (x ∷ xs) ≡ u ∷ x ∷ xs
+pub with_stream_in_front : (u x : Stream) (xs : List Stream) → nat_lt x.id u.id ≡ false → with_stream u (x ∷ xs) ≡ u ∷ x ∷ xs
 with_stream_in_front u x xs l = ap (λ (b : Bool). if b then x ∷ with_stream u xs else u ∷ x ∷ xs) l
 
-used_behind : (u x : Stream) (id : ℕ) (xs : List Stream) → (x.id == id) ≡ false → nat_lt x.id u.id ≡ true → used_with u id (x ∷ xs) ≡ x ∷ used_with u id xs
+pub used_behind : (u x : Stream) (id : ℕ) (xs : List Stream) → (x.id == id) ≡ false → nat_lt x.id u.id ≡ true → used_with u id (x ∷ xs) ≡ x ∷ used_with u id xs
 used_behind u x id xs e l =
     used_if u id (x ∷ xs) (is_used id xs) (rw e refl)
     ∙ (ap (λ (ts : List Stream). if is_used id xs then x ∷ xs else ts) (with_stream_behind u x xs l) ∙ skip u x xs (is_used id xs))
 
-all_above : (x : Stream) (xs : List Stream) (id : ℕ) → id < x.id → IsBelow x.id xs → (k : ℕ) → k < length (x ∷ xs) → id < (stream_at (x ∷ xs) k).id
+pub all_above : (x : Stream) (xs : List Stream) (id : ℕ) → id < x.id → IsBelow x.id xs → (k : ℕ) → k < length (x ∷ xs) → id < (stream_at (x ∷ xs) k).id
 all_above x xs id above below zero lt = above
 all_above x xs id above below (suc k) lt = let b = IsBelow-out x.id xs below k (omega arith) in omega (arith, b, above)
 
-lost_above : (streams : List Stream) (id : ℕ) → ((k : ℕ) → k < length streams → id < (stream_at streams k).id) → IsFound streams id (Err zero)
+pub lost_above : (streams : List Stream) (id : ℕ) → ((k : ℕ) → k < length streams → id < (stream_at streams k).id) → IsFound streams id (Err zero)
 lost_above streams id all = (omega arith, (λ k lt. absurd (omega arith)), (λ k on lt. all k lt))
 
 module _ (u : Stream) (id : ℕ) (f : Stream → Stream) (g : QueuedStream → QueuedStream) (sees : (s : Stream) → queued_of (f s) ≡ g (queued_of s)) (keeps : (q : QueuedStream) → (g q).stream ≡ q.stream)
@@ -176,7 +176,7 @@ module _ (u : Stream) (id : ℕ) (f : Stream → Stream) (g : QueuedStream → Q
 
 -- ---- the streams that are ready stay so
 
-abbrev ready_ids : Option UnderWay → List Stream → List ℕ
+abbrev pub ready_ids : Option UnderWay → List Stream → List ℕ
 ready_ids under_way streams = map (λ stream. stream.id) (filter (is_ready under_way) streams)
 
 ready_by : (under_way : Option UnderWay) (x y : Stream) (xs ys : List Stream) (b : Bool) → y.id ≡ x.id → is_ready under_way x ≡ b → is_ready under_way y ≡ b → ready_ids under_way ys ≡ ready_ids under_way xs

@@ -42,6 +42,11 @@ is_paused Open = false
 is_paused Pausing = true
 is_paused HandedOut = true
 
+abbrev pub is_handed_out : Pause → Bool
+is_handed_out Open = false
+is_handed_out Pausing = false
+is_handed_out HandedOut = true
+
 abbrev pub queued_of : Stream → QueuedStream
 queued_of stream =
     record {
@@ -51,6 +56,7 @@ queued_of stream =
       priority = stream.priority;
       messages = length stream.messages;
       is_paused = is_paused stream.pause;
+      is_handed_out = is_handed_out stream.pause;
     }
 
 abbrev pub sent_of : Option UnderWay → Option StreamNumber

@@ -9,7 +9,9 @@ use Rattle.dcsctp_streams.specs.declared.stream.Pause.TheVariants.{Open, Pausing
 use Rattle.dcsctp_streams.specs.Waiting.{Waiting, Stream, paused, handed_out, begun_anew, raised}
 use Rattle.dcsctp_streams.specs.Telling.{low_events, expiries, size_of}
 use Rattle.dcsctp_streams.specs.Ranking.{stream_at, turn_of}
-use Rattle.dcsctp_send_queue.specs.Backlog.{changed, used, stream_of, is_ready}
+use Rattle.dcsctp_machine.specs.Transfer.{SendQueueState, queued_stream}
+use Rattle.dcsctp_machine.specs.turns.PreparedResets.{queue_pausing}
+use Rattle.dcsctp_send_queue.specs.Backlog.{changed, used, stream_of, is_ready, queue_state}
 use Rattle.dcsctp_send_queue.specs.Leaving.{count_under_way}
 
 abbrev pub is_open : Pause → Bool
@@ -89,6 +91,11 @@ prepare_events_in id queue =
 
 abbrev pub prepare_events : ℕ → Backlog → List (Event (List ℕ))
 prepare_events id queue = prepare_events_in id (with_used id queue)
+
+-- what a socket shows once the stream is prepared: one that is to be reset already stays
+abbrev pub shown_prepared : ℕ → Backlog → SendQueueState
+shown_prepared id queue =
+    if (queued_stream (queue_state queue) id).is_paused then queue_state queue else queue_pausing id (dropped_size id queue) (queue_state queue)
 
 -- Nothing has changed, but that the stream may count as used.
 abbrev pub IsUsedAtMost : ℕ → Backlog → Backlog → Type 0

@@ -33,15 +33,15 @@ impl Model for SendQueue {
 
 impl SendQueue {
     ghost use Rattle.std.specs.Prelude.{◌≡◌, ◌+◌, ◌-◌, ◌<◌, ◌++◌, ◌↔◌, vec_len, IsTrue, IfSome, OnOk, OnErr, IfOk, map, take, if◌then◌else◌, false};
-    ghost use Rattle.dcsctp_machine.specs.Transfer.{empty_queue, queue_after_reset, queue_added, has_data};
+    ghost use Rattle.dcsctp_machine.specs.Transfer.{empty_queue, queue_after_reset, queue_handed_back, queue_added, has_data};
     ghost use Rattle.dcsctp_machine.specs.turns.SettingOutcomes.{stream_priority, stream_low_threshold, set_in_queue};
-    ghost use Rattle.dcsctp_streams.specs.Telling.{contents};
+    ghost use Rattle.dcsctp_streams.specs.Telling.{contents, TellsFront};
     ghost use Rattle.dcsctp_streams.specs.Fragment.{HasSize};
     ghost use Rattle.dcsctp_streams.specs.Waiting.{paused};
     ghost use Rattle.dcsctp_send_queue.specs.Backlog.{queue_state, changed, used, stream_of, ready_streams};
     ghost use Rattle.dcsctp_send_queue.specs.Calls.{no_backlog, queued, with_added, TakesNext, StopsTaking, StopsDiscarding, DiscardsNamed};
     ghost use Rattle.dcsctp_send_queue.specs.Leaving.{DropsSome};
-    ghost use Rattle.dcsctp_send_queue.specs.Resets.{restarted, handing_out, may_send, IsUsedAtMost, HasReady, with_threshold, with_priority, prepared, prepare_events};
+    ghost use Rattle.dcsctp_send_queue.specs.Resets.{restarted, handing_out, may_send, IsUsedAtMost, HasReady, with_threshold, with_priority, prepared, prepare_events, shown_prepared};
     ghost use Rattle.dcsctp_streams.specs.Waiting.{committed, rolled_back};
     ghost use Rattle.dcsctp_machine.specs.Ids.{stream_numbers};
 
@@ -162,7 +162,9 @@ impl SendQueue {
     ) -> Result<(), AllocError>
         ensures ok { OnOk result (self.new ≡ prepared stream_id.0 self.old) }
         ensures told { OnOk result (contents events.new ≡ contents events.old ++ prepare_events stream_id.0 self.old) }
+        ensures shown { OnOk result (queue_state self.new ≡ shown_prepared stream_id.0 self.old) }
         ensures err { OnErr result (IsUsedAtMost stream_id.0 self.old self.new) }
+        ensures front { OnErr result (TellsFront (contents events.old) (prepare_events stream_id.0 self.old) (contents events.new)) }
     {
         self.backlog.prepare(events, stream_id)
     }
@@ -190,14 +192,16 @@ impl SendQueue {
     /// The streams that are handed out were reset: they number their messages from 0, and their pause
     /// ends.
     pub fn commit_reset_streams(&mut self)
-        ensures { self.new ≡ record self.old { streams = map committed self.old.streams } }
+        ensures whole { self.new ≡ record self.old { streams = map committed self.old.streams } }
+        ensures shown { queue_state self.new ≡ queue_handed_back (queue_state self.old) }
     {
         self.backlog.streams.commit_all();
     }
 
     /// The streams that are handed out were not reset: their pause ends.
     pub fn rollback_reset_streams(&mut self)
-        ensures { self.new ≡ record self.old { streams = map rolled_back self.old.streams } }
+        ensures whole { self.new ≡ record self.old { streams = map rolled_back self.old.streams } }
+        ensures shown { queue_state self.new ≡ queue_handed_back (queue_state self.old) }
     {
         self.backlog.streams.roll_back_all();
     }

@@ -1,5 +1,5 @@
 -- Calls, by what their socket answers.
-use Rattle.std.proofs.Common.{◌≡◌, Bool, true, false, List, [], ◌∷◌, sym, ap, subst, ◌∙◌, Result, Ok, Err, map}
+use Rattle.std.proofs.Common.{◌≡◌, ℕ, Bool, true, false, List, [], ◌∷◌, sym, ap, subst, ◌∙◌, Result, Ok, Err, map}
 use Rattle.rand_core.specs.Stream.{Stream}
 use Rattle.dcsctp_machine.specs.control.Acts.{connect, abort_with}
 use Rattle.dcsctp_api.specs.declared.errors.SocketFault.{SocketFault}
@@ -11,11 +11,16 @@ use Rattle.dcsctp_socket.specs.SocketView.{Settles, user_view_of}
 use Rattle.dcsctp_machine.specs.declared.ends.AbortReason.TheVariants.{CloseCalled}
 use Rattle.dcsctp_machine.specs.declared.message.SendOptions.{SendOptions}
 use Rattle.dcsctp_machine.specs.Transfer.{MessageContent}
-use Rattle.dcsctp_machine.specs.turns.MessageOutcomes.{Sending, sending_of}
+use Rattle.dcsctp_machine.specs.Endpoint.{Endpoint}
+use Rattle.dcsctp_machine.specs.CallTurns.{Turned}
+use Rattle.dcsctp_machine.specs.turns.MessageOutcomes.{sending_of}
 use Rattle.dcsctp_api.specs.declared.errors.BatchSendError.{BatchSendError}
+use Rattle.dcsctp_api.specs.declared.errors.ResetStreamsError.{ResetStreamsError}
 use Rattle.dcsctp_api.specs.declared.errors.SendError.{SendError}
 use Rattle.dcsctp_api.specs.Messages.{Sends, SendsMany}
+use Rattle.dcsctp_api.specs.Resets.{ResetsOwn}
 use Rattle.dcsctp_calls.specs.MessageParts.{SendTurns, WorksSend, WorksSendMany}
+use Rattle.dcsctp_calls.specs.ResetParts.{ResetTurns, WorksReset}
 
 -- ---- connect
 
@@ -60,11 +65,11 @@ closes stream old new failed fails (Err error) answer runs cut settled =
     let out : RanOut was (ActTurns (abort_with CloseCalled) was.endpoint) now = record { runs = runs; fails = settled.1; turns = cut.turns; are = cut.are; events = cut.adds } in
     subst (λ (a : Result (Unit {0}) SocketFault). Closes was a now) (sym settled.0) out
 
--- ---- sending
+-- ---- calls with an answer
 
-follows : {R : Type 0} (stream : R → Stream) (messages : List Sending) (old new : View R) (failed fails : Bool) (moved : CallMoved stream (SendTurns messages) old new)
+follows : {R : Type 0} (stream : R → Stream) (CallTurns : Endpoint → List Turned → Type 0) (old new : View R) (failed fails : Bool) (moved : CallMoved stream CallTurns old new)
     → failed ≡ false → fails ≡ failed → Follows (user_view_of (record { view = old; failed = failed })) moved.turns (user_view_of (record { view = new; failed = fails }))
-follows stream messages old new failed fails moved runs same =
+follows stream CallTurns old new failed fails moved runs same =
     record {
       runs = runs;
       goes_on = same ∙ runs;
@@ -74,9 +79,11 @@ follows stream messages old new failed fails moved runs same =
       pairs = moved.moves.pairs;
     }
 
-ran_out : {R : Type 0} (messages : List Sending) (old new : View R) (failed fails : Bool) (cut : CallCut (SendTurns messages) old new.events) → failed ≡ false → fails ≡ true
-    → RanOut (user_view_of (record { view = old; failed = failed })) (SendTurns messages old.endpoint) (user_view_of (record { view = new; failed = fails }))
-ran_out messages old new failed fails cut runs stops = record { runs = runs; fails = stops; turns = cut.turns; are = cut.are; events = cut.adds }
+ran_out : {R : Type 0} (CallTurns : Endpoint → List Turned → Type 0) (old new : View R) (failed fails : Bool) (cut : CallCut CallTurns old new.events) → failed ≡ false → fails ≡ true
+    → RanOut (user_view_of (record { view = old; failed = failed })) (CallTurns old.endpoint) (user_view_of (record { view = new; failed = fails }))
+ran_out CallTurns old new failed fails cut runs stops = record { runs = runs; fails = stops; turns = cut.turns; are = cut.are; events = cut.adds }
+
+-- ---- sending
 
 pub sends : {R E : Type 0} (stream : R → Stream) (message : MessageContent) (options : SendOptions) (old new : Context R) (failed fails : Bool)
     (result : Result (Result (Unit {0}) SendError) E) (answer : Result (Result (Unit {0}) SendError) SocketFault) → failed ≡ false → WorksSend stream message options old result new → Settles failed result answer fails
@@ -85,12 +92,12 @@ sends stream message options old new failed fails (Ok value) answer runs worked 
     let was : UserView = user_view_of (record { view = view_of old; failed = failed }) in
     let now : UserView = user_view_of (record { view = view_of new; failed = fails }) in
     subst (λ (a : Result (Result (Unit {0}) SendError) SocketFault). Sends message options was a now) (sym settled.0)
-    (worked.0, (worked.1.turns, worked.1.are, follows stream (sending_of options message ∷ []) (view_of old) (view_of new) failed fails worked.1 runs settled.1))
+    (worked.0, (worked.1.turns, worked.1.are, follows stream (SendTurns (sending_of options message ∷ [])) (view_of old) (view_of new) failed fails worked.1 runs settled.1))
 sends stream message options old new failed fails (Err error) answer runs cut settled =
     let was : UserView = user_view_of (record { view = view_of old; failed = failed }) in
     let now : UserView = user_view_of (record { view = view_of new; failed = fails }) in
     subst (λ (a : Result (Result (Unit {0}) SendError) SocketFault). Sends message options was a now) (sym settled.0)
-    (ran_out (sending_of options message ∷ []) (view_of old) (view_of new) failed fails cut runs settled.1)
+    (ran_out (SendTurns (sending_of options message ∷ [])) (view_of old) (view_of new) failed fails cut runs settled.1)
 
 pub sends_many : {R E : Type 0} (stream : R → Stream) (messages : List MessageContent) (options : SendOptions) (old new : Context R) (failed fails : Bool)
     (result : Result (Result (Unit {0}) BatchSendError) E) (answer : Result (Result (Unit {0}) BatchSendError) SocketFault) → failed ≡ false → WorksSendMany stream messages options old result new → Settles failed result answer fails
@@ -99,9 +106,25 @@ sends_many stream messages options old new failed fails (Ok value) answer runs w
     let was : UserView = user_view_of (record { view = view_of old; failed = failed }) in
     let now : UserView = user_view_of (record { view = view_of new; failed = fails }) in
     subst (λ (a : Result (Result (Unit {0}) BatchSendError) SocketFault). SendsMany messages options was a now) (sym settled.0)
-    (worked.0, (worked.1.turns, worked.1.are, follows stream (map (sending_of options) messages) (view_of old) (view_of new) failed fails worked.1 runs settled.1))
+    (worked.0, (worked.1.turns, worked.1.are, follows stream (SendTurns (map (sending_of options) messages)) (view_of old) (view_of new) failed fails worked.1 runs settled.1))
 sends_many stream messages options old new failed fails (Err error) answer runs cut settled =
     let was : UserView = user_view_of (record { view = view_of old; failed = failed }) in
     let now : UserView = user_view_of (record { view = view_of new; failed = fails }) in
     subst (λ (a : Result (Result (Unit {0}) BatchSendError) SocketFault). SendsMany messages options was a now) (sym settled.0)
-    (ran_out (map (sending_of options) messages) (view_of old) (view_of new) failed fails cut runs settled.1)
+    (ran_out (SendTurns (map (sending_of options) messages)) (view_of old) (view_of new) failed fails cut runs settled.1)
+
+-- ---- resets of streams
+
+pub resets : {R E : Type 0} (stream : R → Stream) (ids : List ℕ) (old new : Context R) (failed fails : Bool)
+    (result : Result (Result (Unit {0}) ResetStreamsError) E) (answer : Result (Result (Unit {0}) ResetStreamsError) SocketFault) → failed ≡ false → WorksReset stream ids old result new → Settles failed result answer fails
+    → ResetsOwn ids (user_view_of (record { view = view_of old; failed = failed })) answer (user_view_of (record { view = view_of new; failed = fails }))
+resets stream ids old new failed fails (Ok value) answer runs worked settled =
+    let was : UserView = user_view_of (record { view = view_of old; failed = failed }) in
+    let now : UserView = user_view_of (record { view = view_of new; failed = fails }) in
+    subst (λ (a : Result (Result (Unit {0}) ResetStreamsError) SocketFault). ResetsOwn ids was a now) (sym settled.0)
+    (worked.0, (worked.1.turns, worked.1.are, follows stream (ResetTurns ids) (view_of old) (view_of new) failed fails worked.1 runs settled.1))
+resets stream ids old new failed fails (Err error) answer runs cut settled =
+    let was : UserView = user_view_of (record { view = view_of old; failed = failed }) in
+    let now : UserView = user_view_of (record { view = view_of new; failed = fails }) in
+    subst (λ (a : Result (Result (Unit {0}) ResetStreamsError) SocketFault). ResetsOwn ids was a now) (sym settled.0)
+    (ran_out (ResetTurns ids) (view_of old) (view_of new) failed fails cut runs settled.1)

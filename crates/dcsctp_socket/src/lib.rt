@@ -2,7 +2,7 @@
 //!
 //! There are four kinds of call. Queries (`state`, `association`, `messages_ready_count`, `has_failed`, ..)
 //! answer and change nothing. Inputs (`handle_input`, `advance_time`) bring what the peer sent, and the
-//! time. Commands (`connect`, `close`, `send`, `set_stream_priority`, ..) say what the user wants. Polls
+//! time. Commands (`connect`, `close`, `send`, `reset_streams`, ..) say what the user wants. Polls
 //! (`poll_event`, `get_next_message`, `poll_timeout`) take what the socket has to tell and the messages
 //! that came in, and ask when it wants to be told the time. A user
 //! drives it by a loop, and takes all that waits after each call (the crate `dcsctp_example` has it
@@ -38,9 +38,9 @@ mod socket;
 pub use dcsctp_api as api;
 pub use dcsctp_api::{
     Association, BatchSendError, Capabilities, DcSctpSocket, ErrorKind, Events, Held, LifecycleId,
-    Message, Options, Pair, Phase, PpId, ReconfigurationResponseResult, SctpImplementation,
-    SendError, SendOptions, SocketEvent, SocketFault, SocketState, SocketTime, StateCookie,
-    StreamId, ZERO_CHECKSUM_ALTERNATE_ERROR_DETECTION_METHOD_LOWER_LAYER_DTLS,
+    Message, Options, Pair, Phase, PpId, ReconfigurationResponseResult, ResetStreamsError,
+    SctpImplementation, SendError, SendOptions, SocketEvent, SocketFault, SocketState, SocketTime,
+    StateCookie, StreamId, ZERO_CHECKSUM_ALTERNATE_ERROR_DETECTION_METHOD_LOWER_LAYER_DTLS,
     ZERO_CHECKSUM_ALTERNATE_ERROR_DETECTION_METHOD_NONE, ZeroChecksumAlternateErrorDetectionMethod,
 };
 pub use socket::Socket;

@@ -3,8 +3,8 @@
 ghost use Rattle.dcsctp_socket.specs.SocketView.{Settles};
 
 use dcsctp_api::{
-    Association, BatchSendError, DcSctpSocket, Message, Options, Pair, SendError, SendOptions,
-    SocketEvent, SocketFault, SocketState, SocketTime, StreamId,
+    Association, BatchSendError, DcSctpSocket, Message, Options, Pair, ResetStreamsError,
+    SendError, SendOptions, SocketEvent, SocketFault, SocketState, SocketTime, StreamId,
 };
 use dcsctp_core::Context;
 use dcsctp_decisions::poll_timeout;
@@ -124,6 +124,8 @@ impl<R: Rng + Drop> DcSctpSocket for Socket<R> {
     ghost use Rattle.dcsctp_machine.specs.TimeTurns.{Waits, next_moment};
     ghost use Rattle.dcsctp_api.specs.Time.{Advances, OnlyMovesClock};
     ghost use Rattle.dcsctp_api.specs.Messages.{Sends, SendsMany, TakesNext};
+    ghost use Rattle.dcsctp_api.specs.Resets.{ResetsOwn};
+    ghost use Rattle.dcsctp_machine.specs.Ids.{stream_numbers};
     ghost use Rattle.dcsctp_machine.specs.Transfer.{message_content};
     ghost use Rattle.dcsctp_core.specs.View.{Drawn};
     ghost use Rattle.dcsctp_socket.specs.SocketView.{user_view_of};
@@ -247,6 +249,24 @@ impl<R: Rng + Drop> DcSctpSocket for Socket<R> {
             return Err(SocketFault::Failed);
         }
         let outcome = dcsctp_calls::send_many(&mut self.context, messages, options);
+        settled(&mut self.failed, outcome)
+    }
+
+    fn reset_streams(
+        &mut self,
+        stream_ids: &[StreamId],
+    ) -> Result<Result<(), ResetStreamsError>, SocketFault>
+        ensures call { ResetsOwn (stream_numbers stream_ids.now) (user_view_of self.old) result
+            (user_view_of self.new) }
+        ensures drawn { OnOk result (Drawn (R.stream self.old.view.generator) self.new.view.words
+            (R.stream self.new.view.generator)) }
+        ensures failed { IsErrOf result SocketFault.Failed → self.new ≡ self.old }
+    {
+        // Nor does it reset a stream.
+        if self.failed {
+            return Err(SocketFault::Failed);
+        }
+        let outcome = dcsctp_calls::reset_streams(&mut self.context, stream_ids);
         settled(&mut self.failed, outcome)
     }
 

@@ -89,8 +89,22 @@ fn answers(
             let answer = socket.send_many(messages(rt, line, text), sending);
             shows(rt, line, &answer.expect(rt, "messages"), expected);
         }
+        "resets" => {
+            let answer = socket.reset_streams(&streams(rt, line, text));
+            shows(rt, line, &answer.expect(rt, "a reset"), expected);
+        }
         _ => is_asked_of_stream(rt, line, socket, verb, text, expected),
     }
+}
+
+// The streams of these numbers.
+fn streams(rt: &impl Abort, line: Line<'_>, text: &str) -> Vec<StreamId> {
+    let mut ids = Vec::new(line.alloc);
+    for id in text.split_whitespace() {
+        ids.push(StreamId(value_of(rt, line, id)))
+            .expect(rt, "memory for streams");
+    }
+    ids
 }
 
 // A message of so many zeros.

@@ -2,7 +2,7 @@
 
 use crate::checks::{Line, same};
 use crate::script::run;
-use dcsctp_socket::{BatchSendError, SendError};
+use dcsctp_socket::{BatchSendError, ResetStreamsError, SendError};
 use std::alloc::Global;
 use std::fmt::Display;
 use std::process::Abort;
@@ -105,10 +105,21 @@ static REFUSALS: [(SendError, &str); 4] = [
     (SendError::ShuttingDown, "socket is shutting down or closed"),
 ];
 
+static RESET_REFUSALS: [(ResetStreamsError, &str); 2] = [
+    (ResetStreamsError::NotConnected, "socket is not connected"),
+    (
+        ResetStreamsError::NotSupported,
+        "peer does not support stream resetting",
+    ),
+];
+
 #[test]
 fn refusals_are_displayed(rt: HostRuntime) {
     let alloc = rt.alloc();
     for (error, text) in &REFUSALS {
+        is_displayed_as(&rt, alloc, error, text);
+    }
+    for (error, text) in &RESET_REFUSALS {
         is_displayed_as(&rt, alloc, error, text);
     }
     let refused = [(0, SendError::EmptyPayload), (2, TOO_LARGE)];

@@ -1,4 +1,5 @@
-//! How requests of the peer to reset streams are answered, byte by byte (RFC 6525, sections 4.1, 4.2, 4.4 and 5.2).
+//! How requests of the peer to reset streams are answered, and how own ones go out, byte by byte (RFC 6525, sections
+//! 4.1, 4.2, 4.4, 5.1 and 5.2).
 //!
 //! The first TSN of tag 7 is 100, which is its first number too. Packets go without a checksum, so that a whole one
 //! can be written down.
@@ -46,6 +47,48 @@ const REQUESTS: &str = r#"
     B tells OnIncomingStreamReset([4])
     B sends 13881388 00000007 00000000 8200001c 0010000c 00000066 00000000 0010000c 00000067 00000001
 "#;
+
+const OWN_REQUESTS: &str = r#"
+    == own requests go out one at a time, and again
+    option zero_checksum_alternate_error_detection_method 1
+    A resets 1 = Err(NotConnected)
+    A connects
+    A sends any
+    B receives
+    B sends any
+    A receives
+    A sends any
+    B receives
+    B tells OnConnected
+    B sends any
+    A receives
+    A tells OnConnected
+
+    // number 100, and no TSN behind 99 was given out
+    A resets 1 = Ok(())
+    A sends 13881388 00000009 00000000 82000016 000d0012 00000064 00000064 00000063 00010000
+    B receives
+    B tells OnIncomingStreamReset([1])
+    B sends 13881388 00000007 00000000 82000010 0010000c 00000064 00000001
+    A receives
+    A tells OnStreamsResetPerformed([1])
+
+    // 4 waits for the answer to the request for 2 and 3, which is in progress at first
+    A resets 3 2 = Ok(())
+    A sends 13881388 00000009 00000000 82000018 000d0014 00000065 00000065 00000063 00020003
+    A resets 4 = Ok(())
+    A takes 13881388 00000007 00000000 82000010 0010000c 00000065 00000006
+    A waits 500
+    A sends 13881388 00000009 00000000 82000018 000d0014 00000065 00000065 00000063 00020003
+    A takes 13881388 00000007 00000000 82000010 0010000c 00000065 00000002
+    A tells OnStreamsResetFailed([2, 3])
+    A sends 13881388 00000009 00000000 82000016 000d0012 00000066 00000066 00000063 00040000
+"#;
+
+#[test]
+fn own_requests_go_out_one_at_a_time(rt: HostRuntime) {
+    run(&rt, rt.alloc(), OWN_REQUESTS);
+}
 
 #[test]
 fn requests_are_answered_by_their_numbers(rt: HostRuntime) {

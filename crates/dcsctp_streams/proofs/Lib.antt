@@ -2,4 +2,5 @@ pub mod Mapped
 pub mod NextLemmas
 pub mod PlaceLemmas
 pub mod StreamLemmas
+pub mod TellingLemmas
 pub mod TurnLemmas

@@ -64,7 +64,7 @@ impl Model for OutgoingStream {
 
 impl OutgoingStream {
     ghost use Rattle.std.specs.Prelude.{◌≡◌, ◌-◌, ◌^◌, ◌++◌, min, drop, OnOk, OnErr};
-    ghost use Rattle.dcsctp_streams.specs.Telling.{contents, expiries, size_of};
+    ghost use Rattle.dcsctp_streams.specs.Telling.{contents, TellsFront, expiries, size_of};
     ghost use Rattle.std.specs.Option.{option_copied};
     ghost use Rattle.dcsctp_streams.specs.Waiting.{unused, front_of, with_message, without_front, paused, resumed, handed_out, begun_anew, raised, next_numbers, counted, committed, rolled_back};
     ghost use Rattle.dcsctp_streams.specs.Ranking.{turn_of};
@@ -160,7 +160,8 @@ impl OutgoingStream {
 
     /// Tells that its messages, but for so many of the oldest, are given up.
     pub fn tell_dropped(&self, events: &mut Events, kept: usize) -> Result<(), AllocError>
-        ensures { OnOk result (contents events.new ≡ contents events.old ++ expiries (drop kept self.now.messages)) }
+        ensures ok { OnOk result (contents events.new ≡ contents events.old ++ expiries (drop kept self.now.messages)) }
+        ensures err { OnErr result (TellsFront (contents events.old) (expiries (drop kept self.now.messages)) (contents events.new)) }
     {
         for place in kept..self.messages.len() {
             let message = &self.messages[place];

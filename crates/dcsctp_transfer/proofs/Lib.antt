@@ -4,7 +4,9 @@ pub mod FillingLemmas
 pub mod ForwardingLemmas
 pub mod GivingLemmas
 pub mod LossLemmas
+pub mod PreparingLemmas
 pub mod ReceivingLemmas
+pub mod ResetLemmas
 pub mod SackLemmas
 pub mod SacksLemmas
 pub mod TellingLemmas

@@ -1,4 +1,5 @@
 pub mod Adding
 pub mod Filling
 pub mod Forwarding
+pub mod Preparing
 pub mod Sacks

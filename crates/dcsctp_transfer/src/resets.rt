@@ -1,11 +1,19 @@
-//! Streams that the peer resets (RFC 6525, section 5.2.2).
+//! Streams that are reset: those of the peer (RFC 6525, section 5.2.2), and the own ones (section 5.1.2).
 
-ghost use Rattle.std.specs.Prelude.{◌≡◌, not};
+ghost use Rattle.std.specs.Prelude.{◌≡◌, not, take, IfOk, OnErr};
+ghost use Rattle.std.specs.Duration.{as_nanos};
+ghost use Rattle.dcsctp_machine.specs.Ids.{stream_numbers};
+ghost use Rattle.dcsctp_machine.specs.Transfer.{is_none_ready, queue_handed_back};
+ghost use Rattle.dcsctp_machine.specs.turns.BegunResets.{last_assigned_tsn};
 ghost use Rattle.dcsctp_machine.specs.turns.ResetOutcomes.{is_tsn_beyond, ResetsStreams};
+ghost use Rattle.dcsctp_streams.specs.Telling.{contents};
+ghost use Rattle.dcsctp_transfer.specs.Preparing.{TriesStream};
 
+use crate::queued_messages::QueuedMessages;
 use crate::transfer::Transfer;
-use dcsctp_api::StreamId;
+use dcsctp_api::{Events, StreamId};
 use std::alloc::AllocError;
+use std::time::Duration;
 
 impl Transfer {
     /// Has all come in up to this TSN? Which of two TSNs is ahead goes by serial number arithmetic (RFC 9260,
@@ -39,5 +47,71 @@ impl Transfer {
     {
         self.reassembly_queue
             .reset_streams_and_leave_deferred_reset(streams)
+    }
+
+    /// The retransmission timeout (RFC 9260, section 6.3.1).
+    pub fn rto(&self) -> Duration
+        ensures { as_nanos result ≡ self.now.timeout.rto }
+    {
+        self.rto.rto()
+    }
+
+    /// Own streams are reset behind what was given out so far: the last TSN of that is answered, and no
+    /// FORWARD-TSN goes over it any more, since streams are numbered anew behind it. It takes no memory.
+    pub fn begin_reset_streams(&mut self) -> u32
+        ensures answer { result ≡ last_assigned_tsn self.old.retransmission }
+        ensures left { self.new ≡ self.old }
+    {
+        self.retransmission_queue.begin_reset_streams();
+        self.retransmission_queue.last_assigned_tsn()
+    }
+}
+
+impl QueuedMessages {
+    /// Drops the messages of the stream that aren't begun, and tells so; the stream begins no other until it was
+    /// reset, or until that failed. One that is to be reset already stays as it is.
+    ///
+    /// The one error is that a growth was refused. A front part of what is told may stand then.
+    pub fn prepare_reset_stream(
+        &mut self,
+        events: &mut Events,
+        stream_id: StreamId,
+    ) -> Result<(), AllocError>
+        ensures { TriesStream stream_id.0 self.old (contents events.old) result self.new (contents events.new) }
+    {
+        self.queue.prepare_reset_stream(events, stream_id)
+    }
+
+    /// Is a stream ready to be reset?
+    pub fn has_streams_ready_to_be_reset(&self) -> bool
+        ensures { result ≡ not (is_none_ready self.now.ready_streams) }
+    {
+        self.queue.has_streams_ready_to_be_reset()
+    }
+
+    /// Hands out streams that are ready to be reset, the first of them, at most so many; the others stay ready.
+    /// They stay paused until it is known what became of the reset.
+    ///
+    /// The one error is that there is no memory for the list. Nothing has changed then.
+    pub fn get_streams_ready_to_reset(&mut self, max: usize) -> Result<Vec<StreamId>, AllocError>
+        ensures streams { IfOk result (λ ids. stream_numbers ids.items ≡ take max self.old.ready_streams) }
+        ensures err { OnErr result (self.new ≡ self.old) }
+    {
+        self.queue.get_streams_ready_to_reset(max)
+    }
+
+    /// The streams that are handed out were reset: they number their messages from 0, and are paused no longer.
+    /// It takes no memory.
+    pub fn commit_reset_streams(&mut self)
+        ensures { self.new ≡ queue_handed_back self.old }
+    {
+        self.queue.commit_reset_streams();
+    }
+
+    /// The streams that are handed out weren't reset: they are paused no longer. It takes no memory.
+    pub fn rollback_reset_streams(&mut self)
+        ensures { self.new ≡ queue_handed_back self.old }
+    {
+        self.queue.rollback_reset_streams();
     }
 }

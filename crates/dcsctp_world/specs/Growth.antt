@@ -1,6 +1,6 @@
 -- How one side grows in an act.
 use Rattle.std.specs.Prelude.{◌≡◌, ℕ, true, false, Option, None, Some, Result, Ok, Err, List, [], ◌∷◌, ◌++◌, ◌⊎◌, map, length}
-use Rattle.dcsctp_machine.specs.Schedule.{CallContent, connect_call, close_call, ActContent, call_step, delivery_step, step_act, advance_call, set_call, send_call, send_many_call, take_call, OutsideContent, input_outside, outside_act}
+use Rattle.dcsctp_machine.specs.Schedule.{CallContent, connect_call, close_call, ActContent, call_step, delivery_step, step_act, advance_call, set_call, send_call, send_many_call, reset_call, take_call, OutsideContent, input_outside, outside_act}
 use Rattle.dcsctp_machine.specs.Event.{Event, packets_in}
 use Rattle.dcsctp_machine.specs.Endpoint.{Endpoint, association_of}
 use Rattle.dcsctp_machine.specs.Settings.{ports_of}
@@ -10,10 +10,12 @@ use Rattle.dcsctp_api.specs.declared.errors.SocketFault.{SocketFault}
 use Rattle.dcsctp_api.specs.declared.errors.SocketFault.TheVariants.{OutOfMemory, Failed}
 use Rattle.dcsctp_api.specs.Calls.{UserView, user_event, Follows}
 use Rattle.dcsctp_api.specs.Messages.{refusal_in, IsBatchAnswer, ready_messages, IsFirst}
+use Rattle.dcsctp_api.specs.Resets.{reset_refusal_in}
 use Rattle.dcsctp_machine.specs.Transfer.{MessageContent}
 use Rattle.dcsctp_machine.specs.turns.MessageOutcomes.{MessageRefusal, message_refusal, sending_of, RefusedMessage, refused_from}
+use Rattle.dcsctp_machine.specs.turns.PreparedResets.{ResetRefusal, reset_refusal}
 use Rattle.dcsctp_world.specs.declared.act.Reply.{Reply}
-use Rattle.dcsctp_world.specs.declared.act.Reply.TheVariants.{NoCall, Done, Sent, SentMany, Taken}
+use Rattle.dcsctp_world.specs.declared.act.Reply.TheVariants.{NoCall, Done, Sent, SentMany, Reset, Taken}
 use Rattle.dcsctp_world.specs.Shown.{SideShown}
 
 -- The new list begins with the old one.
@@ -93,6 +95,7 @@ WasCalled NoCall = ⊥
 WasCalled Done = Unit {0}
 WasCalled (Sent answer) = Unit {0}
 WasCalled (SentMany answer) = Unit {0}
+WasCalled (Reset answer) = Unit {0}
 WasCalled (Taken message) = Unit {0}
 
 -- Turns of this kind move the socket, and each list grows by what they show; no event waits. Where a call was made,
@@ -185,6 +188,11 @@ abbrev pub IsSentMany : List RefusedMessage → Reply → Type 0
 IsSentMany refused (SentMany answer) = IsBatchAnswer refused answer
 IsSentMany refused reply = ⊥
 
+-- It is what `reset_streams` answers where it is refused so.
+abbrev pub IsReset : Option ResetRefusal → Reply → Type 0
+IsReset refusal (Reset answer) = reset_refusal_in answer ≡ refusal
+IsReset refusal reply = ⊥
+
 -- It is what `get_next_message` answers where these are ready.
 abbrev pub IsTaken : List MessageContent → Reply → Type 0
 IsTaken ready (Taken message) = IsFirst ready message
@@ -198,6 +206,7 @@ IsCallReply e (advance_call moment) reply = reply ≡ Done
 IsCallReply e (set_call setting) reply = reply ≡ Done
 IsCallReply e (send_call message options) reply = IsSent (message_refusal e message.stream (length message.payload)) reply
 IsCallReply e (send_many_call messages options) reply = IsSentMany (refused_from 0 e (map (sending_of options) messages)) reply
+IsCallReply e (reset_call ids) reply = IsReset (reset_refusal e) reply
 IsCallReply e take_call reply = IsTaken (ready_messages e) reply
 
 -- It is what an act from outside answers.

@@ -4,7 +4,7 @@ ghost use Rattle.std.specs.Prelude.{◌≡◌, ◌↔◌, IsTrue, map};
 ghost use Rattle.dcsctp_machine.specs.Schedule.{act_content, AreHonest};
 ghost use Rattle.dcsctp_machine.specs.Sockets.{side_of_act};
 
-use dcsctp_api::{BatchSendError, Message, SendError};
+use dcsctp_api::{BatchSendError, Message, ResetStreamsError, SendError};
 use dcsctp_machine::{Act, Outside, Side, Step};
 
 /// What the call of an act answered.
@@ -21,6 +21,9 @@ pub enum Reply {
 
     /// What `send_many` answered.
     SentMany(Result<(), BatchSendError>),
+
+    /// What `reset_streams` answered.
+    Reset(Result<(), ResetStreamsError>),
 
     /// What `get_next_message` answered.
     Taken(Option<Message>),

@@ -3,7 +3,8 @@
 ghost use Rattle.std.specs.Prelude.{◌≡◌, [], ◌∷◌, map, IfOk, IsErrOf, IsOkUnless};
 ghost use Rattle.std.specs.Option.{option_map};
 ghost use Rattle.dcsctp_machine.specs.Settings.{IsValid};
-ghost use Rattle.dcsctp_machine.specs.Schedule.{call_content, act_content, send_call, send_many_call, take_call};
+ghost use Rattle.dcsctp_machine.specs.Schedule.{call_content, act_content, send_call, send_many_call, reset_call, take_call};
+ghost use Rattle.dcsctp_machine.specs.Ids.{stream_numbers};
 ghost use Rattle.dcsctp_machine.specs.Transfer.{message_content};
 ghost use Rattle.dcsctp_machine.specs.CallTurns.{HandleInput};
 ghost use Rattle.dcsctp_machine.specs.Sockets.{numbered, UserTurns, DeliveryTurns, TurnsOfAct};
@@ -18,7 +19,7 @@ use crate::act::Reply;
 use dcsctp_machine::{Act, Call, Outside, Step, copied_messages};
 use dcsctp_socket::{
     Association, DcSctpSocket, Message, Options, Pair, SendOptions, Socket, SocketEvent,
-    SocketFault,
+    SocketFault, StreamId,
 };
 use rand_core::Rng;
 use std::alloc::{AllocError, Global};
@@ -115,6 +116,7 @@ fn make_call<R: Rng + Drop>(socket: &mut Socket<R>, call: &Call) -> Result<Reply
         }
         Call::Send(message, options) => send(socket, message, options),
         Call::SendMany(messages, options) => send_many(socket, messages, options),
+        Call::ResetStreams(stream_ids) => reset_streams(socket, stream_ids),
         Call::GetNextMessage => take_message(socket),
     }
 }
@@ -156,6 +158,20 @@ fn send_many<R: Rng + Drop>(
     }
     let answer = socket.send_many(copied_messages(messages)?, options)?;
     Ok(Reply::SentMany(answer))
+}
+
+// The user resets streams. The errors are those of the call.
+fn reset_streams<R: Rng + Drop>(
+    socket: &mut Socket<R>,
+    stream_ids: &[StreamId],
+) -> Result<Reply, SocketFault>
+    ensures call { Called (UserTurns socket.old.view.endpoint (reset_call (stream_numbers stream_ids.now)))
+        (IsCallReply socket.old.view.endpoint (reset_call (stream_numbers stream_ids.now)))
+        (user_view_of socket.old) result (user_view_of socket.new) }
+    ensures failed { IsErrOf result SocketFault.Failed → socket.new ≡ socket.old }
+{
+    let answer = socket.reset_streams(stream_ids)?;
+    Ok(Reply::Reset(answer))
 }
 
 // The user takes a message. The one error is that the socket had failed.

@@ -7,10 +7,11 @@ use Rattle.dcsctp_machine.specs.declared.word.Word.{Word}
 use Rattle.dcsctp_machine.specs.Settings.{packet_size_limit}
 use Rattle.dcsctp_machine.specs.Event.{Event, sent, packets_in, buffered_amount_low, total_buffered_amount_low, lifecycle_message_fully_sent, lifecycle_message_maybe_expired, lifecycle_message_expired, lifecycle_end}
 use Rattle.dcsctp_machine.specs.Packet.{Plain, unworked, plain_out, Content, Emission}
-use Rattle.dcsctp_machine.specs.Transfer.{SendQueueState, has_data, TrackerState, can_send, Transfer, must_give, is_idle}
+use Rattle.dcsctp_machine.specs.Transfer.{SendQueueState, has_data, RetransmissionState, TrackerState, can_send, Transfer, must_give, is_idle}
 use Rattle.dcsctp_machine.specs.turns.TransferMoves.{acknowledged}
-use Rattle.dcsctp_machine.specs.Endpoint.{Endpoint, Core, closed, cookie_wait, cookie_echoed, open_in, Timers, moment_after, heartbeats_begun}
-use Rattle.dcsctp_machine.specs.Outcome.{Outcome, contents_len, still, quiet, sends, behind, then_outcome}
+use Rattle.dcsctp_machine.specs.turns.BegunResets.{BegunReset, last_assigned_tsn, begun_in, request_contents, begun_effects, after_begun}
+use Rattle.dcsctp_machine.specs.Endpoint.{Endpoint, Core, closed, cookie_wait, cookie_echoed, open_in, Timers, moment_after, heartbeats_begun, held_in}
+use Rattle.dcsctp_machine.specs.Outcome.{Outcome, contents_len, still, quiet, sends, behind, noting, then_outcome}
 use Rattle.dcsctp_machine.specs.control.Choices.{plain_contents}
 use Rattle.dcsctp_wire.specs.Content.{SackContent, data_chunk, sack_chunk, i_data_chunk, forward_tsn_chunk, i_forward_tsn_chunk}
 use Rattle.dcsctp_wire.specs.ReadsBack.{FitsSack, FitsChunk}
@@ -39,14 +40,15 @@ told_event (message_ends id) = lifecycle_end id
 -- What is answered where a packet is to be filled: what goes behind the chunks that it holds, what the user is told, and the
 -- endpoint after that.
 pub record Answer : Type 0 where
-  -- in the first packet alone: SACK and FORWARD-TSN
+  -- in the first packet alone: SACK and FORWARD-TSN, and behind them the request of a stream reset that is begun
   pub acknowledgements : List Plain
+  pub begun : Option BegunReset
   pub data_chunks : List Plain
   pub told : List Told
   pub after : Endpoint
 
 abbrev pub answer_contents : Answer → List Content
-answer_contents answer = plain_contents answer.acknowledgements ++ plain_contents answer.data_chunks
+answer_contents answer = plain_contents answer.acknowledgements ++ (request_contents answer.begun ++ plain_contents answer.data_chunks)
 
 -- the packet with these chunks behind what it holds
 abbrev pub filled : Emission → List Content → Emission
@@ -61,7 +63,7 @@ goes_out e told with_checksum tag (content ∷ contents) =
 -- what comes of one packet that is asked to be filled
 abbrev pub asked : Endpoint → Emission → Answer → Outcome
 asked e draft answer =
-    goes_out answer.after (map told_event answer.told) draft.with_checksum draft.packet.tag (filled draft (answer_contents answer)).packet.contents
+    noting (begun_effects answer.begun) (goes_out answer.after (map told_event answer.told) draft.with_checksum draft.packet.tag (filled draft (answer_contents answer)).packet.contents)
 
 -- ---- a list of them
 
@@ -97,7 +99,7 @@ IsWithin e emission = 12 + contents_len emission.packet.contents ≤ packet_size
 
 -- what is answered where nothing waits
 abbrev pub nothing_waits : Endpoint → Answer
-nothing_waits e = record { acknowledgements = []; data_chunks = []; told = []; after = e }
+nothing_waits e = record { acknowledgements = []; begun = None; data_chunks = []; told = []; after = e }
 
 -- Which packet of a flush is to be filled: what acknowledges, what gives messages up and what resets streams goes into the
 -- first alone.
@@ -170,6 +172,19 @@ abbrev pub is_none : {A : Type 0} → List A → Bool
 is_none [] = true
 is_none (first ∷ rest) = false
 
+abbrev pub begun_at : Ask → Option Held → ℕ → ℕ → SendQueueState → Option BegunReset
+begun_at first_ask held room last_tsn queue = begun_in held room last_tsn queue
+begun_at later_ask held room last_tsn queue = None
+
+-- The request of a reset goes into the first packet alone. It is begun behind what gives messages up, which changes nothing where
+-- nothing is outstanding and without partial reliability.
+pub record BeginsReset (ask : Ask) (e : Endpoint) (room : ℕ) (transfer : Transfer) (begun : Option BegunReset) : Type 0 where
+  pub queue : SendQueueState
+  pub retransmission : RetransmissionState
+  pub negotiated : transfer.retransmission.partial_reliability ≡ false → (queue ≡ e.below.queue) × (retransmission ≡ transfer.retransmission)
+  pub idle : transfer.retransmission.outstanding_items ≡ 0 → (queue ≡ e.below.queue) × (retransmission ≡ transfer.retransmission)
+  pub is : begun ≡ begun_at ask (held_in e.core) room (last_assigned_tsn retransmission) queue
+
 -- What the transfer layer of an association gives: what acknowledges, what gives messages up, and data, which is missing only where
 -- none can go (RFC 9260, section 6.1).
 pub record Gives (ask : Ask) (e : Endpoint) (draft : Emission) (transfer : Transfer) (answer : Answer) : Type 0 where
@@ -180,10 +195,11 @@ pub record Gives (ask : Ask) (e : Endpoint) (draft : Emission) (transfer : Trans
   pub parts : answer.acknowledgements ≡ sacks ++ forwards
   pub acknowledges : Acknowledges (wants_sack ask e.below.queue transfer) (room_in e draft) transfer left.tracker sacks
   pub gives_up : GivesUp ask e transfer answer.after.no_forward_tsn_before forwards
+  pub begins : BeginsReset ask e (room_in e (filled draft (plain_contents answer.acknowledgements))) transfer answer.begun
   pub kind : AllByRecursion (IsData transfer.retransmission.message_interleaving) answer.data_chunks
   pub fit : AllByRecursion FitsPlain answer.data_chunks
   pub data_goes : is_none answer.data_chunks ≡ true
-      → must_give (room_in e (filled draft (plain_contents answer.acknowledgements))) answer.after.below.queue left.retransmission ≡ false
+      → must_give (room_in e (filled draft (plain_contents answer.acknowledgements ++ request_contents answer.begun))) answer.after.below.queue left.retransmission ≡ false
   pub partial_reliability : left.retransmission.partial_reliability ≡ transfer.retransmission.partial_reliability
   pub message_interleaving : left.retransmission.message_interleaving ≡ transfer.retransmission.message_interleaving
   pub timeout : left.timeout ≡ transfer.timeout
@@ -206,7 +222,11 @@ timers_with e (chunk ∷ chunks) = heartbeats_begun e e.timers
 -- The answers that are allowed to this ask.
 pub record Answered (ask : Ask) (e : Endpoint) (draft : Emission) (answer : Answer) : Type 0 where
   pub kept : answer.after
-      ≡ record e { timers = timers_with e answer.data_chunks; no_forward_tsn_before = answer.after.no_forward_tsn_before; below = answer.after.below }
+      ≡ record (after_begun answer.begun e) {
+        timers = timers_with (after_begun answer.begun e) answer.data_chunks;
+        no_forward_tsn_before = answer.after.no_forward_tsn_before;
+        below = answer.after.below;
+      }
   pub within : IsWithin e draft → IsWithin e (filled draft (answer_contents answer))
   pub by_transfer : AnsweredBelow ask e draft answer e.below.transfer
 

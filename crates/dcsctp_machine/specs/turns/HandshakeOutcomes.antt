@@ -152,7 +152,8 @@ awaits_cookie_ack e mine theirs cookie tie =
     record e {
       core = cookie_echoed mine held cookie;
       tie = tie;
-      timers = record e.timers { t1 = started e.moment (t1_settings e.options (as_nanos e.options.t1_cookie_timeout)) };
+      outstanding = None;
+      timers = record e.timers { t1 = started e.moment (t1_settings e.options (as_nanos e.options.t1_cookie_timeout)); reconfiguration = None };
       peer_implementation = implementation_of cookie;
       below = record {
         queue = queue_anew e.below.queue held.capabilities.message_interleaving;

@@ -1,23 +1,23 @@
 -- The turn of RE-CONFIG: what the peer asks to be reset, how it is answered, and what it answers (RFC 6525, section 5.2).
 -- Which numbers are accepted and what is answered stands in control/ResetChanges (`work_chunk`); here stands what else comes of it.
-use Rattle.std.specs.Prelude.{◌≡◌, ◌==◌, ◌^◌, ℕ, Bool, true, false, not, ◌&&◌, nat_lt, Option, None, Some, List, [], ◌∷◌, ◌++◌, map, codes, if◌then◌else◌}
+use Rattle.std.specs.Prelude.{◌≡◌, ◌==◌, ◌^◌, ℕ, Bool, true, false, not, ◌&&◌, nat_lt, Option, None, Some, List, [], ◌∷◌, ◌++◌, codes}
 use Rattle.std.specs.List.{list_any}
 use Rattle.std.specs.Option.{option_map}
 use Rattle.dcsctp_wire.specs.declared.reconfiguration.ReconfigurationResponseResult.TheVariants.{InProgress}
 use Rattle.dcsctp_machine.specs.declared.association.Pair.{Pair}
 use Rattle.dcsctp_machine.specs.declared.association.Held.{Held}
-use Rattle.dcsctp_machine.specs.declared.kinds.BackoffAlgorithm.TheVariants.{Exponential}
 use Rattle.dcsctp_machine.specs.declared.kinds.ErrorKind.TheVariants.{ProtocolViolation}
 use Rattle.dcsctp_machine.specs.Event.{Event, error, incoming_stream_reset, streams_reset_failed, streams_reset_performed}
 use Rattle.dcsctp_machine.specs.Packet.{re_config, Emission}
 use Rattle.dcsctp_machine.specs.Reconfiguration.{RequestedReset, ResetParameter, outgoing_reset_request, incoming_reset_request, reconfiguration_response, other_reset_parameter}
-use Rattle.dcsctp_machine.specs.Transfer.{QueuedStream, SendQueueState, Transfer, resumed}
-use Rattle.dcsctp_machine.specs.Endpoint.{Endpoint, Core, cookie_echoed, open_in, OutstandingRequest, TimerSettings, started}
+use Rattle.dcsctp_machine.specs.Transfer.{Transfer, queue_handed_back}
+use Rattle.dcsctp_machine.specs.Endpoint.{Endpoint, Core, cookie_echoed, open_in, OutstandingRequest, started}
 use Rattle.dcsctp_machine.specs.Outcome.{Outcome, still, quiet, emits, behind, noting, to_peer}
 use Rattle.dcsctp_machine.specs.control.Effect.{Effect, completes, fails, performs}
 use Rattle.dcsctp_machine.specs.control.ResetChanges.{WorkedParameters, work_chunk}
 use Rattle.dcsctp_machine.specs.turns.FlushOutcomes.{Answer, draft_to, flush_of, FlushAnswers}
 use Rattle.dcsctp_machine.specs.turns.TransferMoves.{tsns_ahead, GainsMessages}
+use Rattle.dcsctp_machine.specs.turns.BegunResets.{reconfiguration_settings, rto_of}
 
 -- ---- when a reset is due
 
@@ -98,26 +98,10 @@ abbrev pub answered_in : Held → WorkedParameters → List ResetParameter → O
 answered_in held worked parameters =
     own_answer held.own_outstanding worked.held.own_outstanding (in_progress_among held.own_outstanding (worked_part false parameters))
 
--- the reconfiguration timer: each wait is twice the last one, without a bound, and it goes on for good (RFC 6525, section 5.1.1)
-abbrev pub reconfiguration_settings : ℕ → TimerSettings
-reconfiguration_settings rto = record { duration = rto; terms = record { backoff = Exponential; max_restarts = None; max_backoff = None } }
-
--- the retransmission timeout, where there is an association
-abbrev pub rto_of : Option Transfer → ℕ
-rto_of None = 0
-rto_of (Some transfer) = transfer.timeout.rto
-
 -- the streams that the own request resets
 abbrev pub own_streams : Option OutstandingRequest → List ℕ
 own_streams None = []
 own_streams (Some request) = request.streams
-
-abbrev pub resumed_among : List ℕ → QueuedStream → QueuedStream
-resumed_among ids stream = if list_any (λ id. id == stream.stream) ids then resumed stream else stream
-
--- messages of these streams may be begun again
-abbrev pub queue_resumed : List ℕ → SendQueueState → SendQueueState
-queue_resumed ids queue = record queue { streams = map (resumed_among ids) queue.streams }
 
 -- it waits to be sent again
 abbrev pub waiting : OutstandingRequest → OutstandingRequest
@@ -135,7 +119,7 @@ own_moved over e =
     record e {
       outstanding = None;
       timers = record e.timers { reconfiguration = None };
-      below = record e.below { queue = queue_resumed (own_streams e.outstanding) e.below.queue };
+      below = record e.below { queue = queue_handed_back e.below.queue };
     }
 
 -- ---- what comes of it

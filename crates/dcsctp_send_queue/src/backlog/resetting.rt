@@ -11,8 +11,8 @@ impl Backlog {
     ghost use Rattle.std.specs.Prelude.{◌≡◌, ◌==◌, ◌+◌, ◌-◌, ◌<◌, ◌++◌, length, take, Ok, Err, OnOk, OnErr, IfOk, IsTrue, ◌↔◌};
     ghost use Rattle.dcsctp_streams.specs.Waiting.{handed_out};
     ghost use Rattle.dcsctp_machine.specs.Ids.{stream_numbers};
-    ghost use Rattle.dcsctp_streams.specs.Telling.{contents};
-    ghost use Rattle.dcsctp_streams.specs.Ranking.{stream_at};
+    ghost use Rattle.dcsctp_streams.specs.Telling.{contents, TellsFront};
+    ghost use Rattle.dcsctp_streams.specs.Ranking.{stream_at, IsAscending};
     ghost use Rattle.dcsctp_send_queue.specs.Leaving.{count_under_way, after_pause, pause_events};
     ghost use Rattle.dcsctp_send_queue.specs.Backlog.{CanGoOn, begun, changed, ready_streams, is_ready};
     ghost use Rattle.dcsctp_send_queue.specs.Resets.{prepared, prepare_events, IsUsedAtMost, HasReady, handing_out};
@@ -23,6 +23,7 @@ impl Backlog {
         ensures ok { OnOk result (self.new ≡ after_pause place self.old) }
         ensures told { OnOk result (contents events.new ≡ contents events.old ++ pause_events place self.old) }
         ensures err { OnErr result (self.new ≡ self.old) }
+        ensures front { OnErr result (TellsFront (contents events.old) (pause_events place self.old) (contents events.new)) }
     {
         let kept = self.count_under_way(self.streams.at(place).id());
         let size = self.streams.at(place).size_from(kept);
@@ -38,7 +39,9 @@ impl Backlog {
         ensures ok { OnOk result (self.new ≡ prepared stream_id.0 self.old) }
         ensures told { OnOk result (contents events.new ≡ contents events.old ++ prepare_events stream_id.0 self.old) }
         ensures can { CanGoOn self.old.streams self.old.under_way → CanGoOn self.new.streams self.new.under_way }
+        ensures was_ascending { IsAscending self.old.streams }
         ensures err { OnErr result (IsUsedAtMost stream_id.0 self.old self.new) }
+        ensures front { OnErr result (TellsFront (contents events.old) (prepare_events stream_id.0 self.old) (contents events.new)) }
     {
         let place = self.use_stream(stream_id)?;
         match self.streams.at(place).pause_state() {

@@ -1,5 +1,5 @@
 use Rattle.std.proofs.lemmas.Result.{err_from_is_err_and}
-use Rattle.std.proofs.Common.{refl, ap, ◌∙◌, rules}
+use Rattle.std.proofs.Common.{refl, ap, rules}
 use Rattle.dcsctp_wire.specs.Content.{init_content}
 use Rattle.dcsctp_machine.specs.Packet.{introduction_in}
 use Rattle.dcsctp_core.specs.declared.context.Context.{Context}

@@ -3,7 +3,7 @@ use Rattle.std.proofs.Common.{ap}
 use Rattle.dcsctp_api.specs.Cookie.{cookie_of}
 use Rattle.dcsctp_machine.specs.turns.CookieEchoOutcomes.{invalid_tag_text}
 use Rattle.dcsctp_core.specs.View.{View, view_of}
-use Rattle.dcsctp_handshake.proofs.EchoSteps.{works_new, works_new_cut, works_replacing, works_replacing_cut, works_restart, works_restart_cut, works_maintain, works_maintain_cut, works_discard, works_refused, refused_cut, unread_turn, untagged_turn}
+use Rattle.dcsctp_handshake.proofs.EchoSteps.{works_new, works_new_cut, works_replacing, works_replacing_cut, works_restart, works_restart_cut, works_maintain, works_maintain_cut, works_discard, refused_cut, unread_turn, untagged_turn}
 use Rattle.dcsctp_handshake.proofs.cookie_echo.handle_cookie_echo.Goals as goal
 
 pub returns-in_err-refuse-in-Err : goal.returns-in_err-refuse-in-Err

@@ -2,7 +2,7 @@ use Rattle.std.proofs.lemmas.Result.{err_from_is_err_and}
 use Rattle.std.proofs.Common.{ap, subst}
 use Rattle.dcsctp_core.specs.declared.state.State.{State}
 use Rattle.dcsctp_core.specs.Handling.{TakesIn, CutIn}
-use Rattle.dcsctp_core.specs.View.{View, Moves, view_of, endpoint_of, core_of}
+use Rattle.dcsctp_core.specs.View.{View, Moves, view_of}
 use Rattle.dcsctp_handshake.specs.Timing.{AgainAt, give_up_turn}
 use Rattle.dcsctp_handshake.proofs.T1Steps.{t1_again, t1_again_cut, t1_gave_up, t1_kept}
 use Rattle.dcsctp_handshake.proofs.t1.handle_t1.Goals as goal

@@ -9,7 +9,7 @@ returns-in_ok-respond-in-OutgoingSsnResetRequest c =
     rw c.in-OutgoingSsnResetRequest.is
     (outgoing_one c.args.is_reached request.request_seq_nbr request.response_seq_nbr (record { last_tsn = request.sender_last_assigned_tsn; streams = streams_in request.streams.now }) c.args.self.now c.respond.new.self _
     c.answer_outgoing-answered.result (not_second c.args.self.now.has_worked _ request c.in-OutgoingSsnResetRequest.is c.requires) c.answer_outgoing-answered.ensures
-    (c.in_ok-respond-in-OutgoingSsnResetRequest.ensures) refl refl refl refl refl)
+    (c.in_ok-respond-in-OutgoingSsnResetRequest.ensures) refl refl refl refl (record { outstanding = refl; own = refl; first = refl }) refl)
 
 pub returns-in_ok-respond-in-IncomingSsnResetRequest : goal.returns-in_ok-respond-in-IncomingSsnResetRequest
 returns-in_ok-respond-in-IncomingSsnResetRequest c =
@@ -17,10 +17,10 @@ returns-in_ok-respond-in-IncomingSsnResetRequest c =
     rw c.in-IncomingSsnResetRequest.is
     (incoming_one c.args.is_reached request.request_seq_nbr (streams_in request.streams.now) c.args.self.now c.respond-in-IncomingSsnResetRequest.new.self _
     c.answer_incoming-answered.result c.answer_incoming-answered.ensures
-    (c.in_ok-respond-in-IncomingSsnResetRequest.ensures) refl refl refl refl refl)
+    (c.in_ok-respond-in-IncomingSsnResetRequest.ensures) refl refl refl refl (record { outstanding = refl; own = refl; first = refl }) refl)
 
 pub returns-in-ReconfigurationResponse : goal.returns-in-ReconfigurationResponse
-returns-in-ReconfigurationResponse c = rw c.in-ReconfigurationResponse.is (response_one c.args.is_reached _ _ c.args.self.now)
+returns-in-ReconfigurationResponse c = rw c.in-ReconfigurationResponse.is (response_one c.args.is_reached _ _ c.args.self.now c.take_response.new.self c.take_response.ensures)
 
 pub returns-in-HeartbeatInfo : goal.returns-in-HeartbeatInfo
 returns-in-HeartbeatInfo c = rw c.in-HeartbeatInfo.is (other_one c.args.is_reached _ c.args.self.now)

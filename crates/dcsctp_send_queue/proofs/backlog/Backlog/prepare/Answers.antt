@@ -1,8 +1,9 @@
-use Rattle.std.proofs.Common.{◌++◌, ap, sym, ◌∙◌, rules}
+use Rattle.std.proofs.Common.{ℕ, List, ◌++◌, ap, sym, subst, ◌∙◌, rules}
+use Rattle.dcsctp_machine.specs.Event.{Event}
 use Rattle.dcsctp_send_queue.specs.declared.backlog.Backlog.{Backlog}
-use Rattle.dcsctp_streams.specs.Telling.{contents}
+use Rattle.dcsctp_streams.specs.Telling.{contents, TellsFront}
 use Rattle.dcsctp_send_queue.specs.Resets.{is_open, prepared_in, prepare_events_in}
-use Rattle.dcsctp_send_queue.proofs.ResetLemmas.{on_ok_map, paused_is, open_is, closed_is, open_events, closed_events, can_go_on-after_pause}
+use Rattle.dcsctp_send_queue.proofs.ResetLemmas.{on_ok_map, on_err_map, paused_is, open_is, closed_is, open_events, closed_events, can_go_on-after_pause}
 use Rattle.dcsctp_send_queue.proofs.QueueLemmas.{found_in-at}
 use Rattle.dcsctp_send_queue.proofs.backlog.Backlog.prepare.Goals as goal
 
@@ -26,6 +27,16 @@ returns-in-Open-clause-told c =
 pub returns-in-Open-clause-can : goal.returns-in-Open-clause-can
 returns-in-Open-clause-can c can =
     can_go_on-after_pause c.pause.result c.use_stream.new.self c.pause.new.self c.in_ok-place.place c.pause.ensures.ok c.pause.ensures.err c.in_ok-place.ensures.place.0 (c.in_ok-place.ensures.can can)
+
+pub returns-in-Open-clause-front : goal.returns-in-Open-clause-front
+returns-in-Open-clause-front c =
+    let is = ap (λ s. s.pause) (found_in-at _ _ _ _ c.in_ok-place.ensures.ascending c.in_ok-place.ensures.place ∙ sym c.at.ensures) ∙ (sym c.pause_state.ensures ∙ c.in-Open.is) in
+    let told =
+    open_events c.use_stream.new.self c.in_ok-place.place c.args.stream_id.0 c.in_ok-place.ensures.ascending c.in_ok-place.ensures.place (ap (λ p. is_open p) is)
+    ∙ ap {A = Backlog} (λ (q : Backlog). prepare_events_in c.args.stream_id.0 q) c.in_ok-place.ensures.ok in
+    on_err_map c.pause.result
+    (λ tells. subst (λ (whole : List (Event (List ℕ))). TellsFront (contents c.args.events.now) whole (contents c.pause.new.events)) told tells)
+    c.pause.ensures.front
 
 pub returns-in-Pausing-clause-ok : goal.returns-in-Pausing-clause-ok
 returns-in-Pausing-clause-ok c =

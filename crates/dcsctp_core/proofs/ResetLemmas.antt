@@ -1,0 +1,215 @@
+-- An own reset of streams is begun.
+use Rattle.std.proofs.Common.{◌≡◌, ◌≤◌, ◌<◌, ◌+◌, ◌*◌, ◌/◌, ◌%◌, ◌^◌, ◌==◌, ℕ, Bool, true, false, Option, None, Some, List, [], ◌∷◌, ◌++◌, length, map, take, get_or, flat_map, refl, sym, ap, subst, ◌∙◌, arith, Result, Ok, Err, OnOk, not}
+use Rattle.std.specs.Int.{w16, to_be_bytes}
+use Rattle.std.proofs.lemmas.List.{append-nil, map-append, take_more}
+use Rattle.std.proofs.lemmas.List.Concat.{flat_map-append}
+use Rattle.dcsctp_machine.specs.declared.ids.StreamId.{StreamId}
+use Rattle.dcsctp_machine.specs.Ids.{stream_numbers}
+use Rattle.dcsctp_wire.specs.Spelling.{chunk_bytes}
+use Rattle.dcsctp_machine.specs.Packet.{chunk_out}
+use Rattle.dcsctp_machine.specs.Reconfiguration.{RequestedReset}
+use Rattle.dcsctp_machine.specs.control.FlushChanges.{reset_request}
+use Rattle.dcsctp_machine.specs.turns.BegunResets.{streams_within, stream_field, BegunReset, last_assigned_tsn, begun_where, rto_of, held_begun, core_asking, after_begun}
+use Rattle.dcsctp_machine.proofs.AnswerLemmas.{request_len}
+use Rattle.std.proofs.lemmas.Bool.Decides.{nat_tests}
+use Rattle.dcsctp_core.specs.Resetting.{IsStream, StartsReset, BeginsReset, request_begun, timer_begun, BeginsIn, BeginsBelow}
+use Rattle.std.specs.List.{AllByRecursion}
+use Rattle.std.specs.Prelude.{is_some}
+use Rattle.std.specs.declared.alloc.AllocError.{AllocError}
+use Rattle.dcsctp_build.specs.Building.{Building, bytes_remaining}
+use Rattle.dcsctp_machine.specs.Transfer.{SendQueueState, is_none_ready, Transfer}
+use Rattle.dcsctp_core.specs.declared.transmission_control_block.ResetRequest.{ResetRequest}
+use Rattle.dcsctp_core.specs.declared.transmission_control_block.TransmissionControlBlock.{TransmissionControlBlock}
+use Rattle.dcsctp_core.specs.View.{number_of, held_of, core_of, tie_of, t1_of, outstanding_of, reconfiguration_of, transfer_of, endpoint_of, view_of, View}
+use Rattle.dcsctp_machine.specs.declared.association.Pair.{Pair}
+use Rattle.dcsctp_machine.specs.declared.association.Held.{Held}
+use Rattle.dcsctp_machine.specs.Endpoint.{Endpoint, Core, cookie_echoed, open_in, established, OutstandingRequest, RunningTimer}
+use Rattle.dcsctp_core.specs.declared.state.State.{State}
+use Rattle.dcsctp_core.specs.declared.state.State.TheVariants.{Closed, CookieWait, CookieEchoed, Established}
+use Rattle.dcsctp_core.specs.declared.context.Context.{Context}
+use Rattle.dcsctp_core.specs.Flushing.{BeginsAt, TriesReset}
+
+-- ---- the streams in bytes
+
+one_more : (streams : List StreamId) (i : ℕ) (d : StreamId) → i < length streams
+    → flat_map (to_be_bytes w16) (stream_numbers (take (i + 1) streams)) ≡ flat_map (to_be_bytes w16) (stream_numbers (take i streams)) ++ to_be_bytes w16 (get_or streams i d).0
+one_more streams i d within =
+    let last : StreamId = get_or streams i d in
+    ap (λ (ids : List StreamId). flat_map (to_be_bytes w16) (stream_numbers ids)) (take_more streams i d within)
+    ∙ ap (λ (ids : List ℕ). flat_map (to_be_bytes w16) ids) (map-append (λ (id : StreamId). id.0) (take i streams) (last ∷ []))
+    ∙ flat_map-append (to_be_bytes w16) (stream_numbers (take i streams)) (last.0 ∷ [])
+    ∙ ap (λ (bytes : List ℕ). flat_map (to_be_bytes w16) (stream_numbers (take i streams)) ++ bytes) (append-nil (to_be_bytes w16 last.0))
+
+pub pushed : (streams : List StreamId) (i : ℕ) (d : StreamId) (bytes added : List ℕ) → i < length streams → bytes ≡ flat_map (to_be_bytes w16) (stream_numbers (take i streams))
+    → added ≡ to_be_bytes w16 (get_or streams i d).0 → bytes ++ added ≡ flat_map (to_be_bytes w16) (stream_numbers (take (i + 1) streams))
+pushed streams i d bytes added within so_far is =
+    ap (λ (front : List ℕ). front ++ added) so_far ∙ ap (λ (back : List ℕ). flat_map (to_be_bytes w16) (stream_numbers (take i streams)) ++ back) is ∙ sym (one_more streams i d within)
+
+-- ---- the request in its packet
+
+-- the room that its chunk takes
+pub request_room : (number : ℕ) (reset : RequestedReset) (room : ℕ) → 20 + (length reset.streams + 1) / 2 * 4 ≤ room → length (chunk_bytes (chunk_out (reset_request number reset))) ≤ room
+request_room number reset room within =
+    let bytes : List ℕ = chunk_bytes (chunk_out (reset_request number reset)) in
+    let whole : length (bytes ++ []) ≡ length bytes = ap length (append-nil bytes) in
+    let len = request_len number reset in
+    omega (arith, within, whole, len)
+
+-- as many as fit leave room for it
+pub streams_fit : (room : ℕ) (streams : List ℕ) (count : ℕ) → count ≡ length streams → count ≤ streams_within room → (count == 0) ≡ false → 20 + (count + 1) / 2 * 4 ≤ room
+streams_fit room streams count is few some = let above : 0 < count = grind (arith, nat_tests) in omega (arith, few, above)
+
+-- ---- streams that fit their fields
+
+all_then : (front : List ℕ) (last : ℕ) → AllByRecursion IsStream front → IsStream last → AllByRecursion IsStream (front ++ last ∷ [])
+all_then [] last all one = (one, tt)
+all_then (first ∷ front) last all one = (all.0, all_then front last all.1 one)
+
+pub one_fits : (streams : List StreamId) (i : ℕ) (d : StreamId) → i < length streams → AllByRecursion IsStream (stream_numbers (take i streams)) → (get_or streams i d).0 < 2 ^ 16
+    → AllByRecursion IsStream (stream_numbers (take (i + 1) streams))
+one_fits streams i d within so_far small =
+    subst (AllByRecursion IsStream) (sym (ap stream_numbers (take_more streams i d within) ∙ map-append (λ (id : StreamId). id.0) (take i streams) (get_or streams i d ∷ [])))
+    (all_then (stream_numbers (take i streams)) (get_or streams i d).0 so_far small)
+
+-- so each is as its field holds it
+pub fields_same : (streams : List ℕ) → AllByRecursion IsStream streams → map stream_field streams ≡ streams
+fields_same [] fit = refl
+fields_same (stream ∷ streams) fit =
+    let same : stream % 2 ^ 16 ≡ stream = omega (arith, fit.0) in
+    ap (λ (first : ℕ). first ∷ map stream_field streams) same ∙ ap (λ (rest : List ℕ). stream ∷ rest) (fields_same streams fit.1)
+
+-- ---- a reset is begun, where a stream is ready
+
+begun_is : (outstanding : Option ℕ) (number last_tsn : ℕ) (streams : List ℕ) → outstanding ≡ None → (length streams == 0) ≡ false
+    → Some (record { number = number; reset = record { last_tsn = last_tsn; streams = streams } }) ≡ begun_where outstanding number last_tsn streams
+begun_is None number last_tsn [] none some = absurd (cc)
+begun_is None number last_tsn (stream ∷ streams) none some = refl
+begun_is (Some other) number last_tsn streams none some = absurd (cc)
+
+pub begins_with : (now max : ℕ) (ids : List ℕ) (queue : SendQueueState) (old : TransmissionControlBlock) (packet : Building) (left : SendQueueState) (new : TransmissionControlBlock) (filled : Building)
+    → number_of old.reset_request ≡ None → max ≡ streams_within (bytes_remaining packet) → ids ≡ take max queue.ready_streams → (length ids == 0) ≡ false → is_none_ready queue.ready_streams ≡ false
+    → StartsReset now ids old packet new filled → BeginsReset now queue old packet left new filled
+begins_with now max ids queue old packet left new filled none is_max is some ready h =
+    let last : ℕ = last_assigned_tsn old.transfer.retransmission in
+    let number : ℕ = old.next_outgoing_reset_req_seq_nbr in
+    record {
+      begun = Some h.begun;
+      is = ap (λ (b : BegunReset). Some b) h.is
+          ∙ begun_is (number_of old.reset_request) number last ids none some
+          ∙ ap (λ (streams : List ℕ). begun_where (number_of old.reset_request) number last streams)
+          (sym (fields_same ids h.fit) ∙ ap (map stream_field) (is ∙ ap (λ (n : ℕ). take n queue.ready_streams) is_max));
+      begins = h.begins;
+      packet_is = h.packet_is;
+      none = λ empty. absurd (cc);
+    }
+
+pub begins_by : (now max : ℕ) (ids : List ℕ) (queue : SendQueueState) (old : TransmissionControlBlock) (packet : Building) (left : SendQueueState) (new : TransmissionControlBlock) (filled : Building)
+    (result : Result (Unit {0}) AllocError)
+    → number_of old.reset_request ≡ None → max ≡ streams_within (bytes_remaining packet) → ids ≡ take max queue.ready_streams → (length ids == 0) ≡ false → is_none_ready queue.ready_streams ≡ false
+    → OnOk result (StartsReset now ids old packet new filled) → OnOk result (BeginsReset now queue old packet left new filled)
+begins_by now max ids queue old packet left new filled (Ok done) none is_max is some ready h = begins_with now max ids queue old packet left new filled none is_max is some ready h
+begins_by now max ids queue old packet left new filled (Err error) none is_max is some ready h = tt
+
+-- no request is outstanding
+pub none_outstanding : (request : Option ResetRequest) → is_some request ≡ false → number_of request ≡ None
+none_outstanding None none = refl
+none_outstanding (Some request) none = absurd (cc)
+
+pub some_ready : (answer none : Bool) → answer ≡ not none → answer ≡ true → none ≡ false
+some_ready answer false is answered = refl
+some_ready answer true is answered = absurd (cc)
+
+-- ---- of a socket
+
+abbrev core_where : Option BegunReset → Core → Core
+core_where None core = core
+core_where (Some begun) core = core_asking core
+
+-- what the machine sees of a state in which this was begun
+record Stood (now : ℕ) (begun : Option BegunReset) (old new : State) : Type 0 where
+  core : core_of new ≡ core_where begun (core_of old)
+  tie : tie_of new ≡ tie_of old
+  t1 : t1_of new ≡ t1_of old
+  outstanding : outstanding_of new ≡ request_begun begun (outstanding_of old)
+  reconfiguration : reconfiguration_of new ≡ timer_begun begun now (rto_of (transfer_of old)) (reconfiguration_of old)
+  transfer : transfer_of new ≡ transfer_of old
+
+echoed_core : (begun : Option BegunReset) (my : Pair) (held : Held) (cookie : List ℕ) → cookie_echoed my (held_begun begun held) cookie ≡ core_where begun (cookie_echoed my held cookie)
+echoed_core None my held cookie = refl
+echoed_core (Some begun) my held cookie = refl
+
+open_core : (begun : Option BegunReset) (my : Pair) (held : Held) → open_in established my (held_begun begun held) ≡ core_where begun (open_in established my held)
+open_core None my held = refl
+open_core (Some begun) my held = refl
+
+stood : (now : ℕ) (begun : Option BegunReset) (old new : State) (transfer : Transfer) → transfer_of old ≡ Some transfer → BeginsIn now begun old new → Stood now begun old new
+stood now begun Closed new transfer holds h = absurd (cc)
+stood now begun (CookieWait wait) new transfer holds h = absurd (cc)
+stood now begun (CookieEchoed echoed) new transfer holds h =
+    let tcb : TransmissionControlBlock = h.0 in
+    subst (Stood now begun (CookieEchoed echoed)) (sym h.2)
+    (record {
+      core = ap (λ (my : Pair). cookie_echoed my (held_of tcb) echoed.cookie.items) h.1.my ∙ ap (λ (held : Held). cookie_echoed echoed.tcb.my held echoed.cookie.items) h.1.held
+          ∙ echoed_core begun echoed.tcb.my (held_of echoed.tcb) echoed.cookie.items;
+      tie = h.1.tie_tag;
+      t1 = refl;
+      outstanding = h.1.request;
+      reconfiguration = h.1.timer;
+      transfer = ap (λ (t : Transfer). Some t) h.1.transfer;
+    })
+stood now begun (Established own) new transfer holds h =
+    let tcb : TransmissionControlBlock = h.0 in
+    subst (Stood now begun (Established own)) (sym h.2)
+    (record {
+      core = ap (λ (my : Pair). open_in established my (held_of tcb)) h.1.my ∙ ap (λ (held : Held). open_in established own.my held) h.1.held ∙ open_core begun own.my (held_of own);
+      tie = h.1.tie_tag;
+      t1 = refl;
+      outstanding = h.1.request;
+      reconfiguration = h.1.timer;
+      transfer = ap (λ (t : Transfer). Some t) h.1.transfer;
+    })
+
+-- the endpoint of a context, by what the machine sees of its state
+abbrev with_parts : {R : Type 0} → Context R → Core → ℕ → Option RunningTimer → Option OutstandingRequest → Option RunningTimer → Option Transfer → SendQueueState → Endpoint
+with_parts context core tie t1 outstanding reconfiguration transfer queue =
+    record (endpoint_of context) {
+      core = core;
+      tie = tie;
+      outstanding = outstanding;
+      timers = record (endpoint_of context).timers { t1 = t1; reconfiguration = reconfiguration };
+      below = record { queue = queue; transfer = transfer };
+    }
+
+begun_whole : {R : Type 0} (begun : Option BegunReset) (context : Context R) (queue : SendQueueState)
+    → let s : State = context.state in
+    with_parts context (core_where begun (core_of s)) (tie_of s) (t1_of s) (request_begun begun (outstanding_of s)) (timer_begun begun context.moment (rto_of (transfer_of s)) (reconfiguration_of s)) (transfer_of s) queue
+    ≡ record (after_begun begun (endpoint_of context)) { below = record (endpoint_of context).below { queue = queue } }
+begun_whole None context queue = refl
+begun_whole (Some begun) context queue = refl
+
+endpoint_begun : {R : Type 0} (context : Context R) (begun : Option BegunReset) (state : State) (queue : SendQueueState) → Stood context.moment begun context.state state
+    → endpoint_of (record context { state = state; send_queue = queue }) ≡ record (after_begun begun (endpoint_of context)) { below = record (endpoint_of context).below { queue = queue } }
+endpoint_begun context begun state queue h =
+    let s : State = context.state in
+    ap (λ (core : Core). with_parts context core (tie_of state) (t1_of state) (outstanding_of state) (reconfiguration_of state) (transfer_of state) queue) h.core
+    ∙ ap (λ (tie : ℕ). with_parts context (core_where begun (core_of s)) tie (t1_of state) (outstanding_of state) (reconfiguration_of state) (transfer_of state) queue) h.tie
+    ∙ ap (λ (t1 : Option RunningTimer). with_parts context (core_where begun (core_of s)) (tie_of s) t1 (outstanding_of state) (reconfiguration_of state) (transfer_of state) queue) h.t1
+    ∙ ap (λ (own : Option OutstandingRequest). with_parts context (core_where begun (core_of s)) (tie_of s) (t1_of s) own (reconfiguration_of state) (transfer_of state) queue) h.outstanding
+    ∙ ap (λ (timer : Option RunningTimer). with_parts context (core_where begun (core_of s)) (tie_of s) (t1_of s) (request_begun begun (outstanding_of s)) timer (transfer_of state) queue) h.reconfiguration
+    ∙ ap (λ (below : Option Transfer). with_parts context (core_where begun (core_of s)) (tie_of s) (t1_of s) (request_begun begun (outstanding_of s))
+    (timer_begun begun context.moment (rto_of (transfer_of s)) (reconfiguration_of s)) below queue) h.transfer
+    ∙ begun_whole begun context queue
+
+begun_below : {R : Type 0} (old : Context R) (found : Option Transfer) (state : State) (queue : SendQueueState) (packet filled : Building) → transfer_of old.state ≡ found
+    → BeginsBelow old.moment found old.send_queue old.state packet queue state filled → BeginsAt found (view_of old) packet (view_of (record old { state = state; send_queue = queue })) filled
+begun_below old None state queue packet filled holds h =
+    (ap (λ (s : State). view_of (record old { state = s; send_queue = queue })) h.0 ∙ ap (λ (q : SendQueueState). view_of (record old { send_queue = q })) h.1, h.2)
+begun_below old (Some transfer) state queue packet filled holds h =
+    (h.begun, queue, h.is, h.none, h.packet_is, ap (λ (e : Endpoint). record (view_of old) { endpoint = e }) (endpoint_begun old h.begun state queue (stood old.moment h.begun old.state state transfer holds h.begins)))
+
+pub tries_reset : {R : Type 0} (old new : Context R) (state : State) (queue : SendQueueState) (packet filled : Building) (result : Result (Unit {0}) AllocError)
+    → view_of new ≡ view_of (record old { state = state; send_queue = queue })
+    → OnOk result (BeginsBelow old.moment (transfer_of old.state) old.send_queue old.state packet queue state filled) → TriesReset packet old result new filled
+tries_reset {R = R} old new state queue packet filled (Ok done) same h =
+    subst (λ (v : View R). BeginsAt (transfer_of old.state) (view_of old) packet v filled) (sym same) (begun_below old (transfer_of old.state) state queue packet filled refl h)
+tries_reset {R = R} old new state queue packet filled (Err error) same h = ap (λ (v : View R). v.events) same

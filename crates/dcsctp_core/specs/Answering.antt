@@ -1,0 +1,32 @@
+-- What becomes of the own request to reset streams where the peer answers it (RFC 6525, section 5.2.7).
+use Rattle.std.specs.Prelude.{◌≡◌, ℕ, true, None}
+use Rattle.std.specs.Option.{option_map}
+use Rattle.dcsctp_machine.specs.Endpoint.{started}
+use Rattle.dcsctp_machine.specs.turns.BegunResets.{reconfiguration_settings}
+use Rattle.dcsctp_core.specs.declared.state.State.{State}
+use Rattle.dcsctp_core.specs.declared.state.State.TheVariants.{Closed, CookieWait, CookieEchoed, Established}
+use Rattle.dcsctp_core.specs.declared.transmission_control_block.ResetRequest.{ResetRequest}
+use Rattle.dcsctp_core.specs.declared.transmission_control_block.TransmissionControlBlock.{TransmissionControlBlock}
+
+-- ---- it is in progress
+
+-- the request once it waits to be sent again
+abbrev pub delayed : ResetRequest → ResetRequest
+delayed request = record request { waits_for_retry = true }
+
+-- It waits, and its timer starts anew. Nothing else has moved.
+pub record Retries (now : ℕ) (old new : TransmissionControlBlock) : Type 0 where
+  pub is : new ≡ record old { reset_request = option_map delayed old.reset_request; reconfiguration = new.reconfiguration }
+  pub runs : new.reconfiguration.running ≡ started now (reconfiguration_settings old.transfer.timeout.rto)
+
+abbrev pub RetriesIn : ℕ → State → State → Type 0
+RetriesIn now Closed new = new ≡ Closed
+RetriesIn now (CookieWait wait) new = new ≡ CookieWait wait
+RetriesIn now (CookieEchoed echoed) new = (tcb : TransmissionControlBlock) × Retries now echoed.tcb tcb × (new ≡ CookieEchoed (record echoed { tcb = tcb }))
+RetriesIn now (Established old) new = (tcb : TransmissionControlBlock) × Retries now old tcb × (new ≡ Established tcb)
+
+-- ---- it has ended
+
+-- No request is outstanding, and the timer doesn't run.
+abbrev pub request_ended : TransmissionControlBlock → TransmissionControlBlock
+request_ended tcb = record tcb { reset_request = None; reconfiguration = record tcb.reconfiguration { running = None } }

@@ -1,0 +1,49 @@
+-- The own request to reset streams, where the timer expires by which it is sent again.
+use Rattle.std.specs.Prelude.{ℕ, Bool, false, not, Option, None, Some}
+use Rattle.std.specs.Option.{option_map}
+use Rattle.dcsctp_machine.specs.Endpoint.{Endpoint, OutstandingRequest}
+use Rattle.dcsctp_machine.specs.turns.ReconfigurationOutcomes.{reconfiguration_expired, request_expired}
+use Rattle.dcsctp_core.specs.declared.state.State.{State}
+use Rattle.dcsctp_core.specs.declared.state.State.TheVariants.{Closed, CookieWait, CookieEchoed, Established}
+use Rattle.dcsctp_core.specs.declared.transmission_control_block.ResetRequest.{ResetRequest}
+use Rattle.dcsctp_core.specs.declared.transmission_control_block.TransmissionControlBlock.{TransmissionControlBlock}
+use Rattle.dcsctp_core.specs.Timing.{timer_after}
+
+-- Is a request outstanding that the peer didn't answer?
+abbrev pub is_unanswered : Option ResetRequest → Bool
+is_unanswered None = false
+is_unanswered (Some request) = not request.waits_for_retry
+
+-- the request once it waits no longer
+abbrev pub tried_again : ResetRequest → ResetRequest
+tried_again request = record request { waits_for_retry = false }
+
+abbrev pub without_retry : TransmissionControlBlock → TransmissionControlBlock
+without_retry tcb = record tcb { reset_request = option_map tried_again tcb.reset_request }
+
+-- the association once its timer was told this moment
+abbrev pub reconfiguration_told : ℕ → TransmissionControlBlock → TransmissionControlBlock
+reconfiguration_told moment tcb = record tcb { reconfiguration = timer_after moment tcb.reconfiguration }
+
+-- ---- of a state
+
+-- the request that is outstanding
+abbrev pub request_in : State → Option ResetRequest
+request_in Closed = None
+request_in (CookieWait wait) = None
+request_in (CookieEchoed echoed) = echoed.tcb.reset_request
+request_in (Established tcb) = tcb.reset_request
+
+-- the state with its association as this makes it
+abbrev pub tcb_changed : (TransmissionControlBlock → TransmissionControlBlock) → State → State
+tcb_changed change Closed = Closed
+tcb_changed change (CookieWait wait) = CookieWait wait
+tcb_changed change (CookieEchoed echoed) = CookieEchoed (record echoed { tcb = change echoed.tcb })
+tcb_changed change (Established tcb) = Established (change tcb)
+
+-- ---- of an endpoint
+
+-- the endpoint once the timer has expired, before the request goes out again
+abbrev pub request_over : Endpoint → Option OutstandingRequest → Endpoint
+request_over e None = reconfiguration_expired e
+request_over e (Some request) = request_expired e request

@@ -1,0 +1,86 @@
+-- An own reset of streams is begun (RFC 6525, section 5.1.2).
+use Rattle.std.specs.Prelude.{◌≡◌, ◌<◌, ◌^◌, ℕ, true, false, Option, None, Some, List, ◌++◌, map}
+use Rattle.std.specs.List.{flat_map, AllByRecursion}
+use Rattle.dcsctp_wire.specs.Spelling.{chunk_bytes}
+use Rattle.dcsctp_build.specs.Building.{Building, bytes_remaining}
+use Rattle.dcsctp_machine.specs.Ids.{stream_numbers}
+use Rattle.dcsctp_machine.specs.Packet.{chunk_out}
+use Rattle.dcsctp_machine.specs.Reconfiguration.{RequestedReset}
+use Rattle.dcsctp_machine.specs.Transfer.{SendQueueState, Transfer, is_none_ready}
+use Rattle.dcsctp_machine.specs.Endpoint.{OutstandingRequest, RunningTimer, held_in, started}
+use Rattle.dcsctp_machine.specs.turns.BegunResets.{BegunReset, last_assigned_tsn, begun_in, request_contents, held_begun, reconfiguration_settings}
+use Rattle.dcsctp_core.specs.declared.state.State.{State}
+use Rattle.dcsctp_core.specs.declared.state.State.TheVariants.{Closed, CookieWait, CookieEchoed, Established}
+use Rattle.dcsctp_core.specs.declared.transmission_control_block.ResetRequest.{ResetRequest}
+use Rattle.dcsctp_core.specs.declared.transmission_control_block.TransmissionControlBlock.{TransmissionControlBlock}
+use Rattle.dcsctp_core.specs.View.{held_of, request_of, core_of}
+
+-- It fits its field.
+abbrev pub IsStream : ℕ → Type 0
+IsStream stream = stream < 2 ^ 16
+
+-- what a request wants
+abbrev pub reset_of : ResetRequest → RequestedReset
+reset_of request = record { last_tsn = request.last_tsn; streams = stream_numbers request.streams.items }
+
+-- ---- of an association
+
+-- the own request that is outstanding, and its timer, once this was begun
+abbrev pub request_begun : Option BegunReset → Option OutstandingRequest → Option OutstandingRequest
+request_begun None request = request
+request_begun (Some begun) request = Some (record { last_tsn = begun.reset.last_tsn; streams = begun.reset.streams; waits_for_retry = false })
+
+abbrev pub timer_begun : Option BegunReset → ℕ → ℕ → Option RunningTimer → Option RunningTimer
+timer_begun None now rto timer = timer
+timer_begun (Some begun) now rto timer = started now (reconfiguration_settings rto)
+
+-- This was begun, and nothing else has moved.
+pub record Begins (now : ℕ) (begun : Option BegunReset) (old new : TransmissionControlBlock) : Type 0 where
+  pub held : held_of new ≡ held_begun begun (held_of old)
+  pub request : request_of new.reset_request ≡ request_begun begun (request_of old.reset_request)
+  pub timer : new.reconfiguration.running ≡ timer_begun begun now old.transfer.timeout.rto old.reconfiguration.running
+  pub my : new.my ≡ old.my
+  pub tie_tag : new.tie_tag ≡ old.tie_tag
+  pub transfer : new.transfer ≡ old.transfer
+
+-- the packet with its request
+abbrev pub with_request : Option BegunReset → Building → Building
+with_request begun packet = record packet { body = packet.body ++ flat_map chunk_bytes (map chunk_out (request_contents begun)) }
+
+-- A reset of these streams was begun.
+pub record StartsReset (now : ℕ) (streams : List ℕ) (old : TransmissionControlBlock) (packet : Building) (new : TransmissionControlBlock) (filled : Building) : Type 0 where
+  pub begun : BegunReset
+  pub is : begun
+      ≡ record { number = old.next_outgoing_reset_req_seq_nbr; reset = record { last_tsn = last_assigned_tsn old.transfer.retransmission; streams = streams } }
+  pub fit : AllByRecursion IsStream streams
+  pub begins : Begins now (Some begun) old new
+  pub packet_is : filled ≡ with_request (Some begun) packet
+
+-- A reset was begun, or none was.
+pub record BeginsReset (now : ℕ) (queue : SendQueueState) (old : TransmissionControlBlock) (packet : Building) (left : SendQueueState) (new : TransmissionControlBlock) (filled : Building) : Type 0 where
+  pub begun : Option BegunReset
+  pub is : begun ≡ begun_in (Some (held_of old)) (bytes_remaining packet) (last_assigned_tsn old.transfer.retransmission) queue
+  pub begins : Begins now begun old new
+  pub packet_is : filled ≡ with_request begun packet
+  pub none : is_none_ready queue.ready_streams ≡ true → left ≡ queue
+
+-- ---- of a state
+
+abbrev pub BeginsIn : ℕ → Option BegunReset → State → State → Type 0
+BeginsIn now begun Closed new = new ≡ Closed
+BeginsIn now begun (CookieWait wait) new = new ≡ CookieWait wait
+BeginsIn now begun (CookieEchoed echoed) new =
+    (tcb : TransmissionControlBlock) × Begins now begun echoed.tcb tcb × (new ≡ CookieEchoed (record echoed { tcb = tcb }))
+BeginsIn now begun (Established old) new = (tcb : TransmissionControlBlock) × Begins now begun old tcb × (new ≡ Established tcb)
+
+pub record BeginsWhere (now : ℕ) (transfer : Transfer) (queue : SendQueueState) (old : State) (packet : Building) (left : SendQueueState) (new : State) (filled : Building) : Type 0 where
+  pub begun : Option BegunReset
+  pub is : begun ≡ begun_in (held_in (core_of old)) (bytes_remaining packet) (last_assigned_tsn transfer.retransmission) queue
+  pub begins : BeginsIn now begun old new
+  pub packet_is : filled ≡ with_request begun packet
+  pub none : is_none_ready queue.ready_streams ≡ true → left ≡ queue
+
+-- Nothing happens where no peer is held.
+abbrev pub BeginsBelow : ℕ → Option Transfer → SendQueueState → State → Building → SendQueueState → State → Building → Type 0
+BeginsBelow now None queue old packet left new filled = (new ≡ old) × (left ≡ queue) × (filled ≡ packet)
+BeginsBelow now (Some transfer) queue old packet left new filled = BeginsWhere now transfer queue old packet left new filled

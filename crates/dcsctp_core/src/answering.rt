@@ -1,0 +1,70 @@
+//! The peer answers the own request to reset streams (RFC 6525, section 5.2.7).
+
+ghost use Rattle.std.specs.Prelude.{◌≡◌};
+ghost use Rattle.dcsctp_core.specs.Answering.{Retries, RetriesIn, request_ended};
+ghost use Rattle.dcsctp_core.specs.Reconfiguring.{request_in, tcb_changed};
+ghost use Rattle.dcsctp_core.specs.View.{number_of};
+
+use crate::state::State;
+use crate::transmission_control_block::{ResetRequest, TransmissionControlBlock};
+use dcsctp_api::SocketTime;
+
+impl TransmissionControlBlock {
+    // The request that is outstanding is in progress: it waits to be sent again, and its timer starts anew.
+    fn retry_reset(&mut self, now: SocketTime)
+        ensures { Retries now self.old self.new }
+    {
+        match &mut self.reset_request {
+            None => {}
+            Some(request) => request.waits_for_retry = true,
+        }
+        self.start_reconfiguration(now);
+    }
+
+    // The request that is outstanding has ended, and its timer stops.
+    fn end_reset(&mut self) -> Option<ResetRequest>
+        ensures answer { result ≡ self.old.reset_request }
+        ensures left { self.new ≡ request_ended self.old }
+    {
+        self.reconfiguration.stop();
+        self.reset_request.take()
+    }
+}
+
+impl State {
+    /// The number of the own request that is outstanding, where one is. It takes no memory.
+    pub fn outstanding_number(&self) -> Option<u32>
+        ensures { result ≡ number_of (request_in self.now) }
+    {
+        match self {
+            State::Closed | State::CookieWait(_) => None,
+            State::CookieEchoed(echoed) => echoed.tcb.outstanding_number(),
+            State::Established(tcb) => tcb.outstanding_number(),
+        }
+    }
+
+    /// The own request that is outstanding is in progress: it waits to be sent again, and its timer starts anew
+    /// (RFC 6525, section 5.2.7). It takes no memory.
+    pub fn retry_reset(&mut self, now: SocketTime)
+        ensures { RetriesIn now self.old self.new }
+    {
+        match self {
+            State::Closed | State::CookieWait(_) => {}
+            State::CookieEchoed(echoed) => echoed.tcb.retry_reset(now),
+            State::Established(tcb) => tcb.retry_reset(now),
+        }
+    }
+
+    /// The own request that is outstanding has ended, and its timer stops. It is answered, where there was one.
+    /// It takes no memory.
+    pub fn end_reset(&mut self) -> Option<ResetRequest>
+        ensures answer { result ≡ request_in self.old }
+        ensures left { self.new ≡ tcb_changed request_ended self.old }
+    {
+        match self {
+            State::Closed | State::CookieWait(_) => None,
+            State::CookieEchoed(echoed) => echoed.tcb.end_reset(),
+            State::Established(tcb) => tcb.end_reset(),
+        }
+    }
+}

@@ -1,0 +1,169 @@
+//! An own reset of streams is begun (RFC 6525, section 5.1.2).
+
+ghost use Rattle.std.specs.Prelude.{◌≡◌, ◌≤◌, ◌+◌, ◌-◌, ◌*◌, ◌/◌, ◌++◌, Some, true, length, map, IfOk, OnOk, OnErr, IsOk};
+ghost use Rattle.std.specs.List.{flat_map, AllByRecursion};
+ghost use Rattle.std.specs.Int.{w16, to_be_bytes};
+ghost use Rattle.std.specs.Duration.{as_nanos};
+ghost use Rattle.dcsctp_wire.specs.Spelling.{chunk_bytes};
+ghost use Rattle.dcsctp_build.specs.Building.{bytes_remaining};
+ghost use Rattle.dcsctp_machine.specs.Endpoint.{started};
+ghost use Rattle.dcsctp_machine.specs.Ids.{stream_numbers};
+ghost use Rattle.dcsctp_machine.specs.Packet.{chunk_out};
+ghost use Rattle.dcsctp_machine.specs.Transfer.{is_none_ready};
+ghost use Rattle.dcsctp_machine.specs.control.FlushChanges.{reset_request};
+ghost use Rattle.dcsctp_machine.specs.turns.BegunResets.{streams_within, reconfiguration_settings};
+ghost use Rattle.dcsctp_core.specs.Resetting.{IsStream, StartsReset, BeginsReset, BeginsBelow, reset_of};
+ghost use Rattle.dcsctp_core.specs.Flushing.{HasNoReset};
+ghost use Rattle.dcsctp_core.specs.View.{transfer_of};
+
+use crate::state::State;
+use crate::transmission_control_block::{ResetRequest, TransmissionControlBlock};
+use dcsctp_api::{SocketTime, StreamId};
+use dcsctp_build::SctpPacketBuilder;
+use dcsctp_send::{BackoffAlgorithm, Timer};
+use dcsctp_transfer::QueuedMessages;
+use dcsctp_wire::{Chunk, OutgoingSsnResetRequestParameter, Parameter, ReConfigChunk};
+use std::alloc::{AllocError, Global};
+
+// How many streams a request may name where its chunk has so much room: it has 20 bytes and 2 for each stream,
+// padded to a multiple of 4 (RFC 6525, section 4.1).
+fn streams_within(room: usize) -> usize
+    ensures { result ≡ streams_within room }
+{
+    room.saturating_sub(20) / 4 * 2
+}
+
+// The number of a stream.
+fn number_of(stream: StreamId) -> u16
+    ensures { result ≡ stream.0 }
+{
+    stream.0
+}
+
+/// The streams as they stand in a request, two bytes each. The one error is that there is no memory for them.
+pub fn stream_bytes(alloc: Global, streams: &[StreamId]) -> Result<Vec<u8>, AllocError>
+    ensures bytes { IfOk result (λ bytes. bytes.items ≡ flat_map (to_be_bytes w16) (stream_numbers streams.now)) }
+    ensures fit { OnOk result (AllByRecursion IsStream (stream_numbers streams.now)) }
+{
+    let mut bytes = Vec::new(alloc);
+    for stream in streams {
+        let number = number_of(*stream);
+        bytes.extend_from_slice(&number.to_be_bytes())?;
+    }
+    Ok(bytes)
+}
+
+// Puts the request into the packet, where it fits: a RE-CONFIG with one Outgoing SSN Reset Request. It answers no
+// request of the peer, and bears its own number in that place. The one error is that a growth was refused; the
+// packet stays then.
+fn put_request(
+    alloc: Global,
+    request: &ResetRequest,
+    packet: &mut SctpPacketBuilder,
+) -> Result<(), AllocError>
+    requires { length (chunk_bytes (chunk_out (reset_request request.now.number (reset_of request.now)))) ≤ bytes_remaining packet.old }
+    ensures fit { OnOk result (AllByRecursion IsStream (stream_numbers request.now.streams.items)) }
+    ensures packet { OnOk result (packet.new ≡ record packet.old {
+      body = packet.old.body ++ chunk_bytes (chunk_out (reset_request request.now.number (reset_of request.now)));
+    }) }
+{
+    let streams = stream_bytes(alloc, &request.streams)?;
+    let mut parameters = Vec::new(alloc);
+    parameters.push(Parameter::OutgoingSsnResetRequest(OutgoingSsnResetRequestParameter {
+        request_seq_nbr: request.number,
+        response_seq_nbr: request.number,
+        sender_last_assigned_tsn: request.last_tsn,
+        streams: &streams,
+    }))?;
+    packet.add(&Chunk::ReConfig(ReConfigChunk { parameters }));
+    Ok(())
+}
+
+impl TransmissionControlBlock {
+    // Starts the timer by which a request is sent again: each wait is twice the last one, without a bound, and
+    // it goes on for good (RFC 6525, section 5.1.1).
+    pub(crate) fn start_reconfiguration(&mut self, now: SocketTime)
+        ensures { (self.new ≡ record self.old { reconfiguration = self.new.reconfiguration })
+            × (self.new.reconfiguration.running ≡ started now (reconfiguration_settings self.old.transfer.timeout.rto)) }
+    {
+        let mut timer = Timer::new(
+            self.transfer.rto(),
+            BackoffAlgorithm::Exponential,
+            None,
+            None,
+        );
+        timer.start(now);
+        self.reconfiguration = timer;
+    }
+
+    // Begins a reset of these streams, of which there is one at least; its request is put into the packet, where it
+    // fits. The one error is that a growth was refused.
+    fn start_reset(
+        &mut self,
+        alloc: Global,
+        now: SocketTime,
+        streams: Vec<StreamId>,
+        packet: &mut SctpPacketBuilder,
+    ) -> Result<(), AllocError>
+        requires { 20 + (length streams.items + 1) / 2 * 4 ≤ bytes_remaining packet.old }
+        ensures { OnOk result (StartsReset now (stream_numbers streams.items) self.old packet.old self.new packet.new) }
+    {
+        let last_tsn = self.transfer.begin_reset_streams();
+        let number = self.next_outgoing_reset_req_seq_nbr;
+        let request = ResetRequest {
+            number,
+            last_tsn,
+            streams,
+            waits_for_retry: false,
+        };
+        put_request(alloc, &request, packet)?;
+        self.next_outgoing_reset_req_seq_nbr = number.wrapping_add(1);
+        self.reset_request = Some(request);
+        self.start_reconfiguration(now);
+        Ok(())
+    }
+
+    // Begins a reset of streams that are ready for it, where no other is outstanding. Its request is put into the
+    // packet, and names as many as fit there; the others stay ready. The one error is that a growth was refused.
+    fn begin_reset(
+        &mut self,
+        alloc: Global,
+        now: SocketTime,
+        queue: &mut QueuedMessages,
+        packet: &mut SctpPacketBuilder,
+    ) -> Result<(), AllocError>
+        ensures ok { OnOk result (BeginsReset now queue.old self.old packet.old queue.new self.new packet.new) }
+        ensures idle { is_none_ready queue.old.ready_streams ≡ true → IsOk result }
+    {
+        if self.reset_request.is_some() || !queue.has_streams_ready_to_be_reset() {
+            return Ok(());
+        }
+        let room = packet.bytes_remaining();
+        let streams = queue.get_streams_ready_to_reset(streams_within(room))?;
+        if streams.is_empty() {
+            return Ok(());
+        }
+        self.start_reset(alloc, now, streams, packet)
+    }
+}
+
+impl State {
+    /// Begins a reset of streams to the peer that is held, where no other is outstanding, one is ready for it and
+    /// its request fits into the packet (RFC 6525, section 5.1.2). The one error is that a growth was refused.
+    pub(crate) fn begin_reset(
+        &mut self,
+        alloc: Global,
+        now: SocketTime,
+        queue: &mut QueuedMessages,
+        packet: &mut SctpPacketBuilder,
+    ) -> Result<(), AllocError>
+        ensures ok { OnOk result (BeginsBelow now (transfer_of self.old) queue.old self.old packet.old queue.new self.new packet.new) }
+        ensures idle { HasNoReset queue.old (transfer_of self.old) → IsOk result }
+    {
+        match self {
+            State::Closed | State::CookieWait(_) => Ok(()),
+            State::CookieEchoed(echoed) => echoed.tcb.begin_reset(alloc, now, queue, packet),
+            State::Established(tcb) => tcb.begin_reset(alloc, now, queue, packet),
+        }
+    }
+}

@@ -1,0 +1,84 @@
+-- A stream reset that a flush begins (RFC 6525, section 5.1.2): which streams its request names, and what is kept of it.
+use Rattle.std.specs.Prelude.{ℕ, ◌+◌, ◌-◌, ◌*◌, ◌/◌, ◌%◌, ◌^◌, false, Option, None, Some, List, [], ◌∷◌, map, take}
+use Rattle.dcsctp_machine.specs.declared.association.Held.{Held}
+use Rattle.dcsctp_machine.specs.declared.kinds.BackoffAlgorithm.TheVariants.{Exponential}
+use Rattle.dcsctp_machine.specs.Packet.{Content}
+use Rattle.dcsctp_machine.specs.Reconfiguration.{RequestedReset}
+use Rattle.dcsctp_machine.specs.Transfer.{RetransmissionState, SendQueueState, Transfer}
+use Rattle.dcsctp_machine.specs.Endpoint.{Endpoint, Core, cookie_echoed, open_in, TimerSettings, started}
+use Rattle.dcsctp_machine.specs.control.Effect.{Effect, begins}
+use Rattle.dcsctp_machine.specs.control.FlushChanges.{next_number, reset_request}
+
+-- the number of a request that is begun, and what it wants
+pub record BegunReset : Type 0 where
+  pub number : ℕ
+  pub reset : RequestedReset
+
+-- ---- which it is
+
+-- How many streams a request may name where its chunk has so much room: it has 20 bytes and 2 for each stream, padded to a
+-- multiple of 4 (RFC 6525, section 4.1).
+abbrev pub streams_within : ℕ → ℕ
+streams_within room = (room - 20) / 4 * 2
+
+-- the last TSN that was given out
+abbrev pub last_assigned_tsn : RetransmissionState → ℕ
+last_assigned_tsn state = (state.next_tsn + (2 ^ 32 - 1)) % 2 ^ 32
+
+-- It is begun where none is outstanding, and a stream is to be reset.
+abbrev pub begun_where : Option ℕ → ℕ → ℕ → List ℕ → Option BegunReset
+begun_where None number last_tsn (stream ∷ streams) = Some (record { number = number; reset = record { last_tsn = last_tsn; streams = stream ∷ streams } })
+begun_where outstanding number last_tsn streams = None
+
+-- a stream, as its field of 16 bits holds it
+abbrev pub stream_field : ℕ → ℕ
+stream_field stream = stream % 2 ^ 16
+
+-- Of the streams that are ready it names as many as fit, the first of them; the others stay ready.
+abbrev pub begun_in : Option Held → ℕ → ℕ → SendQueueState → Option BegunReset
+begun_in None room last_tsn queue = None
+begun_in (Some held) room last_tsn queue = begun_where held.own_outstanding held.own_next last_tsn (map stream_field (take (streams_within room) queue.ready_streams))
+
+-- ---- what it says and notes
+
+abbrev pub request_contents : Option BegunReset → List Content
+request_contents None = []
+request_contents (Some begun) = reset_request begun.number begun.reset ∷ []
+
+abbrev pub begun_effects : Option BegunReset → List Effect
+begun_effects None = []
+begun_effects (Some begun) = begins begun.number ∷ []
+
+-- ---- what is kept of it
+
+-- the reconfiguration timer: each wait is twice the last one, without a bound, and it goes on for good (RFC 6525, section 5.1.1)
+abbrev pub reconfiguration_settings : ℕ → TimerSettings
+reconfiguration_settings rto = record { duration = rto; terms = record { backoff = Exponential; max_restarts = None; max_backoff = None } }
+
+-- the retransmission timeout, where there is an association
+abbrev pub rto_of : Option Transfer → ℕ
+rto_of None = 0
+rto_of (Some transfer) = transfer.timeout.rto
+
+-- The next number is that of the request.
+abbrev pub held_asking : Held → Held
+held_asking held = record held { own_next = next_number held.own_next; own_outstanding = Some held.own_next }
+
+abbrev pub held_begun : Option BegunReset → Held → Held
+held_begun None held = held
+held_begun (Some begun) held = held_asking held
+
+abbrev pub core_asking : Core → Core
+core_asking (cookie_echoed my held cookie) = cookie_echoed my (held_asking held) cookie
+core_asking (open_in phase my held) = open_in phase my (held_asking held)
+core_asking core = core
+
+-- The request is outstanding, and its timer runs.
+abbrev pub after_begun : Option BegunReset → Endpoint → Endpoint
+after_begun None e = e
+after_begun (Some begun) e =
+    record e {
+      core = core_asking e.core;
+      outstanding = Some (record { last_tsn = begun.reset.last_tsn; streams = begun.reset.streams; waits_for_retry = false });
+      timers = record e.timers { reconfiguration = started e.moment (reconfiguration_settings (rto_of e.below.transfer)) };
+    }

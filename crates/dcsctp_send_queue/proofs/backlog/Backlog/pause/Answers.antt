@@ -1,0 +1,40 @@
+use Rattle.std.proofs.Common.{◌≡◌, ◌∙◌, ◌-◌, ◌^◌, ◌++◌, ℕ, List, drop, min, ap, subst}
+use Rattle.std.proofs.lemmas.Result.{err_from_is_err_and}
+use Rattle.dcsctp_streams.specs.Waiting.{Waiting, Stream}
+use Rattle.dcsctp_streams.specs.Ranking.{stream_at}
+use Rattle.dcsctp_streams.specs.Telling.{contents, expiries, size_of, TellsFront}
+use Rattle.dcsctp_send_queue.specs.declared.backlog.Backlog.{Backlog}
+use Rattle.dcsctp_send_queue.specs.Leaving.{part_events, count_under_way, not_begun, size_not_begun}
+use Rattle.dcsctp_send_queue.proofs.FrontLemmas.{front_left, front_right}
+use Rattle.dcsctp_send_queue.proofs.backlog.Backlog.pause.Goals as goal
+
+pub returns-in_err-tell_low-clause-front : goal.returns-in_err-tell_low-clause-front
+returns-in_err-tell_low-clause-front c =
+    let queue : Backlog = c.args.self.now in
+    let place : ℕ = c.args.place in
+    let kept : c.count_under_way-kept.result ≡ count_under_way (stream_at queue.streams place).id queue.under_way =
+    c.count_under_way-kept.ensures ∙ ap (λ (n : ℕ). count_under_way n queue.under_way) (c.id.ensures ∙ ap (λ (s : Stream). s.id) c.at.ensures) in
+    let size : c.size_from-size.result ≡ size_not_begun place queue =
+    c.size_from-size.ensures ∙ (ap (λ (n : ℕ). min (size_of (drop n c.at-2.result.now.messages)) (2 ^ 64 - 1)) kept
+    ∙ ap (λ (s : Stream). min (size_of (drop (count_under_way (stream_at queue.streams place).id queue.under_way) s.messages)) (2 ^ 64 - 1)) c.at-2.ensures) in
+    let P : ℕ → Type 0 = λ n. TellsFront (contents c.args.events.now) (part_events place n queue) (contents c.tell_low.new.events) in
+    rw (err_from_is_err_and c.from_residual.result c.from_residual.ensures.1).1
+    (front_left (contents c.args.events.now) (part_events place (size_not_begun place queue) queue) (expiries (not_begun place queue)) (contents c.tell_low.new.events)
+    (subst P size c.in_err-tell_low.ensures.err))
+
+pub returns-in_err-tell_dropped-clause-front : goal.returns-in_err-tell_dropped-clause-front
+returns-in_err-tell_dropped-clause-front c =
+    let queue : Backlog = c.args.self.now in
+    let place : ℕ = c.args.place in
+    let kept : c.count_under_way-kept.result ≡ count_under_way (stream_at queue.streams place).id queue.under_way =
+    c.count_under_way-kept.ensures ∙ ap (λ (n : ℕ). count_under_way n queue.under_way) (c.id.ensures ∙ ap (λ (s : Stream). s.id) c.at.ensures) in
+    let size : c.size_from-size.result ≡ size_not_begun place queue =
+    c.size_from-size.ensures ∙ (ap (λ (n : ℕ). min (size_of (drop n c.at-2.result.now.messages)) (2 ^ 64 - 1)) kept
+    ∙ ap (λ (s : Stream). min (size_of (drop (count_under_way (stream_at queue.streams place).id queue.under_way) s.messages)) (2 ^ 64 - 1)) c.at-2.ensures) in
+    let left : drop c.count_under_way-kept.result c.at-3.result.now.messages ≡ not_begun place queue =
+    ap (λ (n : ℕ). drop n c.at-3.result.now.messages) kept
+    ∙ ap (λ (s : Stream). drop (count_under_way (stream_at queue.streams place).id queue.under_way) s.messages) c.at-3.ensures in
+    let P : List Waiting → Type 0 = λ ms. TellsFront (contents c.tell_low.new.events) (expiries ms) (contents c.tell_dropped.new.events) in
+    rw (err_from_is_err_and c.from_residual-in_err-tell_dropped.result c.from_residual-in_err-tell_dropped.ensures.1).1
+    (front_right (contents c.args.events.now) (part_events place (size_not_begun place queue) queue) (contents c.tell_low.new.events) (expiries (not_begun place queue)) (contents c.tell_dropped.new.events)
+    (c.in_ok-tell_low.ensures.ok ∙ ap (λ (n : ℕ). contents c.args.events.now ++ part_events place n queue) size) (subst P left c.in_err-tell_dropped.ensures.err))

@@ -1,0 +1,12 @@
+use Rattle.std.proofs.Common.{List, ◌∙◌, ap}
+use Rattle.dcsctp_machine.specs.Transfer.{queue_handed_back}
+use Rattle.dcsctp_streams.specs.Waiting.{Stream}
+use Rattle.dcsctp_send_queue.specs.declared.backlog.Backlog.{Backlog}
+use Rattle.dcsctp_send_queue.specs.Backlog.{queue_state}
+use Rattle.dcsctp_send_queue.proofs.ShownLemmas.{shown_committed}
+use Rattle.dcsctp_send_queue.proofs.send_queue.SendQueue.commit_reset_streams.Goals as goal
+
+pub returns-clause-shown : goal.returns-clause-shown
+returns-clause-shown c =
+    let inside : Backlog = c.self.inside.backlog in
+    ap (λ (streams : List Stream). queue_state (record inside { streams = streams })) c.commit_all.ensures ∙ shown_committed inside ∙ ap (λ (q : Backlog). queue_handed_back (queue_state q)) c.self.view_is
