@@ -56,7 +56,8 @@ pub trait DcSctpSocket {
     /// (RFC 9260, section 5.1), the INIT or COOKIE ECHO goes out again, or, with no restart left, the
     /// association ends with `SocketEvent::OnAborted`. Where it is open, a HEARTBEAT goes out each
     /// `heartbeat_interval`, and one whose answer doesn't come in time counts an error (RFC 9260, section
-    /// 8.3). Where a timer has expired, a peer is held and more errors were counted than
+    /// 8.3); data that wasn't acknowledged in time goes out again, and so does a request to reset streams
+    /// that wasn't answered. Where a timer has expired, a peer is held and more errors were counted than
     /// `max_retransmissions`, an ABORT goes out, and the association ends with `SocketEvent::OnAborted`
     /// (RFC 9260, section 8.1).
     ///
@@ -72,7 +73,8 @@ pub trait DcSctpSocket {
 
     /// The moment at which the socket wants to be told the time next, never before the present one;
     /// `SocketTime::infinite_future()` where it waits for none. While an association is set up that is
-    /// T1's deadline, and where it is open the first of its heartbeats'. It takes no memory.
+    /// T1's deadline, and where it is open the first of its timers': of the heartbeats, of data, of what
+    /// acknowledges it, and of a request to reset streams. It takes no memory.
     fn poll_timeout(&self) -> SocketTime
         ensures { result ≡ next_moment (user_view self.now).endpoint };
 
@@ -102,7 +104,7 @@ pub trait DcSctpSocket {
     /// dropped, which is told as it is of others that are given up, and no other is begun on them until the
     /// reset was performed, or failed. A stream that waits for a reset already stays as it is. Then what waits
     /// goes out, and with it, where no other reset is outstanding, the request to reset the streams of which
-    /// no message is under way.
+    /// no message is under way: as many of them as fit into the packet, and the others once that is answered.
     ///
     /// It is refused where no association with a peer is held, or where resets weren't negotiated. Nothing
     /// changes and nothing is told then.

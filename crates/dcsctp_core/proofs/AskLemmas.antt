@@ -2,10 +2,12 @@
 use Rattle.std.proofs.Common.{◌≡◌, ◌||◌, ◌&&◌, ℕ, Bool, true, false, Option, None, Some, Result, Ok, Err, IsOk, List, [], refl, sym, ap, subst, ◌∙◌}
 use Rattle.std.proofs.lemmas.List.{append-nil}
 use Rattle.rand_core.specs.Stream.{Stream}
-use Rattle.dcsctp_build.specs.Building.{Building}
+use Rattle.dcsctp_build.specs.Building.{Building, bytes_remaining}
 use Rattle.dcsctp_machine.specs.Event.{Event}
 use Rattle.dcsctp_machine.specs.Packet.{Emission}
 use Rattle.dcsctp_machine.specs.Transfer.{SendQueueState, Transfer, has_data, is_none_ready}
+use Rattle.dcsctp_machine.specs.Endpoint.{held_in}
+use Rattle.dcsctp_machine.specs.turns.BegunResets.{streams_within, last_assigned_tsn}
 use Rattle.dcsctp_machine.specs.turns.FlushOutcomes.{Ask, first_ask, later_ask}
 use Rattle.dcsctp_transfer.specs.Filling.{TellsMore, is_sack_wanted, Acknowledges}
 use Rattle.dcsctp_transfer.proofs.TellingLemmas.{tells_then}
@@ -13,7 +15,7 @@ use Rattle.dcsctp_core.specs.declared.context.Context.{Context}
 use Rattle.dcsctp_core.specs.declared.state.State.{State}
 use Rattle.dcsctp_core.specs.View.{View, transfer_of, view_of}
 use Rattle.dcsctp_core.specs.Flushing.{packet_for, AcknowledgesBelow, ForwardsAt, BeginsAt, HasNoData, HasNoReset, WantsNone, can_send_below, TriesData, Fills, FillsWith, AskCut, AsksWith, SendsUnlessEmpty, KeepsSize}
-use Rattle.dcsctp_core.proofs.FillLemmas.{idle_parts, idle_ready, fills_later}
+use Rattle.dcsctp_core.proofs.FillLemmas.{idle_parts, idle_ready, requesting_none, fills_later}
 use Rattle.dcsctp_core.proofs.FirstLemmas.{transfer_is, fills_first, IsBusy, cut_busy}
 use Rattle.dcsctp_core.proofs.FlushLemmas.{asks_for, ask_cut}
 
@@ -94,7 +96,11 @@ begin_stays {R = R} None old new packet filled begin holds ready none =
     subst (λ (v : View R). HasNoData v.endpoint.below.queue v.endpoint.below.transfer) (sym begin.0) (subst (HasNoData old.endpoint.below.queue) holds tt)
 begin_stays {R = R} (Some transfer) old new packet filled begin holds ready none =
     subst (λ (v : View R). HasNoData v.endpoint.below.queue v.endpoint.below.transfer) (sym begin.5)
-    (subst (HasNoData begin.1) holds (ap has_data (begin.3 ready) ∙ none.0, none.1))
+    (subst (HasNoData begin.1) holds (
+      ap has_data (requesting_none (streams_within (bytes_remaining packet)) (bytes_remaining packet) (last_assigned_tsn transfer.retransmission) (held_in old.endpoint.core) begin.0 old.endpoint.below.queue begin.1 ready begin.2
+          begin.3) ∙ none.0,
+      none.1,
+    ))
 
 -- It tells nothing.
 begin_tells : {R : Type 0} (found : Option Transfer) (old new : View R) (packet filled : Building) → BeginsAt found old packet new filled → new.events ≡ old.events

@@ -16,7 +16,7 @@ use Rattle.dcsctp_machine.specs.Transfer.{SendQueueState, TrackerState, Transfer
 use Rattle.dcsctp_machine.specs.declared.association.Held.{Held}
 use Rattle.dcsctp_machine.specs.Endpoint.{Endpoint, Timers, held_in}
 use Rattle.dcsctp_machine.specs.control.Choices.{plain_contents}
-use Rattle.dcsctp_machine.specs.turns.BegunResets.{BegunReset, stream_field, streams_within, last_assigned_tsn, begun_where, request_contents, after_begun}
+use Rattle.dcsctp_machine.specs.turns.BegunResets.{BegunReset, stream_field, streams_within, last_assigned_tsn, begun_where, begun_in, request_contents, queue_requesting, after_begun}
 use Rattle.dcsctp_machine.specs.turns.FlushOutcomes.{Told, amount_is_low, total_amount_is_low, message_is_sent, message_may_have_expired, message_has_expired, message_ends, told_event, Answer, answer_contents, filled, Ask, first_ask, later_ask, room_in, where_fits, begun_at, BeginsReset, wants_sack, IsSackOf, IsForward, IsData, FitsPlain, is_none, next_forward, GivesUp, Gives, GivesWhere, AnsweredBelow, timers_with, nothing_waits}
 use Rattle.dcsctp_machine.specs.turns.FlushOutcomes as asks
 use Rattle.dcsctp_api.specs.Calls.{user_event}
@@ -145,6 +145,12 @@ none_begun first_ask (Some held) room last_tsn queue none =
     nothing : (outstanding : Option ℕ) → begun_where outstanding held.own_next last_tsn [] ≡ None
     nothing None = refl
     nothing (Some number) = refl
+
+-- So the queue stays as it is.
+pub requesting_none : (count room last_tsn : ℕ) (held : Option Held) (begun : Option BegunReset) (queue left : SendQueueState) → is_none_ready queue.ready_streams ≡ true
+    → begun ≡ begun_in held room last_tsn queue → left ≡ queue_requesting count begun queue → left ≡ queue
+requesting_none count room last_tsn held begun queue left none is hands =
+    hands ∙ ap (λ (b : Option BegunReset). queue_requesting count b queue) (is ∙ none_begun first_ask held room last_tsn queue none)
 
 -- what is asked where nothing waits changes nothing
 same_endpoint : (e : Endpoint) (transfer after : Transfer) (left : SendQueueState) → e.below.transfer ≡ Some transfer → after ≡ transfer → left ≡ e.below.queue

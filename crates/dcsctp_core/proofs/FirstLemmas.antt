@@ -11,7 +11,7 @@ use Rattle.dcsctp_machine.specs.Packet.{Plain, plain, unworked, Content, chunk_o
 use Rattle.dcsctp_machine.specs.Transfer.{SendQueueState, RetransmissionState, TimeoutState, Transfer, has_data, is_idle}
 use Rattle.dcsctp_machine.specs.Endpoint.{Endpoint, Core, OutstandingRequest, RunningTimer, started, held_in}
 use Rattle.dcsctp_machine.specs.control.Choices.{plain_contents}
-use Rattle.dcsctp_machine.specs.turns.BegunResets.{BegunReset, last_assigned_tsn, begun_in, request_contents, reconfiguration_settings, rto_of, core_asking, after_begun}
+use Rattle.dcsctp_machine.specs.turns.BegunResets.{BegunReset, streams_within, last_assigned_tsn, begun_in, request_contents, reconfiguration_settings, rto_of, core_asking, after_begun}
 use Rattle.dcsctp_machine.specs.turns.FlushOutcomes.{Told, told_event, Answer, answer_contents, filled, goes_out, asked, Ask, first_ask, later_ask, room_in, where_fits, wants_sack, IsForward, FitsPlain, GivesUp, Answered, nothing_waits}
 use Rattle.dcsctp_machine.specs.turns.FlushOutcomes as asks
 use Rattle.dcsctp_wire.specs.Content.{ChunkContent, sack_chunk}
@@ -25,7 +25,7 @@ use Rattle.dcsctp_core.specs.declared.state.State.TheVariants.{Closed, CookieWai
 use Rattle.dcsctp_core.specs.View.{View, core_of, tie_of, t1_of, outstanding_of, reconfiguration_of, transfer_of, endpoint_of, view_of}
 use Rattle.dcsctp_core.specs.Flushing.{packet_for, state_with, AcknowledgesBelow, forward_where, ForwardsAt, BeginsAt, FillsData, timers_where, Fills, AskCut, can_send_below}
 use Rattle.dcsctp_machine.proofs.AnswerLemmas.{some_answer, some_answered}
-use Rattle.dcsctp_core.proofs.FillLemmas.{told_user, Gave, gives_up_none, given_endpoint, fills_by, fills_nothing, chunk_packet}
+use Rattle.dcsctp_core.proofs.FillLemmas.{told_user, Gave, gives_up_none, given_endpoint, requesting_none, fills_by, fills_nothing, chunk_packet}
 use Rattle.dcsctp_core.proofs.SentLemmas.{body_append, room_is}
 
 -- ---- a state with something else below its association
@@ -304,7 +304,7 @@ first_by {R = R} old draft transfer mid given begun_view new before acked_packet
             (same.2, ap (λ (t : Transfer). t.retransmission) same.1 ∙ before_is);
         is = here.2 ∙ ap (λ (room : ℕ). begun_in (held_in e.core) room (last_assigned_tsn after.retransmission) waits) (ap bytes_remaining given_is ∙ room_is e behind);
       };
-      untouched = here.3;
+      untouched = λ none. requesting_none (streams_within (bytes_remaining given_packet)) (bytes_remaining given_packet) (last_assigned_tsn after.retransmission) (held_in e.core) begun waits here.1 none here.2 here.3;
       fills = subst (λ (b : Building). FillsPacket after here.1 given.events b there.1 there.2 new.events filled_packet there.0)
           (request_behind e behind begun given_packet request_packet given_is here.4 ∙ ap (packet_for e.options) (filled_behind draft (plain_contents (a.sacks ++ up.forwards)) (request_contents begun))) there.3;
       is = there.4

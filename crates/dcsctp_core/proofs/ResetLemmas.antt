@@ -1,5 +1,5 @@
 -- An own reset of streams is begun.
-use Rattle.std.proofs.Common.{◌≡◌, ◌≤◌, ◌<◌, ◌+◌, ◌*◌, ◌/◌, ◌%◌, ◌^◌, ◌==◌, ℕ, Bool, true, false, Option, None, Some, List, [], ◌∷◌, ◌++◌, length, map, take, get_or, flat_map, refl, sym, ap, subst, ◌∙◌, arith, Result, Ok, Err, OnOk, not}
+use Rattle.std.proofs.Common.{◌≡◌, ◌≤◌, ◌<◌, ◌+◌, ◌*◌, ◌/◌, ◌%◌, ◌^◌, ◌==◌, ℕ, zero, suc, Bool, true, false, Option, None, Some, List, [], ◌∷◌, ◌++◌, length, map, take, get_or, flat_map, refl, sym, ap, subst, ◌∙◌, arith, Result, Ok, Err, OnOk, not}
 use Rattle.std.specs.Int.{w16, to_be_bytes}
 use Rattle.std.proofs.lemmas.List.{append-nil, map-append, take_more}
 use Rattle.std.proofs.lemmas.List.Concat.{flat_map-append}
@@ -17,7 +17,7 @@ use Rattle.std.specs.List.{AllByRecursion}
 use Rattle.std.specs.Prelude.{is_some}
 use Rattle.std.specs.declared.alloc.AllocError.{AllocError}
 use Rattle.dcsctp_build.specs.Building.{Building, bytes_remaining}
-use Rattle.dcsctp_machine.specs.Transfer.{SendQueueState, is_none_ready, Transfer}
+use Rattle.dcsctp_machine.specs.Transfer.{QueuedStream, SendQueueState, handing, queue_handing_out, is_none_ready, Transfer}
 use Rattle.dcsctp_core.specs.declared.transmission_control_block.ResetRequest.{ResetRequest}
 use Rattle.dcsctp_core.specs.declared.transmission_control_block.TransmissionControlBlock.{TransmissionControlBlock}
 use Rattle.dcsctp_core.specs.View.{number_of, held_of, core_of, tie_of, t1_of, outstanding_of, reconfiguration_of, transfer_of, endpoint_of, view_of, View}
@@ -87,9 +87,9 @@ begun_is None number last_tsn (stream ∷ streams) none some = refl
 begun_is (Some other) number last_tsn streams none some = absurd (cc)
 
 pub begins_with : (now max : ℕ) (ids : List ℕ) (queue : SendQueueState) (old : TransmissionControlBlock) (packet : Building) (left : SendQueueState) (new : TransmissionControlBlock) (filled : Building)
-    → number_of old.reset_request ≡ None → max ≡ streams_within (bytes_remaining packet) → ids ≡ take max queue.ready_streams → (length ids == 0) ≡ false → is_none_ready queue.ready_streams ≡ false
+    → number_of old.reset_request ≡ None → max ≡ streams_within (bytes_remaining packet) → ids ≡ take max queue.ready_streams → (length ids == 0) ≡ false → left ≡ queue_handing_out max queue
     → StartsReset now ids old packet new filled → BeginsReset now queue old packet left new filled
-begins_with now max ids queue old packet left new filled none is_max is some ready h =
+begins_with now max ids queue old packet left new filled none is_max is some handed h =
     let last : ℕ = last_assigned_tsn old.transfer.retransmission in
     let number : ℕ = old.next_outgoing_reset_req_seq_nbr in
     record {
@@ -100,20 +100,56 @@ begins_with now max ids queue old packet left new filled none is_max is some rea
           (sym (fields_same ids h.fit) ∙ ap (map stream_field) (is ∙ ap (λ (n : ℕ). take n queue.ready_streams) is_max));
       begins = h.begins;
       packet_is = h.packet_is;
-      none = λ empty. absurd (cc);
+      hands_out = handed ∙ ap (λ (n : ℕ). queue_handing_out n queue) is_max;
     }
 
 pub begins_by : (now max : ℕ) (ids : List ℕ) (queue : SendQueueState) (old : TransmissionControlBlock) (packet : Building) (left : SendQueueState) (new : TransmissionControlBlock) (filled : Building)
     (result : Result (Unit {0}) AllocError)
-    → number_of old.reset_request ≡ None → max ≡ streams_within (bytes_remaining packet) → ids ≡ take max queue.ready_streams → (length ids == 0) ≡ false → is_none_ready queue.ready_streams ≡ false
+    → number_of old.reset_request ≡ None → max ≡ streams_within (bytes_remaining packet) → ids ≡ take max queue.ready_streams → (length ids == 0) ≡ false → left ≡ queue_handing_out max queue
     → OnOk result (StartsReset now ids old packet new filled) → OnOk result (BeginsReset now queue old packet left new filled)
-begins_by now max ids queue old packet left new filled (Ok done) none is_max is some ready h = begins_with now max ids queue old packet left new filled none is_max is some ready h
-begins_by now max ids queue old packet left new filled (Err error) none is_max is some ready h = tt
+begins_by now max ids queue old packet left new filled (Ok done) none is_max is some handed h = begins_with now max ids queue old packet left new filled none is_max is some handed h
+begins_by now max ids queue old packet left new filled (Err error) none is_max is some handed h = tt
 
 -- no request is outstanding
 pub none_outstanding : (request : Option ResetRequest) → is_some request ≡ false → number_of request ≡ None
 none_outstanding None none = refl
 none_outstanding (Some request) none = absurd (cc)
+
+-- none is handed out where none fits
+no_member : (stream : ℕ) (streams : List ℕ) → (length (stream ∷ streams) == 0) ≡ true → ⊥
+no_member stream streams none = grind (arith, nat_tests)
+
+same_streams : (streams : List QueuedStream) → map (handing []) streams ≡ streams
+same_streams [] = refl
+same_streams (stream ∷ streams) = ap (λ (rest : List QueuedStream). stream ∷ rest) (same_streams streams)
+
+none_handed : (count : ℕ) (queue : SendQueueState) (ready : List ℕ) → queue.ready_streams ≡ ready → (length (take count ready) == 0) ≡ true → is_none_ready ready ≡ false
+    → queue_handing_out count queue ≡ queue
+none_handed count queue [] is none some = absurd (cc)
+none_handed zero queue (stream ∷ ready) is none some = ap (λ (streams : List QueuedStream). record queue { streams = streams }) (same_streams queue.streams)
+none_handed (suc count) queue (stream ∷ ready) is none some = absurd (no_member stream (take count ready) none)
+
+pub begins_none : (now max : ℕ) (ids : List ℕ) (queue : SendQueueState) (old : TransmissionControlBlock) (packet : Building) (left : SendQueueState)
+    → max ≡ streams_within (bytes_remaining packet) → ids ≡ take max queue.ready_streams → (length ids == 0) ≡ true → is_none_ready queue.ready_streams ≡ false
+    → left ≡ queue_handing_out max queue → BeginsReset now queue old packet left old packet
+begins_none now max ids queue old packet left is_max is none some handed =
+    let empty : (length (take max queue.ready_streams) == 0) ≡ true = subst (λ (ns : List ℕ). (length ns == 0) ≡ true) is none in
+    record {
+      begun = None;
+      is = sym (ap (λ (streams : List ℕ). begun_where (number_of old.reset_request) old.next_outgoing_reset_req_seq_nbr (last_assigned_tsn old.transfer.retransmission) (map stream_field streams))
+          (ap (λ (n : ℕ). take n queue.ready_streams) (sym is_max) ∙ none_of (take max queue.ready_streams) empty) ∙ begun_none (number_of old.reset_request) _ _);
+      begins = record { held = refl; request = refl; timer = refl; my = refl; tie_tag = refl; transfer = refl };
+      packet_is = ap (λ (body : List ℕ). record packet { body = body }) (sym (append-nil packet.body));
+      hands_out = handed ∙ none_handed max queue queue.ready_streams refl empty some;
+    }
+  where
+    none_of : (streams : List ℕ) → (length streams == 0) ≡ true → streams ≡ []
+    none_of [] none = refl
+    none_of (stream ∷ streams) none = absurd (no_member stream streams none)
+
+    begun_none : (outstanding : Option ℕ) (number last_tsn : ℕ) → begun_where outstanding number last_tsn [] ≡ None
+    begun_none None number last_tsn = refl
+    begun_none (Some other) number last_tsn = refl
 
 pub some_ready : (answer none : Bool) → answer ≡ not none → answer ≡ true → none ≡ false
 some_ready answer false is answered = refl
@@ -205,7 +241,7 @@ begun_below : {R : Type 0} (old : Context R) (found : Option Transfer) (state : 
 begun_below old None state queue packet filled holds h =
     (ap (λ (s : State). view_of (record old { state = s; send_queue = queue })) h.0 ∙ ap (λ (q : SendQueueState). view_of (record old { send_queue = q })) h.1, h.2)
 begun_below old (Some transfer) state queue packet filled holds h =
-    (h.begun, queue, h.is, h.none, h.packet_is, ap (λ (e : Endpoint). record (view_of old) { endpoint = e }) (endpoint_begun old h.begun state queue (stood old.moment h.begun old.state state transfer holds h.begins)))
+    (h.begun, queue, h.is, h.hands_out, h.packet_is, ap (λ (e : Endpoint). record (view_of old) { endpoint = e }) (endpoint_begun old h.begun state queue (stood old.moment h.begun old.state state transfer holds h.begins)))
 
 pub tries_reset : {R : Type 0} (old new : Context R) (state : State) (queue : SendQueueState) (packet filled : Building) (result : Result (Unit {0}) AllocError)
     → view_of new ≡ view_of (record old { state = state; send_queue = queue })

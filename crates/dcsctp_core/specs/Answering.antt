@@ -2,6 +2,7 @@
 use Rattle.std.specs.Prelude.{◌≡◌, ℕ, true, None}
 use Rattle.std.specs.Option.{option_map}
 use Rattle.dcsctp_machine.specs.Endpoint.{started}
+use Rattle.dcsctp_send.specs.Timer.{TimerModel}
 use Rattle.dcsctp_machine.specs.turns.BegunResets.{reconfiguration_settings}
 use Rattle.dcsctp_core.specs.declared.state.State.{State}
 use Rattle.dcsctp_core.specs.declared.state.State.TheVariants.{Closed, CookieWait, CookieEchoed, Established}
@@ -10,14 +11,15 @@ use Rattle.dcsctp_core.specs.declared.transmission_control_block.TransmissionCon
 
 -- ---- it is in progress
 
--- the request once it waits to be sent again
-abbrev pub delayed : ResetRequest → ResetRequest
-delayed request = record request { waits_for_retry = true }
+-- the request once it waits to be sent again, by this timer
+abbrev pub delayed : TimerModel → ResetRequest → ResetRequest
+delayed timer request = record request { waits_for_retry = true; timer = timer }
 
 -- It waits, and its timer starts anew. Nothing else has moved.
 pub record Retries (now : ℕ) (old new : TransmissionControlBlock) : Type 0 where
-  pub is : new ≡ record old { reset_request = option_map delayed old.reset_request; reconfiguration = new.reconfiguration }
-  pub runs : new.reconfiguration.running ≡ started now (reconfiguration_settings old.transfer.timeout.rto)
+  pub timer : TimerModel
+  pub runs : timer.running ≡ started now (reconfiguration_settings old.transfer.timeout.rto)
+  pub is : new ≡ record old { reset_request = option_map (delayed timer) old.reset_request }
 
 abbrev pub RetriesIn : ℕ → State → State → Type 0
 RetriesIn now Closed new = new ≡ Closed
@@ -27,6 +29,6 @@ RetriesIn now (Established old) new = (tcb : TransmissionControlBlock) × Retrie
 
 -- ---- it has ended
 
--- No request is outstanding, and the timer doesn't run.
+-- No request is outstanding.
 abbrev pub request_ended : TransmissionControlBlock → TransmissionControlBlock
-request_ended tcb = record tcb { reset_request = None; reconfiguration = record tcb.reconfiguration { running = None } }
+request_ended tcb = record tcb { reset_request = None }

@@ -12,7 +12,7 @@ use Rattle.dcsctp_machine.specs.Transfer.{SendQueueState, Transfer, has_data, ca
 use Rattle.dcsctp_machine.specs.Endpoint.{Endpoint, Timers, heartbeats_begun, held_in}
 use Rattle.dcsctp_machine.specs.declared.association.Held.{Held}
 use Rattle.dcsctp_machine.specs.Outcome.{counted}
-use Rattle.dcsctp_machine.specs.turns.BegunResets.{BegunReset, last_assigned_tsn, begun_in, request_contents, after_begun}
+use Rattle.dcsctp_machine.specs.turns.BegunResets.{BegunReset, last_assigned_tsn, begun_in, request_contents, after_begun, streams_within, queue_requesting}
 use Rattle.dcsctp_machine.specs.turns.FlushOutcomes.{told_event, Answer, answer_contents, filled, asked, flush_of, packets_allowed, Ask, first_ask, wants_sack, AnsweredBelow, timers_with, Answered, Answers, is_none, later_ask, draft_to}
 use Rattle.dcsctp_api.specs.Calls.{user_event}
 use Rattle.dcsctp_transfer.specs.Filling.{TellsMore, FillsPacket, may_give, Acknowledges, is_sack_wanted}
@@ -129,7 +129,7 @@ BeginsAt None old packet new filled = (new ≡ old) × (filled ≡ packet)
 BeginsAt (Some transfer) old packet new filled =
     (begun : Option BegunReset) × (left : SendQueueState)
     × (begun ≡ begun_in (held_in old.endpoint.core) (bytes_remaining packet) (last_assigned_tsn transfer.retransmission) old.endpoint.below.queue)
-    × (is_none_ready old.endpoint.below.queue.ready_streams ≡ true → left ≡ old.endpoint.below.queue)
+    × (left ≡ queue_requesting (streams_within (bytes_remaining packet)) begun old.endpoint.below.queue)
     × (filled ≡ record packet { body = packet.body ++ flat_map chunk_bytes (map chunk_out (request_contents begun)) })
     × (new ≡ record old { endpoint = record (after_begun begun old.endpoint) { below = record old.endpoint.below { queue = left } } })
 

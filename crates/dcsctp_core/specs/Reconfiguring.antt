@@ -21,9 +21,12 @@ tried_again request = record request { waits_for_retry = false }
 abbrev pub without_retry : TransmissionControlBlock → TransmissionControlBlock
 without_retry tcb = record tcb { reset_request = option_map tried_again tcb.reset_request }
 
--- the association once its timer was told this moment
+-- the request once its timer was told this moment
+abbrev pub request_told : ℕ → ResetRequest → ResetRequest
+request_told moment request = record request { timer = timer_after moment request.timer }
+
 abbrev pub reconfiguration_told : ℕ → TransmissionControlBlock → TransmissionControlBlock
-reconfiguration_told moment tcb = record tcb { reconfiguration = timer_after moment tcb.reconfiguration }
+reconfiguration_told moment tcb = record tcb { reset_request = option_map (request_told moment) tcb.reset_request }
 
 -- ---- of a state
 

@@ -1,19 +1,20 @@
 -- An own reset of streams is begun (RFC 6525, section 5.1.2).
-use Rattle.std.specs.Prelude.{◌≡◌, ◌<◌, ◌^◌, ℕ, true, false, Option, None, Some, List, ◌++◌, map}
+use Rattle.std.specs.Prelude.{◌≡◌, ◌≤◌, ◌<◌, ◌^◌, ℕ, true, false, Option, None, Some, List, ◌++◌, length, map}
 use Rattle.std.specs.List.{flat_map, AllByRecursion}
 use Rattle.dcsctp_wire.specs.Spelling.{chunk_bytes}
 use Rattle.dcsctp_build.specs.Building.{Building, bytes_remaining}
 use Rattle.dcsctp_machine.specs.Ids.{stream_numbers}
 use Rattle.dcsctp_machine.specs.Packet.{chunk_out}
+use Rattle.dcsctp_machine.specs.control.FlushChanges.{reset_request}
 use Rattle.dcsctp_machine.specs.Reconfiguration.{RequestedReset}
-use Rattle.dcsctp_machine.specs.Transfer.{SendQueueState, Transfer, is_none_ready}
+use Rattle.dcsctp_machine.specs.Transfer.{SendQueueState, Transfer}
 use Rattle.dcsctp_machine.specs.Endpoint.{OutstandingRequest, RunningTimer, held_in, started}
-use Rattle.dcsctp_machine.specs.turns.BegunResets.{BegunReset, last_assigned_tsn, begun_in, request_contents, held_begun, reconfiguration_settings}
+use Rattle.dcsctp_machine.specs.turns.BegunResets.{BegunReset, streams_within, last_assigned_tsn, begun_in, request_contents, queue_requesting, held_begun, reconfiguration_settings}
 use Rattle.dcsctp_core.specs.declared.state.State.{State}
 use Rattle.dcsctp_core.specs.declared.state.State.TheVariants.{Closed, CookieWait, CookieEchoed, Established}
 use Rattle.dcsctp_core.specs.declared.transmission_control_block.ResetRequest.{ResetRequest}
 use Rattle.dcsctp_core.specs.declared.transmission_control_block.TransmissionControlBlock.{TransmissionControlBlock}
-use Rattle.dcsctp_core.specs.View.{held_of, request_of, core_of}
+use Rattle.dcsctp_core.specs.View.{held_of, request_of, timer_of, core_of}
 
 -- It fits its field.
 abbrev pub IsStream : ℕ → Type 0
@@ -22,6 +23,20 @@ IsStream stream = stream < 2 ^ 16
 -- what a request wants
 abbrev pub reset_of : ResetRequest → RequestedReset
 reset_of request = record { last_tsn = request.last_tsn; streams = stream_numbers request.streams.items }
+
+-- ---- in a packet
+
+-- Its chunk fits into the packet, where there is one.
+abbrev pub HasRoom : Option ResetRequest → Building → Type 0
+HasRoom None packet = Unit {0}
+HasRoom (Some request) packet = length (chunk_bytes (chunk_out (reset_request request.number (reset_of request)))) ≤ bytes_remaining packet
+
+-- Its chunk was added, and its streams are numbers of 16 bits.
+abbrev pub AddsRequest : Option ResetRequest → Building → Building → Type 0
+AddsRequest None packet filled = filled ≡ packet
+AddsRequest (Some request) packet filled =
+    AllByRecursion IsStream (stream_numbers request.streams.items)
+    × (filled ≡ record packet { body = packet.body ++ chunk_bytes (chunk_out (reset_request request.number (reset_of request))) })
 
 -- ---- of an association
 
@@ -38,7 +53,7 @@ timer_begun (Some begun) now rto timer = started now (reconfiguration_settings r
 pub record Begins (now : ℕ) (begun : Option BegunReset) (old new : TransmissionControlBlock) : Type 0 where
   pub held : held_of new ≡ held_begun begun (held_of old)
   pub request : request_of new.reset_request ≡ request_begun begun (request_of old.reset_request)
-  pub timer : new.reconfiguration.running ≡ timer_begun begun now old.transfer.timeout.rto old.reconfiguration.running
+  pub timer : timer_of new.reset_request ≡ timer_begun begun now old.transfer.timeout.rto (timer_of old.reset_request)
   pub my : new.my ≡ old.my
   pub tie_tag : new.tie_tag ≡ old.tie_tag
   pub transfer : new.transfer ≡ old.transfer
@@ -62,7 +77,7 @@ pub record BeginsReset (now : ℕ) (queue : SendQueueState) (old : TransmissionC
   pub is : begun ≡ begun_in (Some (held_of old)) (bytes_remaining packet) (last_assigned_tsn old.transfer.retransmission) queue
   pub begins : Begins now begun old new
   pub packet_is : filled ≡ with_request begun packet
-  pub none : is_none_ready queue.ready_streams ≡ true → left ≡ queue
+  pub hands_out : left ≡ queue_requesting (streams_within (bytes_remaining packet)) begun queue
 
 -- ---- of a state
 
@@ -78,7 +93,7 @@ pub record BeginsWhere (now : ℕ) (transfer : Transfer) (queue : SendQueueState
   pub is : begun ≡ begun_in (held_in (core_of old)) (bytes_remaining packet) (last_assigned_tsn transfer.retransmission) queue
   pub begins : BeginsIn now begun old new
   pub packet_is : filled ≡ with_request begun packet
-  pub none : is_none_ready queue.ready_streams ≡ true → left ≡ queue
+  pub hands_out : left ≡ queue_requesting (streams_within (bytes_remaining packet)) begun queue
 
 -- Nothing happens where no peer is held.
 abbrev pub BeginsBelow : ℕ → Option Transfer → SendQueueState → State → Building → SendQueueState → State → Building → Type 0

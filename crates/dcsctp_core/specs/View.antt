@@ -43,6 +43,11 @@ abbrev pub request_of : Option ResetRequest → Option OutstandingRequest
 request_of None = None
 request_of (Some request) = Some (record { last_tsn = request.last_tsn; streams = stream_numbers request.streams.items; waits_for_retry = request.waits_for_retry })
 
+-- the timer by which it is sent again
+abbrev pub timer_of : Option ResetRequest → Option RunningTimer
+timer_of None = None
+timer_of (Some request) = request.timer.running
+
 -- what an association keeps of its peer
 abbrev pub held_of : TransmissionControlBlock → Held
 held_of tcb =
@@ -97,15 +102,15 @@ outstanding_of (Established tcb) = request_of tcb.reset_request
 abbrev pub reconfiguration_of : State → Option RunningTimer
 reconfiguration_of Closed = None
 reconfiguration_of (CookieWait wait) = None
-reconfiguration_of (CookieEchoed echoed) = echoed.tcb.reconfiguration.running
-reconfiguration_of (Established tcb) = tcb.reconfiguration.running
+reconfiguration_of (CookieEchoed echoed) = timer_of echoed.tcb.reset_request
+reconfiguration_of (Established tcb) = timer_of tcb.reset_request
 
 -- An association that was just made, with this peer and this tie tag.
 pub record IsNew (options : Options) (own : Pair) (peer : Peer) (tie : ℕ) (tcb : TransmissionControlBlock) : Type 0 where
   pub my : tcb.my ≡ own
   pub held : held_of tcb ≡ new_held own peer.pair peer.capabilities
   pub outstanding : request_of tcb.reset_request ≡ None
-  pub reconfiguration : tcb.reconfiguration.running ≡ None
+  pub reconfiguration : timer_of tcb.reset_request ≡ None
   pub tie_tag : tcb.tie_tag ≡ tie
   pub transfer : tcb.transfer ≡ new_transfer options peer.capabilities own.first_tsn peer.pair.first_tsn peer.a_rwnd
 

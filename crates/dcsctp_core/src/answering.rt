@@ -5,6 +5,7 @@ ghost use Rattle.dcsctp_core.specs.Answering.{Retries, RetriesIn, request_ended}
 ghost use Rattle.dcsctp_core.specs.Reconfiguring.{request_in, tcb_changed};
 ghost use Rattle.dcsctp_core.specs.View.{number_of};
 
+use crate::resetting::reconfiguration_timer;
 use crate::state::State;
 use crate::transmission_control_block::{ResetRequest, TransmissionControlBlock};
 use dcsctp_api::SocketTime;
@@ -14,19 +15,21 @@ impl TransmissionControlBlock {
     fn retry_reset(&mut self, now: SocketTime)
         ensures { Retries now self.old self.new }
     {
+        let timer = reconfiguration_timer(self.transfer.rto(), now);
         match &mut self.reset_request {
             None => {}
-            Some(request) => request.waits_for_retry = true,
+            Some(request) => {
+                request.waits_for_retry = true;
+                request.timer = timer;
+            }
         }
-        self.start_reconfiguration(now);
     }
 
-    // The request that is outstanding has ended, and its timer stops.
+    // The request that is outstanding has ended, and its timer with it.
     fn end_reset(&mut self) -> Option<ResetRequest>
         ensures answer { result ≡ self.old.reset_request }
         ensures left { self.new ≡ request_ended self.old }
     {
-        self.reconfiguration.stop();
         self.reset_request.take()
     }
 }
@@ -55,7 +58,7 @@ impl State {
         }
     }
 
-    /// The own request that is outstanding has ended, and its timer stops. It is answered, where there was one.
+    /// The own request that is outstanding has ended, and its timer with it. It is answered, where there was one.
     /// It takes no memory.
     pub fn end_reset(&mut self) -> Option<ResetRequest>
         ensures answer { result ≡ request_in self.old }

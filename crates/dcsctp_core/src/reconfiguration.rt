@@ -3,13 +3,34 @@
 ghost use Rattle.std.specs.Prelude.{◌≡◌};
 ghost use Rattle.dcsctp_send.specs.Timer.{running_deadline, expires_at};
 ghost use Rattle.dcsctp_core.specs.Reconfiguring.{is_unanswered, without_retry, reconfiguration_told, request_in, tcb_changed};
-ghost use Rattle.dcsctp_core.specs.View.{reconfiguration_of};
+ghost use Rattle.dcsctp_core.specs.View.{reconfiguration_of, timer_of};
 
 use crate::state::State;
 use crate::transmission_control_block::TransmissionControlBlock;
 use dcsctp_api::SocketTime;
 
 impl TransmissionControlBlock {
+    // Tells the timer of the request that is outstanding this moment, and answers whether it expires. It goes on then.
+    fn expire_reconfiguration(&mut self, now: SocketTime) -> bool
+        ensures answer { result ≡ expires_at now (timer_of self.old.reset_request) }
+        ensures left { self.new ≡ reconfiguration_told now self.old }
+    {
+        match &mut self.reset_request {
+            None => false,
+            Some(request) => request.timer.expire(now),
+        }
+    }
+
+    // When the request that is outstanding is sent again, where one is.
+    fn reconfiguration_deadline(&self) -> Option<SocketTime>
+        ensures { result ≡ running_deadline (timer_of self.now.reset_request) }
+    {
+        match &self.reset_request {
+            None => None,
+            Some(request) => request.timer.next_expiry(),
+        }
+    }
+
     // The request that is outstanding waits no longer to be sent again. Had it not waited, so that the peer didn't
     // answer it?
     fn end_retry(&mut self) -> bool
@@ -30,8 +51,8 @@ impl State {
     {
         match self {
             State::Closed | State::CookieWait(_) => None,
-            State::CookieEchoed(echoed) => echoed.tcb.reconfiguration.next_expiry(),
-            State::Established(tcb) => tcb.reconfiguration.next_expiry(),
+            State::CookieEchoed(echoed) => echoed.tcb.reconfiguration_deadline(),
+            State::Established(tcb) => tcb.reconfiguration_deadline(),
         }
     }
 
@@ -43,8 +64,8 @@ impl State {
     {
         match self {
             State::Closed | State::CookieWait(_) => false,
-            State::CookieEchoed(echoed) => echoed.tcb.reconfiguration.expire(now),
-            State::Established(tcb) => tcb.reconfiguration.expire(now),
+            State::CookieEchoed(echoed) => echoed.tcb.expire_reconfiguration(now),
+            State::Established(tcb) => tcb.expire_reconfiguration(now),
         }
     }
 

@@ -12,7 +12,7 @@ ghost use Rattle.dcsctp_machine.specs.Packet.{chunk_out};
 ghost use Rattle.dcsctp_machine.specs.Transfer.{is_none_ready};
 ghost use Rattle.dcsctp_machine.specs.control.FlushChanges.{reset_request};
 ghost use Rattle.dcsctp_machine.specs.turns.BegunResets.{streams_within, reconfiguration_settings};
-ghost use Rattle.dcsctp_core.specs.Resetting.{IsStream, StartsReset, BeginsReset, BeginsBelow, reset_of};
+ghost use Rattle.dcsctp_core.specs.Resetting.{AddsRequest, HasRoom, IsStream, StartsReset, BeginsReset, BeginsBelow, reset_of};
 ghost use Rattle.dcsctp_core.specs.Flushing.{HasNoReset};
 ghost use Rattle.dcsctp_core.specs.View.{transfer_of};
 
@@ -24,6 +24,7 @@ use dcsctp_send::{BackoffAlgorithm, Timer};
 use dcsctp_transfer::QueuedMessages;
 use dcsctp_wire::{Chunk, OutgoingSsnResetRequestParameter, Parameter, ReConfigChunk};
 use std::alloc::{AllocError, Global};
+use std::time::Duration;
 
 // How many streams a request may name where its chunk has so much room: it has 20 bytes and 2 for each stream,
 // padded to a multiple of 4 (RFC 6525, section 4.1).
@@ -79,26 +80,40 @@ fn put_request(
     Ok(())
 }
 
+// The timer by which a request is sent again, started now with this retransmission timeout: each wait is twice the
+// last one, without a bound, and it goes on for good (RFC 6525, section 5.1.1).
+pub(crate) fn reconfiguration_timer(rto: Duration, now: SocketTime) -> Timer
+    ensures { result.running ≡ started now (reconfiguration_settings (as_nanos rto)) }
+{
+    let mut timer = Timer::new(rto, BackoffAlgorithm::Exponential, None, None);
+    timer.start(now);
+    timer
+}
+
 impl TransmissionControlBlock {
-    // Starts the timer by which a request is sent again: each wait is twice the last one, without a bound, and
-    // it goes on for good (RFC 6525, section 5.1.1).
-    pub(crate) fn start_reconfiguration(&mut self, now: SocketTime)
-        ensures { (self.new ≡ record self.old { reconfiguration = self.new.reconfiguration })
-            × (self.new.reconfiguration.running ≡ started now (reconfiguration_settings self.old.transfer.timeout.rto)) }
+    /// Adds the own request that is outstanding, where one is, to a packet with room for it: a RE-CONFIG with one
+    /// Outgoing SSN Reset Request (RFC 6525, section 4.1).
+    ///
+    /// `Err`: an allocation failed; the packet is unchanged.
+    pub fn add_prepared_ssn_reset_request(
+        &self,
+        alloc: Global,
+        packet: &mut SctpPacketBuilder,
+    ) -> Result<(), AllocError>
+        requires { HasRoom self.now.reset_request packet.old }
+        ensures { OnOk result (AddsRequest self.now.reset_request packet.old packet.new) }
     {
-        let mut timer = Timer::new(
-            self.transfer.rto(),
-            BackoffAlgorithm::Exponential,
-            None,
-            None,
-        );
-        timer.start(now);
-        self.reconfiguration = timer;
+        match &self.reset_request {
+            None => Ok(()),
+            Some(request) => put_request(alloc, request, packet),
+        }
     }
 
-    // Begins a reset of these streams, of which there is one at least; its request is put into the packet, where it
-    // fits. The one error is that a growth was refused.
-    fn start_reset(
+    /// Begins a reset of these streams, which takes the next number and is outstanding from now on, and adds its
+    /// request to a packet with room for it (RFC 6525, section 5.1.2). At least one stream is named.
+    ///
+    /// `Err`: an allocation failed; the packet is unchanged.
+    pub fn start_ssn_reset_request(
         &mut self,
         alloc: Global,
         now: SocketTime,
@@ -115,17 +130,17 @@ impl TransmissionControlBlock {
             last_tsn,
             streams,
             waits_for_retry: false,
+            timer: reconfiguration_timer(self.transfer.rto(), now),
         };
-        put_request(alloc, &request, packet)?;
         self.next_outgoing_reset_req_seq_nbr = number.wrapping_add(1);
         self.reset_request = Some(request);
-        self.start_reconfiguration(now);
-        Ok(())
+        self.add_prepared_ssn_reset_request(alloc, packet)
     }
 
-    // Begins a reset of streams that are ready for it, where no other is outstanding. Its request is put into the
-    // packet, and names as many as fit there; the others stay ready. The one error is that a growth was refused.
-    fn begin_reset(
+    /// Begins a reset of streams that are ready for it, where no other is outstanding. Its request is added to the
+    /// packet, and names as many streams as fit there, the first of them; the others stay ready. Where none fits
+    /// nothing changes. `Err`: an allocation failed.
+    pub fn begin_reset(
         &mut self,
         alloc: Global,
         now: SocketTime,
@@ -143,7 +158,7 @@ impl TransmissionControlBlock {
         if streams.is_empty() {
             return Ok(());
         }
-        self.start_reset(alloc, now, streams, packet)
+        self.start_ssn_reset_request(alloc, now, streams, packet)
     }
 }
 

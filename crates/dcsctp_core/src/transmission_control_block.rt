@@ -9,7 +9,7 @@ use dcsctp_api::{
     Association, Capabilities, Held, Options, Pair, Phase, ReconfigurationResponseResult, StreamId,
 };
 use dcsctp_build::SctpPacketBuilder;
-use dcsctp_send::{BackoffAlgorithm, Timer};
+use dcsctp_send::Timer;
 use dcsctp_transfer::Transfer;
 use std::alloc::{AllocError, Global};
 
@@ -40,6 +40,9 @@ pub struct ResetRequest {
 
     /// Was it answered 'in progress', so that it waits to be sent again?
     pub waits_for_retry: bool,
+
+    /// When it is sent again (RFC 6525, section 5.1.1). It runs.
+    pub timer: Timer,
 }
 
 /// An association, from the moment at which the peer is known.
@@ -65,9 +68,6 @@ pub struct TransmissionControlBlock {
 
     /// The one that is outstanding.
     pub reset_request: Option<ResetRequest>,
-
-    /// When it is sent again (RFC 6525, section 5.1.1). It runs while one is outstanding.
-    pub reconfiguration: Timer,
 
     /// The number of the last request of the peer that was accepted.
     pub last_processed_req_seq_nbr: u32,
@@ -102,12 +102,6 @@ impl TransmissionControlBlock {
             ),
             next_outgoing_reset_req_seq_nbr: my.first_tsn,
             reset_request: None,
-            reconfiguration: Timer::new(
-                options.rto_initial,
-                BackoffAlgorithm::Exponential,
-                None,
-                None,
-            ),
             last_processed_req_seq_nbr: peer.pair.first_tsn.wrapping_sub(1),
             last_processed_req_result: ReconfigurationResponseResult::SuccessNothingToDo,
         }

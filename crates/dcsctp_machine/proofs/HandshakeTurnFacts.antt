@@ -50,6 +50,7 @@ queue is_interleaved =
     record {
       is_interleaved = is_interleaved;
       total_buffered_amount = 30;
+      total_low_threshold = 0;
       default_threshold = 0;
       default_priority = 256;
       streams = record { stream = 3; buffered_amount = 30; low_threshold = 7; priority = 5; messages = 1; is_paused = false; is_handed_out = false } ∷ record { stream = 4; buffered_amount = 0; low_threshold = 0; priority = 256; messages = 0; is_paused = true; is_handed_out = false } ∷ [];

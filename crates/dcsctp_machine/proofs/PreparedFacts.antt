@@ -5,7 +5,7 @@ use Rattle.dcsctp_machine.specs.declared.association.Pair.{Pair}
 use Rattle.dcsctp_machine.specs.Transfer.{StreamNumber, QueuedStream, SendQueueState, has_data}
 use Rattle.dcsctp_machine.specs.Endpoint.{Endpoint, closed, cookie_wait, open_in, established}
 use Rattle.dcsctp_machine.specs.turns.FlushOutcomes.{amount_is_low, total_amount_is_low, message_has_expired, message_ends}
-use Rattle.dcsctp_machine.specs.turns.PreparedResets.{not_connected, not_supported, reset_refusal, queue_pausing, low_told, expired_told}
+use Rattle.dcsctp_machine.specs.turns.PreparedResets.{not_connected, not_supported, reset_refusal, queue_pausing, has_fallen, low_told, expired_told}
 
 -- ---- what is refused
 
@@ -33,7 +33,7 @@ paused id bytes messages = record (stream id bytes messages) { is_paused = true 
 
 queue : ℕ → Option StreamNumber → List QueuedStream → List ℕ → SendQueueState
 queue bytes under_way streams ready =
-    record { is_interleaved = false; total_buffered_amount = bytes; default_threshold = 0; default_priority = 256; streams = streams; under_way = under_way; ready_streams = ready }
+    record { is_interleaved = false; total_buffered_amount = bytes; total_low_threshold = 0; default_threshold = 0; default_priority = 256; streams = streams; under_way = under_way; ready_streams = ready }
 
 -- Two messages of 12 bytes together wait on stream 2: they go, and the stream is ready, between its neighbours.
 two_leave : queue_pausing 2 12 (queue 15 None (stream 2 12 2 ∷ stream 5 3 1 ∷ []) (1 ∷ 4 ∷ [])) ≡ queue 3 None (paused 2 0 0 ∷ stream 5 3 1 ∷ []) (1 ∷ 2 ∷ 4 ∷ [])
@@ -75,6 +75,13 @@ none_falls = refl
 five_are_left : low_told (stream 2 12 2) 7 false ≡ []
 unfolding stream
 five_are_left = refl
+
+-- It is told where the amount comes down to its threshold, and not where it was there before.
+down_to_it : has_fallen 5 12 5 ≡ true
+down_to_it = refl
+
+there_before : has_fallen 5 5 0 ≡ false
+there_before = refl
 
 two_names : expired_told (8 ∷ 9 ∷ []) ≡ message_has_expired 8 ∷ message_ends 8 ∷ message_has_expired 9 ∷ message_ends 9 ∷ []
 two_names = refl

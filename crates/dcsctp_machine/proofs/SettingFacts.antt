@@ -10,7 +10,7 @@ stream id threshold priority = record { stream = id; buffered_amount = 0; low_th
 -- a queue of these streams, with the defaults of the options
 queue : List QueuedStream → SendQueueState
 queue streams =
-    record { is_interleaved = false; total_buffered_amount = 0; default_threshold = 0; default_priority = 256; streams = streams; under_way = None; ready_streams = [] }
+    record { is_interleaved = false; total_buffered_amount = 0; total_low_threshold = 0; default_threshold = 0; default_priority = 256; streams = streams; under_way = None; ready_streams = [] }
 
 -- A stream that was never used has the defaults but for what is set, and stands between its neighbours.
 first_is_set : set_in_queue (stream_priority 1 5) (queue []) ≡ queue (stream 1 0 5 ∷ [])

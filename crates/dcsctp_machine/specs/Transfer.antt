@@ -1,6 +1,6 @@
 -- The public values of the transfer layer: what waits to be sent, what is in flight, and what was received.
 use Rattle.std.specs.List.{list_any}
-use Rattle.std.specs.Prelude.{◌==◌, ℕ, ◌+◌, ◌-◌, ◌*◌, ◌%◌, ◌^◌, min, nat_le, nat_lt, not, ◌&&◌, ◌||◌, Bool, true, false, Option, None, Some, is_some, List, [], ◌∷◌, map, if◌then◌else◌}
+use Rattle.std.specs.Prelude.{◌==◌, ℕ, ◌+◌, ◌-◌, ◌*◌, ◌%◌, ◌^◌, min, nat_le, nat_lt, not, ◌&&◌, ◌||◌, Bool, true, false, Option, None, Some, is_some, List, [], ◌∷◌, map, take, drop, if◌then◌else◌}
 use Rattle.std.specs.Duration.{as_nanos}
 use Rattle.dcsctp_machine.specs.declared.capabilities.Capabilities.{Capabilities}
 use Rattle.dcsctp_machine.specs.declared.message.Message.{Message}
@@ -42,6 +42,8 @@ pub record SendQueueState : Type 0 where
   -- Are messages numbered as for interleaving (RFC 8260, section 2.1)?
   pub is_interleaved : Bool
   pub total_buffered_amount : ℕ
+  -- The user is told where the total falls to this.
+  pub total_low_threshold : ℕ
   -- what a stream begins with
   pub default_threshold : ℕ
   pub default_priority : ℕ
@@ -58,6 +60,7 @@ empty_queue options =
     record {
       is_interleaved = false;
       total_buffered_amount = 0;
+      total_low_threshold = options.total_buffered_amount_low_threshold;
       default_threshold = options.default_stream_buffered_amount_low_threshold;
       default_priority = options.default_stream_priority;
       streams = [];
@@ -117,6 +120,19 @@ handed_back stream = if stream.is_handed_out then resumed stream else stream
 
 abbrev pub queue_handed_back : SendQueueState → SendQueueState
 queue_handed_back queue = record queue { streams = map handed_back queue.streams }
+
+-- is the number among these?
+abbrev pub is_among : ℕ → List ℕ → Bool
+is_among number numbers = list_any (λ other. other == number) numbers
+
+-- the stream, whose reset is requested where its number is among these
+abbrev pub handing : List ℕ → QueuedStream → QueuedStream
+handing ids stream = if is_among stream.stream ids then record stream { is_handed_out = true } else stream
+
+-- So many of the streams that are ready, the first of them, are handed out: they stay paused, and are ready no longer.
+abbrev pub queue_handing_out : ℕ → SendQueueState → SendQueueState
+queue_handing_out count queue =
+    record queue { streams = map (handing (take count queue.ready_streams)) queue.streams; ready_streams = drop count queue.ready_streams }
 
 -- The message under way begins again, and no stream waits for a reset.
 abbrev pub queue_after_reset : SendQueueState → SendQueueState

@@ -1,5 +1,5 @@
 -- Own streams that are prepared to be reset, one after another, and then a flush.
-use Rattle.std.proofs.Common.{◌≡◌, ℕ, Bool, true, false, Option, None, Some, Result, Ok, Err, List, [], ◌∷◌, ◌++◌, length, map, take, refl, sym, ap, subst, ◌∙◌, arith}
+use Rattle.std.proofs.Common.{◌≡◌, ◌-◌, ℕ, Bool, true, false, Option, None, Some, Result, Ok, Err, List, [], ◌∷◌, ◌++◌, length, map, take, refl, sym, ap, subst, ◌∙◌, arith}
 use Rattle.std.proofs.lemmas.List.{append-nil, map-append}
 use Rattle.std.proofs.Math.Seq.{take-append_seam}
 use Rattle.rand_core.specs.Stream.{Stream}
@@ -10,7 +10,7 @@ use Rattle.dcsctp_machine.specs.Endpoint.{Endpoint, held_in}
 use Rattle.dcsctp_machine.specs.Outcome.{Outcome, still, quiet, then_outcome}
 use Rattle.dcsctp_machine.specs.turns.FlushOutcomes.{Told, told_event}
 use Rattle.dcsctp_machine.specs.turns.DataOutcomes.{flush_by, FlushTurn}
-use Rattle.dcsctp_machine.specs.turns.PreparedResets.{ResetRefusal, reset_refusal, low_told, queue_pausing, PreparesWhere, PreparesAll, none, more, with_queue, OwnResetsWhere, OwnResetsTurn}
+use Rattle.dcsctp_machine.specs.turns.PreparedResets.{ResetRefusal, reset_refusal, has_fallen, low_told, queue_pausing, PreparesWhere, PreparesAll, none, more, with_queue, OwnResetsWhere, OwnResetsTurn}
 use Rattle.dcsctp_streams.specs.Telling.{contents}
 use Rattle.dcsctp_transfer.specs.Preparing.{PreparesStream, StopsPreparing, TriesStream}
 use Rattle.dcsctp_core.specs.declared.context.Context.{Context}
@@ -68,17 +68,15 @@ tries_one stream id old (Err error) new is tries = one_stopped stream id (view_o
 any_where : (b : Bool) (id : ℕ) (queue : SendQueueState) → (told : List Told) × (left : SendQueueState) × PreparesWhere b id queue told left
 any_where true id queue = ([], queue, (refl, refl))
 any_where false id queue = (
-  low_told (queued_stream queue id) 0 false ++ [],
+  low_told (queued_stream queue id) 0 (has_fallen queue.total_low_threshold queue.total_buffered_amount (queue.total_buffered_amount - 0)) ++ [],
   queue_pausing id 0 queue,
   record {
     bytes = 0;
     names = [];
-    total_is_low = false;
     left = refl;
     tells = refl;
     named = omega arith;
     none = λ zero. refl;
-    falls = λ falls. absurd (cc);
   },
 )
 

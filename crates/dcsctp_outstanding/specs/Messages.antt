@@ -33,11 +33,11 @@ pub record EndsMessage (place end : ℕ) (items : List Item) : Type 0 where
 abbrev pub IsMessage : ℕ → ℕ → ℕ → List Item → Type 0
 IsMessage place start end items = StartsMessage place start items × EndsMessage place end items
 
--- the end of a message, whose last item is this one so far: it is abandoned, has no payload, and no reset lies between them
-pub record IsEndOf (now : ℕ) (last item : Item) : Type 0 where
+-- the end of a message, whose last item is this one so far: it is abandoned, and has no payload
+pub record IsEndOf (now : ℕ) (begins : Bool) (last item : Item) : Type 0 where
   pub is_abandoned : item.progress.state ≡ Abandoned
   pub sent_at : item.sent_at ≡ now
-  pub begins : item.begins_after_reset ≡ false
+  pub begins_after_reset : item.begins_after_reset ≡ begins
   pub is : fragment_of item.fragment ≡ record (fragment_of last.fragment) {
     fsn = (last.fragment.fsn + 1) % 2 ^ 32;
     is_beginning = false;
@@ -47,18 +47,19 @@ pub record IsEndOf (now : ℕ) (last item : Item) : Type 0 where
   }
 
 -- one more item, which is the end of the message
-pub record AddsEndOf (now : ℕ) (last : Item) (old new : OutstandingModel) : Type 0 where
+pub record AddsEndOf (now : ℕ) (begins : Bool) (last : Item) (old new : OutstandingModel) : Type 0 where
   pub item : Item
-  pub is_end : IsEndOf now last item
+  pub is_end : IsEndOf now begins last item
   pub grows : new ≡ record old { items = old.items ++ item ∷ [] }
 
 -- the end is added where something of the message was dropped
-abbrev pub EndsDropped : ℕ → Item → OutstandingModel → OutstandingModel → Bool → Type 0
-EndsDropped now last old new true = AddsEndOf now last old new
-EndsDropped now last old new false = new ≡ old
+abbrev pub EndsDropped : ℕ → Bool → Item → OutstandingModel → OutstandingModel → Bool → Type 0
+EndsDropped now begins last old new true = AddsEndOf now begins last old new
+EndsDropped now begins last old new false = new ≡ old
 
--- What waits of the message in the send queue is dropped.
-pub record DropsRest (now : ℕ) (last : Item) (old : OutstandingModel) (waiting : Backlog) (told : List (Event (List ℕ))) (new : OutstandingModel) (left : Backlog) (telling : List (Event (List ℕ))) : Type 0 where
+-- What waits of the message in the send queue is dropped. Where the flag is set, streams were reset since the last item was added: the
+-- end of the message lies behind the reset.
+pub record DropsRest (now : ℕ) (begins : Bool) (last : Item) (old : OutstandingModel) (waiting : Backlog) (told : List (Event (List ℕ))) (new : OutstandingModel) (left : Backlog) (telling : List (Event (List ℕ))) : Type 0 where
   pub is_dropped : Bool
   pub drops : DiscardsNamed waiting last.fragment.stream_id.0 last.fragment.message_id told is_dropped left telling
-  pub ends : EndsDropped now last old new is_dropped
+  pub ends : EndsDropped now begins last old new is_dropped

@@ -21,12 +21,12 @@ use Rattle.dcsctp_core.specs.declared.state.State.TheVariants.{Closed, CookieWai
 use Rattle.dcsctp_core.specs.declared.transmission_control_block.ResetRequest.{ResetRequest}
 use Rattle.dcsctp_core.specs.declared.transmission_control_block.TransmissionControlBlock.{TransmissionControlBlock}
 use Rattle.dcsctp_core.specs.View.{View, number_of, request_of, held_of, core_of, tcb_of, outstanding_of, endpoint_of, view_of, Moves}
-use Rattle.dcsctp_core.specs.Handling.{Tries, Emits, emitted, TakesIn}
+use Rattle.dcsctp_core.specs.Handling.{Tries, Emits, emitted, TakesIn, CutIn}
 use Rattle.dcsctp_core.specs.Reconfiguring.{request_over}
 use Rattle.dcsctp_core.specs.Resetting.{IsStream}
 use Rattle.dcsctp_core.specs.Timing.{where_expired, is_timer_due, ExpiryTurn}
 use Rattle.dcsctp_core.proofs.BelowLemmas.{moves_from}
-use Rattle.dcsctp_core.proofs.Composing.{moves_as}
+use Rattle.dcsctp_core.proofs.Composing.{moves_as, cut_first}
 use Rattle.dcsctp_core.proofs.ResetLemmas.{fields_same}
 use Rattle.dcsctp_resets.specs.Repeating.{again_outcome, again_turn, unless_outcome, unless_turn}
 use Rattle.dcsctp_resets.proofs.HandlingLemmas.{tcb_holds, emits_moves}
@@ -137,3 +137,19 @@ expired_then {R = R} stream old mid new b answer comes left moves =
     same_ports : (request : Option OutstandingRequest) → ports_of (request_over (endpoint_of old) request).options ≡ ports_of (endpoint_of old).options
     same_ports None = refl
     same_ports (Some request) = refl
+
+-- The timer has expired, and a growth was refused before anything was told.
+pub expired_cut : {R : Type 0} (old mid new : Context R) (b : Bool) → b ≡ is_timer_due (endpoint_of old) (own_timer reconfiguration) → b ≡ true
+    → view_of mid ≡ where_expired b (request_over (endpoint_of old) (outstanding_of old.state)) (view_of old) → view_of new ≡ view_of mid
+    → (is_timer_due (endpoint_of old) (own_timer reconfiguration) ≡ true) × CutIn (ExpiryTurn (own_timer reconfiguration)) (view_of old) (view_of new).events
+expired_cut {R = R} old mid new b answer comes left same =
+    let e : Endpoint = endpoint_of old in
+    let over : Endpoint = request_over e (outstanding_of old.state) in
+    let is : view_of mid ≡ record (view_of old) { endpoint = over } = left ∙ ap (λ (x : Bool). where_expired x over (view_of old)) comes in (
+      sym answer ∙ comes,
+      record {
+        outcome = reconfiguration_outcome e (held_in e.core) e.outstanding;
+        turn = refl;
+        cut = cut_first (view_of old) (reconfiguration_outcome e (held_in e.core) e.outstanding) (view_of new).events (ap (λ (v : View R). v.events) (same ∙ is));
+      },
+    )

@@ -14,7 +14,8 @@ use Rattle.dcsctp_core.specs.declared.state.State.{State}
 use Rattle.dcsctp_core.specs.declared.transmission_control_block.ResetRequest.{ResetRequest}
 use Rattle.dcsctp_core.specs.declared.transmission_control_block.TransmissionControlBlock.{TransmissionControlBlock}
 use Rattle.dcsctp_core.specs.declared.state.State.TheVariants.{Closed, CookieWait, CookieEchoed, Established}
-use Rattle.dcsctp_core.specs.View.{View, number_of, request_of, held_of, outstanding_of, transfer_of, view_of}
+use Rattle.dcsctp_core.specs.View.{View, number_of, request_of, timer_of, held_of, outstanding_of, transfer_of, view_of}
+use Rattle.dcsctp_send.specs.Timer.{TimerModel}
 use Rattle.dcsctp_core.specs.Answering.{delayed, Retries, RetriesIn}
 use Rattle.dcsctp_core.specs.Reconfiguring.{request_in}
 use Rattle.dcsctp_resets.specs.declared.requests.OwnAnswer.TheVariants as own
@@ -36,49 +37,60 @@ none_numbered (Established tcb) none = number_none tcb.reset_request none
 
 -- ---- it is in progress
 
-number_delayed : (request : Option ResetRequest) → number_of (option_map delayed request) ≡ number_of request
-number_delayed None = refl
-number_delayed (Some request) = refl
+number_delayed : (timer : TimerModel) (request : Option ResetRequest) → number_of (option_map (delayed timer) request) ≡ number_of request
+number_delayed timer None = refl
+number_delayed timer (Some request) = refl
 
-request_delayed : (request : Option ResetRequest) → request_of (option_map delayed request) ≡ option_map waiting (request_of request)
-request_delayed None = refl
-request_delayed (Some request) = refl
+request_delayed : (timer : TimerModel) (request : Option ResetRequest) → request_of (option_map (delayed timer) request) ≡ option_map waiting (request_of request)
+request_delayed timer None = refl
+request_delayed timer (Some request) = refl
+
+timer_delayed : (timer : TimerModel) (running : Option RunningTimer) (request : Option ResetRequest) → timer.running ≡ running → (request ≡ None → ⊥)
+    → timer_of (option_map (delayed timer) request) ≡ running
+timer_delayed timer running None runs some = absurd (some refl)
+timer_delayed timer running (Some request) runs some = runs
 
 -- the view with this own request and this timer
 abbrev asking : {R : Type 0} → View R → Option OutstandingRequest → Option RunningTimer → View R
 asking view request timer =
     record view { endpoint = record view.endpoint { outstanding = request; timers = record view.endpoint.timers { reconfiguration = timer } } }
 
-echoed_view : {R : Type 0} (old : Context R) (echoed : CookieEchoState) (tcb : TransmissionControlBlock) → Retries old.moment echoed.tcb tcb
+echoed_view : {R : Type 0} (old : Context R) (echoed : CookieEchoState) (tcb : TransmissionControlBlock) → Retries old.moment echoed.tcb tcb → (echoed.tcb.reset_request ≡ None → ⊥)
     → view_of (record old { state = CookieEchoed (record echoed { tcb = tcb }) }) ≡ settled_at retried (view_of (record old { state = CookieEchoed echoed }))
-echoed_view {R = R} old echoed tcb h =
+echoed_view {R = R} old echoed tcb h some =
     let v : View R = view_of (record old { state = CookieEchoed echoed }) in
     let numbered : Option ℕ → Option OutstandingRequest → Option RunningTimer → View R =
     λ n r t. record (asking v r t) { endpoint = record (asking v r t).endpoint { core = cookie_echoed echoed.tcb.my (held_out n (held_of echoed.tcb)) echoed.cookie.items } } in
     let rr : Option ResetRequest = echoed.tcb.reset_request in
+    let later : Option ResetRequest = option_map (delayed h.timer) rr in
     ap (λ (t : TransmissionControlBlock). view_of (record old { state = CookieEchoed (record echoed { tcb = t }) })) h.is
-    ∙ ap (λ (n : Option ℕ). numbered n (request_of (option_map delayed rr)) tcb.reconfiguration.running) (number_delayed rr)
-    ∙ ap (λ (r : Option OutstandingRequest). numbered (number_of rr) r tcb.reconfiguration.running) (request_delayed rr)
-    ∙ ap (λ (t : Option RunningTimer). numbered (number_of rr) (option_map waiting (request_of rr)) t) h.runs
+    ∙ ap (λ (n : Option ℕ). numbered n (request_of later) (timer_of later)) (number_delayed h.timer rr)
+    ∙ ap (λ (r : Option OutstandingRequest). numbered (number_of rr) r (timer_of later)) (request_delayed h.timer rr)
+    ∙ ap (λ (t : Option RunningTimer). numbered (number_of rr) (option_map waiting (request_of rr)) t) (timer_delayed h.timer _ rr h.runs some)
 
-established_view : {R : Type 0} (old : Context R) (before tcb : TransmissionControlBlock) → Retries old.moment before tcb
+established_view : {R : Type 0} (old : Context R) (before tcb : TransmissionControlBlock) → Retries old.moment before tcb → (before.reset_request ≡ None → ⊥)
     → view_of (record old { state = Established tcb }) ≡ settled_at retried (view_of (record old { state = Established before }))
-established_view {R = R} old before tcb h =
+established_view {R = R} old before tcb h some =
     let v : View R = view_of (record old { state = Established before }) in
     let numbered : Option ℕ → Option OutstandingRequest → Option RunningTimer → View R =
     λ n r t. record (asking v r t) { endpoint = record (asking v r t).endpoint { core = open_in established before.my (held_out n (held_of before)) } } in
     let rr : Option ResetRequest = before.reset_request in
+    let later : Option ResetRequest = option_map (delayed h.timer) rr in
     ap (λ (t : TransmissionControlBlock). view_of (record old { state = Established t })) h.is
-    ∙ ap (λ (n : Option ℕ). numbered n (request_of (option_map delayed rr)) tcb.reconfiguration.running) (number_delayed rr)
-    ∙ ap (λ (r : Option OutstandingRequest). numbered (number_of rr) r tcb.reconfiguration.running) (request_delayed rr)
-    ∙ ap (λ (t : Option RunningTimer). numbered (number_of rr) (option_map waiting (request_of rr)) t) h.runs
+    ∙ ap (λ (n : Option ℕ). numbered n (request_of later) (timer_of later)) (number_delayed h.timer rr)
+    ∙ ap (λ (r : Option OutstandingRequest). numbered (number_of rr) r (timer_of later)) (request_delayed h.timer rr)
+    ∙ ap (λ (t : Option RunningTimer). numbered (number_of rr) (option_map waiting (request_of rr)) t) (timer_delayed h.timer _ rr h.runs some)
+
+-- an answer counts where a request is outstanding
+asked_some : (request : Option ResetRequest) → (request_of request ≡ None → own.InProgress ≡ own.Unanswered) → request ≡ None → ⊥
+asked_some request asked none = let never = asked (ap request_of none) in absurd (cc)
 
 retried_view : {R : Type 0} (old : Context R) (s new : State) → RetriesIn old.moment s new → (outstanding_of s ≡ None → own.InProgress ≡ own.Unanswered)
     → view_of (record old { state = new }) ≡ settled_at retried (view_of (record old { state = s }))
 retried_view old Closed new h asked = let never = asked refl in absurd (cc)
 retried_view old (CookieWait wait) new h asked = let never = asked refl in absurd (cc)
-retried_view old (CookieEchoed echoed) new h asked = ap (λ (s : State). view_of (record old { state = s })) h.2 ∙ echoed_view old echoed h.0 h.1
-retried_view old (Established tcb) new h asked = ap (λ (s : State). view_of (record old { state = s })) h.2 ∙ established_view old tcb h.0 h.1
+retried_view old (CookieEchoed echoed) new h asked = ap (λ (s : State). view_of (record old { state = s })) h.2 ∙ echoed_view old echoed h.0 h.1 (asked_some echoed.tcb.reset_request asked)
+retried_view old (Established tcb) new h asked = ap (λ (s : State). view_of (record old { state = s })) h.2 ∙ established_view old tcb h.0 h.1 (asked_some tcb.reset_request asked)
 
 pub retried_settles : {R : Type 0} (old : Context R) (new : State) → RetriesIn old.moment old.state new → Settles own.InProgress old None (record old { state = new })
 retried_settles old new h = λ asked. (retried_view old old.state new h asked, refl)

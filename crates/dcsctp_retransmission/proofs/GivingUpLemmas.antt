@@ -72,15 +72,15 @@ gives_up_stays place old new up k x at before =
 
 -- ---- one message
 
-ends_adds : (now : ℕ) (last : Item) (old new : OutstandingModel) (is_dropped : Bool) → EndsDropped now last old new is_dropped → MayAddEnd old new
-ends_adds now last old new true ends = inr (record { item = ends.item; is_abandoned = ends.is_end.is_abandoned; grows = ends.grows })
-ends_adds now last old new false same = inl same
+ends_adds : (now : ℕ) (begins : Bool) (last : Item) (old new : OutstandingModel) (is_dropped : Bool) → EndsDropped now begins last old new is_dropped → MayAddEnd old new
+ends_adds now begins last old new true ends = inr (record { item = ends.item; is_abandoned = ends.is_end.is_abandoned; grows = ends.grows })
+ends_adds now begins last old new false same = inl same
 
 -- what is done for a message beside its items
 closes_grows : (now : ℕ) (last : Item) (old new : Stage) (is_end : Bool) → Closes now last old new is_end → MayGrow old.queue new.queue
 closes_grows now last old new true is = rw is (record { ends = inl refl; rest = refl })
 closes_grows now last old new false (inl drops) =
-    rw drops.1.is (record { ends = ends_adds now last old.queue.outstanding drops.1.outstanding drops.1.drops.is_dropped drops.1.drops.ends; rest = refl })
+    rw drops.1.is (record { ends = ends_adds now old.queue.reset_begun last old.queue.outstanding drops.1.outstanding drops.1.drops.is_dropped drops.1.drops.ends; rest = refl })
 closes_grows now last old new false (inr same) = rw same.1 (record { ends = inl refl; rest = refl })
 
 -- the same in the words of the queue alone

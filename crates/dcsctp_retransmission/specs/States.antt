@@ -65,7 +65,7 @@ maybe_expired (Some id) = lifecycle_message_maybe_expired (lifecycle_number id) 
 -- the same of a stage
 pub record DropsRestAt (now : ℕ) (last : Item) (old new : Stage) : Type 0 where
   pub outstanding : OutstandingModel
-  pub drops : DropsRest now last old.queue.outstanding old.waiting old.told outstanding new.waiting new.told
+  pub drops : DropsRest now old.queue.reset_begun last old.queue.outstanding old.waiting old.told outstanding new.waiting new.told
   pub is : new ≡ record old { queue = record old.queue { outstanding = outstanding }; waiting = new.waiting; told = new.told }
 
 -- It is told that a message is given up which was fully sent; or what waits of it is dropped, where TSNs are left.

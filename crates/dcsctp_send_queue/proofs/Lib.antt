@@ -1,6 +1,8 @@
 pub mod FragmentLemmas
 pub mod FrontLemmas
 pub mod GoingOnLemmas
+pub mod HandedOutLemmas
+pub mod NotReadyLemmas
 pub mod PreparedLemmas
 pub mod QueueLemmas
 pub mod QueuedLemmas

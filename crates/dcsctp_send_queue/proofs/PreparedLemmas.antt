@@ -7,10 +7,10 @@ use Rattle.dcsctp_send_queue.specs.declared.backlog.Backlog.{Backlog}
 use Rattle.dcsctp_streams.specs.declared.message.UnderWay.{UnderWay}
 use Rattle.dcsctp_streams.specs.declared.stream.Pause.{Pause}
 use Rattle.dcsctp_streams.specs.declared.stream.Pause.TheVariants.{Open, Pausing, HandedOut}
-use Rattle.dcsctp_streams.specs.Waiting.{Waiting, Stream, unused}
+use Rattle.dcsctp_streams.specs.Waiting.{Waiting, Stream, unused, is_pausing}
 use Rattle.dcsctp_streams.specs.Telling.{size_of}
 use Rattle.dcsctp_streams.specs.Ranking.{stream_at, IsBelow, IsAscending}
-use Rattle.dcsctp_send_queue.specs.Backlog.{changed, with_stream, is_used, used, found_in, stream_of, queued_of, is_paused, is_pausing, sent_of, is_under_way, is_ready, ready_streams, queue_state}
+use Rattle.dcsctp_send_queue.specs.Backlog.{changed, with_stream, is_used, used, found_in, stream_of, queued_of, is_paused, sent_of, is_under_way, is_ready, ready_streams, queue_state}
 use Rattle.dcsctp_send_queue.specs.Leaving.{count_under_way}
 use Rattle.dcsctp_send_queue.specs.Resets.{is_open, dropped_of, dropped_size, prepared_stream, with_used, prepared_open, prepared, shown_prepared}
 use Rattle.dcsctp_send_queue.proofs.QueueLemmas.{same_test, less_test, not_less_test, changed-none, IsBelow-out, used_lost}
@@ -56,10 +56,10 @@ paused_used u id streams false e unpaused waits = absurd (let t = ap (λ (s : St
 
 -- ---- which streams are ready
 
-ready_here : (w : Option UnderWay) (x : Stream) (xs : List Stream) → is_ready w x ≡ true → ready_ids w (x ∷ xs) ≡ x.id ∷ ready_ids w xs
+pub ready_here : (w : Option UnderWay) (x : Stream) (xs : List Stream) → is_ready w x ≡ true → ready_ids w (x ∷ xs) ≡ x.id ∷ ready_ids w xs
 ready_here w x xs e = rw e refl
 
-ready_behind : (w : Option UnderWay) (x : Stream) (xs : List Stream) → is_ready w x ≡ false → ready_ids w (x ∷ xs) ≡ ready_ids w xs
+pub ready_behind : (w : Option UnderWay) (x : Stream) (xs : List Stream) → is_ready w x ≡ false → ready_ids w (x ∷ xs) ≡ ready_ids w xs
 ready_behind w x xs e = rw e refl
 
 open_not_pausing : (pause : Pause) → is_open pause ≡ true → is_pausing pause ≡ false

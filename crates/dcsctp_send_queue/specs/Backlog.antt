@@ -6,7 +6,7 @@ use Rattle.dcsctp_send_queue.specs.declared.backlog.Backlog.{Backlog}
 use Rattle.dcsctp_streams.specs.declared.message.UnderWay.{UnderWay}
 use Rattle.dcsctp_streams.specs.declared.stream.Pause.{Pause}
 use Rattle.dcsctp_streams.specs.declared.stream.Pause.TheVariants.{Open, Pausing, HandedOut}
-use Rattle.dcsctp_streams.specs.Waiting.{Waiting, Stream, unused, front_of, next_numbers}
+use Rattle.dcsctp_streams.specs.Waiting.{Waiting, Stream, unused, is_pausing, front_of, next_numbers}
 use Rattle.dcsctp_streams.specs.Ranking.{stream_at}
 
 -- the streams, where that of the number is changed
@@ -68,11 +68,6 @@ abbrev pub is_under_way : ℕ → Option UnderWay → Bool
 is_under_way id None = false
 is_under_way id (Some message) = message.stream_id.0 == id
 
-abbrev pub is_pausing : Pause → Bool
-is_pausing Open = false
-is_pausing Pausing = true
-is_pausing HandedOut = false
-
 -- can the stream be handed out to be reset?
 abbrev pub is_ready : Option UnderWay → Stream → Bool
 is_ready under_way stream = if is_pausing stream.pause then (if is_under_way stream.id under_way then false else true) else false
@@ -86,6 +81,7 @@ queue_state queue =
     record {
       is_interleaved = queue.is_interleaved;
       total_buffered_amount = queue.total_amount;
+      total_low_threshold = queue.total_threshold;
       default_threshold = queue.default_threshold;
       default_priority = queue.default_priority;
       streams = map queued_of queue.streams;

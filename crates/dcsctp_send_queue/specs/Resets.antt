@@ -1,5 +1,5 @@
 -- Pauses and resets of streams (RFC 6525, section 5.1.2).
-use Rattle.std.specs.Prelude.{◌≡◌, ◌⊎◌, ℕ, ◌+◌, ◌-◌, ◌^◌, ◌<◌, min, Bool, true, false, Option, None, Some, is_some, List, [], ◌∷◌, ◌++◌, length, map, drop, if◌then◌else◌}
+use Rattle.std.specs.Prelude.{◌≡◌, ◌⊎◌, ℕ, ◌+◌, ◌-◌, ◌^◌, min, Bool, true, false, Option, None, Some, is_some, List, [], ◌∷◌, ◌++◌, map, drop, if◌then◌else◌}
 use Rattle.std.specs.List.{list_any}
 use Rattle.dcsctp_machine.specs.Event.{Event}
 use Rattle.dcsctp_send_queue.specs.declared.backlog.Backlog.{Backlog}
@@ -8,10 +8,10 @@ use Rattle.dcsctp_streams.specs.declared.stream.Pause.{Pause}
 use Rattle.dcsctp_streams.specs.declared.stream.Pause.TheVariants.{Open, Pausing, HandedOut}
 use Rattle.dcsctp_streams.specs.Waiting.{Waiting, Stream, paused, handed_out, begun_anew, raised}
 use Rattle.dcsctp_streams.specs.Telling.{low_events, expiries, size_of}
-use Rattle.dcsctp_streams.specs.Ranking.{stream_at, turn_of}
+use Rattle.dcsctp_streams.specs.Ranking.{turn_of}
 use Rattle.dcsctp_machine.specs.Transfer.{SendQueueState, queued_stream}
 use Rattle.dcsctp_machine.specs.turns.PreparedResets.{queue_pausing}
-use Rattle.dcsctp_send_queue.specs.Backlog.{changed, used, stream_of, is_ready, queue_state}
+use Rattle.dcsctp_send_queue.specs.Backlog.{changed, used, stream_of, queue_state}
 use Rattle.dcsctp_send_queue.specs.Leaving.{count_under_way}
 
 abbrev pub is_open : Pause → Bool
@@ -55,10 +55,6 @@ with_priority number stream = record stream { priority = number }
 abbrev pub may_send : Option UnderWay → List Stream → Bool
 may_send None streams = list_any (λ stream. is_some (turn_of stream)) streams
 may_send (Some under_way) streams = true
-
--- A stream can be handed out.
-abbrev pub HasReady : Backlog → Type 0
-HasReady queue = (k : ℕ) × (k < length queue.streams) × (is_ready queue.under_way (stream_at queue.streams k) ≡ true)
 
 -- a stream that is to be reset, without so many payload bytes and with so many messages
 abbrev pub prepared_stream : ℕ → ℕ → Stream → Stream

@@ -32,8 +32,8 @@ impl Model for SendQueue {
 }
 
 impl SendQueue {
-    ghost use Rattle.std.specs.Prelude.{◌≡◌, ◌+◌, ◌-◌, ◌<◌, ◌++◌, ◌↔◌, vec_len, IsTrue, IfSome, OnOk, OnErr, IfOk, map, take, if◌then◌else◌, false};
-    ghost use Rattle.dcsctp_machine.specs.Transfer.{empty_queue, queue_after_reset, queue_handed_back, queue_added, has_data};
+    ghost use Rattle.std.specs.Prelude.{◌≡◌, ◌+◌, ◌-◌, ◌<◌, ◌++◌, vec_len, IfSome, OnOk, OnErr, IfOk, map, take, if◌then◌else◌, false, not};
+    ghost use Rattle.dcsctp_machine.specs.Transfer.{empty_queue, queue_after_reset, queue_handed_back, queue_handing_out, queue_added, has_data, is_none_ready};
     ghost use Rattle.dcsctp_machine.specs.turns.SettingOutcomes.{stream_priority, stream_low_threshold, set_in_queue};
     ghost use Rattle.dcsctp_streams.specs.Telling.{contents, TellsFront};
     ghost use Rattle.dcsctp_streams.specs.Fragment.{HasSize};
@@ -41,7 +41,7 @@ impl SendQueue {
     ghost use Rattle.dcsctp_send_queue.specs.Backlog.{queue_state, changed, used, stream_of, ready_streams};
     ghost use Rattle.dcsctp_send_queue.specs.Calls.{no_backlog, queued, with_added, TakesNext, StopsTaking, StopsDiscarding, DiscardsNamed};
     ghost use Rattle.dcsctp_send_queue.specs.Leaving.{DropsSome};
-    ghost use Rattle.dcsctp_send_queue.specs.Resets.{restarted, handing_out, may_send, IsUsedAtMost, HasReady, with_threshold, with_priority, prepared, prepare_events, shown_prepared};
+    ghost use Rattle.dcsctp_send_queue.specs.Resets.{restarted, handing_out, may_send, IsUsedAtMost, with_threshold, with_priority, prepared, prepare_events, shown_prepared};
     ghost use Rattle.dcsctp_streams.specs.Waiting.{committed, rolled_back};
     ghost use Rattle.dcsctp_machine.specs.Ids.{stream_numbers};
 
@@ -171,7 +171,7 @@ impl SendQueue {
 
     /// Can `get_streams_ready_to_reset` hand out a stream?
     pub fn has_streams_ready_to_be_reset(&self) -> bool
-        ensures { IsTrue result ↔ HasReady self.now }
+        ensures { result ≡ not (is_none_ready (ready_streams self.now)) }
     {
         self.backlog.has_ready()
     }
@@ -182,6 +182,7 @@ impl SendQueue {
     pub fn get_streams_ready_to_reset(&mut self, max: usize) -> Result<Vec<StreamId>, AllocError>
         ensures streams { IfOk result (λ ids. stream_numbers ids.items ≡ take max (ready_streams self.old)) }
         ensures left { OnOk result (self.new ≡ record self.old { streams = handing_out (take max (ready_streams self.old)) self.old.streams }) }
+        ensures shown { OnOk result (queue_state self.new ≡ queue_handing_out max (queue_state self.old)) }
         ensures err { OnErr result (self.new ≡ self.old) }
     {
         let ids = self.backlog.ready_ids(max)?;

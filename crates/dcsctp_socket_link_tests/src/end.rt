@@ -2,6 +2,7 @@
 
 use crate::link::Link;
 use crate::messages::{COUNT, Messages};
+use crate::resets::Resets;
 use crate::run::Run;
 use dcsctp_socket::{
     DcSctpSocket, Options, Socket, SocketEvent, SocketState, SocketTime, StreamId,
@@ -18,6 +19,7 @@ pub struct End {
     pub socket: Socket<Xoshiro256PlusPlus>,
     pub link: Link,
     pub sent: Messages,
+    pub resets: Resets,
 
     // How many messages the socket was given.
     added: usize,
@@ -33,6 +35,7 @@ impl Drop for End {
             socket: _,
             link: _,
             sent: _,
+            resets: _,
             added: _,
             connections: _,
         } = self;
@@ -50,6 +53,7 @@ fn options_of(run: &Run) -> Options {
     options.max_retransmissions = None;
     options.max_init_retransmits = None;
     options.enable_message_interleaving = run.interleaving;
+    options.mtu = run.mtu;
     if run.zero_checksum {
         options.zero_checksum_alternate_error_detection_method =
             ZERO_CHECKSUM_ALTERNATE_ERROR_DETECTION_METHOD_LOWER_LAYER_DTLS;
@@ -67,6 +71,7 @@ impl End {
             socket: Socket::new(alloc, "end", &options, generator).expect(rt, "no socket"),
             link: Link::new(alloc, run),
             sent: Messages::plan(rt, alloc, run),
+            resets: Resets::new(alloc, run),
             added: 0,
             connections: 0,
         }
@@ -90,17 +95,40 @@ impl End {
         self.added = self.added.saturating_add(1);
     }
 
-    /// Sends messages while little waits, once the association is open.
+    // Resets the streams whose turn it is, where it is the turn of some.
+    fn reset_next(&mut self, rt: &impl Abort) {
+        let waiting = self.buffered();
+        let Some(streams) = self.resets.ask(rt, self.added, waiting) else {
+            return;
+        };
+        for stream in &streams {
+            self.sent.resets(stream.0, self.added);
+        }
+        let answer = self.socket.reset_streams(&streams).expect(rt, "a reset");
+        assert_eq!(rt; answer, Ok(()), "the reset before message {}", self.added);
+    }
+
+    /// Sends messages while little waits, once the association is open, and resets streams between them.
     pub fn offer(&mut self, rt: &impl Abort) {
         if self.socket.state() != SocketState::Connected {
             return;
         }
-        for _ in 0..COUNT {
-            if COUNT <= self.added || 20_000 <= self.buffered() {
+        for _ in 0..=COUNT {
+            self.reset_next(rt);
+            let is_held = self.resets.are_due(self.added);
+            if is_held || COUNT <= self.added || 20_000 <= self.buffered() {
                 return;
             }
             self.send_next(rt);
         }
+    }
+
+    // The own streams of these numbers were reset.
+    fn are_performed(&mut self, rt: &impl Abort, streams: &[StreamId]) {
+        for stream in streams {
+            self.link.seen.begins_anew(stream.0);
+        }
+        self.resets.are_performed(rt, streams);
     }
 
     // Works what the socket tells: a packet leaves, and nothing may go wrong.
@@ -110,6 +138,9 @@ impl End {
             SocketEvent::OnConnected() => self.connections = self.connections.saturating_add(1),
             SocketEvent::OnError(_, text) => panic!(rt; "error: {}", text.as_str()),
             SocketEvent::OnAborted(_, text) => panic!(rt; "aborted: {}", text.as_str()),
+            SocketEvent::OnStreamsResetPerformed(streams) => self.are_performed(rt, &streams),
+            SocketEvent::OnIncomingStreamReset(streams) => self.resets.are_told(rt, &streams),
+            SocketEvent::OnStreamsResetFailed(_) => rt.panic("a reset failed"),
             SocketEvent::OnClosed() => rt.panic("closed"),
             SocketEvent::OnConnectionRestarted() => rt.panic("restarted"),
             _ => {}
@@ -126,18 +157,21 @@ impl End {
         }
     }
 
-    /// Hands in the packets that have arrived by the link.
-    pub fn receive(&mut self, rt: &impl Abort, incoming: &mut Link, now: SocketTime) {
-        for _ in 0..incoming.len() {
-            if let Some(packet) = incoming.take(now) {
+    /// Hands in the packets of the other end that have arrived. The messages of each are taken before the streams are
+    /// looked at that it has reset.
+    pub fn receive(&mut self, rt: &impl Abort, other: &mut End, now: SocketTime) {
+        for _ in 0..other.link.len() {
+            if let Some(packet) = other.link.take(now) {
                 self.socket.handle_input(&packet).expect(rt, "a packet");
+                self.take(rt, &mut other.sent);
                 self.drain(rt, now);
+                self.resets.note(rt, &mut other.sent);
             }
         }
     }
 
-    /// Takes the messages that are ready, which the other end has sent.
-    pub fn take(&mut self, rt: &impl Abort, sent: &mut Messages) {
+    // Takes the messages that are ready, which the other end has sent.
+    fn take(&mut self, rt: &impl Abort, sent: &mut Messages) {
         for _ in 0..self.socket.messages_ready_count() {
             if let Some(message) = self.socket.get_next_message() {
                 sent.arrives(rt, &message);

@@ -16,6 +16,10 @@ mod partial;
 #[cfg(test)]
 mod reliable;
 #[cfg(test)]
+mod resets;
+#[cfg(test)]
+mod resetting;
+#[cfg(test)]
 mod run;
 #[cfg(test)]
 mod seen;

@@ -30,6 +30,9 @@ pub struct Messages {
     // One more than the greatest number that arrived, for each stream.
     after_greatest: [usize; 4],
 
+    // The number of the first message behind the reset that is under way, for each stream; `COUNT` where none is.
+    behind_reset: [usize; 4],
+
     /// How many messages came behind one of their stream that was sent later.
     pub overtaken: usize,
 }
@@ -42,7 +45,7 @@ fn byte_at(number: usize, place: usize) -> u8 {
     ((number.wrapping_mul(31)).wrapping_add(place) % 251) as u8
 }
 
-// The message of a number: of 1 to 5,000 bytes. The last one of each of the four streams is ordered and reliable.
+// The message of a number. The last one of each of the four streams is ordered and reliable.
 fn plan_of(rng: &mut Xoshiro256PlusPlus, number: usize, run: &Run) -> Planned {
     let is_last = COUNT - 4 <= number;
     Planned {
@@ -51,7 +54,7 @@ fn plan_of(rng: &mut Xoshiro256PlusPlus, number: usize, run: &Run) -> Planned {
         } else {
             (rng.next_u32() % 4) as u16
         },
-        size: 1 + (rng.next_u32() % 5000) as usize,
+        size: 1 + (rng.next_u32() % run.longest.max(1)) as usize,
         effort: if is_last {
             Effort::Reliable
         } else {
@@ -76,6 +79,7 @@ impl Messages {
             planned: list,
             after_last: [0; 4],
             after_greatest: [0; 4],
+            behind_reset: [COUNT; 4],
             overtaken: 0,
         }
     }
@@ -105,8 +109,32 @@ impl Messages {
         options
     }
 
-    // Notes the number of a message that has arrived: an ordered one has to come behind those before it on its
-    // stream.
+    /// A stream is to be reset, and the next message is the one of this number.
+    pub fn resets(&mut self, stream: u16, number: usize) {
+        if let Some(first) = self.behind_reset.get_mut(usize::from(stream)) {
+            *first = number;
+        }
+    }
+
+    /// The receiver is told that a stream was reset: the reset was under way, and all messages before it have arrived.
+    pub fn is_reset(&mut self, rt: &impl Abort, stream: u16) {
+        let Some(behind_reset) = self.behind_reset.get_mut(usize::from(stream)) else {
+            return;
+        };
+        let first = *behind_reset;
+        *behind_reset = COUNT;
+        assert!(rt; first < COUNT, "no reset of {stream} is under way");
+        for number in 0..first {
+            let planned = *self.planned.get(number).expect(rt, "no such message");
+            assert!(rt;
+                planned.stream != stream || planned.has_arrived,
+                "{number} is missing before the reset"
+            );
+        }
+    }
+
+    // Notes the number of a message that has arrived: none comes before a reset that it was sent behind, and an
+    // ordered one has to come behind those before it on its stream.
     fn note(&mut self, rt: &impl Abort, number: usize, planned: &Planned) {
         let stream = usize::from(planned.stream % 4);
         let after = number.saturating_add(1);
@@ -114,6 +142,10 @@ impl Messages {
             self.overtaken = self.overtaken.saturating_add(1);
         }
         self.after_greatest[stream] = self.after_greatest[stream].max(after);
+        assert!(rt;
+            number < self.behind_reset[stream],
+            "{number} came before the reset"
+        );
         if planned.is_unordered {
             return;
         }

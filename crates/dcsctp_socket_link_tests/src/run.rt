@@ -16,6 +16,22 @@ pub enum Effort {
     Lifetime,
 }
 
+/// Which streams an end resets, and when.
+#[derive(Clone, Copy, Debug, PartialEq, Eq)]
+pub enum Resetting {
+    /// None.
+    Never,
+
+    /// Of the four that bear messages some, before each eighth message, once all before it have left.
+    BetweenMessages,
+
+    /// So many others, by one call.
+    AtOnce(u16),
+
+    /// Others, one by one: so many times, each time once the reset before it was performed.
+    InTurn(usize),
+}
+
 /// How a run is, at both ends.
 #[derive(Clone, Copy)]
 pub struct Run {
@@ -39,9 +55,18 @@ pub struct Run {
 
     /// Do packets go without a checksum (RFC 9653)?
     pub zero_checksum: bool,
+
+    /// The greatest size of a packet, in bytes.
+    pub mtu: usize,
+
+    /// The greatest size of a message, in bytes.
+    pub longest: u32,
+
+    /// Which streams are reset (RFC 6525)?
+    pub resetting: Resetting,
 }
 
-/// Ordered and reliable messages, and no faults.
+/// Ordered and reliable messages, no faults, and no resets.
 pub const PLAIN: Run = Run {
     name: "plain",
     seed: 0,
@@ -50,6 +75,9 @@ pub const PLAIN: Run = Run {
     has_unordered: false,
     interleaving: false,
     zero_checksum: false,
+    mtu: 1191,
+    longest: 5000,
+    resetting: Resetting::Never,
 };
 
 impl Run {

@@ -18,10 +18,8 @@ fn step(rt: &impl Abort, a: &mut End, b: &mut End, now: SocketTime) {
     b.socket.advance_time(now).expect(rt, "the time of B");
     a.drain(rt, now);
     b.drain(rt, now);
-    b.receive(rt, &mut a.link, now);
-    a.receive(rt, &mut b.link, now);
-    b.take(rt, &mut a.sent);
-    a.take(rt, &mut b.sent);
+    b.receive(rt, a, now);
+    a.receive(rt, b, now);
     a.offer(rt);
     b.offer(rt);
     a.drain(rt, now);
@@ -53,8 +51,35 @@ fn comes_to_rest(rt: &impl Abort, a: &mut End, b: &mut End) -> bool {
     false
 }
 
-// A connects to B, and both send all that they have.
-fn runs(rt: &impl Abort, alloc: Global, run: &Run) {
+// The numbers of requests to reset streams (RFC 6525, section 4.1): the own first one, the own next one, and the one that
+// is awaited of the other end.
+fn numbers_of(rt: &impl Abort, end: &End) -> (u32, u32, u32) {
+    let association = end.socket.association().expect(rt, "no association");
+    let held = association.held.expect(rt, "no peer");
+    (
+        association.my.first_tsn,
+        held.own_next,
+        held.peer_last.wrapping_add(1),
+    )
+}
+
+// All that this end had to reset was reset, and told once at either end, by requests whose numbers follow one another.
+fn resets_are_over(rt: &impl Abort, run: &Run, end: &End, other: &End) {
+    end.resets.are_over(rt, run, &other.resets);
+    let (first, next, _) = numbers_of(rt, end);
+    let (_, _, awaited) = numbers_of(rt, other);
+    let behind_all = first.wrapping_add(end.resets.requests);
+    assert_eq!(rt;
+        (next, awaited),
+        (behind_all, behind_all),
+        "{}, seed {}: the number of the next request",
+        run.name,
+        run.seed
+    );
+}
+
+/// A connects to B, and both send all that they have. It answers the first TSN of A.
+pub fn runs(rt: &impl Abort, alloc: Global, run: &Run) -> u32 {
     let mut other = *run;
     other.seed = run.seed.wrapping_add(500_000);
     let mut a = End::new(rt, alloc, run);
@@ -64,8 +89,12 @@ fn runs(rt: &impl Abort, alloc: Global, run: &Run) {
     assert!(rt; has_rest, "{}, seed {}: no rest", run.name, run.seed);
     a.is_over(rt, run, "A");
     b.is_over(rt, run, "B");
+    resets_are_over(rt, run, &a, &b);
+    resets_are_over(rt, run, &b, &a);
+    let (first_tsn, _, _) = numbers_of(rt, &a);
     drop(a);
     drop(b);
+    first_tsn
 }
 
 /// Runs by several seeds. Of a hundred packets none is lost in the first run, 10 are in the second, 20 in the third,
@@ -75,6 +104,6 @@ pub fn runs_each(rt: &impl Abort, alloc: Global, run: &Run) {
         let mut one = *run;
         one.seed = seed;
         one.faults = (seed % 4) as u32 * 10;
-        runs(rt, alloc, &one);
+        let _first_tsn = runs(rt, alloc, &one);
     }
 }

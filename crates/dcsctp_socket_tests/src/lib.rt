@@ -16,6 +16,8 @@ mod closing;
 #[cfg(test)]
 mod commands;
 #[cfg(test)]
+mod control_block;
+#[cfg(test)]
 mod cookie_echo;
 #[cfg(test)]
 mod damaged_init;

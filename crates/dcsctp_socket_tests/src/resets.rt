@@ -85,6 +85,66 @@ const OWN_REQUESTS: &str = r#"
     A sends 13881388 00000009 00000000 82000016 000d0012 00000066 00000066 00000063 00040000
 "#;
 
+// TSN 100 is a message on stream 1, and 101 the first part of one on stream 2. Both are lost, and then the rest of the
+// second is dropped: its end takes TSN 102, which lies behind the reset.
+const OVER_A_DROPPED_MESSAGE: &str = r#"
+    == no FORWARD-TSN crosses an own reset
+    option zero_checksum_alternate_error_detection_method 1
+    option cwnd_mtus_initial 1
+    option rto_min 500
+    A connects
+    A sends any
+    B receives
+    B sends any
+    A receives
+    A sends any
+    B receives
+    B tells OnConnected
+    B sends any
+    A receives
+    A tells OnConnected
+    sending max_retransmissions 0
+    A send 1 1 = Ok(())
+    A tells OnBufferedAmountLow(1)
+    A sends any of 32
+    A send 2 3000 = Ok(())
+    A sends any of 1188
+
+    // no TSN behind 101 was given out, and B has none of them: in progress
+    A resets 1 = Ok(())
+    A sends 13881388 00000009 00000000 82000016 000d0012 00000064 00000064 00000065 00010000
+    B receives
+    B sends 13881388 00000007 00000000 82000010 0010000c 00000064 00000006
+    A receives
+
+    // again; and up to 101, with the messages that are skipped, and no further
+    A waits 500
+    A sends 13881388 00000009 00000000 82000016 000d0012 00000064 00000064 00000065 00010000
+    A tells OnBufferedAmountLow(2)
+    A sends 13881388 00000009 00000000 c0000010 00000065 00010000 00020000
+    B takes 13881388 00000009 00000000 c0000010 00000065 00010000 00020000
+    B takes 13881388 00000009 00000000 82000016 000d0012 00000064 00000064 00000065 00010000
+    B tells OnIncomingStreamReset([1])
+    B sends 13881388 00000007 00000000 82000010 0010000c 00000064 00000001
+    B sends 13881388 00000007 00000000 03000010 00000065 00500000 00000000
+    A takes 13881388 00000007 00000000 82000010 0010000c 00000064 00000001
+    A tells OnStreamsResetPerformed([1])
+
+    // the first message behind the reset doesn't wait
+    sending all default
+    A send 1 3 = Ok(())
+    A tells OnBufferedAmountLow(1)
+    A sends any
+    B receives
+    B message = Some((1, 51, 3))
+    B sends any
+"#;
+
+#[test]
+fn no_forward_tsn_crosses_an_own_reset(rt: HostRuntime) {
+    run(&rt, rt.alloc(), OVER_A_DROPPED_MESSAGE);
+}
+
 #[test]
 fn own_requests_go_out_one_at_a_time(rt: HostRuntime) {
     run(&rt, rt.alloc(), OWN_REQUESTS);

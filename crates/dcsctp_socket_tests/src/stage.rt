@@ -132,6 +132,7 @@ fn set_option(rt: &impl Abort, line: Line<'_>, options: &mut Options, rest: &str
     match name {
         "mtu" => options.mtu = value_of(rt, line, value),
         "max_burst" => options.max_burst = value_of(rt, line, value),
+        "cwnd_mtus_initial" => options.cwnd_mtus_initial = value_of(rt, line, value),
         "rto_min" => options.rto_min = Duration::from_millis(value_of(rt, line, value)),
         "enable_message_interleaving" => {
             options.enable_message_interleaving = value_of(rt, line, value)

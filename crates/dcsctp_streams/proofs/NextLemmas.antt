@@ -7,7 +7,7 @@ use Rattle.dcsctp_streams.specs.declared.turns.Turn.{Turn}
 use Rattle.dcsctp_streams.specs.declared.stream.Pause.{Pause}
 use Rattle.dcsctp_streams.specs.declared.stream.Pause.TheVariants.{Open, Pausing, HandedOut}
 use Rattle.dcsctp_streams.specs.Turns.{comes_after, with_turn, with_turns, NoneAfter, IsOrdered}
-use Rattle.dcsctp_streams.specs.Waiting.{Stream, committed, rolled_back}
+use Rattle.dcsctp_streams.specs.Waiting.{Stream, is_pausing, committed, rolled_back}
 use Rattle.dcsctp_streams.specs.Ranking.{stream_at, turn_of, turns_of, IsAscending, IsRanked, IsFound, IsNext}
 use Rattle.dcsctp_streams.proofs.TurnLemmas.{itself}
 use Rattle.dcsctp_streams.proofs.StreamLemmas.{IsBelow-at, turn_of-id, IsOrdered-turns_of}
@@ -147,6 +147,14 @@ committed_if HandedOut s e = rw e refl
 pub committed-id : (s : Stream) → (committed s).id ≡ s.id
 committed-id s = committed_if s.pause s refl
 
+pub committed_pausing_if : (pause : Pause) (s : Stream) → s.pause ≡ pause → is_pausing (committed s).pause ≡ is_pausing s.pause
+committed_pausing_if Open s e = rw e refl
+committed_pausing_if Pausing s e = rw e refl
+committed_pausing_if HandedOut s e = rw e refl
+
+pub committed-pausing : (s : Stream) → is_pausing (committed s).pause ≡ is_pausing s.pause
+committed-pausing s = committed_pausing_if s.pause s refl
+
 pub rolled_back_if : (pause : Pause) (s : Stream) → s.pause ≡ pause → (rolled_back s).id ≡ s.id
 rolled_back_if Open s e = rw e refl
 rolled_back_if Pausing s e = rw e refl
@@ -154,6 +162,14 @@ rolled_back_if HandedOut s e = rw e refl
 
 pub rolled_back-id : (s : Stream) → (rolled_back s).id ≡ s.id
 rolled_back-id s = rolled_back_if s.pause s refl
+
+pub rolled_back_pausing_if : (pause : Pause) (s : Stream) → s.pause ≡ pause → is_pausing (rolled_back s).pause ≡ is_pausing s.pause
+rolled_back_pausing_if Open s e = rw e refl
+rolled_back_pausing_if Pausing s e = rw e refl
+rolled_back_pausing_if HandedOut s e = rw e refl
+
+pub rolled_back-pausing : (s : Stream) → is_pausing (rolled_back s).pause ≡ is_pausing s.pause
+rolled_back-pausing s = rolled_back_pausing_if s.pause s refl
 
 pub in_not_empty : (t : Turn) (turns : List Turn) → In t turns → turns ≡ [] → ⊥
 in_not_empty t [] m e = m

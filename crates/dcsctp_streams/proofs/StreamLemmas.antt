@@ -5,7 +5,7 @@ use Rattle.dcsctp_streams.specs.declared.turns.Turn.{Turn}
 use Rattle.dcsctp_streams.specs.declared.stream.Pause.{Pause}
 use Rattle.dcsctp_streams.specs.declared.stream.Pause.TheVariants.{Open, Pausing, HandedOut}
 use Rattle.dcsctp_streams.specs.Turns.{comes_after, with_turn, with_turns, IsOrdered, Holds}
-use Rattle.dcsctp_streams.specs.Waiting.{Waiting, Stream, counted}
+use Rattle.dcsctp_streams.specs.Waiting.{Waiting, Stream, is_pausing, counted}
 use Rattle.dcsctp_streams.specs.Ranking.{stream_at, turn_if, turn_of, turns_of, IsBelow, IsAscending, IsRanked}
 use Rattle.dcsctp_streams.proofs.TurnLemmas.{IsOrdered-with_turn, with_turn-with_turn}
 
@@ -184,6 +184,10 @@ counted-id false s = refl
 pub counted-turn : (is_unordered : Bool) (s : Stream) → turn_of (counted is_unordered s) ≡ turn_of s
 counted-turn true s = refl
 counted-turn false s = refl
+
+pub counted-pausing : (is_unordered : Bool) (s : Stream) → is_pausing (counted is_unordered s).pause ≡ is_pausing s.pause
+counted-pausing true s = refl
+counted-pausing false s = refl
 
 -- the number of a stream that was read
 pub id_read : (streams inside : List Stream) (m n : ℕ) (x : Stream) → inside ≡ streams → m < length streams → x ≡ get_or inside m x → n ≡ x.id → n ≡ (stream_at streams m).id

@@ -1,10 +1,11 @@
 -- Whose turn it is among streams.
 use Rattle.std.specs.Prelude.{◌≡◌, ℕ, ◌<◌, ◌≤◌, false, Option, None, Some, Result, Ok, Err, List, [], ◌∷◌, length, slice_index_or}
+use Rattle.std.specs.List.{count_by}
 use Rattle.dcsctp_streams.specs.declared.stream.Pause.{Pause}
 use Rattle.dcsctp_streams.specs.declared.stream.Pause.TheVariants.{Open, Pausing, HandedOut}
 use Rattle.dcsctp_streams.specs.declared.turns.Turn.{Turn}
 use Rattle.dcsctp_streams.specs.Turns.{comes_after, with_turns}
-use Rattle.dcsctp_streams.specs.Waiting.{Waiting, Stream, unused}
+use Rattle.dcsctp_streams.specs.Waiting.{Waiting, Stream, unused, is_pausing}
 
 -- the stream at the place
 abbrev pub stream_at : List Stream → ℕ → Stream
@@ -41,6 +42,15 @@ pub record IsRanked (streams : List Stream) (turns : List Turn) (room : ℕ) : T
   pub ascending : IsAscending streams
   pub are : turns ≡ turns_of streams
   pub has_room : length streams ≤ room
+
+-- how many of the streams are to be reset, and their reset not requested yet
+abbrev pub count_pausing : List Stream → ℕ
+count_pausing streams = count_by (λ stream. is_pausing stream.pause) streams
+
+-- These are kept beside the streams: their turns, with room, and how many of them are to be reset.
+pub record IsKept (streams : List Stream) (turns : List Turn) (room pausing : ℕ) : Type 0 where
+  pub ranked : IsRanked streams turns room
+  pub counted : pausing ≡ count_pausing streams
 
 -- what a search for this number finds: its place, or the place at which it would stand
 abbrev pub IsFound : List Stream → ℕ → Result ℕ ℕ → Type 0

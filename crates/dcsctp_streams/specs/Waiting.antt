@@ -28,6 +28,12 @@ pub record Stream : Type 0 where
   -- the oldest first, and among them the one that is under way
   pub messages : List Waiting
 
+-- is the stream to be reset, and its reset not requested yet?
+abbrev pub is_pausing : Pause → Bool
+is_pausing Open = false
+is_pausing Pausing = true
+is_pausing HandedOut = false
+
 -- is a message too old to be begun at this moment?
 abbrev pub is_expired : ℕ → Waiting → Bool
 is_expired now message = expired_by now message.expires_at

@@ -63,10 +63,10 @@ impl Model for OutgoingStream {
 }
 
 impl OutgoingStream {
-    ghost use Rattle.std.specs.Prelude.{◌≡◌, ◌-◌, ◌^◌, ◌++◌, min, drop, OnOk, OnErr};
+    ghost use Rattle.std.specs.Prelude.{◌≡◌, ◌-◌, ◌^◌, ◌++◌, min, drop, OnOk, OnErr, if◌then◌else◌};
     ghost use Rattle.dcsctp_streams.specs.Telling.{contents, TellsFront, expiries, size_of};
     ghost use Rattle.std.specs.Option.{option_copied};
-    ghost use Rattle.dcsctp_streams.specs.Waiting.{unused, front_of, with_message, without_front, paused, resumed, handed_out, begun_anew, raised, next_numbers, counted, committed, rolled_back};
+    ghost use Rattle.dcsctp_streams.specs.Waiting.{unused, is_pausing, front_of, with_message, without_front, paused, resumed, handed_out, begun_anew, raised, next_numbers, counted, committed, rolled_back};
     ghost use Rattle.dcsctp_streams.specs.Ranking.{turn_of};
 
     /// A stream that was never used. It takes no memory.
@@ -119,6 +119,16 @@ impl OutgoingStream {
         ensures { result ≡ self.now.pause }
     {
         self.pause
+    }
+
+    /// One where it is to be reset and wasn't handed out yet, else none.
+    pub fn count_pausing(&self) -> usize
+        ensures { result ≡ if is_pausing self.now.pause then 1 else 0 }
+    {
+        match self.pause {
+            Pause::Pausing => 1,
+            Pause::Open | Pause::HandedOut => 0,
+        }
     }
 
     /// The stream's turn; none where it is paused or has no message.

@@ -14,25 +14,28 @@ pub struct Streams {
 
     // In order, the last turn first. There is room for one of each stream.
     turns: Vec<Turn>,
+
+    // How many of the streams are to be reset, and weren't handed out yet.
+    pausing: usize,
 }
 
 impl Model for Streams {
     ghost use Rattle.std.specs.Prelude.{List, vec_capacity};
     ghost use Rattle.dcsctp_streams.specs.Waiting.{Stream};
-    ghost use Rattle.dcsctp_streams.specs.Ranking.{IsRanked};
+    ghost use Rattle.dcsctp_streams.specs.Ranking.{IsKept};
 
     ghost Value = { List Stream };
 
     ghost view = { λ streams. streams.items.items };
 
-    ghost invariant = { λ streams. IsRanked streams.items.items streams.turns.items (vec_capacity streams.turns) };
+    ghost invariant = { λ streams. IsKept streams.items.items streams.turns.items (vec_capacity streams.turns) streams.pausing };
 }
 
 impl Streams {
     ghost use Rattle.std.specs.List.{list_any};
     ghost use Rattle.std.specs.Prelude.{◌≡◌, ◌-◌, ◌<◌, [], length, is_some, map, slice_set, insert, OnOk, OnErr, IfSome, IfNone};
-    ghost use Rattle.dcsctp_streams.specs.Waiting.{front_of, with_message, without_front, paused, resumed, handed_out, begun_anew, raised, counted, committed, rolled_back};
-    ghost use Rattle.dcsctp_streams.specs.Ranking.{stream_at, turn_of, turns_of, IsAscending, IsFound, IsNext};
+    ghost use Rattle.dcsctp_streams.specs.Waiting.{front_of, with_message, without_front, paused, handed_out, begun_anew, raised, counted, committed, rolled_back};
+    ghost use Rattle.dcsctp_streams.specs.Ranking.{stream_at, turn_of, turns_of, count_pausing, IsAscending, IsFound, IsNext};
 
     /// No streams. It takes no memory.
     pub fn new(alloc: Global) -> Streams
@@ -41,6 +44,7 @@ impl Streams {
         Streams {
             items: Vec::new(alloc),
             turns: Vec::new(alloc),
+            pausing: 0,
         }
     }
 
@@ -92,8 +96,10 @@ impl Streams {
         let spare = self.items.capacity().saturating_sub(self.turns.len());
         self.turns.reserve(spare)?;
         let turn = stream.turn();
+        let pausing = stream.count_pausing();
         self.items.insert(place, stream)?;
         move_turn(&mut self.turns, None, turn);
+        self.pausing = self.pausing.saturating_add(pausing);
         Ok(())
     }
 
@@ -107,6 +113,13 @@ impl Streams {
             Ok(place) => Some(place),
             Err(_) => None,
         }
+    }
+
+    /// How many streams are to be reset, and weren't handed out yet.
+    pub fn count_pausing(&self) -> usize
+        ensures { result ≡ count_pausing self.now }
+    {
+        self.pausing
     }
 
     /// May a stream begin a message?
@@ -154,21 +167,11 @@ impl Streams {
     {
         let stream = &mut self.items[place];
         let before = stream.turn();
+        let was_pausing = stream.count_pausing();
         stream.pause(kept);
         let after = stream.turn();
         move_turn(&mut self.turns, before, after);
-    }
-
-    /// Ends the stream's pause.
-    pub fn resume(&mut self, place: usize)
-        requires { place < length self.old }
-        ensures { self.new ≡ slice_set self.old place (resumed (stream_at self.old place)) }
-    {
-        let stream = &mut self.items[place];
-        let before = stream.turn();
-        stream.resume();
-        let after = stream.turn();
-        move_turn(&mut self.turns, before, after);
+        self.pausing = self.pausing.saturating_sub(was_pausing).saturating_add(1);
     }
 
     /// Hands the stream out to be reset.
@@ -178,9 +181,11 @@ impl Streams {
     {
         let stream = &mut self.items[place];
         let before = stream.turn();
+        let was_pausing = stream.count_pausing();
         stream.hand_out();
         let after = stream.turn();
         move_turn(&mut self.turns, before, after);
+        self.pausing = self.pausing.saturating_sub(was_pausing);
     }
 
     /// Ends the stream's pause, and counts its messages from 0 again.
@@ -190,9 +195,11 @@ impl Streams {
     {
         let stream = &mut self.items[place];
         let before = stream.turn();
+        let was_pausing = stream.count_pausing();
         stream.begin_anew();
         let after = stream.turn();
         move_turn(&mut self.turns, before, after);
+        self.pausing = self.pausing.saturating_sub(was_pausing);
     }
 
     /// It was reset, if it was handed out: its pause ends, and its messages are counted from 0 again.

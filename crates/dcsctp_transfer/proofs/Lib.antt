@@ -6,7 +6,6 @@ pub mod GivingLemmas
 pub mod LossLemmas
 pub mod PreparingLemmas
 pub mod ReceivingLemmas
-pub mod ResetLemmas
 pub mod SackLemmas
 pub mod SacksLemmas
 pub mod TellingLemmas

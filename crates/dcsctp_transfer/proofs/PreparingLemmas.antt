@@ -1,7 +1,6 @@
 -- What a stream that is prepared to be reset shows, and what the user is told of it.
-use Rattle.std.proofs.Common.{◌≡◌, ℕ, ◌-◌, ◌+◌, ◌<◌, ◌≤◌, ◌^◌, min, Bool, true, false, if◌then◌else◌, Option, None, Some, Result, Ok, Err, OnOk, OnErr, List, [], ◌∷◌, ◌++◌, length, map, refl, sym, ap, subst, ◌∙◌, arith}
+use Rattle.std.proofs.Common.{◌≡◌, ℕ, ◌-◌, ◌+◌, ◌≤◌, ◌^◌, min, Bool, true, false, if◌then◌else◌, Option, None, Some, Result, Ok, Err, OnOk, OnErr, List, [], ◌∷◌, ◌++◌, length, map, refl, sym, ap, subst, ◌∙◌, arith}
 use Rattle.std.proofs.lemmas.List.{map-append, length-drop}
-use Rattle.std.proofs.lemmas.Bool.Decides.{nat_tests}
 use Rattle.dcsctp_machine.specs.Event.{Event, buffered_amount_low, total_buffered_amount_low}
 use Rattle.dcsctp_machine.specs.Transfer.{QueuedStream, SendQueueState, queued_stream}
 use Rattle.dcsctp_machine.specs.turns.FlushOutcomes.{Told, amount_is_low, total_amount_is_low}
@@ -63,10 +62,6 @@ low_named true false id = refl
 low_named false true id = refl
 low_named false false id = refl
 
--- an amount that has fallen has changed
-some_fell : (threshold amount by : ℕ) → falls_low threshold amount by ≡ true → 0 < by
-some_fell threshold amount by falls = grind (arith, nat_tests)
-
 nothing_left : (messages : List Waiting) → length messages ≡ 0 → min (size_of messages) (2 ^ 64 - 1) ≡ 0
 nothing_left [] none = refl
 nothing_left (message ∷ messages) none = absurd (omega arith)
@@ -109,12 +104,10 @@ pauses id queue =
     record {
       bytes = dropped_size id queue;
       names = names_of messages;
-      total_is_low = falls_low queue.total_threshold queue.total_amount (dropped_size id queue);
       left = refl;
       tells = refl;
       named = let n = names_len messages in omega (arith, n, count);
       none = λ zero. nothing_left messages (count ∙ zero);
-      falls = some_fell queue.total_threshold queue.total_amount (dropped_size id queue);
     }
 
 tells_pause : (id : ℕ) (queue : Backlog) → events_by true id queue ≡ map told_content (told_of id queue)

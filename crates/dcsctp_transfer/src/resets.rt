@@ -1,9 +1,9 @@
 //! Streams that are reset: those of the peer (RFC 6525, section 5.2.2), and the own ones (section 5.1.2).
 
-ghost use Rattle.std.specs.Prelude.{◌≡◌, not, take, IfOk, OnErr};
+ghost use Rattle.std.specs.Prelude.{◌≡◌, not, take, IfOk, OnOk, OnErr};
 ghost use Rattle.std.specs.Duration.{as_nanos};
 ghost use Rattle.dcsctp_machine.specs.Ids.{stream_numbers};
-ghost use Rattle.dcsctp_machine.specs.Transfer.{is_none_ready, queue_handed_back};
+ghost use Rattle.dcsctp_machine.specs.Transfer.{is_none_ready, queue_handed_back, queue_handing_out};
 ghost use Rattle.dcsctp_machine.specs.turns.BegunResets.{last_assigned_tsn};
 ghost use Rattle.dcsctp_machine.specs.turns.ResetOutcomes.{is_tsn_beyond, ResetsStreams};
 ghost use Rattle.dcsctp_streams.specs.Telling.{contents};
@@ -95,6 +95,7 @@ impl QueuedMessages {
     /// The one error is that there is no memory for the list. Nothing has changed then.
     pub fn get_streams_ready_to_reset(&mut self, max: usize) -> Result<Vec<StreamId>, AllocError>
         ensures streams { IfOk result (λ ids. stream_numbers ids.items ≡ take max self.old.ready_streams) }
+        ensures left { OnOk result (self.new ≡ queue_handing_out max self.old) }
         ensures err { OnErr result (self.new ≡ self.old) }
     {
         self.queue.get_streams_ready_to_reset(max)

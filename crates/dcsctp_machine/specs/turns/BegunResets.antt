@@ -4,7 +4,7 @@ use Rattle.dcsctp_machine.specs.declared.association.Held.{Held}
 use Rattle.dcsctp_machine.specs.declared.kinds.BackoffAlgorithm.TheVariants.{Exponential}
 use Rattle.dcsctp_machine.specs.Packet.{Content}
 use Rattle.dcsctp_machine.specs.Reconfiguration.{RequestedReset}
-use Rattle.dcsctp_machine.specs.Transfer.{RetransmissionState, SendQueueState, Transfer}
+use Rattle.dcsctp_machine.specs.Transfer.{RetransmissionState, SendQueueState, queue_handing_out, Transfer}
 use Rattle.dcsctp_machine.specs.Endpoint.{Endpoint, Core, cookie_echoed, open_in, TimerSettings, started}
 use Rattle.dcsctp_machine.specs.control.Effect.{Effect, begins}
 use Rattle.dcsctp_machine.specs.control.FlushChanges.{next_number, reset_request}
@@ -50,6 +50,11 @@ begun_effects None = []
 begun_effects (Some begun) = begins begun.number ∷ []
 
 -- ---- what is kept of it
+
+-- The queue once this was begun: so many of the streams that are ready were handed out, or none where none was begun.
+abbrev pub queue_requesting : ℕ → Option BegunReset → SendQueueState → SendQueueState
+queue_requesting count None queue = queue
+queue_requesting count (Some begun) queue = queue_handing_out count queue
 
 -- the reconfiguration timer: each wait is twice the last one, without a bound, and it goes on for good (RFC 6525, section 5.1.1)
 abbrev pub reconfiguration_settings : ℕ → TimerSettings

@@ -1,5 +1,5 @@
 -- Own streams that the user resets: what a socket refuses, what leaves the send queue, and what goes out (RFC 6525, section 5.1.2).
-use Rattle.std.specs.Prelude.{◌≡◌, ◌==◌, ◌≤◌, ◌<◌, ◌-◌, min, nat_le, nat_lt, ◌&&◌, ℕ, Bool, true, false, Option, None, Some, List, [], ◌∷◌, ◌++◌, map, length, if◌then◌else◌}
+use Rattle.std.specs.Prelude.{◌≡◌, ◌==◌, ◌≤◌, ◌-◌, min, nat_le, nat_lt, ◌&&◌, ℕ, Bool, true, false, Option, None, Some, List, [], ◌∷◌, ◌++◌, map, length, if◌then◌else◌}
 use Rattle.dcsctp_machine.specs.declared.association.Held.{Held}
 use Rattle.dcsctp_machine.specs.Transfer.{StreamNumber, QueuedStream, SendQueueState, queued_stream, queue_with}
 use Rattle.dcsctp_machine.specs.Endpoint.{Endpoint, held_in}
@@ -83,12 +83,12 @@ pub record Pauses (id : ℕ) (old : SendQueueState) (told : List Told) (new : Se
   -- the bytes of what is dropped, and the names that the user gave to it
   pub bytes : ℕ
   pub names : List ℕ
-  pub total_is_low : Bool
   pub left : new ≡ queue_pausing id bytes old
-  pub tells : told ≡ low_told (queued_stream old id) bytes total_is_low ++ expired_told names
+  pub tells : told
+      ≡ low_told (queued_stream old id) bytes (has_fallen old.total_low_threshold old.total_buffered_amount (old.total_buffered_amount - bytes))
+      ++ expired_told names
   pub named : length names ≤ count_not_begun id old
   pub none : count_not_begun id old ≡ 0 → bytes ≡ 0
-  pub falls : total_is_low ≡ true → 0 < bytes
 
 -- One that is to be reset already stays as it is.
 abbrev pub PreparesWhere : Bool → ℕ → SendQueueState → List Told → SendQueueState → Type 0

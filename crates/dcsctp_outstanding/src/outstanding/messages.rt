@@ -18,18 +18,20 @@ impl Outstanding {
     ghost use Rattle.dcsctp_send_queue.specs.Calls.{StopsDiscarding};
 
     /// Drops what waits in the queue of the message of the item at the place. Where there was some, an
-    /// abandoned item without a payload stands for the end of the message.
+    /// abandoned item without a payload stands for the end of the message. `begins_after_reset` says whether
+    /// streams were reset since the last item was added.
     pub fn discard_rest(
         &mut self,
         events: &mut Events,
         queue: &mut SendQueue,
         now: SocketTime,
         place: usize,
+        begins_after_reset: bool,
     ) -> Result<(), AllocError>
         requires place { place < length self.old.items }
         requires room { length self.old.items + 1 < 2 ^ 31 }
         ensures may { MayAddEnd self.old self.new }
-        ensures ok { AtPlace self.old.items place (λ last. OnOk result (DropsRest now last self.old queue.old (contents events.old) self.new queue.new (contents events.new))) }
+        ensures ok { AtPlace self.old.items place (λ last. OnOk result (DropsRest now begins_after_reset last self.old queue.old (contents events.old) self.new queue.new (contents events.new))) }
         ensures err { OnErr result ((self.new ≡ self.old) × (queue.new ≡ queue.old)) }
         ensures front { AtPlace self.old.items place (λ last. OnErr result ((contents events.new ≡ contents events.old) ⊎ StopsDiscarding queue.old last.fragment.stream_id.0 last.fragment.message_id (contents events.old) (contents events.new))) }
     {
@@ -37,7 +39,7 @@ impl Outstanding {
         let stream_id = self.items[place].fragment.stream_id;
         let message_id = self.items[place].fragment.message_id;
         if queue.discard(events, stream_id, message_id)? {
-            let item = end_of_message(self.alloc, &self.items[place], now);
+            let item = end_of_message(self.alloc, &self.items[place], now, begins_after_reset);
             let size = item.size(self.header);
             self.totals.add(item.progress.state, size);
             self.items.push_back_reserved(item);
@@ -97,8 +99,8 @@ impl Outstanding {
 }
 
 // The end of an abandoned message, which never goes out.
-fn end_of_message(alloc: Global, item: &Item, now: SocketTime) -> Item
-    ensures { IsEndOf now item.now result }
+fn end_of_message(alloc: Global, item: &Item, now: SocketTime, begins_after_reset: bool) -> Item
+    ensures { IsEndOf now begins_after_reset item.now result }
 {
     let fragment = &item.fragment;
     Item {
@@ -119,6 +121,6 @@ fn end_of_message(alloc: Global, item: &Item, now: SocketTime) -> Item
         },
         progress: Progress::new().changed(Change::Abandon),
         sent_at: now,
-        begins_after_reset: false,
+        begins_after_reset,
     }
 }

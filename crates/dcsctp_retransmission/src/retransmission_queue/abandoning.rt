@@ -70,7 +70,8 @@ impl RetransmissionQueue {
         if !self.outstanding.has_room() {
             return Ok(());
         }
-        self.outstanding.discard_rest(events, queue, now, place)
+        self.outstanding
+            .discard_rest(events, queue, now, place, self.reset_begun)
     }
 
     /// Is a FORWARD-TSN due at the moment `now`? That is so where partial reliability was negotiated and the

@@ -8,14 +8,15 @@ use dcsctp_streams::Pause;
 use std::alloc::AllocError;
 
 impl Backlog {
-    ghost use Rattle.std.specs.Prelude.{◌≡◌, ◌==◌, ◌+◌, ◌-◌, ◌<◌, ◌++◌, length, take, Ok, Err, OnOk, OnErr, IfOk, IsTrue, ◌↔◌};
+    ghost use Rattle.std.specs.Prelude.{◌≡◌, ◌==◌, ◌+◌, ◌-◌, ◌<◌, ◌++◌, length, take, Ok, Err, OnOk, OnErr, IfOk, not};
     ghost use Rattle.dcsctp_streams.specs.Waiting.{handed_out};
     ghost use Rattle.dcsctp_machine.specs.Ids.{stream_numbers};
+    ghost use Rattle.dcsctp_machine.specs.Transfer.{is_none_ready};
     ghost use Rattle.dcsctp_streams.specs.Telling.{contents, TellsFront};
-    ghost use Rattle.dcsctp_streams.specs.Ranking.{stream_at, IsAscending};
+    ghost use Rattle.dcsctp_streams.specs.Ranking.{stream_at, count_pausing, IsAscending};
     ghost use Rattle.dcsctp_send_queue.specs.Leaving.{count_under_way, after_pause, pause_events};
     ghost use Rattle.dcsctp_send_queue.specs.Backlog.{CanGoOn, begun, changed, ready_streams, is_ready};
-    ghost use Rattle.dcsctp_send_queue.specs.Resets.{prepared, prepare_events, IsUsedAtMost, HasReady, handing_out};
+    ghost use Rattle.dcsctp_send_queue.specs.Resets.{prepared, prepare_events, IsUsedAtMost, handing_out};
 
     /// Drops the messages of the stream that aren't begun, and pauses it.
     pub fn pause(&mut self, events: &mut Events, place: usize) -> Result<(), AllocError>
@@ -62,7 +63,8 @@ impl Backlog {
 
     /// The numbers of at most `max` of the streams that can be handed out, the least first.
     pub fn ready_ids(&self, max: usize) -> Result<Vec<StreamId>, AllocError>
-        ensures { IfOk result (λ ids. stream_numbers ids.items ≡ take max (ready_streams self.now)) }
+        ensures ids { IfOk result (λ ids. stream_numbers ids.items ≡ take max (ready_streams self.now)) }
+        ensures ascending { IsAscending self.now.streams }
     {
         let mut ids = Vec::new(self.alloc);
         for place in 0..self.streams.len() {
@@ -95,13 +97,22 @@ impl Backlog {
 
     /// Can a stream be handed out to be reset?
     pub fn has_ready(&self) -> bool
-        ensures { IsTrue result ↔ HasReady self.now }
+        ensures { result ≡ not (is_none_ready (ready_streams self.now)) }
     {
-        for place in 0..self.streams.len() {
-            if self.is_ready(place) {
-                return true;
-            }
+        self.count_not_ready() < self.streams.count_pausing()
+    }
+
+    // How many of the streams that are to be reset can't be handed out yet: none, or that of the message
+    // under way.
+    fn count_not_ready(&self) -> usize
+        ensures { length (ready_streams self.now) + result ≡ count_pausing self.now.streams }
+    {
+        let Some(under_way) = self.under_way else {
+            return 0;
+        };
+        match self.streams.find(under_way.stream_id) {
+            Ok(place) => self.streams.at(place).count_pausing(),
+            Err(_) => 0,
         }
-        false
     }
 }

@@ -41,7 +41,7 @@ returns-then-branch-clause-ok c last at =
     let told = rw c.if-branch.true at c.in_ok-discard.ensures.ok in
     let P : Item → Type 0 = λ x. DiscardsNamed c.args.queue.now x.fragment.stream_id.0 c.index-2.result.now.fragment.message_id (contents c.args.events.now) true c.discard.new.self (contents c.discard.new.events) in
     let Q : Item → Type 0 = λ x. DiscardsNamed c.args.queue.now last.fragment.stream_id.0 x.fragment.message_id (contents c.args.events.now) true c.discard.new.self (contents c.discard.new.events) in
-    let R : Item → Type 0 = λ x. IsEndOf c.args.now x c.end_of_message-item.result in
+    let R : Item → Type 0 = λ x. IsEndOf c.args.now c.args.begins_after_reset x c.end_of_message-item.result in
     record {
       is_dropped = true;
       drops = subst Q second (subst P first told);

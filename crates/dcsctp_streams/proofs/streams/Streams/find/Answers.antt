@@ -7,7 +7,7 @@ use Rattle.dcsctp_streams.proofs.streams.Streams.find.Goals.{else-low-len-via-th
 
 pub halving-preserved-then-id : goal.halving-preserved-then-id
 halving-preserved-then-id c =
-    let ascending : IsAscending c.args.self.now = rw c.self.view_is at c.self.invariant.ascending in
+    let ascending : IsAscending c.args.self.now = rw c.self.view_is at c.self.invariant.ranked.ascending in
     let is = id_read c.args.self.now _ _ _ _ c.self.view_is (omega arith) c.index.ensures c.id.ensures in
     record {
       in_range = (omega arith, omega arith);
@@ -17,7 +17,7 @@ halving-preserved-then-id c =
 
 pub halving-preserved : goal.halving-preserved
 halving-preserved c =
-    let ascending : IsAscending c.args.self.now = rw c.self.view_is at c.self.invariant.ascending in
+    let ascending : IsAscending c.args.self.now = rw c.self.view_is at c.self.invariant.ranked.ascending in
     let is = id_read c.args.self.now _ _ _ _ c.self.view_is (omega arith) c.index.ensures c.id.ensures in
     record {
       in_range = (omega arith, omega arith);
@@ -27,7 +27,7 @@ halving-preserved c =
 
 pub returns-clause-found : goal.returns-clause-found
 returns-clause-found c =
-    let ascending : IsAscending c.args.self.now = rw c.self.view_is at c.self.invariant.ascending in
+    let ascending : IsAscending c.args.self.now = rw c.self.view_is at c.self.invariant.ranked.ascending in
     let inside : length c.self.inside.items.items ≡ length c.args.self.now = rw c.self.view_is in
     elim c.else-low-len.branch [
       | else-low-len-via-then-low-len+else-id-2 w ↦
