@@ -97,7 +97,10 @@ impl End {
 
     // Resets the streams whose turn it is, where it is the turn of some.
     fn reset_next(&mut self, rt: &impl Abort) {
-        let waiting = self.buffered();
+        let waiting = match self.resets.next_alone() {
+            None => self.buffered(),
+            Some(stream) => self.socket.buffered_amount(stream),
+        };
         let Some(streams) = self.resets.ask(rt, self.added, waiting) else {
             return;
         };

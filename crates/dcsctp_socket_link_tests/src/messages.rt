@@ -116,7 +116,8 @@ impl Messages {
         }
     }
 
-    /// The receiver is told that a stream was reset: the reset was under way, and all messages before it have arrived.
+    /// The receiver is told that a stream was reset: the reset was under way, and all messages before it have arrived that
+    /// may not be given up.
     pub fn is_reset(&mut self, rt: &impl Abort, stream: u16) {
         let Some(behind_reset) = self.behind_reset.get_mut(usize::from(stream)) else {
             return;
@@ -127,7 +128,9 @@ impl Messages {
         for number in 0..first {
             let planned = *self.planned.get(number).expect(rt, "no such message");
             assert!(rt;
-                planned.stream != stream || planned.has_arrived,
+                planned.stream != stream
+                    || planned.has_arrived
+                    || planned.effort != Effort::Reliable,
                 "{number} is missing before the reset"
             );
         }

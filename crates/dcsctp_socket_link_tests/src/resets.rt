@@ -51,7 +51,19 @@ impl Resets {
 
     /// Does the message of this number wait for a reset?
     pub fn are_due(&self, number: usize) -> bool {
-        self.plan == Resetting::BetweenMessages && self.calls < number / 8
+        let is_for_messages = match self.plan {
+            Resetting::BetweenMessages | Resetting::AmongMessages => true,
+            Resetting::Never | Resetting::AtOnce(_) | Resetting::InTurn(_) => false,
+        };
+        is_for_messages && self.calls < number / 8
+    }
+
+    /// The stream that comes next, where no other has to be empty for its reset.
+    pub fn next_alone(&self) -> Option<StreamId> {
+        if self.plan != Resetting::AmongMessages {
+            return None;
+        }
+        Some(StreamId((self.calls % 4) as u16))
     }
 
     // The streams of the next call, where it is its turn: the first one, and how many. Four streams bear messages.
@@ -64,12 +76,16 @@ impl Resets {
             Resetting::BetweenMessages if waiting == 0 && self.are_due(number) => {
                 Some([(0, 1), (1, 3), (2, 1)][self.calls % 3])
             }
+            Resetting::AmongMessages if waiting == 0 && self.are_due(number) => {
+                Some(((self.calls % 4) as u16, 1))
+            }
             Resetting::AtOnce(count) if is_first => Some((4, count)),
             Resetting::InTurn(count) if self.calls < count => {
                 Some((4 + (self.calls % 1000) as u16, 1))
             }
             Resetting::Never
             | Resetting::BetweenMessages
+            | Resetting::AmongMessages
             | Resetting::AtOnce(_)
             | Resetting::InTurn(_) => None,
         }

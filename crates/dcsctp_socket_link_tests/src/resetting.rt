@@ -1,7 +1,7 @@
 //! Streams that are reset (RFC 6525), again and again, while messages go both ways: a reset parts the messages before
 //! it from those behind it, and either end is told of it once.
 
-use crate::run::{PLAIN, Resetting};
+use crate::run::{Effort, PLAIN, Resetting};
 use crate::simulation::{runs, runs_each};
 
 #[test]
@@ -18,6 +18,33 @@ fn a_reset_parts_the_messages_of_its_stream(rt: HostRuntime) {
         run.interleaving = interleaving;
         run.longest = 2000;
         run.resetting = Resetting::BetweenMessages;
+        runs_each(&rt, rt.alloc(), &run);
+    }
+}
+
+// What is given up comes not at all, or before the reset, and no FORWARD-TSN reaches across (RFC 6525, section 5.1.2).
+#[test]
+fn a_reset_parts_messages_that_are_given_up(rt: HostRuntime) {
+    for (name, interleaving, resetting) in [
+        ("given up, DATA", false, Resetting::BetweenMessages),
+        ("given up, I-DATA", true, Resetting::BetweenMessages),
+        ("given up on the way, DATA", false, Resetting::AmongMessages),
+        (
+            "given up on the way, I-DATA",
+            true,
+            Resetting::AmongMessages,
+        ),
+    ] {
+        let mut run = PLAIN;
+        run.name = name;
+        run.efforts = [
+            Effort::SentOnce,
+            Effort::Reliable,
+            Effort::Lifetime,
+            Effort::SentTwice,
+        ];
+        run.interleaving = interleaving;
+        run.resetting = resetting;
         runs_each(&rt, rt.alloc(), &run);
     }
 }

@@ -25,6 +25,9 @@ pub enum Resetting {
     /// Of the four that bear messages some, before each eighth message, once all before it have left.
     BetweenMessages,
 
+    /// Of those four one, before each eighth message, once all of its own have left; messages of others may wait.
+    AmongMessages,
+
     /// So many others, by one call.
     AtOnce(u16),
 
