@@ -10,7 +10,7 @@ use Rattle.dcsctp_machine.specs.Endpoint.{Endpoint, Core, closed, cookie_wait, c
 use Rattle.dcsctp_machine.specs.Transfer.{QueuedStream, queued_stream}
 use Rattle.dcsctp_machine.specs.Turn.{act_input}
 use Rattle.dcsctp_machine.specs.turns.SettingOutcomes.{Setting, endpoint_with}
-use Rattle.dcsctp_machine.specs.control.Acts.{Act, connect, abort_with}
+use Rattle.dcsctp_machine.specs.control.Acts.{Act, connect, shut_down, abort_with}
 use Rattle.dcsctp_machine.specs.CallTurns.{Turned, Turns, HandleInput, CutInput, after_all, words_of, pairs_of, events_of}
 use Rattle.dcsctp_api.specs.declared.errors.SocketFault.{SocketFault}
 use Rattle.dcsctp_api.specs.declared.errors.SocketFault.TheVariants.{OutOfMemory, Failed}
@@ -87,6 +87,23 @@ abbrev pub Closes : UserView → Result (Unit {0}) SocketFault → UserView → 
 Closes old (Ok done) new = Makes (abort_with CloseCalled) old new
 Closes old (Err OutOfMemory) new = RanOut old (Turns old.endpoint (act_input (abort_with CloseCalled) ∷ [])) new
 Closes old (Err Failed) new = StaysFailed old new
+
+-- does the user's shutdown change anything?
+abbrev pub takes_shutdown_in : OpenPhase → Bool
+takes_shutdown_in established = true
+takes_shutdown_in phase = false
+
+abbrev pub takes_shutdown : Core → Bool
+takes_shutdown closed = false
+takes_shutdown (cookie_wait my) = true
+takes_shutdown (cookie_echoed my held cookie) = true
+takes_shutdown (open_in phase my held) = takes_shutdown_in phase
+
+-- The association is shut down.
+abbrev pub ShutsDown : UserView → Result (Unit {0}) SocketFault → UserView → Type 0
+ShutsDown old (Ok done) new = Makes shut_down old new
+ShutsDown old (Err OutOfMemory) new = RanOut old (Turns old.endpoint (act_input shut_down ∷ [])) new
+ShutsDown old (Err Failed) new = StaysFailed old new
 
 -- what a socket is to its user once this is set; no word is drawn
 abbrev pub with_setting : Setting → UserView → UserView

@@ -1,7 +1,7 @@
 //! The calls of a socket.
 
 ghost use Rattle.std.specs.Prelude.{◌≡◌, true, false, IsOk, ◌<◌, map, length};
-ghost use Rattle.dcsctp_api.specs.Calls.{UserView, PollsEvent, HandlesInput, Connects, Closes, Sets, with_setting, stream_shown, is_closed, socket_state_of};
+ghost use Rattle.dcsctp_api.specs.Calls.{UserView, PollsEvent, HandlesInput, Connects, Closes, ShutsDown, takes_shutdown, Sets, with_setting, stream_shown, is_closed, socket_state_of};
 ghost use Rattle.dcsctp_api.specs.Messages.{Sends, SendsMany, TakesNext, ready_messages};
 ghost use Rattle.dcsctp_api.specs.Resets.{ResetsOwn};
 ghost use Rattle.dcsctp_machine.specs.Ids.{stream_numbers};
@@ -51,6 +51,16 @@ pub trait DcSctpSocket {
         ensures call { Closes (user_view self.old) result (user_view self.new) }
         ensures closed { (user_view self.old).failed ≡ false
             → is_closed (user_view self.old).endpoint.core ≡ true → IsOk result };
+
+    /// Shuts the association down (RFC 9260, section 9.2): a SHUTDOWN goes out once all that was sent is acknowledged
+    /// or given up, and `SocketEvent::OnClosed` is told when the peer has answered. From now on no message is taken;
+    /// those that wait in the queue may be lost. Where no peer answered the INIT yet the association ends at once; one
+    /// whose COOKIE ACK is awaited never connects then. On a closed socket, and on one that is shutting down, it
+    /// answers `Ok`, changes nothing and takes no memory.
+    fn shutdown(&mut self) -> Result<(), SocketFault>
+        ensures call { ShutsDown (user_view self.old) result (user_view self.new) }
+        ensures idle { (user_view self.old).failed ≡ false
+            → takes_shutdown (user_view self.old).endpoint.core ≡ false → IsOk result };
 
     /// Tells the time: `now` is the present moment, and what is due has its turn. Where T1 has expired
     /// (RFC 9260, section 5.1), the INIT or COOKIE ECHO goes out again, or, with no restart left, the

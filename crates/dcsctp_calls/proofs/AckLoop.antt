@@ -1,18 +1,45 @@
 -- The SHUTDOWN ACK chunks of a packet are worked one after another.
-use Rattle.std.proofs.Common.{◌≡◌, ℕ, ◌+◌, ◌<◌, List, [], ◌∷◌, ◌++◌, length, take, drop, get_or, refl, sym, ap, subst, ◌∙◌}
+use Rattle.std.proofs.Common.{◌≡◌, ℕ, ◌+◌, ◌<◌, Bool, true, false, Option, None, Some, List, [], ◌∷◌, ◌++◌, length, take, drop, get_or, refl, sym, ap, subst, ◌∙◌}
 use Rattle.std.specs.List.{AllByRecursion}
 use Rattle.std.proofs.lemmas.List.{take-append-drop}
 use Rattle.std.proofs.Math.Seq.{take-append_seam}
 use Rattle.dcsctp_wire.specs.declared.chunk.Chunk.{Chunk}
 use Rattle.dcsctp_wire.specs.declared.chunk.Chunk.TheVariants as kinds
 use Rattle.dcsctp_wire.specs.Content.{chunk_content}
-use Rattle.dcsctp_machine.specs.Packet.{Content, init, init_ack, cookie_echo, cookie_ack, re_config, abort, shutdown, shutdown_ack, shutdown_complete, plain, content_in}
-use Rattle.dcsctp_machine.specs.Endpoint.{Endpoint}
+use Rattle.dcsctp_machine.specs.Packet.{Packet, Content, init, init_ack, cookie_echo, cookie_ack, re_config, abort, shutdown, shutdown_ack, shutdown_complete, plain, content_in}
+use Rattle.dcsctp_machine.specs.declared.association.Pair.{Pair}
+use Rattle.dcsctp_machine.specs.declared.association.Held.{Held}
+use Rattle.dcsctp_machine.specs.Endpoint.{Endpoint, Core, closed, cookie_wait, cookie_echoed, open_in, OpenPhase}
 use Rattle.dcsctp_machine.specs.Following.{next_chunk}
-use Rattle.dcsctp_machine.specs.Admission.{shutdown_acks_in}
+use Rattle.dcsctp_machine.specs.Admission.{Admission, shutdown_acks_alone, shutdown_acks_in, admitted_where, admits_by, admits, first_abort, first_shutdown_complete, has_shutdown_ack, is_echo_in_front}
 use Rattle.dcsctp_machine.specs.CallTurns.{Turned, ChunkTurns, after_all}
 use Rattle.dcsctp_machine.proofs.TurnLemmas.{GoOn, further, and_further}
+use Rattle.dcsctp_shutdown.specs.Shutdown.{is_open}
 use Rattle.dcsctp_calls.proofs.ChunkLoop.{contents_of, contents_append, contents_more}
+
+-- ---- where they are worked alone
+
+where_never : (b : Bool) (text : List ℕ) → admitted_where b text ≡ shutdown_acks_alone → true ≡ false
+where_never true text is = absurd (cc)
+where_never false text is = absurd (cc)
+
+-- An open association admits no packet so.
+open_never : (phase : OpenPhase) (my : Pair) (held : Held) (packet : Packet) (aborts completes : Option Bool) (acks echo zero : Bool)
+    → admits_by (open_in phase my held) packet aborts completes acks echo zero ≡ shutdown_acks_alone → true ≡ false
+open_never phase my held packet (Some reflected) completes acks echo zero is = where_never _ _ is
+open_never phase my held packet None (Some reflected) acks echo zero is = where_never _ _ is
+open_never phase my held packet None None true echo zero is = where_never _ _ is
+open_never phase my held packet None None false true zero is = absurd (cc)
+open_never phase my held packet None None false false true is = where_never _ _ is
+open_never phase my held packet None None false false false is = where_never _ _ is
+
+pub alone_is_shut : (core : Core) (packet : Packet) → admits core packet ≡ shutdown_acks_alone → is_open core ≡ false
+alone_is_shut closed packet is = refl
+alone_is_shut (cookie_wait my) packet is = refl
+alone_is_shut (cookie_echoed my held cookie) packet is = refl
+alone_is_shut (open_in phase my held) packet is = open_never phase my held packet _ _ _ _ _ is
+
+-- ---- the loop
 
 pub acks_append : (xs ys : List Content) → shutdown_acks_in (xs ++ ys) ≡ shutdown_acks_in xs ++ shutdown_acks_in ys
 acks_append [] ys = refl

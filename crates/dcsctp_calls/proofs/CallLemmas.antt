@@ -1,5 +1,5 @@
 -- The turns of a call from those of its parts.
-use Rattle.std.proofs.Common.{◌≡◌, ℕ, Bool, true, false, List, [], ◌∷◌, ◌++◌, map, take, drop, refl, sym, ap, subst, ◌∙◌, append_assoc}
+use Rattle.std.proofs.Common.{◌≡◌, ℕ, Bool, true, false, List, [], ◌∷◌, ◌++◌, map, take, drop, refl, sym, ap, subst, ◌∙◌, append_assoc, inr}
 use Rattle.std.proofs.lemmas.List.{append-nil, map-append, take-append-drop}
 use Rattle.rand_core.specs.Stream.{Stream}
 use Rattle.dcsctp_wire.specs.Content.{PacketContent}
@@ -19,7 +19,6 @@ use Rattle.dcsctp_wire.specs.declared.packet.WireOptions.{WireOptions}
 use Rattle.dcsctp_calls.specs.Parts.{MoveToEnd, ChunksMove, ChunksCut, AcksMove, PacketMoves, InputMoves, AcksCut, PacketCut, InputCut}
 use Rattle.dcsctp_core.specs.Handling.{TakesIn, CutIn}
 use Rattle.dcsctp_core.proofs.Moving.{moves_one, moves_then}
-use Rattle.dcsctp_calls.proofs.ChunkLoop.{first_of_whole}
 
 -- the turn of a packet that is handed in, and of one that is refused
 abbrev arrived : Endpoint → Turned
@@ -128,7 +127,7 @@ unreadable_input {R = R} stream old a b c bytes options text begins counted is n
 -- ---- where a growth was refused
 
 -- no turn was finished
-adds_none : (ports : Ports) (events : List (Event (List ℕ))) → AddsFront ports [] events events
+pub adds_none : (ports : Ports) (events : List (Event (List ℕ))) → AddsFront ports [] events events
 adds_none ports events = record { added = []; rest = []; behind = sym (append-nil events); front = refl }
 
 -- These turns were finished, and no event was added behind theirs.
@@ -247,7 +246,7 @@ ended_cut stream a b packet events first end =
     let last : Turned = end_turned end.outcome in
     record {
       turns = first.turns ++ last ∷ [];
-      are = first_of_whole a.endpoint (packet_in packet) (first.turns ++ last ∷ []) (first.are last (end_is (after_all a.endpoint first.turns) b.endpoint end.outcome first.moves.endpoint end.turn));
+      are = inr (first.are last (end_is (after_all a.endpoint first.turns) b.endpoint end.outcome first.moves.endpoint end.turn));
       adds = adds_cut stream a b first.turns last events (ap (λ (x : Endpoint). ports_of x.options) first.moves.endpoint ∙ first.ports) first.moves end.cut;
     }
 

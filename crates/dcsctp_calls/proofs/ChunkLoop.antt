@@ -13,7 +13,7 @@ use Rattle.dcsctp_machine.specs.CallTurns.{Turned, turned, IsTurn, ChunkTurns, W
 use Rattle.dcsctp_machine.proofs.TurnLemmas.{GoOn, chunk_turns-push, chunk_turns-end, chunk_turns-cut, chunk_turns-whole, content_keeps_options, same_ports, after_all-append}
 use Rattle.rand_core.specs.Stream.{Stream}
 use Rattle.dcsctp_core.specs.declared.state.State.{State}
-use Rattle.dcsctp_core.specs.declared.state.State.TheVariants.{Closed, CookieWait, CookieEchoed, Established}
+use Rattle.dcsctp_core.specs.declared.state.State.TheVariants.{Closed, CookieWait, CookieEchoed, Open}
 use Rattle.dcsctp_core.specs.View.{View, core_of, MovesAll}
 use Rattle.dcsctp_core.proofs.Moving.{moves_one, moves_then, moves_still}
 
@@ -78,20 +78,6 @@ turns_end e now tag chunks i chunk turns outcome below is goes_on are here turn 
 
 -- ---- a whole packet
 
--- Nothing stands before the chunks in the states that there are.
-pub nothing_before : (e : Endpoint) (state : State) (has : Bool) → BeginTurn e (core_of state) has (still e)
-nothing_before e Closed has = refl
-nothing_before e (CookieWait wait) has = refl
-nothing_before e (CookieEchoed echoed) has = refl
-nothing_before e (Established tcb) has = refl
-
-abbrev pub begun : Endpoint → List Content → Turned
-begun e contents = turned (packet_begins contents) (still e)
-
--- the chunks' turns behind what stands before them
-pub moves_begun : {R : Type 0} (stream : R → Stream) (a b : View R) (contents : List Content) (turns : List Turned) → MovesAll stream a turns b → MovesAll stream a (begun a.endpoint contents ∷ turns) b
-moves_begun stream a b contents turns m = moves_then stream a a b (begun a.endpoint contents ∷ []) turns refl (moves_one stream a a (begun a.endpoint contents) (moves_still stream a)) m
-
 pub worked_keeps_ports : (e : Endpoint) (tag : ℕ) (content : Content) (o : Outcome) → ContentTurn e tag content o → ports_of o.after.options ≡ ports_of e.options
 worked_keeps_ports e tag content o turn = same_ports e.options o.after.options (content_keeps_options e tag content o turn)
 
@@ -127,11 +113,6 @@ ports_more e now tag content turns outcome here turn same =
     ∙ worked_keeps_ports now tag content outcome turn
     ∙ ap (λ (x : Endpoint). ports_of x.options) here
     ∙ same
-
--- A packet that is worked whole is cut nowhere, or in its end.
-pub first_of_whole : (e : Endpoint) (packet : Packet) (turns : List Turned) → WholeTurns e packet turns → FirstOfWhole e packet turns
-first_of_whole e packet [] are = tt
-first_of_whole e packet (begun ∷ turns) are = (are.0, inr are.1)
 
 -- ---- where a growth was refused
 

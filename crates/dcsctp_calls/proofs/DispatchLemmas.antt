@@ -1,4 +1,4 @@
--- Turns of chunks that break the protocol, of a SHUTDOWN ACK, a SHUTDOWN COMPLETE, heartbeats, an ERROR and of those that aren't known.
+-- Turns of chunks that break the protocol, of those of a shutdown, heartbeats, an ERROR and of those that aren't known.
 use Rattle.std.proofs.Common.{◌≡◌, ◌==◌, ℕ, Bool, true, false, cond, Option, None, Some, List, [], ◌∷◌, refl, sym, ap, subst, ◌∙◌}
 use Rattle.std.proofs.lemmas.List.{append-nil}
 use Rattle.rand_core.specs.Stream.{Stream}
@@ -13,21 +13,23 @@ use Rattle.dcsctp_machine.specs.Packet.{Plain, Content, content_in, init, init_a
 use Rattle.dcsctp_wire.specs.Content.{ParameterContent}
 use Rattle.dcsctp_machine.specs.turns.HeartbeatOutcomes.{heartbeat_outcome, heartbeat_ack_outcome, answered}
 use Rattle.dcsctp_heartbeat.specs.Heartbeats.{heartbeat_turn, heartbeat_ack_turn}
-use Rattle.dcsctp_machine.specs.Endpoint.{Endpoint, Core, closed, cookie_wait, cookie_echoed, open_in}
+use Rattle.dcsctp_machine.specs.Endpoint.{Endpoint, Core, closed, cookie_wait, cookie_echoed, open_in, OpenPhase, established, shutdown_pending, shutdown_sent, shutdown_received, shutdown_ack_sent}
 use Rattle.dcsctp_machine.specs.Outcome.{Outcome, still, quiet, sends, fits, to_peer}
 use Rattle.dcsctp_machine.specs.Following.{next_chunk, dropped_rest}
 use Rattle.dcsctp_machine.specs.Turn.{ContentTurn}
 use Rattle.dcsctp_machine.specs.CallTurns.{Turned, ChunkTurns}
-use Rattle.dcsctp_machine.specs.turns.EndOutcomes.{aborting_outcome, reflected_outcome, ShutdownAckTurn, ShutdownCompleteTurn}
+use Rattle.dcsctp_machine.specs.declared.association.Pair.{Pair}
+use Rattle.dcsctp_machine.specs.declared.association.Held.{Held}
+use Rattle.dcsctp_machine.specs.turns.EndOutcomes.{aborting_outcome, reflected_outcome}
+use Rattle.dcsctp_machine.specs.turns.ShutdownOutcomes.{is_all_acknowledged, step_by, phase_at, shutdown_outcome, shutdown_ack_outcome}
 use Rattle.dcsctp_machine.specs.turns.PlainOutcomes.{violation_at, PlainTurnBy, PlainTurn, error_outcome}
-use Rattle.dcsctp_core.specs.declared.state.State.{State}
-use Rattle.dcsctp_core.specs.declared.state.State.TheVariants.{Closed, CookieWait, CookieEchoed, Established}
 use Rattle.dcsctp_core.specs.declared.context.Context.{Context}
 use Rattle.dcsctp_core.specs.declared.following.Following.TheVariants.{NextChunk, DroppedRest}
 use Rattle.dcsctp_core.specs.View.{View, core_of, endpoint_of, view_of, Moves, MovesAll, CutTurn}
 use Rattle.dcsctp_core.specs.Handling.{TakesIn, CutIn}
 use Rattle.dcsctp_core.proofs.Moving.{moves_one, moves_still}
-use Rattle.dcsctp_ends.specs.Ends.{violation_in, aborting_turn, shutdown_ack_turn, error_turn}
+use Rattle.dcsctp_ends.specs.Ends.{violation_in, aborting_turn, error_turn}
+use Rattle.dcsctp_shutdown.specs.Shutdown.{is_open, reflected_turn, shutdown_turn}
 use Rattle.dcsctp_calls.specs.Parts.{ChunkMoves, ChunkCut, AckMoves}
 use Rattle.dcsctp_calls.specs.Unknown.{unknown_turn}
 use Rattle.dcsctp_calls.proofs.AckLoop.{no_ack}
@@ -78,44 +80,56 @@ pub violation_cut : {R : Type 0} (old : View R) (tag : ℕ) (content : Content) 
 violation_cut old tag content violation events is cut =
     record { outcome = aborting_turn (reasons.Violation violation) old; turn = (violates old.endpoint tag content violation is).0; cut = cut }
 
--- ---- SHUTDOWN ACK and SHUTDOWN COMPLETE
+-- ---- the chunks of a shutdown
 
--- No phase that there is awaits one.
-acks : (e : Endpoint) (state : State) (tag : ℕ) → ShutdownAckTurn e (core_of state) tag (reflected_outcome e tag)
-acks e Closed tag = refl
-acks e (CookieWait wait) tag = refl
-acks e (CookieEchoed echoed) tag = refl
-acks e (Established tcb) tag = refl
+-- What follows a SHUTDOWN is the next chunk.
+step_follows : (b : Bool) (e : Endpoint) (phase : OpenPhase) (my : Pair) (held : Held) → (step_by b e phase my held).following ≡ next_chunk
+step_follows false e phase my held = refl
+step_follows true e established my held = refl
+step_follows true e shutdown_pending my held = refl
+step_follows true e shutdown_sent my held = refl
+step_follows true e shutdown_received my held = refl
+step_follows true e shutdown_ack_sent my held = refl
 
-pub ack_turn : {R : Type 0} (context : Context R) (tag : ℕ) → ContentTurn (endpoint_of context) tag shutdown_ack (shutdown_ack_turn tag (view_of context))
-ack_turn context tag = acks (endpoint_of context) context.state tag
+shutdown_follows : (e : Endpoint) (core : Core) → (shutdown_outcome e core).following ≡ next_chunk
+shutdown_follows e closed = refl
+shutdown_follows e (cookie_wait my) = refl
+shutdown_follows e (cookie_echoed my held cookie) = refl
+shutdown_follows e (open_in established my held) = step_follows (is_all_acknowledged e.below.transfer) (phase_at e shutdown_received my held) shutdown_received my held
+shutdown_follows e (open_in shutdown_pending my held) = step_follows (is_all_acknowledged e.below.transfer) (phase_at e shutdown_received my held) shutdown_received my held
+shutdown_follows e (open_in shutdown_sent my held) = refl
+shutdown_follows e (open_in shutdown_received my held) = refl
+shutdown_follows e (open_in shutdown_ack_sent my held) = refl
 
-pub ack_worked : {R : Type 0} (stream : R → Stream) (old new : Context R) (tag : ℕ) → Moves stream (view_of old) (shutdown_ack_turn tag (view_of old)) (view_of new)
-    → ChunkMoves stream tag shutdown_ack (view_of old) NextChunk (view_of new)
-ack_worked stream old new tag moves = record { outcome = shutdown_ack_turn tag (view_of old); turn = ack_turn old tag; following = refl; moves = moves }
+pub shutdown_worked : {R : Type 0} (stream : R → Stream) (old new : View R) (tag tsn : ℕ) → Moves stream old (shutdown_turn old) new → ChunkMoves stream tag (shutdown tsn) old NextChunk new
+shutdown_worked stream old new tag tsn moves =
+    record { outcome = shutdown_turn old; turn = refl; following = shutdown_follows old.endpoint old.endpoint.core; moves = moves }
 
-pub ack_cut : {R : Type 0} (old : Context R) (new : View R) (tag : ℕ) → new ≡ view_of old → ChunkCut tag shutdown_ack (view_of old) new.events
-ack_cut {R = R} old new tag same =
-    record {
-      outcome = shutdown_ack_turn tag (view_of old);
-      turn = ack_turn old tag;
-      cut = record { count = 0; added = ap (λ (v : View R). v.events) same ∙ sym (append-nil (view_of old).events) };
-    }
+pub shutdown_cut : {R : Type 0} (old : View R) (tag tsn : ℕ) (events : List (Event (List ℕ))) → CutTurn old (shutdown_turn old) events → ChunkCut tag (shutdown tsn) old events
+shutdown_cut old tag tsn events cut = record { outcome = shutdown_turn old; turn = refl; cut = cut }
+
+-- No association that is set up awaits a SHUTDOWN ACK.
+reflects : (e : Endpoint) (core : Core) (tag : ℕ) → is_open core ≡ false → reflected_outcome e tag ≡ shutdown_ack_outcome e core tag
+reflects e closed tag shut = refl
+reflects e (cookie_wait my) tag shut = refl
+reflects e (cookie_echoed my held cookie) tag shut = refl
+reflects e (open_in phase my held) tag shut = absurd (cc)
 
 pub moves_none : {R : Type 0} (stream : R → Stream) (view : View R) → MovesAll stream view [] view
 moves_none stream view = record { endpoint = refl; events = sym (append-nil view.events); words = sym (append-nil view.words); pairs = sym (append-nil view.pairs); drawn = refl }
 
 -- as a packet's one
-pub ack_done : {R : Type 0} (stream : R → Stream) (old new : Context R) (tag : ℕ) (chunk : Chunk) → chunk ≡ kinds.ShutdownAck → Moves stream (view_of old) (shutdown_ack_turn tag (view_of old)) (view_of new)
-    → AckMoves stream tag (content_in (chunk_content chunk)) (view_of old) (view_of new)
-ack_done stream old new tag chunk is moves =
-    let turn : Turned = worked_as tag shutdown_ack (shutdown_ack_turn tag (view_of old)) in
-    subst (λ (c : Chunk). AckMoves stream tag (content_in (chunk_content c)) (view_of old) (view_of new)) (sym is)
+pub ack_done : {R : Type 0} (stream : R → Stream) (old new : View R) (tag : ℕ) (chunk : Chunk) → is_open old.endpoint.core ≡ false → chunk ≡ kinds.ShutdownAck
+    → Moves stream old (reflected_turn tag old) new → AckMoves stream tag (content_in (chunk_content chunk)) old new
+ack_done stream old new tag chunk shut is moves =
+    let turn : Turned = worked_as tag shutdown_ack (reflected_turn tag old) in
+    subst (λ (c : Chunk). AckMoves stream tag (content_in (chunk_content c)) old new) (sym is)
     (record {
       turns = turn ∷ [];
       goes_on = (refl, tt);
-      are = (record { is = refl; comes = ack_turn old tag }, tt);
-      moves = moves_one stream (view_of old) (view_of new) turn moves;
+      are = (record { is = refl; comes = reflects old.endpoint old.endpoint.core tag shut }, tt);
+      moves = moves_one stream old new turn moves;
+      core = ap (λ (e : Endpoint). e.core) moves.endpoint;
     })
 
 pub not_ack : {R : Type 0} (stream : R → Stream) (view : View R) (tag : ℕ) (chunk : Chunk) → (chunk ≡ kinds.ShutdownAck → ⊥) → AckMoves stream tag (content_in (chunk_content chunk)) view view
@@ -125,21 +139,7 @@ not_ack stream view tag chunk other =
       goes_on = tt;
       are = subst (λ (contents : List Content). ChunkTurns view.endpoint tag contents [] []) (sym (no_ack chunk other)) tt;
       moves = moves_none stream view;
-    }
-
-completes : (e : Endpoint) (state : State) (tag : ℕ) (reflected : Bool) → ShutdownCompleteTurn e (core_of state) tag reflected (still e)
-completes e Closed tag reflected = refl
-completes e (CookieWait wait) tag reflected = refl
-completes e (CookieEchoed echoed) tag reflected = refl
-completes e (Established tcb) tag reflected = refl
-
-pub complete_worked : {R : Type 0} (stream : R → Stream) (context : Context R) (tag : ℕ) (reflected : Bool) → ChunkMoves stream tag (shutdown_complete reflected) (view_of context) NextChunk (view_of context)
-complete_worked stream context tag reflected =
-    record {
-      outcome = still (endpoint_of context);
-      turn = completes (endpoint_of context) context.state tag reflected;
-      following = refl;
-      moves = moves_still stream (view_of context);
+      core = refl;
     }
 
 -- ---- one that isn't known

@@ -11,9 +11,9 @@ use Rattle.dcsctp_machine.specs.Endpoint.{Endpoint, Core, closed, cookie_wait, c
 use Rattle.dcsctp_machine.specs.Outcome.{Outcome, still, fits}
 use Rattle.dcsctp_machine.specs.declared.ends.AbortReason.TheVariants.{TooManyErrors}
 use Rattle.dcsctp_machine.specs.Turn.{Input, act_input, ActTurn, Turn}
-use Rattle.dcsctp_machine.specs.control.Acts.{abort_with, t1_expires, flushes}
+use Rattle.dcsctp_machine.specs.control.Acts.{abort_with, shutdown_repeats, t1_expires, flushes}
 use Rattle.dcsctp_machine.specs.CallTurns.{Turned, turned, Turns, events_of}
-use Rattle.dcsctp_machine.specs.TimeTurns.{Timer, t1_timer, own_timer, deadline, has_come, has_restart, expiry_input, inputs_behind, ExpiryThen, ExpiryTurns}
+use Rattle.dcsctp_machine.specs.TimeTurns.{Timer, t1_timer, own_timer, t2_timer, t2_input, deadline, has_come, has_restart, expiry_input, inputs_behind, ExpiryThen, ExpiryTurns}
 use Rattle.dcsctp_machine.specs.turns.DataOutcomes.{with_transfer, flush_by, AnswersTo, FlushTurn, delay_outcome, LossTurn}
 use Rattle.dcsctp_machine.specs.turns.EndOutcomes.{aborting_outcome}
 use Rattle.dcsctp_machine.specs.turns.FlushOutcomes.{Answer, first_ask, packets_allowed, draft_to, flush_answered}
@@ -21,6 +21,7 @@ use Rattle.dcsctp_machine.specs.turns.HandshakeOutcomes.{echo_emission, EchoAnsw
 use Rattle.dcsctp_machine.specs.turns.HeartbeatOutcomes.{error_counted, interval_outcome, is_exhausted, timeout_outcome}
 use Rattle.dcsctp_machine.specs.turns.OwnTimers.{OwnTimer, acknowledgement_delay, retransmission, heartbeat_interval, heartbeat_timeout, reconfiguration, TimerTurn}
 use Rattle.dcsctp_machine.specs.turns.ReconfigurationOutcomes.{reconfiguration_outcome}
+use Rattle.dcsctp_machine.specs.turns.ShutdownOutcomes.{t2_again_outcome}
 use Rattle.dcsctp_machine.specs.turns.TimerOutcomes.{t1_goes_on, t1_again_by, AgainAnswers, t1_gives_up_outcome}
 use Rattle.dcsctp_machine.proofs.AnswerLemmas.{any_answers}
 use Rattle.dcsctp_machine.proofs.TurnLemmas.{events_of-append}
@@ -98,9 +99,14 @@ own_comes e heartbeat_interval = (interval_outcome e e.core, refl)
 own_comes e heartbeat_timeout = (timeout_outcome e, refl)
 own_comes e reconfiguration = (reconfiguration_outcome e (held_in e.core) e.outstanding, refl)
 
+t2_comes : (e : Endpoint) (restarts : Bool) → Comes e (t2_input restarts)
+t2_comes e true = (t2_again_outcome e, refl)
+t2_comes e false = (aborting_outcome e e.core TooManyErrors, refl)
+
 timer_comes : (e : Endpoint) (timer : Timer) → Comes e (expiry_input e timer)
 timer_comes e t1_timer = t1_comes e (has_restart e.timers.t1)
 timer_comes e (own_timer timer) = own_comes e timer
+timer_comes e t2_timer = t2_comes e (has_restart e.timers.t2)
 
 one_of : (e : Endpoint) (input : Input) → Comes e input → SomeTurns (λ x turns. Turns x (input ∷ []) turns) e
 one_of e input some = (turned input some.0 ∷ [], (record { is = refl; comes = some.1 }, tt))
@@ -140,9 +146,14 @@ expiries_some (timer ∷ timers) has_expired e = expiry_some (has_come e.moment 
 
 -- ---- the options stay
 
+t2_keeps : (e : Endpoint) (restarts : Bool) (o : Outcome) → Turn e (t2_input restarts) o → ports_of o.after.options ≡ ports_of e.options
+t2_keeps e true o turn = ap ports_of (acts_are_controlled e shutdown_repeats o turn).1.options
+t2_keeps e false o turn = ap ports_of (acts_are_controlled e (abort_with TooManyErrors) o turn).1.options
+
 expiry_keeps : (e : Endpoint) (timer : Timer) (o : Outcome) → Turn e (expiry_input e timer) o → ports_of o.after.options ≡ ports_of e.options
 expiry_keeps e t1_timer o turn = ap ports_of (acts_are_controlled e (t1_expires (has_restart e.timers.t1)) o turn).1.options
 expiry_keeps e (own_timer timer) o turn = ap ports_of (timer_controlled e timer o turn).1.options
+expiry_keeps e t2_timer o turn = t2_keeps e (has_restart e.timers.t2) o turn
 
 -- ---- one timer, and those behind it
 
@@ -191,7 +202,7 @@ adds_more ports turns more old new adds =
     }
 
 -- turns that were finished before those that were cut
-adds_behind : {R : Type 0} (stream : R → Stream) (a b : View R) (turns more : List Turned) (events : List (Event (List ℕ))) → ports_of b.endpoint.options ≡ ports_of a.endpoint.options
+pub adds_behind : {R : Type 0} (stream : R → Stream) (a b : View R) (turns more : List Turned) (events : List (Event (List ℕ))) → ports_of b.endpoint.options ≡ ports_of a.endpoint.options
     → MovesAll stream a turns b → AddsFront (ports_of b.endpoint.options) more b.events events → AddsFront (ports_of a.endpoint.options) (turns ++ more) a.events events
 adds_behind stream a b turns more events same moves adds =
     let ports : Ports = ports_of a.endpoint.options in

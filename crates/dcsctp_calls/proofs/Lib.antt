@@ -10,3 +10,4 @@ mod MessageLemmas
 mod ResettingLemmas
 mod TimeLemmas
 mod UnknownLemmas
+mod WholeLemmas

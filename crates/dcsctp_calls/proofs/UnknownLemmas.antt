@@ -18,7 +18,7 @@ use Rattle.dcsctp_machine.specs.Outcome.{Outcome, sends, reports}
 use Rattle.dcsctp_machine.specs.turns.PlainOutcomes.{unknown_text, unknown_error, unknown_report, unknown_told}
 use Rattle.dcsctp_api.specs.Calls.{user_event}
 use Rattle.dcsctp_core.specs.declared.state.State.{State}
-use Rattle.dcsctp_core.specs.declared.state.State.TheVariants.{Closed, CookieWait, CookieEchoed, Established}
+use Rattle.dcsctp_core.specs.declared.state.State.TheVariants.{Closed, CookieWait, CookieEchoed, Open}
 use Rattle.dcsctp_core.specs.declared.transmission_control_block.TransmissionControlBlock.{TransmissionControlBlock}
 use Rattle.dcsctp_core.specs.declared.context.Context.{Context}
 use Rattle.dcsctp_core.specs.View.{View, core_of, tcb_of, held_of, endpoint_of, view_of, Moves, CutTurn}
@@ -59,8 +59,8 @@ reported_at e Closed tcb chunk is = absurd (cc)
 reported_at e (CookieWait wait) tcb chunk is = absurd (cc)
 reported_at e (CookieEchoed echoed) tcb chunk is =
     ap (λ (t : TransmissionControlBlock). sends e [] [] (unknown_report e (held_of t) chunk)) (let same : echoed.tcb ≡ tcb = cc in same)
-reported_at e (Established own) tcb chunk is =
-    ap (λ (t : TransmissionControlBlock). sends e [] [] (unknown_report e (held_of t) chunk)) (let same : own ≡ tcb = cc in same)
+reported_at e (Open opened) tcb chunk is =
+    ap (λ (t : TransmissionControlBlock). sends e [] [] (unknown_report e (held_of t) chunk)) (let same : opened.tcb ≡ tcb = cc in same)
 
 pub report_moves : {R : Type 0} (stream : R → Stream) (old new : Context R) (tcb : TransmissionControlBlock) (chunk bytes : List ℕ) (limit : ℕ) (with_checksum : Bool)
     → tcb_of old.state ≡ Some tcb → with_checksum ≡ (tcb.capabilities.zero_checksum_method.0 == 0) → limit ≡ packet_size_limit old.options - 20 → bytes ≡ take limit chunk
@@ -82,7 +82,7 @@ told_is : (e : Endpoint) (state : State) (type : ℕ) (chunk : List ℕ)
 told_is e Closed type chunk = refl
 told_is e (CookieWait wait) type chunk = refl
 told_is e (CookieEchoed echoed) type chunk = refl
-told_is e (Established tcb) type chunk = refl
+told_is e (Open opened) type chunk = refl
 
 -- the error was added
 told_adds : {R : Type 0} (stream : R → Stream) (a b : View R) (type : ℕ) (text : List ℕ) → text ≡ unknown_text type → Moves stream a (reports a.endpoint ParseFailed text) b

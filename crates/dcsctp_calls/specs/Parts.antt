@@ -1,5 +1,5 @@
 -- What the calls of a socket do, by its parts.
-use Rattle.std.specs.Prelude.{◌≡◌, ℕ, Bool, true, false, Result, Ok, Err, List, [], ◌∷◌, ◌++◌}
+use Rattle.std.specs.Prelude.{◌≡◌, ◌⊎◌, ℕ, Bool, true, false, Result, Ok, Err, List, [], ◌∷◌, ◌++◌}
 use Rattle.std.specs.List.{AllByRecursion}
 use Rattle.rand_core.specs.Stream.{Stream}
 use Rattle.dcsctp_wire.specs.Content.{PacketContent}
@@ -7,10 +7,10 @@ use Rattle.dcsctp_machine.specs.Admission.{admits, shutdown_acks_in}
 use Rattle.dcsctp_machine.specs.Packet.{Content, Packet, packet_in}
 use Rattle.dcsctp_machine.specs.Endpoint.{Endpoint}
 use Rattle.dcsctp_machine.specs.Following.{next_chunk}
-use Rattle.dcsctp_machine.specs.Outcome.{Outcome}
+use Rattle.dcsctp_machine.specs.Outcome.{Outcome, still}
 use Rattle.dcsctp_machine.specs.Settings.{ports_of}
 use Rattle.dcsctp_machine.specs.Event.{Event}
-use Rattle.dcsctp_machine.specs.Turn.{ContentTurn, act_input, packet_ends}
+use Rattle.dcsctp_machine.specs.Turn.{ContentTurn, act_input, packet_ends, has_data}
 use Rattle.dcsctp_machine.specs.control.Acts.{Act, connect}
 use Rattle.dcsctp_machine.specs.turns.SettingOutcomes.{Setting, endpoint_with}
 use Rattle.dcsctp_machine.specs.CallTurns.{Turned, IsTurn, Turns, after_all, ChunkTurns, WholeTurns, AdmittedTurns, HandleInput, FirstTurns, FirstOfWhole, FirstAdmitted, CutInput}
@@ -19,6 +19,7 @@ use Rattle.dcsctp_core.specs.declared.context.Context.{Context}
 use Rattle.dcsctp_core.specs.View.{View, view_of, call_start, Moves, MovesAll, CallMoves, CutTurn}
 use Rattle.dcsctp_core.specs.declared.following.Following.{Following}
 use Rattle.dcsctp_core.specs.Handling.{following_of, OnlyDrew}
+use Rattle.dcsctp_shutdown.specs.Shutdown.{answer_turn}
 
 -- A chunk had its turn, and this follows it.
 pub record ChunkMoves {R : Type 0} (stream : R → Stream) (tag : ℕ) (content : Content) (old : View R) (next : Following) (new : View R) : Type 0 where
@@ -27,20 +28,40 @@ pub record ChunkMoves {R : Type 0} (stream : R → Stream) (tag : ℕ) (content 
   pub following : outcome.following ≡ following_of next
   pub moves : Moves stream old outcome new
 
--- The turns of a packet up to its end: whatever its end does, they are whole with it; or the end is dropped, and they are whole.
-abbrev pub TurnsToEnd : Bool → Endpoint → Packet → List Turned → Type 0
-TurnsToEnd true e packet turns = (last : Turned) → IsTurn (after_all e turns) packet_ends last → WholeTurns e packet (turns ++ last ∷ [])
-TurnsToEnd false e packet turns = WholeTurns e packet turns
+-- What stands before the chunks of a packet: data that comes while a SHUTDOWN waits for its answer is answered (RFC 9260,
+-- section 9.2).
+abbrev pub begun_by : {R : Type 0} → Bool → View R → Outcome
+begun_by true view = answer_turn view
+begun_by false view = still view.endpoint
 
--- The chunks of a packet had their turns, behind what stands before them.
+abbrev pub begin_turn : {R : Type 0} → PacketContent → View R → Outcome
+begin_turn packet view = begun_by (has_data (packet_in packet).contents) view
+
+-- the turns of a packet's chunks, and of its end
+abbrev pub ChunksToEnd : Endpoint → Packet → List Turned → Type 0
+ChunksToEnd e packet turns = ChunkTurns e packet.tag packet.contents (packet_ends ∷ []) turns
+
+-- The turns of a packet's chunks up to its end: whatever its end does, they are whole with it; or the end is dropped, and they are
+-- whole.
+abbrev pub TurnsToEnd : Bool → Endpoint → Packet → List Turned → Type 0
+TurnsToEnd true e packet turns = (last : Turned) → IsTurn (after_all e turns) packet_ends last → ChunksToEnd e packet (turns ++ last ∷ [])
+TurnsToEnd false e packet turns = ChunksToEnd e packet turns
+
+-- The chunks of a packet had their turns.
 pub record MoveToEnd {R : Type 0} (stream : R → Stream) (packet : PacketContent) (old : View R) (ends : Bool) (new : View R) : Type 0 where
   pub turns : List Turned
   pub are : TurnsToEnd ends old.endpoint (packet_in packet) turns
   pub moves : MovesAll stream old turns new
   pub ports : ports_of (after_all old.endpoint turns).options ≡ ports_of old.endpoint.options
 
--- The chunks of a packet had their turns, between what stands before them and the packet's end.
+-- The chunks of a packet had their turns, and so had its end.
 pub record ChunksMove {R : Type 0} (stream : R → Stream) (packet : PacketContent) (old new : View R) : Type 0 where
+  pub turns : List Turned
+  pub are : ChunksToEnd old.endpoint (packet_in packet) turns
+  pub moves : MovesAll stream old turns new
+
+-- A packet was worked whole: what stands before its chunks, they, and its end.
+pub record WholeMoves {R : Type 0} (stream : R → Stream) (packet : PacketContent) (old new : View R) : Type 0 where
   pub turns : List Turned
   pub are : WholeTurns old.endpoint (packet_in packet) turns
   pub moves : MovesAll stream old turns new
@@ -51,6 +72,7 @@ pub record AckMoves {R : Type 0} (stream : R → Stream) (tag : ℕ) (content : 
   pub goes_on : AllByRecursion (λ turn. turn.outcome.following ≡ next_chunk) turns
   pub are : ChunkTurns old.endpoint tag (shutdown_acks_in (content ∷ [])) [] turns
   pub moves : MovesAll stream old turns new
+  pub core : new.endpoint.core ≡ old.endpoint.core
 
 -- The SHUTDOWN ACK chunks of a packet had their turns.
 pub record AcksMove {R : Type 0} (stream : R → Stream) (packet : PacketContent) (old new : View R) : Type 0 where
@@ -94,8 +116,17 @@ pub record ChunkCut {R : Type 0} (tag : ℕ) (content : Content) (old : View R) 
   pub turn : ContentTurn old.endpoint tag content outcome
   pub cut : CutTurn old outcome events
 
--- Some chunks of a packet had their turns.
+-- Some chunks of a packet had their turns; or all, and its end was cut.
+abbrev pub FirstToEnd : Endpoint → Packet → List Turned → Type 0
+FirstToEnd e packet turns = FirstTurns e packet.tag packet.contents turns ⊎ ChunksToEnd e packet turns
+
 pub record ChunksCut {R : Type 0} (packet : PacketContent) (old : View R) (events : List (Event (List ℕ))) : Type 0 where
+  pub turns : List Turned
+  pub are : FirstToEnd old.endpoint (packet_in packet) turns
+  pub adds : AddsFront (ports_of old.endpoint.options) turns old.events events
+
+-- A packet that is worked whole had some of its turns.
+pub record WholeCut {R : Type 0} (packet : PacketContent) (old : View R) (events : List (Event (List ℕ))) : Type 0 where
   pub turns : List Turned
   pub are : FirstOfWhole old.endpoint (packet_in packet) turns
   pub adds : AddsFront (ports_of old.endpoint.options) turns old.events events
@@ -141,6 +172,10 @@ WorksToEnd stream packet old (Err error) new = ChunksCut packet (view_of old) (v
 abbrev pub WorksChunks : {R E : Type 0} → (R → Stream) → PacketContent → Context R → Result (Unit {0}) E → Context R → Type 0
 WorksChunks stream packet old (Ok done) new = ChunksMove stream packet (view_of old) (view_of new)
 WorksChunks stream packet old (Err error) new = ChunksCut packet (view_of old) (view_of new).events
+
+abbrev pub WorksWhole : {R E : Type 0} → (R → Stream) → PacketContent → Context R → Result (Unit {0}) E → Context R → Type 0
+WorksWhole stream packet old (Ok done) new = WholeMoves stream packet (view_of old) (view_of new)
+WorksWhole stream packet old (Err error) new = WholeCut packet (view_of old) (view_of new).events
 
 -- Where a growth was refused, nothing has changed.
 abbrev pub WorksAck : {R E : Type 0} → (R → Stream) → ℕ → Content → Context R → Result (Unit {0}) E → Context R → Type 0

@@ -1,14 +1,17 @@
 //! The calls of a socket, over its parts: each is a list of turns.
 
-ghost use Rattle.std.specs.Prelude.{◌≡◌, ◌<◌, true, false, IsOk};
+ghost use Rattle.std.specs.Prelude.{◌≡◌, ◌<◌, true, false, IsOk, map};
 ghost use Rattle.dcsctp_wire.specs.Content.{chunk_content, packet_content};
 ghost use Rattle.dcsctp_machine.specs.Packet.{content_in};
-ghost use Rattle.dcsctp_machine.specs.control.Acts.{abort_with};
+ghost use Rattle.dcsctp_machine.specs.control.Acts.{abort_with, shut_down};
 ghost use Rattle.dcsctp_machine.specs.Settings.{wire_options};
 ghost use Rattle.dcsctp_machine.specs.TimeTurns.{Waits};
-ghost use Rattle.dcsctp_api.specs.Calls.{is_closed};
+ghost use Rattle.dcsctp_machine.specs.Turn.{has_data};
+ghost use Rattle.dcsctp_api.specs.Calls.{is_closed, takes_shutdown};
 ghost use Rattle.dcsctp_core.specs.View.{core_of, endpoint_of};
-ghost use Rattle.dcsctp_calls.specs.Parts.{WorksToEnd, WorksChunks, WorksAck, WorksAcks, WorksPacket, WorksInput, WorksCall, ActTurns, WorksConnect};
+ghost use Rattle.dcsctp_core.specs.Handling.{Tries};
+ghost use Rattle.dcsctp_shutdown.specs.Shutdown.{is_open};
+ghost use Rattle.dcsctp_calls.specs.Parts.{begin_turn, WorksToEnd, WorksChunks, WorksWhole, WorksAck, WorksAcks, WorksPacket, WorksInput, WorksCall, ActTurns, WorksConnect};
 ghost use Rattle.dcsctp_calls.specs.TimeParts.{WorksTime};
 
 use crate::dispatch::handle_chunk;
@@ -18,9 +21,10 @@ use dcsctp_api::{ErrorKind, Options, SocketTime};
 use dcsctp_core::{Context, Following};
 use dcsctp_data::end_packet;
 use dcsctp_decisions::{Admission, admit};
-use dcsctp_ends::{abort_association, handle_shutdown_ack};
+use dcsctp_ends::abort_association;
 use dcsctp_handshake::do_connect;
 use dcsctp_machine::AbortReason;
+use dcsctp_shutdown::{answer_data, do_shutdown, reflect_shutdown_ack};
 use dcsctp_wire::{Chunk, PacketError, SctpPacket, WireOptions};
 use rand_core::Rng;
 use std::alloc::AllocError;
@@ -57,17 +61,49 @@ fn handle_chunks<R: Rng>(
     Ok(())
 }
 
-// Works a chunk, where it is a SHUTDOWN ACK.
+// Is there a DATA chunk among these?
+fn has_data(chunks: &[Chunk<'_>]) -> bool
+    ensures { result ≡ has_data (map content_in (map chunk_content chunks.now)) }
+{
+    for chunk in chunks {
+        if let Chunk::Data(_) = chunk {
+            return true;
+        }
+    }
+    false
+}
+
+// What stands before the chunks of a packet: data that comes while a SHUTDOWN waits for its answer is answered by another.
+// The one error is that a growth was refused. Nothing has changed then.
+fn begin_packet<R: Rng>(context: &mut Context<R>, packet: &SctpPacket<'_>) -> Result<(), AllocError>
+    ensures { Tries R.stream (begin_turn (packet_content packet.now)) context.old result context.new }
+{
+    if has_data(&packet.chunks) {
+        answer_data(context)?;
+    }
+    Ok(())
+}
+
+// Works a packet that is admitted whole. The one error is that a growth was refused.
+fn handle_whole<R: Rng>(context: &mut Context<R>, packet: &SctpPacket<'_>) -> Result<(), AllocError>
+    ensures { WorksWhole R.stream (packet_content packet.now) context.old result context.new }
+{
+    begin_packet(context, packet)?;
+    handle_chunks(context, packet)
+}
+
+// Answers a chunk, where it is a SHUTDOWN ACK: no association that is set up awaits one.
 fn work_shutdown_ack<R: Rng>(
     context: &mut Context<R>,
     header_tag: u32,
     chunk: &Chunk<'_>,
 ) -> Result<(), AllocError>
+    requires { is_open (core_of context.old.state) ≡ false }
     ensures { WorksAck R.stream header_tag (content_in (chunk_content chunk.now)) context.old result
         context.new }
 {
     if let Chunk::ShutdownAck = chunk {
-        handle_shutdown_ack(context, header_tag)?;
+        reflect_shutdown_ack(context, header_tag)?;
         return Ok(());
     }
     Ok(())
@@ -78,6 +114,7 @@ fn handle_shutdown_acks<R: Rng>(
     context: &mut Context<R>,
     packet: &SctpPacket<'_>,
 ) -> Result<(), AllocError>
+    requires { is_open (core_of context.old.state) ≡ false }
     ensures { WorksAcks R.stream (packet_content packet.now) context.old result context.new }
 {
     let header_tag = packet.common_header.verification_tag;
@@ -95,7 +132,7 @@ fn handle_packet<R: Rng>(
     ensures { WorksPacket R.stream (packet_content packet.now) context.old result context.new }
 {
     match admit(&context.state, packet) {
-        Admission::AllChunks => handle_chunks(context, packet)?,
+        Admission::AllChunks => handle_whole(context, packet)?,
         Admission::ShutdownAcksAlone => handle_shutdown_acks(context, packet)?,
         Admission::Refused(refusal) => {
             let text = refusal.text(context.alloc)?;
@@ -144,6 +181,17 @@ pub fn close<R: Rng>(context: &mut Context<R>) -> Result<(), AllocError>
 {
     context.begin_call();
     abort_association(context, AbortReason::CloseCalled)?;
+    Ok(())
+}
+
+/// Shuts the association down (RFC 9260, section 9.2). The one error is that a growth was refused; the first events of
+/// the call may stand then.
+pub fn shutdown<R: Rng>(context: &mut Context<R>) -> Result<(), AllocError>
+    ensures turn { WorksCall R.stream (ActTurns shut_down) context.old result context.new }
+    ensures idle { takes_shutdown (core_of context.old.state) ≡ false → IsOk result }
+{
+    context.begin_call();
+    do_shutdown(context)?;
     Ok(())
 }
 

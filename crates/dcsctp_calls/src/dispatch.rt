@@ -12,13 +12,12 @@ use dcsctp_core::{Context, Following};
 use dcsctp_data::{
     handle_data, handle_forward_tsn, handle_i_data, handle_i_forward_tsn, handle_sack,
 };
-use dcsctp_ends::{
-    abort_association, handle_abort, handle_error, handle_shutdown_ack, violation_of,
-};
+use dcsctp_ends::{abort_association, handle_abort, handle_error, violation_of};
 use dcsctp_handshake::{handle_cookie_ack, handle_cookie_echo, handle_init, handle_init_ack};
 use dcsctp_heartbeat::{handle_heartbeat_ack, handle_heartbeat_request};
 use dcsctp_machine::AbortReason;
 use dcsctp_resets::handle_re_config;
+use dcsctp_shutdown::{handle_shutdown, handle_shutdown_ack, handle_shutdown_complete};
 use dcsctp_wire::Chunk;
 use rand_core::Rng;
 use std::alloc::AllocError;
@@ -64,10 +63,7 @@ fn work_chunk<R: Rng>(
             handle_cookie_ack(context)?;
             Ok(Following::NextChunk)
         }
-        Chunk::ShutdownAck => {
-            handle_shutdown_ack(context, header_tag)?;
-            Ok(Following::NextChunk)
-        }
+        Chunk::ShutdownAck => handle_shutdown_ack(context, header_tag),
         Chunk::HeartbeatRequest(request) => {
             handle_heartbeat_request(context, request)?;
             Ok(Following::NextChunk)
@@ -81,8 +77,7 @@ fn work_chunk<R: Rng>(
             Ok(Following::NextChunk)
         }
         Chunk::Unknown(unknown) => handle_unknown(context, unknown),
-        // No phase that there is awaits it.
-        Chunk::ShutdownComplete(_) => Ok(Following::NextChunk),
+        Chunk::ShutdownComplete(_) => handle_shutdown_complete(context),
         Chunk::Data(data) => {
             handle_data(context, data)?;
             Ok(Following::NextChunk)
@@ -107,7 +102,9 @@ fn work_chunk<R: Rng>(
             handle_re_config(context, re_config)?;
             Ok(Following::NextChunk)
         }
-        // No handler works it yet.
-        Chunk::Shutdown(_) => Ok(Following::NextChunk),
+        Chunk::Shutdown(_) => {
+            handle_shutdown(context)?;
+            Ok(Following::NextChunk)
+        }
     }
 }

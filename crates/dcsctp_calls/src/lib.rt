@@ -12,6 +12,6 @@ mod texts;
 mod timers;
 mod unknown;
 
-pub use calls::{advance_time, close, connect, handle_input};
+pub use calls::{advance_time, close, connect, handle_input, shutdown};
 pub use messages::{get_next_message, reset_streams, send, send_many};
 pub use settings::{set_buffered_amount_low_threshold, set_max_message_size, set_stream_priority};

@@ -1,7 +1,7 @@
 //! Which timers are due, and what follows them.
 
 ghost use Rattle.std.specs.Prelude.{◌≡◌, false, [], ◌∷◌, IsOk};
-ghost use Rattle.dcsctp_machine.specs.TimeTurns.{t1_timer, own_timer, timers_in, NoneIsDue, ExpiryTurns, DueTurns};
+ghost use Rattle.dcsctp_machine.specs.TimeTurns.{t1_timer, own_timer, t2_timer, timers_in, NoneIsDue, ExpiryTurns, DueTurns};
 ghost use Rattle.dcsctp_machine.specs.turns.OwnTimers.{acknowledgement_delay, retransmission, heartbeat_interval, heartbeat_timeout, reconfiguration};
 ghost use Rattle.dcsctp_machine.specs.Turn.{act_input};
 ghost use Rattle.dcsctp_machine.specs.control.Acts.{flushes};
@@ -15,6 +15,7 @@ use dcsctp_handshake::handle_t1;
 use dcsctp_heartbeat::{handle_heartbeat_interval, handle_heartbeat_timeout};
 use dcsctp_machine::AbortReason;
 use dcsctp_resets::handle_reconfiguration;
+use dcsctp_shutdown::handle_t2;
 use rand_core::Rng;
 use std::alloc::AllocError;
 
@@ -51,7 +52,7 @@ fn end_where_held<R: Rng>(context: &mut Context<R>) -> Result<(), AllocError>
         State::Closed => {}
         State::CookieWait(_) => {}
         State::CookieEchoed(_) => end_by_errors(context)?,
-        State::Established(_) => end_or_send(context)?,
+        State::Open(_) => end_or_send(context)?,
     }
     Ok(())
 }
@@ -91,81 +92,94 @@ fn handle_echoed_timers<R: Rng>(context: &mut Context<R>) -> Result<(), AllocErr
     handle_t1_last(context, expired)
 }
 
-// Works the timer of an own request to reset streams, and what follows all timers. The one error is that a growth
-// was refused.
+// Works T2, and what follows all timers. The one error is that a growth was refused.
 fn handle_last_timer<R: Rng>(context: &mut Context<R>, has_expired: bool) -> Result<(), AllocError>
-    ensures turns { WorksTurns R.stream (ExpiryTurns (own_timer reconfiguration ∷ []) has_expired)
-        context.old result context.new }
-    ensures waits { has_expired ≡ false → NoneIsDue (endpoint_of context.old)
-        (own_timer reconfiguration ∷ []) → IsOk result }
+    ensures turns { WorksTurns R.stream (ExpiryTurns (t2_timer ∷ []) has_expired) context.old result
+        context.new }
+    ensures waits { has_expired ≡ false → NoneIsDue (endpoint_of context.old) (t2_timer ∷ [])
+        → IsOk result }
 {
-    let expired = handle_reconfiguration(context)?;
+    let expired = handle_t2(context)?;
     end_expiries(context, expired || has_expired)
 }
 
-// Works the timer of the answer to a HEARTBEAT, that of an own request, and what follows all timers. The one error
-// is that a growth was refused.
-fn handle_last_timers<R: Rng>(context: &mut Context<R>, has_expired: bool) -> Result<(), AllocError>
-    ensures turns { WorksTurns R.stream (ExpiryTurns
-        (own_timer heartbeat_timeout ∷ own_timer reconfiguration ∷ []) has_expired) context.old
-        result context.new }
+// Works the timer of an own request to reset streams, T2, and what follows all timers. The one error is that a growth
+// was refused.
+fn handle_request_timers<R: Rng>(
+    context: &mut Context<R>,
+    has_expired: bool,
+) -> Result<(), AllocError>
+    ensures turns { WorksTurns R.stream (ExpiryTurns (own_timer reconfiguration ∷ t2_timer ∷ [])
+        has_expired) context.old result context.new }
     ensures waits { has_expired ≡ false → NoneIsDue (endpoint_of context.old)
-        (own_timer heartbeat_timeout ∷ own_timer reconfiguration ∷ []) → IsOk result }
+        (own_timer reconfiguration ∷ t2_timer ∷ []) → IsOk result }
 {
-    let expired = handle_heartbeat_timeout(context);
+    let expired = handle_reconfiguration(context)?;
     handle_last_timer(context, expired || has_expired)
 }
 
-// Works the timers of HEARTBEATs, that of an own request, and what follows all timers. The one error is that a
-// growth was refused.
+// Works the timer of the answer to a HEARTBEAT, and those behind it. The one error is that a growth was refused.
+fn handle_answer_timers<R: Rng>(
+    context: &mut Context<R>,
+    has_expired: bool,
+) -> Result<(), AllocError>
+    ensures turns { WorksTurns R.stream (ExpiryTurns (own_timer heartbeat_timeout
+        ∷ own_timer reconfiguration ∷ t2_timer ∷ []) has_expired) context.old result context.new }
+    ensures waits { has_expired ≡ false → NoneIsDue (endpoint_of context.old)
+        (own_timer heartbeat_timeout ∷ own_timer reconfiguration ∷ t2_timer ∷ []) → IsOk result }
+{
+    let expired = handle_heartbeat_timeout(context);
+    handle_request_timers(context, expired || has_expired)
+}
+
+// Works the timers of HEARTBEATs, and those behind them. The one error is that a growth was refused.
 fn handle_heartbeat_timers<R: Rng>(
     context: &mut Context<R>,
     has_expired: bool,
 ) -> Result<(), AllocError>
-    ensures turns { WorksTurns R.stream (ExpiryTurns
-        (own_timer heartbeat_interval ∷ own_timer heartbeat_timeout ∷ own_timer reconfiguration ∷ [])
-        has_expired) context.old result context.new }
+    ensures turns { WorksTurns R.stream (ExpiryTurns (own_timer heartbeat_interval
+        ∷ own_timer heartbeat_timeout ∷ own_timer reconfiguration ∷ t2_timer ∷ []) has_expired)
+        context.old result context.new }
     ensures waits { has_expired ≡ false → NoneIsDue (endpoint_of context.old)
-        (own_timer heartbeat_interval ∷ own_timer heartbeat_timeout ∷ own_timer reconfiguration ∷ [])
-        → IsOk result }
+        (own_timer heartbeat_interval ∷ own_timer heartbeat_timeout ∷ own_timer reconfiguration
+        ∷ t2_timer ∷ []) → IsOk result }
 {
     let expired = handle_heartbeat_interval(context)?;
-    handle_last_timers(context, expired || has_expired)
+    handle_answer_timers(context, expired || has_expired)
 }
 
-// Works the timer of what is in flight, those of HEARTBEATs, that of an own request, and what follows all timers.
-// The one error is that a growth was refused.
+// Works the timer of what is in flight, and those behind it. The one error is that a growth was refused.
 fn handle_further_timers<R: Rng>(
     context: &mut Context<R>,
     has_expired: bool,
 ) -> Result<(), AllocError>
     ensures turns { WorksTurns R.stream (ExpiryTurns (own_timer retransmission
         ∷ own_timer heartbeat_interval ∷ own_timer heartbeat_timeout ∷ own_timer reconfiguration
-        ∷ []) has_expired) context.old result context.new }
+        ∷ t2_timer ∷ []) has_expired) context.old result context.new }
     ensures waits { has_expired ≡ false → NoneIsDue (endpoint_of context.old)
         (own_timer retransmission ∷ own_timer heartbeat_interval ∷ own_timer heartbeat_timeout
-        ∷ own_timer reconfiguration ∷ []) → IsOk result }
+        ∷ own_timer reconfiguration ∷ t2_timer ∷ []) → IsOk result }
 {
     let expired = handle_retransmission(context);
     handle_heartbeat_timers(context, expired || has_expired)
 }
 
-// Works the timers of an open association, each as it stands when its turn comes, and what follows them. The
-// one error is that a growth was refused.
+// Works the timers of an open association: the delay of an acknowledgement, and those behind it. The one error is that
+// a growth was refused.
 fn handle_own_timers<R: Rng>(context: &mut Context<R>) -> Result<(), AllocError>
     ensures turns { WorksTurns R.stream (ExpiryTurns (own_timer acknowledgement_delay
         ∷ own_timer retransmission ∷ own_timer heartbeat_interval ∷ own_timer heartbeat_timeout
-        ∷ own_timer reconfiguration ∷ []) false) context.old result context.new }
+        ∷ own_timer reconfiguration ∷ t2_timer ∷ []) false) context.old result context.new }
     ensures waits { NoneIsDue (endpoint_of context.old) (own_timer acknowledgement_delay
         ∷ own_timer retransmission ∷ own_timer heartbeat_interval ∷ own_timer heartbeat_timeout
-        ∷ own_timer reconfiguration ∷ []) → IsOk result }
+        ∷ own_timer reconfiguration ∷ t2_timer ∷ []) → IsOk result }
 {
     let expired = handle_acknowledgement_delay(context);
     handle_further_timers(context, expired)
 }
 
 /// Works the timers that are due at the present moment: T1 while the association is set up, its own timers
-/// where it is open, and the delay of an acknowledgement in both (RFC 9260, sections 5.1, 6.2, 6.3.3 and 8.3;
+/// where it is open, and the delay of an acknowledgement in both (RFC 9260, sections 5.1, 6.2, 6.3.3, 8.3 and 9.2;
 /// RFC 6525, section 5.1.1). The one error is that a growth was refused.
 pub(crate) fn handle_timers<R: Rng>(context: &mut Context<R>) -> Result<(), AllocError>
     ensures turns { WorksTurns R.stream DueTurns context.old result context.new }
@@ -176,7 +190,7 @@ pub(crate) fn handle_timers<R: Rng>(context: &mut Context<R>) -> Result<(), Allo
         State::Closed => {}
         State::CookieWait(_) => handle_t1_last(context, false)?,
         State::CookieEchoed(_) => handle_echoed_timers(context)?,
-        State::Established(_) => handle_own_timers(context)?,
+        State::Open(_) => handle_own_timers(context)?,
     }
     Ok(())
 }

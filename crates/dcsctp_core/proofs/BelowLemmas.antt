@@ -16,8 +16,9 @@ use Rattle.dcsctp_machine.specs.declared.message.Message.{Message}
 use Rattle.dcsctp_core.specs.Errors.{ErrorCount}
 use Rattle.dcsctp_core.specs.declared.context.Context.{Context}
 use Rattle.dcsctp_core.specs.declared.state.State.{State}
-use Rattle.dcsctp_core.specs.declared.state.State.TheVariants.{CookieEchoed, Established}
+use Rattle.dcsctp_core.specs.declared.state.State.TheVariants.{CookieEchoed, Open}
 use Rattle.dcsctp_core.specs.declared.state.CookieEchoState.{CookieEchoState}
+use Rattle.dcsctp_core.specs.declared.state.OpenState.{OpenState}
 use Rattle.dcsctp_core.specs.declared.transmission_control_block.TransmissionControlBlock.{TransmissionControlBlock}
 use Rattle.std.specs.declared.alloc.AllocError.{AllocError}
 use Rattle.dcsctp_machine.specs.Event.{Event}
@@ -115,10 +116,10 @@ pub sacks_echoed : (tsn : ℕ) (old : State) (echoed : CookieEchoState) (after :
 sacks_echoed tsn old echoed after told telling result is h =
     subst (λ (s : State). SacksBelow tsn (transfer_of s) s told (CookieEchoed (record echoed { tcb = record echoed.tcb { transfer = after } })) telling result) (sym is) (after, refl, h)
 
-pub sacks_established : (tsn : ℕ) (old : State) (tcb : TransmissionControlBlock) (after : Transfer) (told telling : List (Event (List ℕ))) (result : Result HandledSack AllocError) → old ≡ Established tcb
-    → HandlesSack tsn tcb.transfer told after telling result → SacksBelow tsn (transfer_of old) old told (Established (record tcb { transfer = after })) telling result
-sacks_established tsn old tcb after told telling result is h =
-    subst (λ (s : State). SacksBelow tsn (transfer_of s) s told (Established (record tcb { transfer = after })) telling result) (sym is) (after, refl, h)
+pub sacks_open : (tsn : ℕ) (old : State) (opened : OpenState) (after : Transfer) (told telling : List (Event (List ℕ))) (result : Result HandledSack AllocError) → old ≡ Open opened
+    → HandlesSack tsn opened.tcb.transfer told after telling result → SacksBelow tsn (transfer_of old) old told (Open (record opened { tcb = record opened.tcb { transfer = after } })) telling result
+sacks_open tsn old opened after told telling result is h =
+    subst (λ (s : State). SacksBelow tsn (transfer_of s) s told (Open (record opened { tcb = record opened.tcb { transfer = after } })) telling result) (sym is) (after, refl, h)
 
 -- ---- a message that is taken
 
@@ -152,11 +153,11 @@ takes_echoed old echoed after result is first left window none =
     subst (λ (s : State). TakesReady (transfer_of s) s result (CookieEchoed (record echoed { tcb = record echoed.tcb { transfer = after } }))) (sym is)
     (after, refl, takes_first result echoed.tcb.transfer after first left window none)
 
-pub takes_established : (old : State) (tcb : TransmissionControlBlock) (after : Transfer) (result : Option Message) → old ≡ Established tcb
-    → IfSome result (λ message. tcb.transfer.reassembly.messages ≡ message_content message ∷ after.reassembly.messages)
-    → IfSome result (λ message. WithoutFirst tcb.transfer after) → tcb.transfer.reassembly.remaining_bytes ≤ after.reassembly.remaining_bytes
-    → IfNone result ((tcb.transfer.reassembly.messages ≡ []) × (after ≡ tcb.transfer))
-    → TakesReady (transfer_of old) old result (Established (record tcb { transfer = after }))
-takes_established old tcb after result is first left window none =
-    subst (λ (s : State). TakesReady (transfer_of s) s result (Established (record tcb { transfer = after }))) (sym is)
-    (after, refl, takes_first result tcb.transfer after first left window none)
+pub takes_open : (old : State) (opened : OpenState) (after : Transfer) (result : Option Message) → old ≡ Open opened
+    → IfSome result (λ message. opened.tcb.transfer.reassembly.messages ≡ message_content message ∷ after.reassembly.messages)
+    → IfSome result (λ message. WithoutFirst opened.tcb.transfer after) → opened.tcb.transfer.reassembly.remaining_bytes ≤ after.reassembly.remaining_bytes
+    → IfNone result ((opened.tcb.transfer.reassembly.messages ≡ []) × (after ≡ opened.tcb.transfer))
+    → TakesReady (transfer_of old) old result (Open (record opened { tcb = record opened.tcb { transfer = after } }))
+takes_open old opened after result is first left window none =
+    subst (λ (s : State). TakesReady (transfer_of s) s result (Open (record opened { tcb = record opened.tcb { transfer = after } }))) (sym is)
+    (after, refl, takes_first result opened.tcb.transfer after first left window none)

@@ -21,8 +21,8 @@ use Rattle.dcsctp_transfer.specs.Filling.{TellsMore, FillsPacket, is_sack_wanted
 use Rattle.dcsctp_transfer.specs.Forwarding.{Forwards}
 use Rattle.dcsctp_core.specs.declared.context.Context.{Context}
 use Rattle.dcsctp_core.specs.declared.state.State.{State}
-use Rattle.dcsctp_core.specs.declared.state.State.TheVariants.{Closed, CookieWait, CookieEchoed, Established}
-use Rattle.dcsctp_core.specs.View.{View, core_of, tie_of, t1_of, outstanding_of, reconfiguration_of, transfer_of, endpoint_of, view_of}
+use Rattle.dcsctp_core.specs.declared.state.State.TheVariants.{Closed, CookieWait, CookieEchoed, Open}
+use Rattle.dcsctp_core.specs.View.{View, core_of, tie_of, t1_of, t2_of, outstanding_of, reconfiguration_of, transfer_of, endpoint_of, view_of}
 use Rattle.dcsctp_core.specs.Flushing.{packet_for, state_with, AcknowledgesBelow, forward_where, ForwardsAt, BeginsAt, FillsData, timers_where, Fills, AskCut, can_send_below}
 use Rattle.dcsctp_machine.proofs.AnswerLemmas.{some_answer, some_answered}
 use Rattle.dcsctp_core.proofs.FillLemmas.{told_user, Gave, gives_up_none, given_endpoint, requesting_none, fills_by, fills_nothing, chunk_packet}
@@ -34,46 +34,52 @@ core_stays : (state : State) (transfer : Transfer) → core_of (state_with state
 core_stays Closed transfer = refl
 core_stays (CookieWait wait) transfer = refl
 core_stays (CookieEchoed echoed) transfer = refl
-core_stays (Established tcb) transfer = refl
+core_stays (Open opened) transfer = refl
 
 tie_stays : (state : State) (transfer : Transfer) → tie_of (state_with state transfer) ≡ tie_of state
 tie_stays Closed transfer = refl
 tie_stays (CookieWait wait) transfer = refl
 tie_stays (CookieEchoed echoed) transfer = refl
-tie_stays (Established tcb) transfer = refl
+tie_stays (Open opened) transfer = refl
 
 t1_stays : (state : State) (transfer : Transfer) → t1_of (state_with state transfer) ≡ t1_of state
 t1_stays Closed transfer = refl
 t1_stays (CookieWait wait) transfer = refl
 t1_stays (CookieEchoed echoed) transfer = refl
-t1_stays (Established tcb) transfer = refl
+t1_stays (Open opened) transfer = refl
+
+t2_stays : (state : State) (transfer : Transfer) → t2_of (state_with state transfer) ≡ t2_of state
+t2_stays Closed transfer = refl
+t2_stays (CookieWait wait) transfer = refl
+t2_stays (CookieEchoed echoed) transfer = refl
+t2_stays (Open opened) transfer = refl
 
 outstanding_stays : (state : State) (transfer : Transfer) → outstanding_of (state_with state transfer) ≡ outstanding_of state
 outstanding_stays Closed transfer = refl
 outstanding_stays (CookieWait wait) transfer = refl
 outstanding_stays (CookieEchoed echoed) transfer = refl
-outstanding_stays (Established tcb) transfer = refl
+outstanding_stays (Open opened) transfer = refl
 
 reconfiguration_stays : (state : State) (transfer : Transfer) → reconfiguration_of (state_with state transfer) ≡ reconfiguration_of state
 reconfiguration_stays Closed transfer = refl
 reconfiguration_stays (CookieWait wait) transfer = refl
 reconfiguration_stays (CookieEchoed echoed) transfer = refl
-reconfiguration_stays (Established tcb) transfer = refl
+reconfiguration_stays (Open opened) transfer = refl
 
 pub transfer_is : (state : State) (old transfer : Transfer) → transfer_of state ≡ Some old → transfer_of (state_with state transfer) ≡ Some transfer
 transfer_is Closed old transfer holds = absurd (cc)
 transfer_is (CookieWait wait) old transfer holds = absurd (cc)
 transfer_is (CookieEchoed echoed) old transfer holds = refl
-transfer_is (Established tcb) old transfer holds = refl
+transfer_is (Open opened) old transfer holds = refl
 
 -- the endpoint of a context whose state is told apart
-abbrev with_parts : {R : Type 0} → Context R → Core → ℕ → Option RunningTimer → Option OutstandingRequest → Option RunningTimer → Option Transfer → Endpoint
-with_parts context core tie t1 outstanding reconfiguration transfer =
+abbrev with_parts : {R : Type 0} → Context R → Core → ℕ → Option RunningTimer → Option RunningTimer → Option OutstandingRequest → Option RunningTimer → Option Transfer → Endpoint
+with_parts context core tie t1 t2 outstanding reconfiguration transfer =
     record (endpoint_of context) {
       core = core;
       tie = tie;
       outstanding = outstanding;
-      timers = record (endpoint_of context).timers { t1 = t1; reconfiguration = reconfiguration };
+      timers = record (endpoint_of context).timers { t1 = t1; t2 = t2; reconfiguration = reconfiguration };
       below = record (endpoint_of context).below { transfer = transfer };
     }
 
@@ -82,12 +88,13 @@ pub endpoint_with : {R : Type 0} (context : Context R) (old transfer : Transfer)
 endpoint_with context old transfer holds =
     let s : State = context.state in
     let t : State = state_with s transfer in
-    ap (λ (core : Core). with_parts context core (tie_of t) (t1_of t) (outstanding_of t) (reconfiguration_of t) (transfer_of t)) (core_stays s transfer)
-    ∙ ap (λ (tie : ℕ). with_parts context (core_of s) tie (t1_of t) (outstanding_of t) (reconfiguration_of t) (transfer_of t)) (tie_stays s transfer)
-    ∙ ap (λ (t1 : Option RunningTimer). with_parts context (core_of s) (tie_of s) t1 (outstanding_of t) (reconfiguration_of t) (transfer_of t)) (t1_stays s transfer)
-    ∙ ap (λ (own : Option OutstandingRequest). with_parts context (core_of s) (tie_of s) (t1_of s) own (reconfiguration_of t) (transfer_of t)) (outstanding_stays s transfer)
-    ∙ ap (λ (timer : Option RunningTimer). with_parts context (core_of s) (tie_of s) (t1_of s) (outstanding_of s) timer (transfer_of t)) (reconfiguration_stays s transfer)
-    ∙ ap (λ (below : Option Transfer). with_parts context (core_of s) (tie_of s) (t1_of s) (outstanding_of s) (reconfiguration_of s) below) (transfer_is s old transfer holds)
+    ap (λ (core : Core). with_parts context core (tie_of t) (t1_of t) (t2_of t) (outstanding_of t) (reconfiguration_of t) (transfer_of t)) (core_stays s transfer)
+    ∙ ap (λ (tie : ℕ). with_parts context (core_of s) tie (t1_of t) (t2_of t) (outstanding_of t) (reconfiguration_of t) (transfer_of t)) (tie_stays s transfer)
+    ∙ ap (λ (t1 : Option RunningTimer). with_parts context (core_of s) (tie_of s) t1 (t2_of t) (outstanding_of t) (reconfiguration_of t) (transfer_of t)) (t1_stays s transfer)
+    ∙ ap (λ (t2 : Option RunningTimer). with_parts context (core_of s) (tie_of s) (t1_of s) t2 (outstanding_of t) (reconfiguration_of t) (transfer_of t)) (t2_stays s transfer)
+    ∙ ap (λ (own : Option OutstandingRequest). with_parts context (core_of s) (tie_of s) (t1_of s) (t2_of s) own (reconfiguration_of t) (transfer_of t)) (outstanding_stays s transfer)
+    ∙ ap (λ (timer : Option RunningTimer). with_parts context (core_of s) (tie_of s) (t1_of s) (t2_of s) (outstanding_of s) timer (transfer_of t)) (reconfiguration_stays s transfer)
+    ∙ ap (λ (below : Option Transfer). with_parts context (core_of s) (tie_of s) (t1_of s) (t2_of s) (outstanding_of s) (reconfiguration_of s) below) (transfer_is s old transfer holds)
 
 -- ---- what acknowledges, and then data
 

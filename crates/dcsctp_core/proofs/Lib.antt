@@ -6,6 +6,7 @@ pub mod EndLemmas
 pub mod FillLemmas
 pub mod FirstLemmas
 pub mod FlushLemmas
+pub mod ForwardLemmas
 pub mod LoopLemmas
 pub mod Moving
 pub mod ResetLemmas

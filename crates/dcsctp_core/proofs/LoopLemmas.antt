@@ -15,7 +15,7 @@ use Rattle.dcsctp_machine.proofs.FlushKeeps.{asked_keeps, later_begins}
 use Rattle.dcsctp_core.specs.declared.context.Context.{Context}
 use Rattle.dcsctp_machine.specs.declared.options.Options.{Options}
 use Rattle.dcsctp_core.specs.declared.state.State.{State}
-use Rattle.dcsctp_core.specs.declared.state.State.TheVariants.{Closed, CookieWait, CookieEchoed, Established}
+use Rattle.dcsctp_core.specs.declared.state.State.TheVariants.{Closed, CookieWait, CookieEchoed, Open}
 use Rattle.dcsctp_core.specs.declared.transmission_control_block.TransmissionControlBlock.{TransmissionControlBlock}
 use Rattle.dcsctp_core.specs.View.{View, core_of, tcb_of, held_of, endpoint_of, view_of}
 use Rattle.dcsctp_core.specs.Handling.{TakesIn, CutIn, FlushAt}
@@ -76,9 +76,9 @@ held_is (CookieEchoed echoed) tcb held kept holds =
     let same : echoed.tcb ≡ tcb = cc in
     let own : held_of echoed.tcb ≡ held = cc in
     sym own ∙ ap held_of same
-held_is (Established known) tcb held kept holds =
-    let same : known ≡ tcb = cc in
-    let own : held_of known ≡ held = cc in
+held_is (Open opened) tcb held kept holds =
+    let same : opened.tcb ≡ tcb = cc in
+    let own : held_of opened.tcb ≡ held = cc in
     sym own ∙ ap held_of same
 
 -- a packet to it
@@ -154,14 +154,14 @@ held_by_tcb Closed tcb kept = absurd (cc)
 held_by_tcb (CookieWait wait) tcb kept = absurd (cc)
 held_by_tcb (CookieEchoed echoed) tcb kept =
     let same : echoed.tcb ≡ tcb = cc in ap (λ (t : TransmissionControlBlock). Some (held_of t)) same
-held_by_tcb (Established known) tcb kept =
-    let same : known ≡ tcb = cc in ap (λ (t : TransmissionControlBlock). Some (held_of t)) same
+held_by_tcb (Open opened) tcb kept =
+    let same : opened.tcb ≡ tcb = cc in ap (λ (t : TransmissionControlBlock). Some (held_of t)) same
 
 pub none_by_tcb : (state : State) → None ≡ tcb_of state → held_in (core_of state) ≡ None
 none_by_tcb Closed kept = refl
 none_by_tcb (CookieWait wait) kept = refl
 none_by_tcb (CookieEchoed echoed) kept = absurd (cc)
-none_by_tcb (Established tcb) kept = absurd (cc)
+none_by_tcb (Open opened) kept = absurd (cc)
 
 -- any answers to the peer that is held, where one is
 any_to : (e : Endpoint) (peer : Option Held) → (answers : List Answer) × AnswersTo e peer answers

@@ -20,12 +20,12 @@ use Rattle.dcsctp_build.specs.Building.{Building, bytes_remaining}
 use Rattle.dcsctp_machine.specs.Transfer.{QueuedStream, SendQueueState, handing, queue_handing_out, is_none_ready, Transfer}
 use Rattle.dcsctp_core.specs.declared.transmission_control_block.ResetRequest.{ResetRequest}
 use Rattle.dcsctp_core.specs.declared.transmission_control_block.TransmissionControlBlock.{TransmissionControlBlock}
-use Rattle.dcsctp_core.specs.View.{number_of, held_of, core_of, tie_of, t1_of, outstanding_of, reconfiguration_of, transfer_of, endpoint_of, view_of, View}
+use Rattle.dcsctp_core.specs.View.{number_of, held_of, core_of, phase_in, tie_of, t1_of, t2_of, outstanding_of, reconfiguration_of, transfer_of, endpoint_of, view_of, View}
 use Rattle.dcsctp_machine.specs.declared.association.Pair.{Pair}
 use Rattle.dcsctp_machine.specs.declared.association.Held.{Held}
-use Rattle.dcsctp_machine.specs.Endpoint.{Endpoint, Core, cookie_echoed, open_in, established, OutstandingRequest, RunningTimer}
+use Rattle.dcsctp_machine.specs.Endpoint.{Endpoint, Core, cookie_echoed, open_in, OpenPhase, OutstandingRequest, RunningTimer}
 use Rattle.dcsctp_core.specs.declared.state.State.{State}
-use Rattle.dcsctp_core.specs.declared.state.State.TheVariants.{Closed, CookieWait, CookieEchoed, Established}
+use Rattle.dcsctp_core.specs.declared.state.State.TheVariants.{Closed, CookieWait, CookieEchoed, Open}
 use Rattle.dcsctp_core.specs.declared.context.Context.{Context}
 use Rattle.dcsctp_core.specs.Flushing.{BeginsAt, TriesReset}
 
@@ -166,6 +166,7 @@ record Stood (now : ℕ) (begun : Option BegunReset) (old new : State) : Type 0 
   core : core_of new ≡ core_where begun (core_of old)
   tie : tie_of new ≡ tie_of old
   t1 : t1_of new ≡ t1_of old
+  t2 : t2_of new ≡ t2_of old
   outstanding : outstanding_of new ≡ request_begun begun (outstanding_of old)
   reconfiguration : reconfiguration_of new ≡ timer_begun begun now (rto_of (transfer_of old)) (reconfiguration_of old)
   transfer : transfer_of new ≡ transfer_of old
@@ -174,9 +175,9 @@ echoed_core : (begun : Option BegunReset) (my : Pair) (held : Held) (cookie : Li
 echoed_core None my held cookie = refl
 echoed_core (Some begun) my held cookie = refl
 
-open_core : (begun : Option BegunReset) (my : Pair) (held : Held) → open_in established my (held_begun begun held) ≡ core_where begun (open_in established my held)
-open_core None my held = refl
-open_core (Some begun) my held = refl
+open_core : (begun : Option BegunReset) (phase : OpenPhase) (my : Pair) (held : Held) → open_in phase my (held_begun begun held) ≡ core_where begun (open_in phase my held)
+open_core None phase my held = refl
+open_core (Some begun) phase my held = refl
 
 stood : (now : ℕ) (begun : Option BegunReset) (old new : State) (transfer : Transfer) → transfer_of old ≡ Some transfer → BeginsIn now begun old new → Stood now begun old new
 stood now begun Closed new transfer holds h = absurd (cc)
@@ -189,36 +190,39 @@ stood now begun (CookieEchoed echoed) new transfer holds h =
           ∙ echoed_core begun echoed.tcb.my (held_of echoed.tcb) echoed.cookie.items;
       tie = h.1.tie_tag;
       t1 = refl;
+      t2 = refl;
       outstanding = h.1.request;
       reconfiguration = h.1.timer;
       transfer = ap (λ (t : Transfer). Some t) h.1.transfer;
     })
-stood now begun (Established own) new transfer holds h =
+stood now begun (Open opened) new transfer holds h =
     let tcb : TransmissionControlBlock = h.0 in
-    subst (Stood now begun (Established own)) (sym h.2)
+    subst (Stood now begun (Open opened)) (sym h.2)
     (record {
-      core = ap (λ (my : Pair). open_in established my (held_of tcb)) h.1.my ∙ ap (λ (held : Held). open_in established own.my held) h.1.held ∙ open_core begun own.my (held_of own);
+      core = ap (λ (my : Pair). open_in (phase_in opened.phase) my (held_of tcb)) h.1.my ∙ ap (λ (held : Held). open_in (phase_in opened.phase) opened.tcb.my held) h.1.held
+          ∙ open_core begun (phase_in opened.phase) opened.tcb.my (held_of opened.tcb);
       tie = h.1.tie_tag;
       t1 = refl;
+      t2 = refl;
       outstanding = h.1.request;
       reconfiguration = h.1.timer;
       transfer = ap (λ (t : Transfer). Some t) h.1.transfer;
     })
 
 -- the endpoint of a context, by what the machine sees of its state
-abbrev with_parts : {R : Type 0} → Context R → Core → ℕ → Option RunningTimer → Option OutstandingRequest → Option RunningTimer → Option Transfer → SendQueueState → Endpoint
-with_parts context core tie t1 outstanding reconfiguration transfer queue =
+abbrev with_parts : {R : Type 0} → Context R → Core → ℕ → Option RunningTimer → Option RunningTimer → Option OutstandingRequest → Option RunningTimer → Option Transfer → SendQueueState → Endpoint
+with_parts context core tie t1 t2 outstanding reconfiguration transfer queue =
     record (endpoint_of context) {
       core = core;
       tie = tie;
       outstanding = outstanding;
-      timers = record (endpoint_of context).timers { t1 = t1; reconfiguration = reconfiguration };
+      timers = record (endpoint_of context).timers { t1 = t1; t2 = t2; reconfiguration = reconfiguration };
       below = record { queue = queue; transfer = transfer };
     }
 
 begun_whole : {R : Type 0} (begun : Option BegunReset) (context : Context R) (queue : SendQueueState)
     → let s : State = context.state in
-    with_parts context (core_where begun (core_of s)) (tie_of s) (t1_of s) (request_begun begun (outstanding_of s)) (timer_begun begun context.moment (rto_of (transfer_of s)) (reconfiguration_of s)) (transfer_of s) queue
+    with_parts context (core_where begun (core_of s)) (tie_of s) (t1_of s) (t2_of s) (request_begun begun (outstanding_of s)) (timer_begun begun context.moment (rto_of (transfer_of s)) (reconfiguration_of s)) (transfer_of s) queue
     ≡ record (after_begun begun (endpoint_of context)) { below = record (endpoint_of context).below { queue = queue } }
 begun_whole None context queue = refl
 begun_whole (Some begun) context queue = refl
@@ -227,12 +231,13 @@ endpoint_begun : {R : Type 0} (context : Context R) (begun : Option BegunReset) 
     → endpoint_of (record context { state = state; send_queue = queue }) ≡ record (after_begun begun (endpoint_of context)) { below = record (endpoint_of context).below { queue = queue } }
 endpoint_begun context begun state queue h =
     let s : State = context.state in
-    ap (λ (core : Core). with_parts context core (tie_of state) (t1_of state) (outstanding_of state) (reconfiguration_of state) (transfer_of state) queue) h.core
-    ∙ ap (λ (tie : ℕ). with_parts context (core_where begun (core_of s)) tie (t1_of state) (outstanding_of state) (reconfiguration_of state) (transfer_of state) queue) h.tie
-    ∙ ap (λ (t1 : Option RunningTimer). with_parts context (core_where begun (core_of s)) (tie_of s) t1 (outstanding_of state) (reconfiguration_of state) (transfer_of state) queue) h.t1
-    ∙ ap (λ (own : Option OutstandingRequest). with_parts context (core_where begun (core_of s)) (tie_of s) (t1_of s) own (reconfiguration_of state) (transfer_of state) queue) h.outstanding
-    ∙ ap (λ (timer : Option RunningTimer). with_parts context (core_where begun (core_of s)) (tie_of s) (t1_of s) (request_begun begun (outstanding_of s)) timer (transfer_of state) queue) h.reconfiguration
-    ∙ ap (λ (below : Option Transfer). with_parts context (core_where begun (core_of s)) (tie_of s) (t1_of s) (request_begun begun (outstanding_of s))
+    ap (λ (core : Core). with_parts context core (tie_of state) (t1_of state) (t2_of state) (outstanding_of state) (reconfiguration_of state) (transfer_of state) queue) h.core
+    ∙ ap (λ (tie : ℕ). with_parts context (core_where begun (core_of s)) tie (t1_of state) (t2_of state) (outstanding_of state) (reconfiguration_of state) (transfer_of state) queue) h.tie
+    ∙ ap (λ (t1 : Option RunningTimer). with_parts context (core_where begun (core_of s)) (tie_of s) t1 (t2_of state) (outstanding_of state) (reconfiguration_of state) (transfer_of state) queue) h.t1
+    ∙ ap (λ (t2 : Option RunningTimer). with_parts context (core_where begun (core_of s)) (tie_of s) (t1_of s) t2 (outstanding_of state) (reconfiguration_of state) (transfer_of state) queue) h.t2
+    ∙ ap (λ (own : Option OutstandingRequest). with_parts context (core_where begun (core_of s)) (tie_of s) (t1_of s) (t2_of s) own (reconfiguration_of state) (transfer_of state) queue) h.outstanding
+    ∙ ap (λ (timer : Option RunningTimer). with_parts context (core_where begun (core_of s)) (tie_of s) (t1_of s) (t2_of s) (request_begun begun (outstanding_of s)) timer (transfer_of state) queue) h.reconfiguration
+    ∙ ap (λ (below : Option Transfer). with_parts context (core_where begun (core_of s)) (tie_of s) (t1_of s) (t2_of s) (request_begun begun (outstanding_of s))
     (timer_begun begun context.moment (rto_of (transfer_of s)) (reconfiguration_of s)) below queue) h.transfer
     ∙ begun_whole begun context queue
 

@@ -5,7 +5,7 @@ use Rattle.dcsctp_machine.specs.Endpoint.{started}
 use Rattle.dcsctp_send.specs.Timer.{TimerModel}
 use Rattle.dcsctp_machine.specs.turns.BegunResets.{reconfiguration_settings}
 use Rattle.dcsctp_core.specs.declared.state.State.{State}
-use Rattle.dcsctp_core.specs.declared.state.State.TheVariants.{Closed, CookieWait, CookieEchoed, Established}
+use Rattle.dcsctp_core.specs.declared.state.State.TheVariants.{Closed, CookieWait, CookieEchoed, Open}
 use Rattle.dcsctp_core.specs.declared.transmission_control_block.ResetRequest.{ResetRequest}
 use Rattle.dcsctp_core.specs.declared.transmission_control_block.TransmissionControlBlock.{TransmissionControlBlock}
 
@@ -25,7 +25,7 @@ abbrev pub RetriesIn : ℕ → State → State → Type 0
 RetriesIn now Closed new = new ≡ Closed
 RetriesIn now (CookieWait wait) new = new ≡ CookieWait wait
 RetriesIn now (CookieEchoed echoed) new = (tcb : TransmissionControlBlock) × Retries now echoed.tcb tcb × (new ≡ CookieEchoed (record echoed { tcb = tcb }))
-RetriesIn now (Established old) new = (tcb : TransmissionControlBlock) × Retries now old tcb × (new ≡ Established tcb)
+RetriesIn now (Open opened) new = (tcb : TransmissionControlBlock) × Retries now opened.tcb tcb × (new ≡ Open (record opened { tcb = tcb }))
 
 -- ---- it has ended
 

@@ -19,7 +19,7 @@ use Rattle.dcsctp_transfer.specs.Filling.{TellsMore, FillsPacket, may_give, Ackn
 use Rattle.dcsctp_transfer.specs.Forwarding.{Forwards}
 use Rattle.dcsctp_core.specs.declared.context.Context.{Context}
 use Rattle.dcsctp_core.specs.declared.state.State.{State}
-use Rattle.dcsctp_core.specs.declared.state.State.TheVariants.{Closed, CookieWait, CookieEchoed, Established}
+use Rattle.dcsctp_core.specs.declared.state.State.TheVariants.{Closed, CookieWait, CookieEchoed, Open}
 use Rattle.dcsctp_core.specs.View.{View, core_of, endpoint_of, view_of, transfer_of, Moves}
 
 -- a packet of these chunks that is being built, under this tag
@@ -48,7 +48,7 @@ abbrev pub state_with : State → Transfer → State
 state_with Closed transfer = Closed
 state_with (CookieWait wait) transfer = CookieWait wait
 state_with (CookieEchoed echoed) transfer = CookieEchoed (record echoed { tcb = record echoed.tcb { transfer = transfer } })
-state_with (Established tcb) transfer = Established (record tcb { transfer = transfer })
+state_with (Open opened) transfer = Open (record opened { tcb = record opened.tcb { transfer = transfer } })
 
 -- A packet was filled with data, where a peer is held; whether any went in is told.
 abbrev pub FillsBelow : Option Transfer → SendQueueState → List (Event (List ℕ)) → Building → State → State → SendQueueState → List (Event (List ℕ)) → Building → Bool → Type 0

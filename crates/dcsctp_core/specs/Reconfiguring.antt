@@ -4,7 +4,7 @@ use Rattle.std.specs.Option.{option_map}
 use Rattle.dcsctp_machine.specs.Endpoint.{Endpoint, OutstandingRequest}
 use Rattle.dcsctp_machine.specs.turns.ReconfigurationOutcomes.{reconfiguration_expired, request_expired}
 use Rattle.dcsctp_core.specs.declared.state.State.{State}
-use Rattle.dcsctp_core.specs.declared.state.State.TheVariants.{Closed, CookieWait, CookieEchoed, Established}
+use Rattle.dcsctp_core.specs.declared.state.State.TheVariants.{Closed, CookieWait, CookieEchoed, Open}
 use Rattle.dcsctp_core.specs.declared.transmission_control_block.ResetRequest.{ResetRequest}
 use Rattle.dcsctp_core.specs.declared.transmission_control_block.TransmissionControlBlock.{TransmissionControlBlock}
 use Rattle.dcsctp_core.specs.Timing.{timer_after}
@@ -35,14 +35,14 @@ abbrev pub request_in : State → Option ResetRequest
 request_in Closed = None
 request_in (CookieWait wait) = None
 request_in (CookieEchoed echoed) = echoed.tcb.reset_request
-request_in (Established tcb) = tcb.reset_request
+request_in (Open opened) = opened.tcb.reset_request
 
 -- the state with its association as this makes it
 abbrev pub tcb_changed : (TransmissionControlBlock → TransmissionControlBlock) → State → State
 tcb_changed change Closed = Closed
 tcb_changed change (CookieWait wait) = CookieWait wait
 tcb_changed change (CookieEchoed echoed) = CookieEchoed (record echoed { tcb = change echoed.tcb })
-tcb_changed change (Established tcb) = Established (change tcb)
+tcb_changed change (Open opened) = Open (record opened { tcb = change opened.tcb })
 
 -- ---- of an endpoint
 

@@ -11,7 +11,7 @@ use Rattle.dcsctp_machine.specs.Transfer.{SendQueueState, Transfer}
 use Rattle.dcsctp_machine.specs.Endpoint.{OutstandingRequest, RunningTimer, held_in, started}
 use Rattle.dcsctp_machine.specs.turns.BegunResets.{BegunReset, streams_within, last_assigned_tsn, begun_in, request_contents, queue_requesting, held_begun, reconfiguration_settings}
 use Rattle.dcsctp_core.specs.declared.state.State.{State}
-use Rattle.dcsctp_core.specs.declared.state.State.TheVariants.{Closed, CookieWait, CookieEchoed, Established}
+use Rattle.dcsctp_core.specs.declared.state.State.TheVariants.{Closed, CookieWait, CookieEchoed, Open}
 use Rattle.dcsctp_core.specs.declared.transmission_control_block.ResetRequest.{ResetRequest}
 use Rattle.dcsctp_core.specs.declared.transmission_control_block.TransmissionControlBlock.{TransmissionControlBlock}
 use Rattle.dcsctp_core.specs.View.{held_of, request_of, timer_of, core_of}
@@ -86,7 +86,7 @@ BeginsIn now begun Closed new = new ≡ Closed
 BeginsIn now begun (CookieWait wait) new = new ≡ CookieWait wait
 BeginsIn now begun (CookieEchoed echoed) new =
     (tcb : TransmissionControlBlock) × Begins now begun echoed.tcb tcb × (new ≡ CookieEchoed (record echoed { tcb = tcb }))
-BeginsIn now begun (Established old) new = (tcb : TransmissionControlBlock) × Begins now begun old tcb × (new ≡ Established tcb)
+BeginsIn now begun (Open opened) new = (tcb : TransmissionControlBlock) × Begins now begun opened.tcb tcb × (new ≡ Open (record opened { tcb = tcb }))
 
 pub record BeginsWhere (now : ℕ) (transfer : Transfer) (queue : SendQueueState) (old : State) (packet : Building) (left : SendQueueState) (new : State) (filled : Building) : Type 0 where
   pub begun : Option BegunReset

@@ -12,7 +12,7 @@ use Rattle.dcsctp_core.specs.Handling.{TakesIn, CutIn}
 use Rattle.dcsctp_core.specs.declared.expiry.Expiry.{Expiry}
 use Rattle.dcsctp_core.specs.declared.expiry.Expiry.TheVariants.{NotDue, Again, GaveUp}
 use Rattle.dcsctp_core.specs.declared.state.State.{State}
-use Rattle.dcsctp_core.specs.declared.state.State.TheVariants.{Closed, CookieWait, CookieEchoed, Established}
+use Rattle.dcsctp_core.specs.declared.state.State.TheVariants.{Closed, CookieWait, CookieEchoed, Open}
 
 -- what is said of a timer that runs
 abbrev pub expiry_where : Bool → Bool → Expiry
@@ -34,7 +34,7 @@ abbrev pub t1_told : ℕ → State → State
 t1_told moment Closed = Closed
 t1_told moment (CookieWait wait) = CookieWait (record wait { t1_init = timer_after moment wait.t1_init })
 t1_told moment (CookieEchoed echoed) = CookieEchoed (record echoed { t1_cookie = timer_after moment echoed.t1_cookie })
-t1_told moment (Established tcb) = Established tcb
+t1_told moment (Open opened) = Open opened
 
 -- the view with this endpoint, where a timer has expired
 abbrev pub where_expired : {R : Type 0} → Bool → Endpoint → View R → View R

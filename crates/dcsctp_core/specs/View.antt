@@ -8,7 +8,7 @@ use Rattle.dcsctp_machine.specs.declared.word.Word.TheVariants.{U32, U64}
 use Rattle.dcsctp_machine.specs.Event.{Event}
 use Rattle.dcsctp_machine.specs.declared.association.Held.{Held}
 use Rattle.dcsctp_machine.specs.Transfer.{Transfer, new_transfer}
-use Rattle.dcsctp_machine.specs.Endpoint.{Endpoint, Core, closed, cookie_wait, cookie_echoed, open_in, established, OutstandingRequest, RunningTimer, stopped_timers, heartbeats_begun, fresh_endpoint}
+use Rattle.dcsctp_machine.specs.Endpoint.{Endpoint, Core, closed, cookie_wait, cookie_echoed, open_in, OpenPhase, established, shutdown_pending, shutdown_sent, shutdown_received, shutdown_ack_sent, OutstandingRequest, RunningTimer, stopped_timers, heartbeats_begun, fresh_endpoint}
 use Rattle.dcsctp_machine.specs.Ids.{stream_numbers}
 use Rattle.dcsctp_machine.specs.Outcome.{Outcome, count_up}
 use Rattle.dcsctp_machine.specs.Following.{next_chunk}
@@ -19,7 +19,9 @@ use Rattle.dcsctp_machine.specs.Settings.{ports_of}
 use Rattle.dcsctp_api.specs.Events.{event_content}
 use Rattle.dcsctp_api.specs.Calls.{user_event}
 use Rattle.dcsctp_core.specs.declared.state.State.{State}
-use Rattle.dcsctp_core.specs.declared.state.State.TheVariants.{Closed, CookieWait, CookieEchoed, Established}
+use Rattle.dcsctp_core.specs.declared.state.State.TheVariants.{Closed, CookieWait, CookieEchoed, Open}
+use Rattle.dcsctp_core.specs.declared.state.OpenPhase as phase_types
+use Rattle.dcsctp_core.specs.declared.state.OpenPhase.TheVariants as phases
 use Rattle.dcsctp_core.specs.declared.transmission_control_block.Peer.{Peer}
 use Rattle.dcsctp_core.specs.declared.transmission_control_block.ResetRequest.{ResetRequest}
 use Rattle.dcsctp_core.specs.declared.transmission_control_block.TransmissionControlBlock.{TransmissionControlBlock}
@@ -60,50 +62,72 @@ held_of tcb =
       peer_result = tcb.last_processed_req_result;
     }
 
+-- the phase of an open association
+abbrev pub phase_in : phase_types.OpenPhase → OpenPhase
+phase_in phases.Established = established
+phase_in phases.ShutdownPending = shutdown_pending
+phase_in (phases.ShutdownSent sent) = shutdown_sent
+phase_in phases.ShutdownReceived = shutdown_received
+phase_in (phases.ShutdownAckSent sent) = shutdown_ack_sent
+
+-- T2 belongs to two of them.
+abbrev pub t2_in : phase_types.OpenPhase → Option RunningTimer
+t2_in phases.Established = None
+t2_in phases.ShutdownPending = None
+t2_in (phases.ShutdownSent sent) = sent.t2_shutdown.running
+t2_in phases.ShutdownReceived = None
+t2_in (phases.ShutdownAckSent sent) = sent.t2_shutdown.running
+
 abbrev pub core_of : State → Core
 core_of Closed = closed
 core_of (CookieWait wait) = cookie_wait wait.my
 core_of (CookieEchoed echoed) = cookie_echoed echoed.tcb.my (held_of echoed.tcb) echoed.cookie.items
-core_of (Established tcb) = open_in established tcb.my (held_of tcb)
+core_of (Open opened) = open_in (phase_in opened.phase) opened.tcb.my (held_of opened.tcb)
 
 -- the association with a peer, where one is held
 abbrev pub tcb_of : State → Option TransmissionControlBlock
 tcb_of Closed = None
 tcb_of (CookieWait wait) = None
 tcb_of (CookieEchoed echoed) = Some echoed.tcb
-tcb_of (Established tcb) = Some tcb
+tcb_of (Open opened) = Some opened.tcb
 
 -- the state once its COOKIE ACK has come
 abbrev pub established_from : State → State
 established_from Closed = Closed
 established_from (CookieWait wait) = CookieWait wait
-established_from (CookieEchoed echoed) = Established echoed.tcb
-established_from (Established tcb) = Established tcb
+established_from (CookieEchoed echoed) = Open (record { phase = phases.Established; tcb = echoed.tcb })
+established_from (Open opened) = Open opened
 
 abbrev pub tie_of : State → ℕ
 tie_of Closed = 0
 tie_of (CookieWait wait) = 0
 tie_of (CookieEchoed echoed) = echoed.tcb.tie_tag
-tie_of (Established tcb) = tcb.tie_tag
+tie_of (Open opened) = opened.tcb.tie_tag
 
 abbrev pub t1_of : State → Option RunningTimer
 t1_of Closed = None
 t1_of (CookieWait wait) = wait.t1_init.running
 t1_of (CookieEchoed echoed) = echoed.t1_cookie.running
-t1_of (Established tcb) = None
+t1_of (Open opened) = None
+
+abbrev pub t2_of : State → Option RunningTimer
+t2_of Closed = None
+t2_of (CookieWait wait) = None
+t2_of (CookieEchoed echoed) = None
+t2_of (Open opened) = t2_in opened.phase
 
 -- the own request that is outstanding, and the timer by which it is sent again
 abbrev pub outstanding_of : State → Option OutstandingRequest
 outstanding_of Closed = None
 outstanding_of (CookieWait wait) = None
 outstanding_of (CookieEchoed echoed) = request_of echoed.tcb.reset_request
-outstanding_of (Established tcb) = request_of tcb.reset_request
+outstanding_of (Open opened) = request_of opened.tcb.reset_request
 
 abbrev pub reconfiguration_of : State → Option RunningTimer
 reconfiguration_of Closed = None
 reconfiguration_of (CookieWait wait) = None
 reconfiguration_of (CookieEchoed echoed) = timer_of echoed.tcb.reset_request
-reconfiguration_of (Established tcb) = timer_of tcb.reset_request
+reconfiguration_of (Open opened) = timer_of opened.tcb.reset_request
 
 -- An association that was just made, with this peer and this tie tag.
 pub record IsNew (options : Options) (own : Pair) (peer : Peer) (tie : ℕ) (tcb : TransmissionControlBlock) : Type 0 where
@@ -118,7 +142,7 @@ abbrev pub transfer_of : State → Option Transfer
 transfer_of Closed = None
 transfer_of (CookieWait wait) = None
 transfer_of (CookieEchoed echoed) = Some echoed.tcb.transfer
-transfer_of (Established tcb) = Some tcb.transfer
+transfer_of (Open opened) = Some opened.tcb.transfer
 
 -- What has no place in the parts is as in a socket that was just made.
 abbrev pub endpoint_of : {R : Type 0} → Context R → Endpoint
@@ -132,6 +156,7 @@ endpoint_of context =
       heartbeat_counter = context.heartbeat_counter;
       timers = record stopped_timers {
         t1 = t1_of context.state;
+        t2 = t2_of context.state;
         reconfiguration = reconfiguration_of context.state;
         heartbeat_interval = context.heartbeat_interval.running;
         heartbeat_timeout = context.heartbeat_timeout.running;

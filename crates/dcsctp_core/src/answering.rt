@@ -42,7 +42,7 @@ impl State {
         match self {
             State::Closed | State::CookieWait(_) => None,
             State::CookieEchoed(echoed) => echoed.tcb.outstanding_number(),
-            State::Established(tcb) => tcb.outstanding_number(),
+            State::Open(opened) => opened.tcb.outstanding_number(),
         }
     }
 
@@ -54,7 +54,7 @@ impl State {
         match self {
             State::Closed | State::CookieWait(_) => {}
             State::CookieEchoed(echoed) => echoed.tcb.retry_reset(now),
-            State::Established(tcb) => tcb.retry_reset(now),
+            State::Open(opened) => opened.tcb.retry_reset(now),
         }
     }
 
@@ -67,7 +67,7 @@ impl State {
         match self {
             State::Closed | State::CookieWait(_) => None,
             State::CookieEchoed(echoed) => echoed.tcb.end_reset(),
-            State::Established(tcb) => tcb.end_reset(),
+            State::Open(opened) => opened.tcb.end_reset(),
         }
     }
 }

@@ -24,7 +24,7 @@ fn packets_allowed(options: &Options, state: &State) -> u32
     }
     match state {
         State::CookieEchoed(_) => 1,
-        State::Closed | State::CookieWait(_) | State::Established(_) => {
+        State::Closed | State::CookieWait(_) | State::Open(_) => {
             options.max_burst.unsigned_abs()
         }
     }
@@ -215,8 +215,9 @@ impl<R: Rng> Context<R> {
         Ok(())
     }
 
-    // A packet goes out, unless it is empty, and whether it did is answered.
-    fn send_unless_empty(&mut self, packet: SctpPacketBuilder) -> Result<bool, AllocError>
+    /// Sends a packet, unless it is empty, counts it, and answers whether it went out. `Err`: an allocation failed;
+    /// nothing has changed.
+    pub fn send_unless_empty(&mut self, packet: SctpPacketBuilder) -> Result<bool, AllocError>
         ensures sends { SendsUnlessEmpty packet self.old result self.new }
         ensures size { KeepsSize packet }
     {

@@ -52,7 +52,7 @@ impl State {
         match self {
             State::Closed | State::CookieWait(_) => None,
             State::CookieEchoed(echoed) => echoed.tcb.reconfiguration_deadline(),
-            State::Established(tcb) => tcb.reconfiguration_deadline(),
+            State::Open(opened) => opened.tcb.reconfiguration_deadline(),
         }
     }
 
@@ -65,7 +65,7 @@ impl State {
         match self {
             State::Closed | State::CookieWait(_) => false,
             State::CookieEchoed(echoed) => echoed.tcb.expire_reconfiguration(now),
-            State::Established(tcb) => tcb.expire_reconfiguration(now),
+            State::Open(opened) => opened.tcb.expire_reconfiguration(now),
         }
     }
 
@@ -78,7 +78,7 @@ impl State {
         match self {
             State::Closed | State::CookieWait(_) => false,
             State::CookieEchoed(echoed) => echoed.tcb.end_retry(),
-            State::Established(tcb) => tcb.end_retry(),
+            State::Open(opened) => opened.tcb.end_retry(),
         }
     }
 }

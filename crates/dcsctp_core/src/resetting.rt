@@ -178,7 +178,7 @@ impl State {
         match self {
             State::Closed | State::CookieWait(_) => Ok(()),
             State::CookieEchoed(echoed) => echoed.tcb.begin_reset(alloc, now, queue, packet),
-            State::Established(tcb) => tcb.begin_reset(alloc, now, queue, packet),
+            State::Open(opened) => opened.tcb.begin_reset(alloc, now, queue, packet),
         }
     }
 }

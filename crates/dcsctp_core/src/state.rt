@@ -28,15 +28,69 @@ pub struct CookieEchoState {
     pub tcb: TransmissionControlBlock,
 }
 
+/// A SHUTDOWN or a SHUTDOWN ACK waits for its answer.
+#[derive(Debug, Drop)]
+pub struct ShutdownState {
+    /// When it is sent again. It runs.
+    pub t2_shutdown: Timer,
+}
+
+/// How far an open association is shut down (RFC 9260, section 9.2).
+#[derive(Debug, Drop)]
+pub enum OpenPhase {
+    /// It isn't.
+    Established,
+
+    /// The user shuts it down: what was sent is still to be acknowledged.
+    ShutdownPending,
+
+    /// SHUTDOWN was sent: SHUTDOWN ACK is awaited.
+    ShutdownSent(ShutdownState),
+
+    /// The peer shuts it down: what was sent is still to be acknowledged.
+    ShutdownReceived,
+
+    /// SHUTDOWN ACK was sent: SHUTDOWN COMPLETE is awaited.
+    ShutdownAckSent(ShutdownState),
+}
+
+/// An association whose handshake is over at this end.
+#[derive(Drop)]
+pub struct OpenState {
+    /// How far it is shut down.
+    pub phase: OpenPhase,
+
+    /// The association.
+    pub tcb: TransmissionControlBlock,
+}
+
 /// The state, with the data of its phase.
 ///
 /// ```text
-/// Closed --connect--> CookieWait --INIT ACK--> CookieEchoed --COOKIE ACK--> Established
-///    |                    |                         |                           |
-///    +------------------- COOKIE ECHO, from each, also anew --------------------+
-/// CookieWait --INIT ACK without a cookie--> Closed
-/// CookieEchoed, Established --ABORT--> Closed
-/// CookieWait, CookieEchoed --T1 without restarts--> Closed
+///                                       Closed
+///                                         | connect
+///                                     CookieWait
+///                                         | INIT ACK with a cookie
+///                                    CookieEchoed ----------------------+
+///                                         | COOKIE ACK                  |
+///            shutdown                Established       SHUTDOWN         | shutdown
+///        +--------------------------------+---------------------+       |
+///        v                                                      v       |
+///  ShutdownPending <---- (from CookieEchoed) ---- - - - - - - - | - - --+
+///        |    |  SHUTDOWN                                       |
+///        |    +--------------------------------------> ShutdownReceived
+///        | all acknowledged                                     | all acknowledged
+///        v                 SHUTDOWN                             v
+///  ShutdownSent -------------------------------------> ShutdownAckSent
+///        | SHUTDOWN ACK                                         | SHUTDOWN ACK or COMPLETE
+///        v                                                      v
+///     Closed                                                  Closed
+///
+/// COOKIE ECHO leads from each phase to Established where its cookie makes an association; but for a restart in
+/// ShutdownAckSent, which is refused.
+/// close, an ABORT, a violation and too many errors lead from each phase to Closed; so do an INIT ACK without a
+/// cookie and shutdown in CookieWait, T1 without restarts in CookieWait and CookieEchoed, and T2 without restarts
+/// in ShutdownSent and ShutdownAckSent.
 /// ```
 #[derive(Drop)]
 pub enum State {
@@ -50,7 +104,52 @@ pub enum State {
     CookieEchoed(CookieEchoState),
 
     /// The handshake is over at this end.
-    Established(TransmissionControlBlock),
+    Open(OpenState),
+}
+
+impl OpenPhase {
+    ghost use Rattle.std.specs.Prelude.{◌≡◌};
+    ghost use Rattle.dcsctp_machine.specs.Endpoint.{phase_of};
+    ghost use Rattle.dcsctp_machine.specs.turns.MessageOutcomes.{is_shutting_in};
+    ghost use Rattle.dcsctp_api.specs.Calls.{open_state};
+    ghost use Rattle.dcsctp_core.specs.View.{phase_in};
+
+    /// The phase as a user sees it.
+    fn phase(&self) -> Phase
+        ensures { result ≡ phase_of (phase_in self.now) }
+    {
+        match self {
+            OpenPhase::Established => Phase::Established,
+            OpenPhase::ShutdownPending => Phase::ShutdownPending,
+            OpenPhase::ShutdownSent(_) => Phase::ShutdownSent,
+            OpenPhase::ShutdownReceived => Phase::ShutdownReceived,
+            OpenPhase::ShutdownAckSent(_) => Phase::ShutdownAckSent,
+        }
+    }
+
+    /// Is the association being shut down?
+    fn is_shutting_down(&self) -> bool
+        ensures { result ≡ is_shutting_in (phase_in self.now) }
+    {
+        match self {
+            OpenPhase::Established => false,
+            OpenPhase::ShutdownPending | OpenPhase::ShutdownSent(_) => true,
+            OpenPhase::ShutdownReceived | OpenPhase::ShutdownAckSent(_) => true,
+        }
+    }
+
+    /// What a user is told of the state.
+    fn socket_state(&self) -> SocketState
+        ensures { result ≡ open_state (phase_in self.now) }
+    {
+        match self {
+            OpenPhase::Established => SocketState::Connected,
+            OpenPhase::ShutdownPending | OpenPhase::ShutdownSent(_) => SocketState::ShuttingDown,
+            OpenPhase::ShutdownReceived | OpenPhase::ShutdownAckSent(_) => {
+                SocketState::ShuttingDown
+            }
+        }
+    }
 }
 
 impl State {
@@ -70,7 +169,7 @@ impl State {
         match self {
             State::Closed | State::CookieWait(_) => None,
             State::CookieEchoed(echoed) => Some(&echoed.tcb),
-            State::Established(tcb) => Some(tcb),
+            State::Open(opened) => Some(&opened.tcb),
         }
     }
 
@@ -79,10 +178,13 @@ impl State {
         ensures { self.new ≡ established_from self.old }
     {
         *self = match std::mem::replace(self, State::Closed) {
-            State::CookieEchoed(echoed) => State::Established(echoed.tcb),
+            State::CookieEchoed(echoed) => State::Open(OpenState {
+                phase: OpenPhase::Established,
+                tcb: echoed.tcb,
+            }),
             State::Closed => State::Closed,
             State::CookieWait(wait) => State::CookieWait(wait),
-            State::Established(tcb) => State::Established(tcb),
+            State::Open(opened) => State::Open(opened),
         };
     }
 
@@ -92,7 +194,7 @@ impl State {
     {
         match self {
             State::Closed => true,
-            State::CookieWait(_) | State::CookieEchoed(_) | State::Established(_) => false,
+            State::CookieWait(_) | State::CookieEchoed(_) | State::Open(_) => false,
         }
     }
 
@@ -104,7 +206,7 @@ impl State {
             State::Closed => 0,
             State::CookieWait(wait) => wait.my.tag,
             State::CookieEchoed(echoed) => echoed.tcb.my.tag,
-            State::Established(tcb) => tcb.my.tag,
+            State::Open(opened) => opened.tcb.my.tag,
         }
     }
 
@@ -120,7 +222,7 @@ impl State {
                 held: None,
             }),
             State::CookieEchoed(echoed) => Some(echoed.tcb.association(Phase::CookieEchoed)),
-            State::Established(tcb) => Some(tcb.association(Phase::Established)),
+            State::Open(opened) => Some(opened.tcb.association(opened.phase.phase())),
         }
     }
 
@@ -129,7 +231,7 @@ impl State {
         ensures { result ≡ running_deadline (t1_of self.now) }
     {
         match self {
-            State::Closed | State::Established(_) => None,
+            State::Closed | State::Open(_) => None,
             State::CookieWait(wait) => wait.t1_init.next_expiry(),
             State::CookieEchoed(echoed) => echoed.t1_cookie.next_expiry(),
         }
@@ -145,7 +247,7 @@ impl State {
             State::Closed => Expiry::NotDue,
             State::CookieWait(wait) => expire(&mut wait.t1_init, now),
             State::CookieEchoed(echoed) => expire(&mut echoed.t1_cookie, now),
-            State::Established(_) => Expiry::NotDue,
+            State::Open(_) => Expiry::NotDue,
         }
     }
 
@@ -155,7 +257,8 @@ impl State {
     {
         match self {
             State::Closed => false,
-            State::CookieWait(_) | State::CookieEchoed(_) | State::Established(_) => false,
+            State::CookieWait(_) | State::CookieEchoed(_) => false,
+            State::Open(opened) => opened.phase.is_shutting_down(),
         }
     }
 
@@ -167,7 +270,7 @@ impl State {
             State::Closed => SocketState::Closed,
             State::CookieWait(_) => SocketState::Connecting,
             State::CookieEchoed(_) => SocketState::Connecting,
-            State::Established(_) => SocketState::Connected,
+            State::Open(opened) => opened.phase.socket_state(),
         }
     }
 }

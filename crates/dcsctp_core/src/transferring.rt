@@ -38,7 +38,7 @@ impl State {
                 .tcb
                 .transfer
                 .fill_packet(events, queue, now, packet),
-            State::Established(tcb) => tcb.transfer.fill_packet(events, queue, now, packet),
+            State::Open(opened) => opened.tcb.transfer.fill_packet(events, queue, now, packet),
         }
     }
 
@@ -49,7 +49,7 @@ impl State {
         match self {
             State::Closed | State::CookieWait(_) => false,
             State::CookieEchoed(echoed) => echoed.tcb.transfer.may_fill(queue),
-            State::Established(tcb) => tcb.transfer.may_fill(queue),
+            State::Open(opened) => opened.tcb.transfer.may_fill(queue),
         }
     }
 
@@ -61,7 +61,7 @@ impl State {
         match self {
             State::Closed | State::CookieWait(_) => false,
             State::CookieEchoed(echoed) => may_fill_first(&echoed.tcb.transfer, queue),
-            State::Established(tcb) => may_fill_first(&tcb.transfer, queue),
+            State::Open(opened) => may_fill_first(&opened.tcb.transfer, queue),
         }
     }
 
@@ -80,7 +80,7 @@ impl State {
             State::CookieEchoed(echoed) => {
                 echoed.tcb.transfer.acknowledge(also_if_delayed, packet)
             }
-            State::Established(tcb) => tcb.transfer.acknowledge(also_if_delayed, packet),
+            State::Open(opened) => opened.tcb.transfer.acknowledge(also_if_delayed, packet),
         }
     }
 
@@ -105,7 +105,7 @@ impl State {
                 .tcb
                 .transfer
                 .forward_tsn(events, queue, now, packet),
-            State::Established(tcb) => tcb.transfer.forward_tsn(events, queue, now, packet),
+            State::Open(opened) => opened.tcb.transfer.forward_tsn(events, queue, now, packet),
         }
     }
 
@@ -116,7 +116,7 @@ impl State {
         match self {
             State::Closed | State::CookieWait(_) => false,
             State::CookieEchoed(echoed) => echoed.tcb.transfer.can_send_data(),
-            State::Established(tcb) => tcb.transfer.can_send_data(),
+            State::Open(opened) => opened.tcb.transfer.can_send_data(),
         }
     }
 
@@ -126,7 +126,7 @@ impl State {
     {
         match self {
             State::Closed | State::CookieWait(_) => false,
-            State::CookieEchoed(_) | State::Established(_) => true,
+            State::CookieEchoed(_) | State::Open(_) => true,
         }
     }
 
@@ -145,7 +145,7 @@ impl State {
             State::CookieEchoed(echoed) => {
                 echoed.tcb.transfer.receive_data(tsn, immediate_ack, chunk)
             }
-            State::Established(tcb) => tcb.transfer.receive_data(tsn, immediate_ack, chunk),
+            State::Open(opened) => opened.tcb.transfer.receive_data(tsn, immediate_ack, chunk),
         }
     }
 
@@ -164,9 +164,10 @@ impl State {
                 .tcb
                 .transfer
                 .handle_forward_tsn(new_cumulative_tsn, skipped),
-            State::Established(tcb) => {
-                tcb.transfer.handle_forward_tsn(new_cumulative_tsn, skipped)
-            }
+            State::Open(opened) => opened
+                .tcb
+                .transfer
+                .handle_forward_tsn(new_cumulative_tsn, skipped),
         }
     }
 
@@ -177,7 +178,7 @@ impl State {
         match self {
             State::Closed | State::CookieWait(_) => {}
             State::CookieEchoed(echoed) => echoed.tcb.transfer.end_packet(now),
-            State::Established(tcb) => tcb.transfer.end_packet(now),
+            State::Open(opened) => opened.tcb.transfer.end_packet(now),
         }
     }
 
@@ -188,7 +189,7 @@ impl State {
         match self {
             State::Closed | State::CookieWait(_) => false,
             State::CookieEchoed(echoed) => echoed.tcb.transfer.is_acknowledgement_due(),
-            State::Established(tcb) => tcb.transfer.is_acknowledgement_due(),
+            State::Open(opened) => opened.tcb.transfer.is_acknowledgement_due(),
         }
     }
 
@@ -199,7 +200,7 @@ impl State {
         match self {
             State::Closed | State::CookieWait(_) => None,
             State::CookieEchoed(echoed) => echoed.tcb.transfer.acknowledgement_deadline(),
-            State::Established(tcb) => tcb.transfer.acknowledgement_deadline(),
+            State::Open(opened) => opened.tcb.transfer.acknowledgement_deadline(),
         }
     }
 
@@ -211,7 +212,7 @@ impl State {
         match self {
             State::Closed | State::CookieWait(_) => false,
             State::CookieEchoed(echoed) => echoed.tcb.transfer.expire_acknowledgement(now),
-            State::Established(tcb) => tcb.transfer.expire_acknowledgement(now),
+            State::Open(opened) => opened.tcb.transfer.expire_acknowledgement(now),
         }
     }
 
@@ -222,7 +223,7 @@ impl State {
         match self {
             State::Closed | State::CookieWait(_) => None,
             State::CookieEchoed(echoed) => echoed.tcb.transfer.retransmission_deadline(),
-            State::Established(tcb) => tcb.transfer.retransmission_deadline(),
+            State::Open(opened) => opened.tcb.transfer.retransmission_deadline(),
         }
     }
 
@@ -235,7 +236,7 @@ impl State {
         match self {
             State::Closed | State::CookieWait(_) => false,
             State::CookieEchoed(echoed) => echoed.tcb.transfer.expire_retransmission(now),
-            State::Established(tcb) => tcb.transfer.expire_retransmission(now),
+            State::Open(opened) => opened.tcb.transfer.expire_retransmission(now),
         }
     }
 
@@ -252,7 +253,7 @@ impl State {
         match self {
             State::Closed | State::CookieWait(_) => Ok(HandledSack::Invalid),
             State::CookieEchoed(echoed) => echoed.tcb.transfer.handle_sack(events, now, sack),
-            State::Established(tcb) => tcb.transfer.handle_sack(events, now, sack),
+            State::Open(opened) => opened.tcb.transfer.handle_sack(events, now, sack),
         }
     }
 
@@ -263,7 +264,7 @@ impl State {
         match self {
             State::Closed | State::CookieWait(_) => false,
             State::CookieEchoed(echoed) => echoed.tcb.transfer.has_data_at_once(),
-            State::Established(tcb) => tcb.transfer.has_data_at_once(),
+            State::Open(opened) => opened.tcb.transfer.has_data_at_once(),
         }
     }
 
@@ -278,7 +279,7 @@ impl State {
         match self {
             State::Closed | State::CookieWait(_) => Ok(()),
             State::CookieEchoed(echoed) => echoed.tcb.transfer.fill_at_once(now, packet),
-            State::Established(tcb) => tcb.transfer.fill_at_once(now, packet),
+            State::Open(opened) => opened.tcb.transfer.fill_at_once(now, packet),
         }
     }
 
@@ -289,7 +290,7 @@ impl State {
         match self {
             State::Closed | State::CookieWait(_) => None,
             State::CookieEchoed(echoed) => echoed.tcb.transfer.get_next_message(),
-            State::Established(tcb) => tcb.transfer.get_next_message(),
+            State::Open(opened) => opened.tcb.transfer.get_next_message(),
         }
     }
 
@@ -300,7 +301,7 @@ impl State {
         match self {
             State::Closed | State::CookieWait(_) => 0,
             State::CookieEchoed(echoed) => echoed.tcb.transfer.messages_ready_count(),
-            State::Established(tcb) => tcb.transfer.messages_ready_count(),
+            State::Open(opened) => opened.tcb.transfer.messages_ready_count(),
         }
     }
 }

@@ -21,7 +21,7 @@ use Rattle.dcsctp_machine.proofs.AnswerLemmas.{any_answers}
 use Rattle.dcsctp_api.specs.Calls.{user_event}
 use Rattle.dcsctp_core.specs.declared.context.Context.{Context}
 use Rattle.dcsctp_core.specs.declared.state.State.{State}
-use Rattle.dcsctp_core.specs.declared.state.State.TheVariants.{Closed, CookieWait, CookieEchoed, Established}
+use Rattle.dcsctp_core.specs.declared.state.State.TheVariants.{Closed, CookieWait, CookieEchoed, Open}
 use Rattle.dcsctp_core.specs.View.{View, core_of, held_of, transfer_of, endpoint_of, view_of, Drawn, Moves, CutTurn}
 use Rattle.dcsctp_core.specs.Handling.{TakesIn, CutIn, TakesOne, FlushAt}
 use Rattle.dcsctp_core.specs.Below.{GoesAtOnce, AtOnceAt}
@@ -40,7 +40,7 @@ pub below_of : (state : State) → is_some (transfer_of state) ≡ true → Belo
 below_of Closed some = absurd (cc)
 below_of (CookieWait wait) some = absurd (cc)
 below_of (CookieEchoed echoed) some = record { held = held_of echoed.tcb; transfer = echoed.tcb.transfer; holds = refl; below = refl }
-below_of (Established tcb) some = record { held = held_of tcb; transfer = tcb.transfer; holds = refl; below = refl }
+below_of (Open opened) some = record { held = held_of opened.tcb; transfer = opened.tcb.transfer; holds = refl; below = refl }
 
 -- ---- what goes out at once changes little
 
@@ -110,10 +110,10 @@ whole old mid b fast flush first at second =
     to_held e (held_in (core_of old.state)) (transfer_of old.state) b.held b.transfer (behind [] fast.events flush) b.holds b.below
     (record { fast = fast; resends = resends; answers = flushed.answers; allowed = flushed.allowed; is = ap (behind [] fast.events) flushed.is })
 
-fast_adds : {R : Type 0} (stream : R → Stream) (v mid : View R) (fast : Outcome) → fast.after.options ≡ v.endpoint.options → Moves stream v fast mid → Adds v fast.events mid
+pub fast_adds : {R : Type 0} (stream : R → Stream) (v mid : View R) (fast : Outcome) → fast.after.options ≡ v.endpoint.options → Moves stream v fast mid → Adds v fast.events mid
 fast_adds stream v mid fast same m = record { ports = ap (λ (x : Endpoint). ports_of x.options) m.endpoint ∙ ap ports_of same; events = m.events }
 
-fast_draws : {R : Type 0} (stream : R → Stream) (v mid : View R) (fast : Outcome) → fast.words ≡ [] → fast.effects ≡ [] → Moves stream v fast mid → Draws stream v [] mid
+pub fast_draws : {R : Type 0} (stream : R → Stream) (v mid : View R) (fast : Outcome) → fast.words ≡ [] → fast.effects ≡ [] → Moves stream v fast mid → Draws stream v [] mid
 fast_draws stream v mid fast words effects m =
     record {
       words = m.words ∙ ap (λ (ws : List Word). v.words ++ ws) words;

@@ -12,10 +12,10 @@ use Rattle.dcsctp_machine.specs.Packet.{Emission}
 use Rattle.dcsctp_machine.specs.Transfer.{Transfer}
 use Rattle.dcsctp_machine.specs.Endpoint.{Endpoint, held_in}
 use Rattle.dcsctp_machine.specs.Outcome.{Outcome, still, reports}
-use Rattle.dcsctp_machine.specs.turns.FlushOutcomes.{Answer, draft_to, flush_of, first_ask, packets_allowed}
+use Rattle.dcsctp_machine.specs.turns.FlushOutcomes.{draft_to, flush_of}
 use Rattle.dcsctp_machine.specs.turns.TransferMoves.{TakesSack, has_acknowledged, delivered_events}
 use Rattle.dcsctp_machine.specs.turns.DataOutcomes.{with_transfer, no_tcb_text, is_sack_valid, sack_taken, AcknowledgesBy, SackWhere, SackBy, SackTurn}
-use Rattle.dcsctp_machine.proofs.AnswerLemmas.{any_answers}
+use Rattle.dcsctp_machine.specs.turns.ShutdownOutcomes.{step_outcome}
 use Rattle.dcsctp_api.specs.Calls.{user_event}
 use Rattle.dcsctp_api.specs.Events.{event_content}
 use Rattle.dcsctp_api.specs.declared.events.SocketEvent.{SocketEvent}
@@ -29,12 +29,12 @@ use Rattle.dcsctp_core.specs.Handling.{Tries, report_turn, TakesIn, CutIn, Takes
 use Rattle.dcsctp_core.specs.Flushing.{state_with}
 use Rattle.dcsctp_core.specs.Below.{SacksBelow}
 use Rattle.dcsctp_core.proofs.BelowLemmas.{below_view}
-use Rattle.dcsctp_core.proofs.AtOnceLemmas.{any_fast}
 use Rattle.dcsctp_core.proofs.Composing.{behind, Adds, Draws, moves_behind, moves_as, cut_behind, cut_first}
 use Rattle.dcsctp_core.proofs.Moving.{moves_still}
-use Rattle.dcsctp_data.specs.Sacks.{SackAt, ResendsBy, Resends, ResendsAt}
+use Rattle.dcsctp_data.specs.Sacks.{SackAt, ResendsBy, ProceedsBy, Proceeds, ProceedsAt}
 use Rattle.dcsctp_data.proofs.TakingLemmas.{tries_one, cut_before}
 use Rattle.dcsctp_data.proofs.ResendLemmas.{Below, below_of}
+use Rattle.dcsctp_data.proofs.ProceedLemmas.{some_proceeds}
 
 -- what is told of messages that were delivered, as the user gets it
 told_delivered : (ports : Ports) (ids : List ℕ) → map (user_event ports) (delivered_events ids) ≡ delivered_contents ids
@@ -61,19 +61,22 @@ record Follows (e : Endpoint) (held : Held) (transfer : Transfer) (ids : List �
   by : AcknowledgesBy e held transfer outcome
   is : outcome ≡ behind [] (delivered_events ids) later
 
-follows : (e : Endpoint) (held : Held) (transfer after : Transfer) (ids : List ℕ) (later : Outcome) → TakesSack transfer after → ResendsBy (sack_taken e transfer after) held after later → Follows e held transfer ids later
+follows : (e : Endpoint) (held : Held) (transfer after : Transfer) (ids : List ℕ) (later : Outcome) → TakesSack transfer after → ProceedsBy (sack_taken e transfer after) held after later → Follows e held transfer ids later
 follows e held transfer after ids later takes h =
-    let flush : Outcome = flush_of h.fast.after (draft_to held) h.answers in
+    let stepped : Outcome = step_outcome (sack_taken e transfer after) e.core in
+    let r : ResendsBy stepped.after held after h.later = h.resends in
+    let flush : Outcome = flush_of r.fast.after (draft_to held) r.answers in
     record {
-      outcome = behind [] (delivered_events ids ++ h.fast.events) flush;
-      by = record { left = after; takes = takes; ids = ids; fast = h.fast; resends = h.resends; answers = h.answers; allowed = h.allowed; is = refl };
-      is = ap (λ (es : List (Event Emission)). let o : Outcome = record flush { events = es } in o) (append_assoc (delivered_events ids) h.fast.events flush.events)
-          ∙ ap (behind [] (delivered_events ids)) (sym h.is);
+      outcome = behind [] (delivered_events ids ++ (stepped.events ++ r.fast.events)) flush;
+      by = record { left = after; takes = takes; ids = ids; stepped = stepped; steps = refl; fast = r.fast; resends = r.resends; answers = r.answers; allowed = r.allowed; is = refl };
+      is = ap (λ (es : List (Event Emission)). let o : Outcome = record flush { events = es } in o)
+          (append_assoc (delivered_events ids) (stepped.events ++ r.fast.events) flush.events ∙ ap (λ (es : List (Event Emission)). delivered_events ids ++ es) (append_assoc stepped.events r.fast.events flush.events))
+          ∙ ap (behind [] (delivered_events ids)) (ap (behind [] stepped.events) (sym r.is) ∙ sym h.is);
     }
 
-held_later : (e : Endpoint) (peer : Option Held) (found : Option Transfer) (held : Held) (transfer : Transfer) (o : Outcome) → peer ≡ Some held → found ≡ Some transfer → Resends e peer found o → ResendsBy e held transfer o
+held_later : (e : Endpoint) (peer : Option Held) (found : Option Transfer) (held : Held) (transfer : Transfer) (o : Outcome) → peer ≡ Some held → found ≡ Some transfer → Proceeds e peer found o → ProceedsBy e held transfer o
 held_later e peer found held transfer o holds below h =
-    subst (λ (t : Option Transfer). Resends e (Some held) t o) below (subst (λ (p : Option Held). Resends e p found o) holds h)
+    subst (λ (t : Option Transfer). Proceeds e (Some held) t o) below (subst (λ (p : Option Held). Proceeds e p found o) holds h)
 
 -- the events were added
 delivered_adds : {R : Type 0} (v : View R) (transfer after : Transfer) (ids : List ℕ) → Adds v (delivered_events ids) (sacked_view v transfer after ids)
@@ -82,7 +85,7 @@ delivered_adds v transfer after ids =
 
 taken_at : {R : Type 0} (stream : R → Stream) (old : Context R) (b : Below old.state) (after : Transfer) (ids : List ℕ) (tsn : ℕ) (new : View R)
     → is_sack_valid b.transfer.retransmission tsn ≡ true → TakesSack b.transfer after
-    → TakesIn stream ResendsAt (sacked_view (view_of old) b.transfer after ids) new → TakesIn stream (SackAt tsn) (view_of old) new
+    → TakesIn stream ProceedsAt (sacked_view (view_of old) b.transfer after ids) new → TakesIn stream (SackAt tsn) (view_of old) new
 taken_at stream old b after ids tsn new valid takes h =
     let v = view_of old in
     let e : Endpoint = endpoint_of old in
@@ -97,7 +100,7 @@ taken_at stream old b after ids tsn new valid takes h =
 
 cut_at : {R : Type 0} (old : Context R) (b : Below old.state) (after : Transfer) (ids : List ℕ) (tsn : ℕ) (events : List (Event (List ℕ)))
     → is_sack_valid b.transfer.retransmission tsn ≡ true → TakesSack b.transfer after
-    → CutIn ResendsAt (sacked_view (view_of old) b.transfer after ids) events → CutIn (SackAt tsn) (view_of old) events
+    → CutIn ProceedsAt (sacked_view (view_of old) b.transfer after ids) events → CutIn (SackAt tsn) (view_of old) events
 cut_at old b after ids tsn events valid takes h =
     let v = view_of old in
     let e : Endpoint = endpoint_of old in
@@ -155,14 +158,14 @@ pub still_held : {R : Type 0} (old : Context R) (tsn : ℕ) (acknowledges : Bool
 still_held {R = R} old tsn acknowledges state events mid t is = ap (λ (v : View R). is_some v.endpoint.below.transfer) (is ∙ t.view)
 
 pub sack_done : {R : Type 0} (stream : R → Stream) (old : Context R) (tsn : ℕ) (acknowledges : Bool) (state : State) (events : List SocketEvent) (mid new : Context R) → Taken old tsn acknowledges state events
-    → view_of mid ≡ heeded acknowledges (with_both old state events) → TakesIn stream ResendsAt (view_of mid) (view_of new) → TakesIn stream (SackAt tsn) (view_of old) (view_of new)
+    → view_of mid ≡ heeded acknowledges (with_both old state events) → TakesIn stream ProceedsAt (view_of mid) (view_of new) → TakesIn stream (SackAt tsn) (view_of old) (view_of new)
 sack_done {R = R} stream old tsn acknowledges state events mid new t is h =
-    taken_at stream old t.b t.after t.ids tsn (view_of new) t.valid t.takes (subst (λ (v : View R). TakesIn stream ResendsAt v (view_of new)) (is ∙ t.view) h)
+    taken_at stream old t.b t.after t.ids tsn (view_of new) t.valid t.takes (subst (λ (v : View R). TakesIn stream ProceedsAt v (view_of new)) (is ∙ t.view) h)
 
 pub sack_cut : {R : Type 0} (old : Context R) (tsn : ℕ) (acknowledges : Bool) (state : State) (events : List SocketEvent) (mid new : Context R) → Taken old tsn acknowledges state events
-    → view_of mid ≡ heeded acknowledges (with_both old state events) → CutIn ResendsAt (view_of mid) (view_of new).events → CutIn (SackAt tsn) (view_of old) (view_of new).events
+    → view_of mid ≡ heeded acknowledges (with_both old state events) → CutIn ProceedsAt (view_of mid) (view_of new).events → CutIn (SackAt tsn) (view_of old) (view_of new).events
 sack_cut {R = R} old tsn acknowledges state events mid new t is h =
-    cut_at old t.b t.after t.ids tsn (view_of new).events t.valid t.takes (subst (λ (v : View R). CutIn ResendsAt v (view_of new).events) (is ∙ t.view) h)
+    cut_at old t.b t.after t.ids tsn (view_of new).events t.valid t.takes (subst (λ (v : View R). CutIn ProceedsAt v (view_of new).events) (is ∙ t.view) h)
 
 -- ---- where it isn't valid
 
@@ -212,10 +215,8 @@ same_taken transfer = record { next_tsn = refl; partial_reliability = refl; mess
 -- any outcome that tells this
 some_follows : (e : Endpoint) (held : Held) (transfer : Transfer) (ids : List ℕ) → (later : Outcome) × Follows e held transfer ids later
 some_follows e held transfer ids =
-    let fast = any_fast (sack_taken e transfer transfer) held transfer in
-    let any = any_answers first_ask (packets_allowed fast.0.after.options.max_burst fast.0.after.core) fast.0.after (draft_to held) in
-    let later : Outcome = behind [] fast.0.events (flush_of fast.0.after (draft_to held) any.0) in
-    (later, follows e held transfer transfer ids later (same_taken transfer) (record { fast = fast.0; resends = fast.1; answers = any.0; allowed = any.1; is = refl }))
+    let any = some_proceeds (sack_taken e transfer transfer) held transfer in
+    (any.0, follows e held transfer transfer ids any.0 (same_taken transfer) any.1)
 
 refused_valid : {R : Type 0} (old : Context R) (b : Below old.state) (tsn : ℕ) (ids : List ℕ) (front rest telling : List (Event (List ℕ))) → is_sack_valid b.transfer.retransmission tsn ≡ true
     → delivered_contents ids ≡ front ++ rest → telling ≡ (view_of old).events ++ front → CutIn (SackAt tsn) (view_of old) telling

@@ -7,6 +7,7 @@ use Rattle.dcsctp_machine.specs.Endpoint.{Endpoint, held_in}
 use Rattle.dcsctp_machine.specs.Outcome.{Outcome, still, behind}
 use Rattle.dcsctp_machine.specs.turns.FlushOutcomes.{Answer, draft_to, flush_of, FlushAnswers}
 use Rattle.dcsctp_machine.specs.turns.DataOutcomes.{SackTurn, FastRetransmits}
+use Rattle.dcsctp_machine.specs.turns.ShutdownOutcomes.{step_outcome}
 use Rattle.dcsctp_core.specs.declared.context.Context.{Context}
 use Rattle.dcsctp_core.specs.View.{View, transfer_of}
 use Rattle.dcsctp_core.specs.Handling.{TakesOne}
@@ -30,6 +31,22 @@ Resends e held transfer o = o ≡ still e
 abbrev pub ResendsAt : {R : Type 0} → View R → Outcome → Type 0
 ResendsAt view o = Resends view.endpoint (held_in view.endpoint.core) view.endpoint.below.transfer o
 
+-- A shutdown under way goes on first.
+pub record ProceedsBy (e : Endpoint) (held : Held) (transfer : Transfer) (o : Outcome) : Type 0 where
+  pub later : Outcome
+  pub resends : ResendsBy (step_outcome e e.core).after held transfer later
+  pub is : o ≡ behind [] (step_outcome e e.core).events later
+
+abbrev pub Proceeds : Endpoint → Option Held → Option Transfer → Outcome → Type 0
+Proceeds e (Some held) (Some transfer) o = ProceedsBy e held transfer o
+Proceeds e held transfer o = o ≡ still e
+
+abbrev pub ProceedsAt : {R : Type 0} → View R → Outcome → Type 0
+ProceedsAt view o = Proceeds view.endpoint (held_in view.endpoint.core) view.endpoint.below.transfer o
+
 -- That is so where a peer is held.
+abbrev pub ProceedsWhereHeld : {R E : Type 0} → (R → Stream) → Context R → Result (Unit {0}) E → Context R → Type 0
+ProceedsWhereHeld stream old result new = is_some (transfer_of old.state) ≡ true → TakesOne stream ProceedsAt old result new
+
 abbrev pub ResendsWhereHeld : {R E : Type 0} → (R → Stream) → Context R → Result (Unit {0}) E → Context R → Type 0
 ResendsWhereHeld stream old result new = is_some (transfer_of old.state) ≡ true → TakesOne stream ResendsAt old result new

@@ -4,10 +4,11 @@ ghost use Rattle.std.specs.Prelude.{◌≡◌, if◌then◌else◌};
 ghost use Rattle.dcsctp_machine.specs.turns.DataOutcomes.{no_tcb_text};
 ghost use Rattle.dcsctp_core.specs.View.{view_of, endpoint_of};
 ghost use Rattle.dcsctp_core.specs.Handling.{TakesOne, Tries, report_turn};
-ghost use Rattle.dcsctp_data.specs.Sacks.{SackAt, ResendsWhereHeld};
+ghost use Rattle.dcsctp_data.specs.Sacks.{SackAt, ProceedsWhereHeld, ResendsWhereHeld};
 
 use dcsctp_api::ErrorKind;
 use dcsctp_core::Context;
+use dcsctp_shutdown::step_shutdown;
 use dcsctp_transfer::HandledSack;
 use dcsctp_wire::SackChunk;
 use rand_core::Rng;
@@ -48,8 +49,19 @@ fn resend<R: Rng>(context: &mut Context<R>) -> Result<(), AllocError>
     Ok(())
 }
 
+// A shutdown that waited for the acknowledgement goes on; then what was lost goes out, and what waits. The one error is
+// that a growth was refused. The first events of the turn may stand then.
+fn proceed<R: Rng>(context: &mut Context<R>) -> Result<(), AllocError>
+    ensures { ProceedsWhereHeld R.stream context.old result context.new }
+{
+    step_shutdown(context)?;
+    resend(context)?;
+    Ok(())
+}
+
 /// Works a SACK: what it acknowledges is in flight no longer, and shows that the peer is there; what was lost
-/// goes out again, at once or in the flush behind it (RFC 9260, sections 6.2.1, 7.2.4 and 8.1). One that is
+/// goes out again, at once or in the flush behind it (RFC 9260, sections 6.2.1, 7.2.4 and 8.1). A shutdown that waits for
+/// the last acknowledgement goes on before that (section 9.2). One that is
 /// behind, or of a TSN that was never sent, changes nothing; without an association it is reported.
 ///
 /// The one error is that a growth was refused. The first events of the turn may stand then.
@@ -69,7 +81,7 @@ pub fn handle_sack<R: Rng>(
         HandledSack::Invalid => {}
         HandledSack::Valid { acknowledges } => {
             heed_answer(context, acknowledges);
-            resend(context)?;
+            proceed(context)?;
         }
     }
     Ok(())

@@ -134,7 +134,7 @@ fn admit_shutdown_ack(state: &State, header: u32) -> Admission
 {
     let is_own = header == state.verification_tag();
     match state {
-        State::Established(_) => return admit_where(is_own, Refusal::WrongShutdownAckTag),
+        State::Open(_) => return admit_where(is_own, Refusal::WrongShutdownAckTag),
         State::Closed => {}
         State::CookieWait(_) => {}
         State::CookieEchoed(_) => {}

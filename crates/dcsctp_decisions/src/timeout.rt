@@ -1,7 +1,7 @@
 //! When time has to be told to a socket next.
 
 ghost use Rattle.std.specs.Prelude.{◌≡◌};
-ghost use Rattle.dcsctp_machine.specs.TimeTurns.{own_timer, next_moment};
+ghost use Rattle.dcsctp_machine.specs.TimeTurns.{own_timer, t2_timer, next_moment};
 ghost use Rattle.dcsctp_machine.specs.turns.OwnTimers.{acknowledgement_delay, reconfiguration, retransmission};
 ghost use Rattle.dcsctp_machine.specs.TimeTurns.{deadline};
 ghost use Rattle.dcsctp_core.specs.View.{endpoint_of};
@@ -30,6 +30,13 @@ fn reconfiguration_deadline<R: Rng>(context: &Context<R>) -> Option<SocketTime>
     ensures { result ≡ deadline (endpoint_of context.now) (own_timer reconfiguration) }
 {
     context.state.reconfiguration_deadline()
+}
+
+// When a SHUTDOWN or SHUTDOWN ACK that isn't answered is sent again, where one is.
+fn t2_deadline<R: Rng>(context: &Context<R>) -> Option<SocketTime>
+    ensures { result ≡ deadline (endpoint_of context.now) t2_timer }
+{
+    context.state.t2_deadline()
 }
 
 // The earlier of two moments, of which each may be missing.
@@ -67,17 +74,15 @@ pub fn poll_timeout<R: Rng>(context: &Context<R>) -> SocketTime
     ensures { result ≡ next_moment (endpoint_of context.now) }
 {
     match context.state {
-        State::Established(_) => {
+        State::Open(_) => {
             let own = earlier(
                 acknowledgement_deadline(context),
                 retransmission_deadline(context),
             );
             let interval = earlier(own, context.heartbeat_interval_deadline());
             let answer = earlier(interval, context.heartbeat_timeout_deadline());
-            not_before(
-                context.moment,
-                earlier(answer, reconfiguration_deadline(context)),
-            )
+            let request = earlier(answer, reconfiguration_deadline(context));
+            not_before(context.moment, earlier(request, t2_deadline(context)))
         }
         State::Closed => not_before(context.moment, context.state.t1_deadline()),
         State::CookieWait(_) => not_before(context.moment, context.state.t1_deadline()),

@@ -1,10 +1,10 @@
 -- What the handlers of ends and of ERROR do, as turns of a socket's view (RFC 9260, sections 3.3.10 and 9.1).
-use Rattle.std.specs.Prelude.{ℕ, Option, None, List}
+use Rattle.std.specs.Prelude.{Option, None, List}
 use Rattle.dcsctp_machine.specs.declared.ends.Violation.{Violation}
 use Rattle.dcsctp_machine.specs.declared.ends.AbortReason.{AbortReason}
 use Rattle.dcsctp_machine.specs.Cause.{Cause}
 use Rattle.dcsctp_machine.specs.Outcome.{Outcome}
-use Rattle.dcsctp_machine.specs.turns.EndOutcomes.{abort_outcome, abort_sent, aborting_outcome, reflected_outcome}
+use Rattle.dcsctp_machine.specs.turns.EndOutcomes.{abort_outcome, abort_sent, aborting_outcome}
 use Rattle.dcsctp_machine.specs.turns.PlainOutcomes.{violation_at, error_outcome}
 use Rattle.dcsctp_machine.specs.Packet.{Content, plain}
 use Rattle.dcsctp_machine.specs.Endpoint.{Core}
@@ -25,10 +25,6 @@ abort_sent_turn reason view = abort_sent view.endpoint view.endpoint.core reason
 -- The own end aborts the association.
 abbrev pub aborting_turn : {R : Type 0} → AbortReason → View R → Outcome
 aborting_turn reason view = aborting_outcome view.endpoint view.endpoint.core reason
-
--- A SHUTDOWN ACK that isn't awaited came under this tag.
-abbrev pub shutdown_ack_turn : {R : Type 0} → ℕ → View R → Outcome
-shutdown_ack_turn header view = reflected_outcome view.endpoint header
 
 -- how a chunk breaks what was negotiated
 abbrev pub violation_in : Core → Content → Option Violation

@@ -24,7 +24,7 @@ pub fn handle_abort<R: Rng>(
 {
     match context.state {
         State::Closed | State::CookieWait(_) => Ok(Following::NextChunk),
-        State::CookieEchoed(_) | State::Established(_) => {
+        State::CookieEchoed(_) | State::Open(_) => {
             let text = causes_text(context.alloc, &abort.error_causes)?;
             context.internal_close(ErrorKind::PeerReported, text)?;
             Ok(Following::DroppedRest)

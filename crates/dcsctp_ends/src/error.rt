@@ -23,7 +23,7 @@ pub fn handle_error<R: Rng>(
 {
     match context.state {
         State::Closed | State::CookieWait(_) => {}
-        State::CookieEchoed(_) | State::Established(_) => {
+        State::CookieEchoed(_) | State::Open(_) => {
             let text = causes_text(context.alloc, &error.error_causes)?;
             context.report(ErrorKind::PeerReported, text)?;
         }

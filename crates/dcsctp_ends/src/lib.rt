@@ -1,17 +1,15 @@
 //! How an association ends (RFC 9260, section 9.1): the handler of ABORT, and the own abort, for a reason
-//! of its user or of the socket; what breaks the protocol that was negotiated; the answer to a SHUTDOWN ACK
-//! that isn't awaited; and the handler of ERROR, which ends nothing. They work on the parts that
+//! of its user or of the socket; what breaks the protocol that was negotiated; and the handler of ERROR, which
+//! ends nothing. They work on the parts that
 //! `dcsctp_core` shares.
 #![tactic(auto)]
 
 mod abort;
 mod aborting;
 mod error;
-mod shutdown_ack;
 mod violation;
 
 pub use abort::handle_abort;
 pub use aborting::abort_association;
 pub use error::handle_error;
-pub use shutdown_ack::handle_shutdown_ack;
 pub use violation::violation_of;

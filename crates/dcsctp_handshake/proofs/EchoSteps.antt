@@ -15,18 +15,17 @@ use Rattle.dcsctp_machine.specs.control.Effect.{connects, link_of}
 use Rattle.dcsctp_machine.specs.control.CookieEchoChanges.{Resolution, establish_new, restart, simultaneous_init, discard, maintain_existing, invalid_tag, case_by, case_with_peer, resolve}
 use Rattle.dcsctp_machine.specs.turns.FlushOutcomes.{Answer, FlushAnswers, FlushKind, flush_answered}
 use Rattle.dcsctp_machine.specs.turns.HandshakeOutcomes.{connected_after}
-use Rattle.dcsctp_machine.specs.turns.CookieEchoOutcomes.{restart_by, restart_by_where, maintain_by, resolved_by, cookie_echo_by, discard_outcome, refused_echo_outcome, queue_begun, EstablishAnswers, RestartAnswers, MaintainAnswers, ResolvedAnswers, EchoedAnswers, CookieEchoTurn}
+use Rattle.dcsctp_machine.specs.turns.CookieEchoOutcomes.{maintain_by, resolved_by, cookie_echo_by, discard_outcome, refused_echo_outcome, MaintainAnswers, ResolvedAnswers, EchoedAnswers, CookieEchoTurn}
 use Rattle.dcsctp_core.specs.declared.context.Context.{Context}
+use Rattle.dcsctp_core.specs.declared.following.Following.{Following}
 use Rattle.dcsctp_core.specs.declared.following.Following.TheVariants.{NextChunk, DroppedRest}
-use Rattle.dcsctp_core.specs.declared.state.State.{State}
-use Rattle.dcsctp_core.specs.declared.state.State.TheVariants.{Closed, CookieWait, CookieEchoed, Established}
-use Rattle.dcsctp_core.specs.View.{View, Moves, core_of, view_of, endpoint_of}
+use Rattle.dcsctp_core.specs.View.{View, Moves, view_of, endpoint_of}
 use Rattle.dcsctp_core.specs.Drawing.{long_word}
-use Rattle.dcsctp_core.specs.Handling.{TakesIn, CutIn, HandlesIn}
+use Rattle.dcsctp_core.specs.Handling.{TakesIn, CutIn, HandlesIn, WorksOne}
 use Rattle.dcsctp_core.proofs.Composing.{cut_first}
 use Rattle.dcsctp_core.proofs.Moving.{moves_still}
 use Rattle.dcsctp_handshake.specs.Handshake.{CookieEchoAt}
-use Rattle.dcsctp_handshake.specs.Echoes.{EstablishAt, ReplaceAt, RestartAt, MaintainAt, maintained_by, MaintainedAnswers}
+use Rattle.dcsctp_handshake.specs.Echoes.{EstablishAt, ReplaceAt, RestartWhereAt, MaintainAt, maintained_by, MaintainedAnswers}
 use Rattle.dcsctp_handshake.proofs.FlushSteps.{flush_following}
 
 -- ---- which case it is
@@ -92,42 +91,23 @@ works_replacing_cut stream old es header bytes cookie c t =
       cut = t.cut;
     }
 
--- ---- a restart: no SHUTDOWN ACK was sent
+-- ---- a restart, or its refusal
 
-restart_answers : (e : Endpoint) (cookie : Cookie) (tie : ℕ) (state : State) (answers : List Answer) → EstablishAnswers e cookie (queue_begun e cookie) tie answers
-    → RestartAnswers e cookie tie (core_of state) answers
-restart_answers e cookie tie Closed answers h = h
-restart_answers e cookie tie (CookieWait wait) answers h = h
-restart_answers e cookie tie (CookieEchoed echoed) answers h = h
-restart_answers e cookie tie (Established tcb) answers h = h
-
-restart_is : (flush : FlushKind) (e : Endpoint) (cookie : Cookie) (tie : ℕ) (state : State) → restart_by flush e cookie tie ≡ restart_by_where flush e cookie tie (core_of state)
-restart_is flush e cookie tie Closed = refl
-restart_is flush e cookie tie (CookieWait wait) = refl
-restart_is flush e cookie tie (CookieEchoed echoed) = refl
-restart_is flush e cookie tie (Established tcb) = refl
-
-restart_turn : {R : Type 0} (stream : R → Stream) (old : Context R) (header : ℕ) (bytes : List ℕ) (cookie : Cookie) (o : Outcome) → IsCase (endpoint_of old) header bytes cookie restart
-    → RestartAt stream cookie (view_of old) o → CookieEchoAt header bytes (view_of old) o
-restart_turn stream old header bytes cookie o c turn =
-    let e : Endpoint = endpoint_of old in
-    let tie : ℕ = long_word (stream (view_of old).generator) in
-    turn_of e header bytes cookie tie restart turn.0 o c (restart_answers e cookie tie old.state turn.0 turn.1) (turn.2 ∙ restart_is (flush_answered turn.0) e cookie tie old.state)
-
-pub works_restart : {R : Type 0} (stream : R → Stream) (old : Context R) (new : View R) (header : ℕ) (bytes : List ℕ) (cookie : Cookie) → IsCase (endpoint_of old) header bytes cookie restart
-    → TakesIn stream (RestartAt stream cookie) (view_of old) new → HandlesIn stream (CookieEchoAt header bytes) (view_of old) NextChunk new
-works_restart stream old new header bytes cookie c t =
+pub works_restart : {R E : Type 0} (stream : R → Stream) (old : Context R) (result : Result Following E) (new : Context R) (header : ℕ) (bytes : List ℕ) (cookie : Cookie)
+    → IsCase (endpoint_of old) header bytes cookie restart → WorksOne stream (RestartWhereAt stream cookie) old result new → WorksOne stream (CookieEchoAt header bytes) old result new
+works_restart stream old (Ok next) new header bytes cookie c t =
     record {
       outcome = t.outcome;
-      turn = restart_turn stream old header bytes cookie t.outcome c t.turn;
+      turn = turn_of (endpoint_of old) header bytes cookie (long_word (stream (view_of old).generator)) restart t.turn.0 t.outcome c t.turn.1 t.turn.2;
       moves = t.moves;
-      following = ap (λ (o : Outcome). o.following) t.turn.2 ∙ flush_following _ _ t.turn.0;
+      following = t.following;
     }
-
-pub works_restart_cut : {R : Type 0} (stream : R → Stream) (old : Context R) (es : List (Event (List ℕ))) (header : ℕ) (bytes : List ℕ) (cookie : Cookie) → IsCase (endpoint_of old) header bytes cookie restart
-    → CutIn (RestartAt stream cookie) (view_of old) es → CutIn (CookieEchoAt header bytes) (view_of old) es
-works_restart_cut stream old es header bytes cookie c t =
-    record { outcome = t.outcome; turn = restart_turn stream old header bytes cookie t.outcome c t.turn; cut = t.cut }
+works_restart stream old (Err error) new header bytes cookie c t =
+    record {
+      outcome = t.outcome;
+      turn = turn_of (endpoint_of old) header bytes cookie (long_word (stream (view_of old).generator)) restart t.turn.0 t.outcome c t.turn.1 t.turn.2;
+      cut = t.cut;
+    }
 
 -- ---- the association is held: the cookie's addressee is the peer
 

@@ -24,8 +24,9 @@ use Rattle.dcsctp_machine.proofs.AnswerLemmas.{any_answers}
 use Rattle.dcsctp_core.specs.declared.following.Following.TheVariants.{NextChunk, DroppedRest}
 use Rattle.dcsctp_core.specs.declared.context.Context.{Context}
 use Rattle.dcsctp_core.specs.declared.state.CookieEchoState.{CookieEchoState}
+use Rattle.dcsctp_core.specs.declared.state.OpenState.{OpenState}
 use Rattle.dcsctp_core.specs.declared.state.State.{State}
-use Rattle.dcsctp_core.specs.declared.state.State.TheVariants.{Closed, CookieWait, CookieEchoed, Established}
+use Rattle.dcsctp_core.specs.declared.state.State.TheVariants.{Closed, CookieWait, CookieEchoed, Open}
 use Rattle.dcsctp_core.specs.declared.transmission_control_block.TransmissionControlBlock.{TransmissionControlBlock}
 use Rattle.dcsctp_core.specs.View.{View, Moves, CutTurn, view_of, core_of}
 use Rattle.dcsctp_core.specs.Drawing.{long_word}
@@ -73,7 +74,7 @@ echoes_at : {R : Type 0} (stream : R → Stream) (old : Context R) (state : Stat
 echoes_at stream old Closed is other = echoes_nothing stream (view_of old) closed (ap core_of is) refl refl
 echoes_at stream old (CookieWait wait) is other = echoes_nothing stream (view_of old) (cookie_wait wait.my) (ap core_of is) refl refl
 echoes_at stream old (CookieEchoed echoed) is other = absurd (other echoed refl)
-echoes_at stream old (Established tcb) is other = echoes_nothing stream (view_of old) (core_of (Established tcb)) (ap core_of is) refl refl
+echoes_at stream old (Open opened) is other = echoes_nothing stream (view_of old) (core_of (Open opened)) (ap core_of is) refl refl
 
 pub echoes_elsewhere : {R : Type 0} (stream : R → Stream) (old : Context R) → ((echoed : CookieEchoState) → old.state ≡ CookieEchoed echoed → ⊥) → TakesIn stream EchoAt (view_of old) (view_of old)
 echoes_elsewhere stream old other = echoes_at stream old old.state refl other
@@ -240,11 +241,11 @@ works_other stream old theirs cookie core is other =
 
 -- by its state
 pub works_elsewhere : {R : Type 0} (stream : R → Stream) (old : Context R) (theirs : Introduction) (cookie : Option (List ℕ))
-    → (old.state ≡ Closed) ⊎ (((echoed : CookieEchoState) × (old.state ≡ CookieEchoed echoed)) ⊎ ((tcb : TransmissionControlBlock) × (old.state ≡ Established tcb)))
+    → (old.state ≡ Closed) ⊎ (((echoed : CookieEchoState) × (old.state ≡ CookieEchoed echoed)) ⊎ ((opened : OpenState) × (old.state ≡ Open opened)))
     → HandlesIn stream (InitAckAt theirs cookie) (view_of old) NextChunk (view_of old)
 works_elsewhere stream old theirs cookie (inl is) = works_other stream (view_of old) theirs cookie closed (ap core_of is) tt
 works_elsewhere stream old theirs cookie (inr (inl is)) = works_other stream (view_of old) theirs cookie (core_of (CookieEchoed is.0)) (ap core_of is.1) tt
-works_elsewhere stream old theirs cookie (inr (inr is)) = works_other stream (view_of old) theirs cookie (core_of (Established is.0)) (ap core_of is.1) tt
+works_elsewhere stream old theirs cookie (inr (inr is)) = works_other stream (view_of old) theirs cookie (core_of (Open is.0)) (ap core_of is.1) tt
 
 -- by its cookie, where it is waited for
 init_ack_turn : {R : Type 0} (old : View R) (theirs : Introduction) (found cookie : Option (List ℕ)) (mine : Pair) (tie : ℕ) (answers : List Answer) (o : Outcome)

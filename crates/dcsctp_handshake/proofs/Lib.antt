@@ -3,5 +3,7 @@ mod AssociationSteps
 mod EchoSteps
 mod FlushSteps
 mod InitAckSteps
+mod InitSteps
 mod MaintainSteps
+mod RestartSteps
 mod T1Steps

@@ -6,7 +6,7 @@ use Rattle.dcsctp_machine.specs.declared.association.Pair.{Pair}
 use Rattle.dcsctp_machine.specs.declared.association.Held.{Held}
 use Rattle.dcsctp_machine.specs.Settings.{ports_of}
 use Rattle.dcsctp_machine.specs.Event.{Event, connected}
-use Rattle.dcsctp_machine.specs.Endpoint.{Endpoint, Core, cookie_echoed, open_in, established, held_in}
+use Rattle.dcsctp_machine.specs.Endpoint.{Endpoint, Core, cookie_echoed, open_in, OpenPhase, held_in}
 use Rattle.dcsctp_machine.specs.Outcome.{Outcome, noting, still}
 use Rattle.dcsctp_machine.specs.control.Effect.{connects, link_of}
 use Rattle.dcsctp_machine.specs.turns.DataOutcomes.{flush_by, AnswersTo}
@@ -180,20 +180,20 @@ maintain_unmade old es mine held cookie is same =
     record { outcome = o; turn = (some.0, turn.0, turn.1); cut = cut_first old o es same }
 
 -- where it is established
-pub maintains_open : {R : Type 0} (stream : R → Stream) (old new : View R) (mine : Pair) (held : Held) → old.endpoint.core ≡ open_in established mine held
+pub maintains_open : {R : Type 0} (stream : R → Stream) (old new : View R) (phase : OpenPhase) (mine : Pair) (held : Held) → old.endpoint.core ≡ open_in phase mine held
     → TakesIn stream AcknowledgementAt old new → TakesIn stream MaintainAt old new
-maintains_open {R = R} stream old new mine held is t =
+maintains_open {R = R} stream old new phase mine held is t =
     let answers : List Answer = t.turn.0 in
     let a : AcknowledgedThere old.endpoint answers held t.outcome = there old old.endpoint held t.outcome t.turn refl (ap held_in is) in
-    let turn = maintain_turn old.endpoint (open_in established mine held) answers is a.allowed in
+    let turn = maintain_turn old.endpoint (open_in phase mine held) answers is a.allowed in
     record { outcome = acknowledges_by (flush_answered answers) old.endpoint held []; turn = (answers, turn.0, turn.1); moves = subst (λ (o : Outcome). Moves stream old o new) a.is t.moves }
 
-pub maintains_open_cut : {R : Type 0} (old : View R) (es : List (Event (List ℕ))) (mine : Pair) (held : Held) → old.endpoint.core ≡ open_in established mine held
+pub maintains_open_cut : {R : Type 0} (old : View R) (es : List (Event (List ℕ))) (phase : OpenPhase) (mine : Pair) (held : Held) → old.endpoint.core ≡ open_in phase mine held
     → CutIn AcknowledgementAt old es → CutIn MaintainAt old es
-maintains_open_cut {R = R} old es mine held is t =
+maintains_open_cut {R = R} old es phase mine held is t =
     let answers : List Answer = t.turn.0 in
     let a : AcknowledgedThere old.endpoint answers held t.outcome = there old old.endpoint held t.outcome t.turn refl (ap held_in is) in
-    let turn = maintain_turn old.endpoint (open_in established mine held) answers is a.allowed in
+    let turn = maintain_turn old.endpoint (open_in phase mine held) answers is a.allowed in
     record { outcome = acknowledges_by (flush_answered answers) old.endpoint held []; turn = (answers, turn.0, turn.1); cut = subst (λ (o : Outcome). CutTurn old o es) a.is t.cut }
 
 -- where no peer is held

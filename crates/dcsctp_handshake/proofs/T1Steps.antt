@@ -17,7 +17,7 @@ use Rattle.dcsctp_send.specs.Timer.{running_after}
 use Rattle.dcsctp_core.specs.declared.context.Context.{Context}
 use Rattle.dcsctp_core.specs.declared.expiry.Expiry.TheVariants.{Again, GaveUp}
 use Rattle.dcsctp_core.specs.declared.state.State.{State}
-use Rattle.dcsctp_core.specs.declared.state.State.TheVariants.{Closed, CookieWait, CookieEchoed, Established}
+use Rattle.dcsctp_core.specs.declared.state.State.TheVariants.{Closed, CookieWait, CookieEchoed, Open}
 use Rattle.dcsctp_core.specs.Handling.{TakesIn, CutIn}
 use Rattle.dcsctp_core.specs.Timing.{expiry_where, expiry_of, t1_told, ExpiryTurn, is_timer_due}
 use Rattle.dcsctp_core.specs.View.{View, Moves, view_of, endpoint_of, core_of, t1_of}
@@ -123,7 +123,7 @@ told_at old (CookieWait wait) is =
 told_at old (CookieEchoed echoed) is =
     let e : Endpoint = endpoint_of (record old { state = CookieEchoed echoed }) in
     ap (λ (t1 : Option RunningTimer). record e { timers = record e.timers { t1 = t1 } }) (again_is old.moment echoed.t1_cookie.running is).running
-told_at old (Established tcb) is = absurd (cc)
+told_at old (Open opened) is = absurd (cc)
 
 -- the turn of a packet that goes out again there
 again_expiry : {R : Type 0} (old : Context R) (o : Outcome) → Again ≡ expiry_of old.moment (t1_of old.state) → AgainAt (view_of (told old)) o → ExpiryTurn t1_timer (view_of old) o
@@ -169,7 +169,7 @@ gives_up_at : {R : Type 0} (stream : R → Stream) (old : Context R) (state : St
 gives_up_at stream old Closed new is m = absurd (cc)
 gives_up_at stream old (CookieWait wait) new is m = record { endpoint = m.endpoint; events = m.events; words = m.words; pairs = m.pairs; drawn = m.drawn }
 gives_up_at stream old (CookieEchoed echoed) new is m = record { endpoint = m.endpoint; events = m.events; words = m.words; pairs = m.pairs; drawn = m.drawn }
-gives_up_at stream old (Established tcb) new is m = absurd (cc)
+gives_up_at stream old (Open opened) new is m = absurd (cc)
 
 gives_up_turn : {R : Type 0} (old : Context R) → GaveUp ≡ expiry_of old.moment (t1_of old.state) → ExpiryTurn t1_timer (view_of old) (t1_gives_up_outcome (endpoint_of old) (core_of old.state))
 gives_up_turn old is =

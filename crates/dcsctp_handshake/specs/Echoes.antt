@@ -1,17 +1,17 @@
 -- What a COOKIE ECHO brings, as turns of a socket's view.
-use Rattle.std.specs.Prelude.{◌≡◌, ◌==◌, ℕ, Option, None, Some, List, [], ◌∷◌}
+use Rattle.std.specs.Prelude.{◌≡◌, ◌==◌, ℕ, Bool, true, false, Option, None, Some, List, [], ◌∷◌}
 use Rattle.rand_core.specs.Stream.{Stream}
 use Rattle.dcsctp_machine.specs.declared.association.Held.{Held}
 use Rattle.dcsctp_machine.specs.Cookie.{Cookie}
 use Rattle.dcsctp_machine.specs.Event.{Event, connected, connection_restarted}
 use Rattle.dcsctp_machine.specs.Packet.{Emission, cookie_ack}
 use Rattle.dcsctp_machine.specs.Transfer.{SendQueueState}
-use Rattle.dcsctp_machine.specs.Endpoint.{Endpoint, Core, closed, cookie_wait, cookie_echoed, open_in, held_in}
+use Rattle.dcsctp_machine.specs.Endpoint.{Endpoint, Core, closed, cookie_wait, cookie_echoed, open_in, shutdown_ack_sent, held_in}
 use Rattle.dcsctp_machine.specs.Outcome.{Outcome, still, noting}
 use Rattle.dcsctp_machine.specs.control.Effect.{connects, link_of}
 use Rattle.dcsctp_machine.specs.turns.FlushOutcomes.{Answer, FlushAnswers, FlushKind, flush_answered}
 use Rattle.dcsctp_machine.specs.turns.HandshakeOutcomes.{connected_after}
-use Rattle.dcsctp_machine.specs.turns.CookieEchoOutcomes.{refused_echo_outcome, established_by, queue_kept, queue_begun, establish_by, EstablishAnswers}
+use Rattle.dcsctp_machine.specs.turns.CookieEchoOutcomes.{refused_echo_outcome, refused_restart_outcome, restart_by_where, RestartAnswers, established_by, queue_kept, queue_begun, establish_by, EstablishAnswers}
 use Rattle.dcsctp_core.specs.View.{View}
 use Rattle.dcsctp_core.specs.Drawing.{long_word}
 
@@ -84,6 +84,26 @@ abbrev pub MaintainAt : {R : Type 0} → View R → Outcome → Type 0
 MaintainAt view o =
     (answers : List Answer) × MaintainedAnswers view.endpoint view.endpoint.core answers
     × (o ≡ maintained_by (flush_answered answers) view.endpoint view.endpoint.core)
+
+-- A SHUTDOWN ACK waits for its answer.
+abbrev pub awaits_complete : Core → Bool
+awaits_complete (open_in shutdown_ack_sent mine held) = true
+awaits_complete core = false
+
+-- A restart, unless a SHUTDOWN ACK waits for its answer.
+abbrev pub RestartWhereAt : {R : Type 0} → (R → Stream) → Cookie → View R → Outcome → Type 0
+RestartWhereAt stream cookie view o =
+    let tie : ℕ = long_word (stream view.generator) in
+    (answers : List Answer) × RestartAnswers view.endpoint cookie tie view.endpoint.core answers
+    × (o ≡ restart_by_where (flush_answered answers) view.endpoint cookie tie view.endpoint.core)
+
+-- to the peer that is held, where one is
+abbrev pub refused_restart_to : Endpoint → Option Held → Outcome
+refused_restart_to e None = still e
+refused_restart_to e (Some held) = refused_restart_outcome e held
+
+abbrev pub refused_restart_turn : {R : Type 0} → View R → Outcome
+refused_restart_turn view = refused_restart_to view.endpoint (held_in view.endpoint.core)
 
 -- A COOKIE ECHO is refused with this text.
 abbrev pub refuse_turn : {R : Type 0} → List ℕ → View R → Outcome

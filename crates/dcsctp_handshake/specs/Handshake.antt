@@ -1,14 +1,15 @@
 -- What the handlers of the handshake do, as turns of a socket's view.
 use Rattle.std.specs.Prelude.{◌≡◌, ℕ, Option, None, Some, Result, Ok, Err, List, [], ◌∷◌, ◌++◌, map}
 use Rattle.rand_core.specs.Stream.{Stream, next_u32}
+use Rattle.dcsctp_machine.specs.declared.association.Held.{Held}
 use Rattle.dcsctp_machine.specs.declared.association.Pair.{Pair}
 use Rattle.dcsctp_machine.specs.declared.options.Options.{Options}
 use Rattle.dcsctp_machine.specs.declared.word.Word.TheVariants.{U32}
 use Rattle.dcsctp_machine.specs.Offer.{offer_of, negotiated}
 use Rattle.dcsctp_machine.specs.Packet.{Introduction}
-use Rattle.dcsctp_machine.specs.Endpoint.{Endpoint, Core, closed, cookie_wait, cookie_echoed, open_in}
+use Rattle.dcsctp_machine.specs.Endpoint.{Endpoint, Core, closed, cookie_wait, cookie_echoed, open_in, held_in}
 use Rattle.dcsctp_machine.specs.Outcome.{Outcome, still, emits}
-use Rattle.dcsctp_machine.specs.turns.HandshakeOutcomes.{tag_from, pair_from, init_outcome, answer_outcome, awaits_init_ack, connect_outcome, init_emission, send_echo_by, accepted_init_ack_by, abort_emission, refused_init_ack_outcome, InitAckAnswers, InitAckTurn, CookieAckTurn}
+use Rattle.dcsctp_machine.specs.turns.HandshakeOutcomes.{tag_from, pair_from, init_outcome, renewed_outcome, answer_outcome, awaits_init_ack, connect_outcome, init_emission, send_echo_by, accepted_init_ack_by, abort_emission, refused_init_ack_outcome, InitAckAnswers, InitAckTurn, CookieAckTurn}
 use Rattle.dcsctp_machine.specs.turns.CookieEchoOutcomes.{CookieEchoTurn}
 use Rattle.dcsctp_machine.specs.turns.FlushOutcomes.{Answer, FlushKind, flush_answered}
 use Rattle.dcsctp_machine.specs.turns.TimerOutcomes.{AgainAnswers}
@@ -47,9 +48,17 @@ DrawsPair stream old (Err error) new = OnlyDraws old new
 abbrev pub answer_turn : {R : Type 0} → Introduction → Pair → ℕ → View R → Outcome
 answer_turn theirs mine tie view = answer_outcome view.endpoint theirs [] mine tie
 
+abbrev pub renewed_where : Endpoint → Option Held → Introduction → ℕ → Outcome
+renewed_where e None theirs word = still e
+renewed_where e (Some held) theirs word = renewed_outcome e theirs word
+
 -- with the words that the generator gives next
 abbrev pub init_turn : {R : Type 0} → (R → Stream) → Introduction → View R → Outcome
 init_turn stream theirs view = init_outcome view.endpoint theirs view.endpoint.core (first_word (stream view.generator)) (second_word (stream view.generator))
+
+-- where an association is open, with the word that the generator gives next
+abbrev pub renewed_turn : {R : Type 0} → (R → Stream) → Introduction → View R → Outcome
+renewed_turn stream theirs view = renewed_where view.endpoint (held_in view.endpoint.core) theirs (first_word (stream view.generator))
 
 -- ---- connect
 
@@ -60,7 +69,7 @@ send_init_turn mine view = emits view.endpoint [] (init_emission view.endpoint m
 abbrev pub awaiting : Endpoint → Pair → Endpoint
 awaiting e mine =
     let after : Endpoint = awaits_init_ack e mine in
-    record after { tie = 0; outstanding = None; timers = record after.timers { reconfiguration = None }; below = record e.below { transfer = None } }
+    record after { tie = 0; outstanding = None; timers = record after.timers { t2 = None; reconfiguration = None }; below = record e.below { transfer = None } }
 
 abbrev pub connect_turn : {R : Type 0} → (R → Stream) → View R → Outcome
 connect_turn stream view = connect_outcome view.endpoint view.endpoint.core (first_word (stream view.generator)) (second_word (stream view.generator))

@@ -1,13 +1,13 @@
 //! The handshake of the side that connects: connect, INIT ACK and COOKIE ACK (RFC 9260, section 5.1).
 
-ghost use Rattle.std.specs.Prelude.{◌≡◌, false, IsOk};
+ghost use Rattle.std.specs.Prelude.{◌≡◌, false, None, IsOk};
 ghost use Rattle.std.specs.Duration.{as_nanos};
 ghost use Rattle.dcsctp_wire.specs.Content.{init_content};
 ghost use Rattle.dcsctp_machine.specs.Endpoint.{started, t1_settings};
 ghost use Rattle.dcsctp_machine.specs.Packet.{introduction_in, cookie_in};
 ghost use Rattle.dcsctp_machine.specs.turns.HandshakeOutcomes.{implementation_of};
 ghost use Rattle.dcsctp_api.specs.Calls.{is_closed};
-ghost use Rattle.dcsctp_core.specs.View.{core_of, view_of, endpoint_of};
+ghost use Rattle.dcsctp_core.specs.View.{t2_of, core_of, view_of, endpoint_of};
 ghost use Rattle.dcsctp_core.specs.Handling.{Tries, TriesDrawing, Takes, TakesOne, WorksOne};
 ghost use Rattle.dcsctp_handshake.specs.Handshake.{send_init_turn, awaiting, connect_turn, missing_cookie_turn, refusal_turn, EchoAt, AcceptanceAt, InitAckAt, CookieAckAt, peer_by_init_ack};
 
@@ -85,7 +85,7 @@ pub fn do_connect<R: Rng>(context: &mut Context<R>) -> Result<(), AllocError>
         }
         State::CookieWait(_) => {}
         State::CookieEchoed(_) => {}
-        State::Established(_) => {}
+        State::Open(_) => {}
     }
     Ok(())
 }
@@ -188,6 +188,7 @@ fn echo_cookie<R: Rng>(
     init_ack: &InitChunk<'_>,
     cookie: &[u8],
 ) -> Result<(), AllocError>
+    requires { t2_of context.old.state ≡ None }
     ensures { TakesOne R.stream (AcceptanceAt R.stream my (introduction_in
         (init_content init_ack.now)) cookie.now) context.old result context.new }
 {
@@ -223,7 +224,7 @@ pub fn handle_init_ack<R: Rng>(
 {
     let my = match &context.state {
         State::CookieWait(wait) => wait.my,
-        State::Closed | State::CookieEchoed(_) | State::Established(_) => {
+        State::Closed | State::CookieEchoed(_) | State::Open(_) => {
             return Ok(Following::NextChunk);
         }
     };
@@ -255,7 +256,7 @@ pub fn handle_cookie_ack<R: Rng>(context: &mut Context<R>) -> Result<(), AllocEr
         }
         State::Closed => {}
         State::CookieWait(_) => {}
-        State::Established(_) => {}
+        State::Open(_) => {}
     }
     Ok(())
 }

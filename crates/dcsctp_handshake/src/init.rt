@@ -3,11 +3,12 @@
 ghost use Rattle.dcsctp_wire.specs.Content.{init_content};
 ghost use Rattle.dcsctp_machine.specs.Packet.{introduction_in};
 ghost use Rattle.dcsctp_core.specs.Handling.{Tries, TriesDrawing};
-ghost use Rattle.dcsctp_handshake.specs.Handshake.{DrawsTag, DrawsPair, answer_turn, init_turn};
+ghost use Rattle.dcsctp_handshake.specs.Handshake.{DrawsTag, DrawsPair, answer_turn, init_turn, renewed_turn};
 
 use crate::parameters::introduction;
 use dcsctp_api::{Capabilities, Pair, StateCookie};
-use dcsctp_core::{Context, State};
+use dcsctp_core::{Context, OpenPhase, State};
+use dcsctp_shutdown::send_shutdown_ack;
 use dcsctp_wire::{Chunk, InitChunk};
 use rand_core::Rng;
 use std::alloc::AllocError;
@@ -72,9 +73,30 @@ fn send_init_ack<R: Rng>(
     Ok(())
 }
 
+// Answers an INIT while an association is open: with a tag that is drawn for it, a first TSN far from those in use, and
+// the tie tag (RFC 9260, section 5.2.2). Without a peer nothing happens.
+//
+// The one error is that a growth was refused. Nothing has changed then but what words were drawn.
+fn answer_anew<R: Rng>(context: &mut Context<R>, init: &InitChunk<'_>) -> Result<(), AllocError>
+    ensures { TriesDrawing R.stream (renewed_turn R.stream (introduction_in (init_content init.now)))
+        context.old result context.new }
+{
+    match context.state.tcb() {
+        None => {}
+        Some(tcb) => {
+            let first_tsn = tcb.transfer.next_tsn().wrapping_add(TSN_GAP);
+            let tie_tag = tcb.tie_tag;
+            let renewed = draw_tag(context, first_tsn)?;
+            send_init_ack(context, init, renewed, tie_tag)?;
+        }
+    }
+    Ok(())
+}
+
 /// Works an INIT, which leaves the association as it is: while a handshake is under way the answer bears
 /// the own pair (RFC 9260, section 5.2.1), else one that is drawn for it, and the tie tag
-/// where an association is open (RFC 9260, section 5.2.2).
+/// where an association is open (RFC 9260, section 5.2.2). Where a SHUTDOWN ACK waits for its answer, it goes out again
+/// in place of an answer, and T2 runs on (RFC 9260, section 9.2).
 ///
 /// The one error is that a growth was refused. Nothing has changed then but what words were drawn.
 pub fn handle_init<R: Rng>(context: &mut Context<R>, init: &InitChunk<'_>) -> Result<(), AllocError>
@@ -94,12 +116,13 @@ pub fn handle_init<R: Rng>(context: &mut Context<R>, init: &InitChunk<'_>) -> Re
             let my = echoed.tcb.my;
             send_init_ack(context, init, my, 0)?;
         }
-        State::Established(tcb) => {
-            let first_tsn = tcb.transfer.next_tsn().wrapping_add(TSN_GAP);
-            let tie_tag = tcb.tie_tag;
-            let renewed = draw_tag(context, first_tsn)?;
-            send_init_ack(context, init, renewed, tie_tag)?;
-        }
+        State::Open(opened) => match opened.phase {
+            OpenPhase::ShutdownAckSent(_) => send_shutdown_ack(context)?,
+            OpenPhase::Established | OpenPhase::ShutdownPending => answer_anew(context, init)?,
+            OpenPhase::ShutdownSent(_) | OpenPhase::ShutdownReceived => {
+                answer_anew(context, init)?;
+            }
+        },
     }
     Ok(())
 }

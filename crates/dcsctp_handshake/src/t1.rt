@@ -26,7 +26,7 @@ fn send_again<R: Rng>(context: &mut Context<R>) -> Result<(), AllocError>
         }
         State::CookieEchoed(_) => send_cookie_echo(context)?,
         State::Closed => {}
-        State::Established(_) => {}
+        State::Open(_) => {}
     }
     Ok(())
 }
@@ -50,7 +50,7 @@ fn give_up<R: Rng>(context: &mut Context<R>) -> Result<(), AllocError>
         State::CookieWait(_) => abandon(context, NO_INIT_ACK)?,
         State::CookieEchoed(_) => abandon(context, NO_COOKIE_ACK)?,
         State::Closed => {}
-        State::Established(_) => {}
+        State::Open(_) => {}
     }
     Ok(())
 }

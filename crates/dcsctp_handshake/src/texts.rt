@@ -11,3 +11,6 @@ pub(crate) const NO_INIT_ACK: &str = "No INIT_ACK received";
 
 /// No COOKIE ACK has come, however often the COOKIE ECHO was sent.
 pub(crate) const NO_COOKIE_ACK: &str = "No COOKIE_ACK received";
+
+/// A restart is refused, since a SHUTDOWN ACK waits for its answer.
+pub(crate) const SHUTTING_DOWN: &str = "Received COOKIE-ECHO while shutting down";

@@ -17,6 +17,9 @@ pub enum Command {
     /// The user of this socket ends its association at once.
     Close(Side),
 
+    /// The user of this socket shuts its association down.
+    Shutdown(Side),
+
     /// This socket is handed the other's packet of this number.
     Give(Side, usize),
 
@@ -94,6 +97,7 @@ fn plain_line<'a>(keyword: &str, name: &str) -> Option<Line<'a>> {
     let command = match keyword {
         "connect" => Command::Connect(side),
         "close" => Command::Close(side),
+        "shutdown" => Command::Shutdown(side),
         "show" => Command::Show(side),
         "recv" => Command::Receive(side),
         "state" => Command::State(side),

@@ -7,15 +7,15 @@ use Rattle.dcsctp_machine.specs.declared.schedule.Side.{Side}
 use Rattle.dcsctp_machine.specs.declared.schedule.Side.TheVariants as sides
 use Rattle.dcsctp_machine.specs.declared.ends.AbortReason.TheVariants.{CloseCalled, TooManyErrors}
 use Rattle.dcsctp_machine.specs.declared.ends.AbortReason.{AbortReason}
-use Rattle.dcsctp_machine.specs.Schedule.{connect_call, close_call, advance_call, set_call, send_call, send_many_call, reset_call, take_call, StepContent, call_step, delivery_step, OutsideContent, input_outside, ActContent, step_act, outside_act}
+use Rattle.dcsctp_machine.specs.Schedule.{connect_call, close_call, shutdown_call, advance_call, set_call, send_call, send_many_call, reset_call, take_call, StepContent, call_step, delivery_step, OutsideContent, input_outside, ActContent, step_act, outside_act}
 use Rattle.dcsctp_wire.specs.Content.{ChunkContent}
 use Rattle.dcsctp_machine.specs.Packet.{Content, init, init_ack, cookie_echo, cookie_ack, re_config, abort, shutdown, shutdown_ack, shutdown_complete, plain, Packet, content_in, packet_in}
 use Rattle.dcsctp_machine.specs.Admission.{Admission, all_chunks, shutdown_acks_alone, refused, admits, shutdown_acks_in}
 use Rattle.dcsctp_machine.specs.Endpoint.{Endpoint, Core, closed, cookie_wait, cookie_echoed, open_in, fresh_endpoint}
 use Rattle.dcsctp_machine.specs.Following.{Following, next_chunk, packet_end, dropped_rest}
-use Rattle.dcsctp_machine.specs.control.Acts.{connect, abort_with, t1_expires, flushes}
+use Rattle.dcsctp_machine.specs.control.Acts.{connect, abort_with, t1_expires, shut_down, shutdown_repeats, flushes}
 use Rattle.dcsctp_machine.specs.Turn.{Input, arrival, refusal, packet_begins, chunk_input, packet_ends, act_input, user_sets, user_sends, user_resets, user_takes, timer_expires, time_passes, unreadable_text}
-use Rattle.dcsctp_machine.specs.TimeTurns.{Timer, t1_timer, own_timer, timers_in, deadline, has_come, has_restart, expiry_input, inputs_behind, after_expiries, ExpiryThen, ExpiryTurns, MomentTurns, TimeTurns}
+use Rattle.dcsctp_machine.specs.TimeTurns.{Timer, t1_timer, own_timer, t2_timer, timers_in, deadline, has_come, has_restart, t2_input, expiry_input, inputs_behind, after_expiries, ExpiryThen, ExpiryTurns, MomentTurns, TimeTurns}
 use Rattle.dcsctp_machine.specs.turns.HeartbeatOutcomes.{is_exhausted}
 use Rattle.dcsctp_machine.specs.turns.MessageOutcomes.{Sending, sending_of}
 use Rattle.dcsctp_machine.specs.turns.OwnTimers.{OwnTimer}
@@ -38,6 +38,8 @@ pub record MayCome (May : Input → Type 0) : Type 0 where
   pub ends : May packet_ends
   pub connects : May (act_input connect)
   pub aborts : (reason : AbortReason) → May (act_input (abort_with reason))
+  pub shuts_down : May (act_input shut_down)
+  pub repeats : May (act_input shutdown_repeats)
   pub expires : (again : Bool) → May (act_input (t1_expires again))
   pub flushed : May (act_input flushes)
   pub sets : (setting : Setting) → May (user_sets setting)
@@ -60,6 +62,8 @@ anything_may_come =
       ends = tt;
       connects = tt;
       aborts = λ reason. tt;
+      shuts_down = tt;
+      repeats = tt;
       expires = λ again. tt;
       flushed = tt;
       sets = λ setting. tt;
@@ -91,10 +95,15 @@ acks_may May (shutdown_ack ∷ contents) each = (each.0, acks_may May contents e
 acks_may May (shutdown_complete reflected ∷ contents) each = acks_may May contents each.1
 acks_may May (plain chunk ∷ contents) each = acks_may May contents each.1
 
+t2_may : (May : Input → Type 0) → MayCome May → (again : Bool) → May (t2_input again)
+t2_may May come true = come.repeats
+t2_may May come false = come.aborts TooManyErrors
+
 -- what the expiry of a timer is
 expiry_may : (May : Input → Type 0) → MayCome May → (e : Endpoint) (timer : Timer) → May (expiry_input e timer)
 expiry_may May come e t1_timer = come.expires (has_restart e.timers.t1)
 expiry_may May come e (own_timer timer) = come.own_expires timer
+expiry_may May come e t2_timer = t2_may May come (has_restart e.timers.t2)
 
 too_many_may : (May : Input → Type 0) → MayCome May → (many : Bool) (inputs : List Input) → AllByRecursion May inputs
     → AllByRecursion May (if many then act_input (abort_with TooManyErrors) ∷ [] else inputs)
@@ -192,6 +201,7 @@ module _ (Good : Endpoint → Turned → Type 0) (May : Input → Type 0) (come 
   step_along : (e : Endpoint) (packets : List (List ℕ)) (step : StepContent) (ts : List Turned) → StepTurns e packets step ts → AlongTurns Good e ts
   step_along e packets (call_step side connect_call) ts turns = turns_along e (act_input connect ∷ []) ts (come.connects, tt) turns
   step_along e packets (call_step side close_call) ts turns = turns_along e (act_input (abort_with CloseCalled) ∷ []) ts (come.aborts CloseCalled, tt) turns
+  step_along e packets (call_step side shutdown_call) ts turns = turns_along e (act_input shut_down ∷ []) ts (come.shuts_down, tt) turns
   step_along e packets (call_step side (advance_call moment)) ts turns = time_along (nat_le e.moment moment) e moment ts turns
   step_along e packets (call_step side (set_call setting)) ts turns = turns_along e (user_sets setting ∷ []) ts (come.sets setting, tt) turns
   step_along e packets (call_step side (send_call message options)) ts turns =

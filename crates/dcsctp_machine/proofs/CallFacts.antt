@@ -9,8 +9,7 @@ use Rattle.dcsctp_machine.specs.Endpoint.{Endpoint, open_in, established, shutdo
 use Rattle.dcsctp_machine.specs.Outcome.{Outcome, still}
 use Rattle.dcsctp_machine.specs.Following.{next_chunk, packet_end, dropped_rest}
 use Rattle.dcsctp_machine.specs.Turn.{Input, chunk_input, BeginTurn, has_data}
-use Rattle.dcsctp_machine.specs.Controlled.{ControlledAct}
-use Rattle.dcsctp_machine.specs.control.Acts.{shutdown_repeats}
+use Rattle.dcsctp_machine.specs.turns.ShutdownOutcomes.{shutdown_repeated}
 use Rattle.dcsctp_machine.specs.CallTurns.{Turned, turned, IsTurn, Turns, ChunkTurns}
 
 -- ---- before the chunks
@@ -24,7 +23,7 @@ with_sack = shutdown 5 ∷ plain (unworked (sack_chunk (record { cumulative_tsn_
 
 -- Where a SHUTDOWN waits for its answer, data is answered by another;
 data_asks : (e : Endpoint) (mine : Pair) (held : Held) (o : Outcome)
-    → BeginTurn e (open_in shutdown_sent mine held) (has_data with_data) o ≡ ControlledAct e shutdown_repeats o
+    → BeginTurn e (open_in shutdown_sent mine held) (has_data with_data) o ≡ (o ≡ shutdown_repeated e held)
 data_asks e mine held o = refl
 
 -- an acknowledgement isn't,

@@ -27,7 +27,8 @@ use Rattle.dcsctp_machine.proofs.PlainLemmas.{plain_controlled}
 use Rattle.dcsctp_machine.proofs.ResetLemmas.{reset_controlled}
 use Rattle.dcsctp_machine.proofs.LawLemmas.{names_read_back}
 use Rattle.dcsctp_machine.proofs.ControlHandshake.{choices_of, ControlledAt, still_controlled, init_ack_controlled, cookie_ack_controlled, abort_controlled, connect_controlled}
-use Rattle.dcsctp_machine.proofs.ControlEnds.{aborting_controlled, shutdown_ack_controlled, shutdown_complete_controlled}
+use Rattle.dcsctp_machine.proofs.ControlEnds.{aborting_controlled}
+use Rattle.dcsctp_machine.proofs.ShutdownLemmas.{step_controlled, shut_down_controlled, shutdown_controlled, shutdown_ack_controlled, shutdown_complete_controlled, t2_again_controlled, repeated_controlled}
 use Rattle.dcsctp_machine.proofs.TimerLemmas.{t1_again_controlled, t1_gives_up_controlled}
 use Rattle.dcsctp_machine.proofs.ControlEcho.{cookie_echo_controlled}
 
@@ -140,7 +141,7 @@ chunks_are_controlled e tag (cookie_echo cookie) o turn fitting = cookie_echo_co
 chunks_are_controlled e tag cookie_ack o turn fitting = cookie_ack_controlled e tag o turn
 chunks_are_controlled e tag (re_config parameters) o turn fitting = reset_controlled e tag parameters o turn
 chunks_are_controlled e tag (abort reflected causes) o turn fitting = abort_controlled e tag reflected causes o turn
-chunks_are_controlled e tag (shutdown cumulative_tsn) o turn fitting = turn
+chunks_are_controlled e tag (shutdown cumulative_tsn) o turn fitting = shutdown_controlled e tag cumulative_tsn o turn
 chunks_are_controlled e tag shutdown_ack o turn fitting = shutdown_ack_controlled e tag o turn
 chunks_are_controlled e tag (shutdown_complete reflected) o turn fitting = shutdown_complete_controlled e tag reflected o turn
 chunks_are_controlled e tag (plain chunk) o turn fitting = plain_controlled e tag chunk o turn
@@ -148,19 +149,19 @@ chunks_are_controlled e tag (plain chunk) o turn fitting = plain_controlled e ta
 -- ---- what stands before a packet's chunks
 
 -- Nothing happens, or a SHUTDOWN goes out again.
-pub begin_stands : (e : Endpoint) (core : Core) (has : Bool) (o : Outcome) → BeginTurn e core has o → (o ≡ still e) ⊎ ControlledAct e shutdown_repeats o
-begin_stands e closed has o turn = inl turn
-begin_stands e (cookie_wait my) has o turn = inl turn
-begin_stands e (cookie_echoed my held cookie) has o turn = inl turn
-begin_stands e (open_in established my held) has o turn = inl turn
-begin_stands e (open_in shutdown_pending my held) has o turn = inl turn
-begin_stands e (open_in shutdown_sent my held) true o turn = inr turn
-begin_stands e (open_in shutdown_sent my held) false o turn = inl turn
-begin_stands e (open_in shutdown_received my held) has o turn = inl turn
-begin_stands e (open_in shutdown_ack_sent my held) has o turn = inl turn
+pub begin_stands : (e : Endpoint) (core : Core) (has : Bool) (o : Outcome) → e.core ≡ core → BeginTurn e core has o → (o ≡ still e) ⊎ ControlledAct e shutdown_repeats o
+begin_stands e closed has o is turn = inl turn
+begin_stands e (cookie_wait my) has o is turn = inl turn
+begin_stands e (cookie_echoed my held cookie) has o is turn = inl turn
+begin_stands e (open_in established my held) has o is turn = inl turn
+begin_stands e (open_in shutdown_pending my held) has o is turn = inl turn
+begin_stands e (open_in shutdown_sent my held) true o is turn = inr (repeated_controlled e my held o is turn)
+begin_stands e (open_in shutdown_sent my held) false o is turn = inl turn
+begin_stands e (open_in shutdown_received my held) has o is turn = inl turn
+begin_stands e (open_in shutdown_ack_sent my held) has o is turn = inl turn
 
 -- Such a SHUTDOWN leaves the association as it is.
-repeated_keeps : (options : Options) (core : Core) (choices : Choices) → (act_change options core shutdown_repeats choices).core ≡ core
+pub repeated_keeps : (options : Options) (core : Core) (choices : Choices) → (act_change options core shutdown_repeats choices).core ≡ core
 repeated_keeps options closed choices = refl
 repeated_keeps options (cookie_wait my) choices = refl
 repeated_keeps options (cookie_echoed my held cookie) choices = refl
@@ -171,7 +172,7 @@ repeated_keeps options (open_in shutdown_received my held) choices = refl
 repeated_keeps options (open_in shutdown_ack_sent my held) choices = refl
 
 pub stands_before : (e : Endpoint) (has : Bool) (o : Outcome) → BeginTurn e e.core has o → StandsBefore e o
-stands_before e has o turn = elim (begin_stands e e.core has o turn) [
+stands_before e has o turn = elim (begin_stands e e.core has o refl turn) [
   | inl rests ↦ record { change = unchanged e.core; is = inl refl; controlled = subst (λ (x : Outcome). IsControlled e x (unchanged e.core)) (sym rests) (still_controlled e e.core refl); keeps = refl }
   | inr acts ↦ record { change = act_change e.options e.core shutdown_repeats acts.0; is = inr (acts.0, refl); controlled = acts.1; keeps = repeated_keeps e.options e.core acts.0 }
 ]
@@ -182,9 +183,9 @@ pub acts_are_controlled : ActsAreControlled
 acts_are_controlled e connect o turn = connect_controlled e o turn
 acts_are_controlled e (t1_expires true) o turn = t1_again_controlled e o turn
 acts_are_controlled e (t1_expires false) o turn = t1_gives_up_controlled e o turn
-acts_are_controlled e shut_down o turn = turn
-acts_are_controlled e step_of_shutdown o turn = turn
-acts_are_controlled e shutdown_repeats o turn = turn
+acts_are_controlled e shut_down o turn = shut_down_controlled e o turn
+acts_are_controlled e step_of_shutdown o turn = step_controlled e o turn
+acts_are_controlled e shutdown_repeats o turn = t2_again_controlled e o turn
 acts_are_controlled e (abort_with reason) o turn = aborting_controlled e o reason turn
 acts_are_controlled e hands_over o turn = turn
 acts_are_controlled e flushes o turn = flushed_act e o (flush_turn_at e o turn)

@@ -18,13 +18,13 @@ use Rattle.dcsctp_machine.specs.control.FlushChanges.{further_packets, flush}
 use Rattle.dcsctp_machine.specs.control.Acts.{flushes, sent_by, flush_change, plain_change}
 use Rattle.dcsctp_machine.specs.Controlled.{Sign, signs_of_events, signs_of_effects, IsControlled, ControlledAct}
 use Rattle.dcsctp_machine.specs.turns.FlushOutcomes.{Answer, told_event, filled, draft_to, flush_of, room_in, where_fits, FlushAnswers, packets_allowed}
-use Rattle.dcsctp_machine.specs.turns.TransferMoves.{delivered_events, acknowledged, delay_over}
+use Rattle.dcsctp_machine.specs.turns.TransferMoves.{acknowledged, delay_over}
 use Rattle.dcsctp_machine.specs.turns.HeartbeatOutcomes.{error_counted}
 use Rattle.dcsctp_machine.specs.turns.MessageOutcomes.{MessageRefusal, message_refusal, refusal_events, Sending, queue_by, queue_one, queue_all, takes_any, SendAnswers, send_by, SendTurn}
 use Rattle.dcsctp_machine.specs.turns.PreparedResets.{ResetRefusal, reset_refusal, with_queue, PreparesResets, OwnResetsWhere, OwnResetsTurn}
-use Rattle.dcsctp_machine.specs.turns.DataOutcomes.{with_transfer, with_tracker, flush_by, AnswersTo, FlushTurn, no_user_data_text, no_user_data_outcome, not_connected_text, ReceiveTurn, DataTurn, ForwardTurn, no_tcb_text, is_sack_valid, FastRetransmits, sack_taken, AcknowledgesBy, SackWhere, SackBy, SackTurn, acknowledging, EndWhere, EndsBy, TakeWhere, TakeTurn, delay_outcome, LossTurn}
+use Rattle.dcsctp_machine.specs.turns.DataOutcomes.{with_transfer, with_tracker, flush_by, AnswersTo, FlushTurn, no_user_data_text, no_user_data_outcome, not_connected_text, ReceiveTurn, DataTurn, ForwardTurn, acknowledging, EndWhere, EndsBy, TakeWhere, TakeTurn, delay_outcome, LossTurn}
 use Rattle.dcsctp_machine.proofs.ControlHandshake.{no_choices, ControlledAt}
-use Rattle.dcsctp_machine.proofs.FlushKeeps.{IsPeerTag, all_chunks, begun_by, filling_of, flush_effects, IsBegun, flush_is, first_begins, Rebuilds, rebuilds_open, rebuilds_echoed, FlushesTo, flush_controlled, further_then, further_notes_then, told_signs, signs_append, goes_out_signs, goes_out_keeps}
+use Rattle.dcsctp_machine.proofs.FlushKeeps.{IsPeerTag, all_chunks, begun_by, filling_of, flush_effects, IsBegun, flush_is, first_begins, Rebuilds, rebuilds_open, rebuilds_echoed, FlushesTo, flush_controlled, further_then, further_notes_then, told_signs, signs_append}
 use Rattle.dcsctp_machine.specs.turns.BegunResets.{BegunReset, request_contents, begun_effects, held_begun}
 
 -- ---- what a turn of data chooses
@@ -41,7 +41,7 @@ pub flushed_act : (e : Endpoint) (o : Outcome) → FlushedAt e e.core o → Cont
 flushed_act e o h = (chosen e h.0 h.1, h.2)
 
 -- A chunk that speaks of no association may be followed by a flush.
-plain_flushes : (e : Endpoint) (core : Core) (packets : List (List Plain)) (answers : List Answer) → flush_change core (chosen e packets answers) ≡ plain_change core false (chosen e packets answers)
+pub plain_flushes : (e : Endpoint) (core : Core) (packets : List (List Plain)) (answers : List Answer) → flush_change core (chosen e packets answers) ≡ plain_change core false (chosen e packets answers)
 plain_flushes e closed packets answers = refl
 plain_flushes e (cookie_wait my) packets answers = refl
 plain_flushes e (cookie_echoed my held cookie) packets answers = refl
@@ -57,17 +57,17 @@ flushed_chunk e core tag chunk o h = (flush_change core (chosen e h.0 h.1), (cho
 -- ---- a turn without a flush
 
 -- nothing is seen of it but these events, which are no signs
-quiet_at : (e after : Endpoint) (events : List (Event Emission)) (core : Core) → after.core ≡ core → SameOptions e.options after.options → signs_of_events events ≡ []
+pub quiet_at : (e after : Endpoint) (events : List (Event Emission)) (core : Core) → after.core ≡ core → SameOptions e.options after.options → signs_of_events events ≡ []
     → FlushedAt e core (quiet after [] events)
 quiet_at e after events closed is same none = ([], [], record { core = is; options = same; signs = none; effects = refl; following = refl })
 quiet_at e after events (cookie_wait my) is same none = ([], [], record { core = is; options = same; signs = none; effects = refl; following = refl })
 quiet_at e after events (cookie_echoed my held cookie) is same none = ([], [], record { core = is; options = same; signs = none; effects = refl; following = refl })
 quiet_at e after events (open_in phase my held) is same none = ([], [], record { core = is; options = same; signs = none; effects = refl; following = refl })
 
-still_at : (e after : Endpoint) (core : Core) → after.core ≡ core → SameOptions e.options after.options → FlushedAt e core (still after)
+pub still_at : (e after : Endpoint) (core : Core) → after.core ≡ core → SameOptions e.options after.options → FlushedAt e core (still after)
 still_at e after core is same = quiet_at e after [] core is same refl
 
-flushed_as : (e : Endpoint) (core : Core) (o p : Outcome) → o ≡ p → FlushedAt e core p → FlushedAt e core o
+pub flushed_as : (e : Endpoint) (core : Core) (o p : Outcome) → o ≡ p → FlushedAt e core p → FlushedAt e core o
 flushed_as e core o p is h = subst (FlushedAt e core) (sym is) h
 
 -- ---- packets, and then a flush
@@ -143,56 +143,6 @@ data_at e immediate tsn (byte ∷ bytes) o turn = receive_at e e.below.transfer 
 pub forward_at : (e : Endpoint) (transfer : Option Transfer) (tsn : ℕ) (o : Outcome) → ForwardTurn e transfer tsn o → FlushedAt e e.core o
 forward_at e None tsn o turn = flushed_as e e.core o (still e) turn (still_at e e e.core refl refl)
 forward_at e (Some transfer) tsn o turn = flushed_as e e.core o (still (with_transfer e turn.0)) turn.2 (still_at e (with_transfer e turn.0) e.core refl refl)
-
--- ---- SACK
-
-delivered_signs : (ids : List ℕ) → signs_of_events (delivered_events ids) ≡ []
-delivered_signs [] = refl
-delivered_signs (id ∷ ids) = delivered_signs ids
-
--- what a fast retransmission leaves, and its packet
-record FastIs (e : Endpoint) (held : Held) (o : Outcome) : Type 0 where
-  packets : List (List Plain)
-  core : o.after.core ≡ e.core
-  options : o.after.options ≡ e.options
-  signs : signs_of_events o.events ≡ signs_of_effects (further_packets held.peer.tag packets)
-
-one_packet : (tag : ℕ) (chunks : List Plain) → signs_of_effects (emitted tag (plain_contents chunks)) ≡ signs_of_effects (further_packets tag (chunks ∷ []))
-one_packet tag chunks = ap signs_of_effects (sym (append-nil (emitted tag (plain_contents chunks))))
-
-fast_is : (b : Bool) (e : Endpoint) (held : Held) (transfer : Transfer) (o : Outcome) → FastRetransmits b e held transfer o → FastIs e held o
-fast_is false e held transfer o turn =
-    subst (FastIs e held) (sym turn) (record { packets = []; core = refl; options = refl; signs = refl })
-fast_is true e held transfer o turn =
-    let out = goes_out_keeps (with_transfer e turn.left) [] (draft_to held).with_checksum (draft_to held).packet.tag (plain_contents turn.chunks) in
-    subst (FastIs e held) (sym turn.is)
-    (record {
-      packets = turn.chunks ∷ [];
-      core = out.core;
-      options = out.options;
-      signs = goes_out_signs (with_transfer e turn.left) [] (draft_to held).with_checksum (draft_to held).packet.tag (plain_contents turn.chunks) ∙ one_packet held.peer.tag turn.chunks;
-    })
-
-acknowledges_at : (e : Endpoint) (core : Core) (held : Held) (transfer : Transfer) (o : Outcome) → held_in core ≡ Some held → e.core ≡ core → AcknowledgesBy e held transfer o → FlushedAt e core o
-acknowledges_at e core held transfer o holds is turn =
-    let fast : FastIs (sack_taken e transfer turn.left) held turn.fast =
-    fast_is turn.left.retransmission.has_fast_retransmit (sack_taken e transfer turn.left) held turn.left turn.fast turn.resends in
-    flushed_as e core o (behind [] (delivered_events turn.ids ++ turn.fast.events) (flush_of turn.fast.after (draft_to held) turn.answers)) turn.is
-    (sent_at e turn.fast.after core held (delivered_events turn.ids ++ turn.fast.events) fast.packets turn.answers holds (fast.core ∙ is)
-    (subst (SameOptions e.options) (sym fast.options) refl) turn.allowed
-    (signs_append (delivered_events turn.ids) turn.fast.events ∙ ap (λ ss. ss ++ signs_of_events turn.fast.events) (delivered_signs turn.ids) ∙ fast.signs))
-
-sack_where_at : (b : Bool) (e : Endpoint) (core : Core) (held : Held) (transfer : Transfer) (o : Outcome) → held_in core ≡ Some held → e.core ≡ core → SackWhere b e held transfer o → FlushedAt e core o
-sack_where_at false e core held transfer o holds is turn = flushed_as e core o (still e) turn (still_at e e core is refl)
-sack_where_at true e core held transfer o holds is turn = acknowledges_at e core held transfer o holds is turn
-
-sack_by_at : (e : Endpoint) (core : Core) (peer : Option Held) (transfer : Transfer) (tsn : ℕ) (o : Outcome) → held_in core ≡ peer → e.core ≡ core → SackBy e peer transfer tsn o → FlushedAt e core o
-sack_by_at e core None transfer tsn o holds is turn = flushed_as e core o (still e) turn (still_at e e core is refl)
-sack_by_at e core (Some held) transfer tsn o holds is turn = sack_where_at (is_sack_valid transfer.retransmission tsn) e core held transfer o holds is turn
-
-pub sack_at : (e : Endpoint) (transfer : Option Transfer) (tsn : ℕ) (o : Outcome) → SackTurn e transfer tsn o → FlushedAt e e.core o
-sack_at e None tsn o turn = flushed_as e e.core o (quiet e [] (error NotConnected no_tcb_text ∷ [])) turn (quiet_at e e (error NotConnected no_tcb_text ∷ []) e.core refl refl refl)
-sack_at e (Some transfer) tsn o turn = sack_by_at e e.core (held_in e.core) transfer tsn o refl refl turn
 
 -- ---- the end of a packet
 

@@ -152,7 +152,7 @@ goes_out_signs e told with_checksum tag (content ∷ contents) =
     signs_append (map told_event told) (sent (record { with_checksum = with_checksum; packet = packet }) ∷ [])
     ∙ ap (λ (ss : List Sign). ss ++ packet_sent packet ∷ []) (told_signs told)
 
-emitted_then : (tag : ℕ) (contents : List Content) (rest : List Effect) → signs_of_effects (emitted tag contents ++ rest) ≡ signs_of_effects (emitted tag contents) ++ signs_of_effects rest
+pub emitted_then : (tag : ℕ) (contents : List Content) (rest : List Effect) → signs_of_effects (emitted tag contents ++ rest) ≡ signs_of_effects (emitted tag contents) ++ signs_of_effects rest
 emitted_then tag [] rest = refl
 emitted_then tag (content ∷ contents) rest = refl
 
@@ -327,7 +327,7 @@ flush_signs _ _ _ _ is (after_packet _ more e draft answer answers h some rest) 
     ∙ sym (begun_signs answer.begun (emitted tag (draft.packet.contents ++ answer_contents answer) ++ further_packets tag (map all_chunks answers)))
 
 -- Of it a request that is begun is noted.
-emitted_notes : (tag : ℕ) (contents : List Content) (rest : List Effect) → noted (emitted tag contents ++ rest) ≡ noted rest
+pub emitted_notes : (tag : ℕ) (contents : List Content) (rest : List Effect) → noted (emitted tag contents ++ rest) ≡ noted rest
 emitted_notes tag [] rest = refl
 emitted_notes tag (content ∷ contents) rest = refl
 

@@ -31,7 +31,10 @@ pub mod ReconfigurationFacts
 pub mod ReconfigurationLemmas
 pub mod ResetFacts
 pub mod ResetLemmas
+pub mod SackLemmas
 pub mod SettingFacts
+pub mod ShutdownFacts
+pub mod ShutdownLemmas
 pub mod SocketLemmas
 pub mod StandardFacts
 pub mod TimerFacts

@@ -4,7 +4,7 @@ use Rattle.dcsctp_machine.specs.declared.options.Options.{Options}
 use Rattle.dcsctp_machine.specs.declared.schedule.Side.{Side}
 use Rattle.dcsctp_machine.specs.Schedule.{ActContent}
 use Rattle.dcsctp_machine.specs.Settings.{SameOptions}
-use Rattle.dcsctp_machine.specs.Endpoint.{Endpoint, Core, fresh_endpoint}
+use Rattle.dcsctp_machine.specs.Endpoint.{Endpoint, fresh_endpoint}
 use Rattle.dcsctp_machine.specs.Outcome.{Outcome}
 use Rattle.dcsctp_machine.specs.control.Acts.{Act, shutdown_repeats, flushes}
 use Rattle.dcsctp_machine.specs.turns.OwnTimers.{timer_act}
@@ -24,13 +24,13 @@ use Rattle.dcsctp_machine.proofs.ControlLemmas.{begin_stands, acts_are_controlle
 kept_by_act : (e : Endpoint) (act : Act) (o : Outcome) → ControlledAct e act o → SameOptions e.options o.after.options
 kept_by_act e act o turn = turn.1.options
 
-begin_keeps : (e : Endpoint) (core : Core) (has : Bool) (o : Outcome) → BeginTurn e core has o → SameOptions e.options o.after.options
-begin_keeps e core has o turn = elim (begin_stands e core has o turn) [ inl rests ↦ same_of_equal e.options o.after.options (ap (λ (x : Outcome). x.after.options) rests) | inr acts ↦ kept_by_act e shutdown_repeats o acts ]
+begin_keeps : (e : Endpoint) (has : Bool) (o : Outcome) → BeginTurn e e.core has o → SameOptions e.options o.after.options
+begin_keeps e has o turn = elim (begin_stands e e.core has o refl turn) [ inl rests ↦ same_of_equal e.options o.after.options (ap (λ (x : Outcome). x.after.options) rests) | inr acts ↦ kept_by_act e shutdown_repeats o acts ]
 
 turn_keeps : (e : Endpoint) (input : Input) (o : Outcome) → Turn e input o → SameOptions e.options o.after.options
 turn_keeps e arrival o turn = same_of_equal e.options o.after.options (ap (λ (x : Outcome). x.after.options) turn)
 turn_keeps e (refusal text) o turn = same_of_equal e.options o.after.options (ap (λ (x : Outcome). x.after.options) turn)
-turn_keeps e (packet_begins contents) o turn = begin_keeps e e.core (has_data contents) o turn
+turn_keeps e (packet_begins contents) o turn = begin_keeps e (has_data contents) o turn
 turn_keeps e (chunk_input tag content) o turn = content_keeps_options e tag content o turn
 turn_keeps e packet_ends o turn = kept_by_act e flushes o (flushed_act e o (end_at e e.below.transfer o turn))
 turn_keeps e (act_input act) o turn = kept_by_act e act o (acts_are_controlled e act o turn)

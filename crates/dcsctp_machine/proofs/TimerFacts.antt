@@ -97,7 +97,7 @@ never_where_closed e = refl
 -- an open association with these timers of heartbeats
 beating_at : Endpoint → Held → Option RunningTimer → Option RunningTimer → Endpoint
 beating_at e held interval timeout =
-    record e { moment = 10; core = open_in established mine held; timers = record e.timers { t1 = Some (second (Some 8) 5 5 0); heartbeat_interval = interval; heartbeat_timeout = timeout; reconfiguration = None }; below = nothing_below e.options }
+    record e { moment = 10; core = open_in established mine held; timers = record e.timers { t1 = Some (second (Some 8) 5 5 0); heartbeat_interval = interval; heartbeat_timeout = timeout; reconfiguration = None; t2 = None }; below = nothing_below e.options }
 
 never_without_heartbeats : (e : Endpoint) (held : Held) → next_moment (beating_at e held None None) ≡ max_nanos
 unfolding beating_at
@@ -112,7 +112,7 @@ unfolding beating_at fixed
 waits_for_the_first e held = refl
 
 -- The own request to reset streams counts too.
-waits_for_the_request : (e : Endpoint) (held : Held) → next_moment (record (beating_at e held (Some (fixed 30_000 0)) None) { timers = record e.timers { heartbeat_interval = Some (fixed 30_000 0); heartbeat_timeout = None; reconfiguration = Some (fixed 400 0) } }) ≡ 400
+waits_for_the_request : (e : Endpoint) (held : Held) → next_moment (record (beating_at e held (Some (fixed 30_000 0)) None) { timers = record e.timers { heartbeat_interval = Some (fixed 30_000 0); heartbeat_timeout = None; reconfiguration = Some (fixed 400 0); t2 = None } }) ≡ 400
 unfolding beating_at fixed
 waits_for_the_request e held = refl
 

@@ -16,7 +16,7 @@ use Rattle.dcsctp_machine.specs.turns.TimerOutcomes.{t1_goes_on, AgainAnswers, t
 use Rattle.dcsctp_machine.specs.turns.OwnTimers.{acknowledgement_delay, retransmission, heartbeat_interval, heartbeat_timeout, reconfiguration}
 use Rattle.dcsctp_machine.specs.Turn.{clock_at}
 use Rattle.dcsctp_machine.specs.CallTurns.{Turned, Turns}
-use Rattle.dcsctp_machine.specs.TimeTurns.{Timer, t1_timer, own_timer, timers_in, timers_told, AwaitsNoCookieAck, deadline, with_deadline, deadlines_of, earliest, next_of, has_come, ExpiryThen, ExpiryTurns, DueTurns, MomentTurns, TimeTurns, NoneIsDue, Waits, MoveClock, TimePassesQuietly}
+use Rattle.dcsctp_machine.specs.TimeTurns.{Timer, t1_timer, own_timer, t2_timer, timers_in, timers_told, AwaitsNoCookieAck, deadline, with_deadline, deadlines_of, earliest, next_of, has_come, ExpiryThen, ExpiryTurns, DueTurns, MomentTurns, TimeTurns, NoneIsDue, Waits, MoveClock, TimePassesQuietly}
 use Rattle.dcsctp_machine.proofs.FlushKeeps.{IsPeerTag, rebuilds_echoed, flush_controlled}
 use Rattle.dcsctp_machine.proofs.ControlHandshake.{no_choices, choosing, still_controlled}
 
@@ -102,6 +102,7 @@ clock_keeps moment e (own_timer retransmission) = refl
 clock_keeps moment e (own_timer heartbeat_interval) = refl
 clock_keeps moment e (own_timer heartbeat_timeout) = refl
 clock_keeps moment e (own_timer reconfiguration) = refl
+clock_keeps moment e t2_timer = refl
 
 none_at : (moment : ℕ) (e : Endpoint) (timers : List Timer) → AllWait moment e timers → NoneIsDue (clock_at moment e) timers
 none_at moment e [] wait = tt

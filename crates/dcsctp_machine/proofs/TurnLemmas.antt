@@ -16,7 +16,7 @@ use Rattle.dcsctp_machine.specs.CallTurns.{Turned, IsTurn, Turns, AfterChunk, Ch
 use Rattle.dcsctp_machine.specs.turns.HandshakeOutcomes.{init_outcome}
 use Rattle.dcsctp_machine.proofs.PlainLemmas.{plain_controlled}
 use Rattle.dcsctp_machine.proofs.ControlHandshake.{init_ack_controlled, cookie_ack_controlled, abort_controlled}
-use Rattle.dcsctp_machine.proofs.ControlEnds.{shutdown_ack_controlled, shutdown_complete_controlled}
+use Rattle.dcsctp_machine.proofs.ShutdownLemmas.{shutdown_controlled, shutdown_ack_controlled, shutdown_complete_controlled}
 use Rattle.dcsctp_machine.proofs.ResetLemmas.{reset_controlled}
 use Rattle.dcsctp_machine.proofs.ControlEcho.{cookie_echo_controlled}
 
@@ -59,7 +59,7 @@ content_keeps_options e tag (cookie_echo cookie) o turn = controlled_keeps e tag
 content_keeps_options e tag cookie_ack o turn = controlled_keeps e tag cookie_ack o (cookie_ack_controlled e tag o turn)
 content_keeps_options e tag (re_config parameters) o turn = controlled_keeps e tag (re_config parameters) o (reset_controlled e tag parameters o turn)
 content_keeps_options e tag (abort reflected causes) o turn = controlled_keeps e tag (abort reflected causes) o (abort_controlled e tag reflected causes o turn)
-content_keeps_options e tag (shutdown cumulative_tsn) o turn = controlled_keeps e tag (shutdown cumulative_tsn) o turn
+content_keeps_options e tag (shutdown cumulative_tsn) o turn = controlled_keeps e tag (shutdown cumulative_tsn) o (shutdown_controlled e tag cumulative_tsn o turn)
 content_keeps_options e tag shutdown_ack o turn = controlled_keeps e tag shutdown_ack o (shutdown_ack_controlled e tag o turn)
 content_keeps_options e tag (shutdown_complete reflected) o turn = controlled_keeps e tag (shutdown_complete reflected) o (shutdown_complete_controlled e tag reflected o turn)
 content_keeps_options e tag (plain chunk) o turn = controlled_keeps e tag (plain chunk) o (plain_controlled e tag chunk o turn)

@@ -7,7 +7,7 @@ use Rattle.dcsctp_machine.specs.declared.association.Held.{Held}
 use Rattle.dcsctp_machine.specs.Settings.{IsValid, FitsOptions}
 use Rattle.dcsctp_machine.specs.Event.{Event, sent}
 use Rattle.dcsctp_machine.specs.Packet.{Content, init, init_ack, Packet, Emission, content_in, chunk_out}
-use Rattle.dcsctp_machine.specs.Endpoint.{Endpoint, Core, closed, cookie_wait, cookie_echoed, open_in, established, shutdown_pending, shutdown_sent, shutdown_received, shutdown_ack_sent}
+use Rattle.dcsctp_machine.specs.Endpoint.{Endpoint, Core, closed, cookie_wait, cookie_echoed, open_in}
 use Rattle.dcsctp_machine.specs.Deadlines.{T1Runs}
 use Rattle.dcsctp_machine.specs.Outcome.{Outcome}
 use Rattle.dcsctp_machine.specs.Laws.{FitsPair, FitsOffer}
@@ -53,17 +53,12 @@ pub record FitsHeld (held : Held) : Type 0 where
   pub own_outstanding : FitsNumber held.own_outstanding
   pub peer_last : held.peer_last < 2 ^ 32
 
--- All that an association holds fits its fields: whatever of it is sent, now or again, can be read. No shutdown is under
--- way: so far none begins.
+-- All that an association holds fits its fields: whatever of it is sent, now or again, can be read.
 abbrev pub FitsCore : Core → Type 0
 FitsCore closed = Unit {0}
 FitsCore (cookie_wait my) = FitsPair my
 FitsCore (cookie_echoed my held cookie) = FitsPair my × FitsHeld held × FitsEcho cookie
-FitsCore (open_in established my held) = FitsPair my × FitsHeld held
-FitsCore (open_in shutdown_pending my held) = ⊥
-FitsCore (open_in shutdown_sent my held) = ⊥
-FitsCore (open_in shutdown_received my held) = ⊥
-FitsCore (open_in shutdown_ack_sent my held) = ⊥
+FitsCore (open_in phase my held) = FitsPair my × FitsHeld held
 
 pub record FitsEndpoint (e : Endpoint) : Type 0 where
   pub valid : IsValid e.options

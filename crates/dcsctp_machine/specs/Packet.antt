@@ -85,7 +85,7 @@ cookie_in [] = None
 cookie_in (state_cookie cookie ∷ parameters) = Some cookie
 cookie_in (parameter ∷ parameters) = cookie_in parameters
 
--- What a chunk says. SHUTDOWN is no content of its own where it is read, as long as no handler works it.
+-- what a chunk says
 abbrev pub content_in : ChunkContent → Content
 content_in (init_chunk chunk) = init (introduction_in chunk)
 content_in (init_ack_chunk chunk) = init_ack (introduction_in chunk) (cookie_in chunk.parameters)
@@ -93,6 +93,7 @@ content_in (abort_chunk reflected causes) = abort reflected causes
 content_in (cookie_echo_chunk cookie) = cookie_echo cookie
 content_in cookie_ack_chunk = cookie_ack
 content_in (re_config_chunk parameters) = re_config (map reset_parameter_in parameters)
+content_in (shutdown_chunk cumulative_tsn) = shutdown cumulative_tsn
 content_in shutdown_ack_chunk = shutdown_ack
 content_in (shutdown_complete_chunk reflected) = shutdown_complete reflected
 content_in (unknown_chunk type flags value) = plain (unknown type flags value)

@@ -19,6 +19,7 @@ use Rattle.dcsctp_machine.specs.turns.SettingOutcomes.{Setting, stream_priority,
 pub data CallContent : Type 0 where
   connect_call : CallContent
   close_call : CallContent
+  shutdown_call : CallContent
   -- the present moment
   advance_call : ℕ → CallContent
   set_call : Setting → CallContent
@@ -52,6 +53,7 @@ pub data ActContent : Type 0 where
 abbrev pub call_content : Call → CallContent
 call_content calls.Connect = connect_call
 call_content calls.Close = close_call
+call_content calls.Shutdown = shutdown_call
 call_content (calls.AdvanceTime moment) = advance_call moment
 call_content (calls.SetStreamPriority id priority) = set_call (stream_priority id.0 priority)
 call_content (calls.SetBufferedAmountLowThreshold id bytes) = set_call (stream_low_threshold id.0 bytes)

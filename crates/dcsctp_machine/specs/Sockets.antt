@@ -6,14 +6,14 @@ use Rattle.dcsctp_machine.specs.declared.ends.AbortReason.TheVariants.{CloseCall
 use Rattle.dcsctp_machine.specs.declared.options.Options.{Options}
 use Rattle.dcsctp_machine.specs.declared.schedule.Side.{Side}
 use Rattle.dcsctp_machine.specs.declared.schedule.Side.TheVariants as sides
-use Rattle.dcsctp_machine.specs.Schedule.{CallContent, connect_call, close_call, StepContent, call_step, delivery_step, OutsideContent, input_outside, ActContent, step_act, outside_act, advance_call, set_call, send_call, send_many_call, reset_call, take_call}
+use Rattle.dcsctp_machine.specs.Schedule.{CallContent, connect_call, close_call, shutdown_call, StepContent, call_step, delivery_step, OutsideContent, input_outside, ActContent, step_act, outside_act, advance_call, set_call, send_call, send_many_call, reset_call, take_call}
 use Rattle.dcsctp_machine.specs.Settings.{ports_of}
 use Rattle.dcsctp_machine.specs.Event.{Event, event_map, packets_in}
 use Rattle.dcsctp_machine.specs.Packet.{emission_bytes}
 use Rattle.dcsctp_machine.specs.Endpoint.{Endpoint, fresh_endpoint, association_of}
 use Rattle.dcsctp_machine.specs.Turn.{act_input, user_sets, user_sends, user_resets, user_takes}
 use Rattle.dcsctp_machine.specs.turns.MessageOutcomes.{sending_of}
-use Rattle.dcsctp_machine.specs.control.Acts.{connect, abort_with}
+use Rattle.dcsctp_machine.specs.control.Acts.{connect, shut_down, abort_with}
 use Rattle.dcsctp_machine.specs.TimeTurns.{AdvanceTurns}
 use Rattle.dcsctp_machine.specs.CallTurns.{Turned, Turns, HandleInput, after_all, events_of}
 
@@ -47,6 +47,7 @@ DeliveryTurns e (Some bytes) turns = HandleInput e bytes turns
 abbrev pub UserTurns : Endpoint → CallContent → List Turned → Type 0
 UserTurns e connect_call turns = Turns e (act_input connect ∷ []) turns
 UserTurns e close_call turns = Turns e (act_input (abort_with CloseCalled) ∷ []) turns
+UserTurns e shutdown_call turns = Turns e (act_input shut_down ∷ []) turns
 UserTurns e (advance_call moment) turns = AdvanceTurns e moment turns
 UserTurns e (set_call setting) turns = Turns e (user_sets setting ∷ []) turns
 UserTurns e (send_call message options) turns = Turns e (user_sends (sending_of options message ∷ []) ∷ []) turns

@@ -2,7 +2,7 @@
 use Rattle.std.specs.Prelude.{◌≡◌, ◌≤◌, ◌<◌, ℕ, min, max, Bool, true, false, nat_le, if◌then◌else◌, Option, None, Some, List, [], ◌∷◌}
 use Rattle.std.specs.Duration.{max_nanos}
 use Rattle.dcsctp_machine.specs.Endpoint.{Endpoint, Core, closed, cookie_wait, cookie_echoed, open_in, RunningTimer, is_restarted}
-use Rattle.dcsctp_machine.specs.control.Acts.{t1_expires, abort_with, flushes}
+use Rattle.dcsctp_machine.specs.control.Acts.{t1_expires, shutdown_repeats, abort_with, flushes}
 use Rattle.dcsctp_machine.specs.declared.ends.AbortReason.TheVariants.{TooManyErrors}
 use Rattle.dcsctp_machine.specs.Transfer.{Transfer}
 use Rattle.dcsctp_machine.specs.turns.HeartbeatOutcomes.{is_exhausted}
@@ -12,10 +12,11 @@ use Rattle.dcsctp_machine.specs.CallTurns.{Turned, IsTurn, Turns, after_all, wor
 
 -- ---- deadlines
 
--- the timers of a socket: T1 (RFC 9260, section 5.1), and those of an open association
+-- the timers of a socket: T1 (RFC 9260, section 5.1), those of an open association, and T2 (section 9.2)
 pub data Timer : Type 0 where
   t1_timer : Timer
   own_timer : OwnTimer → Timer
+  t2_timer : Timer
 
 -- Those that are worked in a phase, in their order.
 abbrev pub timers_in : Core → List Timer
@@ -24,7 +25,7 @@ timers_in (cookie_wait mine) = t1_timer ∷ []
 timers_in (cookie_echoed mine held cookie) = own_timer acknowledgement_delay ∷ t1_timer ∷ []
 timers_in (open_in phase mine held) =
     own_timer acknowledgement_delay ∷ own_timer retransmission ∷ own_timer heartbeat_interval ∷ own_timer heartbeat_timeout
-    ∷ own_timer reconfiguration ∷ []
+    ∷ own_timer reconfiguration ∷ t2_timer ∷ []
 
 -- Those whose deadlines count. While the COOKIE ECHO isn't answered it is T1 alone.
 abbrev pub timers_told : Core → List Timer
@@ -54,6 +55,7 @@ deadline e (own_timer retransmission) = loss_deadline e.below.transfer
 deadline e (own_timer heartbeat_interval) = deadline_of e.timers.heartbeat_interval
 deadline e (own_timer heartbeat_timeout) = deadline_of e.timers.heartbeat_timeout
 deadline e (own_timer reconfiguration) = deadline_of e.timers.reconfiguration
+deadline e t2_timer = deadline_of e.timers.t2
 
 -- these, and one more, where there is one
 abbrev pub with_deadline : Option ℕ → List ℕ → List ℕ
@@ -94,10 +96,16 @@ abbrev pub has_restart : Option RunningTimer → Bool
 has_restart None = false
 has_restart (Some timer) = is_restarted timer
 
+-- T2 sends what it waits for again; without a restart the peer is given up, as after too many errors.
+abbrev pub t2_input : Bool → Input
+t2_input true = act_input shutdown_repeats
+t2_input false = act_input (abort_with TooManyErrors)
+
 -- what the expiry of a timer is
 abbrev pub expiry_input : Endpoint → Timer → Input
 expiry_input e t1_timer = act_input (t1_expires (has_restart e.timers.t1))
 expiry_input e (own_timer timer) = timer_expires timer
+expiry_input e t2_timer = t2_input (has_restart e.timers.t2)
 
 -- an own abort, where too many errors were counted (RFC 9260, section 8.1); else these
 abbrev pub unless_exhausted : Endpoint → List Input → List Input

@@ -6,7 +6,7 @@ use Rattle.dcsctp_machine.specs.Endpoint.{Endpoint, Core, open_in, shutdown_sent
 use Rattle.dcsctp_machine.specs.Outcome.{Outcome, still, count_up, reports}
 use Rattle.dcsctp_machine.specs.turns.HandshakeOutcomes.{InitTurn, ConnectTurn, InitAckTurn, CookieAckTurn}
 use Rattle.dcsctp_machine.specs.turns.CookieEchoOutcomes.{CookieEchoTurn}
-use Rattle.dcsctp_machine.specs.turns.EndOutcomes.{abort_outcome, aborting_outcome, ShutdownAckTurn, ShutdownCompleteTurn}
+use Rattle.dcsctp_machine.specs.turns.EndOutcomes.{abort_outcome, aborting_outcome}
 use Rattle.dcsctp_machine.specs.turns.DataOutcomes.{FlushTurn, EndsBy, TakeTurn}
 use Rattle.dcsctp_machine.specs.turns.MessageOutcomes.{Sending, SendTurn}
 use Rattle.dcsctp_machine.specs.turns.OwnTimers.{OwnTimer, TimerTurn}
@@ -14,9 +14,10 @@ use Rattle.dcsctp_machine.specs.turns.PlainOutcomes.{PlainTurn}
 use Rattle.dcsctp_machine.specs.turns.PreparedResets.{OwnResetsTurn}
 use Rattle.dcsctp_machine.specs.turns.ResetOutcomes.{ResetTurn}
 use Rattle.dcsctp_machine.specs.turns.SettingOutcomes.{Setting, setting_outcome}
+use Rattle.dcsctp_machine.specs.turns.ShutdownOutcomes.{step_outcome, shut_down_outcome, shutdown_outcome, shutdown_ack_outcome, shutdown_complete_outcome, t2_again_outcome, shutdown_repeated}
 use Rattle.dcsctp_machine.specs.turns.TimerOutcomes.{T1AgainTurn, t1_gives_up_outcome}
 use Rattle.dcsctp_machine.specs.control.Acts.{Act, connect, t1_expires, shut_down, step_of_shutdown, shutdown_repeats, abort_with, hands_over, flushes, request_again}
-use Rattle.dcsctp_machine.specs.Controlled.{ControlledChunk, ControlledAct}
+use Rattle.dcsctp_machine.specs.Controlled.{ControlledAct}
 
 pub data Input : Type 0 where
   -- a packet is handed in, and counted
@@ -62,14 +63,14 @@ has_data (content ∷ contents) = has_data contents
 
 -- Data that comes where a SHUTDOWN waits for its answer is answered by another, before the chunks (RFC 9260, section 9.2).
 abbrev pub BeginTurn : Endpoint → Core → Bool → Outcome → Type 0
-BeginTurn e (open_in shutdown_sent my held) true o = ControlledAct e shutdown_repeats o
+BeginTurn e (open_in shutdown_sent my held) true o = o ≡ shutdown_repeated e held
 BeginTurn e core has o = o ≡ still e
 
 -- The end of a packet: what came with it is acknowledged.
 abbrev pub EndTurn : Endpoint → Outcome → Type 0
 EndTurn e o = EndsBy e e.below.transfer o
 
--- What a chunk does. Where a chunk is said by the association alone, the rest of the endpoint is open.
+-- What a chunk does.
 abbrev pub ContentTurn : Endpoint → ℕ → Content → Outcome → Type 0
 ContentTurn e tag (init theirs) o = InitTurn e theirs o
 ContentTurn e tag (init_ack theirs cookie) o = InitAckTurn e theirs cookie o
@@ -77,9 +78,9 @@ ContentTurn e tag (cookie_echo cookie) o = CookieEchoTurn e tag cookie o
 ContentTurn e tag cookie_ack o = CookieAckTurn e o
 ContentTurn e tag (re_config parameters) o = ResetTurn e e.core parameters o
 ContentTurn e tag (abort reflected causes) o = o ≡ abort_outcome e causes e.core
-ContentTurn e tag (shutdown cumulative_tsn) o = ControlledChunk e tag (shutdown cumulative_tsn) o
-ContentTurn e tag shutdown_ack o = ShutdownAckTurn e e.core tag o
-ContentTurn e tag (shutdown_complete reflected) o = ShutdownCompleteTurn e e.core tag reflected o
+ContentTurn e tag (shutdown cumulative_tsn) o = o ≡ shutdown_outcome e e.core
+ContentTurn e tag shutdown_ack o = o ≡ shutdown_ack_outcome e e.core tag
+ContentTurn e tag (shutdown_complete reflected) o = o ≡ shutdown_complete_outcome e e.core
 ContentTurn e tag (plain chunk) o = PlainTurn e chunk o
 
 -- What the user and the timers bring.
@@ -87,9 +88,9 @@ abbrev pub ActTurn : Endpoint → Act → Outcome → Type 0
 ActTurn e connect o = ConnectTurn e o
 ActTurn e (t1_expires true) o = T1AgainTurn e o
 ActTurn e (t1_expires false) o = o ≡ t1_gives_up_outcome e e.core
-ActTurn e shut_down o = ControlledAct e shut_down o
-ActTurn e step_of_shutdown o = ControlledAct e step_of_shutdown o
-ActTurn e shutdown_repeats o = ControlledAct e shutdown_repeats o
+ActTurn e shut_down o = o ≡ shut_down_outcome e e.core
+ActTurn e step_of_shutdown o = o ≡ step_outcome e e.core
+ActTurn e shutdown_repeats o = o ≡ t2_again_outcome e
 ActTurn e (abort_with reason) o = o ≡ aborting_outcome e e.core reason
 ActTurn e hands_over o = ControlledAct e hands_over o
 ActTurn e flushes o = FlushTurn e o

@@ -12,5 +12,6 @@ pub mod PreparedResets
 pub mod ReconfigurationOutcomes
 pub mod ResetOutcomes
 pub mod SettingOutcomes
+pub mod ShutdownOutcomes
 pub mod TimerOutcomes
 pub mod TransferMoves

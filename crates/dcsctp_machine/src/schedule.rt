@@ -28,6 +28,9 @@ pub enum Call {
     /// It closes its association at once (RFC 9260, section 9.1).
     Close,
 
+    /// It shuts its association down (RFC 9260, section 9.2).
+    Shutdown,
+
     /// It tells the time: this is the present moment.
     AdvanceTime(SocketTime),
 
@@ -83,6 +86,7 @@ impl Call {
         match self {
             Call::Connect => Ok(Call::Connect),
             Call::Close => Ok(Call::Close),
+            Call::Shutdown => Ok(Call::Shutdown),
             Call::AdvanceTime(now) => Ok(Call::AdvanceTime(*now)),
             Call::SetStreamPriority(id, priority) => Ok(Call::SetStreamPriority(*id, *priority)),
             Call::SetBufferedAmountLowThreshold(id, bytes) => {

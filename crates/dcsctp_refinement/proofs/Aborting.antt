@@ -11,7 +11,7 @@ use Rattle.dcsctp_machine.specs.declared.ends.AbortReason.{AbortReason}
 use Rattle.dcsctp_machine.specs.declared.ends.AbortReason.TheVariants as reasons
 use Rattle.dcsctp_machine.specs.Cause.{violation_text, reason_text, causes_of}
 use Rattle.dcsctp_machine.specs.Packet.{abort}
-use Rattle.dcsctp_machine.specs.Endpoint.{Endpoint, Core, closed, cookie_wait, cookie_echoed, open_in, established, shutdown_pending, shutdown_sent, shutdown_received, shutdown_ack_sent}
+use Rattle.dcsctp_machine.specs.Endpoint.{Endpoint, Core, closed, cookie_wait, cookie_echoed, open_in}
 use Rattle.dcsctp_machine.specs.Outcome.{sends, quiet, fits}
 use Rattle.dcsctp_machine.specs.turns.EndOutcomes.{ended_outcome, end_of, abort_to, aborting_outcome}
 use Rattle.dcsctp_machine.specs.Fitting.{AllSent, FitsHeld, FitsCore, FitsEndpoint, IsSendable, Sendable, TurnFits}
@@ -84,8 +84,4 @@ pub aborting_fits : (e : Endpoint) (core : Core) (reason : AbortReason) → Fits
 aborting_fits e closed reason h own = record { after = h; sends = tt }
 aborting_fits e (cookie_wait my) reason h own = record { after = record { valid = h.valid; options = h.options; core = tt; t1 = tt }; sends = end_fits reason }
 aborting_fits e (cookie_echoed my held cookie) reason h own = aborts_fit (fits e (abort_to held reason)) e held reason h own.1
-aborting_fits e (open_in established my held) reason h own = aborts_fit (fits e (abort_to held reason)) e held reason h own.1
-aborting_fits e (open_in shutdown_pending my held) reason h own = absurd own
-aborting_fits e (open_in shutdown_sent my held) reason h own = absurd own
-aborting_fits e (open_in shutdown_received my held) reason h own = absurd own
-aborting_fits e (open_in shutdown_ack_sent my held) reason h own = absurd own
+aborting_fits e (open_in phase my held) reason h own = aborts_fit (fits e (abort_to held reason)) e held reason h own.1

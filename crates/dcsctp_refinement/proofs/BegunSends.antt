@@ -12,7 +12,7 @@ use Rattle.dcsctp_machine.specs.Packet.{Content, re_config, chunk_out}
 use Rattle.dcsctp_machine.specs.Reconfiguration.{outgoing_reset_request, streams_in}
 use Rattle.dcsctp_machine.specs.Transfer.{SendQueueState}
 use Rattle.dcsctp_machine.specs.Deadlines.{T1Runs}
-use Rattle.dcsctp_machine.specs.Endpoint.{Endpoint, Core, closed, cookie_wait, cookie_echoed, open_in, established, shutdown_pending, shutdown_sent, shutdown_received, shutdown_ack_sent, held_in, RunningTimer}
+use Rattle.dcsctp_machine.specs.Endpoint.{Endpoint, Core, closed, cookie_wait, cookie_echoed, open_in, held_in, RunningTimer}
 use Rattle.dcsctp_machine.specs.Outcome.{contents_len}
 use Rattle.dcsctp_machine.specs.control.FlushChanges.{reset_request}
 use Rattle.dcsctp_machine.specs.turns.BegunResets.{BegunReset, stream_field, streams_within, begun_where, begun_in, request_contents, core_asking, after_begun}
@@ -75,11 +75,7 @@ pub peer_fits : (core : Core) → FitsCore core → FitsPeer (held_in core)
 peer_fits closed own = tt
 peer_fits (cookie_wait my) own = tt
 peer_fits (cookie_echoed my held cookie) own = own.1
-peer_fits (open_in established my held) own = own.1
-peer_fits (open_in shutdown_pending my held) own = absurd own
-peer_fits (open_in shutdown_sent my held) own = absurd own
-peer_fits (open_in shutdown_received my held) own = absurd own
-peer_fits (open_in shutdown_ack_sent my held) own = absurd own
+peer_fits (open_in phase my held) own = own.1
 
 in_sends : (held : Option Held) (room last_tsn : ℕ) (queue : SendQueueState) → FitsPeer held → last_tsn < 2 ^ 32
     → contents_len (request_contents (begun_in held room last_tsn queue)) < 2 ^ 16 → AllByRecursion Sendable (request_contents (begun_in held room last_tsn queue))
@@ -103,11 +99,7 @@ asking_fits : (core : Core) → FitsCore core → FitsCore (core_asking core)
 asking_fits closed own = own
 asking_fits (cookie_wait my) own = own
 asking_fits (cookie_echoed my held cookie) own = (own.0, asking_held held own.1, own.2)
-asking_fits (open_in established my held) own = (own.0, asking_held held own.1)
-asking_fits (open_in shutdown_pending my held) own = absurd own
-asking_fits (open_in shutdown_sent my held) own = absurd own
-asking_fits (open_in shutdown_received my held) own = absurd own
-asking_fits (open_in shutdown_ack_sent my held) own = absurd own
+asking_fits (open_in phase my held) own = (own.0, asking_held held own.1)
 
 pub begun_fits : (begun : Option BegunReset) (e : Endpoint) → FitsCore e.core → FitsCore (after_begun begun e).core
 begun_fits None e own = own

@@ -21,6 +21,7 @@ use Rattle.dcsctp_machine.proofs.FlushKeeps.{goes_out_keeps}
 use Rattle.dcsctp_refinement.proofs.FlushFits.{kept_fits, still_fits, data_sendable, where_fits_sendable, sack_sendable, told_sends, goes_out_sends, draft_sendable, flush_fits, behind_fits}
 use Rattle.dcsctp_refinement.proofs.Sent.{all_sent_append}
 use Rattle.dcsctp_refinement.proofs.BegunSends.{FitsPeer, peer_fits}
+use Rattle.dcsctp_refinement.proofs.ShutdownFits.{step_fits}
 
 -- ---- turns that send nothing
 
@@ -102,11 +103,12 @@ taken_fits e old new h = record { valid = h.valid; options = h.options; core = h
 
 acknowledges_fits : (e : Endpoint) (held : Held) (transfer : Transfer) (o : Outcome) → AcknowledgesBy e held transfer o → FitsEndpoint e → FitsHeld held → TurnFits o
 acknowledges_fits e held transfer o turn h fits =
-    let fast : TurnFits turn.fast =
-    fast_fits turn.left.retransmission.has_fast_retransmit (sack_taken e transfer turn.left) held turn.left turn.fast turn.resends (taken_fits e transfer turn.left h) fits in
+    let step : TurnFits turn.stepped = subst TurnFits (sym turn.steps) (step_fits (sack_taken e transfer turn.left) e.core (taken_fits e transfer turn.left h) h.core) in
+    let fast : TurnFits turn.fast = fast_fits turn.left.retransmission.has_fast_retransmit turn.stepped.after held turn.left turn.fast turn.resends step.after fits in
     subst TurnFits (sym turn.is)
-    (behind_fits [] (delivered_events turn.ids ++ turn.fast.events) (flush_of turn.fast.after (draft_to held) turn.answers)
-    (all_sent_append IsSendable (delivered_events turn.ids) turn.fast.events (delivered_send_nothing turn.ids) fast.sends)
+    (behind_fits [] (delivered_events turn.ids ++ (turn.stepped.events ++ turn.fast.events)) (flush_of turn.fast.after (draft_to held) turn.answers)
+    (all_sent_append IsSendable (delivered_events turn.ids) (turn.stepped.events ++ turn.fast.events) (delivered_send_nothing turn.ids)
+    (all_sent_append IsSendable turn.stepped.events turn.fast.events step.sends fast.sends))
     (flush_fits turn.fast.after (draft_to held) turn.answers turn.allowed fast.after (draft_sendable held fits)))
 
 sack_where_fits : (b : Bool) (e : Endpoint) (held : Held) (transfer : Transfer) (o : Outcome) → SackWhere b e held transfer o → FitsEndpoint e → FitsHeld held → TurnFits o

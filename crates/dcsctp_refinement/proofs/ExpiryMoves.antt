@@ -8,29 +8,30 @@ use Rattle.dcsctp_machine.specs.declared.options.Options.{Options}
 use Rattle.dcsctp_machine.specs.declared.association.Held.{Held}
 use Rattle.dcsctp_machine.specs.declared.ends.AbortReason.TheVariants.{TooManyErrors}
 use Rattle.dcsctp_machine.specs.Packet.{heartbeat, plain}
-use Rattle.dcsctp_machine.specs.Endpoint.{Endpoint, Core, closed, cookie_wait, cookie_echoed, open_in, established, shutdown_pending, shutdown_sent, shutdown_received, shutdown_ack_sent, held_in}
+use Rattle.dcsctp_machine.specs.Endpoint.{Endpoint, Core, closed, cookie_wait, cookie_echoed, open_in, established, held_in}
 use Rattle.dcsctp_machine.specs.Outcome.{Outcome}
-use Rattle.dcsctp_machine.specs.Turn.{Input, act_input, timer_expires}
-use Rattle.dcsctp_machine.specs.TimeTurns.{Timer, t1_timer, own_timer, deadline, has_come, has_restart, expiry_input, inputs_behind, after_expiries, ExpiryThen, ExpiryTurns}
+use Rattle.dcsctp_machine.specs.Turn.{Input, ActTurn, act_input, timer_expires}
+use Rattle.dcsctp_machine.specs.TimeTurns.{Timer, t1_timer, own_timer, t2_timer, deadline, has_come, has_restart, t2_input, expiry_input, inputs_behind, after_expiries, ExpiryThen, ExpiryTurns}
 use Rattle.dcsctp_machine.specs.CallTurns.{Turned, IsTurn, Turns}
 use Rattle.dcsctp_machine.specs.turns.HeartbeatOutcomes.{is_exhausted, interval_expired, beating, heartbeat_emission, interval_outcome}
 use Rattle.dcsctp_machine.specs.turns.OwnTimers.{OwnTimer, acknowledgement_delay, retransmission, heartbeat_interval, heartbeat_timeout, reconfiguration, TimerTurn, timer_act}
 use Rattle.dcsctp_machine.specs.control.Effect.{Effect, Change}
-use Rattle.dcsctp_machine.specs.control.Acts.{Act, flushes, abort_with, t1_expires, act_change}
+use Rattle.dcsctp_machine.specs.control.Acts.{flushes, shutdown_repeats, abort_with, t1_expires, act_change}
 use Rattle.dcsctp_machine.specs.Fitting.{FitsHeld, FitsCore, FitsEndpoint, Sendable, TurnFits}
 use Rattle.dcsctp_machine.specs.World.{SideState, after_changes, does}
 use Rattle.dcsctp_machine.specs.Sockets.{endpoint_after}
-use Rattle.dcsctp_machine.proofs.DataLemmas.{flushed_act, flush_turn_at}
 use Rattle.dcsctp_machine.proofs.HeartbeatLemmas.{timer_controlled}
+use Rattle.dcsctp_refinement.proofs.Aborting.{aborting_fits}
 use Rattle.dcsctp_refinement.proofs.BegunSends.{peer_fits}
 use Rattle.dcsctp_refinement.proofs.Bytes.{in_four}
 use Rattle.dcsctp_refinement.proofs.DataFits.{flush_turn_fits, delay_fits, loss_fits}
-use Rattle.dcsctp_refinement.proofs.ActMoves.{TakesNoOptions, ActFollows, act_follows}
+use Rattle.dcsctp_refinement.proofs.ActMoves.{TakesNoOptions}
 use Rattle.dcsctp_refinement.proofs.RequestAgain.{reconfiguration_fits}
+use Rattle.dcsctp_refinement.proofs.ShutdownFits.{t2_again_fits}
 use Rattle.dcsctp_refinement.proofs.TurnsFit.{emits_fit}
 use Rattle.dcsctp_refinement.proofs.Follow.{Followed, after_last}
 use Rattle.dcsctp_refinement.proofs.TimeMoves.{T1Follows, t1_follows}
-use Rattle.dcsctp_refinement.proofs.Moves.{Below, SideMoves, moves_then, flush_moves, none_rests}
+use Rattle.dcsctp_refinement.proofs.Moves.{Below, SideMoves, moves_then, none_rests, act_then, act_moves}
 
 -- ---- what goes out fits
 
@@ -48,11 +49,7 @@ interval_fits : (e : Endpoint) (core : Core) → FitsEndpoint e → FitsCore cor
 interval_fits e closed h own = record { after = record { valid = h.valid; options = h.options; core = h.core; t1 = h.t1 }; sends = tt }
 interval_fits e (cookie_wait my) h own = record { after = record { valid = h.valid; options = h.options; core = h.core; t1 = h.t1 }; sends = tt }
 interval_fits e (cookie_echoed my held cookie) h own = beats_fit e held h own.1
-interval_fits e (open_in established my held) h own = beats_fit e held h own.1
-interval_fits e (open_in shutdown_pending my held) h own = absurd own
-interval_fits e (open_in shutdown_sent my held) h own = absurd own
-interval_fits e (open_in shutdown_received my held) h own = absurd own
-interval_fits e (open_in shutdown_ack_sent my held) h own = absurd own
+interval_fits e (open_in phase my held) h own = beats_fit e held h own.1
 
 timer_fits : (e : Endpoint) (timer : OwnTimer) (o : Outcome) → TimerTurn e timer o → FitsEndpoint e → TurnFits o
 timer_fits e acknowledgement_delay o turn h = subst TurnFits (sym turn) (delay_fits e e.below.transfer h)
@@ -78,11 +75,8 @@ own_moves : Below → (options : Options) (turns : List Turned) (side : SideStat
     → IsTurn (endpoint_after options turns) (timer_expires timer) t → MovesBehind options (turns ++ t ∷ []) theirs more → SideMoves options turns side theirs (t ∷ more)
 own_moves law options turns side theirs timer t more h turn rest =
     let e : Endpoint = endpoint_after options turns in
-    let act : Act = timer_act e timer in
-    let followed : ActFollows options turns side act t =
-    act_follows law.effects_mean options turns side act t (no_options e timer) h (timer_controlled e timer t.outcome turn.comes) (timer_fits e timer t.outcome turn.comes h.fits) in
-    let change : Change = act_change side.options side.core act followed.choices in
-    moves_then options turns side theirs (t ∷ []) more (does act) (change ∷ []) (followed.choices, refl) (rest (after_changes side (change ∷ [])) followed.follows)
+    act_then law options turns side theirs (timer_act e timer) t more (no_options e timer) h (timer_controlled e timer t.outcome turn.comes) (timer_fits e timer t.outcome turn.comes h.fits)
+    (λ choices follows. rest _ follows)
 
 t1_moves : Below → (options : Options) (turns : List Turned) (side : SideState) (theirs : List Effect) (again : Bool) (t : Turned) (more : List Turned) → Followed options turns side
     → IsTurn (endpoint_after options turns) (act_input (t1_expires again)) t → MovesBehind options (turns ++ t ∷ []) theirs more → SideMoves options turns side theirs (t ∷ more)
@@ -92,50 +86,52 @@ t1_moves law options turns side theirs again t more h turn rest =
     moves_then options turns side theirs (t ∷ []) more (does (t1_expires again)) (change ∷ []) (followed.choices, refl)
     (rest (after_changes side (change ∷ [])) followed.follows)
 
+aborts_fit : (e : Endpoint) (o : Outcome) → FitsEndpoint e → ActTurn e (abort_with TooManyErrors) o → TurnFits o
+aborts_fit e o h turn = subst TurnFits (sym turn) (aborting_fits e e.core TooManyErrors h h.core)
+
+t2_moves : Below → (options : Options) (turns : List Turned) (side : SideState) (theirs : List Effect) (again : Bool) (t : Turned) (more : List Turned) → Followed options turns side
+    → IsTurn (endpoint_after options turns) (t2_input again) t → MovesBehind options (turns ++ t ∷ []) theirs more → SideMoves options turns side theirs (t ∷ more)
+t2_moves law options turns side theirs true t more h turn rest =
+    let e : Endpoint = endpoint_after options turns in
+    act_then law options turns side theirs shutdown_repeats t more (λ p q core choices. refl) h (law.acts e shutdown_repeats t.outcome turn.comes) (subst TurnFits (sym turn.comes) (t2_again_fits e h.fits))
+    (λ choices follows. rest _ follows)
+t2_moves law options turns side theirs false t more h turn rest =
+    let e : Endpoint = endpoint_after options turns in
+    act_then law options turns side theirs (abort_with TooManyErrors) t more (λ p q core choices. refl) h (law.acts e (abort_with TooManyErrors) t.outcome turn.comes) (aborts_fit e t.outcome h.fits turn.comes)
+    (λ choices follows. rest _ follows)
+
 expiry_moves : Below → (options : Options) (turns : List Turned) (side : SideState) (theirs : List Effect) (timer : Timer) (t : Turned) (more : List Turned) → Followed options turns side
     → IsTurn (endpoint_after options turns) (expiry_input (endpoint_after options turns) timer) t → MovesBehind options (turns ++ t ∷ []) theirs more → SideMoves options turns side theirs (t ∷ more)
 expiry_moves law options turns side theirs t1_timer t more h turn rest = t1_moves law options turns side theirs (has_restart (endpoint_after options turns).timers.t1) t more h turn rest
 expiry_moves law options turns side theirs (own_timer timer) t more h turn rest = own_moves law options turns side theirs timer t more h turn rest
+expiry_moves law options turns side theirs t2_timer t more h turn rest = t2_moves law options turns side theirs (has_restart (endpoint_after options turns).timers.t2) t more h turn rest
 
 -- ---- all that are due
 
--- what comes of an own abort
-abbrev AbortMoves : Options → List Effect → Type 0
-AbortMoves options theirs =
-    (turns : List Turned) (side : SideState) (more : List Turned) → Followed options turns side
-    → Turns (endpoint_after options turns) (act_input (abort_with TooManyErrors) ∷ []) more → SideMoves options turns side theirs more
-
--- a flush behind the timers
-flush_behind : Below → (options : Options) (turns : List Turned) (side : SideState) (theirs : List Effect) (more : List Turned) → Followed options turns side
-    → Turns (endpoint_after options turns) (act_input flushes ∷ []) more → SideMoves options turns side theirs more
-flush_behind law options turns side theirs [] h taken = absurd taken
-flush_behind law options turns side theirs (t ∷ []) h taken =
-    let e : Endpoint = endpoint_after options turns in
-    flush_moves law options turns side theirs t h (flushed_act e t.outcome (flush_turn_at e t.outcome taken.0.comes)) (flush_turn_fits e t.outcome taken.0.comes h.fits)
-flush_behind law options turns side theirs (t ∷ next ∷ more) h taken = absurd taken.1
-
--- These inputs, unless too many errors were counted.
-many_moves : (options : Options) (turns : List Turned) (side : SideState) (theirs : List Effect) (many : Bool) (inputs : List Input) (more : List Turned) → AbortMoves options theirs
+-- These inputs, unless too many errors were counted: then the own end aborts.
+many_moves : Below → (options : Options) (turns : List Turned) (side : SideState) (theirs : List Effect) (many : Bool) (inputs : List Input) (more : List Turned)
     → Followed options turns side → (Turns (endpoint_after options turns) inputs more → SideMoves options turns side theirs more)
     → Turns (endpoint_after options turns) (if many then act_input (abort_with TooManyErrors) ∷ [] else inputs) more → SideMoves options turns side theirs more
-many_moves options turns side theirs true inputs more aborts h others taken = aborts turns side more h taken
-many_moves options turns side theirs false inputs more aborts h others taken = others taken
+many_moves law options turns side theirs true inputs more h others taken =
+    act_moves law options turns side theirs (abort_with TooManyErrors) more (λ p q core choices. refl) h (λ o turn. aborts_fit (endpoint_after options turns) o h.fits turn) taken
+many_moves law options turns side theirs false inputs more h others taken = others taken
 
-behind_moves : Below → (options : Options) (turns : List Turned) (side : SideState) (theirs : List Effect) (core : Core) (more : List Turned) → AbortMoves options theirs → Followed options turns side
+behind_moves : Below → (options : Options) (turns : List Turned) (side : SideState) (theirs : List Effect) (core : Core) (more : List Turned) → Followed options turns side
     → Turns (endpoint_after options turns) (inputs_behind (endpoint_after options turns) core) more → SideMoves options turns side theirs more
-behind_moves law options turns side theirs closed more aborts h taken = none_rests options turns side theirs more h taken
-behind_moves law options turns side theirs (cookie_wait my) more aborts h taken = none_rests options turns side theirs more h taken
-behind_moves law options turns side theirs (cookie_echoed my held cookie) more aborts h taken =
-    many_moves options turns side theirs (is_exhausted (endpoint_after options turns).options.max_retransmissions (endpoint_after options turns).error_count) [] more aborts h
-    (none_rests options turns side theirs more h) taken
-behind_moves law options turns side theirs (open_in phase my held) more aborts h taken =
-    many_moves options turns side theirs (is_exhausted (endpoint_after options turns).options.max_retransmissions (endpoint_after options turns).error_count) (act_input flushes ∷ []) more aborts h
-    (flush_behind law options turns side theirs more h) taken
+behind_moves law options turns side theirs closed more h taken = none_rests options turns side theirs more h taken
+behind_moves law options turns side theirs (cookie_wait my) more h taken = none_rests options turns side theirs more h taken
+behind_moves law options turns side theirs (cookie_echoed my held cookie) more h taken =
+    let e : Endpoint = endpoint_after options turns in
+    many_moves law options turns side theirs (is_exhausted e.options.max_retransmissions e.error_count) [] more h (none_rests options turns side theirs more h) taken
+behind_moves law options turns side theirs (open_in phase my held) more h taken =
+    let e : Endpoint = endpoint_after options turns in
+    many_moves law options turns side theirs (is_exhausted e.options.max_retransmissions e.error_count) (act_input flushes ∷ []) more h
+    (act_moves law options turns side theirs flushes more (λ p q core choices. refl) h (λ o turn. flush_turn_fits e o turn h.fits)) taken
 
-after_moves_of : Below → (options : Options) (turns : List Turned) (side : SideState) (theirs : List Effect) (has_expired : Bool) (more : List Turned) → AbortMoves options theirs → Followed options turns side
+after_moves_of : Below → (options : Options) (turns : List Turned) (side : SideState) (theirs : List Effect) (has_expired : Bool) (more : List Turned) → Followed options turns side
     → Turns (endpoint_after options turns) (after_expiries (endpoint_after options turns) has_expired) more → SideMoves options turns side theirs more
-after_moves_of law options turns side theirs false more aborts h taken = none_rests options turns side theirs more h taken
-after_moves_of law options turns side theirs true more aborts h taken = behind_moves law options turns side theirs (endpoint_after options turns).core more aborts h taken
+after_moves_of law options turns side theirs false more h taken = none_rests options turns side theirs more h taken
+after_moves_of law options turns side theirs true more h taken = behind_moves law options turns side theirs (endpoint_after options turns).core more h taken
 
 -- what comes of the timers that are left
 abbrev ExpiriesMove : Options → List Effect → List Timer → Type 0
@@ -153,8 +149,8 @@ next_moves law options theirs timer timers rest true turns side has_expired (t �
     rest (turns ++ t ∷ []) after true more follows (subst (λ (x : Endpoint). ExpiryTurns timers true x more) (sym (after_last _ turns t)) taken.1))
 next_moves law options theirs timer timers rest false turns side has_expired more h taken = rest turns side has_expired more h taken
 
-pub expiries_move : Below → (options : Options) (theirs : List Effect) (timers : List Timer) → AbortMoves options theirs → ExpiriesMove options theirs timers
-expiries_move law options theirs [] aborts turns side has_expired more h taken = after_moves_of law options turns side theirs has_expired more aborts h taken
-expiries_move law options theirs (timer ∷ timers) aborts turns side has_expired more h taken =
+pub expiries_move : Below → (options : Options) (theirs : List Effect) (timers : List Timer) → ExpiriesMove options theirs timers
+expiries_move law options theirs [] turns side has_expired more h taken = after_moves_of law options turns side theirs has_expired more h taken
+expiries_move law options theirs (timer ∷ timers) turns side has_expired more h taken =
     let e : Endpoint = endpoint_after options turns in
-    next_moves law options theirs timer timers (expiries_move law options theirs timers aborts) (has_come e.moment (deadline e timer)) turns side has_expired more h taken
+    next_moves law options theirs timer timers (expiries_move law options theirs timers) (has_come e.moment (deadline e timer)) turns side has_expired more h taken

@@ -10,7 +10,7 @@ use Rattle.dcsctp_machine.specs.Settings.{IsValid, FitsOptions}
 use Rattle.dcsctp_machine.specs.Event.{Event, sent}
 use Rattle.dcsctp_machine.specs.Packet.{Plain, unworked, plain, plain_out, Content, Emission, content_in}
 use Rattle.dcsctp_machine.specs.Transfer.{Transfer, TrackerState, is_idle}
-use Rattle.dcsctp_machine.specs.Endpoint.{Endpoint, Core, closed, cookie_wait, cookie_echoed, open_in, established, shutdown_pending, shutdown_sent, shutdown_received, shutdown_ack_sent, held_in}
+use Rattle.dcsctp_machine.specs.Endpoint.{Endpoint, Core, closed, cookie_wait, cookie_echoed, open_in, held_in}
 use Rattle.dcsctp_machine.specs.Outcome.{Outcome, still, behind}
 use Rattle.dcsctp_machine.specs.Deadlines.{T1Runs}
 use Rattle.dcsctp_machine.specs.control.Choices.{plain_contents}
@@ -151,11 +151,7 @@ next_sendable : (core : Core) (draft : Emission) → FitsCore core → IsSendabl
 next_sendable closed draft own good = record { tag = good.tag; contents = tt }
 next_sendable (cookie_wait my) draft own good = record { tag = good.tag; contents = tt }
 next_sendable (cookie_echoed my held cookie) draft own good = draft_sendable held own.1
-next_sendable (open_in established my held) draft own good = draft_sendable held own.1
-next_sendable (open_in shutdown_pending my held) draft own good = absurd own
-next_sendable (open_in shutdown_sent my held) draft own good = absurd own
-next_sendable (open_in shutdown_received my held) draft own good = absurd own
-next_sendable (open_in shutdown_ack_sent my held) draft own good = absurd own
+next_sendable (open_in phase my held) draft own good = draft_sendable held own.1
 
 flush_sends : (ask : Ask) (n : ℕ) (e : Endpoint) (draft : Emission) (answers : List Answer) → Answers ask n e draft answers → FitsEndpoint e → IsSendable draft
     → AllSent IsSendable (flush_of e draft answers).events

@@ -16,10 +16,12 @@ mod HandshakeTurns
 mod Idle
 mod IdleTurns
 mod Moves
+mod PacketMoves
 mod PlainFits
 mod RequestAgain
 mod Resets
 mod Sendable
+mod ShutdownFits
 mod Sent
 mod Signs
 mod SocketsAgree
@@ -36,3 +38,4 @@ pub mod TimerFits
 pub mod StepMoves
 mod T1Chunks
 mod T1Data
+mod T1Shutdown

@@ -1,36 +1,26 @@
--- What comes of connect and of a delivery at one socket is moves of its side in the machine that agreement is proved on.
-use Rattle.std.proofs.Common.{◌≡◌, ◌^◌, ◌<◌, ℕ, Bool, Option, None, Some, List, [], ◌∷◌, ◌++◌, refl, sym, subst, ap, ◌∙◌, append_assoc}
+-- What comes of connect, and of an act in which the options have no part, is moves of a side in the machine that agreement is proved on.
+use Rattle.std.proofs.Common.{◌≡◌, List, [], ◌∷◌, ◌++◌, refl, sym, subst, ap, ◌∙◌, append_assoc}
 use Rattle.std.proofs.lemmas.List.{append-nil}
-use Rattle.std.specs.List.{AllByRecursion, slice_get}
-use Rattle.dcsctp_wire.specs.Format.{IsPacket}
 use Rattle.dcsctp_wire.specs.ReadsBack.{BuiltPacketReadsAsItself}
 use Rattle.dcsctp_machine.specs.declared.options.Options.{Options}
-use Rattle.dcsctp_machine.specs.Settings.{SameOptions, FitsOptions, wire_options, ports_of}
-use Rattle.dcsctp_machine.specs.Packet.{Content, Packet, packet_in, emission_bytes}
-use Rattle.dcsctp_machine.specs.Endpoint.{Endpoint, Core, closed, cookie_wait, cookie_echoed, open_in, established, shutdown_pending, shutdown_sent, shutdown_received, shutdown_ack_sent, fresh_endpoint}
-use Rattle.dcsctp_machine.specs.Outcome.{Outcome, still}
-use Rattle.dcsctp_machine.specs.Turn.{Input, arrival, refusal, packet_ends, act_input, has_data, BeginTurn, unreadable_text, arrival_outcome, refusal_outcome}
+use Rattle.dcsctp_machine.specs.Settings.{SameOptions}
+use Rattle.dcsctp_machine.specs.Endpoint.{Endpoint, Core}
+use Rattle.dcsctp_machine.specs.Outcome.{Outcome}
+use Rattle.dcsctp_machine.specs.Turn.{ActTurn, act_input}
 use Rattle.dcsctp_machine.specs.turns.HandshakeOutcomes.{ConnectTurn}
-use Rattle.dcsctp_machine.specs.CallTurns.{Turned, Turns, ChunkTurns, WholeTurns, AdmittedTurns, HandleInput, unreadable, readable, events_of}
-use Rattle.dcsctp_machine.specs.Admission.{Admission, all_chunks, shutdown_acks_alone, refused, admits, shutdown_acks_in}
+use Rattle.dcsctp_machine.specs.CallTurns.{Turned, Turns}
 use Rattle.dcsctp_machine.specs.Controlled.{IsControlled, ControlledAct}
-use Rattle.dcsctp_machine.specs.control.Effect.{Effect, sends, Change, unchanged}
+use Rattle.dcsctp_machine.specs.control.Effect.{Effect, Change}
 use Rattle.dcsctp_machine.specs.control.Choices.{Choices}
-use Rattle.dcsctp_machine.specs.control.Acts.{connect, act_change, flushes, flush_change}
-use Rattle.dcsctp_machine.specs.Laws.{IsRest, dropped, ended, AreChunks, OfferReadsBack, ActsAreControlled, PacketsAreControlled, AdmittedPacketsMayBeWorked}
-use Rattle.dcsctp_machine.specs.Past.{Has}
-use Rattle.dcsctp_machine.specs.World.{SideState, after_changes, acted, ChunkChanges, PacketChanges, worked_whole, worked_acks, Move, does, receives, MoveChanges, Moved, MovesMade, after_moves}
-use Rattle.dcsctp_machine.specs.Sockets.{endpoint_after, packets_shown, DeliveryTurns}
-use Rattle.dcsctp_machine.specs.Fitting.{FitsCore, Sendable, SendablePacket, TurnFits}
-use Rattle.dcsctp_machine.proofs.TurnLemmas.{after_all-append}
-use Rattle.dcsctp_machine.proofs.DataLemmas.{flushed_act, end_at}
-use Rattle.dcsctp_machine.proofs.DeliveryLemmas.{same_options_move, longest_connects}
+use Rattle.dcsctp_machine.specs.control.Acts.{Act, connect, act_change, flushes}
+use Rattle.dcsctp_machine.specs.Laws.{OfferReadsBack, ActsAreControlled, PacketsAreControlled, AdmittedPacketsMayBeWorked}
+use Rattle.dcsctp_machine.specs.World.{SideState, after_changes, acted, Move, does, MoveChanges, Moved, MovesMade, after_moves}
+use Rattle.dcsctp_machine.specs.Sockets.{endpoint_after}
+use Rattle.dcsctp_machine.specs.Fitting.{TurnFits}
+use Rattle.dcsctp_machine.proofs.DeliveryLemmas.{longest_connects}
 use Rattle.dcsctp_agreement.specs.OneSide.{EffectsMean}
-use Rattle.dcsctp_agreement.proofs.Alone.{packet_turns}
-use Rattle.dcsctp_refinement.proofs.DataFits.{end_fits}
-use Rattle.dcsctp_refinement.proofs.Deliver.{IsSent, sent_at, reads_as_sent, Fits, ChunksFit, EndFits, chunk_turns_fit, nothing_ends, packet_end_fits, acks_sendable}
-use Rattle.dcsctp_refinement.proofs.Follow.{Went, Followed, after_last, follow_turns, follow_idle}
-use Rattle.dcsctp_refinement.proofs.ActMoves.{ActFollows, act_follows}
+use Rattle.dcsctp_refinement.proofs.Follow.{Followed, follow_turns}
+use Rattle.dcsctp_refinement.proofs.ActMoves.{TakesNoOptions, ActFollows, act_follows}
 use Rattle.dcsctp_refinement.proofs.TurnsFit.{connect_fits}
 
 -- the laws below that the runs of sockets rest on
@@ -81,6 +71,11 @@ moves_then options turns side theirs xs ys move changes made second =
       follows = subst (λ (ts : List Turned). Followed options ts (after_moves (after_changes side changes) second.moves)) (append_assoc turns xs ys) second.follows;
     }
 
+pub none_rests : (options : Options) (turns : List Turned) (side : SideState) (theirs : List Effect) (more : List Turned) → Followed options turns side
+    → Turns (endpoint_after options turns) [] more → SideMoves options turns side theirs more
+none_rests options turns side theirs [] h taken = nothing_happens options turns side theirs [] h refl
+none_rests options turns side theirs (t ∷ more) h taken = absurd taken
+
 -- ---- connect
 
 abbrev act_at : Endpoint → Options → Core → Outcome → Choices → Type 0
@@ -109,168 +104,34 @@ connect_moves law options turns side theirs [] h turn = absurd turn
 connect_moves law options turns side theirs (t ∷ []) h turn = connected_by law options turns side theirs t h turn.0.comes
 connect_moves law options turns side theirs (t ∷ next ∷ more) h turn = absurd turn.1
 
--- ---- a packet that is counted, and one that is refused
+-- ---- an act in which the options have no part
 
--- a turn that leaves the association, and sends nothing
-follow_still : (options : Options) (turns : List Turned) (side : SideState) (t : Turned) (o : Outcome) → Followed options turns side → t.outcome ≡ o
-    → IsControlled (endpoint_after options turns) o (unchanged (endpoint_after options turns).core) → TurnFits o → Followed options (turns ++ t ∷ []) side
-follow_still options turns side t o h is controlled fits =
-    follow_idle options turns side t h
-    (subst (λ (x : Outcome). IsControlled (endpoint_after options turns) x (unchanged (endpoint_after options turns).core)) (sym is) controlled) (subst TurnFits (sym is) fits)
+-- its turn, and whatever comes behind it
+pub act_then : Below → (options : Options) (turns : List Turned) (side : SideState) (theirs : List Effect) (act : Act) (t : Turned) (more : List Turned) → TakesNoOptions act
+    → Followed options turns side → ControlledAct (endpoint_after options turns) act t.outcome → TurnFits t.outcome
+    → ((choices : Choices) → let after : SideState = after_changes side (act_change side.options side.core act choices ∷ []) in
+    Followed options (turns ++ t ∷ []) after → SideMoves options (turns ++ t ∷ []) after theirs more)
+    → SideMoves options turns side theirs (t ∷ more)
+act_then law options turns side theirs act t more any h controlled fits rest =
+    let followed : ActFollows options turns side act t = act_follows law.effects_mean options turns side act t any h controlled fits in
+    moves_then options turns side theirs (t ∷ []) more (does act) (act_change side.options side.core act followed.choices ∷ []) (followed.choices, refl) (rest followed.choices followed.follows)
 
-follow_counted : (options : Options) (turns : List Turned) (side : SideState) (t : Turned) → Followed options turns side → t.outcome ≡ arrival_outcome (endpoint_after options turns)
-    → Followed options (turns ++ t ∷ []) side
-follow_counted options turns side t h is =
-    follow_still options turns side t (arrival_outcome (endpoint_after options turns)) h is (record { core = refl; options = refl; signs = refl; effects = refl; following = refl })
-    (record { after = record { valid = h.fits.valid; options = h.fits.options; core = h.fits.core; t1 = h.fits.t1 }; sends = tt })
+pub act_once : Below → (options : Options) (turns : List Turned) (side : SideState) (theirs : List Effect) (act : Act) (t : Turned) → TakesNoOptions act
+    → Followed options turns side → ControlledAct (endpoint_after options turns) act t.outcome → TurnFits t.outcome → SideMoves options turns side theirs (t ∷ [])
+act_once law options turns side theirs act t any h controlled fits =
+    let followed : ActFollows options turns side act t = act_follows law.effects_mean options turns side act t any h controlled fits in
+    moves_once options turns side theirs (t ∷ []) (does act) (act_change side.options side.core act followed.choices ∷ []) (followed.choices, refl) followed.follows
 
-follow_refused : (options : Options) (turns : List Turned) (side : SideState) (t : Turned) (text : List ℕ) → Followed options turns side
-    → t.outcome ≡ refusal_outcome (endpoint_after options turns) text → Followed options (turns ++ t ∷ []) side
-follow_refused options turns side t text h is =
-    follow_still options turns side t (refusal_outcome (endpoint_after options turns) text) h is (record { core = refl; options = refl; signs = refl; effects = refl; following = refl })
-    (record { after = h.fits; sends = (tt, tt) })
-
-follow_nothing : (options : Options) (turns : List Turned) (side : SideState) (t : Turned) → Followed options turns side
-    → t.outcome ≡ still (endpoint_after options turns) → Followed options (turns ++ t ∷ []) side
-follow_nothing options turns side t h is =
-    follow_still options turns side t (still (endpoint_after options turns)) h is (record { core = refl; options = refl; signs = refl; effects = refl; following = refl })
-    (record { after = h.fits; sends = tt })
-
-refused_rests : (options : Options) (turns : List Turned) (side : SideState) (more : List Turned) (text : List ℕ) → Followed options turns side
-    → Turns (endpoint_after options turns) (refusal text ∷ []) more → Followed options (turns ++ more) side
-refused_rests options turns side [] text h refusing = absurd refusing
-refused_rests options turns side (t ∷ []) text h refusing = follow_refused options turns side t text h refusing.0.comes
-refused_rests options turns side (t ∷ next ∷ more) text h refusing = absurd refusing.1
-
-unread_rests : (options : Options) (turns : List Turned) (side : SideState) (more : List Turned) → Followed options turns side
-    → Turns (endpoint_after options turns) (arrival ∷ refusal unreadable_text ∷ []) more → Followed options (turns ++ more) side
-unread_rests options turns side [] h unreading = absurd unreading
-unread_rests options turns side (counted ∷ more) h unreading =
-    let first : Followed options (turns ++ counted ∷ []) side = follow_counted options turns side counted h unreading.0.comes in
-    subst (λ (ts : List Turned). Followed options ts side) (append_assoc turns (counted ∷ []) more)
-    (refused_rests options (turns ++ counted ∷ []) side more unreadable_text first
-    (subst (λ (e : Endpoint). Turns e (refusal unreadable_text ∷ []) more) (sym (after_last _ turns counted)) unreading.1))
-
--- ---- what stands before a packet's chunks, and its end
-
--- No shutdown is under way, so nothing stands before them.
-begin_rests : (e : Endpoint) (core : Core) (has : Bool) (o : Outcome) → FitsCore core → BeginTurn e core has o → o ≡ still e
-begin_rests e closed has o fits turn = turn
-begin_rests e (cookie_wait my) has o fits turn = turn
-begin_rests e (cookie_echoed my held cookie) has o fits turn = turn
-begin_rests e (open_in established my held) has o fits turn = turn
-begin_rests e (open_in shutdown_pending my held) has o fits turn = absurd fits
-begin_rests e (open_in shutdown_sent my held) has o fits turn = absurd fits
-begin_rests e (open_in shutdown_received my held) has o fits turn = absurd fits
-begin_rests e (open_in shutdown_ack_sent my held) has o fits turn = absurd fits
+-- what a call or a timer brings
+pub act_moves : Below → (options : Options) (turns : List Turned) (side : SideState) (theirs : List Effect) (act : Act) (more : List Turned) → TakesNoOptions act
+    → Followed options turns side → ((o : Outcome) → ActTurn (endpoint_after options turns) act o → TurnFits o)
+    → Turns (endpoint_after options turns) (act_input act ∷ []) more → SideMoves options turns side theirs more
+act_moves law options turns side theirs act [] any h fits turn = absurd turn
+act_moves law options turns side theirs act (t ∷ []) any h fits turn =
+    act_once law options turns side theirs act t any h (law.acts (endpoint_after options turns) act t.outcome turn.0.comes) (fits t.outcome turn.0.comes)
+act_moves law options turns side theirs act (t ∷ next ∷ more) any h fits turn = absurd turn.1
 
 -- a turn that is a flush of the association
 pub flush_moves : Below → (options : Options) (turns : List Turned) (side : SideState) (theirs : List Effect) (t : Turned) → Followed options turns side
     → ControlledAct (endpoint_after options turns) flushes t.outcome → TurnFits t.outcome → SideMoves options turns side theirs (t ∷ [])
-flush_moves law options turns side theirs t h controlled fits =
-    let followed : ActFollows options turns side flushes t = act_follows law.effects_mean options turns side flushes t (λ p q core choices. refl) h controlled fits in
-    moves_once options turns side theirs (t ∷ []) (does flushes) (flush_change side.core followed.choices ∷ []) (followed.choices, refl) followed.follows
-
--- The end of a packet is one.
-end_moves : Below → (options : Options) (turns : List Turned) (side : SideState) (theirs : List Effect) (more : List Turned) → Followed options turns side
-    → Turns (endpoint_after options turns) (packet_ends ∷ []) more → SideMoves options turns side theirs more
-end_moves law options turns side theirs [] h taken = absurd taken
-end_moves law options turns side theirs (t ∷ []) h taken =
-    let e : Endpoint = endpoint_after options turns in
-    flush_moves law options turns side theirs t h (flushed_act e t.outcome (end_at e e.below.transfer t.outcome taken.0.comes)) (end_fits e e.below.transfer t.outcome taken.0.comes h.fits)
-end_moves law options turns side theirs (t ∷ next ∷ more) h taken = absurd taken.1
-
-abbrev EndMoves : List Input → Type 0
-EndMoves tail = (options : Options) (turns : List Turned) (side : SideState) (theirs : List Effect) (more : List Turned) → Followed options turns side
-    → Turns (endpoint_after options turns) tail more → SideMoves options turns side theirs more
-
-pub none_rests : (options : Options) (turns : List Turned) (side : SideState) (theirs : List Effect) (more : List Turned) → Followed options turns side
-    → Turns (endpoint_after options turns) [] more → SideMoves options turns side theirs more
-none_rests options turns side theirs [] h taken = nothing_happens options turns side theirs [] h refl
-none_rests options turns side theirs (t ∷ more) h taken = absurd taken
-
-rest_moves : (tail : List Input) (options : Options) (turns : List Turned) (side : SideState) (theirs : List Effect) (more : List Turned) → EndMoves tail → Followed options turns side
-    → IsRest (endpoint_after options turns) tail more → SideMoves options turns side theirs more
-rest_moves tail options turns side theirs more end h (dropped none) = nothing_happens options turns side theirs more h none
-rest_moves tail options turns side theirs more end h (ended taken) = end options turns side theirs more h taken
-
--- ---- a packet whose chunks are worked
-
--- the changes of chunks at an endpoint are changes at its side
-at_side : (options : Options) (turns : List Turned) (side : SideState) (tag : ℕ) (contents : List Content) (changes : List Change) → Followed options turns side
-    → ChunkChanges (endpoint_after options turns).options (endpoint_after options turns).core tag contents changes → ChunkChanges side.options side.core tag contents changes
-at_side options turns side tag contents changes h moves =
-    same_options_move side.options (endpoint_after options turns).options side.core tag contents changes
-    (subst (λ (p : Options). SameOptions p (endpoint_after options turns).options) (sym h.side_options) h.own_options)
-    (subst (λ (core : Core). ChunkChanges (endpoint_after options turns).options core tag contents changes) (sym h.core) moves)
-
--- the turns of the first of two lists fit, where all do
-front_fits : (xs ys : List Turned) → AllByRecursion Fits (xs ++ ys) → AllByRecursion Fits xs
-front_fits [] ys each = tt
-front_fits (x ∷ xs) ys each = (each.0, front_fits xs ys each.1)
-
-chunks_move : Below → (options : Options) (turns : List Turned) (side : SideState) (theirs : List Effect) (packet : Packet) (contents : List Content) (tail : List Input) (more : List Turned)
-    → Followed options turns side → Has (sends packet) theirs → packet.tag < 2 ^ 32 → AllByRecursion Sendable contents → EndFits tail → EndMoves tail
-    → ((changes : List Change) → ChunkChanges side.options side.core packet.tag contents changes → PacketChanges side.options side.core packet changes)
-    → ChunkTurns (endpoint_after options turns) packet.tag contents tail more → SideMoves options turns side theirs more
-chunks_move law options turns side theirs packet contents tail more h was_sent tagged good end_fits end to_packet taken =
-    let e : Endpoint = endpoint_after options turns in
-    let fits : ChunksFit e contents more = chunk_turns_fit law.offers e packet.tag contents tail more taken h.fits tagged good end_fits in
-    let are : AreChunks e packet.tag contents tail more = law.packets e packet.tag contents tail more taken fits.contents_fit in
-    let of_packet : PacketChanges side.options side.core packet are.changes = to_packet are.changes (at_side options turns side packet.tag contents are.changes h are.moves) in
-    let worked : Followed options (turns ++ are.chunks) (after_changes side are.changes) =
-    follow_turns law.effects_mean options turns side are.chunks are.changes h (packet_turns side.options side.core packet are.changes of_packet) are.controlled
-    (front_fits are.chunks are.rest (subst (λ (ts : List Turned). AllByRecursion Fits ts) are.parts fits.turns_fit)) in
-    subst (SideMoves options turns side theirs) (sym are.parts)
-    (moves_then options turns side theirs are.chunks are.rest (receives packet) are.changes (was_sent, of_packet)
-    (rest_moves tail options (turns ++ are.chunks) (after_changes side are.changes) theirs are.rest end worked
-    (subst (λ (x : Endpoint). IsRest x tail are.rest) (sym (after_all-append (fresh_endpoint options) turns are.chunks)) are.is_rest)))
-
-whole_moves : Below → (options : Options) (turns : List Turned) (side : SideState) (theirs : List Effect) (packet : Packet) (more : List Turned)
-    → admits side.core packet ≡ all_chunks → Followed options turns side → Has (sends packet) theirs → SendablePacket packet
-    → WholeTurns (endpoint_after options turns) packet more → SideMoves options turns side theirs more
-whole_moves law options turns side theirs packet [] is h was_sent good taken = absurd taken
-whole_moves law options turns side theirs packet (begun ∷ more) is h was_sent good taken =
-    let e : Endpoint = endpoint_after options turns in
-    let first : Followed options (turns ++ begun ∷ []) side =
-    follow_nothing options turns side begun h (begin_rests e e.core (has_data packet.contents) begun.outcome h.fits.core taken.0.comes) in
-    rests_then options turns side theirs (begun ∷ []) more
-    (chunks_move law options (turns ++ begun ∷ []) side theirs packet packet.contents (packet_ends ∷ []) more first was_sent good.tag good.contents packet_end_fits (end_moves law)
-    (λ changes moves. worked_whole (law.admitted.whole side.core packet is) moves)
-    (subst (λ (x : Endpoint). ChunkTurns x packet.tag packet.contents (packet_ends ∷ []) more) (sym (after_last _ turns begun)) taken.1))
-
-admitted_moves : Below → (options : Options) (turns : List Turned) (side : SideState) (theirs : List Effect) (packet : Packet) (admission : Admission) (more : List Turned)
-    → admits side.core packet ≡ admission → Followed options turns side → Has (sends packet) theirs → SendablePacket packet
-    → AdmittedTurns (endpoint_after options turns) packet admission more → SideMoves options turns side theirs more
-admitted_moves law options turns side theirs packet all_chunks more is h was_sent good taken = whole_moves law options turns side theirs packet more is h was_sent good taken
-admitted_moves law options turns side theirs packet shutdown_acks_alone more is h was_sent good taken =
-    chunks_move law options turns side theirs packet (shutdown_acks_in packet.contents) [] more h was_sent good.tag (acks_sendable packet.contents good.contents) nothing_ends none_rests
-    (λ changes moves. worked_acks moves) taken
-admitted_moves law options turns side theirs packet (refused text) more is h was_sent good refusing =
-    rests options turns side theirs more (refused_rests options turns side more text h refusing)
-
--- ---- a delivery
-
-input_moves : Below → (options other : Options) (turns : List Turned) (side : SideState) (theirs : List Effect) (bytes : List ℕ) (more : List Turned) → Followed options turns side → FitsOptions other
-    → IsSent (Went theirs) (emission_bytes (ports_of other)) bytes → HandleInput (endpoint_after options turns) bytes more → SideMoves options turns side theirs more
-input_moves law options other turns side theirs bytes more h fits out (unreadable ts none unreading) = rests options turns side theirs ts (unread_rests options turns side ts h unreading)
-input_moves law options other turns side theirs bytes more h fits out (readable packet counted ts is_packet counting admitted) =
-    let e : Endpoint = endpoint_after options turns in
-    let sent_packet : Packet = out.emission.packet in
-    let first : Followed options (turns ++ counted ∷ []) side = follow_counted options turns side counted h counting.comes in
-    let is : packet_in packet ≡ sent_packet =
-    reads_as_sent law.built e.options other out.emission packet fits out.good.sendable (subst (λ (bs : List ℕ). IsPacket (wire_options e.options) packet bs) out.is is_packet) in
-    let here : AdmittedTurns counted.outcome.after sent_packet (admits e.core sent_packet) ts =
-    subst (λ (p : Packet). AdmittedTurns counted.outcome.after p (admits e.core p) ts) is admitted in
-    let at_end : AdmittedTurns (endpoint_after options (turns ++ counted ∷ [])) sent_packet (admits e.core sent_packet) ts =
-    subst (λ (x : Endpoint). AdmittedTurns x sent_packet (admits e.core sent_packet) ts) (sym (after_last _ turns counted)) here in
-    rests_then options turns side theirs (counted ∷ []) ts
-    (admitted_moves law options (turns ++ counted ∷ []) side theirs sent_packet (admits e.core sent_packet) ts
-    (ap (λ (core : Core). admits core sent_packet) h.core) first out.good.was_sent out.good.sendable at_end)
-
-pub delivery_moves : Below → (options other : Options) (turns others : List Turned) (side : SideState) (theirs : SideState) (index : ℕ) (found : Option (List ℕ)) (more : List Turned)
-    → Followed options turns side → Followed other others theirs → FitsOptions other → slice_get (packets_shown other others) index ≡ found
-    → DeliveryTurns (endpoint_after options turns) found more → SideMoves options turns side theirs.past more
-delivery_moves law options other turns others side theirs index None more h k fits is none = nothing_happens options turns side theirs.past more h none
-delivery_moves law options other turns others side theirs index (Some bytes) more h k fits is input =
-    input_moves law options other turns side theirs.past bytes more h fits (sent_at (Went theirs.past) (emission_bytes (ports_of other)) (events_of others) index bytes k.went is) input
+flush_moves law options turns side theirs t h controlled fits = act_once law options turns side theirs flushes t (λ p q core choices. refl) h controlled fits

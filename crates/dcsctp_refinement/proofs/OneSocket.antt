@@ -1,5 +1,5 @@
 -- By what a socket's own requests end.
-use Rattle.std.proofs.Common.{◌≡◌, ℕ, Bool, true, false, cond, List, [], ◌∷◌, inl, inr, sym, subst, ap}
+use Rattle.std.proofs.Common.{◌≡◌, ℕ, Bool, true, false, cond, List, [], ◌∷◌, inl, inr, refl, sym, subst, ap}
 use Rattle.std.specs.List.{AllByRecursion}
 use Rattle.dcsctp_machine.specs.declared.association.Pair.{Pair}
 use Rattle.dcsctp_machine.specs.declared.word.Word.{Word}
@@ -21,7 +21,7 @@ use Rattle.dcsctp_machine.specs.Past.{Has}
 use Rattle.dcsctp_machine.specs.Sockets.{of_side, turns_after}
 use Rattle.dcsctp_machine.proofs.AlongLemmas.{run_along}
 use Rattle.dcsctp_machine.proofs.ControlHandshake.{init_ack_controlled, cookie_ack_controlled, abort_controlled}
-use Rattle.dcsctp_machine.proofs.ControlEnds.{shutdown_ack_controlled, shutdown_complete_controlled}
+use Rattle.dcsctp_machine.proofs.ShutdownLemmas.{shutdown_controlled, shutdown_ack_controlled, shutdown_complete_controlled}
 use Rattle.dcsctp_machine.proofs.ControlEcho.{cookie_echo_controlled}
 use Rattle.dcsctp_machine.proofs.ControlLemmas.{begin_stands}
 use Rattle.dcsctp_machine.proofs.PlainLemmas.{plain_controlled}
@@ -123,7 +123,7 @@ chunk_ends law e tag (cookie_echo cookie) t h = by_chunk law e tag (cookie_echo 
 chunk_ends law e tag cookie_ack t h = by_chunk law e tag cookie_ack t h.is (cookie_ack_controlled e tag t.outcome h.comes)
 chunk_ends law e tag (re_config parameters) t h = by_chunk law e tag (re_config parameters) t h.is (reset_controlled e tag parameters t.outcome h.comes)
 chunk_ends law e tag (abort reflected causes) t h = by_chunk law e tag (abort reflected causes) t h.is (abort_controlled e tag reflected causes t.outcome h.comes)
-chunk_ends law e tag (shutdown tsn) t h = by_chunk law e tag (shutdown tsn) t h.is h.comes
+chunk_ends law e tag (shutdown tsn) t h = by_chunk law e tag (shutdown tsn) t h.is (shutdown_controlled e tag tsn t.outcome h.comes)
 chunk_ends law e tag shutdown_ack t h = by_chunk law e tag shutdown_ack t h.is (shutdown_ack_controlled e tag t.outcome h.comes)
 chunk_ends law e tag (shutdown_complete reflected) t h = by_chunk law e tag (shutdown_complete reflected) t h.is (shutdown_complete_controlled e tag reflected t.outcome h.comes)
 chunk_ends law e tag (plain chunk) t h = by_chunk law e tag (plain chunk) t h.is (plain_controlled e tag chunk t.outcome h.comes)
@@ -137,7 +137,7 @@ turn_ends : EndLaws → (e : Endpoint) (input : Input) (t : Turned) → IsTurn e
 turn_ends law e arrival t h = same_ends t _ h.comes nothing_ended
 turn_ends law e (refusal text) t h = same_ends t _ h.comes nothing_ended
 turn_ends law e (packet_begins contents) t h =
-    elim (begin_stands e e.core (has_data contents) t.outcome h.comes) [ inl rests ↦ same_ends t _ rests nothing_ended | inr acts ↦ by_act law.answers e shutdown_repeats t acts ]
+    elim (begin_stands e e.core (has_data contents) t.outcome refl h.comes) [ inl rests ↦ same_ends t _ rests nothing_ended | inr acts ↦ by_act law.answers e shutdown_repeats t acts ]
 turn_ends law e (chunk_input tag content) t h = chunk_ends law.answers e tag content t h
 turn_ends law e packet_ends t h = by_act law.answers e flushes t (flushed_act e t.outcome (end_at e e.below.transfer t.outcome h.comes))
 turn_ends law e (act_input act) t h = by_act law.answers e act t (law.acts e act t.outcome h.comes)

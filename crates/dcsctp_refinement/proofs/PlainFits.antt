@@ -14,7 +14,7 @@ use Rattle.dcsctp_machine.specs.Settings.{packet_size_limit}
 use Rattle.dcsctp_machine.specs.Cause.{Cause}
 use Rattle.dcsctp_machine.specs.Event.{error}
 use Rattle.dcsctp_machine.specs.Packet.{Plain, plain, unknown, heartbeat, heartbeat_ack, unworked, Emission}
-use Rattle.dcsctp_machine.specs.Endpoint.{Endpoint, Core, closed, cookie_wait, cookie_echoed, open_in, established, shutdown_pending, shutdown_sent, shutdown_received, shutdown_ack_sent}
+use Rattle.dcsctp_machine.specs.Endpoint.{Endpoint, Core, closed, cookie_wait, cookie_echoed, open_in}
 use Rattle.dcsctp_machine.specs.Outcome.{Outcome, still, quiet, sends, to_peer}
 use Rattle.dcsctp_machine.specs.Outcome.{fits as fits_mtu}
 use Rattle.dcsctp_wire.specs.Content.{ParameterContent, data_chunk, sack_chunk, error_chunk, i_data_chunk, forward_tsn_chunk, i_forward_tsn_chunk}
@@ -59,11 +59,7 @@ unknown_fits e core type chunk false h own each = record { after = h; sends = tt
 unknown_fits e closed type chunk true h own each = record { after = h; sends = (tt, tt) }
 unknown_fits e (cookie_wait my) type chunk true h own each = record { after = h; sends = (tt, tt) }
 unknown_fits e (cookie_echoed my held cookie) type chunk true h own each = report_fits e held type chunk h own.1 each
-unknown_fits e (open_in established my held) type chunk true h own each = report_fits e held type chunk h own.1 each
-unknown_fits e (open_in shutdown_pending my held) type chunk true h own each = absurd own
-unknown_fits e (open_in shutdown_sent my held) type chunk true h own each = absurd own
-unknown_fits e (open_in shutdown_received my held) type chunk true h own each = absurd own
-unknown_fits e (open_in shutdown_ack_sent my held) type chunk true h own each = absurd own
+unknown_fits e (open_in phase my held) type chunk true h own each = report_fits e held type chunk h own.1 each
 
 -- ---- an ERROR
 
@@ -95,11 +91,7 @@ heartbeat_fits : (e : Endpoint) (core : Core) (parameters : List ParameterConten
 heartbeat_fits e closed parameters h own good = record { after = h; sends = tt }
 heartbeat_fits e (cookie_wait my) parameters h own good = record { after = h; sends = tt }
 heartbeat_fits e (cookie_echoed my held cookie) parameters h own good = answer_fits (fits_mtu e (answer_to held parameters)) e held parameters h own.1 good
-heartbeat_fits e (open_in established my held) parameters h own good = answer_fits (fits_mtu e (answer_to held parameters)) e held parameters h own.1 good
-heartbeat_fits e (open_in shutdown_pending my held) parameters h own good = absurd own
-heartbeat_fits e (open_in shutdown_sent my held) parameters h own good = absurd own
-heartbeat_fits e (open_in shutdown_received my held) parameters h own good = absurd own
-heartbeat_fits e (open_in shutdown_ack_sent my held) parameters h own good = absurd own
+heartbeat_fits e (open_in phase my held) parameters h own good = answer_fits (fits_mtu e (answer_to held parameters)) e held parameters h own.1 good
 
 counted_fits : (b : Bool) (e : Endpoint) → FitsEndpoint e → TurnFits (cond b (still (answered e)) (still e))
 counted_fits true e h = record { after = record { valid = h.valid; options = h.options; core = h.core; t1 = h.t1 }; sends = tt }

@@ -18,7 +18,7 @@ use Rattle.dcsctp_machine.specs.Packet.{re_config, Emission}
 use Rattle.dcsctp_machine.specs.Reconfiguration.{ResetParameter, outgoing_reset_request, incoming_reset_request, reconfiguration_response, other_reset_parameter, reset_parameter_content, reset_parameter_in}
 use Rattle.dcsctp_machine.specs.Transfer.{Transfer}
 use Rattle.dcsctp_machine.specs.Deadlines.{T1Runs}
-use Rattle.dcsctp_machine.specs.Endpoint.{Endpoint, Core, closed, cookie_wait, cookie_echoed, open_in, established, shutdown_pending, shutdown_sent, shutdown_received, shutdown_ack_sent, RunningTimer}
+use Rattle.dcsctp_machine.specs.Endpoint.{Endpoint, Core, closed, cookie_wait, cookie_echoed, open_in, RunningTimer}
 use Rattle.dcsctp_machine.specs.Outcome.{Outcome, quiet, sends, to_peer}
 use Rattle.dcsctp_machine.specs.Outcome.{fits as fits_mtu}
 use Rattle.dcsctp_machine.specs.control.Effect.{Effect}
@@ -30,25 +30,21 @@ use Rattle.dcsctp_machine.specs.Fitting.{AllSent, FitsNumber, FitsHeld, FitsCore
 use Rattle.dcsctp_machine.proofs.ResetLemmas.{AreResets, nothing, acceptance, performance, completion, failure, KeepsPeer, chunk_brings, worked_keeps}
 use Rattle.dcsctp_refinement.proofs.FlushFits.{still_fits, draft_sendable, flush_fits, behind_fits}
 use Rattle.dcsctp_refinement.proofs.Sent.{all_sent_append}
-use Rattle.dcsctp_refinement.proofs.T1Turns.{Awaits, Up, UpAfter, flush_up}
+use Rattle.dcsctp_refinement.proofs.T1Turns.{Up, UpAfter, flush_up}
 
 -- ---- T1
 
-with_up : (core : Core) (held : Held) (t1 : Option RunningTimer) → Awaits core t1 → Awaits (core_with core held) t1
-with_up closed held t1 h = h
-with_up (cookie_wait my) held t1 h = h
-with_up (cookie_echoed my old cookie) held t1 h = h
-with_up (open_in established my old) held t1 h = h
-with_up (open_in shutdown_pending my old) held t1 h = h
-with_up (open_in shutdown_sent my old) held t1 h = h
-with_up (open_in shutdown_received my old) held t1 h = h
-with_up (open_in shutdown_ack_sent my old) held t1 h = h
+with_runs : (core : Core) (held : Held) (t1 : Option RunningTimer) → T1Runs core t1 → T1Runs (core_with core held) t1
+with_runs closed held t1 h = h
+with_runs (cookie_wait my) held t1 h = h
+with_runs (cookie_echoed my old cookie) held t1 h = h
+with_runs (open_in phase my old) held t1 h = h
 
 worked_up : (e : Endpoint) (answer : OwnAnswer) (held : Held) (left : Option Transfer) → Up e → Up (resets_worked e answer held left)
 worked_up e answer held left h =
     let kept = worked_keeps e answer held left in
-    subst (λ (core : Core). Awaits core (resets_worked e answer held left).timers.t1) (sym kept.core)
-    (subst (Awaits (core_with e.core held)) (sym kept.t1) (with_up e.core held e.timers.t1 h))
+    subst (λ (core : Core). T1Runs core (resets_worked e answer held left).timers.t1) (sym kept.core)
+    (subst (T1Runs (core_with e.core held)) (sym kept.t1) (with_runs e.core held e.timers.t1 h))
 
 emitted_up : (b : Bool) (e : Endpoint) (emission : Emission) → Up e → UpAfter (cond b (sends e [] [] emission) (quiet e [] []))
 emitted_up true e emission h = h
@@ -238,17 +234,7 @@ with_fits : (core : Core) (held : Held) → FitsCore core → FitsHeld held → 
 with_fits closed held own fits = own
 with_fits (cookie_wait my) held own fits = own
 with_fits (cookie_echoed my old cookie) held own fits = (own.0, fits, own.2)
-with_fits (open_in established my old) held own fits = (own.0, fits)
-with_fits (open_in shutdown_pending my old) held own fits = own
-with_fits (open_in shutdown_sent my old) held own fits = own
-with_fits (open_in shutdown_received my old) held own fits = own
-with_fits (open_in shutdown_ack_sent my old) held own fits = own
-
-with_runs : (core : Core) (held : Held) (t1 : Option RunningTimer) → T1Runs core t1 → T1Runs (core_with core held) t1
-with_runs closed held t1 h = h
-with_runs (cookie_wait my) held t1 h = h
-with_runs (cookie_echoed my old cookie) held t1 h = h
-with_runs (open_in phase my old) held t1 h = h
+with_fits (open_in phase my old) held own fits = (own.0, fits)
 
 worked_fits : (e : Endpoint) (answer : OwnAnswer) (held : Held) (left : Option Transfer) → FitsEndpoint e → FitsHeld held → FitsEndpoint (resets_worked e answer held left)
 worked_fits e answer held left h fits =
@@ -277,8 +263,4 @@ pub reset_fits : (e : Endpoint) (core : Core) (parameters : List ResetParameter)
 reset_fits e closed parameters o turn h own good = subst TurnFits (sym turn) (still_fits e h)
 reset_fits e (cookie_wait my) parameters o turn h own good = subst TurnFits (sym turn) (still_fits e h)
 reset_fits e (cookie_echoed my held cookie) parameters o turn h own good = resets_fit e my held parameters o turn h own.1 good.fits.parameters_fit
-reset_fits e (open_in established my held) parameters o turn h own good = resets_fit e my held parameters o turn h own.1 good.fits.parameters_fit
-reset_fits e (open_in shutdown_pending my held) parameters o turn h own good = absurd own
-reset_fits e (open_in shutdown_sent my held) parameters o turn h own good = absurd own
-reset_fits e (open_in shutdown_received my held) parameters o turn h own good = absurd own
-reset_fits e (open_in shutdown_ack_sent my held) parameters o turn h own good = absurd own
+reset_fits e (open_in phase my held) parameters o turn h own good = resets_fit e my held parameters o turn h own.1 good.fits.parameters_fit

@@ -3,55 +3,46 @@ use Rattle.std.proofs.Common.{◌≡◌, ℕ, Bool, true, false, zero, suc, List
 use Rattle.std.specs.Prelude.{nat_le}
 use Rattle.std.specs.List.{slice_get}
 use Rattle.dcsctp_machine.specs.declared.ends.AbortReason.{AbortReason}
-use Rattle.dcsctp_machine.specs.declared.ends.AbortReason.TheVariants.{CloseCalled, TooManyErrors}
+use Rattle.dcsctp_machine.specs.declared.ends.AbortReason.TheVariants.{CloseCalled}
 use Rattle.dcsctp_machine.specs.declared.options.Options.{Options}
-use Rattle.dcsctp_machine.specs.Schedule.{connect_call, close_call, advance_call, set_call, send_call, send_many_call, reset_call, take_call, StepContent, call_step, delivery_step}
+use Rattle.dcsctp_machine.specs.Schedule.{connect_call, close_call, shutdown_call, advance_call, set_call, send_call, send_many_call, reset_call, take_call, StepContent, call_step, delivery_step}
 use Rattle.dcsctp_machine.specs.Settings.{FitsOptions}
-use Rattle.dcsctp_machine.specs.Endpoint.{Endpoint, Core}
-use Rattle.dcsctp_machine.specs.Turn.{Input, ActTurn, act_input, user_sets, user_sends, user_resets, user_takes}
+use Rattle.dcsctp_machine.specs.Endpoint.{Endpoint}
+use Rattle.dcsctp_machine.specs.Turn.{Input, act_input, user_sets, user_sends, user_resets, user_takes}
 use Rattle.dcsctp_machine.specs.TimeTurns.{timers_in, DueTurns, MomentTurns, TimeTurns}
 use Rattle.dcsctp_machine.specs.Outcome.{Outcome}
 use Rattle.dcsctp_machine.specs.Controlled.{IsControlled, ControlledAct}
-use Rattle.dcsctp_machine.specs.control.Choices.{Choices}
 use Rattle.dcsctp_machine.specs.turns.SettingOutcomes.{Setting, setting_outcome}
 use Rattle.dcsctp_machine.specs.turns.MessageOutcomes.{Sending, sending_of}
 use Rattle.dcsctp_machine.specs.Fitting.{FitsEndpoint, TurnFits}
 use Rattle.dcsctp_machine.specs.CallTurns.{Turned, IsTurn, Turns}
-use Rattle.dcsctp_machine.specs.control.Effect.{Effect, Change, unchanged}
-use Rattle.dcsctp_machine.specs.control.Acts.{abort_with, flushes, act_change}
-use Rattle.dcsctp_machine.specs.World.{SideState, acted, does}
+use Rattle.dcsctp_machine.specs.control.Effect.{Effect, unchanged}
+use Rattle.dcsctp_machine.specs.control.Acts.{shut_down, abort_with, flushes}
+use Rattle.dcsctp_machine.specs.World.{SideState}
 use Rattle.dcsctp_machine.specs.Sockets.{endpoint_after, packets_shown, StepTurns}
 use Rattle.dcsctp_machine.proofs.DataLemmas.{flushed_act, send_at, resets_at, take_at}
 use Rattle.dcsctp_refinement.proofs.DataFits.{send_fits, resets_fits, take_fits}
 use Rattle.dcsctp_refinement.proofs.Aborting.{aborting_fits}
-use Rattle.dcsctp_refinement.proofs.Follow.{Followed, after_last, follow_turns, follow_idle}
+use Rattle.dcsctp_refinement.proofs.ShutdownFits.{shut_down_fits}
+use Rattle.dcsctp_refinement.proofs.Follow.{Followed, after_last, follow_idle}
 use Rattle.dcsctp_refinement.proofs.TimeMoves.{clock_follows}
 use Rattle.dcsctp_refinement.proofs.ExpiryMoves.{expiries_move}
-use Rattle.dcsctp_refinement.proofs.Moves.{Below, SideMoves, rests, moves_once, nothing_happens, rests_then, flush_moves, connect_moves, delivery_moves}
+use Rattle.dcsctp_refinement.proofs.Moves.{Below, SideMoves, rests, nothing_happens, rests_then, flush_moves, connect_moves, act_moves}
+use Rattle.dcsctp_refinement.proofs.PacketMoves.{delivery_moves}
 
--- ---- close
-
-abort_at : Endpoint → AbortReason → Outcome → Options → Core → Choices → Type 0
-abort_at e reason o options core choices = IsControlled e o (act_change options core (abort_with reason) choices)
-
-aborted_by : Below → (options : Options) (turns : List Turned) (side : SideState) (theirs : List Effect) (reason : AbortReason) (t : Turned) → Followed options turns side
-    → ActTurn (endpoint_after options turns) (abort_with reason) t.outcome → SideMoves options turns side theirs (t ∷ [])
-unfolding abort_at
-aborted_by law options turns side theirs reason t h turn =
-    let e : Endpoint = endpoint_after options turns in
-    let controlled = law.acts e (abort_with reason) t.outcome turn in
-    let choices : Choices = controlled.0 in
-    let same : abort_at e reason t.outcome side.options side.core choices = subst (λ (core : Core). abort_at e reason t.outcome side.options core choices) (sym h.core) controlled.1 in
-    let change : Change = act_change side.options side.core (abort_with reason) choices in
-    let fits : TurnFits t.outcome = subst TurnFits (sym turn) (aborting_fits e e.core reason h.fits h.fits.core) in
-    moves_once options turns side theirs (t ∷ []) (does (abort_with reason)) (change ∷ []) (choices, refl)
-    (follow_turns law.effects_mean options turns side (t ∷ []) (change ∷ []) h (acted (abort_with reason) choices refl, tt) (same, tt) (fits, tt))
+-- ---- close and shutdown
 
 abort_moves : Below → (options : Options) (turns : List Turned) (side : SideState) (theirs : List Effect) (reason : AbortReason) (more : List Turned) → Followed options turns side
     → Turns (endpoint_after options turns) (act_input (abort_with reason) ∷ []) more → SideMoves options turns side theirs more
-abort_moves law options turns side theirs reason [] h turn = absurd turn
-abort_moves law options turns side theirs reason (t ∷ []) h turn = aborted_by law options turns side theirs reason t h turn.0.comes
-abort_moves law options turns side theirs reason (t ∷ next ∷ more) h turn = absurd turn.1
+abort_moves law options turns side theirs reason more h turn =
+    let e : Endpoint = endpoint_after options turns in
+    act_moves law options turns side theirs (abort_with reason) more (λ p q core choices. refl) h (λ o is. subst TurnFits (sym is) (aborting_fits e e.core reason h.fits h.fits.core)) turn
+
+shut_down_moves : Below → (options : Options) (turns : List Turned) (side : SideState) (theirs : List Effect) (more : List Turned) → Followed options turns side
+    → Turns (endpoint_after options turns) (act_input shut_down ∷ []) more → SideMoves options turns side theirs more
+shut_down_moves law options turns side theirs more h turn =
+    let e : Endpoint = endpoint_after options turns in
+    act_moves law options turns side theirs shut_down more (λ p q core choices. refl) h (λ o is. subst TurnFits (sym is) (shut_down_fits e e.core h.fits h.fits.core)) turn
 
 -- ---- the time
 
@@ -61,8 +52,7 @@ moment_moves law options turns side theirs moment [] h taken = absurd taken
 moment_moves law options turns side theirs moment (t ∷ more) h taken =
     let first : Followed options (turns ++ t ∷ []) side = clock_follows options turns side moment t h taken.0.comes in
     rests_then options turns side theirs (t ∷ []) more
-    (expiries_move law options theirs (timers_in (endpoint_after options (turns ++ t ∷ [])).core)
-    (λ before stands behind follows turned. abort_moves law options before stands theirs TooManyErrors behind follows turned) (turns ++ t ∷ []) side false more first
+    (expiries_move law options theirs (timers_in (endpoint_after options (turns ++ t ∷ [])).core) (turns ++ t ∷ []) side false more first
     (subst (λ (x : Endpoint). DueTurns x more) (sym (after_last _ turns t)) taken.1))
 
 advance_moves : Below → (options : Options) (turns : List Turned) (side : SideState) (theirs : List Effect) (later : Bool) (moment : ℕ) (more : List Turned) → Followed options turns side
@@ -153,6 +143,7 @@ pub step_moves : Below → (options other : Options) (turns others : List Turned
     → StepTurns (endpoint_after options turns) (packets_shown other others) step more → SideMoves options turns side theirs.past more
 step_moves law options other turns others side theirs (call_step which connect_call) more h k fits done = connect_moves law options turns side theirs.past more h done
 step_moves law options other turns others side theirs (call_step which close_call) more h k fits done = abort_moves law options turns side theirs.past CloseCalled more h done
+step_moves law options other turns others side theirs (call_step which shutdown_call) more h k fits done = shut_down_moves law options turns side theirs.past more h done
 step_moves law options other turns others side theirs (call_step which (advance_call moment)) more h k fits done =
     advance_moves law options turns side theirs.past (nat_le (endpoint_after options turns).moment moment) moment more h done
 step_moves law options other turns others side theirs (call_step which (set_call setting)) more h k fits done = setting_moves options turns side theirs.past setting more h done

@@ -1,11 +1,10 @@
--- Chunks of shutdown, and those that speak of no association, leave T1 running where the association connects.
+-- Chunks that speak of no association, and timers, leave T1 running where the association connects.
 use Rattle.std.proofs.Common.{◌==◌, ℕ, Bool, true, false, cond, Option, None, Some, List, [], sym, subst}
 use Rattle.dcsctp_machine.specs.declared.ends.Violation.{Violation}
 use Rattle.dcsctp_machine.specs.declared.ends.AbortReason.TheVariants as reasons
 use Rattle.dcsctp_machine.specs.Packet.{Plain, plain, unknown, heartbeat, heartbeat_ack, unworked, Emission}
-use Rattle.dcsctp_machine.specs.Endpoint.{Endpoint, Core, closed, cookie_wait, cookie_echoed, open_in, established, shutdown_pending, shutdown_sent, shutdown_received, shutdown_ack_sent, OutstandingRequest, held_in}
+use Rattle.dcsctp_machine.specs.Endpoint.{Endpoint, Core, closed, cookie_wait, cookie_echoed, open_in, OutstandingRequest, held_in}
 use Rattle.dcsctp_machine.specs.Outcome.{Outcome, still, quiet, sends, fits, to_peer}
-use Rattle.dcsctp_machine.specs.turns.EndOutcomes.{ShutdownAckTurn, ShutdownCompleteTurn}
 use Rattle.dcsctp_machine.specs.declared.association.Held.{Held}
 use Rattle.dcsctp_machine.specs.Cause.{Cause}
 use Rattle.dcsctp_wire.specs.Content.{ParameterContent, data_chunk, sack_chunk, error_chunk, i_data_chunk, forward_tsn_chunk, i_forward_tsn_chunk}
@@ -16,7 +15,7 @@ use Rattle.dcsctp_machine.specs.Reconfiguration.{RequestedReset}
 use Rattle.dcsctp_machine.specs.control.FlushChanges.{reset_request}
 use Rattle.dcsctp_machine.specs.turns.PlainOutcomes.{PlainTurn, PlainTurnBy, violation_at, is_reported, after_unknown, unknown_bytes, unknown_told, error_outcome}
 use Rattle.dcsctp_refinement.proofs.T1Data.{data_up, forward_up, sack_up, delay_up, loss_up}
-use Rattle.dcsctp_refinement.proofs.T1Turns.{Awaits, Up, UpAfter, aborting_up}
+use Rattle.dcsctp_refinement.proofs.T1Turns.{Up, UpAfter, aborting_up}
 
 unknown_up : (e : Endpoint) (core : Core) (type : ℕ) (chunk : List ℕ) (reported : Bool) → Up e
     → UpAfter (record (cond reported (unknown_told e core type chunk) (still e)) { following = after_unknown type })
@@ -105,23 +104,3 @@ plain_by e (unworked chunk) None o turn h = subst UpAfter (sym turn) h
 
 pub plain_up : (e : Endpoint) (chunk : Plain) (o : Outcome) → PlainTurn e chunk o → Up e → UpAfter o
 plain_up e chunk o turn h = plain_by e chunk (violation_at e.core chunk) o turn h
-
-pub shutdown_ack_up : (e : Endpoint) (core : Core) (tag : ℕ) (o : Outcome) → ShutdownAckTurn e core tag o → Up e → Awaits core e.timers.t1 → UpAfter o
-shutdown_ack_up e closed tag o turn h own = subst UpAfter (sym turn) h
-shutdown_ack_up e (cookie_wait my) tag o turn h own = subst UpAfter (sym turn) h
-shutdown_ack_up e (cookie_echoed my held cookie) tag o turn h own = subst UpAfter (sym turn) h
-shutdown_ack_up e (open_in established my held) tag o turn h own = subst UpAfter (sym turn) h
-shutdown_ack_up e (open_in shutdown_pending my held) tag o turn h own = absurd own
-shutdown_ack_up e (open_in shutdown_sent my held) tag o turn h own = absurd own
-shutdown_ack_up e (open_in shutdown_received my held) tag o turn h own = absurd own
-shutdown_ack_up e (open_in shutdown_ack_sent my held) tag o turn h own = absurd own
-
-pub shutdown_complete_up : (e : Endpoint) (core : Core) (tag : ℕ) (reflected : Bool) (o : Outcome) → ShutdownCompleteTurn e core tag reflected o → Up e → Awaits core e.timers.t1 → UpAfter o
-shutdown_complete_up e closed tag reflected o turn h own = subst UpAfter (sym turn) h
-shutdown_complete_up e (cookie_wait my) tag reflected o turn h own = subst UpAfter (sym turn) h
-shutdown_complete_up e (cookie_echoed my held cookie) tag reflected o turn h own = subst UpAfter (sym turn) h
-shutdown_complete_up e (open_in established my held) tag reflected o turn h own = subst UpAfter (sym turn) h
-shutdown_complete_up e (open_in shutdown_pending my held) tag reflected o turn h own = absurd own
-shutdown_complete_up e (open_in shutdown_sent my held) tag reflected o turn h own = absurd own
-shutdown_complete_up e (open_in shutdown_received my held) tag reflected o turn h own = absurd own
-shutdown_complete_up e (open_in shutdown_ack_sent my held) tag reflected o turn h own = absurd own

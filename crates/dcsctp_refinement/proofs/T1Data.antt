@@ -15,6 +15,7 @@ use Rattle.dcsctp_machine.specs.turns.MessageOutcomes.{MessageRefusal, message_r
 use Rattle.dcsctp_machine.specs.turns.PreparedResets.{ResetRefusal, reset_refusal, with_queue, OwnResetsWhere, OwnResetsTurn}
 use Rattle.dcsctp_machine.specs.turns.DataOutcomes.{with_transfer, with_tracker, flush_by, AnswersTo, FlushTurn, no_user_data_text, no_user_data_outcome, ReceiveTurn, DataTurn, ForwardTurn, is_sack_valid, FastRetransmits, sack_taken, AcknowledgesBy, SackWhere, SackBy, SackTurn, acknowledging, EndWhere, EndsBy, TakeWhere, TakeTurn, delay_outcome, LossTurn}
 use Rattle.dcsctp_machine.proofs.FlushKeeps.{goes_out_keeps}
+use Rattle.dcsctp_refinement.proofs.T1Shutdown.{step_up}
 use Rattle.dcsctp_refinement.proofs.T1Turns.{Up, UpAfter, kept_up, flush_up}
 
 -- ---- a flush by itself
@@ -61,7 +62,8 @@ fast_up true e held transfer o turn h =
 
 acknowledges_up : (e : Endpoint) (held : Held) (transfer : Transfer) (o : Outcome) → AcknowledgesBy e held transfer o → Up e → UpAfter o
 acknowledges_up e held transfer o turn h =
-    let fast : UpAfter turn.fast = fast_up turn.left.retransmission.has_fast_retransmit (sack_taken e transfer turn.left) held turn.left turn.fast turn.resends h in
+    let step : UpAfter turn.stepped = subst UpAfter (sym turn.steps) (step_up (sack_taken e transfer turn.left) e.core h) in
+    let fast : UpAfter turn.fast = fast_up turn.left.retransmission.has_fast_retransmit turn.stepped.after held turn.left turn.fast turn.resends step in
     subst UpAfter (sym turn.is) (flush_up turn.fast.after (draft_to held) turn.answers turn.allowed fast)
 
 sack_where_up : (b : Bool) (e : Endpoint) (held : Held) (transfer : Transfer) (o : Outcome) → SackWhere b e held transfer o → Up e → UpAfter o

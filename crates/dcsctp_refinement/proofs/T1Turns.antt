@@ -1,6 +1,5 @@
 -- Each turn leaves T1 running where the association connects, whatever numbers a chunk bears.
 use Rattle.std.proofs.Common.{ℕ, Bool, true, false, cond, Option, None, Some, Result, Ok, Err, List, [], ◌∷◌, sym, subst}
-use Rattle.std.specs.Option.{option_map}
 use Rattle.dcsctp_machine.specs.declared.association.Pair.{Pair}
 use Rattle.dcsctp_machine.specs.declared.word.Word.{Word}
 use Rattle.dcsctp_machine.specs.declared.word.Word.TheVariants.{U32, U64}
@@ -10,8 +9,8 @@ use Rattle.dcsctp_machine.specs.Cookie.{Cookie}
 use Rattle.dcsctp_machine.specs.Event.{Event, connected, connection_restarted}
 use Rattle.dcsctp_machine.specs.Transfer.{SendQueueState}
 use Rattle.dcsctp_machine.specs.Packet.{Introduction, cookie_echo, shutdown_ack, Emission}
-use Rattle.dcsctp_machine.specs.Deadlines.{IsRunning}
-use Rattle.dcsctp_machine.specs.Endpoint.{Endpoint, Core, closed, cookie_wait, cookie_echoed, open_in, established, shutdown_pending, shutdown_sent, shutdown_received, shutdown_ack_sent, RunningTimer}
+use Rattle.dcsctp_machine.specs.Deadlines.{T1Runs}
+use Rattle.dcsctp_machine.specs.Endpoint.{Endpoint, Core, closed, cookie_wait, cookie_echoed, open_in, established, shutdown_pending, shutdown_sent, shutdown_received, shutdown_ack_sent}
 use Rattle.dcsctp_machine.specs.Outcome.{Outcome, quiet, sends, emits, fits, to_peer}
 use Rattle.dcsctp_machine.specs.turns.FlushOutcomes.{Answer, draft_to, flush_of, packets_allowed, first_ask, FlushAnswers, flush_answered}
 use Rattle.dcsctp_machine.specs.turns.EndOutcomes.{abort_outcome, aborting_outcome}
@@ -20,21 +19,12 @@ use Rattle.dcsctp_machine.specs.turns.TimerOutcomes.{AgainAnswers, again_by, t1_
 use Rattle.dcsctp_machine.specs.turns.CookieEchoOutcomes.{established_by, acknowledgement, EstablishAnswers, establish_by, queue_kept, queue_begun, RestartAnswers, restart_by_where, MaintainAnswers, maintain_by, ResolvedAnswers, resolved_by, EchoedAnswers, cookie_echo_by}
 use Rattle.dcsctp_machine.specs.control.CookieEchoChanges.{held_by_cookie, Resolution, establish_new, restart, simultaneous_init, discard, maintain_existing, invalid_tag, resolve}
 use Rattle.dcsctp_machine.proofs.FlushKeeps.{Keeps, begun_by, flush_keeps}
-use Rattle.dcsctp_machine.specs.turns.BegunResets.{BegunReset, core_asking, after_begun}
+use Rattle.dcsctp_machine.specs.turns.BegunResets.{BegunReset}
+use Rattle.dcsctp_refinement.proofs.BegunSends.{begun_runs}
 
--- T1 runs while the association connects, and no shutdown is under way: so far none begins.
-abbrev pub Awaits : Core → Option RunningTimer → Type 0
-Awaits closed t1 = Unit {0}
-Awaits (cookie_wait my) t1 = IsRunning t1
-Awaits (cookie_echoed my held cookie) t1 = IsRunning t1
-Awaits (open_in established my held) t1 = Unit {0}
-Awaits (open_in shutdown_pending my held) t1 = ⊥
-Awaits (open_in shutdown_sent my held) t1 = ⊥
-Awaits (open_in shutdown_received my held) t1 = ⊥
-Awaits (open_in shutdown_ack_sent my held) t1 = ⊥
-
+-- T1 runs while the association connects.
 abbrev pub Up : Endpoint → Type 0
-Up e = Awaits e.core e.timers.t1
+Up e = T1Runs e.core e.timers.t1
 
 -- it runs after this
 abbrev pub UpAfter : Outcome → Type 0
@@ -51,23 +41,9 @@ emits_up e words emission h = packet_up (fits e emission) e words [] emission h
 
 -- ---- a flush
 
-asking_awaits : (core : Core) (t1 : Option RunningTimer) → Awaits core t1 → Awaits (core_asking core) t1
-asking_awaits closed t1 h = h
-asking_awaits (cookie_wait my) t1 h = h
-asking_awaits (cookie_echoed my held cookie) t1 h = h
-asking_awaits (open_in established my held) t1 h = h
-asking_awaits (open_in shutdown_pending my held) t1 h = absurd h
-asking_awaits (open_in shutdown_sent my held) t1 h = absurd h
-asking_awaits (open_in shutdown_received my held) t1 h = absurd h
-asking_awaits (open_in shutdown_ack_sent my held) t1 h = absurd h
-
-begun_up : (begun : Option BegunReset) (e : Endpoint) → Up e → Awaits (after_begun begun e).core e.timers.t1
-begun_up None e h = h
-begun_up (Some begun) e h = asking_awaits e.core e.timers.t1 h
-
 -- where T1 stays, and the association but for a request
 pub kept_up : (begun : Option BegunReset) (e : Endpoint) (o : Outcome) → Keeps begun e o → Up e → UpAfter o
-kept_up begun e o keeps h = subst (Awaits o.after.core) (sym keeps.t1) (subst (λ (core : Core). Awaits core e.timers.t1) (sym keeps.core) (begun_up begun e h))
+kept_up begun e o keeps h = subst (T1Runs o.after.core) (sym keeps.t1) (subst (λ (core : Core). T1Runs core e.timers.t1) (sym keeps.core) (begun_runs begun e h))
 
 pub flush_up : (e : Endpoint) (draft : Emission) (answers : List Answer) → FlushAnswers e draft answers → Up e → UpAfter (flush_of e draft answers)
 flush_up e draft answers allowed h = kept_up (begun_by answers) e (flush_of e draft answers) (flush_keeps first_ask (packets_allowed e.options.max_burst e.core) e draft answers allowed) h
@@ -121,16 +97,16 @@ established_up : (e : Endpoint) (cookie : Cookie) (queue : SendQueueState) (tie 
     → UpAfter (establish_by (flush_answered answers) e cookie queue tie events)
 established_up e cookie queue tie events answers allowed = flush_up (established_by e cookie queue tie) (acknowledgement (held_by_cookie e.options cookie) cookie) answers allowed tt
 
-restarted_up : (e : Endpoint) (cookie : Cookie) (tie : ℕ) (core : Core) (answers : List Answer) → RestartAnswers e cookie tie core answers → Awaits core e.timers.t1
+restarted_up : (e : Endpoint) (cookie : Cookie) (tie : ℕ) (core : Core) (answers : List Answer) → RestartAnswers e cookie tie core answers → Up e
     → UpAfter (restart_by_where (flush_answered answers) e cookie tie core)
-restarted_up e cookie tie closed answers allowed own = established_up e cookie (queue_begun e cookie) tie (connection_restarted ∷ connected ∷ []) answers allowed
-restarted_up e cookie tie (cookie_wait my) answers allowed own = established_up e cookie (queue_begun e cookie) tie (connection_restarted ∷ connected ∷ []) answers allowed
-restarted_up e cookie tie (cookie_echoed my held echoed) answers allowed own = established_up e cookie (queue_begun e cookie) tie (connection_restarted ∷ connected ∷ []) answers allowed
-restarted_up e cookie tie (open_in established my held) answers allowed own = established_up e cookie (queue_begun e cookie) tie (connection_restarted ∷ connected ∷ []) answers allowed
-restarted_up e cookie tie (open_in shutdown_pending my held) answers allowed own = absurd own
-restarted_up e cookie tie (open_in shutdown_sent my held) answers allowed own = absurd own
-restarted_up e cookie tie (open_in shutdown_received my held) answers allowed own = absurd own
-restarted_up e cookie tie (open_in shutdown_ack_sent my held) answers allowed own = absurd own
+restarted_up e cookie tie closed answers allowed h = established_up e cookie (queue_begun e cookie) tie (connection_restarted ∷ connected ∷ []) answers allowed
+restarted_up e cookie tie (cookie_wait my) answers allowed h = established_up e cookie (queue_begun e cookie) tie (connection_restarted ∷ connected ∷ []) answers allowed
+restarted_up e cookie tie (cookie_echoed my held echoed) answers allowed h = established_up e cookie (queue_begun e cookie) tie (connection_restarted ∷ connected ∷ []) answers allowed
+restarted_up e cookie tie (open_in established my held) answers allowed h = established_up e cookie (queue_begun e cookie) tie (connection_restarted ∷ connected ∷ []) answers allowed
+restarted_up e cookie tie (open_in shutdown_pending my held) answers allowed h = established_up e cookie (queue_begun e cookie) tie (connection_restarted ∷ connected ∷ []) answers allowed
+restarted_up e cookie tie (open_in shutdown_sent my held) answers allowed h = established_up e cookie (queue_begun e cookie) tie (connection_restarted ∷ connected ∷ []) answers allowed
+restarted_up e cookie tie (open_in shutdown_received my held) answers allowed h = established_up e cookie (queue_begun e cookie) tie (connection_restarted ∷ connected ∷ []) answers allowed
+restarted_up e cookie tie (open_in shutdown_ack_sent my held) answers allowed h = h
 
 maintained_up : (e : Endpoint) (cookie : Cookie) (core : Core) (answers : List Answer) → MaintainAnswers e cookie core answers → Up e → UpAfter (maintain_by (flush_answered answers) e cookie core)
 maintained_up e cookie closed answers allowed h = h
@@ -139,18 +115,18 @@ maintained_up e cookie (cookie_echoed my held echoed) answers allowed h = flush_
 maintained_up e cookie (open_in phase my held) answers allowed h = flush_up e (acknowledgement held cookie) answers allowed h
 
 resolved_up : (e : Endpoint) (cookie : Cookie) (core : Core) (word : ℕ) (resolution : Resolution) (answers : List Answer) → ResolvedAnswers e cookie core word resolution answers → Up e
-    → Awaits core e.timers.t1 → UpAfter (resolved_by (flush_answered answers) e cookie core word resolution)
-resolved_up e cookie core word establish_new answers allowed h own = established_up e cookie (queue_kept e cookie) word (connected ∷ []) answers allowed
-resolved_up e cookie core word restart answers allowed h own = restarted_up e cookie word core answers allowed own
-resolved_up e cookie core word simultaneous_init answers allowed h own = established_up e cookie (queue_begun e cookie) word (connected ∷ []) answers allowed
-resolved_up e cookie core word discard answers allowed h own = h
-resolved_up e cookie core word maintain_existing answers allowed h own = maintained_up e cookie core answers allowed h
-resolved_up e cookie core word invalid_tag answers allowed h own = h
+    → UpAfter (resolved_by (flush_answered answers) e cookie core word resolution)
+resolved_up e cookie core word establish_new answers allowed h = established_up e cookie (queue_kept e cookie) word (connected ∷ []) answers allowed
+resolved_up e cookie core word restart answers allowed h = restarted_up e cookie word core answers allowed h
+resolved_up e cookie core word simultaneous_init answers allowed h = established_up e cookie (queue_begun e cookie) word (connected ∷ []) answers allowed
+resolved_up e cookie core word discard answers allowed h = h
+resolved_up e cookie core word maintain_existing answers allowed h = maintained_up e cookie core answers allowed h
+resolved_up e cookie core word invalid_tag answers allowed h = h
 
 pub echo_up : (e : Endpoint) (core : Core) (header : ℕ) (found : Result Cookie (List ℕ)) (word : ℕ) (answers : List Answer) → EchoedAnswers e core header found word answers → Up e
-    → Awaits core e.timers.t1 → UpAfter (cookie_echo_by (flush_answered answers) e core header found word)
-echo_up e core header (Err text) word answers allowed h own = h
-echo_up e core header (Ok cookie) word answers allowed h own = resolved_up e cookie core word (resolve core e.tie header cookie) answers allowed h own
+    → UpAfter (cookie_echo_by (flush_answered answers) e core header found word)
+echo_up e core header (Err text) word answers allowed h = h
+echo_up e core header (Ok cookie) word answers allowed h = resolved_up e cookie core word (resolve core e.tie header cookie) answers allowed h
 
 -- ---- ends, and T1
 
@@ -165,18 +141,6 @@ aborting_up e closed reason h = h
 aborting_up e (cookie_wait my) reason h = tt
 aborting_up e (cookie_echoed my held cookie) reason h = tt
 aborting_up e (open_in phase my held) reason h = tt
-
-pub goes_on_up : (f : RunningTimer → RunningTimer) (core : Core) (t1 : Option RunningTimer) → Awaits core t1 → Awaits core (option_map f t1)
-goes_on_up f closed t1 h = tt
-goes_on_up f (cookie_wait my) None h = absurd h
-goes_on_up f (cookie_wait my) (Some timer) h = tt
-goes_on_up f (cookie_echoed my held cookie) None h = absurd h
-goes_on_up f (cookie_echoed my held cookie) (Some timer) h = tt
-goes_on_up f (open_in established my held) t1 h = tt
-goes_on_up f (open_in shutdown_pending my held) t1 h = absurd h
-goes_on_up f (open_in shutdown_sent my held) t1 h = absurd h
-goes_on_up f (open_in shutdown_received my held) t1 h = absurd h
-goes_on_up f (open_in shutdown_ack_sent my held) t1 h = absurd h
 
 pub again_up : (e : Endpoint) (core : Core) (answers : List Answer) → AgainAnswers e core answers → Up e → UpAfter (again_by (flush_answered answers) e core)
 again_up e closed answers allowed h = h

@@ -20,7 +20,7 @@ use Rattle.dcsctp_machine.specs.Laws.{ActsAreControlled}
 use Rattle.dcsctp_machine.specs.World.{acted, worked}
 use Rattle.dcsctp_machine.proofs.AlongLemmas.{run_along}
 use Rattle.dcsctp_machine.proofs.ControlHandshake.{init_ack_controlled, cookie_ack_controlled, abort_controlled}
-use Rattle.dcsctp_machine.proofs.ControlEnds.{shutdown_ack_controlled, shutdown_complete_controlled}
+use Rattle.dcsctp_machine.proofs.ShutdownLemmas.{shutdown_controlled, shutdown_ack_controlled, shutdown_complete_controlled}
 use Rattle.dcsctp_machine.proofs.ControlEcho.{cookie_echo_controlled}
 use Rattle.dcsctp_machine.proofs.ControlLemmas.{begin_stands}
 use Rattle.dcsctp_machine.proofs.PlainLemmas.{plain_controlled}
@@ -132,7 +132,7 @@ chunk_tells law e tag (cookie_echo cookie) t h = by_chunk law e tag (cookie_echo
 chunk_tells law e tag cookie_ack t h = by_chunk law e tag cookie_ack t (cookie_ack_controlled e tag t.outcome h.comes)
 chunk_tells law e tag (re_config parameters) t h = by_chunk law e tag (re_config parameters) t (reset_controlled e tag parameters t.outcome h.comes)
 chunk_tells law e tag (abort reflected causes) t h = by_chunk law e tag (abort reflected causes) t (abort_controlled e tag reflected causes t.outcome h.comes)
-chunk_tells law e tag (shutdown tsn) t h = by_chunk law e tag (shutdown tsn) t h.comes
+chunk_tells law e tag (shutdown tsn) t h = by_chunk law e tag (shutdown tsn) t (shutdown_controlled e tag tsn t.outcome h.comes)
 chunk_tells law e tag shutdown_ack t h = by_chunk law e tag shutdown_ack t (shutdown_ack_controlled e tag t.outcome h.comes)
 chunk_tells law e tag (shutdown_complete reflected) t h = by_chunk law e tag (shutdown_complete reflected) t (shutdown_complete_controlled e tag reflected t.outcome h.comes)
 chunk_tells law e tag (plain chunk) t h = by_chunk law e tag (plain chunk) t (plain_controlled e tag chunk t.outcome h.comes)
@@ -149,7 +149,7 @@ turn_tells : EndLaws → (e : Endpoint) (input : Input) (t : Turned) → IsTurn 
 turn_tells law e arrival t h = rests e t _ h.comes (record { core = refl; none = refl })
 turn_tells law e (refusal text) t h = rests e t _ h.comes (record { core = refl; none = refl })
 turn_tells law e (packet_begins contents) t h =
-    elim (begin_stands e e.core (has_data contents) t.outcome h.comes) [ inl nothing ↦ rests e t _ nothing (still_rests e) | inr acts ↦ by_act law.once e shutdown_repeats t acts ]
+    elim (begin_stands e e.core (has_data contents) t.outcome refl h.comes) [ inl nothing ↦ rests e t _ nothing (still_rests e) | inr acts ↦ by_act law.once e shutdown_repeats t acts ]
 turn_tells law e (chunk_input tag content) t h = chunk_tells law.once e tag content t h
 turn_tells law e packet_ends t h = by_act law.once e flushes t (flushed_act e t.outcome (end_at e e.below.transfer t.outcome h.comes))
 turn_tells law e (act_input act) t h = by_act law.once e act t (law.acts e act t.outcome h.comes)

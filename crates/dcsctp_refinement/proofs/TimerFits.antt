@@ -15,7 +15,7 @@ use Rattle.dcsctp_refinement.proofs.FlushFits.{still_fits}
 use Rattle.dcsctp_refinement.proofs.Sendable.{init_sendable, echo_sendable}
 use Rattle.dcsctp_refinement.proofs.TurnsFit.{emits_fit, echoed_fits}
 
-goes_on_runs : (f : RunningTimer → RunningTimer) (core : Core) (t1 : Option RunningTimer) → T1Runs core t1 → T1Runs core (option_map f t1)
+pub goes_on_runs : (f : RunningTimer → RunningTimer) (core : Core) (t1 : Option RunningTimer) → T1Runs core t1 → T1Runs core (option_map f t1)
 goes_on_runs f closed t1 runs = tt
 goes_on_runs f (cookie_wait my) None runs = absurd runs
 goes_on_runs f (cookie_wait my) (Some timer) runs = tt

@@ -12,11 +12,11 @@ use Rattle.dcsctp_machine.specs.Event.{Event, sent, connected, connection_restar
 use Rattle.dcsctp_machine.specs.Packet.{Introduction, Content, init, init_ack, cookie_echo, cookie_ack, re_config, abort, shutdown, shutdown_ack, shutdown_complete, plain, Emission}
 use Rattle.dcsctp_machine.specs.Transfer.{SendQueueState}
 use Rattle.dcsctp_machine.specs.Endpoint.{Endpoint, Core, closed, cookie_wait, cookie_echoed, open_in, established, shutdown_pending, shutdown_sent, shutdown_received, shutdown_ack_sent}
-use Rattle.dcsctp_machine.specs.Outcome.{Outcome, noting, quiet, sends, emits, fits, drawing}
+use Rattle.dcsctp_machine.specs.Outcome.{Outcome, noting, quiet, sends, emits, fits, to_peer, drawing}
 use Rattle.dcsctp_machine.specs.Turn.{ContentTurn}
 use Rattle.dcsctp_machine.specs.turns.FlushOutcomes.{Answer, draft_to, FlushAnswers, flush_answered}
-use Rattle.dcsctp_machine.specs.turns.EndOutcomes.{ended_outcome, abort_outcome, reflected_outcome, ShutdownAckTurn, ShutdownCompleteTurn}
-use Rattle.dcsctp_machine.specs.turns.HandshakeOutcomes.{pair_from, renewed_pair, cookie_for, init_ack_emission, init_outcome, init_emission, awaits_init_ack, connect_outcome, no_cookie_text, abort_emission, awaits_cookie_ack, echo_emission, EchoAnswers, InitAckAnswers, accepted_init_ack_by, init_ack_by, connected_after, CookieAckAnswers, cookie_ack_by}
+use Rattle.dcsctp_machine.specs.turns.EndOutcomes.{ended_outcome, abort_outcome}
+use Rattle.dcsctp_machine.specs.turns.HandshakeOutcomes.{pair_from, renewed_pair, renewed_outcome, cookie_for, init_ack_emission, init_outcome, init_emission, awaits_init_ack, connect_outcome, no_cookie_text, abort_emission, awaits_cookie_ack, echo_emission, EchoAnswers, InitAckAnswers, accepted_init_ack_by, init_ack_by, connected_after, CookieAckAnswers, cookie_ack_by}
 use Rattle.dcsctp_machine.specs.turns.CookieEchoOutcomes.{established_by, acknowledgement, EstablishAnswers, establish_by, queue_kept, queue_begun, RestartAnswers, restart_by_where, MaintainAnswers, maintain_by, ResolvedAnswers, resolved_by, EchoedAnswers, cookie_echo_by}
 use Rattle.dcsctp_machine.specs.control.Effect.{Link, Effect, holds, connects, link_of}
 use Rattle.dcsctp_machine.specs.control.HandshakeChanges.{held_by_init_ack, new_held}
@@ -31,6 +31,7 @@ use Rattle.dcsctp_refinement.proofs.PlainFits.{plain_fits}
 use Rattle.dcsctp_refinement.proofs.Resets.{reset_fits}
 use Rattle.dcsctp_refinement.proofs.Sendable.{init_sendable, init_ack_sendable, echo_sendable, ack_sendable, abort_sendable}
 use Rattle.dcsctp_refinement.proofs.Sent.{all_sent_append}
+use Rattle.dcsctp_refinement.proofs.ShutdownFits.{shutdown_ack_sendable, shutdown_fits, shutdown_ack_fits, shutdown_complete_fits, refused_restart_fits}
 
 -- ---- one packet at most
 
@@ -60,19 +61,24 @@ renewed_fits e word = record { tag_is_not_zero = omega arith; tag = omega arith;
 answer_fits : OfferReadsBack → (e : Endpoint) (theirs : Introduction) (mine : Pair) (tie : ℕ) → FitsEndpoint e → FitsPair theirs.pair → FitsPair mine → IsSendable (init_ack_emission e theirs mine tie)
 answer_fits law e theirs mine tie h said own = record { tag = said.tag; contents = (init_ack_sendable law e.options theirs mine (cookie_for theirs mine tie) h.valid h.options own, tt) }
 
+-- A new pair is drawn for it.
+renewed_answer_fits : OfferReadsBack → (e : Endpoint) (theirs : Introduction) (word : ℕ) → FitsEndpoint e → FitsPair theirs.pair → TurnFits (renewed_outcome e theirs word)
+renewed_answer_fits law e theirs word h said =
+    drawing_fits (renewed_pair e word) _
+    (emits_fit e (U32 word ∷ []) (init_ack_emission e theirs (renewed_pair e word) e.tie) h (answer_fits law e theirs (renewed_pair e word) e.tie h said (renewed_fits e word)))
+
 init_fits : OfferReadsBack → (e : Endpoint) (theirs : Introduction) (core : Core) (word next : ℕ) → FitsEndpoint e → FitsCore core → FitsPair theirs.pair → TurnFits (init_outcome e theirs core word next)
 init_fits law e theirs closed word next h own said =
     drawing_fits (pair_from word next) _
     (emits_fit e (U32 word ∷ U32 next ∷ []) (init_ack_emission e theirs (pair_from word next) 0) h (answer_fits law e theirs (pair_from word next) 0 h said (drawn_fits word next)))
 init_fits law e theirs (cookie_wait my) word next h own said = emits_fit e [] (init_ack_emission e theirs my 0) h (answer_fits law e theirs my 0 h said own)
 init_fits law e theirs (cookie_echoed my held cookie) word next h own said = emits_fit e [] (init_ack_emission e theirs my 0) h (answer_fits law e theirs my 0 h said own.0)
-init_fits law e theirs (open_in established my held) word next h own said =
-    drawing_fits (renewed_pair e word) _
-    (emits_fit e (U32 word ∷ []) (init_ack_emission e theirs (renewed_pair e word) e.tie) h (answer_fits law e theirs (renewed_pair e word) e.tie h said (renewed_fits e word)))
-init_fits law e theirs (open_in shutdown_pending my held) word next h own said = absurd own
-init_fits law e theirs (open_in shutdown_sent my held) word next h own said = absurd own
-init_fits law e theirs (open_in shutdown_received my held) word next h own said = absurd own
-init_fits law e theirs (open_in shutdown_ack_sent my held) word next h own said = absurd own
+init_fits law e theirs (open_in established my held) word next h own said = renewed_answer_fits law e theirs word h said
+init_fits law e theirs (open_in shutdown_pending my held) word next h own said = renewed_answer_fits law e theirs word h said
+init_fits law e theirs (open_in shutdown_sent my held) word next h own said = renewed_answer_fits law e theirs word h said
+init_fits law e theirs (open_in shutdown_received my held) word next h own said = renewed_answer_fits law e theirs word h said
+init_fits law e theirs (open_in shutdown_ack_sent my held) word next h own said =
+    emits_fit e [] (to_peer held shutdown_ack) h (record { tag = own.1.peer.tag; contents = (shutdown_ack_sendable, tt) })
 
 -- ---- connect
 
@@ -161,10 +167,13 @@ restarted_fits e cookie tie (cookie_echoed my held echoed) answers allowed h own
     established_fits e cookie (queue_begun e cookie) tie (connection_restarted ∷ connected ∷ []) answers allowed h pairs (tt, (tt, tt))
 restarted_fits e cookie tie (open_in established my held) answers allowed h own pairs =
     established_fits e cookie (queue_begun e cookie) tie (connection_restarted ∷ connected ∷ []) answers allowed h pairs (tt, (tt, tt))
-restarted_fits e cookie tie (open_in shutdown_pending my held) answers allowed h own pairs = absurd own
-restarted_fits e cookie tie (open_in shutdown_sent my held) answers allowed h own pairs = absurd own
-restarted_fits e cookie tie (open_in shutdown_received my held) answers allowed h own pairs = absurd own
-restarted_fits e cookie tie (open_in shutdown_ack_sent my held) answers allowed h own pairs = absurd own
+restarted_fits e cookie tie (open_in shutdown_pending my held) answers allowed h own pairs =
+    established_fits e cookie (queue_begun e cookie) tie (connection_restarted ∷ connected ∷ []) answers allowed h pairs (tt, (tt, tt))
+restarted_fits e cookie tie (open_in shutdown_sent my held) answers allowed h own pairs =
+    established_fits e cookie (queue_begun e cookie) tie (connection_restarted ∷ connected ∷ []) answers allowed h pairs (tt, (tt, tt))
+restarted_fits e cookie tie (open_in shutdown_received my held) answers allowed h own pairs =
+    established_fits e cookie (queue_begun e cookie) tie (connection_restarted ∷ connected ∷ []) answers allowed h pairs (tt, (tt, tt))
+restarted_fits e cookie tie (open_in shutdown_ack_sent my held) answers allowed h own pairs = refused_restart_fits e held h own.1
 
 maintained_fits : (e : Endpoint) (cookie : Cookie) (core : Core) (answers : List Answer) → MaintainAnswers e cookie core answers → FitsEndpoint e → FitsCore core → ReadPairs cookie
     → TurnFits (maintain_by (flush_answered answers) e cookie core)
@@ -210,34 +219,6 @@ abort_fits e causes (open_in phase my held) h = record { after = record { valid 
 
 -- ---- each chunk that is read of what a socket sent
 
--- A SHUTDOWN COMPLETE goes out under the tag of the packet.
-reflected_fits : (e : Endpoint) (tag : ℕ) → FitsEndpoint e → tag < 2 ^ 32 → TurnFits (reflected_outcome e tag)
-reflected_fits e tag h fits =
-    record {
-      after = record { valid = h.valid; options = h.options; core = h.core; t1 = h.t1 };
-      sends = (record { tag = fits; contents = (record { fits = tt; reads = refl; said = tt }, tt) }, tt);
-    }
-
-shutdown_ack_fits : (e : Endpoint) (core : Core) (tag : ℕ) (o : Outcome) → ShutdownAckTurn e core tag o → FitsEndpoint e → FitsCore core → tag < 2 ^ 32 → TurnFits o
-shutdown_ack_fits e closed tag o turn h own fits = subst TurnFits (sym turn) (reflected_fits e tag h fits)
-shutdown_ack_fits e (cookie_wait my) tag o turn h own fits = subst TurnFits (sym turn) (reflected_fits e tag h fits)
-shutdown_ack_fits e (cookie_echoed my held cookie) tag o turn h own fits = subst TurnFits (sym turn) (reflected_fits e tag h fits)
-shutdown_ack_fits e (open_in established my held) tag o turn h own fits = subst TurnFits (sym turn) (reflected_fits e tag h fits)
-shutdown_ack_fits e (open_in shutdown_pending my held) tag o turn h own fits = absurd own
-shutdown_ack_fits e (open_in shutdown_sent my held) tag o turn h own fits = absurd own
-shutdown_ack_fits e (open_in shutdown_received my held) tag o turn h own fits = absurd own
-shutdown_ack_fits e (open_in shutdown_ack_sent my held) tag o turn h own fits = absurd own
-
-shutdown_complete_fits : (e : Endpoint) (core : Core) (tag : ℕ) (reflected : Bool) (o : Outcome) → ShutdownCompleteTurn e core tag reflected o → FitsEndpoint e → FitsCore core → TurnFits o
-shutdown_complete_fits e closed tag reflected o turn h own = subst TurnFits (sym turn) (still_fits e h)
-shutdown_complete_fits e (cookie_wait my) tag reflected o turn h own = subst TurnFits (sym turn) (still_fits e h)
-shutdown_complete_fits e (cookie_echoed my held cookie) tag reflected o turn h own = subst TurnFits (sym turn) (still_fits e h)
-shutdown_complete_fits e (open_in established my held) tag reflected o turn h own = subst TurnFits (sym turn) (still_fits e h)
-shutdown_complete_fits e (open_in shutdown_pending my held) tag reflected o turn h own = absurd own
-shutdown_complete_fits e (open_in shutdown_sent my held) tag reflected o turn h own = absurd own
-shutdown_complete_fits e (open_in shutdown_received my held) tag reflected o turn h own = absurd own
-shutdown_complete_fits e (open_in shutdown_ack_sent my held) tag reflected o turn h own = absurd own
-
 pub turn_fits : OfferReadsBack → (e : Endpoint) (tag : ℕ) (content : Content) (o : Outcome) → ContentTurn e tag content o → FitsEndpoint e → tag < 2 ^ 32 → Sendable content → TurnFits o
 turn_fits law e tag (init theirs) o turn h tagged good = subst TurnFits (sym turn.2) (init_fits law e theirs e.core turn.0 turn.1 h h.core good.said.0)
 turn_fits law e tag (init_ack theirs cookie) o turn h tagged good = subst TurnFits (sym turn.3) (init_ack_fits e theirs cookie e.core turn.0 turn.1 turn.2 h h.core good)
@@ -245,7 +226,7 @@ turn_fits law e tag (cookie_echo bytes) o turn h tagged good = subst TurnFits (s
 turn_fits law e tag cookie_ack o turn h tagged good = subst TurnFits (sym turn.2) (cookie_ack_fits e e.core turn.0 turn.1 h h.core)
 turn_fits law e tag (re_config parameters) o turn h tagged good = reset_fits e e.core parameters o turn h h.core good
 turn_fits law e tag (abort reflected causes) o turn h tagged good = subst TurnFits (sym turn) (abort_fits e causes e.core h)
-turn_fits law e tag (shutdown cumulative_tsn) o turn h tagged good = absurd (cc)
-turn_fits law e tag shutdown_ack o turn h tagged good = shutdown_ack_fits e e.core tag o turn h h.core tagged
-turn_fits law e tag (shutdown_complete reflected) o turn h tagged good = shutdown_complete_fits e e.core tag reflected o turn h h.core
+turn_fits law e tag (shutdown cumulative_tsn) o turn h tagged good = subst TurnFits (sym turn) (shutdown_fits e e.core h h.core)
+turn_fits law e tag shutdown_ack o turn h tagged good = subst TurnFits (sym turn) (shutdown_ack_fits e e.core tag h h.core tagged)
+turn_fits law e tag (shutdown_complete reflected) o turn h tagged good = subst TurnFits (sym turn) (shutdown_complete_fits e e.core h)
 turn_fits law e tag (plain chunk) o turn h tagged good = plain_fits e chunk o turn h good

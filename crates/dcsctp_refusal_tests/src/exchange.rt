@@ -9,11 +9,11 @@ use crate::messages::How::{self, Lives, Named, Plain, SentOnce, Unordered};
 use crate::told::Told::{self, Event, Packet};
 use crate::told::{
     ABORT, COOKIE_ACK, COOKIE_ECHO, DATA, FORWARD_TSN, HEARTBEAT, HEARTBEAT_ACK, INIT, INIT_ACK,
-    RE_CONFIG, SACK, is_told,
+    RE_CONFIG, SACK, SHUTDOWN, SHUTDOWN_ACK, SHUTDOWN_COMPLETE, is_told,
 };
 use Act::{
     Closes, Connects, Expires, Loses, Passes, Reads, Resets, Sends, SendsMany, SetsPriority,
-    SetsThreshold, Takes, TakesNoPackets,
+    SetsThreshold, ShutsDown, Takes, TakesNoPackets,
 };
 use Name::{A, B};
 use dcsctp_socket::SocketEvent;
@@ -33,6 +33,9 @@ pub enum Act {
 
     /// It ends the association at once.
     Closes,
+
+    /// It shuts the association down.
+    ShutsDown,
 
     /// It is handed the next packet of the other side.
     Takes,
@@ -217,6 +220,23 @@ pub static EXCHANGE: &[Step] = &[
     (B, TakesNoPackets(4), &[Event("unreadable", 0); 4]),
     (A, Closes, &[Packet(&[ABORT]), Event("closed", 0)]),
     (B, Takes, &[Event("aborted by the peer", 0)]),
+    // They connect again, and A shuts the association down: its SHUTDOWN is lost, and goes out again by T2 (RFC 9260,
+    // section 9.2).
+    (A, Connects, &[Packet(&[INIT])]),
+    (B, Takes, &[Packet(&[INIT_ACK])]),
+    (A, Takes, &[Packet(&[COOKIE_ECHO])]),
+    (B, Takes, &[Event("connected", 0), Packet(&[COOKIE_ACK])]),
+    (A, Takes, &[Event("connected", 0)]),
+    (A, ShutsDown, &[Packet(&[SHUTDOWN])]),
+    (B, Loses, &[]),
+    (A, Expires(31_500), &[Packet(&[SHUTDOWN])]),
+    (B, Takes, &[Packet(&[SHUTDOWN_ACK])]),
+    (
+        A,
+        Takes,
+        &[Packet(&[SHUTDOWN_COMPLETE]), Event("closed", 0)],
+    ),
+    (B, Takes, &[Event("closed", 0)]),
 ];
 
 /// What a side tells in a step of the exchange: nothing where it is the other side's.

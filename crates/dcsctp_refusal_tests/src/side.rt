@@ -67,6 +67,7 @@ impl Side {
         match act {
             Act::Connects => Ok(self.socket.connect()),
             Act::Closes => Ok(self.socket.close()),
+            Act::ShutsDown => Ok(self.socket.shutdown()),
             Act::Takes => {
                 let packet = other.next_packet(rt, index)?;
                 Ok(self.socket.handle_input(&packet))

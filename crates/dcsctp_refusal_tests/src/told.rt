@@ -17,9 +17,15 @@ pub const HEARTBEAT_ACK: u8 = 5;
 
 pub const ABORT: u8 = 6;
 
+pub const SHUTDOWN: u8 = 7;
+
+pub const SHUTDOWN_ACK: u8 = 8;
+
 pub const COOKIE_ECHO: u8 = 10;
 
 pub const COOKIE_ACK: u8 = 11;
+
+pub const SHUTDOWN_COMPLETE: u8 = 14;
 
 pub const RE_CONFIG: u8 = 130;
 

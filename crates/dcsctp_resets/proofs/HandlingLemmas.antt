@@ -18,7 +18,7 @@ use Rattle.dcsctp_machine.specs.Event.{Event, sent, incoming_stream_reset}
 use Rattle.dcsctp_machine.specs.Packet.{Content, re_config, chunk_out, Emission, emission_bytes}
 use Rattle.dcsctp_machine.specs.Reconfiguration.{RequestedReset, ResetParameter, outgoing_reset_request, incoming_reset_request, reconfiguration_response, other_reset_parameter, reset_parameter_content}
 use Rattle.dcsctp_machine.specs.Transfer.{Transfer}
-use Rattle.dcsctp_machine.specs.Endpoint.{Endpoint, Core, cookie_echoed, open_in, established, held_in}
+use Rattle.dcsctp_machine.specs.Endpoint.{Endpoint, Core, cookie_echoed, open_in, OpenPhase, held_in}
 use Rattle.std.specs.Prelude.{if◌then◌else◌}
 use Rattle.dcsctp_machine.specs.Outcome.{Outcome, still, quiet, sends, emits, counted, fits, noting, to_peer}
 use Rattle.dcsctp_machine.specs.control.Effect.{Effect, drawn_in}
@@ -32,9 +32,9 @@ use Rattle.dcsctp_api.specs.Calls.{user_event}
 use Rattle.dcsctp_core.specs.declared.context.Context.{Context}
 use Rattle.dcsctp_core.specs.declared.state.State.{State}
 use Rattle.dcsctp_core.specs.declared.transmission_control_block.TransmissionControlBlock.{TransmissionControlBlock}
-use Rattle.dcsctp_core.specs.declared.state.State.TheVariants.{Closed, CookieWait, CookieEchoed, Established}
+use Rattle.dcsctp_core.specs.declared.state.State.TheVariants.{Closed, CookieWait, CookieEchoed, Open}
 use Rattle.dcsctp_core.specs.Reconfiguring.{request_in}
-use Rattle.dcsctp_core.specs.View.{View, Drawn, number_of, tcb_of, held_of, core_of, outstanding_of, transfer_of, endpoint_of, view_of, Moves}
+use Rattle.dcsctp_core.specs.View.{View, Drawn, number_of, tcb_of, held_of, phase_in, core_of, outstanding_of, transfer_of, endpoint_of, view_of, Moves}
 use Rattle.dcsctp_core.specs.Handling.{Tries, Emits, emitted, report_turn, FlushAt, TakesIn, CutIn, TakesOne}
 use Rattle.dcsctp_core.specs.Below.{ChangesBelow}
 use Rattle.dcsctp_core.proofs.BelowLemmas.{below_view, same_view}
@@ -229,7 +229,7 @@ pub tcb_holds : (s : State) (tcb : TransmissionControlBlock) → tcb_of s ≡ So
 tcb_holds Closed tcb is = absurd (cc)
 tcb_holds (CookieWait wait) tcb is = absurd (cc)
 tcb_holds (CookieEchoed echoed) tcb is = ap (λ (t : Option TransmissionControlBlock). option_map held_of t) is
-tcb_holds (Established own) tcb is = ap (λ (t : Option TransmissionControlBlock). option_map held_of t) is
+tcb_holds (Open opened) tcb is = ap (λ (t : Option TransmissionControlBlock). option_map held_of t) is
 
 -- The answers go out, or a growth was refused.
 some_sent : {R E : Type 0} (stream : R → Stream) (old : Context R) (result : Result (Unit {0}) E) (new : Context R) (held : Held) (response : ResetParameter) (responses : List ResetParameter) (with_checksum : Bool)
@@ -300,11 +300,11 @@ echoed_settled my held cookie unanswered last = refl
 echoed_settled my held cookie retried last = refl
 echoed_settled my held cookie over last = refl
 
-open_settled : (my : Pair) (held : Held) (answer : OwnAnswer) (last : LastRequest)
-    → core_settled answer (core_asked last (open_in established my held)) ≡ core_with (open_in established my held) (held_out (left_out answer held.own_outstanding) (held_with held last))
-open_settled my held unanswered last = refl
-open_settled my held retried last = refl
-open_settled my held over last = refl
+open_settled : (phase : OpenPhase) (my : Pair) (held : Held) (answer : OwnAnswer) (last : LastRequest)
+    → core_settled answer (core_asked last (open_in phase my held)) ≡ core_with (open_in phase my held) (held_out (left_out answer held.own_outstanding) (held_with held last))
+open_settled phase my held unanswered last = refl
+open_settled phase my held retried last = refl
+open_settled phase my held over last = refl
 
 pub peer_of : (state : State) → is_some (transfer_of state) ≡ true → Peer state
 peer_of Closed some = absurd (cc)
@@ -320,15 +320,24 @@ peer_of (CookieEchoed echoed) some =
       keeps = λ held. refl;
       turn = λ e parameters o h. h;
     }
-peer_of (Established tcb) some =
-    record { my = tcb.my; held = held_of tcb; holds = refl; own = refl; last = refl; settled = open_settled tcb.my (held_of tcb); keeps = λ held. refl; turn = λ e parameters o h. h }
+peer_of (Open opened) some =
+    record {
+      my = opened.tcb.my;
+      held = held_of opened.tcb;
+      holds = refl;
+      own = refl;
+      last = refl;
+      settled = open_settled (phase_in opened.phase) opened.tcb.my (held_of opened.tcb);
+      keeps = λ held. refl;
+      turn = λ e parameters o h. h;
+    }
 
 -- Without one nothing happens.
 pub unheld : (e : Endpoint) (state : State) (parameters : List ResetParameter) → is_some (transfer_of state) ≡ false → ResetTurn e (core_of state) parameters (still e)
 unheld e Closed parameters none = refl
 unheld e (CookieWait wait) parameters none = refl
 unheld e (CookieEchoed echoed) parameters none = absurd (cc)
-unheld e (Established tcb) parameters none = absurd (cc)
+unheld e (Open opened) parameters none = absurd (cc)
 
 pub rests : {R : Type 0} (stream : R → Stream) (old : Context R) (parameters : List ResetParameter) → is_some (transfer_of old.state) ≡ false → TakesIn stream (ReConfigAt parameters) (view_of old) (view_of old)
 rests stream old parameters none = record { outcome = still (endpoint_of old); turn = unheld (endpoint_of old) old.state parameters none; moves = moves_still stream (view_of old) }

@@ -17,7 +17,7 @@ use Rattle.dcsctp_machine.specs.turns.OwnTimers.{reconfiguration}
 use Rattle.dcsctp_machine.specs.turns.ReconfigurationOutcomes.{reset_again, request_emitted, request_unless, reconfiguration_expired, request_expired, reconfiguration_outcome}
 use Rattle.dcsctp_core.specs.declared.context.Context.{Context}
 use Rattle.dcsctp_core.specs.declared.state.State.{State}
-use Rattle.dcsctp_core.specs.declared.state.State.TheVariants.{Closed, CookieWait, CookieEchoed, Established}
+use Rattle.dcsctp_core.specs.declared.state.State.TheVariants.{Closed, CookieWait, CookieEchoed, Open}
 use Rattle.dcsctp_core.specs.declared.transmission_control_block.ResetRequest.{ResetRequest}
 use Rattle.dcsctp_core.specs.declared.transmission_control_block.TransmissionControlBlock.{TransmissionControlBlock}
 use Rattle.dcsctp_core.specs.View.{View, number_of, request_of, held_of, core_of, tcb_of, outstanding_of, endpoint_of, view_of, Moves}
@@ -55,7 +55,7 @@ tcb_asks : (s : State) (tcb : TransmissionControlBlock) → tcb_of s ≡ Some tc
 tcb_asks Closed tcb is = absurd (cc)
 tcb_asks (CookieWait wait) tcb is = absurd (cc)
 tcb_asks (CookieEchoed echoed) tcb is = let same : echoed.tcb ≡ tcb = cc in ap (λ (t : TransmissionControlBlock). request_of t.reset_request) same
-tcb_asks (Established own) tcb is = let same : own ≡ tcb = cc in ap (λ (t : TransmissionControlBlock). request_of t.reset_request) same
+tcb_asks (Open opened) tcb is = let same : opened.tcb ≡ tcb = cc in ap (λ (t : TransmissionControlBlock). request_of t.reset_request) same
 
 again_is : (e : Endpoint) (peer : Option Held) (asked : Option OutstandingRequest) (held : Held) (request : OutstandingRequest) (number : ℕ) → peer ≡ Some held → asked ≡ Some request
     → held.own_outstanding ≡ Some number → again_outcome e peer asked ≡ emits e [] (to_peer held (reset_request number (reset_again (Some request))))
@@ -113,7 +113,7 @@ peerless : (s : State) → held_in (core_of s) ≡ None → outstanding_of s ≡
 peerless Closed none = refl
 peerless (CookieWait wait) none = refl
 peerless (CookieEchoed echoed) none = absurd (cc)
-peerless (Established tcb) none = absurd (cc)
+peerless (Open opened) none = absurd (cc)
 
 -- The timer has expired, and what comes of that took place.
 pub expired_then : {R : Type 0} (stream : R → Stream) (old mid new : Context R) (b : Bool) → b ≡ is_timer_due (endpoint_of old) (own_timer reconfiguration) → b ≡ true

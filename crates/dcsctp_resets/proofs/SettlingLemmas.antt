@@ -5,16 +5,17 @@ use Rattle.std.proofs.lemmas.List.{append-nil}
 use Rattle.dcsctp_machine.specs.Event.{Event}
 use Rattle.dcsctp_machine.specs.Reconfiguration.{RequestedReset}
 use Rattle.dcsctp_machine.specs.Transfer.{Transfer}
-use Rattle.dcsctp_machine.specs.Endpoint.{OutstandingRequest, RunningTimer, cookie_echoed, open_in, established}
+use Rattle.dcsctp_machine.specs.Endpoint.{OutstandingRequest, RunningTimer, cookie_echoed, open_in}
 use Rattle.dcsctp_machine.specs.turns.ResetOutcomes.{OwnAnswer, unanswered, retried, over, waiting, own_streams, ResetsBelow}
 use Rattle.dcsctp_api.specs.declared.events.SocketEvent.{SocketEvent}
 use Rattle.dcsctp_core.specs.declared.context.Context.{Context}
 use Rattle.dcsctp_core.specs.declared.state.CookieEchoState.{CookieEchoState}
+use Rattle.dcsctp_core.specs.declared.state.OpenState.{OpenState}
 use Rattle.dcsctp_core.specs.declared.state.State.{State}
 use Rattle.dcsctp_core.specs.declared.transmission_control_block.ResetRequest.{ResetRequest}
 use Rattle.dcsctp_core.specs.declared.transmission_control_block.TransmissionControlBlock.{TransmissionControlBlock}
-use Rattle.dcsctp_core.specs.declared.state.State.TheVariants.{Closed, CookieWait, CookieEchoed, Established}
-use Rattle.dcsctp_core.specs.View.{View, number_of, request_of, timer_of, held_of, outstanding_of, transfer_of, view_of}
+use Rattle.dcsctp_core.specs.declared.state.State.TheVariants.{Closed, CookieWait, CookieEchoed, Open}
+use Rattle.dcsctp_core.specs.View.{View, number_of, request_of, timer_of, held_of, phase_in, outstanding_of, transfer_of, view_of}
 use Rattle.dcsctp_send.specs.Timer.{TimerModel}
 use Rattle.dcsctp_core.specs.Answering.{delayed, Retries, RetriesIn}
 use Rattle.dcsctp_core.specs.Reconfiguring.{request_in}
@@ -33,7 +34,7 @@ pub none_numbered : (s : State) → outstanding_of s ≡ None → number_of (req
 none_numbered Closed none = refl
 none_numbered (CookieWait wait) none = refl
 none_numbered (CookieEchoed echoed) none = number_none echoed.tcb.reset_request none
-none_numbered (Established tcb) none = number_none tcb.reset_request none
+none_numbered (Open opened) none = number_none opened.tcb.reset_request none
 
 -- ---- it is in progress
 
@@ -68,15 +69,15 @@ echoed_view {R = R} old echoed tcb h some =
     ∙ ap (λ (r : Option OutstandingRequest). numbered (number_of rr) r (timer_of later)) (request_delayed h.timer rr)
     ∙ ap (λ (t : Option RunningTimer). numbered (number_of rr) (option_map waiting (request_of rr)) t) (timer_delayed h.timer _ rr h.runs some)
 
-established_view : {R : Type 0} (old : Context R) (before tcb : TransmissionControlBlock) → Retries old.moment before tcb → (before.reset_request ≡ None → ⊥)
-    → view_of (record old { state = Established tcb }) ≡ settled_at retried (view_of (record old { state = Established before }))
-established_view {R = R} old before tcb h some =
-    let v : View R = view_of (record old { state = Established before }) in
+open_view : {R : Type 0} (old : Context R) (opened : OpenState) (tcb : TransmissionControlBlock) → Retries old.moment opened.tcb tcb → (opened.tcb.reset_request ≡ None → ⊥)
+    → view_of (record old { state = Open (record opened { tcb = tcb }) }) ≡ settled_at retried (view_of (record old { state = Open opened }))
+open_view {R = R} old opened tcb h some =
+    let v : View R = view_of (record old { state = Open opened }) in
     let numbered : Option ℕ → Option OutstandingRequest → Option RunningTimer → View R =
-    λ n r t. record (asking v r t) { endpoint = record (asking v r t).endpoint { core = open_in established before.my (held_out n (held_of before)) } } in
-    let rr : Option ResetRequest = before.reset_request in
+    λ n r t. record (asking v r t) { endpoint = record (asking v r t).endpoint { core = open_in (phase_in opened.phase) opened.tcb.my (held_out n (held_of opened.tcb)) } } in
+    let rr : Option ResetRequest = opened.tcb.reset_request in
     let later : Option ResetRequest = option_map (delayed h.timer) rr in
-    ap (λ (t : TransmissionControlBlock). view_of (record old { state = Established t })) h.is
+    ap (λ (t : TransmissionControlBlock). view_of (record old { state = Open (record opened { tcb = t }) })) h.is
     ∙ ap (λ (n : Option ℕ). numbered n (request_of later) (timer_of later)) (number_delayed h.timer rr)
     ∙ ap (λ (r : Option OutstandingRequest). numbered (number_of rr) r (timer_of later)) (request_delayed h.timer rr)
     ∙ ap (λ (t : Option RunningTimer). numbered (number_of rr) (option_map waiting (request_of rr)) t) (timer_delayed h.timer _ rr h.runs some)
@@ -90,7 +91,7 @@ retried_view : {R : Type 0} (old : Context R) (s new : State) → RetriesIn old.
 retried_view old Closed new h asked = let never = asked refl in absurd (cc)
 retried_view old (CookieWait wait) new h asked = let never = asked refl in absurd (cc)
 retried_view old (CookieEchoed echoed) new h asked = ap (λ (s : State). view_of (record old { state = s })) h.2 ∙ echoed_view old echoed h.0 h.1 (asked_some echoed.tcb.reset_request asked)
-retried_view old (Established tcb) new h asked = ap (λ (s : State). view_of (record old { state = s })) h.2 ∙ established_view old tcb h.0 h.1 (asked_some tcb.reset_request asked)
+retried_view old (Open opened) new h asked = ap (λ (s : State). view_of (record old { state = s })) h.2 ∙ open_view old opened h.0 h.1 (asked_some opened.tcb.reset_request asked)
 
 pub retried_settles : {R : Type 0} (old : Context R) (new : State) → RetriesIn old.moment old.state new → Settles own.InProgress old None (record old { state = new })
 retried_settles old new h = λ asked. (retried_view old old.state new h asked, refl)

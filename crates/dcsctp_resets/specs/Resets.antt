@@ -14,7 +14,7 @@ use Rattle.dcsctp_machine.specs.Outcome.{Outcome, still}
 use Rattle.dcsctp_machine.specs.turns.FlushOutcomes.{Answer}
 use Rattle.dcsctp_machine.specs.turns.ResetOutcomes.{OwnAnswer, unanswered, retried, over, own_moved, own_streams, ResetsBelow, responses_outcome, responses_by, ResponseAnswers, ResetTurn}
 use Rattle.dcsctp_core.specs.declared.state.State.{State}
-use Rattle.dcsctp_core.specs.declared.state.State.TheVariants.{Closed, CookieWait, CookieEchoed, Established}
+use Rattle.dcsctp_core.specs.declared.state.State.TheVariants.{Closed, CookieWait, CookieEchoed, Open}
 use Rattle.dcsctp_core.specs.declared.context.Context.{Context}
 use Rattle.dcsctp_core.specs.View.{View, core_of, outstanding_of, transfer_of, view_of}
 use Rattle.dcsctp_core.specs.Handling.{TakesOne}
@@ -41,7 +41,7 @@ abbrev pub last_in : State → LastRequest
 last_in Closed = record { number = 0; result = SuccessNothingToDo }
 last_in (CookieWait wait) = record { number = 0; result = SuccessNothingToDo }
 last_in (CookieEchoed echoed) = record { number = echoed.tcb.last_processed_req_seq_nbr; result = echoed.tcb.last_processed_req_result }
-last_in (Established tcb) = record { number = tcb.last_processed_req_seq_nbr; result = tcb.last_processed_req_result }
+last_in (Open opened) = record { number = opened.tcb.last_processed_req_seq_nbr; result = opened.tcb.last_processed_req_result }
 
 abbrev pub core_asked : LastRequest → Core → Core
 core_asked last (cookie_echoed my held cookie) = cookie_echoed my (held_with held last) cookie

@@ -56,7 +56,8 @@ fn is_reached(state: &State, request: Option<OutgoingSsnResetRequestParameter<'_
                 .tcb
                 .transfer
                 .has_received_up_to(request.sender_last_assigned_tsn),
-            State::Established(tcb) => tcb
+            State::Open(opened) => opened
+                .tcb
                 .transfer
                 .has_received_up_to(request.sender_last_assigned_tsn),
         },
@@ -91,9 +92,9 @@ fn keep_last<R: Rng>(context: &mut Context<R>, last: LastRequest)
             echoed.tcb.last_processed_req_seq_nbr = last.number;
             echoed.tcb.last_processed_req_result = last.result;
         }
-        State::Established(tcb) => {
-            tcb.last_processed_req_seq_nbr = last.number;
-            tcb.last_processed_req_result = last.result;
+        State::Open(opened) => {
+            opened.tcb.last_processed_req_seq_nbr = last.number;
+            opened.tcb.last_processed_req_result = last.result;
         }
     }
 }
@@ -105,7 +106,7 @@ fn reset_streams(state: &mut State, streams: &[StreamId]) -> Result<(), AllocErr
     match state {
         State::Closed | State::CookieWait(_) => Ok(()),
         State::CookieEchoed(echoed) => echoed.tcb.transfer.reset_streams(streams),
-        State::Established(tcb) => tcb.transfer.reset_streams(streams),
+        State::Open(opened) => opened.tcb.transfer.reset_streams(streams),
     }
 }
 
@@ -117,7 +118,7 @@ fn defer_reset(state: &mut State, last_tsn: u32, streams: &[StreamId]) -> Result
     match state {
         State::Closed | State::CookieWait(_) => Ok(()),
         State::CookieEchoed(echoed) => echoed.tcb.transfer.defer_reset(last_tsn, streams),
-        State::Established(tcb) => tcb.transfer.defer_reset(last_tsn, streams),
+        State::Open(opened) => opened.tcb.transfer.defer_reset(last_tsn, streams),
     }
 }
 

@@ -126,6 +126,7 @@ impl Run {
             Command::Receive(side) => self.receive(side, output),
             Command::Connect(side) => self.apply(Step::Call(side, Call::Connect)),
             Command::Close(side) => self.apply(Step::Call(side, Call::Close)),
+            Command::Shutdown(side) => self.apply(Step::Call(side, Call::Shutdown)),
             Command::Give(side, number) => self.apply(Step::Deliver(side, number)),
             Command::Time(side, now) => self.apply(Step::Call(side, Call::AdvanceTime(now))),
             Command::Input(side, bytes) => self.hand_in(Outside::Input(side, bytes)),

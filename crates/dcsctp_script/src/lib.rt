@@ -1,7 +1,7 @@
 //! Scripts: one command a line, on two sockets `A` and `B` that start closed.
 //!
 //! First come the lines that set options (`opt S name value`), then those that list random words
-//! (`words S w ..`), then the rest: `connect S`, `close S`, `send S stream hex`, `reset S ids`, `recv S`,
+//! (`words S w ..`), then the rest: `connect S`, `close S`, `shutdown S`, `send S stream hex`, `reset S ids`, `recv S`,
 //! `time S ms`, `give S k`, `input S hex`, `show S`, `state S` and `timeout S`. After each command its events are
 //! printed, a line each. The first line that is none of these, or comes at the wrong place, ends the run.
 #![tactic(auto)]

@@ -119,7 +119,7 @@ impl<R: Rng + Drop> Socket<R> {
 
 impl<R: Rng + Drop> DcSctpSocket for Socket<R> {
     ghost use Rattle.std.specs.Prelude.{◌≡◌, ◌<◌, true, false, map, IsOk, OnOk, IsErrOf};
-    ghost use Rattle.dcsctp_api.specs.Calls.{PollsEvent, HandlesInput, Connects, Closes, Sets, with_setting, is_closed};
+    ghost use Rattle.dcsctp_api.specs.Calls.{PollsEvent, HandlesInput, Connects, Closes, ShutsDown, takes_shutdown, Sets, with_setting, is_closed};
     ghost use Rattle.dcsctp_machine.specs.turns.SettingOutcomes.{stream_priority, stream_low_threshold, longest_message};
     ghost use Rattle.dcsctp_machine.specs.TimeTurns.{Waits, next_moment};
     ghost use Rattle.dcsctp_api.specs.Time.{Advances, OnlyMovesClock};
@@ -186,6 +186,23 @@ impl<R: Rng + Drop> DcSctpSocket for Socket<R> {
             return Err(SocketFault::Failed);
         }
         let outcome = dcsctp_calls::close(&mut self.context);
+        settled(&mut self.failed, outcome)
+    }
+
+    fn shutdown(&mut self) -> Result<(), SocketFault>
+        ensures call { ShutsDown (user_view_of self.old) result (user_view_of self.new) }
+        ensures idle { self.old.failed ≡ false → takes_shutdown self.old.view.endpoint.core ≡ false
+            → IsOk result }
+        // The words are what the generator gave, in order.
+        ensures drawn { OnOk result (Drawn (R.stream self.old.view.generator) self.new.view.words
+            (R.stream self.new.view.generator)) }
+        ensures failed { IsErrOf result SocketFault.Failed → self.new ≡ self.old }
+    {
+        // A socket that has failed sends no SHUTDOWN.
+        if self.failed {
+            return Err(SocketFault::Failed);
+        }
+        let outcome = dcsctp_calls::shutdown(&mut self.context);
         settled(&mut self.failed, outcome)
     }
 

@@ -3,7 +3,7 @@
 use crate::link::Link;
 use crate::messages::{COUNT, Messages};
 use crate::resets::Resets;
-use crate::run::Run;
+use crate::run::{Closing, Run};
 use dcsctp_socket::{
     DcSctpSocket, Options, Socket, SocketEvent, SocketState, SocketTime, StreamId,
     ZERO_CHECKSUM_ALTERNATE_ERROR_DETECTION_METHOD_LOWER_LAYER_DTLS,
@@ -24,8 +24,9 @@ pub struct End {
     // How many messages the socket was given.
     added: usize,
 
-    // How often it was connected.
+    // How often it was connected, and how often it ended.
     connections: usize,
+    closings: usize,
 }
 
 // Written out: a derived one would be proved at each exit of each function that has one.
@@ -38,6 +39,7 @@ impl Drop for End {
             resets: _,
             added: _,
             connections: _,
+            closings: _,
         } = self;
     }
 }
@@ -74,6 +76,7 @@ impl End {
             resets: Resets::new(alloc, run),
             added: 0,
             connections: 0,
+            closings: 0,
         }
     }
 
@@ -126,6 +129,16 @@ impl End {
         }
     }
 
+    /// Have all messages left the queue?
+    pub fn has_sent_all(&self) -> bool {
+        self.added == COUNT && self.buffered() == 0
+    }
+
+    // An error is told of packets alone that come after the end, whose tag isn't known any longer.
+    fn fails(&self, rt: &impl Abort, text: &str) {
+        assert!(rt; 0 < self.closings, "error: {text}");
+    }
+
     // The own streams of these numbers were reset.
     fn are_performed(&mut self, rt: &impl Abort, streams: &[StreamId]) {
         for stream in streams {
@@ -139,12 +152,12 @@ impl End {
         match event {
             SocketEvent::SendPacket(packet) => self.link.put(rt, now, packet),
             SocketEvent::OnConnected() => self.connections = self.connections.saturating_add(1),
-            SocketEvent::OnError(_, text) => panic!(rt; "error: {}", text.as_str()),
+            SocketEvent::OnClosed() => self.closings = self.closings.saturating_add(1),
+            SocketEvent::OnError(_, text) => self.fails(rt, text.as_str()),
             SocketEvent::OnAborted(_, text) => panic!(rt; "aborted: {}", text.as_str()),
             SocketEvent::OnStreamsResetPerformed(streams) => self.are_performed(rt, &streams),
             SocketEvent::OnIncomingStreamReset(streams) => self.resets.are_told(rt, &streams),
             SocketEvent::OnStreamsResetFailed(_) => rt.panic("a reset failed"),
-            SocketEvent::OnClosed() => rt.panic("closed"),
             SocketEvent::OnConnectionRestarted() => rt.panic("restarted"),
             _ => {}
         }
@@ -183,7 +196,7 @@ impl End {
     }
 
     /// Everything has to have been sent, nothing to wait, what has to arrive to have arrived, and the end to have
-    /// been connected once. On the wire there was nothing strange. Where messages may be given up some are missing,
+    /// been connected once, and closed once where an end has shut it down. On the wire there was nothing strange. Where messages may be given up some are missing,
     /// and a FORWARD-TSN said so, but that isn't certain where nothing is lost; elsewhere neither is so. Where some
     /// are unordered, some came behind later ones.
     pub fn is_over(&self, rt: &impl Abort, run: &Run, end: &str) {
@@ -193,13 +206,15 @@ impl End {
             self.added,
             self.buffered(),
             self.connections,
+            self.closings,
             reliable,
             seen.strange,
         ];
+        let closings = usize::from(run.closing != Closing::Never);
         assert_eq!(rt;
             sums,
-            [COUNT, 0, 1, 0, 0],
-            "{name}, seed {seed}, {end}: sent, waiting, connections, missing, strange"
+            [COUNT, 0, 1, closings, 0, 0],
+            "{name}, seed {seed}, {end}: sent, waiting, connections, ends, missing, strange"
         );
         let is_limited = run.is_limited();
         if is_limited && run.faults == 0 {

@@ -6,6 +6,8 @@
 #![tactic(auto)]
 
 #[cfg(test)]
+mod closing;
+#[cfg(test)]
 mod end;
 #[cfg(test)]
 mod link;

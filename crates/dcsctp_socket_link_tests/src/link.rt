@@ -28,6 +28,10 @@ pub struct Link {
 
     flying: Vec<Flying>,
 
+    // How many packets were put on the link since they were counted last, and the numbers of those that are lost.
+    count: usize,
+    lost: [usize; 2],
+
     /// What was put on the link, lost packets included.
     pub seen: Seen,
 }
@@ -40,6 +44,8 @@ impl Link {
             rng: Xoshiro256PlusPlus::seed_from_u64(run.seed.wrapping_add(1_000_000)),
             faults: run.faults,
             flying: Vec::new(alloc),
+            count: 0,
+            lost: [0; 2],
             seen: Seen::nothing(run),
         }
     }
@@ -66,10 +72,17 @@ impl Link {
             .expect(rt, "no room on the link");
     }
 
+    /// Loses the packets of these numbers, where the next one has the number 1.
+    pub fn lose(&mut self, lost: [usize; 2]) {
+        self.count = 0;
+        self.lost = lost;
+    }
+
     /// Takes a packet at this moment.
     pub fn put(&mut self, rt: &impl Abort, now: SocketTime, packet: Vec<u8>) {
         self.seen.note(&packet);
-        if self.has_fault() {
+        self.count = self.count.saturating_add(1);
+        if self.lost.contains(&self.count) || self.has_fault() {
             return;
         }
         if self.has_fault() {

@@ -35,6 +35,19 @@ pub enum Resetting {
     InTurn(usize),
 }
 
+/// Which ends shut the association down, once all messages have left both queues.
+#[derive(Clone, Copy, Debug, PartialEq, Eq)]
+pub enum Closing {
+    /// None: it stays open.
+    Never,
+
+    /// A.
+    ByOne,
+
+    /// A and B, at the same moment.
+    ByBoth,
+}
+
 /// How a run is, at both ends.
 #[derive(Clone, Copy)]
 pub struct Run {
@@ -67,9 +80,15 @@ pub struct Run {
 
     /// Which streams are reset (RFC 6525)?
     pub resetting: Resetting,
+
+    /// Which ends shut the association down (RFC 9260, section 9.2)?
+    pub closing: Closing,
+
+    /// Which packets are lost of those that A and B send from that shutdown on, by their numbers from 1.
+    pub lost: [[usize; 2]; 2],
 }
 
-/// Ordered and reliable messages, no faults, and no resets.
+/// Ordered and reliable messages, no faults, no resets, and no shutdown.
 pub const PLAIN: Run = Run {
     name: "plain",
     seed: 0,
@@ -81,6 +100,8 @@ pub const PLAIN: Run = Run {
     mtu: 1191,
     longest: 5000,
     resetting: Resetting::Never,
+    closing: Closing::Never,
+    lost: [[0; 2]; 2],
 };
 
 impl Run {

@@ -1,8 +1,8 @@
 //! Whole runs: two sockets connect, send 300 messages each way on four streams, and come to rest.
 
 use crate::end::End;
-use crate::run::Run;
-use dcsctp_socket::{DcSctpSocket, SocketTime};
+use crate::run::{Closing, Run};
+use dcsctp_socket::{DcSctpSocket, SocketState, SocketTime};
 use std::alloc::Global;
 use std::process::Abort;
 
@@ -38,11 +38,30 @@ fn next_moment(a: &End, b: &End) -> SocketTime {
     earlier(timeout, arrival)
 }
 
+// Shuts the association down, once all messages have left both queues. Some of them may be in flight.
+fn shut_down(rt: &impl Abort, a: &mut End, b: &mut End, run: &Run, now: SocketTime) {
+    let are_connected = a.socket.state() == SocketState::Connected
+        && b.socket.state() == SocketState::Connected;
+    let is_due = are_connected && a.has_sent_all() && b.has_sent_all();
+    if run.closing == Closing::Never || !is_due {
+        return;
+    }
+    a.link.lose(run.lost[0]);
+    b.link.lose(run.lost[1]);
+    a.socket.shutdown().expect(rt, "the shutdown of A");
+    if run.closing == Closing::ByBoth {
+        b.socket.shutdown().expect(rt, "the shutdown of B");
+    }
+    a.drain(rt, now);
+    b.drain(rt, now);
+}
+
 // Runs until both ends are at rest; false where they don't come to it.
-fn comes_to_rest(rt: &impl Abort, a: &mut End, b: &mut End) -> bool {
+fn comes_to_rest(rt: &impl Abort, a: &mut End, b: &mut End, run: &Run) -> bool {
     let mut now = SocketTime::zero();
     for _ in 0..MOST_MOMENTS {
         step(rt, a, b, now);
+        shut_down(rt, a, b, run, now);
         now = next_moment(a, b);
         if now == SocketTime::infinite_future() {
             return true;
@@ -78,23 +97,48 @@ fn resets_are_over(rt: &impl Abort, run: &Run, end: &End, other: &End) {
     );
 }
 
-/// A connects to B, and both send all that they have. It answers the first TSN of A.
-pub fn runs(rt: &impl Abort, alloc: Global, run: &Run) -> u32 {
-    let mut other = *run;
-    other.seed = run.seed.wrapping_add(500_000);
-    let mut a = End::new(rt, alloc, run);
-    let mut b = End::new(rt, alloc, &other);
+// What is the same of each run: A connects to B, both send all that they have, and come to rest.
+fn runs_between(rt: &impl Abort, run: &Run, a: &mut End, b: &mut End) {
     a.socket.connect().expect(rt, "no association was begun");
-    let has_rest = comes_to_rest(rt, &mut a, &mut b);
+    let has_rest = comes_to_rest(rt, a, b, run);
     assert!(rt; has_rest, "{}, seed {}: no rest", run.name, run.seed);
     a.is_over(rt, run, "A");
     b.is_over(rt, run, "B");
+}
+
+// The two ends of a run.
+fn ends_of(rt: &impl Abort, alloc: Global, run: &Run) -> (End, End) {
+    let mut other = *run;
+    other.seed = run.seed.wrapping_add(500_000);
+    (End::new(rt, alloc, run), End::new(rt, alloc, &other))
+}
+
+/// A connects to B, and both send all that they have. It answers the first TSN of A.
+pub fn runs(rt: &impl Abort, alloc: Global, run: &Run) -> u32 {
+    let (mut a, mut b) = ends_of(rt, alloc, run);
+    runs_between(rt, run, &mut a, &mut b);
     resets_are_over(rt, run, &a, &b);
     resets_are_over(rt, run, &b, &a);
     let (first_tsn, _, _) = numbers_of(rt, &a);
     drop(a);
     drop(b);
     first_tsn
+}
+
+/// A connects to B, both send all that they have, and the association is shut down: neither end holds it any longer.
+pub fn closes(rt: &impl Abort, alloc: Global, run: &Run) {
+    let (mut a, mut b) = ends_of(rt, alloc, run);
+    runs_between(rt, run, &mut a, &mut b);
+    let states = (a.socket.state(), b.socket.state());
+    assert_eq!(rt;
+        states,
+        (SocketState::Closed, SocketState::Closed),
+        "{}, seed {}",
+        run.name,
+        run.seed
+    );
+    drop(a);
+    drop(b);
 }
 
 /// Runs by several seeds. Of a hundred packets none is lost in the first run, 10 are in the second, 20 in the third,

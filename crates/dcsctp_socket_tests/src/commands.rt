@@ -23,6 +23,7 @@ pub fn act(
     }
     match verb {
         "connects" if text.is_empty() => socket.connect().expect(rt, "no association was begun"),
+        "shuts-down" if text.is_empty() => socket.shutdown().expect(rt, "it was not shut down"),
         "closes" if text.is_empty() => socket.close().expect(rt, "it was not closed"),
         "takes" | "takes-too" => takes(rt, socket, &packet_of(rt, line, text)),
         "receives" if text.is_empty() => takes(rt, socket, &settings.packet),

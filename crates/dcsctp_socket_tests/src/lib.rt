@@ -46,6 +46,8 @@ mod script;
 #[cfg(test)]
 mod settings;
 #[cfg(test)]
+mod shutdown;
+#[cfg(test)]
 mod stage;
 #[cfg(test)]
 mod told;

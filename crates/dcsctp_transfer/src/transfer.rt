@@ -52,7 +52,7 @@ impl Model for Transfer {
 }
 
 impl Transfer {
-    ghost use Rattle.std.specs.Prelude.{◌≡◌};
+    ghost use Rattle.std.specs.Prelude.{◌≡◌, ◌==◌, ◌%◌, ◌^◌, not};
     ghost use Rattle.dcsctp_machine.specs.Transfer.{new_transfer};
 
     /// Nothing was sent or received yet. `first_tsn` goes out first and `peer_first_tsn` comes in first, and
@@ -88,5 +88,19 @@ impl Transfer {
         ensures { result ≡ self.now.retransmission.next_tsn }
     {
         self.retransmission_queue.next_tsn()
+    }
+
+    /// Was something sent that is neither acknowledged nor given up?
+    pub fn has_unacknowledged_items(&self) -> bool
+        ensures { result ≡ not (self.now.retransmission.unacknowledged_items == 0) }
+    {
+        self.retransmission_queue.unacked_items() != 0
+    }
+
+    /// The last TSN before the first that is missing (RFC 9260, section 3.3.8).
+    pub fn last_cumulative_acked_tsn(&self) -> u32
+        ensures { result ≡ self.now.tracker.cumulative_tsn % 2 ^ 32 }
+    {
+        self.data_tracker.last_cumulative_acked_tsn()
     }
 }

@@ -95,6 +95,10 @@ fn make_call<R: Rng + Drop>(socket: &mut Socket<R>, call: &Call) -> Result<Reply
             socket.close()?;
             Ok(Reply::Done)
         }
+        Call::Shutdown => {
+            socket.shutdown()?;
+            Ok(Reply::Done)
+        }
         Call::AdvanceTime(now) => {
             socket.advance_time(*now)?;
             Ok(Reply::Done)

@@ -12,6 +12,7 @@ use Rattle.dcsctp_machine.specs.Outcome.{Outcome, still, reports, emits, behind,
 use Rattle.dcsctp_machine.specs.control.Choices.{plain_contents}
 use Rattle.dcsctp_machine.specs.turns.FlushOutcomes.{Answer, goes_out, draft_to, flush_of, room_in, where_fits, IsWithin, IsSackOf, IsData, FitsPlain, filled, FlushAnswers}
 use Rattle.dcsctp_machine.specs.turns.HeartbeatOutcomes.{error_counted}
+use Rattle.dcsctp_machine.specs.turns.ShutdownOutcomes.{step_outcome}
 use Rattle.dcsctp_machine.specs.turns.TransferMoves.{tsns_ahead, ReceivesData, HeedsFlag, MovesForward, EndsPacket, acknowledged, delay_over, delivered_events, TakesSack, has_acknowledged, LosesAll}
 
 -- with this below its association
@@ -101,16 +102,18 @@ FastRetransmits true e held transfer o = SendsAtOnce e held transfer o
 abbrev pub sack_taken : Endpoint → Transfer → Transfer → Endpoint
 sack_taken e old new = record (with_transfer e new) { error_count = if has_acknowledged old new then 0 else e.error_count }
 
--- A SACK is taken into account; a fast retransmission may follow, and then a flush.
+-- A SACK is taken into account. A shutdown under way may go on then, a fast retransmission may follow, and then a flush.
 pub record AcknowledgesBy (e : Endpoint) (held : Held) (transfer : Transfer) (o : Outcome) : Type 0 where
   pub left : Transfer
   pub takes : TakesSack transfer left
   pub ids : List ℕ
+  pub stepped : Outcome
+  pub steps : stepped ≡ step_outcome (sack_taken e transfer left) e.core
   pub fast : Outcome
-  pub resends : FastRetransmits left.retransmission.has_fast_retransmit (sack_taken e transfer left) held left fast
+  pub resends : FastRetransmits left.retransmission.has_fast_retransmit stepped.after held left fast
   pub answers : List Answer
   pub allowed : FlushAnswers fast.after (draft_to held) answers
-  pub is : o ≡ behind [] (delivered_events ids ++ fast.events) (flush_of fast.after (draft_to held) answers)
+  pub is : o ≡ behind [] (delivered_events ids ++ (stepped.events ++ fast.events)) (flush_of fast.after (draft_to held) answers)
 
 abbrev pub SackWhere : Bool → Endpoint → Held → Transfer → Outcome → Type 0
 SackWhere false e held transfer o = o ≡ still e

@@ -1,5 +1,5 @@
 -- How an association ends, whatever ends it.
-use Rattle.std.specs.Prelude.{◌≡◌, ℕ, Bool, true, false, None, List, [], ◌∷◌, ◌++◌}
+use Rattle.std.specs.Prelude.{ℕ, true, false, None, List, [], ◌∷◌, ◌++◌}
 use Rattle.dcsctp_wire.specs.Texts.{causes_text}
 use Rattle.dcsctp_machine.specs.declared.association.Held.{Held}
 use Rattle.dcsctp_machine.specs.declared.ends.AbortReason.{AbortReason}
@@ -8,11 +8,10 @@ use Rattle.dcsctp_machine.specs.declared.kinds.ErrorKind.TheVariants.{PeerReport
 use Rattle.dcsctp_machine.specs.Cause.{Cause, reason_text, causes_of}
 use Rattle.dcsctp_machine.specs.Event.{Event, aborted}
 use Rattle.dcsctp_machine.specs.Event as events
-use Rattle.dcsctp_machine.specs.Packet.{Emission, abort, shutdown_ack, shutdown_complete}
-use Rattle.dcsctp_machine.specs.Endpoint.{Endpoint, Core, closed, cookie_echoed, open_in, shutdown_sent, shutdown_ack_sent, stopped_timers}
+use Rattle.dcsctp_machine.specs.Packet.{Emission, abort, shutdown_complete}
+use Rattle.dcsctp_machine.specs.Endpoint.{Endpoint, Core, closed, cookie_echoed, open_in, stopped_timers}
 use Rattle.dcsctp_machine.specs.control.Effect.{ends}
 use Rattle.dcsctp_machine.specs.Outcome.{Outcome, still, quiet, to_peer, sends, emits}
-use Rattle.dcsctp_machine.specs.Controlled.{ControlledChunk}
 use Rattle.dcsctp_machine.specs.Following.{dropped_rest}
 
 -- No association, and no timer. What waits to be sent stays, and so does the error count.
@@ -63,20 +62,9 @@ abbrev pub aborting_outcome : Endpoint → Core → AbortReason → Outcome
 aborting_outcome e closed reason = still e
 aborting_outcome e core reason = ended_outcome (abort_sent e core reason) (end_of reason)
 
--- ---- chunks of a shutdown that is out of place
+-- ---- a chunk of a shutdown that is out of place
 
 -- A SHUTDOWN ACK that isn't awaited is answered by SHUTDOWN COMPLETE with the T bit, under its own tag (RFC 9260, sections
 -- 8.4 and 8.5.1, E). Its change is `reflected_change`.
 abbrev pub reflected_outcome : Endpoint → ℕ → Outcome
 reflected_outcome e header = sends e [] [] (record { with_checksum = true; packet = record { tag = header; contents = shutdown_complete true ∷ [] } })
-
--- Where it is awaited, no more is said than that its turn is one of the association: no socket gets there yet.
-abbrev pub ShutdownAckTurn : Endpoint → Core → ℕ → Outcome → Type 0
-ShutdownAckTurn e (open_in shutdown_sent my held) header o = ControlledChunk e header shutdown_ack o
-ShutdownAckTurn e (open_in shutdown_ack_sent my held) header o = ControlledChunk e header shutdown_ack o
-ShutdownAckTurn e core header o = o ≡ reflected_outcome e header
-
--- A SHUTDOWN COMPLETE that isn't awaited changes nothing (RFC 9260, section 8.5.1, C).
-abbrev pub ShutdownCompleteTurn : Endpoint → Core → ℕ → Bool → Outcome → Type 0
-ShutdownCompleteTurn e (open_in shutdown_ack_sent my held) header reflected o = ControlledChunk e header (shutdown_complete reflected) o
-ShutdownCompleteTurn e core header reflected o = o ≡ still e

@@ -6,6 +6,7 @@ use Rattle.dcsctp_machine.specs.Packet.{Content}
 use Rattle.dcsctp_machine.specs.CallTurns.{ChunkTurns, FirstTurns}
 use Rattle.dcsctp_core.specs.View.{View, view_of}
 use Rattle.dcsctp_core.proofs.Moving.{moves_then}
+use Rattle.dcsctp_shutdown.specs.Shutdown.{is_open}
 use Rattle.dcsctp_wire.specs.declared.chunk.Chunk.{Chunk}
 use Rattle.dcsctp_wire.specs.Content.{packet_content}
 use Rattle.dcsctp_calls.specs.Parts.{AcksCut}
@@ -31,6 +32,7 @@ loop-chunk-preserved g c =
       moves = moves_then g.R.Rng.stream start here next done.turns step.turns
           (chunk_turns_keep_ports start.endpoint tag (acks_of (take c.loop-chunk.chunk-index chunks)) done.turns done.goes_on done.are)
           done.moves step.moves;
+      shut = ap is_open step.core ∙ done.shut;
     }
 
 pub returns : goal.returns

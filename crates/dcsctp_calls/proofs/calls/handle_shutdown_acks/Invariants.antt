@@ -1,7 +1,8 @@
-use Rattle.std.proofs.Common.{List, [], take}
+use Rattle.std.proofs.Common.{◌≡◌, false, List, [], take}
 use Rattle.dcsctp_machine.specs.CallTurns.{Turned, ChunkTurns}
 use Rattle.dcsctp_machine.proofs.TurnLemmas.{GoOn}
-use Rattle.dcsctp_core.specs.View.{endpoint_of, view_of, MovesAll}
+use Rattle.dcsctp_core.specs.View.{core_of, endpoint_of, view_of, MovesAll}
+use Rattle.dcsctp_shutdown.specs.Shutdown.{is_open}
 use Rattle.dcsctp_calls.proofs.AckLoop.{acks_of}
 use Rattle.dcsctp_calls.proofs.calls.handle_shutdown_acks.Given as goal
 
@@ -12,4 +13,5 @@ invariant-loop-chunk g l = record {
   goes_on : GoOn turns;
   are : ChunkTurns (endpoint_of l.fn.context) l.packet.common_header.verification_tag (acks_of (take l.chunk-index l.chunk-items)) [] turns;
   moves : MovesAll g.R.Rng.stream (view_of l.fn.context) turns (view_of l.context);
+  shut : is_open (core_of l.context.state) ≡ false;
 }

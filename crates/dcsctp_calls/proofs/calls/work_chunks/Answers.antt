@@ -5,7 +5,7 @@ use Rattle.dcsctp_machine.proofs.TurnLemmas.{GoOn-push, chunk_turns_keep_ports}
 use Rattle.dcsctp_machine.specs.Settings.{ports_of}
 use Rattle.dcsctp_machine.specs.Endpoint.{Endpoint}
 use Rattle.dcsctp_machine.specs.Packet.{Content, content_in}
-use Rattle.dcsctp_machine.specs.Turn.{packet_ends, has_data}
+use Rattle.dcsctp_machine.specs.Turn.{packet_ends}
 use Rattle.dcsctp_machine.specs.CallTurns.{Turned, ChunkTurns, FirstTurns}
 use Rattle.dcsctp_core.specs.declared.following.Following.{Following}
 use Rattle.dcsctp_core.specs.View.{view_of}
@@ -14,8 +14,8 @@ use Rattle.dcsctp_core.proofs.Moving.{moves_one, moves_then}
 use Rattle.dcsctp_wire.specs.declared.chunk.Chunk.{Chunk}
 use Rattle.dcsctp_wire.specs.Content.{chunk_content, packet_content}
 use Rattle.dcsctp_calls.specs.Parts.{ChunksCut}
-use Rattle.dcsctp_calls.proofs.CallLemmas.{adds_begun, adds_cut}
-use Rattle.dcsctp_calls.proofs.ChunkLoop.{contents_of, worked_as, begun, nothing_before, moves_begun, turns_more, turns_end, turns_cut, turns_whole, ports_more, first_turns}
+use Rattle.dcsctp_calls.proofs.CallLemmas.{adds_cut}
+use Rattle.dcsctp_calls.proofs.ChunkLoop.{contents_of, worked_as, turns_more, turns_end, turns_cut, turns_whole, ports_more, first_turns}
 use Rattle.dcsctp_calls.proofs.calls.work_chunks.Goals as goal
 
 pub loop-chunk-preserved : goal.loop-chunk-preserved
@@ -59,10 +59,9 @@ returns-in-DroppedRest g c =
     c.loop-chunk-test.true c.chunk-item.is done.goes_on done.are done.moves.endpoint step.turn
     (step.following ∙ ap (λ (f : Following). following_of f) c.in-DroppedRest.is)) in
     record {
-      turns = begun start.endpoint contents ∷ (done.turns ++ last ∷ []);
-      are = (record { is = refl; comes = nothing_before start.endpoint c.args.context.now.state (has_data contents) }, are);
-      moves = moves_begun g.R.Rng.stream start next contents (done.turns ++ last ∷ [])
-          (moves_then g.R.Rng.stream start here next done.turns (last ∷ []) ports done.moves (moves_one g.R.Rng.stream here next last step.moves));
+      turns = done.turns ++ last ∷ [];
+      are = are;
+      moves = moves_then g.R.Rng.stream start here next done.turns (last ∷ []) ports done.moves (moves_one g.R.Rng.stream here next last step.moves);
       ports = ports_more start.endpoint here.endpoint tag content done.turns step.outcome done.moves.endpoint step.turn ports;
     }
 
@@ -82,16 +81,12 @@ returns-in-PacketEnd g c =
     let last : Turned = worked_as tag content step.outcome in
     let ports = chunk_turns_keep_ports start.endpoint tag (contents_of (take c.loop-chunk.chunk-index chunks)) done.turns done.goes_on done.are in
     record {
-      turns = begun start.endpoint contents ∷ (done.turns ++ last ∷ []);
-      are = λ (end : Turned) is. (
-        record { is = refl; comes = nothing_before start.endpoint c.args.context.now.state (has_data contents) },
-        subst (λ (cs : List Chunk). ChunkTurns start.endpoint tag (contents_of cs) (packet_ends ∷ []) ((done.turns ++ last ∷ []) ++ end ∷ [])) all
-            (turns_cut start.endpoint here.endpoint tag chunks c.loop-chunk.chunk-index c.chunk-item.result done.turns step.outcome end
-            c.loop-chunk-test.true c.chunk-item.is done.goes_on done.are done.moves.endpoint step.turn
-            (step.following ∙ ap (λ (f : Following). following_of f) c.in-PacketEnd.is) is),
-      );
-      moves = moves_begun g.R.Rng.stream start next contents (done.turns ++ last ∷ [])
-          (moves_then g.R.Rng.stream start here next done.turns (last ∷ []) ports done.moves (moves_one g.R.Rng.stream here next last step.moves));
+      turns = done.turns ++ last ∷ [];
+      are = λ (end : Turned) is. subst (λ (cs : List Chunk). ChunkTurns start.endpoint tag (contents_of cs) (packet_ends ∷ []) ((done.turns ++ last ∷ []) ++ end ∷ [])) all
+          (turns_cut start.endpoint here.endpoint tag chunks c.loop-chunk.chunk-index c.chunk-item.result done.turns step.outcome end
+          c.loop-chunk-test.true c.chunk-item.is done.goes_on done.are done.moves.endpoint step.turn
+          (step.following ∙ ap (λ (f : Following). following_of f) c.in-PacketEnd.is) is);
+      moves = moves_then g.R.Rng.stream start here next done.turns (last ∷ []) ports done.moves (moves_one g.R.Rng.stream here next last step.moves);
       ports = ports_more start.endpoint here.endpoint tag content done.turns step.outcome done.moves.endpoint step.turn ports;
     }
 
@@ -108,12 +103,9 @@ returns g c =
     ap contents_of (take_all c.loop-chunk.chunk-index chunks (omega (arith, c.loop-chunk-test.false)) ∙ c.deref-chunk-items.ensures.value) in
     let worked : ChunkTurns start.endpoint tag contents [] done.turns = subst (λ (cs : List Content). ChunkTurns start.endpoint tag cs [] done.turns) all done.are in
     record {
-      turns = begun start.endpoint contents ∷ done.turns;
-      are = λ (end : Turned) is. (
-        record { is = refl; comes = nothing_before start.endpoint c.args.context.now.state (has_data contents) },
-        turns_whole start.endpoint tag contents done.turns done.goes_on worked end is,
-      );
-      moves = moves_begun g.R.Rng.stream start here contents done.turns done.moves;
+      turns = done.turns;
+      are = λ (end : Turned) is. turns_whole start.endpoint tag contents done.turns done.goes_on worked end is;
+      moves = done.moves;
       ports = chunk_turns_keep_ports start.endpoint tag contents done.turns done.goes_on worked;
     }
 
@@ -138,9 +130,8 @@ returns-in_err-handle_chunk g c =
     c.loop-chunk-test.true c.chunk-item.is done.goes_on done.are done.moves.endpoint step.turn)) in
     let cut : ChunksCut (packet_content c.args.packet.now) start (view_of c.handle_chunk.new.context).events =
     record {
-      turns = begun start.endpoint contents ∷ (done.turns ++ last ∷ []);
-      are = (record { is = refl; comes = nothing_before start.endpoint c.args.context.now.state (has_data contents) }, inl first);
-      adds = adds_begun (ports_of start.endpoint.options) (begun start.endpoint contents) (done.turns ++ last ∷ []) start.events (view_of c.handle_chunk.new.context).events refl
-          (adds_cut g.R.Rng.stream start here done.turns last (view_of c.handle_chunk.new.context).events ports done.moves step.cut);
+      turns = done.turns ++ last ∷ [];
+      are = inl first;
+      adds = adds_cut g.R.Rng.stream start here done.turns last (view_of c.handle_chunk.new.context).events ports done.moves step.cut;
     } in
     rw (err_from_is_err_and c.from_residual.result c.from_residual.ensures.1).1 cut

@@ -4,20 +4,26 @@ use Rattle.dcsctp_wire.specs.Content.{cause_content, parameter_content}
 use Rattle.dcsctp_machine.specs.turns.HeartbeatOutcomes.{counter_of, info_in}
 use Rattle.dcsctp_heartbeat.specs.Heartbeats.{heartbeat_turn, heartbeat_ack_turn}
 use Rattle.dcsctp_wire.specs.Content.{init_content, data_content, i_data_content, sack_content, data_chunk, i_data_chunk, sack_chunk, forward_tsn_chunk, i_forward_tsn_chunk}
-use Rattle.dcsctp_machine.specs.Packet.{introduction_in, cookie_in, init_ack, cookie_echo, cookie_ack, re_config, plain, unworked}
+use Rattle.dcsctp_machine.specs.Packet.{introduction_in, cookie_in, init_ack, cookie_echo, cookie_ack, re_config, shutdown_ack, plain, unworked}
 use Rattle.dcsctp_machine.specs.Packet as machine
 use Rattle.dcsctp_core.specs.View.{core_of, view_of, endpoint_of}
 use Rattle.dcsctp_handshake.specs.Handshake.{InitAckAt, CookieAckAt, CookieEchoAt}
 use Rattle.dcsctp_ends.specs.Ends.{abort_turn, error_turn}
-use Rattle.dcsctp_calls.proofs.ChunkLemmas.{init_cut, rests, works_chunk, works_one, works_whole}
+use Rattle.dcsctp_shutdown.specs.Shutdown.{ack_turn, complete_turn}
+use Rattle.dcsctp_calls.proofs.ChunkLemmas.{init_worked, init_cut, works_chunk, works_one, works_whole}
 use Rattle.dcsctp_calls.specs.Unknown.{unknown_turn}
 use Rattle.dcsctp_data.specs.Data.{DataAt, ForwardAt}
 use Rattle.dcsctp_data.specs.Sacks.{SackAt}
 use Rattle.dcsctp_resets.specs.Requests.{reset_parameters}
 use Rattle.dcsctp_resets.specs.Resets.{ReConfigAt}
 use Rattle.dcsctp_calls.proofs.DataTurns.{data_goes, forward_goes, sack_goes, cookie_ack_goes, reset_goes}
-use Rattle.dcsctp_calls.proofs.DispatchLemmas.{none_for, ack_worked, ack_cut, complete_worked, unknown_is, tries_worked, tries_cut, heartbeat_follows, heartbeat_ack_follows, heartbeat_is, heartbeat_ack_is, error_follows, error_is, plain_at, takes_worked, takes_cut}
+use Rattle.dcsctp_calls.proofs.DispatchLemmas.{none_for, shutdown_worked, shutdown_cut, unknown_is, tries_worked, tries_cut, heartbeat_follows, heartbeat_ack_follows, heartbeat_is, heartbeat_ack_is, error_follows, error_is, plain_at, takes_worked, takes_cut}
 use Rattle.dcsctp_calls.proofs.dispatch.work_chunk.Goals as goal
+
+pub returns-in_ok-handle_init-in-Init : goal.returns-in_ok-handle_init-in-Init
+returns-in_ok-handle_init-in-Init g c =
+    rw c.in-Init.is
+    (init_worked g.R.Rng.stream (view_of c.args.context.now) (view_of c.handle_init.new.context) c.args.header_tag _ c.in_ok-handle_init-in-Init.ensures)
 
 -- An INIT whose turn was cut added nothing.
 pub returns-in_err-handle_init-in-Init : goal.returns-in_err-handle_init-in-Init
@@ -66,19 +72,22 @@ returns-in_err-handle_heartbeat_ack-in-HeartbeatAck g c =
     (tries_cut old (view_of c.handle_heartbeat_ack.new.context) c.args.header_tag _ (heartbeat_ack_turn parameters (view_of old))
     (heartbeat_ack_is old c.args.header_tag parameters (none_for (core_of old.state) _ _ c.in-HeartbeatAck.is c.requires)) c.in_err-handle_heartbeat_ack-in-HeartbeatAck.ensures))
 
-pub returns-in-Shutdown : goal.returns-in-Shutdown
-returns-in-Shutdown g c = rw c.in-Shutdown.is (rests g.R.Rng.stream (view_of c.args.context.now) c.args.header_tag _ (none_for (core_of c.args.context.now.state) _ _ c.in-Shutdown.is c.requires) refl)
+pub returns-in_ok-handle_shutdown-in-Shutdown : goal.returns-in_ok-handle_shutdown-in-Shutdown
+returns-in_ok-handle_shutdown-in-Shutdown g c =
+    rw c.in-Shutdown.is
+    (shutdown_worked g.R.Rng.stream (view_of c.args.context.now) (view_of c.handle_shutdown.new.context) c.args.header_tag _ c.in_ok-handle_shutdown-in-Shutdown.ensures)
 
-pub returns-in_ok-handle_shutdown_ack-in-ShutdownAck : goal.returns-in_ok-handle_shutdown_ack-in-ShutdownAck
-returns-in_ok-handle_shutdown_ack-in-ShutdownAck g c =
-    rw c.in-ShutdownAck.is
-    (ack_worked g.R.Rng.stream c.args.context.now c.handle_shutdown_ack.new.context c.args.header_tag c.in_ok-handle_shutdown_ack-in-ShutdownAck.ensures)
+pub returns-in_err-handle_shutdown-in-Shutdown : goal.returns-in_err-handle_shutdown-in-Shutdown
+returns-in_err-handle_shutdown-in-Shutdown g c =
+    rw c.in-Shutdown.is
+    (rw (err_from_is_err_and c.from_residual-in_err-handle_shutdown-in-Shutdown.result c.from_residual-in_err-handle_shutdown-in-Shutdown.ensures.1).1
+    (shutdown_cut (view_of c.args.context.now) c.args.header_tag _ _ c.in_err-handle_shutdown-in-Shutdown.ensures))
 
-pub returns-in_err-handle_shutdown_ack-in-ShutdownAck : goal.returns-in_err-handle_shutdown_ack-in-ShutdownAck
-returns-in_err-handle_shutdown_ack-in-ShutdownAck g c =
+pub returns-in-ShutdownAck : goal.returns-in-ShutdownAck
+returns-in-ShutdownAck g c =
     rw c.in-ShutdownAck.is
-    (rw (err_from_is_err_and c.from_residual-in_err-handle_shutdown_ack-in-ShutdownAck.result c.from_residual-in_err-handle_shutdown_ack-in-ShutdownAck.ensures.1).1
-    (ack_cut c.args.context.now (view_of c.handle_shutdown_ack.new.context) c.args.header_tag c.in_err-handle_shutdown_ack-in-ShutdownAck.ensures))
+    (works_chunk g.R.Rng.stream c.args.header_tag shutdown_ack (ack_turn c.args.header_tag) c.args.context.now c.handle_shutdown_ack.result c.handle_shutdown_ack.new.context
+    refl c.handle_shutdown_ack.ensures)
 
 pub returns-in_ok-handle_error-in-Error : goal.returns-in_ok-handle_error-in-Error
 returns-in_ok-handle_error-in-Error g c =
@@ -98,7 +107,10 @@ returns-in_err-handle_error-in-Error g c =
     (error_is old c.args.header_tag causes (none_for (core_of old.state) _ _ c.in-Error.is c.requires)) c.in_err-handle_error-in-Error.ensures))
 
 pub returns-in-ShutdownComplete : goal.returns-in-ShutdownComplete
-returns-in-ShutdownComplete g c = rw c.in-ShutdownComplete.is (complete_worked g.R.Rng.stream c.args.context.now c.args.header_tag _)
+returns-in-ShutdownComplete g c =
+    rw c.in-ShutdownComplete.is
+    (works_chunk g.R.Rng.stream c.args.header_tag _ complete_turn c.args.context.now c.handle_shutdown_complete.result
+    c.handle_shutdown_complete.new.context refl c.handle_shutdown_complete.ensures)
 
 pub returns-in_ok-handle_re_config-in-ReConfig : goal.returns-in_ok-handle_re_config-in-ReConfig
 returns-in_ok-handle_re_config-in-ReConfig g c =

@@ -19,17 +19,17 @@ returns-in-Invalid g c =
     sack_ignored g.R.Rng.stream c.args.context.now c.args.chunk.now.cumulative_tsn_ack c.handle_sack.new.self c.handle_sack.new.events
     (sym c.holds_peer.ensures ∙ c.if-not-holds_peer.false) (rw c.in-Invalid.is at c.in_ok-handled.ensures)
 
-pub returns-in_err-resend-in-Valid : goal.returns-in_err-resend-in-Valid
-returns-in_err-resend-in-Valid g c =
+pub returns-in_err-proceed-in-Valid : goal.returns-in_err-proceed-in-Valid
+returns-in_err-proceed-in-Valid g c =
     let sack = taken c.args.context.now c.args.chunk.now.cumulative_tsn_ack c.in-Valid.acknowledges c.handle_sack.new.self c.handle_sack.new.events
     (sym c.holds_peer.ensures ∙ c.if-not-holds_peer.false) (rw c.in-Valid.is at c.in_ok-handled.ensures) in
-    rw (err_from_is_err_and c.from_residual-in_err-resend-in-Valid.result c.from_residual-in_err-resend-in-Valid.ensures.1).1
-    (sack_cut c.args.context.now c.args.chunk.now.cumulative_tsn_ack c.in-Valid.acknowledges c.handle_sack.new.self c.handle_sack.new.events c.heed_answer.new.context c.resend.new.context sack c.heed_answer.ensures
-    (c.in_err-resend-in-Valid.ensures (still_held c.args.context.now c.args.chunk.now.cumulative_tsn_ack c.in-Valid.acknowledges c.handle_sack.new.self c.handle_sack.new.events c.heed_answer.new.context sack c.heed_answer.ensures)))
+    rw (err_from_is_err_and c.from_residual-in_err-proceed-in-Valid.result c.from_residual-in_err-proceed-in-Valid.ensures.1).1
+    (sack_cut c.args.context.now c.args.chunk.now.cumulative_tsn_ack c.in-Valid.acknowledges c.handle_sack.new.self c.handle_sack.new.events c.heed_answer.new.context c.proceed.new.context sack c.heed_answer.ensures
+    (c.in_err-proceed-in-Valid.ensures (still_held c.args.context.now c.args.chunk.now.cumulative_tsn_ack c.in-Valid.acknowledges c.handle_sack.new.self c.handle_sack.new.events c.heed_answer.new.context sack c.heed_answer.ensures)))
 
-pub returns-in_ok-resend-in-Valid : goal.returns-in_ok-resend-in-Valid
-returns-in_ok-resend-in-Valid g c =
+pub returns-in_ok-proceed-in-Valid : goal.returns-in_ok-proceed-in-Valid
+returns-in_ok-proceed-in-Valid g c =
     let sack = taken c.args.context.now c.args.chunk.now.cumulative_tsn_ack c.in-Valid.acknowledges c.handle_sack.new.self c.handle_sack.new.events
     (sym c.holds_peer.ensures ∙ c.if-not-holds_peer.false) (rw c.in-Valid.is at c.in_ok-handled.ensures) in
-    sack_done g.R.Rng.stream c.args.context.now c.args.chunk.now.cumulative_tsn_ack c.in-Valid.acknowledges c.handle_sack.new.self c.handle_sack.new.events c.heed_answer.new.context c.resend.new.context sack c.heed_answer.ensures
-    (c.in_ok-resend-in-Valid.ensures (still_held c.args.context.now c.args.chunk.now.cumulative_tsn_ack c.in-Valid.acknowledges c.handle_sack.new.self c.handle_sack.new.events c.heed_answer.new.context sack c.heed_answer.ensures))
+    sack_done g.R.Rng.stream c.args.context.now c.args.chunk.now.cumulative_tsn_ack c.in-Valid.acknowledges c.handle_sack.new.self c.handle_sack.new.events c.heed_answer.new.context c.proceed.new.context sack c.heed_answer.ensures
+    (c.in_ok-proceed-in-Valid.ensures (still_held c.args.context.now c.args.chunk.now.cumulative_tsn_ack c.in-Valid.acknowledges c.handle_sack.new.self c.handle_sack.new.events c.heed_answer.new.context sack c.heed_answer.ensures))

@@ -1,8 +1,8 @@
 use Rattle.std.proofs.lemmas.Result.{err_from_is_err_and}
 use Rattle.std.proofs.Common.{ap, map, refl}
 use Rattle.dcsctp_api.specs.Events.{event_content}
-use Rattle.dcsctp_machine.specs.Endpoint.{closed, cookie_wait, open_in, established}
-use Rattle.dcsctp_core.specs.View.{core_of, view_of, held_of}
+use Rattle.dcsctp_machine.specs.Endpoint.{closed, cookie_wait, open_in}
+use Rattle.dcsctp_core.specs.View.{core_of, view_of, held_of, phase_in}
 use Rattle.dcsctp_handshake.proofs.MaintainSteps.{connected_view, cookie_acked, cookie_acked_cut, cookie_ack_unmade, cookie_ack_none}
 use Rattle.dcsctp_handshake.proofs.connect.handle_cookie_ack.Goals as goal
 
@@ -37,7 +37,7 @@ returns-in-Closed g c = cookie_ack_none g.R.Rng.stream _ closed (ap core_of c.in
 pub returns-in-CookieWait : goal.returns-in-CookieWait
 returns-in-CookieWait g c = cookie_ack_none g.R.Rng.stream _ (cookie_wait c.in-CookieWait.field-0.my) (ap core_of c.in-CookieWait.is) refl refl
 
-pub returns-in-Established : goal.returns-in-Established
-returns-in-Established g c =
-    let tcb = c.in-Established.field-0 in
-    cookie_ack_none g.R.Rng.stream _ (open_in established tcb.my (held_of tcb)) (ap core_of c.in-Established.is) refl refl
+pub returns-in-Open : goal.returns-in-Open
+returns-in-Open g c =
+    let opened = c.in-Open.field-0 in
+    cookie_ack_none g.R.Rng.stream _ (open_in (phase_in opened.phase) opened.tcb.my (held_of opened.tcb)) (ap core_of c.in-Open.is) refl refl

@@ -3,7 +3,7 @@ use Rattle.std.proofs.Common.{ap}
 use Rattle.dcsctp_api.specs.Cookie.{cookie_of}
 use Rattle.dcsctp_machine.specs.turns.CookieEchoOutcomes.{invalid_tag_text}
 use Rattle.dcsctp_core.specs.View.{View, view_of}
-use Rattle.dcsctp_handshake.proofs.EchoSteps.{works_new, works_new_cut, works_replacing, works_replacing_cut, works_restart, works_restart_cut, works_maintain, works_maintain_cut, works_discard, refused_cut, unread_turn, untagged_turn}
+use Rattle.dcsctp_handshake.proofs.EchoSteps.{works_new, works_new_cut, works_replacing, works_replacing_cut, works_restart, works_maintain, works_maintain_cut, works_discard, refused_cut, unread_turn, untagged_turn}
 use Rattle.dcsctp_handshake.proofs.cookie_echo.handle_cookie_echo.Goals as goal
 
 pub returns-in_err-refuse-in-Err : goal.returns-in_err-refuse-in-Err
@@ -33,14 +33,10 @@ pub returns-in_ok-establish-in-EstablishNew : goal.returns-in_ok-establish-in-Es
 returns-in_ok-establish-in-EstablishNew g c =
     works_new g.R.Rng.stream (view_of c.args.context.now) _ c.args.header_tag c.args.chunk.now.cookie.now (cookie_of c.in-Ok.cookie) (record { reads = c.in-Ok.ensures; is = c.in-EstablishNew.ensures }) c.in_ok-establish-in-EstablishNew.ensures
 
-pub returns-in_err-restart-in-RestartDetected : goal.returns-in_err-restart-in-RestartDetected
-returns-in_err-restart-in-RestartDetected g c =
-    rw (err_from_is_err_and c.from_residual-in_err-restart-in-RestartDetected.result c.from_residual-in_err-restart-in-RestartDetected.ensures.1).1
-    (works_restart_cut g.R.Rng.stream c.args.context.now _ c.args.header_tag c.args.chunk.now.cookie.now (cookie_of c.in-Ok.cookie) (record { reads = c.in-Ok.ensures; is = c.in-RestartDetected.ensures }) c.in_err-restart-in-RestartDetected.ensures)
-
-pub returns-in_ok-restart-in-RestartDetected : goal.returns-in_ok-restart-in-RestartDetected
-returns-in_ok-restart-in-RestartDetected g c =
-    works_restart g.R.Rng.stream c.args.context.now _ c.args.header_tag c.args.chunk.now.cookie.now (cookie_of c.in-Ok.cookie) (record { reads = c.in-Ok.ensures; is = c.in-RestartDetected.ensures }) c.in_ok-restart-in-RestartDetected.ensures
+pub returns-in-RestartDetected : goal.returns-in-RestartDetected
+returns-in-RestartDetected g c =
+    works_restart g.R.Rng.stream c.args.context.now c.restart_where_open.result c.restart_where_open.new.context c.args.header_tag c.args.chunk.now.cookie.now (cookie_of c.in-Ok.cookie) (record { reads = c.in-Ok.ensures; is = c.in-RestartDetected.ensures })
+    c.restart_where_open.ensures
 
 pub returns-in_err-replace-in-SimultaneousInit : goal.returns-in_err-replace-in-SimultaneousInit
 returns-in_err-replace-in-SimultaneousInit g c =

@@ -2,7 +2,7 @@ use Rattle.std.proofs.lemmas.Result.{err_from_is_err_and}
 use Rattle.std.proofs.Common.{ap, map, refl}
 use Rattle.dcsctp_api.specs.Events.{event_content}
 use Rattle.dcsctp_machine.specs.Endpoint.{closed, cookie_wait}
-use Rattle.dcsctp_core.specs.View.{core_of, view_of, held_of}
+use Rattle.dcsctp_core.specs.View.{core_of, view_of, held_of, phase_in}
 use Rattle.dcsctp_handshake.proofs.MaintainSteps.{connected_view, maintains, maintains_cut, maintain_unmade, maintains_open, maintains_open_cut, maintains_none}
 use Rattle.dcsctp_handshake.proofs.cookie_echo.maintain.Goals as goal
 
@@ -31,18 +31,18 @@ returns-in_ok-send_cookie_ack-in-CookieEchoed g c =
     (connected_view old c.add.new.self c.establish.new.self echoed (view_of c.start_heartbeat_interval.new.self) c.in-CookieEchoed.is c.in_ok-add-in-CookieEchoed.ensures.ok c.establish.ensures c.start_heartbeat_interval.ensures)
     c.in_ok-send_cookie_ack-in-CookieEchoed.ensures
 
-pub returns-in_err-send_cookie_ack-in-Established :
-    goal.returns-in_err-send_cookie_ack-in-Established
-returns-in_err-send_cookie_ack-in-Established g c =
-    let tcb = c.in-Established.field-0 in
-    rw (err_from_is_err_and c.from_residual-in_err-send_cookie_ack-in-Established.result c.from_residual-in_err-send_cookie_ack-in-Established.ensures.1).1
-    (maintains_open_cut _ _ tcb.my (held_of tcb) (ap core_of c.in-Established.is) c.in_err-send_cookie_ack-in-Established.ensures)
+pub returns-in_err-send_cookie_ack-in-Open :
+    goal.returns-in_err-send_cookie_ack-in-Open
+returns-in_err-send_cookie_ack-in-Open g c =
+    let opened = c.in-Open.field-0 in
+    rw (err_from_is_err_and c.from_residual-in_err-send_cookie_ack-in-Open.result c.from_residual-in_err-send_cookie_ack-in-Open.ensures.1).1
+    (maintains_open_cut _ _ (phase_in opened.phase) opened.tcb.my (held_of opened.tcb) (ap core_of c.in-Open.is) c.in_err-send_cookie_ack-in-Open.ensures)
 
-pub returns-in_ok-send_cookie_ack-in-Established :
-    goal.returns-in_ok-send_cookie_ack-in-Established
-returns-in_ok-send_cookie_ack-in-Established g c =
-    let tcb = c.in-Established.field-0 in
-    maintains_open g.R.Rng.stream _ _ tcb.my (held_of tcb) (ap core_of c.in-Established.is) c.in_ok-send_cookie_ack-in-Established.ensures
+pub returns-in_ok-send_cookie_ack-in-Open :
+    goal.returns-in_ok-send_cookie_ack-in-Open
+returns-in_ok-send_cookie_ack-in-Open g c =
+    let opened = c.in-Open.field-0 in
+    maintains_open g.R.Rng.stream _ _ (phase_in opened.phase) opened.tcb.my (held_of opened.tcb) (ap core_of c.in-Open.is) c.in_ok-send_cookie_ack-in-Open.ensures
 
 pub returns-in-Closed : goal.returns-in-Closed
 returns-in-Closed g c = maintains_none g.R.Rng.stream _ closed (ap core_of c.in-Closed.is) refl refl

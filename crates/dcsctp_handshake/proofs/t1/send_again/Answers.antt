@@ -1,7 +1,7 @@
 use Rattle.std.proofs.lemmas.Result.{err_from_is_err_and}
 use Rattle.std.proofs.Common.{ap, refl}
-use Rattle.dcsctp_machine.specs.Endpoint.{closed, open_in, established}
-use Rattle.dcsctp_core.specs.View.{core_of, view_of, held_of}
+use Rattle.dcsctp_machine.specs.Endpoint.{closed, open_in}
+use Rattle.dcsctp_core.specs.View.{core_of, view_of, held_of, phase_in}
 use Rattle.dcsctp_handshake.proofs.T1Steps.{again_nothing, again_init, again_init_cut, again_echo, again_echo_cut}
 use Rattle.dcsctp_handshake.proofs.t1.send_again.Goals as goal
 
@@ -28,7 +28,7 @@ returns-in_ok-send_cookie_echo-in-CookieEchoed g c =
 pub returns-in-Closed : goal.returns-in-Closed
 returns-in-Closed g c = again_nothing g.R.Rng.stream _ closed (ap core_of c.in-Closed.is) refl refl
 
-pub returns-in-Established : goal.returns-in-Established
-returns-in-Established g c =
-    let tcb = c.in-Established.field-0 in
-    again_nothing g.R.Rng.stream _ (open_in established tcb.my (held_of tcb)) (ap core_of c.in-Established.is) refl refl
+pub returns-in-Open : goal.returns-in-Open
+returns-in-Open g c =
+    let opened = c.in-Open.field-0 in
+    again_nothing g.R.Rng.stream _ (open_in (phase_in opened.phase) opened.tcb.my (held_of opened.tcb)) (ap core_of c.in-Open.is) refl refl

@@ -1,0 +1,47 @@
+-- What gives messages up, as the view tells it.
+use Rattle.std.proofs.Common.{◌≡◌, ◌<◌, ℕ, Option, None, Some, List, sym, ap, subst, ◌∙◌}
+use Rattle.dcsctp_build.specs.Building.{Building}
+use Rattle.dcsctp_machine.specs.Event.{Event}
+use Rattle.dcsctp_machine.specs.Transfer.{Transfer, SendQueueState}
+use Rattle.dcsctp_machine.specs.Endpoint.{Endpoint}
+use Rattle.dcsctp_transfer.specs.Forwarding.{Forwards}
+use Rattle.dcsctp_core.specs.declared.context.Context.{Context}
+use Rattle.dcsctp_core.specs.declared.state.State.{State}
+use Rattle.dcsctp_core.specs.View.{View, transfer_of, endpoint_of, view_of}
+use Rattle.dcsctp_core.specs.Flushing.{forward_where, ForwardsBelow, ForwardsAt}
+use Rattle.dcsctp_core.proofs.FirstLemmas.{endpoint_with}
+
+-- the endpoint with this queue, once the next FORWARD-TSN was put off
+abbrev put_off : {R : Type 0} → Context R → SendQueueState → Option ℕ → Endpoint → Endpoint
+put_off old queue next e = record e { no_forward_tsn_before = forward_where next old.no_forward_tsn_before; below = record e.below { queue = queue } }
+
+abbrev forwarded : {R : Type 0} → Context R → State → SendQueueState → List (Event (List ℕ)) → Option ℕ → View R
+forwarded old state queue events next = record (view_of old) { endpoint = put_off old queue next (endpoint_of (record old { state = state })); events = events }
+
+pub forwards_below : {R : Type 0} (old : Context R) (new : View R) (found : Option Transfer) (state : State) (queue : SendQueueState) (events : List (Event (List ℕ))) (next : Option ℕ) (packet filled : Building)
+    → transfer_of old.state ≡ found → (old.moment < old.no_forward_tsn_before → next ≡ None) → new ≡ forwarded old state queue events next
+    → ForwardsBelow old.moment found old.send_queue (view_of old).events packet old.state state queue events filled next → ForwardsAt found (view_of old) packet new filled
+forwards_below old new None state queue events next packet filled holds early is h = (
+  is
+      ∙ ap (λ (s : State). forwarded old s queue events next) h.0
+      ∙ ap (λ (q : SendQueueState). forwarded old old.state q events next) h.1
+      ∙ ap (λ (es : List (Event (List ℕ))). forwarded old old.state old.send_queue es next) h.2
+      ∙ ap (λ (n : Option ℕ). forwarded old old.state old.send_queue (view_of old).events n) h.4,
+  h.3,
+)
+forwards_below {R = R} old new (Some transfer) state queue events next packet filled holds early is h =
+    let after : Transfer = h.0 in
+    let told : events ≡ new.events = sym (ap (λ (v : View R). v.events) is) in (
+      next,
+      after,
+      queue,
+      subst (λ (es : List (Event (List ℕ))). Forwards old.moment transfer old.send_queue (view_of old).events packet after queue es filled next) told h.2,
+      early,
+      is
+          ∙ ap (λ (s : State). forwarded old s queue events next) h.1
+          ∙ ap (λ (e : Endpoint). record (view_of old) { endpoint = put_off old queue next e; events = events }) (endpoint_with old transfer after holds)
+          ∙ ap (λ (es : List (Event (List ℕ))). record (view_of old) {
+            endpoint = record (endpoint_of old) { no_forward_tsn_before = forward_where next old.no_forward_tsn_before; below = record { queue = queue; transfer = Some after } };
+            events = es;
+          }) told,
+    )

@@ -1,0 +1,28 @@
+-- The phases of an open association, as the code moves them (RFC 9260, section 9.2).
+use Rattle.std.specs.Prelude.{ℕ}
+use Rattle.dcsctp_core.specs.declared.state.State.{State}
+use Rattle.dcsctp_core.specs.declared.state.State.TheVariants.{Closed, CookieWait, CookieEchoed, Open}
+use Rattle.dcsctp_core.specs.declared.state.OpenPhase.{OpenPhase}
+use Rattle.dcsctp_core.specs.declared.state.OpenPhase.TheVariants.{Established, ShutdownPending, ShutdownSent, ShutdownReceived, ShutdownAckSent}
+use Rattle.dcsctp_core.specs.Timing.{timer_after}
+
+-- the open association in this phase
+abbrev pub phase_set : OpenPhase → State → State
+phase_set phase (Open opened) = Open (record opened { phase = phase })
+phase_set phase state = state
+
+-- the association once its user shuts it down
+abbrev pub pending_from : State → State
+pending_from (CookieEchoed echoed) = Open (record { phase = ShutdownPending; tcb = echoed.tcb })
+pending_from (Open opened) = Open (record opened { phase = ShutdownPending })
+pending_from state = state
+
+-- the phase once T2 was told this moment
+abbrev pub t2_told_in : ℕ → OpenPhase → OpenPhase
+t2_told_in moment (ShutdownSent sent) = ShutdownSent (record sent { t2_shutdown = timer_after moment sent.t2_shutdown })
+t2_told_in moment (ShutdownAckSent sent) = ShutdownAckSent (record sent { t2_shutdown = timer_after moment sent.t2_shutdown })
+t2_told_in moment phase = phase
+
+abbrev pub t2_told : ℕ → State → State
+t2_told moment (Open opened) = Open (record opened { phase = t2_told_in moment opened.phase })
+t2_told moment state = state

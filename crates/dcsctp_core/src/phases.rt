@@ -1,0 +1,117 @@
+//! The phases of an open association, and T2, which belongs to two of them (RFC 9260, section 9.2).
+
+ghost use Rattle.std.specs.Prelude.{◌≡◌, not};
+ghost use Rattle.std.specs.Duration.{as_nanos};
+ghost use Rattle.dcsctp_machine.specs.turns.BegunResets.{rto_of};
+ghost use Rattle.dcsctp_machine.specs.turns.ShutdownOutcomes.{is_all_acknowledged};
+ghost use Rattle.dcsctp_send.specs.Timer.{running_deadline};
+ghost use Rattle.dcsctp_core.specs.Phases.{pending_from, phase_set, t2_told, t2_told_in};
+ghost use Rattle.dcsctp_core.specs.Timing.{expiry_of};
+ghost use Rattle.dcsctp_core.specs.View.{t2_in, t2_of, transfer_of};
+
+use crate::expiry::{Expiry, expire};
+use crate::state::{OpenPhase, OpenState, State};
+use dcsctp_api::SocketTime;
+use std::time::Duration;
+
+impl OpenPhase {
+    // When T2 expires next, in `ShutdownSent` and `ShutdownAckSent`; none elsewhere.
+    fn t2_deadline(&self) -> Option<SocketTime>
+        ensures { result ≡ running_deadline (t2_in self.now) }
+    {
+        match self {
+            OpenPhase::Established | OpenPhase::ShutdownPending | OpenPhase::ShutdownReceived => {
+                None
+            }
+            OpenPhase::ShutdownSent(sent) => sent.t2_shutdown.next_expiry(),
+            OpenPhase::ShutdownAckSent(sent) => sent.t2_shutdown.next_expiry(),
+        }
+    }
+
+    // Tells T2 this moment. In another phase nothing is due.
+    fn expire_t2(&mut self, now: SocketTime) -> Expiry
+        ensures answer { result ≡ expiry_of now (t2_in self.old) }
+        ensures left { self.new ≡ t2_told_in now self.old }
+    {
+        match self {
+            OpenPhase::Established | OpenPhase::ShutdownPending | OpenPhase::ShutdownReceived => {
+                Expiry::NotDue
+            }
+            OpenPhase::ShutdownSent(sent) => expire(&mut sent.t2_shutdown, now),
+            OpenPhase::ShutdownAckSent(sent) => expire(&mut sent.t2_shutdown, now),
+        }
+    }
+}
+
+impl State {
+    /// The open association gets to this phase. Any other state stays. It takes no memory.
+    pub fn set_phase(&mut self, phase: OpenPhase)
+        ensures { self.new ≡ phase_set phase self.old }
+    {
+        match self {
+            State::Closed | State::CookieWait(_) | State::CookieEchoed(_) => {}
+            State::Open(opened) => opened.phase = phase,
+        }
+    }
+
+    /// The association is shut down by its user from now on, also where its COOKIE ACK is awaited, which stops T1.
+    /// Any other state stays. It takes no memory.
+    pub fn pend_shutdown(&mut self)
+        ensures { self.new ≡ pending_from self.old }
+    {
+        *self = match std::mem::replace(self, State::Closed) {
+            State::CookieEchoed(echoed) => State::Open(OpenState {
+                phase: OpenPhase::ShutdownPending,
+                tcb: echoed.tcb,
+            }),
+            State::Open(opened) => State::Open(OpenState {
+                phase: OpenPhase::ShutdownPending,
+                tcb: opened.tcb,
+            }),
+            State::Closed => State::Closed,
+            State::CookieWait(wait) => State::CookieWait(wait),
+        };
+    }
+
+    /// Was something sent that is neither acknowledged nor given up? Not without a peer. It takes no memory.
+    pub fn has_unacknowledged_items(&self) -> bool
+        ensures { result ≡ not (is_all_acknowledged (transfer_of self.now)) }
+    {
+        match self.tcb() {
+            None => false,
+            Some(tcb) => tcb.transfer.has_unacknowledged_items(),
+        }
+    }
+
+    /// The retransmission timeout; zero without a peer. It takes no memory.
+    pub fn rto(&self) -> Duration
+        ensures { as_nanos result ≡ rto_of (transfer_of self.now) }
+    {
+        match self.tcb() {
+            None => Duration::ZERO,
+            Some(tcb) => tcb.transfer.rto(),
+        }
+    }
+
+    /// When T2 expires next, in `ShutdownSent` and `ShutdownAckSent`; none elsewhere. It takes no memory.
+    pub fn t2_deadline(&self) -> Option<SocketTime>
+        ensures { result ≡ running_deadline (t2_of self.now) }
+    {
+        match self {
+            State::Closed | State::CookieWait(_) | State::CookieEchoed(_) => None,
+            State::Open(opened) => opened.phase.t2_deadline(),
+        }
+    }
+
+    /// Tells T2 this moment, in `ShutdownSent` and `ShutdownAckSent` (RFC 9260, section 9.2). In another phase nothing
+    /// is due. It takes no memory.
+    pub fn expire_t2(&mut self, now: SocketTime) -> Expiry
+        ensures answer { result ≡ expiry_of now (t2_of self.old) }
+        ensures left { self.new ≡ t2_told now self.old }
+    {
+        match self {
+            State::Closed | State::CookieWait(_) | State::CookieEchoed(_) => Expiry::NotDue,
+            State::Open(opened) => opened.phase.expire_t2(now),
+        }
+    }
+}
