@@ -117,7 +117,7 @@ apart_counted part old before taken new after takes =
     record { kept = counted.0; bytes = omega (arith, counted.1, ap wholes_bytes takes.others.2, ap runs_bytes takes.others.3) }
 
 numbered_counted : (tsn : ℕ) (chunk : ChunkModel) (numbering : Numbering) (old : StreamModel) (before : List MessageContent) (taken : Taken) (new : StreamModel) (after : List MessageContent) → TakesNumbered tsn chunk numbering old before taken new after → Counted (length chunk.payload) old before taken new after
-numbered_counted tsn chunk (Ordered ssn) old before taken new after takes = in_order_counted _ old before taken new after takes
+numbered_counted tsn chunk (Ordered ssn) old before taken new after takes = ordered_counted _ old before taken new after takes
 numbered_counted tsn chunk Unordered old before taken new after takes = apart_counted _ old before taken new after takes
 numbered_counted tsn chunk (InterleavedOrdered mid fsn) old before taken new after takes = in_order_counted _ old before taken new after takes
 numbered_counted tsn chunk (InterleavedUnordered mid fsn) old before taken new after takes = out_of_order_counted _ old before taken new after takes

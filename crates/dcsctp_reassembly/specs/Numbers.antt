@@ -1,4 +1,5 @@
--- Running numbers that wrap, numbered without wrap: the nearest to a reference (RFC 9260, section 1.6). They stop at 2^64 - 1.
+-- Running numbers that wrap, numbered without wrap: the nearest to a reference (RFC 9260, section 1.6), or the first from it on. They
+-- stop at 2^64 - 1.
 use Rattle.std.specs.Prelude.{ℕ, ◌+◌, ◌-◌, ◌*◌, ◌%◌, ◌^◌, min, nat_lt, Bool, ◌&&◌, if◌then◌else◌}
 
 -- how far ahead of the reference a number of so many values is, modulo that
@@ -16,9 +17,19 @@ nearest values half reference number =
 abbrev pub number_near : ℕ → ℕ → ℕ
 number_near reference number = nearest (2 ^ 32) (2 ^ 31) reference number
 
--- of a stream sequence number
+-- of a stream sequence number up to which messages are skipped. It may name again what was skipped before, so one half of the numbers
+-- is behind the reference.
 abbrev pub short_number_near : ℕ → ℕ → ℕ
 short_number_near reference number = nearest (2 ^ 16) (2 ^ 15) reference number
+
+-- the first number from the reference on that agrees with this modulo so many values
+abbrev pub first_from : ℕ → ℕ → ℕ → ℕ
+first_from values reference number = min (reference + ahead_of values reference number) (2 ^ 64 - 1)
+
+-- Of the stream sequence number of data whose TSN is new. None is behind the reference: TSNs are taken up to 65,535 ahead, so a
+-- sender may be ahead by nearly the whole range.
+abbrev pub short_number_from : ℕ → ℕ → ℕ
+short_number_from reference number = first_from (2 ^ 16) reference number
 
 -- Is the TSN beyond the other one?
 abbrev pub is_tsn_beyond : ℕ → ℕ → Bool

@@ -2,14 +2,13 @@
 -- section 3.6). Messages are numbered without wrap.
 use Rattle.std.specs.List.{filter}
 use Rattle.std.specs.Prelude.{◌≡◌, ◌==◌, ℕ, ◌+◌, ◌-◌, ◌^◌, ◌<◌, ◌≤◌, MatchBool, min, max, nat_le, take, drop, slice_get, if◌then◌else◌, not, Bool, true, false, Option, None, Some, List, [], ◌∷◌, ◌++◌, length, map}
-use Rattle.dcsctp_machine.specs.declared.message.Message.{Message}
-use Rattle.dcsctp_machine.specs.Transfer.{MessageContent, message_content}
+use Rattle.dcsctp_machine.specs.Transfer.{MessageContent}
 use Rattle.dcsctp_reassembly.specs.declared.arrivals.Data.{Data}
 use Rattle.dcsctp_reassembly.specs.declared.arrivals.SkippedTo.{SkippedTo}
 use Rattle.dcsctp_reassembly.specs.declared.arrivals.SkippedTo.TheVariants.{Ssn, Mid}
 use Rattle.dcsctp_reassembly.specs.declared.arrivals.Numbering.{Numbering}
 use Rattle.dcsctp_reassembly.specs.declared.arrivals.Numbering.TheVariants.{Ordered, Unordered, InterleavedOrdered, InterleavedUnordered}
-use Rattle.dcsctp_reassembly.specs.Numbers.{number_near, short_number_near, fragment_place}
+use Rattle.dcsctp_reassembly.specs.Numbers.{number_near, short_number_near, short_number_from, fragment_place}
 use Rattle.dcsctp_reassembly.specs.declared.stream.Stream.{Stream}
 use Rattle.dcsctp_reassembly.specs.declared.stream.Taken.{Taken}
 use Rattle.dcsctp_reassembly.specs.declared.runs.Assembled.{Assembled}
@@ -168,7 +167,7 @@ abbrev pub data_part : ChunkModel → ℕ → ℕ → PartModel
 data_part chunk place number =
     record { place = place; number = number; ppid = chunk.ppid; payload = chunk.payload; is_beginning = chunk.is_beginning; is_end = chunk.is_end }
 
--- A part of an ordered message, or a whole one: it is dropped where its message is before the next.
+-- A part of an ordered I-DATA message, or a whole one: it is dropped where its message is before the next.
 pub record TakesInOrder (part : PartModel) (old : StreamModel) (before : List MessageContent) (taken : Taken) (new : StreamModel) (after : List MessageContent) : Type 0 where
   pub past : part.number < old.next → NothingTaken taken × (new ≡ old) × (after ≡ before)
   pub ahead : old.next ≤ part.number → TakesOrdered part old before taken new after
@@ -187,9 +186,13 @@ pub record TakesApart (part : PartModel) (old : StreamModel) (before : List Mess
 
 -- Data of a stream came in, whose TSN has this number. The parts of an ordered message of DATA go by their TSNs, those of I-DATA
 -- by their fragment numbers.
+--
+-- A stream sequence number is read from the next one on, up to its whole range: the TSN is new, and all TSNs of a message that was
+-- delivered or skipped count as received (RFC 3758, section 3.5). A message identifier is the nearest: nobody is 2^31 messages ahead,
+-- and a part of a message that was skipped may come late, since parts of I-DATA messages need not have TSNs in a row.
 abbrev pub TakesNumbered : ℕ → ChunkModel → Numbering → StreamModel → List MessageContent → Taken → StreamModel → List MessageContent → Type 0
 TakesNumbered tsn chunk (Ordered ssn) old before taken new after =
-    TakesInOrder (data_part chunk tsn (short_number_near old.next ssn)) old before taken new after
+    TakesOrdered (data_part chunk tsn (short_number_from old.next ssn)) old before taken new after
 TakesNumbered tsn chunk Unordered old before taken new after = TakesApart (data_part chunk tsn 0) old before taken new after
 TakesNumbered tsn chunk (InterleavedOrdered mid fsn) old before taken new after =
     TakesInOrder (data_part chunk (fragment_place (number_near old.next mid) fsn) (number_near old.next mid)) old before taken new after

@@ -1,9 +1,11 @@
-//! Running numbers that wrap, numbered without wrap: the nearest to a reference (RFC 9260, section 1.6).
+//! Running numbers that wrap, numbered without wrap: the nearest to a reference (RFC 9260, section 1.6), or the
+//! first from it on.
 
-ghost use Rattle.std.specs.Prelude.{◌≡◌};
+ghost use Rattle.std.specs.Prelude.{◌≡◌, ◌+◌, ◌%◌, ◌^◌, ◌<◌, ◌≤◌};
 ghost use Rattle.dcsctp_reassembly.specs.Numbers.{
   number_near,
   short_number_near,
+  short_number_from,
   fragment_place,
   is_tsn_beyond,
 };
@@ -30,6 +32,17 @@ pub fn short_number_near(reference: u64, number: u16) -> u64
     } else {
         reference.saturating_sub(0x1_0000 - ahead)
     }
+}
+
+/// The first number from the reference on that a 16-bit number can stand for: the two agree modulo 2^16.
+pub fn short_number_from(reference: u64, number: u16) -> u64
+    ensures is { result ≡ short_number_from reference number }
+    ensures from { reference ≤ result }
+    ensures first { result < reference + 2 ^ 16 }
+    ensures agrees { reference + 2 ^ 16 ≤ 2 ^ 64 → result % 2 ^ 16 ≡ number }
+{
+    let ahead = number.wrapping_sub((reference % 0x1_0000) as u16);
+    reference.saturating_add(u64::from(ahead))
 }
 
 /// The place of a part of an I-DATA message: each message has places for all its fragment numbers.

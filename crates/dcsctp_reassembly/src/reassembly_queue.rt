@@ -179,8 +179,9 @@ impl ReassemblyQueue {
     ///
     /// A message of one chunk keeps its payload; that of a longer one is joined by one copy. Parts of one
     /// message have TSNs in a row from B to E (DATA), or fragment numbers in a row (RFC 8260, section 2.1).
-    /// Data of an ordered message whose number is before the expected one is dropped, as is a part that is
-    /// there already. In a deferred reset data beyond its last TSN waits on the streams that it names.
+    /// A stream sequence number is read from the expected one on, up to 65,535 ahead. I-DATA of an ordered
+    /// message whose identifier is before the expected one is dropped, as is a part that is there already. In
+    /// a deferred reset data beyond its last TSN waits on the streams that it names.
     ///
     /// Data whose bytes would bring those that are held to 2^64 is dropped. If there is no memory for it, the
     /// data is dropped, and all that was there before stays.

@@ -11,7 +11,7 @@ ghost use Rattle.dcsctp_reassembly.specs.Streams.{stream_of, delivered_from, del
 
 use crate::arrivals::{Data, Numbering, SkippedTo};
 use crate::joining::add_part;
-use crate::numbers::{fragment_place, number_near, short_number_near};
+use crate::numbers::{fragment_place, number_near, short_number_from, short_number_near};
 use crate::runs::{Assembled, Part, Run, Whole, drop_messages, size_of_runs, size_of_wholes};
 use dcsctp_api::{Message, StreamId};
 use std::alloc::{AllocError, Global};
@@ -268,7 +268,7 @@ impl Stream {
     {
         match chunk.numbering {
             Numbering::Ordered { ssn } => {
-                let number = short_number_near(self.next, ssn);
+                let number = short_number_from(self.next, ssn);
                 let part = part_of_data(chunk, u128::from(tsn_number), number);
                 self.take_ordered(alloc, part, ready)
             }

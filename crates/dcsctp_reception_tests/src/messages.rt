@@ -224,8 +224,134 @@ fn skipped_messages_make_way(rt: HostRuntime) {
         ("the rest waits", Rests(100 - 9)),
         ("the unordered part", Skips(7, 1)),
         ("the unordered part is dropped", Rests(100 - 5)),
-        ("late", Add(8, 7, Ordered { ssn: 1 }, Whole, "late")),
-        ("before the expected number", Rests(100 - 5)),
+    ];
+    run(&rt, STEPS);
+}
+
+#[test]
+fn messages_far_ahead_wait(rt: HostRuntime) {
+    // Stream sequence numbers up to 65,535 behind the next one are read. Messages of one chunk have TSNs in a row.
+    static STEPS: &[(&str, Step)] = &[
+        ("DATA", Begins(100)),
+        ("half", Add(32769, 7, Ordered { ssn: 32768 }, Whole, "half")),
+        ("all", Add(65536, 7, Ordered { ssn: 65535 }, Whole, "all")),
+        ("both wait", Rests(100 - 7)),
+        ("first", Add(1, 7, Ordered { ssn: 0 }, Whole, "first")),
+        ("first", Gives("first")),
+        ("up to half", Skips(32768, 32767)),
+        ("half", Gives("half")),
+        ("the rest waits", Rests(100 - 3)),
+        ("up to all", Skips(65535, 65534)),
+        ("all", Gives("all")),
+        (
+            "across the wrap",
+            Add(98306, 7, Ordered { ssn: 32768 }, Whole, "half"),
+        ),
+        (
+            "across the wrap",
+            Add(65537, 7, Ordered { ssn: 0 }, First, "a"),
+        ),
+        ("they wait", Rests(100 - 5)),
+        (
+            "across the wrap",
+            Add(65538, 7, Ordered { ssn: 0 }, Last, "b"),
+        ),
+        ("across the wrap", Gives("ab")),
+        ("up to half", Skips(98305, 32767)),
+        ("half", Gives("half")),
+        ("all is taken", Rests(100)),
+        ("I-DATA", Begins(100)),
+        (
+            "half",
+            Add(
+                32769,
+                7,
+                InterleavedOrdered { mid: 32768, fsn: 0 },
+                Whole,
+                "half",
+            ),
+        ),
+        (
+            "all",
+            Add(
+                65536,
+                7,
+                InterleavedOrdered { mid: 65535, fsn: 0 },
+                Whole,
+                "all",
+            ),
+        ),
+        ("both wait", Rests(100 - 7)),
+        (
+            "first",
+            Add(1, 7, InterleavedOrdered { mid: 0, fsn: 0 }, Whole, "first"),
+        ),
+        ("first", Gives("first")),
+        ("up to half", SkipsMessages(32768, false, 32767)),
+        ("half", Gives("half")),
+        ("up to all", SkipsMessages(65535, false, 65534)),
+        ("all", Gives("all")),
+        ("all is taken", Rests(100)),
+    ];
+    run(&rt, STEPS);
+}
+
+#[test]
+fn a_number_that_comes_twice_loses_nothing(rt: HostRuntime) {
+    static STEPS: &[(&str, Step)] = &[
+        ("a", Begins(100)),
+        ("a", Add(2, 7, Ordered { ssn: 1 }, Whole, "aaa")),
+        (
+            "the same number",
+            Add(3, 7, Ordered { ssn: 1 }, Whole, "bbb"),
+        ),
+        ("both wait", Rests(100 - 6)),
+        ("the first", Add(1, 7, Ordered { ssn: 0 }, Whole, "c")),
+        ("the first", Gives("c")),
+        ("the same number", Gives("bbb")),
+        ("a", Gives("aaa")),
+        ("all is taken", Rests(100)),
+        ("messages", Counts(3)),
+    ];
+    run(&rt, STEPS);
+}
+
+#[test]
+fn a_skip_that_comes_again_skips_nothing(rt: HostRuntime) {
+    // Where a SACK is lost, a FORWARD-TSN names again what was skipped before.
+    static STEPS: &[(&str, Step)] = &[
+        ("waits", Begins(100)),
+        ("waits", Add(3, 7, Ordered { ssn: 1 }, Whole, "waits")),
+        ("part", Add(5, 7, Ordered { ssn: 2 }, First, "part")),
+        ("up to 0", Skips(2, 0)),
+        ("behind it", Gives("waits")),
+        ("again", Skips(4, 0)),
+        ("the part stays", Rests(100 - 4)),
+        ("part", Add(6, 7, Ordered { ssn: 2 }, Last, "whole")),
+        ("it becomes whole", Gives("partwhole")),
+        ("all is taken", Rests(100)),
+    ];
+    run(&rt, STEPS);
+}
+
+#[test]
+fn a_late_part_of_a_skipped_message_is_dropped(rt: HostRuntime) {
+    // Another message has the TSN between the two parts, so that an I-FORWARD-TSN reaches the first part alone.
+    static STEPS: &[(&str, Step)] = &[
+        ("next", Begins(100)),
+        (
+            "next",
+            Add(13, 7, InterleavedOrdered { mid: 1, fsn: 0 }, Whole, "next"),
+        ),
+        ("waits", Rests(100 - 4)),
+        ("up to 0", SkipsMessages(10, false, 0)),
+        ("next", Gives("next")),
+        (
+            "late",
+            Add(12, 7, InterleavedOrdered { mid: 0, fsn: 1 }, Last, "late"),
+        ),
+        ("it is dropped", Rests(100)),
+        ("messages", Counts(1)),
     ];
     run(&rt, STEPS);
 }

@@ -10,6 +10,8 @@ mod closing;
 #[cfg(test)]
 mod end;
 #[cfg(test)]
+mod far_ahead;
+#[cfg(test)]
 mod link;
 #[cfg(test)]
 mod messages;

@@ -71,6 +71,15 @@ fn has_checksum(packet: &[u8]) -> bool {
     false
 }
 
+/// The TSN of the first chunk of a packet, where that is DATA or I-DATA.
+pub fn first_tsn(packet: &[u8]) -> Option<u32> {
+    let (chunk, _) = chunk_at(packet, 12)?;
+    match byte(chunk, 0) {
+        0 | 64 => Some(four_bytes(chunk, 4)),
+        _ => None,
+    }
+}
+
 impl Seen {
     /// Nothing was on the wire yet.
     pub fn nothing(run: &Run) -> Seen {
