@@ -112,6 +112,8 @@ impl Line {
     pub fn new(alloc: Global, first_tsn: u32, window: u32, negotiated: (bool, bool)) -> Line {
         let options = options();
         let (partial_reliability, interleaving) = negotiated;
+        let mut queue = SendQueue::new(alloc, &options);
+        queue.enable_message_interleaving(interleaving);
         let sent = RetransmissionQueue::new(
             alloc,
             &options,
@@ -122,7 +124,7 @@ impl Line {
         );
         Line {
             alloc,
-            queue: SendQueue::new(alloc, &options),
+            queue,
             sent,
             events: Events::new(alloc),
             now: 0,

@@ -55,35 +55,39 @@ pub drops-under_way : (now : ℕ) (old queue : Backlog) (events : List (Event (L
 drops-under_way now old queue events none = refl
 drops-under_way now old queue events (more told before place message drops next front expired) = drops-under_way now old before told drops
 
-pub counted-front : (b : Bool) (s : Stream) → (counted b s).messages ≡ s.messages
-counted-front true s = refl
-counted-front false s = refl
+pub counted-front : (i b : Bool) (s : Stream) → (counted i b s).messages ≡ s.messages
+counted-front false false s = refl
+counted-front false true s = refl
+counted-front true false s = refl
+counted-front true true s = refl
 
-pub counted-number : (b : Bool) (s : Stream) → (counted b s).id ≡ s.id
-counted-number true s = refl
-counted-number false s = refl
+pub counted-number : (i b : Bool) (s : Stream) → (counted i b s).id ≡ s.id
+counted-number false false s = refl
+counted-number false true s = refl
+counted-number true false s = refl
+counted-number true true s = refl
 
-pub part_at : (streams : List Stream) (p size amount : ℕ) (b first : Bool) (u next : UnderWay) (message : Waiting)
+pub part_at : (streams : List Stream) (p size amount : ℕ) (i b first : Bool) (u next : UnderWay) (message : Waiting)
     → p < length streams → (stream_at streams p).id ≡ u.stream_id.0 → front_of (stream_at streams p).messages ≡ Some message
     → next.stream_id.0 ≡ u.stream_id.0 → 0 < next.sent → next.sent < length message.payload
     → let reduced = set streams p (record (stream_at streams p) { amount = amount }) in
-    IsUnderWay (if first then set reduced p (counted b (stream_at reduced p)) else reduced) next
-part_at streams p size amount b true u next message lt is front same some less =
+    IsUnderWay (if first then set reduced p (counted i b (stream_at reduced p)) else reduced) next
+part_at streams p size amount i b true u next message lt is front same some less =
     let s = record (stream_at streams p) { amount = amount } in
     let len = length-set_at streams p s in
     let at = stream_at-set streams p s lt in
-    let again = stream_at-set (set streams p s) p (counted b (stream_at (set streams p s) p)) (omega (arith, len)) in
-    let more = length-set_at (set streams p s) p (counted b (stream_at (set streams p s) p)) in
+    let again = stream_at-set (set streams p s) p (counted i b (stream_at (set streams p s) p)) (omega (arith, len)) in
+    let more = length-set_at (set streams p s) p (counted i b (stream_at (set streams p s) p)) in
     record {
       place = p;
       within = omega (arith, len, more);
-      is = ap (λ x. x.id) again ∙ (counted-number b (stream_at (set streams p s) p) ∙ (ap (λ x. x.id) at ∙ (is ∙ sym same)));
+      is = ap (λ x. x.id) again ∙ (counted-number i b (stream_at (set streams p s) p) ∙ (ap (λ x. x.id) at ∙ (is ∙ sym same)));
       message = message;
-      front = ap (λ x. front_of x.messages) again ∙ (ap (λ m. front_of m) (counted-front b (stream_at (set streams p s) p)) ∙ (ap (λ x. front_of x.messages) at ∙ front));
+      front = ap (λ x. front_of x.messages) again ∙ (ap (λ m. front_of m) (counted-front i b (stream_at (set streams p s) p)) ∙ (ap (λ x. front_of x.messages) at ∙ front));
       begun = some;
       unfinished = less;
     }
-part_at streams p size amount b false u next message lt is front same some less =
+part_at streams p size amount i b false u next message lt is front same some less =
     let s = record (stream_at streams p) { amount = amount } in
     let len = length-set_at streams p s in
     let at = stream_at-set streams p s lt in
@@ -100,11 +104,11 @@ part_at streams p size amount b false u next message lt is front same some less 
 pub part_goes : (queue : Backlog) (place size : ℕ) (first : Bool) (u next : UnderWay) (message : Waiting)
     → place < length queue.streams → (stream_at queue.streams place).id ≡ u.stream_id.0 → front_of (stream_at queue.streams place).messages ≡ Some message
     → next.stream_id.0 ≡ u.stream_id.0 → 0 < next.sent → next.sent < length message.payload
-    → IsUnderWay (if first then record (reduced place size queue) { streams = set (reduced place size queue).streams place (counted message.is_unordered (stream_at (reduced place size queue).streams place)) } else reduced place size queue).streams next
+    → IsUnderWay (if first then record (reduced place size queue) { streams = set (reduced place size queue).streams place (counted queue.is_interleaved message.is_unordered (stream_at (reduced place size queue).streams place)) } else reduced place size queue).streams next
 part_goes queue place size true u next message lt is front same some less =
-    part_at queue.streams place size ((stream_at queue.streams place).amount - size) message.is_unordered true u next message lt is front same some less
+    part_at queue.streams place size ((stream_at queue.streams place).amount - size) queue.is_interleaved message.is_unordered true u next message lt is front same some less
 part_goes queue place size false u next message lt is front same some less =
-    part_at queue.streams place size ((stream_at queue.streams place).amount - size) message.is_unordered false u next message lt is front same some less
+    part_at queue.streams place size ((stream_at queue.streams place).amount - size) queue.is_interleaved message.is_unordered false u next message lt is front same some less
 
 pub not_last : (rest max : ℕ) → nat_le rest max ≡ false → max < rest
 not_last rest max e = grind (arith, nat_tests)

@@ -3,6 +3,7 @@ pub mod FrontLemmas
 pub mod GoingOnLemmas
 pub mod HandedOutLemmas
 pub mod NotReadyLemmas
+pub mod NumberingLemmas
 pub mod PreparedLemmas
 pub mod QueueLemmas
 pub mod QueuedLemmas

@@ -184,7 +184,7 @@ ready_by : (under_way : Option UnderWay) (x y : Stream) (xs ys : List Stream) (b
 ready_by under_way x y xs ys true same ex ey ih = rw (ex, ey, same) (ap (λ ids. x.id ∷ ids) ih)
 ready_by under_way x y xs ys false same ex ey ih = rw (ex, ey) ih
 
-ready-changed : (under_way : Option UnderWay) (id : ℕ) (f : Stream → Stream) → ((s : Stream) → (f s).id ≡ s.id) → ((s : Stream) → is_ready under_way (f s) ≡ is_ready under_way s)
+pub ready-changed : (under_way : Option UnderWay) (id : ℕ) (f : Stream → Stream) → ((s : Stream) → (f s).id ≡ s.id) → ((s : Stream) → is_ready under_way (f s) ≡ is_ready under_way s)
     → (streams : List Stream) → ready_ids under_way (changed id f streams) ≡ ready_ids under_way streams
 ready-changed under_way id f number ready [] = refl
 ready-changed under_way id f number ready (x ∷ xs) =

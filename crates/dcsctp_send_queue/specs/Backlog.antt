@@ -6,7 +6,7 @@ use Rattle.dcsctp_send_queue.specs.declared.backlog.Backlog.{Backlog}
 use Rattle.dcsctp_streams.specs.declared.message.UnderWay.{UnderWay}
 use Rattle.dcsctp_streams.specs.declared.stream.Pause.{Pause}
 use Rattle.dcsctp_streams.specs.declared.stream.Pause.TheVariants.{Open, Pausing, HandedOut}
-use Rattle.dcsctp_streams.specs.Waiting.{Waiting, Stream, unused, is_pausing, front_of, next_numbers}
+use Rattle.dcsctp_streams.specs.Waiting.{Waiting, Stream, unused, is_pausing, front_of, next_numbers, counted}
 use Rattle.dcsctp_streams.specs.Ranking.{stream_at}
 
 -- the streams, where that of the number is changed
@@ -116,3 +116,41 @@ begun message stream =
       next_fsn = 0;
       sent = 0;
     }
+
+-- ---- which numbers count
+
+-- is the oldest message unordered?
+abbrev pub is_front_unordered : List Waiting → Bool
+is_front_unordered [] = false
+is_front_unordered (message ∷ messages) = message.is_unordered
+
+-- the stream, once its oldest message has the next number
+abbrev pub front_counted : Bool → Stream → Stream
+front_counted is_interleaved stream = counted is_interleaved (is_front_unordered stream.messages) stream
+
+-- the message under way, as its stream would number it if it were begun now
+abbrev pub renumbered : UnderWay → Stream → UnderWay
+renumbered under_way stream =
+    record under_way {
+      ssn = (next_numbers (is_front_unordered stream.messages) stream).0;
+      mid = (next_numbers (is_front_unordered stream.messages) stream).1;
+    }
+
+-- the message under way takes the next number of its stream, so that no other message has the same
+abbrev pub numbered_anew : Option UnderWay → Backlog → Backlog
+numbered_anew None queue = queue
+numbered_anew (Some under_way) queue =
+    record queue {
+      streams = changed under_way.stream_id.0 (front_counted queue.is_interleaved) queue.streams;
+      under_way = Some (renumbered under_way (stream_of queue under_way.stream_id.0));
+    }
+
+-- Messages are interleaved from now on, or not. Where that is new, other numbers count than before.
+abbrev pub numbered_for : Bool → Backlog → Backlog
+numbered_for enabled queue = from queue.is_interleaved enabled queue
+  where
+    from : Bool → Bool → Backlog → Backlog
+    from false false queue = queue
+    from true true queue = queue
+    from false true queue = numbered_anew queue.under_way (record queue { is_interleaved = true })
+    from true false queue = numbered_anew queue.under_way (record queue { is_interleaved = false })

@@ -24,7 +24,7 @@ without_oldest place queue = record queue { streams = slice_set queue.streams pl
 abbrev pub numbered : ℕ → Waiting → UnderWay → Backlog → Backlog
 numbered place message under_way queue =
     if under_way.sent == 0
-    then record queue { streams = slice_set queue.streams place (counted message.is_unordered (stream_at queue.streams place)) }
+    then record queue { streams = slice_set queue.streams place (counted queue.is_interleaved message.is_unordered (stream_at queue.streams place)) }
     else queue
 
 -- A message of which so much went out is dropped.

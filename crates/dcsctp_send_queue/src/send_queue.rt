@@ -38,7 +38,7 @@ impl SendQueue {
     ghost use Rattle.dcsctp_streams.specs.Telling.{contents, TellsFront};
     ghost use Rattle.dcsctp_streams.specs.Fragment.{HasSize};
     ghost use Rattle.dcsctp_streams.specs.Waiting.{paused};
-    ghost use Rattle.dcsctp_send_queue.specs.Backlog.{queue_state, changed, used, stream_of, ready_streams};
+    ghost use Rattle.dcsctp_send_queue.specs.Backlog.{queue_state, changed, used, stream_of, ready_streams, numbered_for};
     ghost use Rattle.dcsctp_send_queue.specs.Calls.{no_backlog, queued, with_added, TakesNext, StopsTaking, StopsDiscarding, DiscardsNamed};
     ghost use Rattle.dcsctp_send_queue.specs.Leaving.{DropsSome};
     ghost use Rattle.dcsctp_send_queue.specs.Resets.{restarted, handing_out, may_send, IsUsedAtMost, with_threshold, with_priority, prepared, prepare_events, shown_prepared};
@@ -135,12 +135,14 @@ impl SendQueue {
         self.backlog.may_send()
     }
 
-    /// Says whether messages are numbered as for interleaving (RFC 8260, section 2.1). Message
-    /// identifiers are counted in both cases, and no message interrupts the one under way.
+    /// Says whether messages are numbered as for interleaving (RFC 8260, section 2.1): with it message
+    /// identifiers count, without it stream sequence numbers. Where that is new, the message under way goes
+    /// on under the next number of its stream. No message interrupts it in either case.
     pub fn enable_message_interleaving(&mut self, enabled: bool)
-        ensures { self.new ≡ record self.old { is_interleaved = enabled } }
+        ensures whole { self.new ≡ numbered_for enabled self.old }
+        ensures shown { queue_state self.new ≡ record (queue_state self.old) { is_interleaved = enabled } }
     {
-        self.backlog.is_interleaved = enabled;
+        self.backlog.interleave(enabled);
     }
 
     /// Makes the queue ready for another association: the message that is under way begins again, all

@@ -98,5 +98,5 @@ state 1 amount 2 total 2
 tells OnLifecycleMessageExpired(8)
 tells OnLifecycleEnd(8)
 tells
-fragment 9 stream 1 ssn 1 mid 1 fsn 0
+fragment 9 stream 1 ssn 1 mid 0 fsn 0
 ";

@@ -75,7 +75,7 @@ fragment 2 message 1 ssn 0 mid 0 fsn 0 size 2 begins 1 ends 0 protocol 53 unorde
 fragment 1 message 1 ssn 0 mid 0 fsn 1 size 1 begins 0 ends 0 protocol 53 unordered 1 times 3 expires-at-25 1
 fragment 3 message 1 ssn 0 mid 0 fsn 2 size 2 begins 0 ends 1 protocol 53 unordered 1 times 3 expires-at-25 1
 
-# ordered and unordered messages are counted apart by stream
+# without interleaving the stream sequence numbers of ordered messages count alone
 begin 0 0
 add 1 a
 unordered
@@ -86,8 +86,25 @@ add 1 d
 add 2 e
 fragment 1 stream 1 ssn 0 mid 0 fsn 0
 fragment 1 stream 1 ssn 0 mid 0 fsn 0
-fragment 1 stream 1 ssn 1 mid 1 fsn 0
-fragment 1 stream 1 ssn 1 mid 1 fsn 1
+fragment 1 stream 1 ssn 1 mid 0 fsn 0
+fragment 1 stream 1 ssn 1 mid 0 fsn 1
+fragment 1 stream 1 ssn 0 mid 0 fsn 0
+fragment 1 stream 2 ssn 0 mid 0 fsn 0
+
+# with interleaving message identifiers count alone, those of ordered and of unordered messages apart
+begin 0 0
+interleave
+add 1 a
+unordered
+add 1 b
+add 1 cc
+unordered
+add 1 d
+add 2 e
+fragment 1 stream 1 ssn 0 mid 0 fsn 0
+fragment 1 stream 1 ssn 0 mid 0 fsn 0
+fragment 1 stream 1 ssn 0 mid 1 fsn 0
+fragment 1 stream 1 ssn 0 mid 1 fsn 1
 fragment 1 stream 1 ssn 0 mid 1 fsn 0
 fragment 1 stream 2 ssn 0 mid 0 fsn 0
 
@@ -95,9 +112,70 @@ fragment 1 stream 2 ssn 0 mid 0 fsn 0
 begin 0 0
 use-up 65535
 add 1 x
-fragment 1 stream 1 ssn 65535 mid 65535 fsn 0
+fragment 1 stream 1 ssn 65535 fsn 0
 add 1 x
-fragment 1 stream 1 ssn 0 mid 65536 fsn 0
+fragment 1 stream 1 ssn 0 fsn 0
+interleave
+use-up 65535
+add 1 x
+fragment 1 stream 1 mid 65535 fsn 0
+add 1 x
+fragment 1 stream 1 mid 65536 fsn 0
+
+# each kind goes on where it stood when it counted last
+begin 0 0
+add 1 a
+add 1 b
+fragment 9 stream 1 ssn 0 a
+fragment 9 stream 1 ssn 1 b
+interleave
+add 1 c
+unordered
+add 1 d
+fragment 9 stream 1 mid 0 c
+fragment 9 stream 1 mid 0 d
+interleave
+add 1 e
+fragment 9 stream 1 mid 1 e
+interleave-no-more
+add 1 f
+fragment 9 stream 1 ssn 2 f
+interleave
+add 1 g
+unordered
+add 1 h
+fragment 9 stream 1 mid 2 g
+fragment 9 stream 1 mid 1 h
+
+# the rest of a message has a number of its own where the other kind counts
+begin 0 0
+add 1 ab
+add 1 c
+fragment 1 stream 1 ssn 0 fsn 0 a
+interleave
+state 1 amount 2 total 2
+fragment 9 stream 1 message 0 mid 0 fsn 1 b
+fragment 9 stream 1 message 1 mid 1 fsn 0 c
+begin 0 0
+interleave
+unordered
+add 1 ab
+unordered
+add 1 c
+fragment 1 stream 1 mid 0 fsn 0 a
+interleave-no-more
+fragment 1 stream 1 message 0 ssn 0 fsn 1 b
+interleave
+fragment 9 stream 1 message 1 mid 1 fsn 0 c
+begin 0 0
+add 1 abc
+add 1 d
+fragment 1 stream 1 ssn 0 fsn 0 a
+interleave
+fragment 1 stream 1 message 0 mid 0 fsn 1 b
+interleave-no-more
+fragment 1 stream 1 message 0 ssn 1 fsn 2 c
+fragment 9 stream 1 message 1 ssn 2 fsn 0 d
 
 # a message may be begun up to the end of its lifetime
 begin 0 0

@@ -52,6 +52,31 @@ fragment 1 size 0
 commit
 fragment 9 stream 1 ssn 0 mid 0 fsn 0
 
+# message identifiers go on where a reset failed, and begin at 0 where it was done
+begin 0 0
+interleave
+add 1 x
+unordered
+add 1 x
+fragment 9 stream 1 mid 0 fsn 0
+fragment 9 stream 1 mid 0 fsn 0
+prepare 1
+add 1 y
+unordered
+add 1 y
+hand-out 9 [1]
+roll-back
+fragment 9 stream 1 mid 1 fsn 0
+fragment 9 stream 1 mid 1 fsn 0
+prepare 1
+add 1 z
+unordered
+add 1 z
+hand-out 9 [1]
+commit
+fragment 9 stream 1 mid 0 fsn 0
+fragment 9 stream 1 mid 0 fsn 0
+
 # numbers go on where a reset failed
 begin 0 0
 add 1 x
@@ -65,8 +90,8 @@ unordered
 add 1 y
 hand-out 9 [1]
 roll-back
-fragment 9 stream 1 ssn 1 mid 1 fsn 0
-fragment 9 stream 1 ssn 0 mid 1 fsn 0
+fragment 9 stream 1 ssn 1 mid 0 fsn 0
+fragment 9 stream 1 ssn 0 mid 0 fsn 0
 
 # the least streams are handed out first
 begin 0 0
@@ -96,7 +121,7 @@ add 2 y
 add 3 y
 commit
 fragment 9 stream 1 ssn 0 mid 0 fsn 0
-fragment 9 stream 3 ssn 1 mid 1 fsn 0
+fragment 9 stream 3 ssn 1 mid 0 fsn 0
 fragment 1 size 0
 hand-out 9 [2]
 
@@ -110,7 +135,7 @@ prepare 3
 prepare 2
 hand-out 1 [2]
 add 2 e
-fragment 2 stream 1 ssn 1 mid 1 fsn 0
+fragment 2 stream 1 ssn 1 mid 0 fsn 0
 tells OnBufferedAmountLow(1)
 tells OnTotalBufferedAmountLow
 tells
@@ -125,5 +150,5 @@ fragment 2 stream 1 d
 fragment 2 stream 2 ssn 0 mid 0 fsn 0
 commit
 add 2 f
-fragment 2 stream 2 ssn 1 mid 1 fsn 0
+fragment 2 stream 2 ssn 1 mid 0 fsn 0
 ";

@@ -244,6 +244,7 @@ impl Sender {
             "roll-back" => self.queue.rollback_reset_streams(),
             "reset" => self.queue.reset(),
             "interleave" => self.queue.enable_message_interleaving(true),
+            "interleave-no-more" => self.queue.enable_message_interleaving(false),
             "tells" => self.tells(words),
             keyword => self.take_number(words, keyword),
         }

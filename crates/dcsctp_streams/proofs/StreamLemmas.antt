@@ -177,17 +177,23 @@ ranked_read_same streams turns room p x s ranked lt e same turn =
     let at = at_place streams p x lt e in
     ranked-set_same streams turns room p s ranked lt (same ∙ ap (λ s. s.id) at) (turn ∙ ap (λ s. turn_of s) at)
 
-pub counted-id : (is_unordered : Bool) (s : Stream) → (counted is_unordered s).id ≡ s.id
-counted-id true s = refl
-counted-id false s = refl
+pub counted-id : (is_interleaved is_unordered : Bool) (s : Stream) → (counted is_interleaved is_unordered s).id ≡ s.id
+counted-id false false s = refl
+counted-id false true s = refl
+counted-id true false s = refl
+counted-id true true s = refl
 
-pub counted-turn : (is_unordered : Bool) (s : Stream) → turn_of (counted is_unordered s) ≡ turn_of s
-counted-turn true s = refl
-counted-turn false s = refl
+pub counted-turn : (is_interleaved is_unordered : Bool) (s : Stream) → turn_of (counted is_interleaved is_unordered s) ≡ turn_of s
+counted-turn false false s = refl
+counted-turn false true s = refl
+counted-turn true false s = refl
+counted-turn true true s = refl
 
-pub counted-pausing : (is_unordered : Bool) (s : Stream) → is_pausing (counted is_unordered s).pause ≡ is_pausing s.pause
-counted-pausing true s = refl
-counted-pausing false s = refl
+pub counted-pausing : (is_interleaved is_unordered : Bool) (s : Stream) → is_pausing (counted is_interleaved is_unordered s).pause ≡ is_pausing s.pause
+counted-pausing false false s = refl
+counted-pausing false true s = refl
+counted-pausing true false s = refl
+counted-pausing true true s = refl
 
 -- the number of a stream that was read
 pub id_read : (streams inside : List Stream) (m n : ℕ) (x : Stream) → inside ≡ streams → m < length streams → x ≡ get_or inside m x → n ≡ x.id → n ≡ (stream_at streams m).id

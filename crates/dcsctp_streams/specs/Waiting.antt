@@ -87,10 +87,14 @@ next_numbers false stream = (stream.next_ssn, stream.next_mid)
 abbrev pub begun_anew : Stream → Stream
 begun_anew stream = record stream { next_ssn = 0; next_mid = 0; next_unordered_mid = 0; pause = Open }
 
--- after a message was begun: running numbers wrap (RFC 9260, section 3.3.1, RFC 8260, section 2.1)
-abbrev pub counted : Bool → Stream → Stream
-counted true stream = record stream { next_unordered_mid = (stream.next_unordered_mid + 1) % 2 ^ 32 }
-counted false stream = record stream { next_ssn = (stream.next_ssn + 1) % 2 ^ 16; next_mid = (stream.next_mid + 1) % 2 ^ 32 }
+-- After a message was begun: by whether messages are interleaved, and whether it is unordered. Without interleaving
+-- SSNs count, which unordered messages don't have (RFC 9260, section 3.3.1). With it MIDs count, of ordered and of
+-- unordered messages apart (RFC 8260, section 2.1). Running numbers wrap.
+abbrev pub counted : Bool → Bool → Stream → Stream
+counted false false stream = record stream { next_ssn = (stream.next_ssn + 1) % 2 ^ 16 }
+counted false true stream = stream
+counted true false stream = record stream { next_mid = (stream.next_mid + 1) % 2 ^ 32 }
+counted true true stream = record stream { next_unordered_mid = (stream.next_unordered_mid + 1) % 2 ^ 32 }
 
 -- it was reset, where it was handed out
 abbrev pub committed : Stream → Stream

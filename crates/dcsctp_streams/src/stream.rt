@@ -291,7 +291,8 @@ impl OutgoingStream {
         self.amount = self.amount.saturating_add(size);
     }
 
-    /// The numbers that an ordered or unordered message has that is begun next: SSN and MID.
+    /// The numbers that an ordered or unordered message has that is begun next: SSN and MID. One of the two
+    /// is sent, by whether messages are interleaved.
     pub fn next_numbers(&self, is_unordered: bool) -> (u16, u32)
         ensures { result ≡ next_numbers is_unordered self.now }
     {
@@ -302,15 +303,16 @@ impl OutgoingStream {
         }
     }
 
-    /// Counts a message that is begun.
-    pub fn count_begun(&mut self, is_unordered: bool)
-        ensures { self.new ≡ counted is_unordered self.old }
+    /// Counts a message that is begun: with interleaving its MID, else its SSN, which an unordered message
+    /// doesn't have (RFC 8260, section 2.1).
+    pub fn count_begun(&mut self, is_interleaved: bool, is_unordered: bool)
+        ensures { self.new ≡ counted is_interleaved is_unordered self.old }
     {
-        if is_unordered {
-            self.next_unordered_mid = self.next_unordered_mid.wrapping_add(1);
-        } else {
-            self.next_ssn = self.next_ssn.wrapping_add(1);
-            self.next_mid = self.next_mid.wrapping_add(1);
+        match (is_interleaved, is_unordered) {
+            (false, false) => self.next_ssn = self.next_ssn.wrapping_add(1),
+            (false, true) => {}
+            (true, false) => self.next_mid = self.next_mid.wrapping_add(1),
+            (true, true) => self.next_unordered_mid = self.next_unordered_mid.wrapping_add(1),
         }
     }
 }

@@ -266,12 +266,12 @@ impl Streams {
     }
 
     /// Counts a message of the stream that is begun.
-    pub fn count_begun(&mut self, place: usize, is_unordered: bool)
+    pub fn count_begun(&mut self, place: usize, is_interleaved: bool, is_unordered: bool)
         requires { place < length self.old }
-        ensures { self.new ≡ slice_set self.old place (counted is_unordered (stream_at self.old place)) }
+        ensures { self.new ≡ slice_set self.old place (counted is_interleaved is_unordered (stream_at self.old place)) }
     {
         let stream = &mut self.items[place];
-        stream.count_begun(is_unordered);
+        stream.count_begun(is_interleaved, is_unordered);
     }
 
     /// Ends every pause, and counts all messages from 0 again.

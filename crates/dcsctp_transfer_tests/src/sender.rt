@@ -92,10 +92,12 @@ fn skipped_of(alloc: Global, forward: &ForwardTsn) -> Result<Vec<SkippedTo>, All
 impl Sender {
     /// Nothing waits, and the first TSN is this.
     pub fn new(alloc: Global, options: &Options, first_tsn: u32, interleaving: bool) -> Sender {
+        let mut queue = SendQueue::new(alloc, options);
+        queue.enable_message_interleaving(interleaving);
         Sender {
             alloc,
             interleaving,
-            queue: SendQueue::new(alloc, options),
+            queue,
             sent: RetransmissionQueue::new(alloc, options, first_tsn, 200_000, true, interleaving),
             rto: RetransmissionTimeout::new(options),
             events: Events::new(alloc),

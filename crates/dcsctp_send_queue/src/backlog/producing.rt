@@ -14,7 +14,7 @@ impl Backlog {
     ghost use Rattle.dcsctp_streams.specs.Ranking.{stream_at};
     ghost use Rattle.dcsctp_streams.specs.Fragment.{fragment_of, fragment, HasSize};
     ghost use Rattle.dcsctp_send_queue.specs.Leaving.{after_part, part_events, after_last, last_events, HasMore, HasRest, DropsAll, DropsSome, NextUnexpired, size_produced, produced, produced_events};
-    ghost use Rattle.dcsctp_send_queue.specs.Backlog.{CanGoOn, begun, IsUnderWay};
+    ghost use Rattle.dcsctp_send_queue.specs.Backlog.{CanGoOn, begun, IsUnderWay, is_front_unordered, numbered_anew, numbered_for, queue_state};
     ghost use Rattle.dcsctp_send_queue.specs.Calls.{StopsTaking, StopsDiscarding, TakesNext, DiscardsNamed};
 
     /// The oldest message of the stream as it is begun, before its first fragment.
@@ -23,10 +23,7 @@ impl Backlog {
         ensures { (message : Waiting) → front_of (stream_at self.now.streams place).messages ≡ Some message → result ≡ begun message (stream_at self.now.streams place) }
     {
         let stream = self.streams.at(place);
-        let is_unordered = match stream.front() {
-            None => false,
-            Some(message) => message.is_unordered(),
-        };
+        let is_unordered = self.is_front_unordered(place);
         let (ssn, mid) = stream.next_numbers(is_unordered);
         UnderWay {
             stream_id: stream.id(),
@@ -35,6 +32,56 @@ impl Backlog {
             next_fsn: 0,
             sent: 0,
         }
+    }
+
+    // Is the oldest message of the stream unordered?
+    fn is_front_unordered(&self, place: usize) -> bool
+        requires { place < length self.now.streams }
+        ensures { result ≡ is_front_unordered (stream_at self.now.streams place).messages }
+    {
+        match self.streams.at(place).front() {
+            None => false,
+            Some(message) => message.is_unordered(),
+        }
+    }
+
+    /// Has messages interleaved from now on, or not. Where that is new, other numbers count than before, and
+    /// the message under way takes the next one of its stream: so no other message has the same.
+    pub fn interleave(&mut self, enabled: bool)
+        requires { CanGoOn self.old.streams self.old.under_way }
+        ensures whole { self.new ≡ numbered_for enabled self.old }
+        ensures can { CanGoOn self.new.streams self.new.under_way }
+        ensures shown { queue_state self.new ≡ record (queue_state self.old) { is_interleaved = enabled } }
+    {
+        match (self.is_interleaved, enabled) {
+            (false, false) | (true, true) => {}
+            (false, true) | (true, false) => self.number_anew(enabled),
+        }
+    }
+
+    // Has other numbers count from now on. The message under way takes the next one of its stream.
+    fn number_anew(&mut self, is_interleaved: bool)
+        requires { CanGoOn self.old.streams self.old.under_way }
+        ensures whole { self.new ≡ numbered_anew self.old.under_way (record self.old { is_interleaved = is_interleaved }) }
+        ensures can { CanGoOn self.new.streams self.new.under_way }
+        ensures shown { queue_state self.new ≡ record (queue_state self.old) { is_interleaved = is_interleaved } }
+    {
+        self.is_interleaved = is_interleaved;
+        let Some(under_way) = self.under_way else {
+            return;
+        };
+        let place = self.place_of(under_way);
+        let is_unordered = self.is_front_unordered(place);
+        let (ssn, mid) = self.streams.at(place).next_numbers(is_unordered);
+        self.streams
+            .count_begun(place, is_interleaved, is_unordered);
+        self.under_way = Some(UnderWay {
+            stream_id: under_way.stream_id,
+            ssn,
+            mid,
+            next_fsn: under_way.next_fsn,
+            sent: under_way.sent,
+        });
     }
 
     // Is the oldest message of the stream too old to be begun?
@@ -201,7 +248,8 @@ impl Backlog {
         self.tell_low(events, place, size)?;
         self.reduce(place, size);
         if under_way.sent == 0 {
-            self.streams.count_begun(place, is_unordered);
+            self.streams
+                .count_begun(place, self.is_interleaved, is_unordered);
         }
         self.under_way = Some(UnderWay {
             stream_id: under_way.stream_id,
@@ -235,7 +283,8 @@ impl Backlog {
         message.tell_fully_sent(events)?;
         self.reduce(place, left);
         if under_way.sent == 0 {
-            self.streams.count_begun(place, is_unordered);
+            self.streams
+                .count_begun(place, self.is_interleaved, is_unordered);
         }
         self.under_way = None;
         let message = self.streams.pop(place).unwrap();

@@ -8,6 +8,6 @@ invariant_of-self c =
     let lt : c.args.place < length c.self.inside.items.items = rw c.self.view_is c.requires in
     record {
       ranked = ranked_read_same _ _ _ c.args.place _ _ c.self.invariant.ranked lt c.index_mut-stream.ensures.value
-          (rw c.count_begun.ensures (counted-id _ _)) (rw c.count_begun.ensures (counted-turn _ _));
-      counted = counted_same _ _ c.args.place _ _ c.self.invariant.counted lt c.index_mut-stream.ensures.value (rw c.count_begun.ensures (counted-pausing _ _));
+          (rw c.count_begun.ensures (counted-id _ _ _)) (rw c.count_begun.ensures (counted-turn _ _ _));
+      counted = counted_same _ _ c.args.place _ _ c.self.invariant.counted lt c.index_mut-stream.ensures.value (rw c.count_begun.ensures (counted-pausing _ _ _));
     }
