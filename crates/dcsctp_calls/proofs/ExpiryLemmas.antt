@@ -83,6 +83,7 @@ loss_comes e (Some transfer) = (
       message_interleaving = refl;
       outstanding = refl;
       unacknowledged = refl;
+      never_acknowledged = refl;
       rwnd = omega arith;
       timeout = refl;
       tracker = refl;

@@ -117,7 +117,7 @@ held =
 abbrev pub transfer_begun : ℕ → Option Transfer
 transfer_begun cwnd =
     Some (record {
-      retransmission = record { partial_reliability = false; message_interleaving = true; next_tsn = 100; outstanding_items = 0; unacknowledged_items = 0; marked_items = 0; bytes_in_flight = 0; has_fast_retransmit = false; deadline = None; cwnd = cwnd; rwnd = 1500; packets_retransmitted = 0; bytes_retransmitted = 0 };
+      retransmission = record { partial_reliability = false; message_interleaving = true; next_tsn = 100; outstanding_items = 0; unacknowledged_items = 0; never_acknowledged_items = 0; marked_items = 0; bytes_in_flight = 0; has_fast_retransmit = false; deadline = None; cwnd = cwnd; rwnd = 1500; packets_retransmitted = 0; bytes_retransmitted = 0 };
       timeout = record { rto = 500_000_000; srtt = 500_000_000 };
       tracker = record { cumulative_tsn = 199; has_numbers_left = true; delayed_acknowledgement = None; is_acknowledgement_due = false; owes_acknowledgement = false };
       reassembly = record { messages = []; messages_received = 0; window = 5242880; remaining_bytes = 5242880 };

@@ -171,6 +171,8 @@ pub record RetransmissionState : Type 0 where
   pub outstanding_items : ℕ
   -- of these, neither acknowledged nor abandoned
   pub unacknowledged_items : ℕ
+  -- of these, those that no SACK has acknowledged, abandoned or not
+  pub never_acknowledged_items : ℕ
   -- of these, found lost: they wait to be sent again
   pub marked_items : ℕ
   -- chunk headers and padding included
@@ -194,6 +196,7 @@ new_retransmission options partial_reliability message_interleaving first_tsn wi
       next_tsn = first_tsn;
       outstanding_items = 0;
       unacknowledged_items = 0;
+      never_acknowledged_items = 0;
       marked_items = 0;
       bytes_in_flight = 0;
       has_fast_retransmit = false;

@@ -1,5 +1,5 @@
 -- Lemmas on items, their sums and their changes.
-use Rattle.std.proofs.Common.{◌≡◌, ◌≢◌, ◌⊎◌, length-append, inl, inr, ℕ, zero, suc, ◌+◌, ◌-◌, ◌*◌, ◌<◌, ◌≤◌, ◌^◌, min, max, Bool, true, false, Some, List, [], ◌∷◌, ◌++◌, length, drop, take, get_or, refl, ap, sym, ◌∙◌, arith, add-one}
+use Rattle.std.proofs.Common.{◌≡◌, ◌≢◌, ◌⊎◌, length-append, inl, inr, ℕ, zero, suc, ◌+◌, ◌-◌, ◌*◌, ◌<◌, ◌≤◌, ◌^◌, min, max, not, Bool, true, false, Some, List, [], ◌∷◌, ◌++◌, length, drop, take, get_or, refl, ap, sym, ◌∙◌, arith, add-one}
 use Rattle.std.proofs.Math.ListN.{set, length-set}
 use Rattle.std.specs.List.{sum_by, slice_get}
 use Rattle.std.proofs.lemmas.List.Sums.{sum_by-set, sum_by-cons, sum_by_push, get_or-le-sum_by}
@@ -7,12 +7,11 @@ use Rattle.std.proofs.lemmas.Option.{slice_get_within}
 use Rattle.dcsctp_wire.specs.declared.chunk.sack.GapAckBlock.{GapAckBlock}
 use Rattle.dcsctp_outstanding.specs.declared.progress.Change.TheVariants.{Acknowledge}
 use Rattle.dcsctp_outstanding.specs.declared.item.Item.{Item}
-use Rattle.dcsctp_outstanding.specs.declared.progress.ItemState.{ItemState}
 use Rattle.dcsctp_outstanding.specs.declared.progress.Change.{Change}
 use Rattle.dcsctp_outstanding.specs.declared.progress.Progress.{Progress}
 use Rattle.dcsctp_outstanding.specs.declared.totals.Totals.{Totals}
 use Rattle.dcsctp_outstanding.specs.Progress.{is_in_flight, is_marked, is_unacknowledged, changed}
-use Rattle.dcsctp_outstanding.specs.Items.{counted, size_of, in_flight_size, unacknowledged_size, unacknowledged_count, marked_count, marked_items, changed_item, changed_between, cursor_after}
+use Rattle.dcsctp_outstanding.specs.Items.{counted, size_of, in_flight_size, unacknowledged_size, unacknowledged_count, never_acknowledged_count, marked_count, marked_items, changed_item, changed_between, cursor_after}
 use Rattle.dcsctp_outstanding.specs.Totals.{total_with, total_without, HasOne, HasRoom}
 use Rattle.dcsctp_outstanding.specs.Outstanding.{OutstandingModel, IsSummed, NoneMarkedBefore, NoneMarkedBetween, IsKept, reported}
 
@@ -70,12 +69,13 @@ scanned_replaced items place cursor new scanned k item below is =
     go false e below (inr other) = scanned k item below other.1
 
 -- the sums, where one item is counted in place of another
-pub sums_replaced : (header : ℕ) (items : List Item) (totals : Totals) (place : ℕ) (item new : Item) → place < length items → item ≡ get_or items place item → size_of header item ≡ size_of header new → IsSummed header items totals → IsSummed header (set items place new) (total_with new.progress.state (size_of header new) (total_without item.progress.state (size_of header item) totals))
+pub sums_replaced : (header : ℕ) (items : List Item) (totals : Totals) (place : ℕ) (item new : Item) → place < length items → item ≡ get_or items place item → size_of header item ≡ size_of header new → IsSummed header items totals → IsSummed header (set items place new) (total_with new.progress (size_of header new) (total_without item.progress (size_of header item) totals))
 sums_replaced header items totals place item new within is same sums =
     record {
       in_flight = let e = sum_replaced (in_flight_size header) items place item new within is in let has = sum_has (in_flight_size header) items place item within is in let was = sums.in_flight in omega arith;
       bytes = let e = sum_replaced (unacknowledged_size header) items place item new within is in let has = sum_has (unacknowledged_size header) items place item within is in let was = sums.bytes in omega arith;
       count = let e = sum_replaced unacknowledged_count items place item new within is in let has = sum_has unacknowledged_count items place item within is in let was = sums.count in omega arith;
+      never = let e = sum_replaced never_acknowledged_count items place item new within is in let has = sum_has never_acknowledged_count items place item within is in let was = sums.never in omega arith;
       marked = let e = sum_replaced marked_count items place item new within is in let has = sum_has marked_count items place item within is in let was = sums.marked in omega arith;
     }
 
@@ -90,17 +90,19 @@ sums_leave_room header cursor items totals size small kept =
     let in_flight = sum_bounded (in_flight_size header) 65556 (λ (x : Item). counted_bounded (is_in_flight x.progress.state) (size_of header x) 65556 (size_bounded header kept.header_fits x)) items in
     let bytes = sum_bounded (unacknowledged_size header) 65556 (λ (x : Item). counted_bounded (is_unacknowledged x.progress.state) (size_of header x) 65556 (size_bounded header kept.header_fits x)) items in
     let count = sum_bounded unacknowledged_count 1 (λ (x : Item). counted_bounded (is_unacknowledged x.progress.state) 1 1 (omega arith)) items in
+    let never = sum_bounded never_acknowledged_count 1 (λ (x : Item). counted_bounded (not x.progress.was_acknowledged) 1 1 (omega arith)) items in
     let marked = sum_bounded marked_count 1 (λ (x : Item). counted_bounded (is_marked x.progress.state) 1 1 (omega arith)) items in
-    record { in_flight_bytes = omega arith; unacknowledged_bytes = omega arith; unacknowledged_items = omega arith; marked_items = omega arith }
+    record { in_flight_bytes = omega arith; unacknowledged_bytes = omega arith; unacknowledged_items = omega arith; never_acknowledged_items = omega arith; marked_items = omega arith }
 
 -- what is taken away leaves room
-pub room_without : (state : ItemState) (size less : ℕ) (totals : Totals) → HasRoom size totals → HasRoom size (total_without state less totals)
-room_without state size less totals room =
+pub room_without : (progress : Progress) (size less : ℕ) (totals : Totals) → HasRoom size totals → HasRoom size (total_without progress less totals)
+room_without progress size less totals room =
     let a = room.in_flight_bytes in
     let b = room.unacknowledged_bytes in
     let c = room.unacknowledged_items in
+    let n = room.never_acknowledged_items in
     let d = room.marked_items in
-    record { in_flight_bytes = omega arith; unacknowledged_bytes = omega arith; unacknowledged_items = omega arith; marked_items = omega arith }
+    record { in_flight_bytes = omega arith; unacknowledged_bytes = omega arith; unacknowledged_items = omega arith; never_acknowledged_items = omega arith; marked_items = omega arith }
 
 -- the change at one place, as the body makes it
 pub changed_is : (change : Change) (place : ℕ) (items : List Item) (item : Item) (progress : Progress) → place < length items → item ≡ get_or items place item → progress ≡ changed change item.progress → set items place (record item { progress = progress }) ≡ changed_between change place (place + 1) items
@@ -108,7 +110,7 @@ changed_is change place items item progress within is e =
     rw (add-one, e) (sym (changed_one change place items item within is))
 
 -- what is kept of the items, with one replaced
-pub kept_replaced : (header cursor : ℕ) (items : List Item) (totals : Totals) (place : ℕ) (item new : Item) (size : ℕ) (less more : Totals) (is_now_marked : Bool) (cursor' : ℕ) → IsKept header cursor items totals → place < length items → item ≡ get_or items place item → size ≡ size_of header item → size_of header item ≡ size_of header new → less ≡ total_without item.progress.state size totals → more ≡ total_with new.progress.state size less → is_now_marked ≡ is_marked new.progress.state → cursor' ≡ cursor_after is_now_marked place cursor → IsKept header cursor' (set items place new) more
+pub kept_replaced : (header cursor : ℕ) (items : List Item) (totals : Totals) (place : ℕ) (item new : Item) (size : ℕ) (less more : Totals) (is_now_marked : Bool) (cursor' : ℕ) → IsKept header cursor items totals → place < length items → item ≡ get_or items place item → size ≡ size_of header item → size_of header item ≡ size_of header new → less ≡ total_without item.progress size totals → more ≡ total_with new.progress size less → is_now_marked ≡ is_marked new.progress.state → cursor' ≡ cursor_after is_now_marked place cursor → IsKept header cursor' (set items place new) more
 kept_replaced header cursor items totals place item new size less more is_now_marked cursor' kept within is sized same is_less is_more marks moves =
     record {
       header_fits = kept.header_fits;
@@ -163,7 +165,7 @@ slice_get_pushed (y ∷ ys) zero new x h = inr h
 slice_get_pushed (y ∷ ys) (suc k) new x h = slice_get_pushed ys k new x h
 
 -- what is kept of the items, with one more
-pub kept_pushed : (header cursor : ℕ) (items : List Item) (totals : Totals) (new : Item) (size : ℕ) (more : Totals) → IsKept header cursor items totals → length items + 1 < 2 ^ 31 → size ≡ size_of header new → more ≡ total_with new.progress.state size totals → is_marked new.progress.state ≡ false → IsKept header cursor (items ++ new ∷ []) more
+pub kept_pushed : (header cursor : ℕ) (items : List Item) (totals : Totals) (new : Item) (size : ℕ) (more : Totals) → IsKept header cursor items totals → length items + 1 < 2 ^ 31 → size ≡ size_of header new → more ≡ total_with new.progress size totals → is_marked new.progress.state ≡ false → IsKept header cursor (items ++ new ∷ []) more
 kept_pushed header cursor items totals new size more kept room sized is_more unmarked =
     record {
       header_fits = kept.header_fits;
@@ -172,13 +174,14 @@ kept_pushed header cursor items totals new size more kept room sized is_more unm
         in_flight = let e = sum_by_push (in_flight_size header) items new in let was = kept.sums.in_flight in omega arith;
         bytes = let e = sum_by_push (unacknowledged_size header) items new in let was = kept.sums.bytes in omega arith;
         count = let e = sum_by_push unacknowledged_count items new in let was = kept.sums.count in omega arith;
+        never = let e = sum_by_push never_acknowledged_count items new in let was = kept.sums.never in omega arith;
         marked = let e = sum_by_push marked_count items new in let was = kept.sums.marked in omega arith;
       });
       scanned = λ k item below is. elim (slice_get_pushed items k new item is) [ inl same ↦ ap (λ (x : Item). is_marked x.progress.state) same ∙ unmarked | inr here ↦ kept.scanned k item below here ];
     }
 
 -- what is kept of the items, without the first
-pub kept_removed : (header cursor : ℕ) (item : Item) (items : List Item) (totals : Totals) (size : ℕ) (less : Totals) → IsKept header cursor (item ∷ items) totals → size ≡ size_of header item → less ≡ total_without item.progress.state size totals → IsKept header (cursor - 1) items less
+pub kept_removed : (header cursor : ℕ) (item : Item) (items : List Item) (totals : Totals) (size : ℕ) (less : Totals) → IsKept header cursor (item ∷ items) totals → size ≡ size_of header item → less ≡ total_without item.progress size totals → IsKept header (cursor - 1) items less
 kept_removed header cursor item items totals size less kept sized is_less =
     record {
       header_fits = kept.header_fits;
@@ -187,19 +190,21 @@ kept_removed header cursor item items totals size less kept sized is_less =
         in_flight = let e = sum_by-cons (in_flight_size header) item items in let was = kept.sums.in_flight in omega arith;
         bytes = let e = sum_by-cons (unacknowledged_size header) item items in let was = kept.sums.bytes in omega arith;
         count = let e = sum_by-cons unacknowledged_count item items in let was = kept.sums.count in omega arith;
+        never = let e = sum_by-cons never_acknowledged_count item items in let was = kept.sums.never in omega arith;
         marked = let e = sum_by-cons marked_count item items in let was = kept.sums.marked in omega arith;
       });
       scanned = λ k x below is. kept.scanned (suc k) x (omega arith) is;
     }
 
 -- the first of some items
-pub has_first : (header cursor : ℕ) (item : Item) (items : List Item) (totals : Totals) → IsKept header cursor (item ∷ items) totals → HasOne item.progress.state (size_of header item) totals
+pub has_first : (header cursor : ℕ) (item : Item) (items : List Item) (totals : Totals) → IsKept header cursor (item ∷ items) totals → HasOne item.progress (size_of header item) totals
 has_first header cursor item items totals kept =
     let sums = kept.sums in
     record {
       in_flight_bytes = let e = sum_by-cons (in_flight_size header) item items in let was = sums.in_flight in omega arith;
       unacknowledged_bytes = let e = sum_by-cons (unacknowledged_size header) item items in let was = sums.bytes in omega arith;
       unacknowledged_items = let e = sum_by-cons unacknowledged_count item items in let was = sums.count in omega arith;
+      never_acknowledged_items = let e = sum_by-cons never_acknowledged_count item items in let was = sums.never in omega arith;
       marked_items = let e = sum_by-cons marked_count item items in let was = sums.marked in omega arith;
     }
 

@@ -1,5 +1,5 @@
 -- Items that were sent, and sums over them.
-use Rattle.std.specs.Prelude.{false, ℕ, zero, suc, ◌+◌, ◌*◌, ◌/◌, min, Bool, List, [], ◌∷◌, sum_by, vec_len, if◌then◌else◌}
+use Rattle.std.specs.Prelude.{false, not, ℕ, zero, suc, ◌+◌, ◌*◌, ◌/◌, min, Bool, List, [], ◌∷◌, sum_by, vec_len, if◌then◌else◌}
 use Rattle.dcsctp_outstanding.specs.declared.item.Item.{Item}
 use Rattle.dcsctp_outstanding.specs.declared.progress.Change.{Change}
 use Rattle.dcsctp_outstanding.specs.Progress.{is_in_flight, is_marked, is_unacknowledged, is_abandoned, changed}
@@ -27,6 +27,9 @@ unacknowledged_size header item = counted (is_unacknowledged item.progress.state
 abbrev pub unacknowledged_count : Item → ℕ
 unacknowledged_count item = counted (is_unacknowledged item.progress.state) 1
 
+abbrev pub never_acknowledged_count : Item → ℕ
+never_acknowledged_count item = counted (not item.progress.was_acknowledged) 1
+
 abbrev pub marked_count : Item → ℕ
 marked_count item = counted (is_marked item.progress.state) 1
 
@@ -41,6 +44,10 @@ unacknowledged_bytes header items = sum_by (unacknowledged_size header) items
 -- how many items are neither acknowledged nor abandoned
 abbrev pub unacknowledged_items : List Item → ℕ
 unacknowledged_items items = sum_by unacknowledged_count items
+
+-- how many items no SACK has acknowledged, abandoned or not
+abbrev pub never_acknowledged_items : List Item → ℕ
+never_acknowledged_items items = sum_by never_acknowledged_count items
 
 -- how many items wait to be sent again
 abbrev pub marked_items : List Item → ℕ

@@ -8,7 +8,7 @@ use Rattle.dcsctp_outstanding.specs.declared.progress.ItemState.TheVariants.{InF
 use Rattle.dcsctp_outstanding.specs.declared.progress.Progress.{Progress}
 use Rattle.dcsctp_outstanding.specs.declared.totals.Totals.{Totals}
 use Rattle.dcsctp_outstanding.specs.Progress.{is_marked}
-use Rattle.dcsctp_outstanding.specs.Items.{bytes_in_flight, unacknowledged_bytes, unacknowledged_items, marked_items, changed_between}
+use Rattle.dcsctp_outstanding.specs.Items.{bytes_in_flight, unacknowledged_bytes, unacknowledged_items, never_acknowledged_items, marked_items, changed_between}
 
 pub record OutstandingModel : Type 0 where
   -- the TSN of the first item; the one before is the last that was acknowledged cumulatively
@@ -53,6 +53,7 @@ pub record IsSummed (header : ℕ) (items : List Item) (totals : Totals) : Type 
   pub in_flight : totals.in_flight_bytes ≡ bytes_in_flight header items
   pub bytes : totals.unacknowledged_bytes ≡ unacknowledged_bytes header items
   pub count : totals.unacknowledged_items ≡ unacknowledged_items items
+  pub never : totals.never_acknowledged_items ≡ never_acknowledged_items items
   pub marked : totals.marked_items ≡ marked_items items
 
 -- no item before this place waits to be sent again
@@ -79,7 +80,7 @@ pub record IsKept (header cursor : ℕ) (items : List Item) (totals : Totals) : 
 
 -- that of an item that was just sent
 abbrev pub just_sent : Progress
-just_sent = record { state = InFlight; times_sent_again = 0; misses = 0 }
+just_sent = record { state = InFlight; was_acknowledged = false; times_sent_again = 0; misses = 0 }
 
 -- An item that is sent for the first time: its payload isn't empty, and not above `max` bytes.
 pub record IsSentFirst (now max : ℕ) (item : Item) : Type 0 where

@@ -35,7 +35,7 @@ is_abandoned Abandoned = true
 -- in flight, once more
 abbrev pub sent_again : Progress → Progress
 sent_again progress =
-    record {
+    record progress {
       state = InFlight;
       times_sent_again = min (progress.times_sent_again + 1) 65535;
       misses = if nat_lt progress.misses 3 then 0 else progress.misses;
@@ -58,12 +58,12 @@ marked Marked progress = progress
 marked Acknowledged progress = progress
 marked Abandoned progress = progress
 
--- what was abandoned stays so
+-- A SACK has acknowledged it. What was abandoned stays so.
 abbrev pub acknowledged : ItemState → Progress → Progress
-acknowledged InFlight progress = record progress { state = Acknowledged }
-acknowledged Marked progress = record progress { state = Acknowledged }
-acknowledged Acknowledged progress = progress
-acknowledged Abandoned progress = progress
+acknowledged InFlight progress = record progress { state = Acknowledged; was_acknowledged = true }
+acknowledged Marked progress = record progress { state = Acknowledged; was_acknowledged = true }
+acknowledged Acknowledged progress = record progress { was_acknowledged = true }
+acknowledged Abandoned progress = record progress { was_acknowledged = true }
 
 abbrev pub changed : Change → Progress → Progress
 changed SendAgain progress = sent_again progress

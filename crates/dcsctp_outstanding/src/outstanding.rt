@@ -53,7 +53,7 @@ impl Model for Outstanding {
 
 impl Outstanding {
     ghost use Rattle.std.specs.Prelude.{◌<◌, ◌-◌, ◌%◌, ◌^◌, ◌↔◌, [], IsTrue, IfSome, IfNone, IfOk, Some, None, length, drop, slice_get};
-    ghost use Rattle.dcsctp_outstanding.specs.Items.{size_of, bytes_in_flight, unacknowledged_bytes, unacknowledged_items, marked_items, changed_between};
+    ghost use Rattle.dcsctp_outstanding.specs.Items.{size_of, bytes_in_flight, unacknowledged_bytes, unacknowledged_items, never_acknowledged_items, marked_items, changed_between};
     ghost use Rattle.dcsctp_outstanding.specs.Progress.{is_marked};
     ghost use Rattle.dcsctp_outstanding.specs.Next.{IsNextMarked, HasNone};
     ghost use Rattle.dcsctp_outstanding.specs.Outstanding.{next_tsn, tsn_at, distance_to, FindsPlaces, TriesNext, IsMarkedAt, NoneMarkedBetween};
@@ -94,6 +94,13 @@ impl Outstanding {
         ensures { result ≡ unacknowledged_items self.now.items }
     {
         self.totals.unacknowledged_items
+    }
+
+    /// How many items no SACK has acknowledged, abandoned or not.
+    pub fn never_acknowledged_items(&self) -> usize
+        ensures { result ≡ never_acknowledged_items self.now.items }
+    {
+        self.totals.never_acknowledged_items
     }
 
     /// How many items wait to be sent again.
@@ -174,8 +181,8 @@ impl Outstanding {
         let before = item.progress;
         let after = before.changed(change);
         item.progress = after;
-        self.totals.remove(before.state, size);
-        self.totals.add(after.state, size);
+        self.totals.remove(before, size);
+        self.totals.add(after, size);
         self.cursor = cursor_after(after.state.is_marked(), place, self.cursor);
     }
 
@@ -250,7 +257,7 @@ impl Outstanding {
     {
         if let Some(item) = self.items.pop_front() {
             let size = item.size(self.header);
-            self.totals.remove(item.progress.state, size);
+            self.totals.remove(item.progress, size);
             self.first_tsn = self.first_tsn.wrapping_add(1);
             self.cursor = self.cursor.saturating_sub(1);
         }
@@ -291,7 +298,7 @@ impl Outstanding {
                     begins_after_reset,
                 };
                 let size = item.size(self.header);
-                self.totals.add(item.progress.state, size);
+                self.totals.add(item.progress, size);
                 self.items.push_back_reserved(item);
                 Ok(Some(tsn))
             }

@@ -1,6 +1,6 @@
 //! How far an item is, and what changes that.
 
-ghost use Rattle.std.specs.Prelude.{◌≡◌};
+ghost use Rattle.std.specs.Prelude.{◌≡◌, false};
 ghost use Rattle.dcsctp_outstanding.specs.declared.progress.ItemState.TheVariants.{InFlight};
 ghost use Rattle.dcsctp_outstanding.specs.Progress.{is_in_flight, is_marked, is_unacknowledged, is_abandoned, sent_again, missed, marked, acknowledged, changed};
 
@@ -25,6 +25,9 @@ pub enum ItemState {
 pub struct Progress {
     /// How far it is.
     pub state: ItemState,
+
+    /// Has a SACK acknowledged it, before its message was given up or since?
+    pub was_acknowledged: bool,
 
     /// How often it was sent again.
     pub times_sent_again: u16,
@@ -100,12 +103,14 @@ impl Progress {
     pub fn new() -> Progress
         ensures { result ≡ record {
           state = InFlight;
+          was_acknowledged = false;
           times_sent_again = 0;
           misses = 0;
         } }
     {
         Progress {
             state: ItemState::InFlight,
+            was_acknowledged: false,
             times_sent_again: 0,
             misses: 0,
         }
@@ -117,6 +122,7 @@ impl Progress {
     {
         Progress {
             state: ItemState::InFlight,
+            was_acknowledged: self.was_acknowledged,
             times_sent_again: self.times_sent_again.saturating_add(1),
             misses: if self.misses < 3 { 0 } else { self.misses },
         }
@@ -131,12 +137,14 @@ impl Progress {
                 if self.misses == 2 {
                     Progress {
                         state: ItemState::Marked,
+                        was_acknowledged: self.was_acknowledged,
                         times_sent_again: self.times_sent_again,
                         misses: 3,
                     }
                 } else if self.misses < 2 {
                     Progress {
                         state: self.state,
+                        was_acknowledged: self.was_acknowledged,
                         times_sent_again: self.times_sent_again,
                         misses: self.misses + 1,
                     }
@@ -154,6 +162,7 @@ impl Progress {
     {
         Progress {
             state,
+            was_acknowledged: self.was_acknowledged,
             times_sent_again: self.times_sent_again,
             misses: self.misses,
         }
@@ -169,13 +178,19 @@ impl Progress {
         }
     }
 
-    // Acknowledged, where it wasn't abandoned.
+    // Acknowledged by a SACK. What was abandoned stays so.
     fn acknowledged(self) -> Progress
         ensures { result ≡ acknowledged self.state self }
     {
-        match self.state {
-            ItemState::InFlight | ItemState::Marked => self.in_state(ItemState::Acknowledged),
-            ItemState::Acknowledged | ItemState::Abandoned => self,
+        let state = match self.state {
+            ItemState::InFlight | ItemState::Marked => ItemState::Acknowledged,
+            ItemState::Acknowledged | ItemState::Abandoned => self.state,
+        };
+        Progress {
+            state,
+            was_acknowledged: true,
+            times_sent_again: self.times_sent_again,
+            misses: self.misses,
         }
     }
 

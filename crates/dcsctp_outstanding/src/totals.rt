@@ -3,7 +3,7 @@
 ghost use Rattle.std.specs.Prelude.{◌≡◌};
 ghost use Rattle.dcsctp_outstanding.specs.Items.{counted};
 
-use crate::progress::ItemState;
+use crate::progress::Progress;
 
 /// The sums.
 #[derive(Clone, Copy, Debug)]
@@ -16,6 +16,9 @@ pub struct Totals {
 
     /// How many items are neither acknowledged nor abandoned.
     pub unacknowledged_items: usize,
+
+    /// How many items no SACK has acknowledged, abandoned or not.
+    pub never_acknowledged_items: usize,
 
     /// How many items wait to be sent again.
     pub marked_items: usize,
@@ -38,29 +41,34 @@ impl Totals {
             in_flight_bytes: 0,
             unacknowledged_bytes: 0,
             unacknowledged_items: 0,
+            never_acknowledged_items: 0,
             marked_items: 0,
         }
     }
 
-    /// Counts an item in this state and of this size.
-    pub fn add(&mut self, state: ItemState, size: usize)
+    /// Counts an item that is so far, of this size.
+    pub fn add(&mut self, progress: Progress, size: usize)
         requires { HasRoom size self.old }
-        ensures { self.new ≡ total_with state size self.old }
+        ensures { self.new ≡ total_with progress size self.old }
     {
+        let state = progress.state;
         self.in_flight_bytes += counted(state.is_in_flight(), size);
         self.unacknowledged_bytes += counted(state.is_unacknowledged(), size);
         self.unacknowledged_items += counted(state.is_unacknowledged(), 1);
+        self.never_acknowledged_items += counted(!progress.was_acknowledged, 1);
         self.marked_items += counted(state.is_marked(), 1);
     }
 
     /// Counts such an item no more.
-    pub fn remove(&mut self, state: ItemState, size: usize)
-        requires { HasOne state size self.old }
-        ensures { self.new ≡ total_without state size self.old }
+    pub fn remove(&mut self, progress: Progress, size: usize)
+        requires { HasOne progress size self.old }
+        ensures { self.new ≡ total_without progress size self.old }
     {
+        let state = progress.state;
         self.in_flight_bytes -= counted(state.is_in_flight(), size);
         self.unacknowledged_bytes -= counted(state.is_unacknowledged(), size);
         self.unacknowledged_items -= counted(state.is_unacknowledged(), 1);
+        self.never_acknowledged_items -= counted(!progress.was_acknowledged, 1);
         self.marked_items -= counted(state.is_marked(), 1);
     }
 }

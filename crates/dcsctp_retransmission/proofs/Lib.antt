@@ -1,3 +1,4 @@
+pub mod AnswerLemmas
 pub mod FreshLemmas
 pub mod GivingUpLemmas
 pub mod HaltingLemmas

@@ -1,3 +1,4 @@
+pub mod Answers
 pub mod Congestion
 pub mod Forwarding
 pub mod GivingUp

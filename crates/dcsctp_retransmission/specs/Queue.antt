@@ -19,9 +19,10 @@ use Rattle.dcsctp_retransmission.specs.Telling.{delivered}
 use Rattle.dcsctp_outstanding.specs.declared.item.Item.{Item}
 use Rattle.dcsctp_outstanding.specs.declared.progress.Change.TheVariants.{Mark, Miss, Acknowledge, Abandon}
 use Rattle.dcsctp_retransmission.specs.Congestion.{new_congestion, after_timeout, after_loss, after_acknowledgement, exit_after}
-use Rattle.dcsctp_outstanding.specs.Items.{bytes_in_flight, unacknowledged_bytes, unacknowledged_items, marked_items, changed_between}
+use Rattle.dcsctp_outstanding.specs.Items.{bytes_in_flight, unacknowledged_bytes, unacknowledged_items, never_acknowledged_items, marked_items, changed_between}
 use Rattle.dcsctp_outstanding.specs.Missing.{MissesUntil}
 use Rattle.dcsctp_retransmission.specs.RoundTrip.{MeasuresRoundTrip}
+use Rattle.dcsctp_retransmission.specs.Answers.{SaysAnswer}
 use Rattle.dcsctp_outstanding.specs.Outstanding.{OutstandingModel, MayAddEnd, next_tsn, acknowledged_by, reported}
 
 pub record QueueModel : Type 0 where
@@ -54,6 +55,7 @@ retransmission_state queue =
       next_tsn = next_tsn queue.outstanding;
       outstanding_items = length queue.outstanding.items;
       unacknowledged_items = unacknowledged_items queue.outstanding.items;
+      never_acknowledged_items = never_acknowledged_items queue.outstanding.items;
       marked_items = marked_items queue.outstanding.items;
       bytes_in_flight = bytes_in_flight queue.outstanding.header queue.outstanding.items;
       has_fast_retransmit = queue.fast_retransmit_due && nat_lt 0 (marked_items queue.outstanding.items);
@@ -203,6 +205,10 @@ pub record TakesSack (now cumulative window : ℕ) (blocks : List GapAckBlock) (
   pub is : let count = acknowledged_by old.outstanding cumulative in
       new ≡ settled_at now window count (acknowledged_until count blocks limit (exiting cumulative old))
 
+-- Are fewer items left that no SACK has acknowledged?
+abbrev pub has_acknowledged : QueueModel → QueueModel → Bool
+has_acknowledged old new = nat_lt (never_acknowledged_items new.outstanding.items) (never_acknowledged_items old.outstanding.items)
+
 -- What a SACK does to the queue and the events, by its result.
 abbrev pub HandlesSack : ℕ → ℕ → ℕ → List GapAckBlock → QueueModel → List SocketEvent → QueueModel → List SocketEvent → Result HandleSackResult AllocError → Type 0
 HandlesSack now cumulative window blocks old told new telling (Ok Invalid) =
@@ -212,7 +218,8 @@ HandlesSack now cumulative window blocks old told new telling (Ok (Valid rtt res
     × TakesSack now cumulative window blocks old new
     × (telling ≡ told ++ delivered (take (acknowledged_by old.outstanding cumulative) old.outstanding.items))
     × MeasuresRoundTrip now (acknowledged_by old.outstanding cumulative) blocks old.outstanding.items (option_map as_nanos rtt)
-    × (reset_error_counter ≡ nat_lt (unacknowledged_items new.outstanding.items) (unacknowledged_items old.outstanding.items))
+    × (reset_error_counter ≡ has_acknowledged old new)
+    × SaysAnswer reset_error_counter (acknowledged_by old.outstanding cumulative) blocks old.outstanding.items
 HandlesSack now cumulative window blocks old told new telling (Err error) =
     (acknowledged_by old.outstanding cumulative ≤ length old.outstanding.items)
     × (new ≡ old)

@@ -14,7 +14,7 @@ pub enum HandleSackResult {
         /// such item, or it was sent again or waits for that (RFC 9260, section 6.3.1, rule C5).
         rtt: Option<Duration>,
 
-        /// Was an item acknowledged that wasn't before (RFC 9260, section 8.1)?
+        /// Was an item acknowledged that no SACK had acknowledged before, given up or not (RFC 9260, section 8.1)?
         reset_error_counter: bool,
     },
 }

@@ -116,6 +116,51 @@ sack 13 100000 valid 1
 forward due 1
 skip ForwardTsn { new_cumulative_tsn: 14, skipped: Streams([SkippedStream { stream_id: 5, ssn: 0 }]) }
 
+# what was given up is acknowledged once, by the cumulative TSN or by a block
+begin 10 8000 1 0
+times 0
+add 3 100
+times 0
+add 3 100
+times 0
+add 3 100
+send 1000 [10, 11, 12]
+now 1000
+time-out is-over 1
+forward due 1
+now 1010
+sack-block 2 2 9 100000 valid 1
+state is-new 1
+sack-block 2 2 9 100000 valid 1
+state is-new 0
+sack 10 100000 valid 1
+state is-new 1
+sack 10 100000 valid 1
+state is-new 0
+sack 11 100000 valid 1
+state is-new 0
+sack 12 100000 valid 1
+state is-new 1
+sack 12 100000 valid 1
+state is-new 0
+
+# what a block reported before it was given up is acknowledged already
+begin 10 8000 1 0
+times 0
+add 3 1500
+send 1000 [10]
+send 1000 [11]
+sack-block 2 2 9 100000 valid 1
+state is-new 1
+now 1000
+time-out is-over 1
+forward due 1
+skip ForwardTsn { new_cumulative_tsn: 11, skipped: Streams([SkippedStream { stream_id: 3, ssn: 0 }]) }
+sack 10 100000 valid 1
+state is-new 1
+sack 11 100000 valid 1
+state is-new 0
+
 # no forward tsn reaches across a reset
 begin 10 8000 1 0
 times 0

@@ -3,7 +3,7 @@
 //!
 //! The first TSN of tag 7 is 100. Packets go without a checksum, so that a whole one can be written down.
 
-use crate::script::run_parts;
+use crate::script::{run, run_parts};
 
 // Both interleave or neither does, and no round trip makes the timeout shorter than it is at first. Messages that may
 // not be sent again are lost.
@@ -197,4 +197,46 @@ static I_FORWARD_TSNS: &[&str] = &[
 #[test]
 fn an_i_forward_tsn_lets_a_later_message_through(rt: HostRuntime) {
     run_parts(&rt, rt.alloc(), I_FORWARD_TSNS);
+}
+
+// Eleven messages are lost and given up, one behind the other, each at a timeout, and A is told each time that the peer has
+// let it go: TSN 100 to 110, in a SACK of 16 bytes. Eleven errors without an answer between them end an association
+// (RFC 9260, section 8.1).
+const LETS_GO: &str = "
+    sending max_retransmissions 0
+    A sets threshold 1 5000
+    A opens
+    each 4..10 A send 1 1 = Ok(()); A sends any of 32; A waits #000; A sends any of 24; \
+        A takes 13881388 00000007 00000000 03000010 0000006# 00100000 00000000
+    A send 1 1 = Ok(())
+    A sends any of 32
+    A waits 10000
+    A sends any of 24
+    A takes 13881388 00000007 00000000 03000010 0000006a 00100000 00000000
+    A send 1 1 = Ok(())
+    A sends any of 32
+    A waits 11000
+    A sends any of 24
+    A takes 13881388 00000007 00000000 03000010 0000006b 00100000 00000000
+    A send 1 1 = Ok(())
+    A sends any of 32
+    A waits 12000
+    A sends any of 24
+    A takes 13881388 00000007 00000000 03000010 0000006c 00100000 00000000
+    A send 1 1 = Ok(())
+    A sends any of 32
+    A waits 13000
+    A sends any of 24
+    A takes 13881388 00000007 00000000 03000010 0000006d 00100000 00000000
+    A send 1 1 = Ok(())
+    A sends any of 32
+    A waits 14000
+    A sends any of 24
+    A takes 13881388 00000007 00000000 03000010 0000006e 00100000 00000000
+    A state = Connected
+";
+
+#[test]
+fn a_peer_that_lets_messages_go_is_there(rt: HostRuntime) {
+    run(&rt, rt.alloc(), LETS_GO);
 }

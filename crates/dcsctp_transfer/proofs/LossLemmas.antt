@@ -1,5 +1,6 @@
 -- What is in flight is lost, as the values that are shown tell it.
-use Rattle.std.proofs.Common.{◌≡◌, ◌∙◌, ℕ, zero, suc, ◌+◌, ◌%◌, ◌^◌, ◌≤◌, Bool, true, false, if◌then◌else◌, List, [], ◌∷◌, length, refl, ap, arith}
+use Rattle.std.proofs.Common.{◌≡◌, ◌∙◌, ℕ, zero, suc, ◌+◌, ◌%◌, ◌^◌, ◌≤◌, not, Bool, true, false, if◌then◌else◌, List, [], ◌∷◌, length, refl, ap, arith}
+use Rattle.std.specs.List.{sum_by}
 use Rattle.std.proofs.lemmas.List.Sums.{sum_by-cons}
 use Rattle.dcsctp_machine.specs.Transfer.{RetransmissionState, Transfer}
 use Rattle.dcsctp_machine.specs.turns.TransferMoves.{LosesAll}
@@ -9,7 +10,7 @@ use Rattle.dcsctp_outstanding.specs.declared.progress.ItemState.TheVariants.{InF
 use Rattle.dcsctp_outstanding.specs.declared.progress.Progress.{Progress}
 use Rattle.dcsctp_outstanding.specs.declared.progress.Change.TheVariants.{Mark}
 use Rattle.dcsctp_outstanding.specs.Progress.{is_unacknowledged, is_in_flight, marked}
-use Rattle.dcsctp_outstanding.specs.Items.{counted, size_of, in_flight_size, bytes_in_flight, unacknowledged_count, unacknowledged_items, changed_item, changed_between}
+use Rattle.dcsctp_outstanding.specs.Items.{counted, size_of, in_flight_size, bytes_in_flight, unacknowledged_count, never_acknowledged_count, changed_item, changed_between}
 use Rattle.dcsctp_outstanding.proofs.ItemsLemmas.{length-changed_between}
 use Rattle.dcsctp_retransmission.specs.Queue.{QueueModel, retransmission_state, queue_after_expiry}
 use Rattle.dcsctp_transfer.specs.Sacks.{LosesWhere}
@@ -27,14 +28,20 @@ mark_lessens size progress Marked = omega arith
 mark_lessens size progress Acknowledged = omega arith
 mark_lessens size progress Abandoned = omega arith
 
-all_kept : (end : ℕ) (items : List Item) → unacknowledged_items (changed_between Mark 0 end items) ≡ unacknowledged_items items
-all_kept zero items = refl
-all_kept (suc end) [] = refl
-all_kept (suc end) (x ∷ xs) =
-    let later = all_kept end xs in
-    let here : unacknowledged_count (changed_item Mark x) ≡ unacknowledged_count x = mark_keeps x.progress x.progress.state in
-    let old = sum_by-cons unacknowledged_count x xs in
-    let new = sum_by-cons unacknowledged_count (changed_item Mark x) (changed_between Mark 0 end xs) in
+mark_stays : (progress : Progress) (state : ItemState) → (marked state (record progress { state = state })).was_acknowledged ≡ progress.was_acknowledged
+mark_stays progress InFlight = refl
+mark_stays progress Marked = refl
+mark_stays progress Acknowledged = refl
+mark_stays progress Abandoned = refl
+
+all_kept : (f : Item → ℕ) → ((item : Item) → f (changed_item Mark item) ≡ f item) → (end : ℕ) (items : List Item) → sum_by f (changed_between Mark 0 end items) ≡ sum_by f items
+all_kept f kept zero items = refl
+all_kept f kept (suc end) [] = refl
+all_kept f kept (suc end) (x ∷ xs) =
+    let later = all_kept f kept end xs in
+    let here = kept x in
+    let old = sum_by-cons f x xs in
+    let new = sum_by-cons f (changed_item Mark x) (changed_between Mark 0 end xs) in
     omega (arith, later, here, old, new)
 
 all_lessened : (header end : ℕ) (items : List Item) → bytes_in_flight header (changed_between Mark 0 end items) ≤ bytes_in_flight header items
@@ -54,12 +61,15 @@ loses_all now old new queue old_is new_is =
     let state : new.retransmission ≡ retransmission_state (queue_after_expiry now queue) = ap (λ (t : Transfer). t.retransmission) new_is in
     let len : length (changed_between Mark 0 (length items) items) ≡ length items = length-changed_between Mark 0 (length items) items in
     let flying = all_lessened queue.outstanding.header (length items) items in
+    let unacknowledged = all_kept unacknowledged_count (λ x. mark_keeps x.progress x.progress.state) (length items) items in
+    let never = all_kept never_acknowledged_count (λ x. ap (λ (b : Bool). counted (not b) 1) (mark_stays x.progress x.progress.state)) (length items) items in
     record {
       next_tsn = ap (λ (r : RetransmissionState). r.next_tsn) state ∙ (ap (λ (n : ℕ). (queue.outstanding.first_tsn + n) % 2 ^ 32) len ∙ ap (λ (r : RetransmissionState). r.next_tsn) old_is);
       partial_reliability = ap (λ (r : RetransmissionState). r.partial_reliability) state ∙ ap (λ (r : RetransmissionState). r.partial_reliability) old_is;
       message_interleaving = ap (λ (r : RetransmissionState). r.message_interleaving) state ∙ ap (λ (r : RetransmissionState). r.message_interleaving) old_is;
       outstanding = ap (λ (r : RetransmissionState). r.outstanding_items) state ∙ (len ∙ ap (λ (r : RetransmissionState). r.outstanding_items) old_is);
-      unacknowledged = ap (λ (r : RetransmissionState). r.unacknowledged_items) state ∙ (all_kept (length items) items ∙ ap (λ (r : RetransmissionState). r.unacknowledged_items) old_is);
+      unacknowledged = ap (λ (r : RetransmissionState). r.unacknowledged_items) state ∙ (unacknowledged ∙ ap (λ (r : RetransmissionState). r.unacknowledged_items) old_is);
+      never_acknowledged = ap (λ (r : RetransmissionState). r.never_acknowledged_items) state ∙ (never ∙ ap (λ (r : RetransmissionState). r.never_acknowledged_items) old_is);
       rwnd = omega (arith, ap (λ (r : RetransmissionState). r.rwnd) state, ap (λ (r : RetransmissionState). r.rwnd) old_is, flying);
       timeout = ap (λ (t : Transfer). t.timeout) new_is;
       tracker = ap (λ (t : Transfer). t.tracker) new_is;

@@ -1,9 +1,9 @@
 -- A SACK that is taken into account, as the values that are shown tell it.
-use Rattle.std.proofs.Common.{◌≡◌, ◌∙◌, ℕ, zero, suc, ◌+◌, ◌-◌, ◌%◌, ◌^◌, ◌≤◌, ◌<◌, nat_le, nat_lt, Bool, true, false, if◌then◌else◌, Option, None, Some, List, [], ◌∷◌, ◌++◌, length, drop, refl, ap, sym, arith}
+use Rattle.std.proofs.Common.{◌≡◌, ◌∙◌, ℕ, ◌+◌, ◌-◌, ◌%◌, ◌^◌, ◌≤◌, ◌<◌, nat_le, nat_lt, Bool, true, false, if◌then◌else◌, Option, None, Some, List, [], ◌∷◌, ◌++◌, length, drop, refl, ap, sym, arith}
 use Rattle.std.proofs.lemmas.Bool.Decides.{nat_tests}
 use Rattle.dcsctp_machine.specs.turns.DataOutcomes.{is_sack_valid}
+use Rattle.std.specs.List.{sum_by}
 use Rattle.std.proofs.lemmas.List.{map-append, length-drop}
-use Rattle.std.proofs.lemmas.List.Sums.{sum_by-cons}
 use Rattle.dcsctp_wire.specs.declared.chunk.sack.GapAckBlock.{GapAckBlock}
 use Rattle.dcsctp_machine.specs.Event.{Event}
 use Rattle.dcsctp_machine.specs.Transfer.{RetransmissionState, Transfer}
@@ -16,12 +16,12 @@ use Rattle.dcsctp_outstanding.specs.declared.item.Item.{Item}
 use Rattle.dcsctp_outstanding.specs.declared.progress.ItemState.{ItemState}
 use Rattle.dcsctp_outstanding.specs.declared.progress.ItemState.TheVariants.{InFlight, Marked, Acknowledged, Abandoned}
 use Rattle.dcsctp_outstanding.specs.declared.progress.Progress.{Progress}
-use Rattle.dcsctp_outstanding.specs.declared.progress.Change.{Change}
 use Rattle.dcsctp_outstanding.specs.declared.progress.Change.TheVariants.{Miss, Acknowledge}
 use Rattle.dcsctp_outstanding.specs.Progress.{is_unacknowledged, missed, acknowledged}
-use Rattle.dcsctp_outstanding.specs.Items.{counted, unacknowledged_count, unacknowledged_items, marked_items, changed_item, changed_between}
-use Rattle.dcsctp_outstanding.specs.Outstanding.{OutstandingModel, reported, next_tsn, acknowledged_by}
+use Rattle.dcsctp_outstanding.specs.Items.{counted, unacknowledged_count, unacknowledged_items, never_acknowledged_count, never_acknowledged_items, marked_items, changed_item, changed_between}
+use Rattle.dcsctp_outstanding.specs.Outstanding.{OutstandingModel, next_tsn, acknowledged_by}
 use Rattle.dcsctp_outstanding.proofs.ItemsLemmas.{counted_bounded, length-changed_between, length-reported}
+use Rattle.dcsctp_retransmission.proofs.AnswerLemmas.{miss_adds_none, acknowledge_adds_none, lessened, reported_lessens, dropped_lessens}
 use Rattle.dcsctp_retransmission.specs.Telling.{ends_delivery, told_by, told_of, delivered}
 use Rattle.dcsctp_retransmission.specs.Queue as queues
 use Rattle.dcsctp_retransmission.specs.Queue.{QueueModel, header_of, retransmission_state, with_items, covered, lossy, missed_until, exiting}
@@ -85,37 +85,17 @@ miss_lessens item = missed_by item.progress item.progress.state
 acknowledge_lessens : (item : Item) → unacknowledged_count (changed_item Acknowledge item) ≤ unacknowledged_count item
 acknowledge_lessens item = acknowledged_by_state item.progress item.progress.state
 
-lessened : (change : Change) → ((item : Item) → unacknowledged_count (changed_item change item) ≤ unacknowledged_count item) → (start end : ℕ) (items : List Item) → unacknowledged_items (changed_between change start end items) ≤ unacknowledged_items items
-lessened change lessens zero zero items = omega arith
-lessened change lessens zero (suc end) [] = omega arith
-lessened change lessens zero (suc end) (x ∷ xs) =
-    let later = lessened change lessens zero end xs in
-    let here = lessens x in
-    let old = sum_by-cons unacknowledged_count x xs in
-    let new = sum_by-cons unacknowledged_count (changed_item change x) (changed_between change zero end xs) in
-    omega arith
-lessened change lessens (suc start) zero items = omega arith
-lessened change lessens (suc start) (suc end) [] = omega arith
-lessened change lessens (suc start) (suc end) (x ∷ xs) =
-    let later = lessened change lessens start end xs in
-    let old = sum_by-cons unacknowledged_count x xs in
-    let new = sum_by-cons unacknowledged_count x (changed_between change start end xs) in
-    omega arith
-
-reported_lessens : (count : ℕ) (blocks : List GapAckBlock) (items : List Item) → unacknowledged_items (reported count blocks items) ≤ unacknowledged_items items
-reported_lessens count [] items = omega arith
-reported_lessens count (block ∷ blocks) items =
-    let first = lessened Acknowledge acknowledge_lessens (count + block.start - 1) (count + block.end) items in
-    let others = reported_lessens count blocks (changed_between Acknowledge (count + block.start - 1) (count + block.end) items) in
-    omega arith
-
-dropped_lessens : (count : ℕ) (items : List Item) → unacknowledged_items (drop count items) ≤ unacknowledged_items items
-dropped_lessens zero items = omega arith
-dropped_lessens (suc count) [] = omega arith
-dropped_lessens (suc count) (x ∷ xs) =
-    let later = dropped_lessens count xs in
-    let all = sum_by-cons unacknowledged_count x xs in
-    omega arith
+-- a SACK with these blocks that passes so many items
+sack_lessens : (f : Item → ℕ) → ((item : Item) → f (changed_item Acknowledge item) ≤ f item) → ((item : Item) → f (changed_item Miss item) ≤ f item) → (count limit : ℕ) (blocks : List GapAckBlock) (items : List Item)
+    → sum_by f (drop count (changed_between Miss count limit (covered count blocks items))) ≤ sum_by f items
+sack_lessens f acknowledges misses count limit blocks items =
+    omega (
+      arith,
+      dropped_lessens f count (changed_between Miss count limit (covered count blocks items)),
+      lessened f Miss misses count limit (covered count blocks items),
+      reported_lessens f acknowledges count blocks (changed_between Acknowledge 0 count items),
+      lessened f Acknowledge acknowledges 0 count items,
+    )
 
 -- ---- the queue
 
@@ -141,6 +121,7 @@ pub record Keeps (old new : QueueModel) : Type 0 where
   pub interleaving : new.interleaving ≡ old.interleaving
   pub outstanding : length new.outstanding.items ≤ length old.outstanding.items
   pub unacknowledged : unacknowledged_items new.outstanding.items ≤ unacknowledged_items old.outstanding.items
+  pub never_acknowledged : never_acknowledged_items new.outstanding.items ≤ never_acknowledged_items old.outstanding.items
 
 abbrev without : ℕ → OutstandingModel → OutstandingModel
 without count outstanding =
@@ -158,14 +139,8 @@ sack_keeps now cumulative window blocks old new within takes =
     let len : length all ≡ length items =
     length-changed_between Miss count takes.limit named ∙ (length-reported count blocks (changed_between Acknowledge 0 count items) ∙ length-changed_between Acknowledge 0 count items) in
     let left : length (drop count all) ≡ length all - count = length-drop count all in
-    let fewer : unacknowledged_items (drop count all) ≤ unacknowledged_items items =
-    omega (
-      arith,
-      dropped_lessens count all,
-      lessened Miss miss_lessens count takes.limit named,
-      reported_lessens count blocks (changed_between Acknowledge 0 count items),
-      lessened Acknowledge acknowledge_lessens 0 count items,
-    ) in
+    let fewer = sack_lessens unacknowledged_count acknowledge_lessens miss_lessens count takes.limit blocks items in
+    let fewer_never = sack_lessens never_acknowledged_count acknowledge_adds_none miss_adds_none count takes.limit blocks items in
     record {
       next_tsn_same = ap next_tsn same ∙ by_number old.outstanding.first_tsn count (length items) (length (drop count all)) within (left ∙ ap (λ (n : ℕ). n - count) len);
       header = ap (λ (o : OutstandingModel). o.header) same;
@@ -173,6 +148,7 @@ sack_keeps now cumulative window blocks old new within takes =
       interleaving = ap (λ (q : QueueModel). q.interleaving) takes.is ∙ mid.interleaving;
       outstanding = omega (arith, ap (λ (o : OutstandingModel). length o.items) same, left, len);
       unacknowledged = omega (arith, ap (λ (o : OutstandingModel). unacknowledged_items o.items) same, fewer);
+      never_acknowledged = omega (arith, ap (λ (o : OutstandingModel). never_acknowledged_items o.items) same, fewer_never);
     }
   where
     by_number : (first count items rest : ℕ) → count ≤ items → rest ≡ items - count → ((first + count) % 2 ^ 32 + rest) % 2 ^ 32 ≡ (first + items) % 2 ^ 32
@@ -190,20 +166,21 @@ takes_sack old between new before after old_is between_is new_is keeps =
       message_interleaving = ap (λ (r : RetransmissionState). r.message_interleaving) state ∙ (keeps.interleaving ∙ ap (λ (r : RetransmissionState). r.message_interleaving) old_is);
       outstanding = omega (arith, ap (λ (r : RetransmissionState). r.outstanding_items) state, keeps.outstanding, ap (λ (r : RetransmissionState). r.outstanding_items) old_is);
       unacknowledged = omega (arith, ap (λ (r : RetransmissionState). r.unacknowledged_items) state, keeps.unacknowledged, ap (λ (r : RetransmissionState). r.unacknowledged_items) old_is);
+      never_acknowledged = omega (arith, ap (λ (r : RetransmissionState). r.never_acknowledged_items) state, keeps.never_acknowledged, ap (λ (r : RetransmissionState). r.never_acknowledged_items) old_is);
       tracker = ap (λ (t : Transfer). t.tracker) is;
       reassembly = ap (λ (t : Transfer). t.reassembly) is;
     }
 
 -- whether an item was acknowledged
 pub has_shown : (old between new : Transfer) (before after : QueueModel) (answer : Bool) → retransmission_state before ≡ old.retransmission → between ≡ record old { retransmission = retransmission_state after } → new ≡ record between { timeout = new.timeout }
-    → answer ≡ nat_lt (unacknowledged_items after.outstanding.items) (unacknowledged_items before.outstanding.items)
-    → answer ≡ nat_lt new.retransmission.unacknowledged_items old.retransmission.unacknowledged_items
+    → answer ≡ nat_lt (never_acknowledged_items after.outstanding.items) (never_acknowledged_items before.outstanding.items)
+    → answer ≡ nat_lt new.retransmission.never_acknowledged_items old.retransmission.never_acknowledged_items
 has_shown old between new before after answer old_is between_is new_is answers =
     let state : new.retransmission ≡ retransmission_state after =
     ap (λ (t : Transfer). t.retransmission) (new_is ∙ ap (λ (t : Transfer). record t { timeout = new.timeout }) between_is) in
     answers
-    ∙ (ap (λ (r : RetransmissionState). nat_lt (unacknowledged_items after.outstanding.items) r.unacknowledged_items) old_is
-    ∙ ap (λ (r : RetransmissionState). nat_lt r.unacknowledged_items old.retransmission.unacknowledged_items) (sym state))
+    ∙ (ap (λ (r : RetransmissionState). nat_lt (never_acknowledged_items after.outstanding.items) r.never_acknowledged_items) old_is
+    ∙ ap (λ (r : RetransmissionState). nat_lt r.never_acknowledged_items old.retransmission.never_acknowledged_items) (sym state))
 
 -- ---- whether it is valid
 

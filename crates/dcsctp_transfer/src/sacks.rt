@@ -21,7 +21,7 @@ pub enum HandledSack {
 
     /// It was taken into account.
     Valid {
-        /// Was an item acknowledged that wasn't before (RFC 9260, section 8.1)?
+        /// Was an item acknowledged that no SACK had acknowledged before, given up or not (RFC 9260, section 8.1)?
         acknowledges: bool,
     },
 }

@@ -86,12 +86,14 @@ pub record TakesSack (old new : Transfer) : Type 0 where
   pub message_interleaving : new.retransmission.message_interleaving ≡ old.retransmission.message_interleaving
   pub outstanding : new.retransmission.outstanding_items ≤ old.retransmission.outstanding_items
   pub unacknowledged : new.retransmission.unacknowledged_items ≤ old.retransmission.unacknowledged_items
+  pub never_acknowledged : new.retransmission.never_acknowledged_items ≤ old.retransmission.never_acknowledged_items
   pub tracker : new.tracker ≡ old.tracker
   pub reassembly : new.reassembly ≡ old.reassembly
 
--- Does it acknowledge an item that wasn't acknowledged before?
+-- Does it acknowledge an item that no SACK has acknowledged before? One that was given up counts, too: whoever acknowledges a
+-- FORWARD-TSN is there (RFC 9260, section 8.1).
 abbrev pub has_acknowledged : Transfer → Transfer → Bool
-has_acknowledged old new = nat_lt new.retransmission.unacknowledged_items old.retransmission.unacknowledged_items
+has_acknowledged old new = nat_lt new.retransmission.never_acknowledged_items old.retransmission.never_acknowledged_items
 
 -- ---- what is lost
 
@@ -102,6 +104,7 @@ pub record LosesAll (old new : Transfer) : Type 0 where
   pub message_interleaving : new.retransmission.message_interleaving ≡ old.retransmission.message_interleaving
   pub outstanding : new.retransmission.outstanding_items ≡ old.retransmission.outstanding_items
   pub unacknowledged : new.retransmission.unacknowledged_items ≡ old.retransmission.unacknowledged_items
+  pub never_acknowledged : new.retransmission.never_acknowledged_items ≡ old.retransmission.never_acknowledged_items
   pub rwnd : old.retransmission.rwnd ≤ new.retransmission.rwnd
   pub timeout : new.timeout ≡ old.timeout
   pub tracker : new.tracker ≡ old.tracker

@@ -41,7 +41,7 @@ impl Outstanding {
         if queue.discard(events, stream_id, message_id)? {
             let item = end_of_message(self.alloc, &self.items[place], now, begins_after_reset);
             let size = item.size(self.header);
-            self.totals.add(item.progress.state, size);
+            self.totals.add(item.progress, size);
             self.items.push_back_reserved(item);
         }
         Ok(())

@@ -49,7 +49,7 @@ impl RetransmissionQueue {
             return Ok(HandleSackResult::Invalid);
         }
         self.tell_delivered(events, count)?;
-        let before = self.outstanding.unacknowledged_items();
+        let before = self.outstanding.never_acknowledged_items();
         let newest = self.outstanding.newest_reported(count, blocks);
         let rtt = self.round_trip(newest, now);
         self.congestion.leave_recovery(cumulative_tsn_ack);
@@ -58,7 +58,7 @@ impl RetransmissionQueue {
         self.settle(now, a_rwnd, count);
         Ok(HandleSackResult::Valid {
             rtt,
-            reset_error_counter: self.outstanding.unacknowledged_items() < before,
+            reset_error_counter: self.outstanding.never_acknowledged_items() < before,
         })
     }
 

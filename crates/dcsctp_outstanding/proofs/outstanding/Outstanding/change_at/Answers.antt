@@ -7,7 +7,7 @@ pub add-requires : goal.add-requires
 add-requires c =
     let small = size_bounded c.self.inside.header c.self.invariant.header_fits c.index_mut-item.result.now in
     rw (c.remove.ensures, c.size-size.ensures)
-    (room_without _ _ _ _ (sums_leave_room _ c.self.inside.cursor c.self.inside.items.items _ _ small c.self.invariant))
+    (room_without c.index_mut-item.result.now.progress _ _ _ (sums_leave_room _ c.self.inside.cursor c.self.inside.items.items _ _ small c.self.invariant))
 
 pub invariant_of-self : goal.invariant_of-self
 invariant_of-self c =
