@@ -5,7 +5,7 @@ use Rattle.std.specs.Int.Bits.{bit_xor, xor_zero_r, xor_assoc}
 use Rattle.std.proofs.Math.Seq.{take-add}
 use Rattle.std.specs.Int.{w32, from_le_bytes}
 use Rattle.std.proofs.lemmas.Nat.{and_mask, xor_mod, xor_shr}
-use Rattle.std.proofs.lemmas.List.{drop_more, drop-drop, at_drop_more, at_drop_all, take_rest, append-nil, length-replicate, length-append}
+use Rattle.std.proofs.lemmas.List.{append_assoc, drop_more, drop-drop, at_drop_more, at_drop_all, take_rest, append-nil, length-replicate, length-append}
 use Rattle.std.proofs.lemmas.List.Edits.{length-between}
 use Rattle.std.proofs.lemmas.List.Folds.{drop_split}
 use Rattle.dcsctp_checksum.specs.Crc32c.{eight_bit_steps, register_after}
@@ -83,13 +83,13 @@ byte_3_of_word c v b0 b1 b2 b3 small s0 s1 s2 e =
     xor_shr c v 24 ∙ ap (bit_xor (c / 16777216)) low ∙ ap (λ w. bit_xor w b3) same
 
 -- what the code looks up at a block's first four bytes, whose word is v
-pub first_four_by_entries : (c v b0 b1 b2 b3 x0 x1 x2 x3 : ℕ) → c < 2 ^ 32 → b0 < 256 → b1 < 256 → b2 < 256 → v ≡ from_le_bytes w32 (b0 ∷ b1 ∷ b2 ∷ b3 ∷ []) → x0 ≡ register_after (bit_and (bit_xor c v) 255) (replicate 16 0) → x1 ≡ register_after (bit_and (bit_xor c v / 256) 255) (replicate 15 0) → x2 ≡ register_after (bit_and (bit_xor c v / 65536) 255) (replicate 14 0) → x3 ≡ register_after (bit_xor c v / 16777216) (replicate 13 0) → bit_xor (bit_xor (bit_xor x0 x1) x2) x3 ≡ register_after c (b0 ∷ b1 ∷ b2 ∷ b3 ∷ replicate 12 0)
-first_four_by_entries c v b0 b1 b2 b3 x0 x1 x2 x3 small s0 s1 s2 e e0 e1 e2 e3 =
+pub first_four_by_entries : (c v b0 b1 b2 b3 n x0 x1 x2 x3 : ℕ) → c < 2 ^ 32 → b0 < 256 → b1 < 256 → b2 < 256 → v ≡ from_le_bytes w32 (b0 ∷ b1 ∷ b2 ∷ b3 ∷ []) → x0 ≡ register_after (bit_and (bit_xor c v) 255) (replicate (n + 3 + 1) 0) → x1 ≡ register_after (bit_and (bit_xor c v / 256) 255) (replicate (n + 2 + 1) 0) → x2 ≡ register_after (bit_and (bit_xor c v / 65536) 255) (replicate (n + 1 + 1) 0) → x3 ≡ register_after (bit_xor c v / 16777216) (replicate (n + 1) 0) → bit_xor (bit_xor (bit_xor x0 x1) x2) x3 ≡ register_after c (b0 ∷ b1 ∷ b2 ∷ b3 ∷ replicate n 0)
+first_four_by_entries c v b0 b1 b2 b3 n x0 x1 x2 x3 small s0 s1 s2 e e0 e1 e2 e3 =
     let m0 = byte_0_of_word c v b0 b1 b2 b3 s0 e in
     let m1 = byte_1_of_word c v b0 b1 b2 b3 s0 s1 e in
     let m2 = byte_2_of_word c v b0 b1 b2 b3 s0 s1 s2 e in
     let m3 = byte_3_of_word c v b0 b1 b2 b3 small s0 s1 s2 e in
-    rw (e0, e1, e2, e3, m0, m1, m2, m3) (sym (four_parts c b0 b1 b2 b3 12 small))
+    rw (e0, e1, e2, e3, m0, m1, m2, m3) (sym (four_parts c b0 b1 b2 b3 n small))
 
 -- what it looks up at four bytes alone
 pub next_four_by_entries : (b0 b1 b2 b3 n x0 x1 x2 x3 : ℕ) → x0 ≡ register_after b0 (replicate (n + 3 + 1) 0) → x1 ≡ register_after b1 (replicate (n + 2 + 1) 0) → x2 ≡ register_after b2 (replicate (n + 1 + 1) 0) → x3 ≡ register_after b3 (replicate (n + 1) 0) → bit_xor (bit_xor (bit_xor x0 x1) x2) x3 ≡ register_after 0 (b0 ∷ b1 ∷ b2 ∷ b3 ∷ replicate n 0)
@@ -156,17 +156,29 @@ block_by_fours c bs at x0 x1 x2 x3 within e0 e1 e2 e3 =
     let whole : slice_range bs at (at + 16) ≡ w0 ++ (w1 ++ (w2 ++ w3)) = s0 ∙ ap (λ w. w0 ++ w) (s1 ∙ ap (λ w. w1 ++ w) (s2 ∙ ap (λ w. w2 ++ w) s3)) in
     rw (e0, e1, e2, e3) (sym (ap (register_after c) whole ∙ sixteen_parts c w0 w1 w2 w3 n1 n2 n3))
 
--- the loop over blocks keeps what is left from the start
-pub left_after_block : (c x : ℕ) (bs : List ℕ) (at : ℕ) → x ≡ register_after c (slice_range bs at (at + 16)) → register_after x (drop (at + 16) bs) ≡ register_after c (drop at bs)
-left_after_block c x bs at e =
-    ap (λ w. register_after w (drop (at + 16) bs)) e
-    ∙ sym (register_after-append c (slice_range bs at (at + 16)) (drop (at + 16) bs))
-    ∙ sym (ap (register_after c) (drop_split bs at (at + 16) (omega arith)))
+-- the loops over blocks and over pieces keep what is left from the start
+pub left_after_part : (c x : ℕ) (bs : List ℕ) (at end : ℕ) → at ≤ end → x ≡ register_after c (slice_range bs at end) → register_after x (drop end bs) ≡ register_after c (drop at bs)
+left_after_part c x bs at end forward e =
+    ap (λ w. register_after w (drop end bs)) e
+    ∙ sym (register_after-append c (slice_range bs at end) (drop end bs))
+    ∙ sym (ap (register_after c) (drop_split bs at end forward))
 
 -- ---- a packet, whose checksum field counts as zeros
-pub packet_by_parts : (c : ℕ) (packet : List ℕ) (x y z : ℕ) → x ≡ register_after c (take 8 packet) → y ≡ register_after x (replicate 4 0) → z ≡ register_after y (take (length packet - 12) (drop 12 packet)) → z ≡ register_after c (take 8 packet ++ replicate 4 0 ++ drop 12 packet)
-packet_by_parts c packet x y z e0 e1 e2 =
+-- the code takes in its first eight bytes and four zeros at once
+eight_parts : (c : ℕ) (w0 w1 : List ℕ) → length w1 ≡ 4 → register_after c ((w0 ++ w1) ++ replicate 4 0) ≡ bit_xor (register_after c (w0 ++ replicate 8 0)) (register_after 0 (w1 ++ replicate 4 0))
+eight_parts c w0 w1 l1 =
+    let n1 : length (w1 ++ replicate 4 0) ≡ 8 = omega (arith, length-append w1 (replicate 4 0)) in
+    ap (register_after c) (append_assoc w0 w1 (replicate 4 0))
+    ∙ split_last c w0 (w1 ++ replicate 4 0) 8 n1
+
+pub packet_by_parts : (c : ℕ) (packet : List ℕ) (x0 x1 z : ℕ) → 12 ≤ length packet → x0 ≡ register_after c (slice_range packet 0 4 ++ replicate 8 0) → x1 ≡ register_after 0 (slice_range packet 4 8 ++ replicate 4 0) → z ≡ register_after (bit_xor x0 x1) (take (length packet - 12) (drop 12 packet)) → z ≡ register_after c (take 8 packet ++ replicate 4 0 ++ drop 12 packet)
+packet_by_parts c packet x0 x1 z long e0 e1 e2 =
+    let w0 = slice_range packet 0 4 in
+    let w1 = slice_range packet 4 8 in
+    let n1 : length w1 ≡ 4 = length-between packet 4 8 (omega arith) ∙ omega arith in
+    let first : take 8 packet ≡ w0 ++ w1 = slice_parts packet 0 4 8 (omega arith) (omega arith) in
+    let header : bit_xor x0 x1 ≡ register_after c (take 8 packet ++ replicate 4 0) = ap (λ w. bit_xor w x1) e0 ∙ ap (bit_xor (register_after c (w0 ++ replicate 8 0))) e1 ∙ sym (eight_parts c w0 w1 n1) ∙ ap (λ w. register_after c (w ++ replicate 4 0)) (sym first) in
     e2
-    ∙ ap (register_after y) (take_rest packet 12)
-    ∙ ap (λ w. register_after w (drop 12 packet)) (e1 ∙ ap (λ w. register_after w (replicate 4 0)) e0 ∙ sym (register_after-append c (take 8 packet) (replicate 4 0)))
+    ∙ ap (register_after (bit_xor x0 x1)) (take_rest packet 12)
+    ∙ ap (λ w. register_after w (drop 12 packet)) header
     ∙ sym (register_after-append c (take 8 packet ++ replicate 4 0) (drop 12 packet))

@@ -13,6 +13,10 @@ xor_both x y z =
     sym (xor_assoc (bit_xor x z) y z) ∙ ap (λ w. bit_xor w z) (xor_swap x z y)
     ∙ xor_assoc (bit_xor x y) z z ∙ ap (bit_xor (bit_xor x y)) (xor_self z) ∙ xor_zero_r (bit_xor x y)
 
+pub xor_pairs : (a b x y : ℕ) → bit_xor (bit_xor a b) (bit_xor x y) ≡ bit_xor (bit_xor a x) (bit_xor b y)
+xor_pairs a b x y =
+    sym (xor_assoc (bit_xor a b) x y) ∙ ap (λ w. bit_xor w y) (xor_swap a b x) ∙ xor_assoc (bit_xor a x) b y
+
 -- ---- a bit step is linear
 pub bit_step_even : (c : ℕ) → c % 2 ≡ 0 → bit_step c ≡ c / 2
 unfolding bit_step
@@ -49,7 +53,7 @@ bit_step_both a b (inr p) (inr q) =
 bit_step_xor : (a b : ℕ) → bit_step (bit_xor a b) ≡ bit_xor (bit_step a) (bit_step b)
 bit_step_xor a b = bit_step_both a b (parity a) (parity b)
 
-eight_bit_steps_xor : (a b : ℕ) → eight_bit_steps (bit_xor a b) ≡ bit_xor (eight_bit_steps a) (eight_bit_steps b)
+pub eight_bit_steps_xor : (a b : ℕ) → eight_bit_steps (bit_xor a b) ≡ bit_xor (eight_bit_steps a) (eight_bit_steps b)
 unfolding eight_bit_steps
 eight_bit_steps_xor a b = simp bit_step_xor
 

@@ -1,1 +1,2 @@
 pub mod Crc32c
+pub mod Folds

@@ -1,4 +1,4 @@
--- The register after three parts, one after another, is the register after all three.
+-- The register after the header, then after the rest.
 use Rattle.std.proofs.Common.{ap}
 use Rattle.std.specs.Int.Bits.{bit_xor}
 use Rattle.dcsctp_checksum.specs.Crc32c.{all_ones, crc32c_of, packet_checksum_of}
@@ -9,4 +9,4 @@ pub returns : goal.returns
 unfolding packet_checksum_of crc32c_of
 returns c =
     ap (λ w. bit_xor w all_ones)
-    (packet_by_parts all_ones c.args.packet.now _ _ _ c.after-ports_and_tag.ensures c.after_each-field.ensures c.after.ensures)
+    (packet_by_parts all_ones c.args.packet.now _ _ _ c.requires c.after_first_four.ensures c.after_next_four.ensures c.after.ensures)
