@@ -74,15 +74,14 @@ fn hand_over(
 ) -> bool {
     let mut has_sent = false;
     for _ in 0..MOST_EVENTS {
-        match from.poll_event() {
-            None => return has_sent,
-            Some(SocketEvent::SendPacket(packet)) => {
-                has_sent = true;
-                if lost.is_none() || first_tsn(&packet) != lost {
-                    to.handle_input(&packet).expect(rt, "a packet");
-                }
+        let Some(event) = from.poll_event() else {
+            return has_sent;
+        };
+        if let SocketEvent::SendPacket(packet) = event {
+            has_sent = true;
+            if lost.is_none() || first_tsn(&packet) != lost {
+                to.handle_input(&packet).expect(rt, "a packet");
             }
-            Some(_) => {}
         }
     }
     has_sent
