@@ -55,6 +55,8 @@ speed() {
     tell "a handshake, sockets made and dropped" each instructions 10 110 handshakes
     tell "1 MiB of 1,024 bytes, a message" each instructions 1 1025 messages 1024
     tell "the same without checksums" each instructions 1 1025 messages 1024 zero-checksum
+    tell "10 MiB of 1,024 bytes at 1 % loss, a message" each instructions 1 10241 messages 1024 zero-checksum loss=10
+    tell "the same at 5 % loss" each instructions 1 10241 messages 1024 zero-checksum loss=50
     tell "1 MiB of 64 KiB, a packet" each instructions 1 17 messages 65536 counts
     tell "1 MiB of 100 bytes, a message" each instructions 1 10487 messages 100
     tell "100 bytes behind 10 messages, a message" each instructions 100 400 messages 100 queued=10
