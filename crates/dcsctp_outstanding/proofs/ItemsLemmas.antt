@@ -7,11 +7,13 @@ use Rattle.std.proofs.lemmas.Option.{slice_get_within}
 use Rattle.dcsctp_wire.specs.declared.chunk.sack.GapAckBlock.{GapAckBlock}
 use Rattle.dcsctp_outstanding.specs.declared.progress.Change.TheVariants.{Acknowledge}
 use Rattle.dcsctp_outstanding.specs.declared.item.Item.{Item}
+use Rattle.dcsctp_outstanding.specs.declared.named_places.NamedPlaces.{NamedPlaces}
 use Rattle.dcsctp_outstanding.specs.declared.progress.Change.{Change}
 use Rattle.dcsctp_outstanding.specs.declared.progress.Progress.{Progress}
 use Rattle.dcsctp_outstanding.specs.declared.totals.Totals.{Totals}
 use Rattle.dcsctp_outstanding.specs.Progress.{is_in_flight, is_marked, is_unacknowledged, changed}
 use Rattle.dcsctp_outstanding.specs.Items.{counted, size_of, in_flight_size, unacknowledged_size, unacknowledged_count, never_acknowledged_count, marked_count, marked_items, changed_item, changed_between, cursor_after}
+use Rattle.dcsctp_outstanding.specs.NamedPlaces.{AreSettled}
 use Rattle.dcsctp_outstanding.specs.Totals.{total_with, total_without, HasOne, HasRoom}
 use Rattle.dcsctp_outstanding.specs.Outstanding.{OutstandingModel, IsSummed, NoneMarkedBefore, NoneMarkedBetween, IsKept, reported}
 
@@ -83,8 +85,8 @@ pub size_bounded : (header : ℕ) → header ≤ 20 → (item : Item) → size_o
 size_bounded header fits item = omega arith
 
 -- each sum leaves room for one more
-pub sums_leave_room : (header cursor : ℕ) (items : List Item) (totals : Totals) (size : ℕ) → size ≤ 65556 → IsKept header cursor items totals → HasRoom size totals
-sums_leave_room header cursor items totals size small kept =
+pub sums_leave_room : (header cursor : ℕ) (items : List Item) (totals : Totals) (named : NamedPlaces) (size : ℕ) → size ≤ 65556 → IsKept header cursor items totals named → HasRoom size totals
+sums_leave_room header cursor items totals named size small kept =
     let few = kept.few in
     let sums = kept.sums in
     let in_flight = sum_bounded (in_flight_size header) 65556 (λ (x : Item). counted_bounded (is_in_flight x.progress.state) (size_of header x) 65556 (size_bounded header kept.header_fits x)) items in
@@ -110,13 +112,14 @@ changed_is change place items item progress within is e =
     rw (add-one, e) (sym (changed_one change place items item within is))
 
 -- what is kept of the items, with one replaced
-pub kept_replaced : (header cursor : ℕ) (items : List Item) (totals : Totals) (place : ℕ) (item new : Item) (size : ℕ) (less more : Totals) (is_now_marked : Bool) (cursor' : ℕ) → IsKept header cursor items totals → place < length items → item ≡ get_or items place item → size ≡ size_of header item → size_of header item ≡ size_of header new → less ≡ total_without item.progress size totals → more ≡ total_with new.progress size less → is_now_marked ≡ is_marked new.progress.state → cursor' ≡ cursor_after is_now_marked place cursor → IsKept header cursor' (set items place new) more
-kept_replaced header cursor items totals place item new size less more is_now_marked cursor' kept within is sized same is_less is_more marks moves =
+pub kept_replaced : (header cursor : ℕ) (items : List Item) (totals : Totals) (named : NamedPlaces) (place : ℕ) (item new : Item) (size : ℕ) (less more : Totals) (is_now_marked : Bool) (cursor' : ℕ) (named' : NamedPlaces) → IsKept header cursor items totals named → place < length items → item ≡ get_or items place item → size ≡ size_of header item → size_of header item ≡ size_of header new → less ≡ total_without item.progress size totals → more ≡ total_with new.progress size less → is_now_marked ≡ is_marked new.progress.state → cursor' ≡ cursor_after is_now_marked place cursor → AreSettled named' (set items place new) → IsKept header cursor' (set items place new) more named'
+kept_replaced header cursor items totals named place item new size less more is_now_marked cursor' named' kept within is sized same is_less is_more marks moves settled =
     record {
       header_fits = kept.header_fits;
       few = let few = kept.few in omega (arith, length-set {A = Item});
       sums = let summed = sums_replaced header items totals place item new within is same kept.sums in rw (is_more, is_less, sized) (rw (← same) at summed);
       scanned = rw (moves, marks) (scanned_replaced items place cursor new kept.scanned);
+      settled = settled;
     }
 
 -- a change that ends where it begins, or before
@@ -165,8 +168,8 @@ slice_get_pushed (y ∷ ys) zero new x h = inr h
 slice_get_pushed (y ∷ ys) (suc k) new x h = slice_get_pushed ys k new x h
 
 -- what is kept of the items, with one more
-pub kept_pushed : (header cursor : ℕ) (items : List Item) (totals : Totals) (new : Item) (size : ℕ) (more : Totals) → IsKept header cursor items totals → length items + 1 < 2 ^ 31 → size ≡ size_of header new → more ≡ total_with new.progress size totals → is_marked new.progress.state ≡ false → IsKept header cursor (items ++ new ∷ []) more
-kept_pushed header cursor items totals new size more kept room sized is_more unmarked =
+pub kept_pushed : (header cursor : ℕ) (items : List Item) (totals : Totals) (named : NamedPlaces) (new : Item) (size : ℕ) (more : Totals) → IsKept header cursor items totals named → length items + 1 < 2 ^ 31 → size ≡ size_of header new → more ≡ total_with new.progress size totals → is_marked new.progress.state ≡ false → AreSettled named (items ++ new ∷ []) → IsKept header cursor (items ++ new ∷ []) more named
+kept_pushed header cursor items totals named new size more kept room sized is_more unmarked settled =
     record {
       header_fits = kept.header_fits;
       few = omega (arith, length-append items (new ∷ []));
@@ -178,11 +181,12 @@ kept_pushed header cursor items totals new size more kept room sized is_more unm
         marked = let e = sum_by_push marked_count items new in let was = kept.sums.marked in omega arith;
       });
       scanned = λ k item below is. elim (slice_get_pushed items k new item is) [ inl same ↦ ap (λ (x : Item). is_marked x.progress.state) same ∙ unmarked | inr here ↦ kept.scanned k item below here ];
+      settled = settled;
     }
 
 -- what is kept of the items, without the first
-pub kept_removed : (header cursor : ℕ) (item : Item) (items : List Item) (totals : Totals) (size : ℕ) (less : Totals) → IsKept header cursor (item ∷ items) totals → size ≡ size_of header item → less ≡ total_without item.progress size totals → IsKept header (cursor - 1) items less
-kept_removed header cursor item items totals size less kept sized is_less =
+pub kept_removed : (header cursor : ℕ) (item : Item) (items : List Item) (totals : Totals) (named : NamedPlaces) (size : ℕ) (less : Totals) (named' : NamedPlaces) → IsKept header cursor (item ∷ items) totals named → size ≡ size_of header item → less ≡ total_without item.progress size totals → AreSettled named' items → IsKept header (cursor - 1) items less named'
+kept_removed header cursor item items totals named size less named' kept sized is_less settled =
     record {
       header_fits = kept.header_fits;
       few = let few = kept.few in omega arith;
@@ -194,11 +198,12 @@ kept_removed header cursor item items totals size less kept sized is_less =
         marked = let e = sum_by-cons marked_count item items in let was = kept.sums.marked in omega arith;
       });
       scanned = λ k x below is. kept.scanned (suc k) x (omega arith) is;
+      settled = settled;
     }
 
 -- the first of some items
-pub has_first : (header cursor : ℕ) (item : Item) (items : List Item) (totals : Totals) → IsKept header cursor (item ∷ items) totals → HasOne item.progress (size_of header item) totals
-has_first header cursor item items totals kept =
+pub has_first : (header cursor : ℕ) (item : Item) (items : List Item) (totals : Totals) (named : NamedPlaces) → IsKept header cursor (item ∷ items) totals named → HasOne item.progress (size_of header item) totals
+has_first header cursor item items totals named kept =
     let sums = kept.sums in
     record {
       in_flight_bytes = let e = sum_by-cons (in_flight_size header) item items in let was = sums.in_flight in omega arith;

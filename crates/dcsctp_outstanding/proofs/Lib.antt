@@ -2,3 +2,4 @@ pub mod ItemsLemmas
 pub mod MessageLemmas
 pub mod NextLemmas
 pub mod ReportLemmas
+pub mod SettledLemmas

@@ -3,6 +3,7 @@ pub mod Handing
 pub mod Items
 pub mod Messages
 pub mod Missing
+pub mod NamedPlaces
 pub mod Next
 pub mod Outstanding
 pub mod Progress

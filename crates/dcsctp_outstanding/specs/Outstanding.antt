@@ -3,10 +3,12 @@ use Rattle.std.specs.Prelude.{◌≡◌, ◌⊎◌, Result, Ok, Err, vec_len, �
 use Rattle.std.specs.declared.alloc.AllocError.{AllocError}
 use Rattle.dcsctp_wire.specs.declared.chunk.sack.GapAckBlock.{GapAckBlock}
 use Rattle.dcsctp_outstanding.specs.declared.item.Item.{Item}
+use Rattle.dcsctp_outstanding.specs.declared.named_places.NamedPlaces.{NamedPlaces}
 use Rattle.dcsctp_outstanding.specs.declared.progress.Change.TheVariants.{Acknowledge}
 use Rattle.dcsctp_outstanding.specs.declared.progress.ItemState.TheVariants.{InFlight, Abandoned}
 use Rattle.dcsctp_outstanding.specs.declared.progress.Progress.{Progress}
 use Rattle.dcsctp_outstanding.specs.declared.totals.Totals.{Totals}
+use Rattle.dcsctp_outstanding.specs.NamedPlaces.{AreSettled}
 use Rattle.dcsctp_outstanding.specs.Progress.{is_marked}
 use Rattle.dcsctp_outstanding.specs.Items.{bytes_in_flight, unacknowledged_bytes, unacknowledged_items, never_acknowledged_items, marked_items, changed_between}
 
@@ -71,12 +73,13 @@ pub record IsMarkedAt (place : ℕ) (items : List Item) : Type 0 where
   pub at : slice_get items place ≡ Some item
   pub is : is_marked item.progress.state ≡ true
 
-pub record IsKept (header cursor : ℕ) (items : List Item) (totals : Totals) : Type 0 where
+pub record IsKept (header cursor : ℕ) (items : List Item) (totals : Totals) (named : NamedPlaces) : Type 0 where
   pub header_fits : header ≤ 20
   -- TSNs can be compared (RFC 9260, section 1.6)
   pub few : length items < 2 ^ 31
   pub sums : IsSummed header items totals
   pub scanned : NoneMarkedBefore cursor items
+  pub settled : AreSettled named items
 
 -- that of an item that was just sent
 abbrev pub just_sent : Progress

@@ -1,5 +1,5 @@
 -- How far an item is, and what changes that (RFC 9260, section 7.2.4; RFC 3758, section 3.5).
-use Rattle.std.specs.Prelude.{◌+◌, ◌==◌, min, Bool, true, false, nat_lt, if◌then◌else◌}
+use Rattle.std.specs.Prelude.{◌+◌, ◌==◌, min, not, Bool, true, false, nat_lt, if◌then◌else◌}
 use Rattle.dcsctp_outstanding.specs.declared.progress.ItemState.{ItemState}
 use Rattle.dcsctp_outstanding.specs.declared.progress.ItemState.TheVariants.{InFlight, Marked, Acknowledged, Abandoned}
 use Rattle.dcsctp_outstanding.specs.declared.progress.Progress.{Progress}
@@ -71,3 +71,31 @@ changed Miss progress = missed progress.state progress
 changed Mark progress = marked progress.state progress
 changed Acknowledge progress = acknowledged progress.state progress
 changed Abandon progress = record progress { state = Abandoned }
+
+-- A SACK has acknowledged it, and it doesn't wait to be acknowledged again.
+abbrev pub is_settled : Progress → Bool
+is_settled progress = if is_unacknowledged progress.state then false else progress.was_acknowledged
+
+-- the changes that leave what is settled as it is
+abbrev pub leaves_settled : Change → Bool
+leaves_settled SendAgain = false
+leaves_settled Miss = true
+leaves_settled Mark = true
+leaves_settled Acknowledge = true
+leaves_settled Abandon = false
+
+-- The change is known to leave it as it is.
+abbrev pub is_left_by : Change → Progress → Bool
+is_left_by SendAgain progress = false
+is_left_by Miss progress = if is_in_flight progress.state then not (nat_lt progress.misses 3) else true
+is_left_by Mark progress = not (is_in_flight progress.state)
+is_left_by Acknowledge progress = is_settled progress
+is_left_by Abandon progress = false
+
+-- what is settled is so no more after the change
+abbrev pub is_unsettled_by : Change → Progress → Bool
+is_unsettled_by SendAgain progress = is_settled progress
+is_unsettled_by Miss progress = false
+is_unsettled_by Mark progress = false
+is_unsettled_by Acknowledge progress = false
+is_unsettled_by Abandon progress = false

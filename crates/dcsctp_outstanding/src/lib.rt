@@ -2,6 +2,7 @@
 #![tactic(auto)]
 
 mod item;
+mod named_places;
 mod outstanding;
 mod progress;
 mod totals;

@@ -7,6 +7,7 @@ mod messages;
 mod reporting;
 
 use crate::item::Item;
+use crate::named_places::NamedPlaces;
 use crate::progress::{Change, Progress};
 use crate::totals::Totals;
 use dcsctp_api::{Events, SocketTime};
@@ -34,6 +35,9 @@ pub struct Outstanding {
     // No item before this place waits to be sent again.
     cursor: usize,
 
+    // The items at these places are settled.
+    named: NamedPlaces,
+
     alloc: Global,
 }
 
@@ -48,7 +52,7 @@ impl Model for Outstanding {
       items = outstanding.items.items;
     } };
 
-    ghost invariant = { λ outstanding. IsKept outstanding.header outstanding.cursor outstanding.items.items outstanding.totals };
+    ghost invariant = { λ outstanding. IsKept outstanding.header outstanding.cursor outstanding.items.items outstanding.totals outstanding.named };
 }
 
 impl Outstanding {
@@ -58,6 +62,7 @@ impl Outstanding {
     ghost use Rattle.dcsctp_outstanding.specs.Next.{IsNextMarked, HasNone};
     ghost use Rattle.dcsctp_outstanding.specs.Outstanding.{next_tsn, tsn_at, distance_to, FindsPlaces, TriesNext, IsMarkedAt, NoneMarkedBetween};
     ghost use Rattle.dcsctp_outstanding.specs.Handing.{TriesItem};
+    ghost use Rattle.dcsctp_outstanding.specs.NamedPlaces.{IsLeftBetween};
     ghost use Rattle.dcsctp_streams.specs.Telling.{contents};
 
     /// Nothing was sent yet. It takes no memory.
@@ -71,6 +76,7 @@ impl Outstanding {
             header,
             totals: Totals::none(),
             cursor: 0,
+            named: NamedPlaces::new(alloc),
             alloc,
         }
     }
@@ -184,16 +190,61 @@ impl Outstanding {
         self.totals.remove(before, size);
         self.totals.add(after, size);
         self.cursor = cursor_after(after.state.is_marked(), place, self.cursor);
+        self.named.clear_if(before.is_unsettled_by(change));
+    }
+
+    // Makes the change at one place, unless it leaves the item there as it is.
+    fn change_one(&mut self, change: Change, place: usize)
+        requires { place < length self.old.items }
+        ensures { self.new ≡ record self.old { items = changed_between change place (place + 1) self.old.items } }
+    {
+        if self.item(place).progress.is_left_by(change) {
+            return;
+        }
+        self.change_at(change, place);
+    }
+
+    // Up to where the change leaves each item from the place on as it is, as far as the named places tell from
+    // this row on; before that the row that tells it.
+    fn left_until(&self, change: Change, place: usize, row: usize) -> (usize, usize)
+        ensures from { place ≤ result.1 }
+        ensures left { IsLeftBetween change place result.1 self.now.items }
+    {
+        let row = self.named.row_from(row, place);
+        if change.leaves_settled() {
+            (row, self.named.end_from(row, place))
+        } else {
+            (row, place)
+        }
+    }
+
+    // Makes the change from the place `start` to before the place `end`, as far as there are items. Of the
+    // named places it looks at those from this row on, and returns the row at which it ends.
+    fn change_from(&mut self, change: Change, start: usize, end: usize, row: usize) -> usize
+        ensures { self.new ≡ record self.old { items = changed_between change start end self.old.items } }
+    {
+        let limit = end.min(self.len());
+        let mut row = row;
+        let mut place = start;
+        while place < limit {
+            let (at, end) = self.left_until(change, place, row);
+            row = at;
+            let next = end.min(limit);
+            if place < next {
+                place = next;
+                continue;
+            }
+            self.change_one(change, place);
+            place += 1;
+        }
+        row
     }
 
     /// Makes the change from the place `start` to before the place `end`, as far as there are items.
     pub fn change_between(&mut self, change: Change, start: usize, end: usize)
         ensures { self.new ≡ record self.old { items = changed_between change start end self.old.items } }
     {
-        let limit = end.min(self.len());
-        for place in start..limit {
-            self.change_at(change, place);
-        }
+        let _ = self.change_from(change, start, end, 0);
     }
 
     /// The first place with an item that waits to be sent again.
@@ -260,6 +311,7 @@ impl Outstanding {
             self.totals.remove(item.progress, size);
             self.first_tsn = self.first_tsn.wrapping_add(1);
             self.cursor = self.cursor.saturating_sub(1);
+            self.named.shift();
         }
     }
 

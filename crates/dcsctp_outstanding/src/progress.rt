@@ -2,7 +2,7 @@
 
 ghost use Rattle.std.specs.Prelude.{◌≡◌, false};
 ghost use Rattle.dcsctp_outstanding.specs.declared.progress.ItemState.TheVariants.{InFlight};
-ghost use Rattle.dcsctp_outstanding.specs.Progress.{is_in_flight, is_marked, is_unacknowledged, is_abandoned, sent_again, missed, marked, acknowledged, changed};
+ghost use Rattle.dcsctp_outstanding.specs.Progress.{is_in_flight, is_marked, is_unacknowledged, is_abandoned, sent_again, missed, marked, acknowledged, changed, is_settled, leaves_settled, is_left_by, is_unsettled_by};
 
 /// How far an item is.
 #[derive(Clone, Copy, Debug, PartialEq, Eq)]
@@ -54,6 +54,18 @@ pub enum Change {
 
     /// Its message is given up.
     Abandon,
+}
+
+impl Change {
+    /// Does it leave what is settled as it is?
+    pub fn leaves_settled(self) -> bool
+        ensures { result ≡ leaves_settled self }
+    {
+        match self {
+            Change::Miss | Change::Mark | Change::Acknowledge => true,
+            Change::SendAgain | Change::Abandon => false,
+        }
+    }
 }
 
 impl ItemState {
@@ -204,6 +216,45 @@ impl Progress {
             Change::Mark => self.marked(),
             Change::Acknowledge => self.acknowledged(),
             Change::Abandon => self.in_state(ItemState::Abandoned),
+        }
+    }
+
+    /// Has a SACK acknowledged it, and doesn't it wait to be acknowledged again?
+    pub fn is_settled(self) -> bool
+        ensures { result ≡ is_settled self }
+    {
+        if self.state.is_unacknowledged() {
+            false
+        } else {
+            self.was_acknowledged
+        }
+    }
+
+    /// Does the change leave it as it is? Not each such change is known.
+    pub fn is_left_by(self, change: Change) -> bool
+        ensures { result ≡ is_left_by change self }
+    {
+        match change {
+            Change::Miss => {
+                if self.state.is_in_flight() {
+                    3 <= self.misses
+                } else {
+                    true
+                }
+            }
+            Change::Mark => !self.state.is_in_flight(),
+            Change::Acknowledge => self.is_settled(),
+            Change::SendAgain | Change::Abandon => false,
+        }
+    }
+
+    /// Is it settled, and not after the change?
+    pub fn is_unsettled_by(self, change: Change) -> bool
+        ensures { result ≡ is_unsettled_by change self }
+    {
+        match change {
+            Change::SendAgain => self.is_settled(),
+            Change::Miss | Change::Mark | Change::Acknowledge | Change::Abandon => false,
         }
     }
 }

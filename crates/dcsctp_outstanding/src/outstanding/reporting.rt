@@ -12,19 +12,40 @@ impl Outstanding {
     ghost use Rattle.dcsctp_outstanding.specs.Outstanding.{reported};
     ghost use Rattle.dcsctp_outstanding.specs.Progress.{is_unacknowledged};
     ghost use Rattle.dcsctp_outstanding.specs.Reports.{IsWithin, Names, IsNewlyAcknowledged, IsLast};
+    ghost use Rattle.dcsctp_outstanding.specs.NamedPlaces.{AreSettledBetween, BlocksAreSettled};
+
+    // The place, where its item is neither acknowledged nor abandoned.
+    fn unacknowledged_at(&self, place: usize) -> Option<usize>
+        requires { place < length self.now.items }
+        ensures { IsLast (λ k item. IsWithin place (place + 1) k × (is_unacknowledged item.progress.state ≡ true)) self.now.items result }
+    {
+        if self.item(place).progress.state.is_unacknowledged() {
+            Some(place)
+        } else {
+            None
+        }
+    }
 
     // The last place from `start` on and before `end` with an item that is neither acknowledged nor abandoned.
-    fn last_unacknowledged(&self, start: usize, end: usize) -> Option<usize>
-        ensures { IsLast (λ place item. IsWithin start end place × (is_unacknowledged item.progress.state ≡ true)) self.now.items result }
+    // Of the named places it looks at those from this row on, and returns the row at which it ends, too.
+    fn last_unacknowledged(&self, start: usize, end: usize, row: usize) -> (Option<usize>, usize)
+        ensures { IsLast (λ place item. IsWithin start end place × (is_unacknowledged item.progress.state ≡ true)) self.now.items result.0 }
     {
-        let mut place = end.min(self.len());
-        while start < place {
-            place -= 1;
-            if self.item(place).progress.state.is_unacknowledged() {
-                return Some(place);
+        let limit = end.min(self.len());
+        let mut last = None;
+        let mut row = row;
+        let mut place = start;
+        while place < limit {
+            row = self.named.row_from(row, place);
+            let next = self.named.end_from(row, place).min(limit);
+            if place < next {
+                place = next;
+                continue;
             }
+            last = later_of(last, self.unacknowledged_at(place));
+            place += 1;
         }
-        None
+        (last, row)
     }
 
     // The last place from `start` on and before `end` with an item.
@@ -42,10 +63,12 @@ impl Outstanding {
         ensures { IsLast (IsNewlyAcknowledged count blocks.now) self.now.items result }
     {
         let _ = self.len();
-        let mut newest = self.last_unacknowledged(0, count);
+        let (mut newest, mut row) = self.last_unacknowledged(0, count, 0);
         for block in blocks {
             let (start, end) = places_of(count, *block);
-            newest = later_of(newest, self.last_unacknowledged(start, end));
+            let (last, next) = self.last_unacknowledged(start, end, row);
+            newest = later_of(newest, last);
+            row = next;
         }
         newest
     }
@@ -70,10 +93,45 @@ impl Outstanding {
         ensures { self.new ≡ record self.old { items = reported count blocks.now self.old.items } }
     {
         let _ = self.len();
+        let mut row = 0;
         for block in blocks {
             let (start, end) = places_of(count, *block);
-            self.change_between(Change::Acknowledge, start, end);
+            row = self.change_from(Change::Acknowledge, start, end, row);
         }
+        self.keep_named(count, blocks);
+    }
+
+    // Keeps the places that the blocks name, whose items are settled, in place of those that were kept.
+    fn keep_named(&mut self, count: usize, blocks: &[GapAckBlock])
+        requires count { count < 2 ^ 31 }
+        requires settled { BlocksAreSettled count blocks.now self.old.items }
+        ensures { self.new ≡ self.old }
+    {
+        self.forget_named(blocks.is_empty());
+        for block in blocks {
+            let (start, end) = places_of(count, *block);
+            self.add_named(start, end);
+        }
+    }
+
+    // Forgets which places were named, and gives the room for them back where the flag says so.
+    fn forget_named(&mut self, gives_back: bool)
+        ensures { self.new ≡ self.old }
+    {
+        if gives_back {
+            self.named.free();
+        } else {
+            self.named.clear();
+        }
+    }
+
+    // Adds named places, whose items are settled.
+    fn add_named(&mut self, start: usize, end: usize)
+        requires { AreSettledBetween start end self.old.items }
+        ensures { self.new ≡ self.old }
+    {
+        let limit = end.min(self.len());
+        self.named.add(start, limit);
     }
 }
 

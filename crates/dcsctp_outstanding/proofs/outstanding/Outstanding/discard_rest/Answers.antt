@@ -9,18 +9,19 @@ use Rattle.dcsctp_streams.specs.Telling.{contents}
 use Rattle.dcsctp_outstanding.specs.declared.item.Item.{Item}
 use Rattle.dcsctp_outstanding.specs.Messages.{IsEndOf}
 use Rattle.dcsctp_outstanding.proofs.MessageLemmas.{index_at}
+use Rattle.dcsctp_outstanding.proofs.SettledLemmas.{settled_pushed}
 use Rattle.dcsctp_outstanding.proofs.outstanding.Outstanding.discard_rest.Goals as goal
 
 pub add-requires : goal.add-requires
 add-requires c =
     rw c.size-size.ensures
-    (sums_leave_room _ c.self.inside.cursor c.self.inside.items.items _ _ (size_bounded c.self.inside.header c.self.invariant.header_fits c.end_of_message-item.result) c.self.invariant)
+    (sums_leave_room _ c.self.inside.cursor c.self.inside.items.items _ _ _ (size_bounded c.self.inside.header c.self.invariant.header_fits c.end_of_message-item.result) c.self.invariant)
 
 pub invariant_of-self-then-branch : goal.invariant_of-self-then-branch
 invariant_of-self-then-branch c =
     let room : length c.self.inside.items.items + 1 < 2 ^ 31 = omega (arith, c.requires.room, ap (λ (m : OutstandingModel). length m.items) c.self.view_is) in
     rw (c.push_back_reserved.ensures.items, c.in_ok-reserve.ensures.items)
-    (kept_pushed _ _ _ _ _ _ _ c.self.invariant room c.size-size.ensures c.add.ensures (ap is_marked (let e = c.end_of_message-item.ensures in e.is_abandoned)))
+    (kept_pushed _ _ _ _ _ _ _ _ c.self.invariant room c.size-size.ensures c.add.ensures (ap is_marked (let e = c.end_of_message-item.ensures in e.is_abandoned)) (settled_pushed _ _ _ c.self.invariant.settled))
 
 pub returns-then-branch-clause-may : goal.returns-then-branch-clause-may
 returns-then-branch-clause-may c =

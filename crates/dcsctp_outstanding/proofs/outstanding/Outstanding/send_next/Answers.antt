@@ -5,18 +5,19 @@ use Rattle.dcsctp_outstanding.specs.Outstanding.{OutstandingModel}
 use Rattle.dcsctp_outstanding.proofs.ItemsLemmas.{kept_pushed, sums_leave_room, size_bounded}
 use Rattle.std.proofs.lemmas.Result.{err_from_is_err_and}
 use Rattle.dcsctp_outstanding.proofs.NextLemmas.{has_none}
+use Rattle.dcsctp_outstanding.proofs.SettledLemmas.{settled_pushed}
 use Rattle.dcsctp_outstanding.proofs.outstanding.Outstanding.send_next.Goals as goal
 
 pub add-requires : goal.add-requires
 add-requires c =
     rw c.size-size.ensures
-    (sums_leave_room _ c.self.inside.cursor c.self.inside.items.items _ _ (size_bounded c.self.inside.header c.self.invariant.header_fits (record { fragment = c.in-Some.fragment; progress = c.new.result; sent_at = c.args.now; begins_after_reset = c.args.begins_after_reset })) c.self.invariant)
+    (sums_leave_room _ c.self.inside.cursor c.self.inside.items.items _ _ _ (size_bounded c.self.inside.header c.self.invariant.header_fits (record { fragment = c.in-Some.fragment; progress = c.new.result; sent_at = c.args.now; begins_after_reset = c.args.begins_after_reset })) c.self.invariant)
 
 pub invariant_of-self-in-Some : goal.invariant_of-self-in-Some
 invariant_of-self-in-Some c =
     let room : length c.self.inside.items.items + 1 < 2 ^ 31 = omega (arith, c.requires.room, ap (λ (m : OutstandingModel). length m.items) c.self.view_is) in
     rw (c.push_back_reserved.ensures.items, c.in_ok-reserve.ensures.items)
-    (kept_pushed _ _ _ _ _ _ _ c.self.invariant room c.size-size.ensures c.add.ensures (ap (λ (p : Progress). is_marked p.state) c.new.ensures))
+    (kept_pushed _ _ _ _ _ _ _ _ c.self.invariant room c.size-size.ensures c.add.ensures (ap (λ (p : Progress). is_marked p.state) c.new.ensures) (settled_pushed _ _ _ c.self.invariant.settled))
 
 pub returns-in-Some-clause-tries : goal.returns-in-Some-clause-tries
 returns-in-Some-clause-tries c =
