@@ -176,7 +176,9 @@ impl Outstanding {
         self.items[place].size(self.header)
     }
 
-    // Makes the change at one place.
+    // Makes the change at one place. It is inlined, and so are those through which callers reach it, since a
+    // caller knows which change it is: for an acknowledgement most of the sums then fall away.
+    #[inline(always)]
     fn change_at(&mut self, change: Change, place: usize)
         requires { place < length self.old.items }
         ensures { self.new ≡ record self.old { items = changed_between change place (place + 1) self.old.items } }
@@ -191,6 +193,17 @@ impl Outstanding {
         self.totals.add(after, size);
         self.cursor = cursor_after(after.state.is_marked(), place, self.cursor);
         self.named.clear_if(before.is_unsettled_by(change));
+    }
+
+    // Makes the change at each place from `start` on and before `end`, as far as there are items.
+    #[inline(always)]
+    fn change_each(&mut self, change: Change, start: usize, end: usize)
+        ensures { self.new ≡ record self.old { items = changed_between change start end self.old.items } }
+    {
+        let limit = end.min(self.len());
+        for place in start..limit {
+            self.change_at(change, place);
+        }
     }
 
     // Makes the change at one place, unless it leaves the item there as it is.
@@ -218,8 +231,8 @@ impl Outstanding {
         }
     }
 
-    // Makes the change from the place `start` to before the place `end`, as far as there are items. Of the
-    // named places it looks at those from this row on, and returns the row at which it ends.
+    // The same, past the named places where the change leaves their items as they are. Of these places it looks
+    // at those from this row on, and returns the row at which it ends.
     fn change_from(&mut self, change: Change, start: usize, end: usize, row: usize) -> usize
         ensures { self.new ≡ record self.old { items = changed_between change start end self.old.items } }
     {
@@ -241,10 +254,15 @@ impl Outstanding {
     }
 
     /// Makes the change from the place `start` to before the place `end`, as far as there are items.
+    #[inline(always)]
     pub fn change_between(&mut self, change: Change, start: usize, end: usize)
         ensures { self.new ≡ record self.old { items = changed_between change start end self.old.items } }
     {
-        let _ = self.change_from(change, start, end, 0);
+        if self.named.is_empty() {
+            self.change_each(change, start, end);
+        } else {
+            let _ = self.change_from(change, start, end, 0);
+        }
     }
 
     /// The first place with an item that waits to be sent again.

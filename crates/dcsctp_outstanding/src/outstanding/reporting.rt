@@ -27,8 +27,27 @@ impl Outstanding {
     }
 
     // The last place from `start` on and before `end` with an item that is neither acknowledged nor abandoned.
-    // Of the named places it looks at those from this row on, and returns the row at which it ends, too.
-    fn last_unacknowledged(&self, start: usize, end: usize, row: usize) -> (Option<usize>, usize)
+    fn last_unacknowledged(&self, start: usize, end: usize) -> Option<usize>
+        ensures { IsLast (λ place item. IsWithin start end place × (is_unacknowledged item.progress.state ≡ true)) self.now.items result }
+    {
+        let mut place = end.min(self.len());
+        while start < place {
+            place -= 1;
+            if self.item(place).progress.state.is_unacknowledged() {
+                return Some(place);
+            }
+        }
+        None
+    }
+
+    // The same, past the named places. Of these it looks at those from this row on, and returns the row at which
+    // it ends, too.
+    fn last_unacknowledged_from(
+        &self,
+        start: usize,
+        end: usize,
+        row: usize,
+    ) -> (Option<usize>, usize)
         ensures { IsLast (λ place item. IsWithin start end place × (is_unacknowledged item.progress.state ≡ true)) self.now.items result.0 }
     {
         let limit = end.min(self.len());
@@ -63,10 +82,11 @@ impl Outstanding {
         ensures { IsLast (IsNewlyAcknowledged count blocks.now) self.now.items result }
     {
         let _ = self.len();
-        let (mut newest, mut row) = self.last_unacknowledged(0, count, 0);
+        let mut newest = self.last_unacknowledged(0, count);
+        let mut row = 0;
         for block in blocks {
             let (start, end) = places_of(count, *block);
-            let (last, next) = self.last_unacknowledged(start, end, row);
+            let (last, next) = self.last_unacknowledged_from(start, end, row);
             newest = later_of(newest, last);
             row = next;
         }
@@ -131,7 +151,9 @@ impl Outstanding {
         ensures { self.new ≡ self.old }
     {
         let limit = end.min(self.len());
-        self.named.add(start, limit);
+        if start < limit {
+            self.named.add(start, limit);
+        }
     }
 }
 
