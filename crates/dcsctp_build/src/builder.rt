@@ -80,6 +80,7 @@ impl SctpPacketBuilder {
     /// A packet with no chunks and at most `size` bytes, rounded down to a multiple of 4.
     ///
     /// Fails where there is no memory for that many.
+    #[inline(always)]
     pub fn new(
         alloc: Global,
         verification_tag: u32,
@@ -140,6 +141,7 @@ impl SctpPacketBuilder {
     }
 
     /// Adds a chunk, for which there is room. `Chunk::serialized_size` says how much it needs.
+    #[inline(always)]
     pub fn add(&mut self, chunk: &Chunk<'_>)
         requires { length (chunk_bytes (chunk_content chunk.now)) ≤ bytes_remaining self.old }
         ensures { self.new ≡ record self.old {

@@ -14,7 +14,7 @@ use dcsctp_api::{
 use dcsctp_build::SctpPacketBuilder;
 use dcsctp_send::{BackoffAlgorithm, Timer};
 use dcsctp_transfer::QueuedMessages;
-use dcsctp_wire::Chunk;
+use dcsctp_wire::{Chunk, sizes};
 use rand_core::Rng;
 use std::alloc::{AllocError, Global};
 
@@ -176,8 +176,8 @@ impl<R: Rng> Context<R> {
     /// Emits a packet of one chunk, and counts it (up to the greatest number). Where it doesn't fit
     /// `mtu`, nothing is emitted or counted.
     ///
-    /// The one error is want of memory: for the packet, also where the chunk doesn't fit, or for its
-    /// place among the events. Nothing has changed then.
+    /// `Err`: an allocation failed, of the packet or of its place among the events. Nothing has changed
+    /// then.
     pub fn emit(
         &mut self,
         tag: u32,
@@ -186,19 +186,21 @@ impl<R: Rng> Context<R> {
     ) -> Result<(), AllocError>
         ensures { Emits write_checksum tag (chunk_content chunk.now) self.old result self.new }
     {
+        sizes();
         let alloc = self.alloc;
         let options = &self.options;
+        let size = chunk.serialized_size().saturating_add(12);
+        if options.mtu - options.mtu % 4 < size {
+            return Ok(());
+        }
         let builder = SctpPacketBuilder::new(
             alloc,
             tag,
             options.local_port,
             options.remote_port,
-            options.mtu,
+            size,
         )?;
         let mut builder = builder.write_checksum(write_checksum);
-        if builder.bytes_remaining() < chunk.serialized_size() {
-            return Ok(());
-        }
         builder.add(chunk);
         self.events.add(SocketEvent::SendPacket(builder.build()))?;
         self.count_emitted();

@@ -55,6 +55,7 @@ impl State {
 
     /// May anything go into the first packet of a flush to the peer that is held: a SACK, a FORWARD-TSN, the
     /// request of a reset, or data? A SACK that is delayed goes along where data may follow.
+    #[inline(always)]
     pub(crate) fn may_fill_first(&self, queue: &QueuedMessages) -> bool
         ensures { result ≡ false → NeedsNone first_ask queue.now (transfer_of self.now) }
     {
@@ -307,6 +308,7 @@ impl State {
 }
 
 // The same of what lies below an association.
+#[inline(always)]
 fn may_fill_first(transfer: &Transfer, queue: &QueuedMessages) -> bool
     ensures { result ≡ false → NeedsNone first_ask queue.now (Some transfer.now) }
 {

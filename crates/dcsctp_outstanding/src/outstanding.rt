@@ -342,6 +342,7 @@ impl Outstanding {
 
     /// Sends a fragment of at most `max` bytes from the queue for the first time, under the next TSN. None
     /// where the queue gives none. If there is no memory for it, nothing leaves the queue.
+    #[inline(always)]
     pub fn send_next(
         &mut self,
         events: &mut Events,

@@ -107,6 +107,7 @@ fn take_on_new(
 
 // Takes data in on its stream, which is made if nothing came in on it yet. The other streams stay. One that
 // is there is looked up once.
+#[inline(always)]
 fn take_on(
     alloc: Global,
     streams: &mut BTreeMap<u16, Stream>,
@@ -170,6 +171,7 @@ impl Incoming {
     }
 
     // Data of a stream came in, but for unordered DATA.
+    #[inline(always)]
     fn take_on_stream(&mut self, tsn_number: u64, chunk: Data) -> Result<(), AllocError>
         requires { self.old.queued_bytes + length chunk.payload.items < 2 ^ 64 }
         ensures ok { OnOk result (TakesStreamData tsn_number (chunk_of chunk) (incoming_of self.old) (incoming_of self.new)) }
@@ -189,6 +191,7 @@ impl Incoming {
     }
 
     // Data came in whose TSN has this number.
+    #[inline(always)]
     fn take_numbered(&mut self, tsn_number: u64, chunk: Data) -> Result<(), AllocError>
         requires { self.old.queued_bytes + length chunk.payload.items < 2 ^ 64 }
         ensures ok { OnOk result (TakesChunk tsn_number chunk.numbering (chunk_of chunk) (incoming_of self.old) (incoming_of self.new)) }
@@ -205,6 +208,7 @@ impl Incoming {
     }
 
     /// Works data, whose bytes can be counted. If there is no memory for it, all stays.
+    #[inline(always)]
     pub fn take(&mut self, tsn: u32, chunk: Data) -> Result<(), AllocError>
         requires { self.old.queued_bytes + length chunk.payload.items < 2 ^ 64 }
         ensures ok { OnOk result (TakesData tsn (chunk_of chunk) (incoming_of self.old) (incoming_of self.new)) }

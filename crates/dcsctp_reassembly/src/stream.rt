@@ -52,6 +52,7 @@ pub struct Taken {
 pub const FIRST_NUMBER: u64 = 0x1_0000_0000;
 
 /// A part at this place, out of this data.
+#[inline(always)]
 pub fn part_of_data(chunk: Data, place: u128, number: u64) -> Part
     ensures { part_of result ≡ data_part (chunk_of chunk) place number }
 {
@@ -196,6 +197,7 @@ impl Stream {
 
     /// A part of an ordered message came in, or a whole one. One of a message before the next is dropped. If
     /// there is no memory for it, nothing that callers see changes.
+    #[inline(always)]
     pub fn take_ordered(
         &mut self,
         alloc: Global,

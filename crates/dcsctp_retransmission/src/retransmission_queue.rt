@@ -41,6 +41,9 @@ pub struct RetransmissionQueue {
     packets_retransmitted: usize,
     bytes_retransmitted: u64,
     alloc: Global,
+
+    // The list of the last packet's TSNs, whose room serves the next packet.
+    spare: Vec<u32>,
 }
 
 impl Model for RetransmissionQueue {
@@ -107,7 +110,15 @@ impl RetransmissionQueue {
             packets_retransmitted: 0,
             bytes_retransmitted: 0,
             alloc,
+            spare: Vec::new(alloc),
         }
+    }
+
+    /// Takes back the list that `get_chunks_to_send` answered, whose room serves the next packet.
+    pub fn take_back(&mut self, tsns: Vec<u32>)
+        ensures { self.new ≡ self.old }
+    {
+        self.spare = tsns;
     }
 
     /// Do messages go out as I-DATA (RFC 8260, section 2.1)?

@@ -94,6 +94,7 @@ impl SendQueue {
     ///
     /// A message that was begun is never dropped here. One that fits goes out as one fragment, whose
     /// payload is not copied.
+    #[inline(always)]
     pub fn produce(
         &mut self,
         events: &mut Events,

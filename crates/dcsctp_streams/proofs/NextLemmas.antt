@@ -1,5 +1,5 @@
 -- Which stream comes next.
-use Rattle.std.proofs.Common.{◌≡◌, ℕ, zero, suc, ◌-◌, ◌+◌, ◌<◌, Bool, true, false, if◌then◌else◌, Option, None, Some, Err, ◌⊎◌, inl, inr, List, [], ◌∷◌, length, get_or, refl, sym, ap, subst, ◌∙◌, arith}
+use Rattle.std.proofs.Common.{◌≡◌, ◌==◌, ℕ, zero, suc, ◌-◌, ◌+◌, ◌<◌, Bool, true, false, not, if◌then◌else◌, Option, None, Some, Err, ◌⊎◌, inl, inr, List, [], ◌∷◌, length, get_or, refl, sym, ap, subst, ◌∙◌, arith}
 use Rattle.std.specs.List.{list_any}
 use Rattle.std.specs.Prelude.{nat_lt, is_some}
 use borrow.Author.Tests.{ltb-true, ltb-false}
@@ -196,16 +196,16 @@ some_turn (x ∷ xs) h = some_turn_by x xs (turn_of x) refl (some_turn xs) h
 pub some_turns : (streams : List Stream) → list_any (λ s. is_some (turn_of s)) streams ≡ true → turns_of streams ≡ [] → ⊥
 some_turns streams h e = let m = some_turn streams h in in_not_empty m.0 (turns_of streams) m.1 e
 
-pub next_any_by : (streams : List Stream) (p : ℕ) (b : Bool) → IsNext streams p → list_any (λ s. is_some (turn_of s)) streams ≡ b → true ≡ b
-next_any_by streams p true next h = refl
-next_any_by streams p false next h = absurd (in_not_empty next.turn (turns_of streams) (In-turns_of streams p next.turn next.within next.is) (no_turns streams h))
+-- Whether there are turns says whether a stream may begin a message.
+pub has_any_by : (streams : List Stream) (turns : List Turn) (b c : Bool) → turns ≡ turns_of streams → b ≡ (length turns == 0) → list_any (λ s. is_some (turn_of s)) streams ≡ c → not b ≡ c
+has_any_by streams [] b true are empty h = absurd (some_turns streams h (sym are))
+has_any_by streams [] b false are empty h = ap not empty
+has_any_by streams (turn ∷ turns) false true are empty h = refl
+has_any_by streams (turn ∷ turns) true true are empty h = absurd (grind arith)
+has_any_by streams (turn ∷ turns) b false are empty h = absurd (cc (are, no_turns streams h))
 
-pub next_any : (streams : List Stream) (p : ℕ) → IsNext streams p → true ≡ list_any (λ s. is_some (turn_of s)) streams
-next_any streams p next = next_any_by streams p (list_any (λ s. is_some (turn_of s)) streams) next refl
-
-pub none_any_by : (streams : List Stream) (b : Bool) → turns_of streams ≡ [] → list_any (λ s. is_some (turn_of s)) streams ≡ b → false ≡ b
-none_any_by streams true e h = absurd (some_turns streams h e)
-none_any_by streams false e h = refl
+pub has_any : (streams : List Stream) (turns : List Turn) (b : Bool) → turns ≡ turns_of streams → b ≡ (length turns == 0) → not b ≡ list_any (λ s. is_some (turn_of s)) streams
+has_any streams turns b are empty = has_any_by streams turns b (list_any (λ s. is_some (turn_of s)) streams) are empty refl
 
 pub none_any : (streams : List Stream) → turns_of streams ≡ [] → false ≡ list_any (λ s. is_some (turn_of s)) streams
-none_any streams e = none_any_by streams (list_any (λ s. is_some (turn_of s)) streams) e refl
+none_any streams none = has_any streams [] true (sym none) refl

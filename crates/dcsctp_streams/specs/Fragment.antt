@@ -64,7 +64,7 @@ fragment under_way message size =
 abbrev pub HasSize : ℕ → DataToSend → Type 0
 HasSize max part = (0 < vec_len part.payload) × (vec_len part.payload ≤ max)
 
--- the rest of a payload of which so much went out, or none where nothing did
+-- the rest of a payload of which so much went out, or none where the payload itself is to give it
 abbrev pub CopiesRest : ℕ → List ℕ → Option (Vec ℕ Global) → Type 0
-CopiesRest sent payload None = sent ≡ 0
+CopiesRest sent payload None = Unit {0}
 CopiesRest sent payload (Some rest) = rest.items ≡ drop sent payload

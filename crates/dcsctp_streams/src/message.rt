@@ -1,11 +1,17 @@
 //! A message that waits.
 
+ghost use Rattle.std.specs.Prelude.{◌≡◌, ◌≤◌, drop, vec_len};
+
 use crate::data::DataToSend;
 use dcsctp_api::{
     Events, LifecycleId, Message, PpId, SendOptions, SocketEvent, SocketTime, StreamId,
 };
 use std::alloc::{AllocError, Global};
 use std::marker::Model;
+
+// The longest payload whose rest is moved to its front and not copied. It holds this many bytes at most for its
+// last fragment, until that is acknowledged.
+const LONGEST_MOVED: usize = 2048;
 
 /// How far the message under way has come. It was begun, and isn't fully sent.
 #[derive(Clone, Copy, Debug)]
@@ -158,6 +164,7 @@ impl QueuedMessage {
     }
 
     /// The next fragment, of so many bytes, which are copied. It isn't the last.
+    #[inline(always)]
     pub fn part(
         &self,
         alloc: Global,
@@ -187,13 +194,14 @@ impl QueuedMessage {
         })
     }
 
-    /// What is left of its payload, copied; none where nothing went out, since the payload then need not
-    /// be copied.
+    /// What is left of its payload, copied. None where nothing went out, or the payload is short: then
+    /// `last_part` takes the rest from the payload itself.
+    #[inline(always)]
     pub fn copied_rest(&self, alloc: Global, sent: usize) -> Result<Option<Vec<u8>>, AllocError>
         requires { sent ≤ length self.now.payload }
         ensures { IfOk result (λ rest. CopiesRest sent self.now.payload rest) }
     {
-        if sent == 0 {
+        if sent == 0 || self.payload.len() <= LONGEST_MOVED {
             return Ok(None);
         }
         let rest = Vec::from_slice(alloc, &self.payload[sent..])?;
@@ -201,6 +209,7 @@ impl QueuedMessage {
     }
 
     /// Its last fragment, with what `copied_rest` answered.
+    #[inline(always)]
     pub fn last_part(self, under_way: UnderWay, rest: Option<Vec<u8>>) -> DataToSend
         requires rest { CopiesRest under_way.sent self.payload rest }
         requires within { under_way.sent ≤ length self.payload }
@@ -215,7 +224,10 @@ impl QueuedMessage {
             expires_at,
             lifecycle_id,
         } = self;
-        let payload = rest.unwrap_or(payload);
+        let payload = match rest {
+            Some(rest) => rest,
+            None => without_first(payload, under_way.sent),
+        };
         DataToSend {
             message_id,
             stream_id: under_way.stream_id,
@@ -232,4 +244,18 @@ impl QueuedMessage {
             lifecycle_id,
         }
     }
+}
+
+// What is left of a payload without so many bytes at its front. It keeps its room.
+fn without_first(payload: Vec<u8>, sent: usize) -> Vec<u8>
+    requires { sent ≤ vec_len payload }
+    ensures { result.items ≡ drop sent payload.items }
+{
+    let mut payload = payload;
+    if sent > 0 {
+        let left = payload.len() - sent;
+        payload.copy_within(sent.., 0);
+        payload.truncate(left);
+    }
+    payload
 }

@@ -192,6 +192,7 @@ impl OutgoingStream {
     }
 
     /// Takes its oldest message.
+    #[inline(always)]
     pub fn pop(&mut self) -> Option<QueuedMessage>
         ensures left { self.new ≡ without_front self.old }
         ensures result { result ≡ front_of self.old.messages }

@@ -126,10 +126,7 @@ impl Streams {
     pub fn has_turn(&self) -> bool
         ensures { result ≡ list_any (λ stream. is_some (turn_of stream)) self.now }
     {
-        match self.next_place() {
-            Some(_) => true,
-            None => false,
-        }
+        !self.turns.as_slice().is_empty()
     }
 
     /// Adds a message behind the others of the stream. If there is no memory for it, nothing changes.
@@ -147,6 +144,7 @@ impl Streams {
     }
 
     /// Takes the oldest message of the stream.
+    #[inline(always)]
     pub fn pop(&mut self, place: usize) -> Option<QueuedMessage>
         requires { place < length self.old }
         ensures left { self.new ≡ slice_set self.old place (without_front (stream_at self.old place)) }

@@ -26,6 +26,7 @@ impl Transfer {
     ///
     /// If there is no memory for it, the data is dropped, though its TSN may count as received. The messages
     /// that are ready stay.
+    #[inline(always)]
     pub fn receive_data(
         &mut self,
         tsn: u32,

@@ -53,7 +53,9 @@ impl Transfer {
             .retransmission_queue
             .get_chunks_to_send(events, &mut queue.queue, now, room)?;
         add_chunks(&self.retransmission_queue, &tsns, packet);
-        Ok(!tsns.is_empty())
+        let has_some = !tsns.is_empty();
+        self.retransmission_queue.take_back(tsns);
+        Ok(has_some)
     }
 
     /// Do items wait that were found lost, and are to go out at once (RFC 9260, section 7.2.4)?
@@ -173,6 +175,7 @@ fn add_chunks(queue: &RetransmissionQueue, tsns: &[u32], packet: &mut SctpPacket
 }
 
 // Puts the chunk of this TSN into the packet, which has room for it.
+#[inline(always)]
 fn add_chunk(queue: &RetransmissionQueue, tsn: u32, packet: &mut SctpPacketBuilder)
     requires header { queue.now.outstanding.header ≡ header_of queue.now.interleaving }
     requires small { packet.old.size ≤ 65535 }
@@ -185,6 +188,7 @@ fn add_chunk(queue: &RetransmissionQueue, tsn: u32, packet: &mut SctpPacketBuild
 }
 
 // What the fragment says under this TSN, as DATA or I-DATA.
+#[inline(always)]
 fn chunk_of<'a>(tsn: u32, fragment: &'a DataToSend, interleaving: bool) -> Chunk<'a>
     requires { header_of interleaving + vec_len fragment.now.payload < 2 ^ 16 }
     ensures is_data { IsDataChunk interleaving (chunk_content result) }
@@ -207,6 +211,7 @@ fn chunk_of<'a>(tsn: u32, fragment: &'a DataToSend, interleaving: bool) -> Chunk
 }
 
 // The fragment as DATA with these numbers.
+#[inline(always)]
 fn data_of<'a>(tsn: u32, stream_id: u16, ssn: u16, ppid: u32, fragment: &'a DataToSend) -> Chunk<'a>
     requires { 16 + vec_len fragment.now.payload < 2 ^ 16 }
     ensures is_data { IsDataChunk false (chunk_content result) }

@@ -40,27 +40,37 @@ impl RetransmissionQueue {
         ensures fresh { IfOk result (λ tsns. EndsFresh now self.old.outstanding self.new.outstanding tsns.items) }
         ensures steps { SendsPacket now bytes self.old queue.old events.old self.new queue.new events.new result }
     {
-        let filled = self.fill_packet(events, queue, now, bytes);
+        let tsns = self.empty_list();
+        let filled = self.fill_packet(events, queue, now, Packet { tsns, room: bytes });
         self.keep_timer(now);
         filled
     }
 
+    // An empty list for the TSNs of a packet, with the room of the last one.
+    fn empty_list(&mut self) -> Vec<u32>
+        ensures empty { result.items ≡ [] }
+        ensures kept { self.new ≡ self.old }
+    {
+        let mut tsns = std::mem::replace(&mut self.spare, Vec::new(self.alloc));
+        tsns.clear();
+        tsns
+    }
+
+    // Fills a packet, into which nothing was put yet, and answers the TSNs of its chunks.
     fn fill_packet(
         &mut self,
         events: &mut Events,
         queue: &mut SendQueue,
         now: SocketTime,
-        bytes: usize,
+        packet: Packet,
     ) -> Result<Vec<u32>, AllocError>
+        requires { packet.tsns.items ≡ [] }
         ensures keeps { Keeps self.old self.new }
-        ensures fills { IfOk result (λ tsns. FillsUp bytes self.new queue.new tsns.items) }
+        ensures fills { IfOk result (λ tsns. FillsUp packet.room self.new queue.new tsns.items) }
         ensures fresh { IfOk result (λ tsns. EndsFresh now self.old.outstanding self.new.outstanding tsns.items) }
-        ensures steps { TriesPacket now bytes self.old queue.old events.old self.new queue.new events.new result }
+        ensures steps { TriesPacket now packet.room self.old queue.old events.old self.new queue.new events.new result }
     {
-        let mut packet = Packet {
-            tsns: Vec::new(self.alloc),
-            room: bytes,
-        };
+        let mut packet = packet;
         self.fill(events, queue, now, &mut packet)?;
         Ok(packet.tsns)
     }
@@ -117,6 +127,7 @@ impl RetransmissionQueue {
     }
 
     // Puts a new chunk with at most so many bytes of payload into the packet, where the queue gives one.
+    #[inline(always)]
     fn send_one_new(
         &mut self,
         events: &mut Events,

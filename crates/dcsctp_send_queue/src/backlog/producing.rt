@@ -117,6 +117,7 @@ impl Backlog {
     }
 
     /// Takes the next fragment of the oldest message of the stream, of at most `max` bytes.
+    #[inline(always)]
     pub fn produce(
         &mut self,
         events: &mut Events,
@@ -183,6 +184,7 @@ impl Backlog {
     }
 
     /// Takes the next fragment of the message under way, of at most `max` bytes.
+    #[inline(always)]
     pub fn go_on(
         &mut self,
         events: &mut Events,
@@ -205,6 +207,7 @@ impl Backlog {
 
     /// Takes the first fragment, of at most `max` bytes, of the message that is next in turn; none where
     /// no message can be begun.
+    #[inline(always)]
     pub fn begin_next(
         &mut self,
         events: &mut Events,
@@ -228,6 +231,7 @@ impl Backlog {
     }
 
     // Takes a fragment of so many bytes, which isn't the last.
+    #[inline(always)]
     fn produce_part(
         &mut self,
         events: &mut Events,
@@ -262,6 +266,7 @@ impl Backlog {
     }
 
     // Takes the last fragment.
+    #[inline(always)]
     fn produce_last(
         &mut self,
         events: &mut Events,

@@ -1,8 +1,9 @@
-use Rattle.dcsctp_streams.proofs.NextLemmas.{next_any, none_any}
+use Rattle.std.proofs.Common.{ap, length, ◌∙◌, ◌==◌}
+use Rattle.dcsctp_streams.proofs.NextLemmas.{has_any}
 use Rattle.dcsctp_streams.proofs.streams.Streams.has_turn.Goals as goal
 
-pub returns-in-Some : goal.returns-in-Some
-returns-in-Some c = next_any _ _ c.in-Some.ensures.some
-
-pub returns-in-None : goal.returns-in-None
-returns-in-None c = none_any c.args.self.now c.in-None.ensures.none
+pub returns : goal.returns
+returns c =
+    rw (← c.self.view_is)
+    (has_any c.self.inside.items.items c.self.inside.turns.items c.is_empty.result c.self.invariant.ranked.are
+    (c.is_empty.ensures ∙ ap (λ turns. length turns == 0) c.as_slice.ensures.value))
