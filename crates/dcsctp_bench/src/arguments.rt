@@ -34,11 +34,20 @@ pub struct Plan {
     /// How many of a thousand packets are lost.
     pub loss: u32,
 
+    /// Says which those are.
+    pub seed: u32,
+
+    /// How many milliseconds a packet and its answer take together.
+    pub delay: u32,
+
     /// Packets bear no checksum (RFC 9653).
     pub without_checksum: bool,
 
     /// The packets are told, too.
     pub shows_counts: bool,
+
+    /// The time that passed and the chunks of data are told, too.
+    pub shows_chunks: bool,
 }
 
 // The most messages or pairs that a run may have.
@@ -46,6 +55,9 @@ const MOST: u32 = 100_000_000;
 
 // The longest message of the default options, in bytes.
 const LONGEST: u32 = 262_144;
+
+// The longest delay, in milliseconds.
+const LONGEST_DELAY: u32 = 60_000;
 
 impl Plan {
     /// So many messages of this many bytes, all in order on one stream, over a link that loses nothing.
@@ -57,8 +69,11 @@ impl Plan {
             is_unordered: false,
             streams: 1,
             loss: 0,
+            seed: 7,
+            delay: 0,
             without_checksum: false,
             shows_counts: false,
+            shows_chunks: false,
         }
     }
 
@@ -69,12 +84,15 @@ impl Plan {
                 "unordered" => self.is_unordered = true,
                 "zero-checksum" => self.without_checksum = true,
                 "counts" => self.shows_counts = true,
+                "chunks" => self.shows_chunks = true,
                 _ => return None,
             },
             Some(("streams", value)) => self.streams = u16::try_from(number(
                 value, 1, 65535,
             )?).ok()?,
             Some(("loss", value)) => self.loss = number(value, 0, 1000)?,
+            Some(("seed", value)) => self.seed = number(value, 0, MOST)?,
+            Some(("delay", value)) => self.delay = number(value, 0, LONGEST_DELAY)?,
             Some(("queued", value)) => self.queued = number(value, 0, MOST)?,
             Some(_) => return None,
         }

@@ -1,11 +1,13 @@
 //! What the program does at each command, and what it prints of it.
 
 use crate::arguments::{Command, Plan};
+use crate::chunks::Chunks;
 use crate::failure::Failure;
-use crate::pair::{BenchSocket, Pair};
+use crate::pair::{BenchSocket, Link, Pair};
 use crate::traffic::Traffic;
 use std::alloc::{AllocError, Global};
 use std::mem::{size_of, swap};
+use std::time::Duration;
 
 /// Obeys a command, and prints what was done. Where it fails, what was done up to there is printed.
 pub fn obey(rt: &(impl Print + Alloc<A = Global>), command: Command) -> Result<(), Failure> {
@@ -51,11 +53,32 @@ fn shake_hands(rt: &(impl Print + Alloc<A = Global>), count: u32) -> Result<(), 
     outcome
 }
 
+// From now on the link loses and delays packets as the plan says.
+fn impair(alloc: Global, link: &mut Link, plan: &Plan) {
+    link.reseed(u64::from(plan.seed));
+    link.loss = plan.loss;
+    link.delay = Duration::from_millis(u64::from(plan.delay) / 2);
+    if plan.shows_chunks {
+        link.chunks = Some(Chunks::new(alloc));
+    }
+}
+
 // Connects, and lets the messages run.
-fn run(pair: &mut Pair, traffic: &mut Traffic, loss: u32) -> Result<(), Failure> {
+fn run(alloc: Global, pair: &mut Pair, traffic: &mut Traffic, plan: &Plan) -> Result<(), Failure> {
     pair.connect()?;
-    pair.link.loss = loss;
+    impair(alloc, &mut pair.link, plan);
     traffic.run(pair)
+}
+
+// Prints the time that has passed, where chunks were counted how many were sent, and how many of them the
+// peer had.
+fn print_chunks(rt: &impl Print, link: &Link) -> Result<(), Failure> {
+    if let Some(chunks) = &link.chunks {
+        let (sent, needless) = (chunks.sent, chunks.needless);
+        let milliseconds = link.now.as_nanos() / 1_000_000;
+        println!(rt; "milliseconds {milliseconds}\nchunks {sent}\nneedless {needless}")?;
+    }
+    Ok(())
 }
 
 // Prints what has arrived and, where asked, how many packets were sent, and how many of them were lost.
@@ -77,8 +100,9 @@ fn print_carried(
 fn carry(rt: &(impl Print + Alloc<A = Global>), plan: &Plan) -> Result<(), Failure> {
     let mut traffic = Traffic::new(rt.alloc(), plan)?;
     let mut pair = Pair::new(rt.alloc(), plan.without_checksum)?;
-    let outcome = run(&mut pair, &mut traffic, plan.loss);
+    let outcome = run(rt.alloc(), &mut pair, &mut traffic, plan);
     print_carried(rt, &pair, &traffic, plan.shows_counts)?;
+    print_chunks(rt, &pair.link)?;
     outcome
 }
 

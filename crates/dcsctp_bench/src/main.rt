@@ -3,19 +3,23 @@
 //!
 //! ```text
 //! dcsctp_bench handshakes N
-//! dcsctp_bench messages N SIZE [unordered] [streams=K] [loss=PERMILLE] [queued=Q] [zero-checksum] [counts]
+//! dcsctp_bench messages N SIZE [unordered] [streams=K] [loss=PERMILLE] [seed=SEED] [delay=MS] [queued=Q]
+//!     [zero-checksum] [counts] [chunks]
 //! dcsctp_bench hold N [used]
 //! ```
 //!
 //! `handshakes` makes N pairs of sockets one after another, connects each and drops it. `messages` sends
 //! N messages of SIZE bytes from one socket to the other, on one ordered stream: `unordered`, or on K
-//! streams in turn; with so many of a thousand packets lost behind the handshake; behind Q messages more
-//! that are sent before any packet is handed over; and without checksums, as over DTLS. `counts` prints
-//! the packets, too. `hold` makes N pairs and keeps them, `used` after 1 MiB went each way. The exit
-//! status is 0 where all went well, 1 where not, which standard error says, and 2 at bad arguments.
+//! streams in turn; with so many of a thousand packets lost behind the handshake, by a seed; each under way
+//! for half of so many milliseconds of a time of its own; behind Q messages more that are sent before any
+//! packet is handed over; and without checksums, as over DTLS. `counts` prints the packets, too, and
+//! `chunks` the time that passed, the chunks of data that were sent, and those that the peer had when they
+//! arrived. `hold` makes N pairs and keeps them, `used` after 1 MiB went each way. The exit status is 0
+//! where all went well, 1 where not, which standard error says, and 2 at bad arguments.
 #![tactic(auto)]
 
 mod arguments;
+mod chunks;
 mod commands;
 mod failure;
 mod ledger;
@@ -29,7 +33,8 @@ use std::rt::Env;
 use std::{env, io};
 
 const USAGE: &str = "usage: dcsctp_bench handshakes N
-       dcsctp_bench messages N SIZE [unordered] [streams=K] [loss=PERMILLE] [queued=Q] [zero-checksum] [counts]
+       dcsctp_bench messages N SIZE [unordered] [streams=K] [loss=PERMILLE] [seed=SEED] [delay=MS] [queued=Q]
+           [zero-checksum] [counts] [chunks]
        dcsctp_bench hold N [used]";
 
 // The command that the arguments say; none where they say no command.

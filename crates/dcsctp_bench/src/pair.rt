@@ -1,7 +1,9 @@
-//! Two sockets and the link between them: packets wait in it in the order in which they were sent.
+//! Two sockets and the link between them: packets wait in it in the order in which they were sent, each for
+//! as long as the link takes.
 
 ghost use Rattle.dcsctp_machine.specs.Settings.{IsValid};
 
+use crate::chunks::Chunks;
 use crate::failure::Failure;
 use dcsctp_socket::{
     DcSctpSocket, Options, Socket, SocketEvent, SocketFault, SocketTime,
@@ -26,10 +28,11 @@ pub enum Side {
     B,
 }
 
-// A packet under way, and whom it goes to.
+// A packet under way, whom it goes to, and when it arrives.
 #[derive(Drop)]
 struct Parcel {
     to: Side,
+    due: SocketTime,
     packet: Vec<u8>,
 }
 
@@ -40,6 +43,15 @@ pub struct Link {
 
     // Says which packets are lost.
     rng: Xoshiro256PlusPlus,
+
+    /// The present moment.
+    pub now: SocketTime,
+
+    /// How long a packet is under way.
+    pub delay: Duration,
+
+    /// The chunks of data, where they are counted.
+    pub chunks: Option<Chunks>,
 
     /// So many of a thousand packets are lost.
     pub loss: u32,
@@ -55,6 +67,9 @@ impl Drop for Link {
             alloc: _,
             flying: _,
             rng: _,
+            now: _,
+            delay: _,
+            chunks: _,
             loss: _,
             lost: _,
         } = self;
@@ -62,15 +77,44 @@ impl Drop for Link {
 }
 
 impl Link {
+    /// Which packets are lost, this seed says from now on.
+    pub fn reseed(&mut self, seed: u64) {
+        self.rng = Xoshiro256PlusPlus::seed_from_u64(seed);
+    }
+
     // Puts a copy of a packet behind all others, or loses it.
     fn put(&mut self, to: Side, packet: &[u8]) -> Result<(), AllocError> {
+        if let Some(chunks) = &mut self.chunks {
+            chunks.note_sent(packet)?;
+        }
         if 0 < self.loss && self.rng.next_u32() % 1000 < self.loss {
             self.lost = self.lost.saturating_add(1);
             return Ok(());
         }
         let packet = Vec::from_slice(self.alloc, packet)?;
-        self.flying.push_back(Parcel { to, packet })?;
+        let due = self.now + self.delay;
+        self.flying.push_back(Parcel { to, due, packet })?;
         Ok(())
+    }
+
+    // When the packet that was sent first arrives; the last moment where none is under way.
+    fn next_arrival(&self) -> SocketTime {
+        match self.flying.front() {
+            None => SocketTime::infinite_future(),
+            Some(parcel) => parcel.due,
+        }
+    }
+
+    // Takes the packet that was sent first, where it has arrived.
+    fn take(&mut self) -> Result<Option<Parcel>, AllocError> {
+        if self.now < self.next_arrival() {
+            return Ok(None);
+        }
+        let parcel = self.flying.pop_front();
+        if let (Some(chunks), Some(parcel)) = (&mut self.chunks, &parcel) {
+            chunks.note_arrived(parcel.packet.as_slice())?;
+        }
+        Ok(parcel)
     }
 }
 
@@ -86,6 +130,11 @@ pub struct End {
 
     /// How many packets it has sent.
     pub packets: u64,
+}
+
+// The earlier of two moments.
+fn earlier(first: SocketTime, second: SocketTime) -> SocketTime {
+    if second < first { second } else { first }
 }
 
 impl End {
@@ -135,13 +184,12 @@ impl End {
     }
 }
 
-/// Two sockets, the link between them, and the present moment of both.
+/// Two sockets, and the link between them.
 #[derive(Drop)]
 pub struct Pair {
     pub a: End,
     pub b: End,
     pub link: Link,
-    now: SocketTime,
 }
 
 impl Pair {
@@ -162,15 +210,13 @@ impl Pair {
             alloc,
             flying: VecDeque::new(alloc),
             rng: Xoshiro256PlusPlus::seed_from_u64(7),
+            now: SocketTime::zero(),
+            delay: Duration::from_millis(0),
+            chunks: None,
             loss: 0,
             lost: 0,
         };
-        Ok(Pair {
-            a,
-            b,
-            link,
-            now: SocketTime::zero(),
-        })
+        Ok(Pair { a, b, link })
     }
 
     /// Both sockets alone.
@@ -193,9 +239,9 @@ impl Pair {
         Ok(())
     }
 
-    /// Hands over the packet that was sent first, and says to whom; none where no packet is under way.
+    /// Hands over the packet that was sent first, and says to whom; none where none has arrived.
     pub fn deliver(&mut self) -> Result<Option<Side>, Failure> {
-        let Some(parcel) = self.link.flying.pop_front() else {
+        let Some(parcel) = self.link.take()? else {
             return Ok(None);
         };
         match parcel.to {
@@ -205,12 +251,19 @@ impl Pair {
         Ok(Some(parcel.to))
     }
 
-    /// Lets time pass for both.
-    pub fn pass(&mut self, time: Duration) -> Result<(), Failure> {
-        self.now = self.now + time;
-        self.a.socket.advance_time(self.now)?;
+    // When something happens next, if no packet is sent before.
+    fn next_moment(&self) -> SocketTime {
+        let timeout = earlier(self.a.socket.poll_timeout(), self.b.socket.poll_timeout());
+        earlier(timeout, self.link.next_arrival())
+    }
+
+    /// Lets time pass for both, until something happens.
+    pub fn pass(&mut self) -> Result<(), Failure> {
+        let now = self.next_moment();
+        self.link.now = now;
+        self.a.socket.advance_time(now)?;
         self.a.drain(&mut self.link)?;
-        self.b.socket.advance_time(self.now)?;
+        self.b.socket.advance_time(now)?;
         self.b.drain(&mut self.link)
     }
 }

@@ -1,7 +1,8 @@
 //! Messages from one socket to the other.
 //!
 //! Each is sent by a call of its own as long as less than 1 MiB is between the two users; then all packets
-//! are handed over, and each message is taken as it comes. Time passes only when nothing else happens.
+//! are handed over, and each message is taken as it comes. Time passes only when nothing else happens, up to
+//! the next moment at which something does.
 
 use crate::arguments::Plan;
 use crate::failure::Failure;
@@ -9,15 +10,11 @@ use crate::ledger::Ledger;
 use crate::pair::{Pair, Side};
 use dcsctp_socket::{DcSctpSocket, SendOptions};
 use std::alloc::{AllocError, Global};
-use std::time::Duration;
 
 // As many bytes may be between the two users, and one message more.
 const WINDOW: u64 = 1_048_576;
 
-// How long nothing happens before time passes, in milliseconds.
-const TICK: u64 = 10;
-
-// After so many ticks without a message it is said that none will come: 20 minutes.
+// After so many such moments without a message it is said that none will come.
 const PATIENCE: u32 = 120_000;
 
 /// Messages from the first socket of a pair to the second.
@@ -32,7 +29,7 @@ pub struct Traffic {
     sent: u32,
     sent_bytes: u64,
 
-    // How many ticks have passed since the last message came.
+    // How often time has passed since the last message came.
     idle: u32,
 }
 
@@ -92,7 +89,7 @@ impl Traffic {
         Ok(())
     }
 
-    // Hands over packets until none is under way, and answers whether there was one.
+    // Hands over the packets that have arrived, and answers whether there was one.
     fn deliver(&mut self, pair: &mut Pair) -> Result<bool, Failure> {
         let mut has_moved = false;
         for _ in 0..u64::MAX {
@@ -126,6 +123,6 @@ impl Traffic {
             return Err(Failure::Stuck(self.ledger.count));
         }
         self.idle = self.idle.saturating_add(1);
-        pair.pass(Duration::from_millis(TICK))
+        pair.pass()
     }
 }
