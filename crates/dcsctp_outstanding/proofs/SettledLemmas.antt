@@ -12,7 +12,7 @@ use Rattle.dcsctp_outstanding.specs.declared.progress.Change.TheVariants.{SendAg
 use Rattle.dcsctp_outstanding.specs.declared.progress.ItemState.{ItemState}
 use Rattle.dcsctp_outstanding.specs.declared.progress.ItemState.TheVariants.{InFlight, Marked, Acknowledged, Abandoned}
 use Rattle.dcsctp_outstanding.specs.declared.progress.Progress.{Progress}
-use Rattle.dcsctp_outstanding.specs.Progress.{changed, missed, marked, acknowledged, is_in_flight, is_unacknowledged, is_settled, leaves_settled, is_left_by, is_unsettled_by}
+use Rattle.dcsctp_outstanding.specs.Progress.{changed, tells_of, missed, missed_where, marked, acknowledged, is_in_flight, is_unacknowledged, is_settled, leaves_settled, is_left_by, is_unsettled_by}
 use Rattle.dcsctp_outstanding.specs.Items.{changed_item, changed_between}
 use Rattle.dcsctp_outstanding.specs.declared.totals.Totals.{Totals}
 use Rattle.dcsctp_outstanding.specs.Outstanding.{IsKept, reported}
@@ -24,12 +24,17 @@ use Rattle.dcsctp_outstanding.proofs.ReportLemmas.{has_item, last_either}
 
 -- ---- one item
 
+-- a miss leaves an item that it leaves where the SACK tells of it
+miss_is_same : (b : Bool) (progress : Progress) → missed progress.state progress ≡ progress → missed_where b progress ≡ progress
+miss_is_same true progress same = same
+miss_is_same false progress same = refl
+
 -- a change leaves what it is known to leave
 pub left_is_same : (change : Change) (progress : Progress) → is_left_by change progress ≡ true → changed change progress ≡ progress
-left_is_same SendAgain progress h = absurd (cc)
-left_is_same Miss progress h = go progress.state h
+left_is_same (SendAgain next) progress h = absurd (cc)
+left_is_same (Miss newest) progress h = miss_is_same (tells_of progress.sent_before newest) progress (go progress.state h)
   where
-    go : (state : ItemState) → is_left_by Miss (record progress { state = state }) ≡ true → missed state (record progress { state = state }) ≡ record progress { state = state }
+    go : (state : ItemState) → is_left_by (Miss newest) (record progress { state = state }) ≡ true → missed state (record progress { state = state }) ≡ record progress { state = state }
     go InFlight h = grind (arith, nat_tests)
     go Marked h = refl
     go Acknowledged h = refl
@@ -58,8 +63,8 @@ settled_is_not_awaited progress h awaited = let both = rw awaited at h in absurd
 
 -- Most changes are known to leave what is settled.
 pub settled_is_left : (change : Change) (progress : Progress) → leaves_settled change ≡ true → is_settled progress ≡ true → changed change progress ≡ progress
-settled_is_left SendAgain progress leaves h = absurd (cc)
-settled_is_left Miss progress leaves h = go progress.state h
+settled_is_left (SendAgain next) progress leaves h = absurd (cc)
+settled_is_left (Miss newest) progress leaves h = miss_is_same (tells_of progress.sent_before newest) progress (go progress.state h)
   where
     go : (state : ItemState) → is_settled (record progress { state = state }) ≡ true → missed state (record progress { state = state }) ≡ record progress { state = state }
     go InFlight h = absurd (cc)
@@ -88,8 +93,8 @@ acknowledged_is_settled progress = go progress.state
 
 -- What is settled stays so, unless the change is known to unsettle it.
 pub stays_settled : (change : Change) (progress : Progress) → is_unsettled_by change progress ≡ false → is_settled progress ≡ true → is_settled (changed change progress) ≡ true
-stays_settled SendAgain progress keeps h = absurd (cc)
-stays_settled Miss progress keeps h = rw (settled_is_left Miss progress refl h) h
+stays_settled (SendAgain next) progress keeps h = absurd (cc)
+stays_settled (Miss newest) progress keeps h = rw (settled_is_left (Miss newest) progress refl h) h
 stays_settled Mark progress keeps h = rw (settled_is_left Mark progress refl h) h
 stays_settled Acknowledge progress keeps h = acknowledged_is_settled progress
 stays_settled Abandon progress keeps h = go progress.state h

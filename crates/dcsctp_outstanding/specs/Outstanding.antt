@@ -83,7 +83,7 @@ pub record IsKept (header cursor : ℕ) (items : List Item) (totals : Totals) (n
 
 -- that of an item that was just sent
 abbrev pub just_sent : Progress
-just_sent = record { state = InFlight; was_acknowledged = false; times_sent_again = 0; misses = 0 }
+just_sent = record { state = InFlight; was_acknowledged = false; times_sent_again = 0; sent_before = None; misses = 0 }
 
 -- An item that is sent for the first time: its payload isn't empty, and not above `max` bytes.
 pub record IsSentFirst (now max : ℕ) (item : Item) : Type 0 where

@@ -1,8 +1,8 @@
 //! How far an item is, and what changes that.
 
-ghost use Rattle.std.specs.Prelude.{◌≡◌, false};
+ghost use Rattle.std.specs.Prelude.{◌≡◌, false, None};
 ghost use Rattle.dcsctp_outstanding.specs.declared.progress.ItemState.TheVariants.{InFlight};
-ghost use Rattle.dcsctp_outstanding.specs.Progress.{is_in_flight, is_marked, is_unacknowledged, is_abandoned, sent_again, missed, marked, acknowledged, changed, is_settled, leaves_settled, is_left_by, is_unsettled_by};
+ghost use Rattle.dcsctp_outstanding.specs.Progress.{is_in_flight, is_marked, is_unacknowledged, is_abandoned, sent_again, has_come_to, tells_of, missed, missed_where, marked, acknowledged, changed, is_settled, leaves_settled, is_left_by, is_unsettled_by};
 
 /// How far an item is.
 #[derive(Clone, Copy, Debug, PartialEq, Eq)]
@@ -32,19 +32,22 @@ pub struct Progress {
     /// How often it was sent again.
     pub times_sent_again: u16,
 
-    /// How often it was reported missing since it was sent. At three it was marked for that, which happens
-    /// once at most (RFC 9260, section 7.2.4).
+    /// The TSN that went out next for the first time when it was sent again last; none where it was sent once.
+    pub sent_before: Option<u32>,
+
+    /// How often it was reported missing since it was sent last. At three it is marked for that.
     pub misses: u8,
 }
 
 /// What may happen to an item.
 #[derive(Clone, Copy, Debug)]
 pub enum Change {
-    /// It is sent again.
-    SendAgain,
+    /// It is sent again, before this TSN goes out for the first time.
+    SendAgain(u32),
 
-    /// It is reported missing, while later ones have arrived.
-    Miss,
+    /// It is reported missing, while later ones have arrived, by a SACK. The TSN is the newest that this one
+    /// acknowledges and none before did; there may be none.
+    Miss(Option<u32>),
 
     /// The retransmission timer has expired.
     Mark,
@@ -62,8 +65,8 @@ impl Change {
         ensures { result ≡ leaves_settled self }
     {
         match self {
-            Change::Miss | Change::Mark | Change::Acknowledge => true,
-            Change::SendAgain | Change::Abandon => false,
+            Change::Miss(_) | Change::Mark | Change::Acknowledge => true,
+            Change::SendAgain(_) | Change::Abandon => false,
         }
     }
 }
@@ -110,6 +113,26 @@ impl ItemState {
     }
 }
 
+// Has the TSN come to the other one (RFC 9260, section 1.6)?
+fn has_come_to(newest: u32, tsn: u32) -> bool
+    ensures { result ≡ has_come_to newest tsn }
+{
+    newest.wrapping_sub(tsn) < 0x8000_0000
+}
+
+// Does a SACK tell whether an item is missing? Of one that was sent again, it does where it acknowledges a TSN
+// that went out behind it. Unlike RFC 9260, section 7.2.4, such an item may be sent again fast once more
+// (docs/DECISIONS.md, Lost again).
+fn tells_of(sent_before: Option<u32>, newest: Option<u32>) -> bool
+    ensures { result ≡ tells_of sent_before newest }
+{
+    match (sent_before, newest) {
+        (None, _) => true,
+        (Some(_), None) => false,
+        (Some(next), Some(newest)) => has_come_to(newest, next),
+    }
+}
+
 impl Progress {
     /// That of an item that was just sent.
     pub fn new() -> Progress
@@ -117,6 +140,7 @@ impl Progress {
           state = InFlight;
           was_acknowledged = false;
           times_sent_again = 0;
+          sent_before = None;
           misses = 0;
         } }
     {
@@ -124,19 +148,21 @@ impl Progress {
             state: ItemState::InFlight,
             was_acknowledged: false,
             times_sent_again: 0,
+            sent_before: None,
             misses: 0,
         }
     }
 
-    // Sent again.
-    fn sent_again(self) -> Progress
-        ensures { result ≡ sent_again self }
+    // Sent again, before this TSN goes out for the first time.
+    fn sent_again(self, next: u32) -> Progress
+        ensures { result ≡ sent_again next self }
     {
         Progress {
             state: ItemState::InFlight,
             was_acknowledged: self.was_acknowledged,
             times_sent_again: self.times_sent_again.saturating_add(1),
-            misses: if self.misses < 3 { 0 } else { self.misses },
+            sent_before: Some(next),
+            misses: 0,
         }
     }
 
@@ -151,6 +177,7 @@ impl Progress {
                         state: ItemState::Marked,
                         was_acknowledged: self.was_acknowledged,
                         times_sent_again: self.times_sent_again,
+                        sent_before: self.sent_before,
                         misses: 3,
                     }
                 } else if self.misses < 2 {
@@ -158,6 +185,7 @@ impl Progress {
                         state: self.state,
                         was_acknowledged: self.was_acknowledged,
                         times_sent_again: self.times_sent_again,
+                        sent_before: self.sent_before,
                         misses: self.misses + 1,
                     }
                 } else {
@@ -168,6 +196,13 @@ impl Progress {
         }
     }
 
+    // Reported missing by a SACK, where that tells of it.
+    fn missed_where(self, is_told: bool) -> Progress
+        ensures { result ≡ missed_where is_told self }
+    {
+        if is_told { self.missed() } else { self }
+    }
+
     // In this state, with the same counts.
     fn in_state(self, state: ItemState) -> Progress
         ensures { result ≡ record self { state = state } }
@@ -176,6 +211,7 @@ impl Progress {
             state,
             was_acknowledged: self.was_acknowledged,
             times_sent_again: self.times_sent_again,
+            sent_before: self.sent_before,
             misses: self.misses,
         }
     }
@@ -202,6 +238,7 @@ impl Progress {
             state,
             was_acknowledged: true,
             times_sent_again: self.times_sent_again,
+            sent_before: self.sent_before,
             misses: self.misses,
         }
     }
@@ -211,8 +248,8 @@ impl Progress {
         ensures { result ≡ changed change self }
     {
         match change {
-            Change::SendAgain => self.sent_again(),
-            Change::Miss => self.missed(),
+            Change::SendAgain(next) => self.sent_again(next),
+            Change::Miss(newest) => self.missed_where(tells_of(self.sent_before, newest)),
             Change::Mark => self.marked(),
             Change::Acknowledge => self.acknowledged(),
             Change::Abandon => self.in_state(ItemState::Abandoned),
@@ -235,7 +272,7 @@ impl Progress {
         ensures { result ≡ is_left_by change self }
     {
         match change {
-            Change::Miss => {
+            Change::Miss(_) => {
                 if self.state.is_in_flight() {
                     3 <= self.misses
                 } else {
@@ -244,7 +281,7 @@ impl Progress {
             }
             Change::Mark => !self.state.is_in_flight(),
             Change::Acknowledge => self.is_settled(),
-            Change::SendAgain | Change::Abandon => false,
+            Change::SendAgain(_) | Change::Abandon => false,
         }
     }
 
@@ -253,8 +290,8 @@ impl Progress {
         ensures { result ≡ is_unsettled_by change self }
     {
         match change {
-            Change::SendAgain => self.is_settled(),
-            Change::Miss | Change::Mark | Change::Acknowledge | Change::Abandon => false,
+            Change::SendAgain(_) => self.is_settled(),
+            Change::Miss(_) | Change::Mark | Change::Acknowledge | Change::Abandon => false,
         }
     }
 }

@@ -1,5 +1,5 @@
 -- A SACK is an answer where fewer items are left that no SACK has acknowledged.
-use Rattle.std.proofs.Common.{◌≡◌, ◌∙◌, ◌⊎◌, inl, inr, ℕ, zero, suc, ◌+◌, ◌-◌, ◌<◌, ◌≤◌, ◌==◌, nat_lt, not, Bool, true, false, if◌then◌else◌, Some, List, [], ◌∷◌, drop, refl, ap, sym, arith}
+use Rattle.std.proofs.Common.{Option, ◌≡◌, ◌∙◌, ◌⊎◌, inl, inr, ℕ, zero, suc, ◌+◌, ◌-◌, ◌<◌, ◌≤◌, ◌==◌, nat_lt, not, Bool, true, false, if◌then◌else◌, Some, List, [], ◌∷◌, drop, refl, ap, sym, arith}
 use Rattle.std.specs.List.{sum_by, slice_get}
 use Rattle.std.proofs.lemmas.List.Sums.{sum_by-cons}
 use Rattle.std.proofs.lemmas.Bool.Decides.{nat_tests}
@@ -10,13 +10,14 @@ use Rattle.dcsctp_outstanding.specs.declared.progress.ItemState.TheVariants.{InF
 use Rattle.dcsctp_outstanding.specs.declared.progress.Progress.{Progress}
 use Rattle.dcsctp_outstanding.specs.declared.progress.Change.{Change}
 use Rattle.dcsctp_outstanding.specs.declared.progress.Change.TheVariants.{Miss, Acknowledge}
-use Rattle.dcsctp_outstanding.specs.Progress.{missed, acknowledged}
+use Rattle.dcsctp_outstanding.specs.Progress.{tells_of, missed, missed_where, acknowledged}
+use Rattle.std.specs.Option.{option_map}
 use Rattle.dcsctp_outstanding.specs.Items.{counted, never_acknowledged_count, never_acknowledged_items, changed_item, changed_between}
 use Rattle.dcsctp_outstanding.specs.Outstanding.{reported}
 use Rattle.dcsctp_outstanding.specs.Reports.{Names}
 use Rattle.dcsctp_outstanding.proofs.ItemsLemmas.{le_or_lt}
 use Rattle.dcsctp_outstanding.specs.Items.{marked_items}
-use Rattle.dcsctp_outstanding.specs.Outstanding.{acknowledged_by}
+use Rattle.dcsctp_outstanding.specs.Outstanding.{acknowledged_by, tsn_at}
 use Rattle.dcsctp_retransmission.specs.Queue.{QueueModel, covered, with_items, lossy, missed_until, exiting, has_acknowledged, TakesSack}
 use Rattle.dcsctp_retransmission.specs.Answers.{Answers, SaysAnswer}
 
@@ -42,14 +43,18 @@ acknowledged_now progress Acknowledged = refl
 acknowledged_now progress Abandoned = refl
 
 -- a miss leaves whether a SACK has acknowledged it
-pub miss_keeps : (item : Item) → (changed_item Miss item).progress.was_acknowledged ≡ item.progress.was_acknowledged
-miss_keeps item = missed_stays item.progress item.progress.state
+pub miss_keeps : (newest : Option ℕ) (item : Item) → (changed_item (Miss newest) item).progress.was_acknowledged ≡ item.progress.was_acknowledged
+miss_keeps newest item = go (tells_of item.progress.sent_before newest)
+  where
+    go : (b : Bool) → (missed_where b item.progress).was_acknowledged ≡ item.progress.was_acknowledged
+    go true = missed_stays item.progress item.progress.state
+    go false = refl
 
 pub acknowledge_notes : (item : Item) → (changed_item Acknowledge item).progress.was_acknowledged ≡ true
 acknowledge_notes item = acknowledged_now item.progress item.progress.state
 
-pub miss_adds_none : (item : Item) → never_acknowledged_count (changed_item Miss item) ≤ never_acknowledged_count item
-miss_adds_none item = let same = ap (λ (b : Bool). counted (not b) 1) (miss_keeps item) in omega (arith, same)
+pub miss_adds_none : (newest : Option ℕ) (item : Item) → never_acknowledged_count (changed_item (Miss newest) item) ≤ never_acknowledged_count item
+miss_adds_none newest item = let same = ap (λ (b : Bool). counted (not b) 1) (miss_keeps newest item) in omega (arith, same)
 
 pub acknowledge_adds_none : (item : Item) → never_acknowledged_count (changed_item Acknowledge item) ≤ never_acknowledged_count item
 acknowledge_adds_none item = let none = ap (λ (b : Bool). counted (not b) 1) (acknowledge_notes item) in omega (arith, none)
@@ -261,16 +266,16 @@ dropped_fell (suc count) (y ∷ ys) less = go y.progress.was_acknowledged refl l
 -- ---- a SACK
 
 -- what is left of the items: the first ones, so many, are gone, those that the blocks name are acknowledged, and some miss
-abbrev left_of : ℕ → ℕ → List GapAckBlock → List Item → List Item
-left_of count limit blocks items = drop count (changed_between Miss count limit (covered count blocks items))
+abbrev left_of : ℕ → ℕ → Option ℕ → List GapAckBlock → List Item → List Item
+left_of count limit newest blocks items = drop count (changed_between (Miss newest) count limit (covered count blocks items))
 
-answers_lessen : (count limit : ℕ) (blocks : List GapAckBlock) (items : List Item) → Answers count blocks items → never_acknowledged_items (left_of count limit blocks items) < never_acknowledged_items items
-answers_lessen count limit blocks items answers =
+answers_lessen : (count limit : ℕ) (newest : Option ℕ) (blocks : List GapAckBlock) (items : List Item) → Answers count blocks items → never_acknowledged_items (left_of count limit newest blocks items) < never_acknowledged_items items
+answers_lessen count limit newest blocks items answers =
     let passed : List Item = changed_between Acknowledge 0 count items in
     let first = lessened never_acknowledged_count Acknowledge acknowledge_adds_none 0 count items in
     let named = reported_lessens never_acknowledged_count acknowledge_adds_none count blocks passed in
-    let misses = lessened never_acknowledged_count Miss miss_adds_none count limit (covered count blocks items) in
-    let drops = dropped_lessens never_acknowledged_count count (changed_between Miss count limit (covered count blocks items)) in
+    let misses = lessened never_acknowledged_count (Miss newest) (miss_adds_none newest) count limit (covered count blocks items) in
+    let drops = dropped_lessens never_acknowledged_count count (changed_between (Miss newest) count limit (covered count blocks items)) in
     elim (answers.is.0) [
       | inl within ↦ let fewer = falls 0 count items answers.place answers.item (omega arith) within answers.at answers.is.1 in omega (arith, fewer, named, misses, drops)
       | inr names ↦ elim (left_or_fewer 0 count items answers.place answers.item answers.at answers.is.1) [
@@ -280,12 +285,12 @@ answers_lessen count limit blocks items answers =
     ]
 
 -- one that is passed though no SACK had acknowledged it
-passed_first : (count limit : ℕ) (blocks : List GapAckBlock) (items : List Item) → Found (λ k. k < count) (changed_between Miss count limit (covered count blocks items)) → Answers count blocks items
-passed_first count limit blocks items found =
-    let from = comes_of Miss count limit (covered count blocks items) found.place found.item found.at in
+passed_first : (count limit : ℕ) (newest : Option ℕ) (blocks : List GapAckBlock) (items : List Item) → Found (λ k. k < count) (changed_between (Miss newest) count limit (covered count blocks items)) → Answers count blocks items
+passed_first count limit newest blocks items found =
+    let from = comes_of (Miss newest) count limit (covered count blocks items) found.place found.item found.at in
     let never : from.0.progress.was_acknowledged ≡ false = elim (from.1.1) [
       | inl same ↦ ap (λ (x : Item). x.progress.was_acknowledged) (sym same) ∙ found.never
-      | inr is ↦ sym (miss_keeps from.0) ∙ (ap (λ (x : Item). x.progress.was_acknowledged) (sym is) ∙ found.never)
+      | inr is ↦ sym (miss_keeps newest from.0) ∙ (ap (λ (x : Item). x.progress.was_acknowledged) (sym is) ∙ found.never)
     ] in
     let passed : List Item = changed_between Acknowledge 0 count items in
     record {
@@ -295,10 +300,10 @@ passed_first count limit blocks items found =
       is = (inl found.within, never);
     }
 
-lessens_answer : (count limit : ℕ) (blocks : List GapAckBlock) (items : List Item) → never_acknowledged_items (left_of count limit blocks items) < never_acknowledged_items items → Answers count blocks items
-lessens_answer count limit blocks items less =
+lessens_answer : (count limit : ℕ) (newest : Option ℕ) (blocks : List GapAckBlock) (items : List Item) → never_acknowledged_items (left_of count limit newest blocks items) < never_acknowledged_items items → Answers count blocks items
+lessens_answer count limit newest blocks items less =
     let passed : List Item = changed_between Acknowledge 0 count items in
-    let marked : List Item = changed_between Miss count limit (covered count blocks items) in
+    let marked : List Item = changed_between (Miss newest) count limit (covered count blocks items) in
     elim (le_or_lt (never_acknowledged_items items) (never_acknowledged_items passed)) [
       | inr fewer ↦
           let found = fell 0 count items fewer in
@@ -309,25 +314,25 @@ lessens_answer count limit blocks items less =
             record { place = found.place; item = found.item; at = was_so 0 count items found.place found.item found.at found.never; is = (inr found.within, found.never) }
         | inl all_named ↦
             let kept = missing_keeps count limit (covered count blocks items) in
-            passed_first count limit blocks items (dropped_fell count marked (omega (arith, less, all_passed, all_named, kept)))
+            passed_first count limit newest blocks items (dropped_fell count marked (omega (arith, less, all_passed, all_named, kept)))
       ]
     ]
   where
-    missing_keeps : (start end : ℕ) (xs : List Item) → never_acknowledged_items xs ≤ never_acknowledged_items (changed_between Miss start end xs)
+    missing_keeps : (start end : ℕ) (xs : List Item) → never_acknowledged_items xs ≤ never_acknowledged_items (changed_between (Miss newest) start end xs)
     missing_keeps zero zero xs = omega arith
     missing_keeps zero (suc end) [] = omega arith
     missing_keeps zero (suc end) (x ∷ xs) =
         let later = missing_keeps zero end xs in
-        let here = ap (λ (b : Bool). counted (not b) 1) (miss_keeps x) in
+        let here = ap (λ (b : Bool). counted (not b) 1) (miss_keeps newest x) in
         let old = sum_by-cons never_acknowledged_count x xs in
-        let new = sum_by-cons never_acknowledged_count (changed_item Miss x) (changed_between Miss zero end xs) in
+        let new = sum_by-cons never_acknowledged_count (changed_item (Miss newest) x) (changed_between (Miss newest) zero end xs) in
         omega (arith, later, here, old, new)
     missing_keeps (suc start) zero xs = omega arith
     missing_keeps (suc start) (suc end) [] = omega arith
     missing_keeps (suc start) (suc end) (x ∷ xs) =
         let later = missing_keeps start end xs in
         let old = sum_by-cons never_acknowledged_count x xs in
-        let new = sum_by-cons never_acknowledged_count x (changed_between Miss start end xs) in
+        let new = sum_by-cons never_acknowledged_count x (changed_between (Miss newest) start end xs) in
         omega (arith, later, old, new)
 
 is_less : (n m : ℕ) → true ≡ nat_lt n m → n < m
@@ -337,24 +342,24 @@ contradicts : (n m : ℕ) → false ≡ nat_lt n m → n < m → ⊥
 contradicts n m is less = grind (arith, nat_tests)
 
 -- The numbers of items tell whether it is an answer.
-pub says_answer : (count limit : ℕ) (blocks : List GapAckBlock) (items left : List Item) (b : Bool) → left ≡ left_of count limit blocks items → b ≡ nat_lt (never_acknowledged_items left) (never_acknowledged_items items)
+pub says_answer : (count limit : ℕ) (newest : Option ℕ) (blocks : List GapAckBlock) (items left : List Item) (b : Bool) → left ≡ left_of count limit newest blocks items → b ≡ nat_lt (never_acknowledged_items left) (never_acknowledged_items items)
     → SaysAnswer b count blocks items
-says_answer count limit blocks items left true is counts =
+says_answer count limit newest blocks items left true is counts =
     let fewer = ap never_acknowledged_items is in
     let less = is_less (never_acknowledged_items left) (never_acknowledged_items items) counts in
-    lessens_answer count limit blocks items (omega (arith, fewer, less))
-says_answer count limit blocks items left false is counts =
+    lessens_answer count limit newest blocks items (omega (arith, fewer, less))
+says_answer count limit newest blocks items left false is counts =
     let fewer = ap never_acknowledged_items is in
     λ answers.
-    let less = answers_lessen count limit blocks items answers in
+    let less = answers_lessen count limit newest blocks items answers in
     contradicts (never_acknowledged_items left) (never_acknowledged_items items) counts (omega (arith, fewer, less))
 
-missed_items : (count limit : ℕ) (queue : QueueModel) → (missed_until count limit queue).outstanding.items ≡ changed_between Miss count limit queue.outstanding.items
-missed_items count limit queue = go (nat_lt (marked_items queue.outstanding.items) (marked_items (changed_between Miss count limit queue.outstanding.items)))
+missed_items : (count limit : ℕ) (newest : Option ℕ) (queue : QueueModel) → (missed_until count limit newest queue).outstanding.items ≡ changed_between (Miss newest) count limit queue.outstanding.items
+missed_items count limit newest queue = go (nat_lt (marked_items queue.outstanding.items) (marked_items (changed_between (Miss newest) count limit queue.outstanding.items)))
   where
     go : (b : Bool)
-        → (if b then lossy (with_items (changed_between Miss count limit queue.outstanding.items) queue) else with_items (changed_between Miss count limit queue.outstanding.items) queue).outstanding.items
-        ≡ changed_between Miss count limit queue.outstanding.items
+        → (if b then lossy (with_items (changed_between (Miss newest) count limit queue.outstanding.items) queue) else with_items (changed_between (Miss newest) count limit queue.outstanding.items) queue).outstanding.items
+        ≡ changed_between (Miss newest) count limit queue.outstanding.items
     go true = refl
     go false = refl
 
@@ -364,6 +369,6 @@ pub sack_answers : (now cumulative window : ℕ) (blocks : List GapAckBlock) (ol
 sack_answers now cumulative window blocks old new b takes counts =
     let count : ℕ = acknowledged_by old.outstanding cumulative in
     let items : List Item = old.outstanding.items in
-    says_answer count takes.limit blocks items new.outstanding.items b
-    (ap (λ (q : QueueModel). q.outstanding.items) takes.is ∙ ap (λ (xs : List Item). drop count xs) (missed_items count takes.limit (with_items (covered count blocks items) (exiting cumulative old))))
+    says_answer count takes.limit (option_map (tsn_at old.outstanding) takes.newest) blocks items new.outstanding.items b
+    (ap (λ (q : QueueModel). q.outstanding.items) takes.is ∙ ap (λ (xs : List Item). drop count xs) (missed_items count takes.limit (option_map (tsn_at old.outstanding) takes.newest) (with_items (covered count blocks items) (exiting cumulative old))))
     counts

@@ -13,7 +13,7 @@ use Rattle.dcsctp_outstanding.specs.declared.progress.Change.{Change}
 use Rattle.dcsctp_outstanding.specs.declared.progress.Change.TheVariants.{SendAgain, Abandon}
 use Rattle.dcsctp_outstanding.specs.Progress.{is_marked, changed}
 use Rattle.dcsctp_outstanding.specs.Items.{counted, marked_count, marked_items, changed_item, changed_between}
-use Rattle.dcsctp_outstanding.specs.Outstanding.{OutstandingModel, IsMarkedAt, MayAddEnd, SendsNext}
+use Rattle.dcsctp_outstanding.specs.Outstanding.{OutstandingModel, next_tsn, IsMarkedAt, MayAddEnd, SendsNext}
 use Rattle.dcsctp_retransmission.specs.Queue.{QueueModel, GivesUp}
 use Rattle.dcsctp_retransmission.specs.declared.packet.Packet.{Packet}
 use Rattle.dcsctp_retransmission.specs.Sending.{counted_again, Filled, Fills, none as none_packed}
@@ -104,7 +104,7 @@ waits_for_room place old new room left next again =
 pub goes_again : (r : Result Bool AllocError) (place : ℕ) (old between new : QueueModel) (room left : ℕ) → marked_items between.outstanding.items ≤ marked_items old.outstanding.items → IsNextMarked place between.outstanding.items → IfOk r (SendsAgain place between.outstanding room new.outstanding left) → IfOk r (GoesAgain old new left)
 goes_again (Ok true) place old between new room left fewer next again =
     let items = ap (λ (m : OutstandingModel). marked_items m.items) again in
-    let one = fewer_marked SendAgain (λ progress. refl) place (place + 1) place between.outstanding.items next.marked.item (omega arith) (omega arith) next.marked.at next.marked.is in
+    let one = fewer_marked (SendAgain (next_tsn between.outstanding)) (λ progress. refl) place (place + 1) place between.outstanding.items next.marked.item (omega arith) (omega arith) next.marked.at next.marked.is in
     omega arith
 goes_again (Ok false) place old between new room left fewer next again =
     let items = ap (λ (m : OutstandingModel). marked_items m.items) again.0 in (

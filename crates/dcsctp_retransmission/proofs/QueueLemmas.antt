@@ -1,5 +1,5 @@
 -- Lemmas on queues.
-use Rattle.std.proofs.Common.{◌≡◌, inl, inr, length-append, zero, suc, [], ◌∷◌, ◌++◌, take, Some, append_assoc, ℕ, ◌+◌, ◌-◌, ◌<◌, ◌≤◌, drop, refl, Bool, true, false, List, length, nat_lt, if◌then◌else◌, ap, sym, ◌∙◌, arith}
+use Rattle.std.proofs.Common.{Option, ◌≡◌, inl, inr, length-append, zero, suc, [], ◌∷◌, ◌++◌, take, Some, append_assoc, ℕ, ◌+◌, ◌-◌, ◌<◌, ◌≤◌, drop, refl, Bool, true, false, List, length, nat_lt, if◌then◌else◌, ap, sym, ◌∙◌, arith}
 use Rattle.std.specs.List.{slice_get}
 use Rattle.std.proofs.lemmas.List.{append-nil}
 use Rattle.dcsctp_api.specs.declared.events.SocketEvent.{SocketEvent}
@@ -17,18 +17,18 @@ use Rattle.dcsctp_outstanding.specs.Outstanding.{OutstandingModel, MayAddEnd}
 use Rattle.dcsctp_outstanding.proofs.ItemsLemmas.{length-changed_between}
 
 -- misses leave the items in number
-pub length-missed_until : (count limit : ℕ) (queue : QueueModel) → length (missed_until count limit queue).outstanding.items ≡ length queue.outstanding.items
-length-missed_until count limit queue =
-    go (nat_lt (marked_items queue.outstanding.items) (marked_items (changed_between Miss count limit queue.outstanding.items)))
+pub length-missed_until : (count limit : ℕ) (newest : Option ℕ) (queue : QueueModel) → length (missed_until count limit newest queue).outstanding.items ≡ length queue.outstanding.items
+length-missed_until count limit newest queue =
+    go (nat_lt (marked_items queue.outstanding.items) (marked_items (changed_between (Miss newest) count limit queue.outstanding.items)))
   where
-    go : (b : Bool) → length (if b then lossy (with_items (changed_between Miss count limit queue.outstanding.items) queue) else with_items (changed_between Miss count limit queue.outstanding.items) queue).outstanding.items ≡ length queue.outstanding.items
-    go true = length-changed_between Miss count limit queue.outstanding.items
-    go false = length-changed_between Miss count limit queue.outstanding.items
+    go : (b : Bool) → length (if b then lossy (with_items (changed_between (Miss newest) count limit queue.outstanding.items) queue) else with_items (changed_between (Miss newest) count limit queue.outstanding.items) queue).outstanding.items ≡ length queue.outstanding.items
+    go true = length-changed_between (Miss newest) count limit queue.outstanding.items
+    go false = length-changed_between (Miss newest) count limit queue.outstanding.items
 
 -- a SACK, step by step
-pub acknowledged_is : (count : ℕ) (blocks : List GapAckBlock) (limit : ℕ) (old mid left new : QueueModel) (ack : Acknowledged) → mid ≡ missed_until count limit (with_items (covered count blocks old.outstanding.items) old) → left ≡ without_first count mid → ack ≡ acknowledgement count old left → new ≡ grown_by ack left → new ≡ acknowledged_until count blocks limit old
-acknowledged_is count blocks limit old mid left new ack is_mid is_left is_ack is_new =
-    let left_is : left ≡ without_first count (missed_until count limit (with_items (covered count blocks old.outstanding.items) old)) = is_left ∙ ap (without_first count) is_mid in
+pub acknowledged_is : (count : ℕ) (blocks : List GapAckBlock) (limit : ℕ) (newest : Option ℕ) (old mid left new : QueueModel) (ack : Acknowledged) → mid ≡ missed_until count limit newest (with_items (covered count blocks old.outstanding.items) old) → left ≡ without_first count mid → ack ≡ acknowledgement count old left → new ≡ grown_by ack left → new ≡ acknowledged_until count blocks limit newest old
+acknowledged_is count blocks limit newest old mid left new ack is_mid is_left is_ack is_new =
+    let left_is : left ≡ without_first count (missed_until count limit newest (with_items (covered count blocks old.outstanding.items) old)) = is_left ∙ ap (without_first count) is_mid in
     is_new ∙ ap (λ (a : Acknowledged). grown_by a left) is_ack ∙ ap (λ (q : QueueModel). grown_by (acknowledgement count old q) q) left_is
 
 -- what is told of one more item

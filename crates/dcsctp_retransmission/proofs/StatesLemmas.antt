@@ -76,26 +76,26 @@ first_stays change start zero items = refl
 first_stays change start (suc end) [] = refl
 first_stays change start (suc end) (x ∷ xs) = refl
 
-first_sent : (items : List Item) → is_first_marked (changed_between SendAgain 0 1 items) ≡ false
-first_sent [] = refl
-first_sent (x ∷ xs) = refl
+first_sent : (next : ℕ) (items : List Item) → is_first_marked (changed_between (SendAgain next) 0 1 items) ≡ false
+first_sent next [] = refl
+first_sent next (x ∷ xs) = refl
 
 first_waits : (items : List Item) (item : Item) → slice_get items 0 ≡ Some item → is_marked item.progress.state ≡ true → is_first_marked items ≡ true
 first_waits [] item at is = absurd (cc)
 first_waits (x ∷ xs) item at is = let same : x ≡ item = cc in ap (λ (y : Item). is_marked y.progress.state) same ∙ is
 
 -- the first item is sent again
-pub sends_first_here : (restarts : Bool) (place : ℕ) (old items new : List Item) → place ≡ 0 → IsNextMarked place items → new ≡ changed_between SendAgain place (place + 1) items → SendsFirst old items restarts → SendsFirst old new true
-sends_first_here true place old items new here next is first = (first.0, ap is_first_marked is ∙ (ap (λ (p : ℕ). is_first_marked (changed_between SendAgain p (p + 1) items)) here ∙ first_sent items))
-sends_first_here false place old items new here next is first =
+pub sends_first_here : (restarts : Bool) (tsn place : ℕ) (old items new : List Item) → place ≡ 0 → IsNextMarked place items → new ≡ changed_between (SendAgain tsn) place (place + 1) items → SendsFirst old items restarts → SendsFirst old new true
+sends_first_here true tsn place old items new here next is first = (first.0, ap is_first_marked is ∙ (ap (λ (p : ℕ). is_first_marked (changed_between (SendAgain tsn) p (p + 1) items)) here ∙ first_sent tsn items))
+sends_first_here false tsn place old items new here next is first =
     let at : slice_get items 0 ≡ Some next.marked.item = ap (slice_get items) (sym here) ∙ next.marked.at in
-    (sym first ∙ first_waits items next.marked.item at next.marked.is, ap is_first_marked is ∙ (ap (λ (p : ℕ). is_first_marked (changed_between SendAgain p (p + 1) items)) here ∙ first_sent items))
+    (sym first ∙ first_waits items next.marked.item at next.marked.is, ap is_first_marked is ∙ (ap (λ (p : ℕ). is_first_marked (changed_between (SendAgain tsn) p (p + 1) items)) here ∙ first_sent tsn items))
 
 -- a later item is
-pub sends_first_later : (restarts : Bool) (place : ℕ) (old items new : List Item) → (place ≡ 0 → ⊥) → new ≡ changed_between SendAgain place (place + 1) items → SendsFirst old items restarts → SendsFirst old new restarts
-sends_first_later restarts zero old items new later is first = absurd (later refl)
-sends_first_later true (suc place) old items new later is first = (first.0, ap is_first_marked is ∙ (first_stays SendAgain place (suc place + 1) items ∙ first.1))
-sends_first_later false (suc place) old items new later is first = ap is_first_marked is ∙ (first_stays SendAgain place (suc place + 1) items ∙ first)
+pub sends_first_later : (restarts : Bool) (tsn place : ℕ) (old items new : List Item) → (place ≡ 0 → ⊥) → new ≡ changed_between (SendAgain tsn) place (place + 1) items → SendsFirst old items restarts → SendsFirst old new restarts
+sends_first_later restarts tsn zero old items new later is first = absurd (later refl)
+sends_first_later true tsn (suc place) old items new later is first = (first.0, ap is_first_marked is ∙ (first_stays (SendAgain tsn) place (suc place + 1) items ∙ first.1))
+sends_first_later false tsn (suc place) old items new later is first = ap is_first_marked is ∙ (first_stays (SendAgain tsn) place (suc place + 1) items ∙ first)
 
 -- a new item goes out
 pub sends_new : (now max : ℕ) (old : QueueModel) (before after : Packet) (place size tsn : ℕ) (new : OutstandingModel) (waiting left : Backlog) (events telling : List SocketEvent)

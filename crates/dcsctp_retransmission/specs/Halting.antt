@@ -4,7 +4,7 @@ use Rattle.dcsctp_send_queue.specs.declared.backlog.Backlog.{Backlog}
 use Rattle.dcsctp_outstanding.specs.declared.item.Item.{Item}
 use Rattle.dcsctp_outstanding.specs.declared.progress.Change.TheVariants.{SendAgain}
 use Rattle.dcsctp_outstanding.specs.Items.{size_of, marked_items, changed_between}
-use Rattle.dcsctp_outstanding.specs.Outstanding.{OutstandingModel}
+use Rattle.dcsctp_outstanding.specs.Outstanding.{OutstandingModel, next_tsn}
 use Rattle.dcsctp_outstanding.specs.Next.{IsNextMarked, HasNone}
 use Rattle.dcsctp_retransmission.specs.Queue.{QueueModel, may_send}
 use Rattle.dcsctp_retransmission.specs.Sending.{PackedFrom}
@@ -34,7 +34,7 @@ Halts room queue waiting =
 
 -- what a try to send the item at the place again does, by whether it fits
 abbrev pub SendsAgain : ℕ → OutstandingModel → ℕ → OutstandingModel → ℕ → Bool → Type 0
-SendsAgain place old room new left true = new ≡ record old { items = changed_between SendAgain place (place + 1) old.items }
+SendsAgain place old room new left true = new ≡ record old { items = changed_between (SendAgain (next_tsn old)) place (place + 1) old.items }
 SendsAgain place old room new left false = (new ≡ old) × (left ≡ room) × IsLonger room place old
   where
     IsLonger : ℕ → ℕ → OutstandingModel → Type 0

@@ -1,5 +1,5 @@
 -- What is in flight, and what a user sees of it (RFC 9260, sections 6 and 7).
-use Rattle.std.specs.Prelude.{◌≡◌, ℕ, Result, Ok, Err, take, ◌+◌, ◌-◌, ◌%◌, ◌^◌, ◌<◌, ◌≤◌, ◌==◌, ◌&&◌, ◌||◌, Bool, true, false, None, List, [], ◌∷◌, ◌++◌, length, drop, nat_lt, nat_le, is_some, if◌then◌else◌}
+use Rattle.std.specs.Prelude.{◌≡◌, ℕ, Result, Ok, Err, take, ◌+◌, ◌-◌, ◌%◌, ◌^◌, ◌<◌, ◌≤◌, ◌==◌, ◌&&◌, ◌||◌, Bool, true, false, Option, None, List, [], ◌∷◌, ◌++◌, length, drop, nat_lt, nat_le, is_some, if◌then◌else◌}
 use Rattle.std.specs.Option.{option_map}
 use Rattle.std.specs.Duration.{as_nanos}
 use Rattle.dcsctp_wire.specs.declared.chunk.sack.GapAckBlock.{GapAckBlock}
@@ -21,9 +21,10 @@ use Rattle.dcsctp_outstanding.specs.declared.progress.Change.TheVariants.{Mark, 
 use Rattle.dcsctp_retransmission.specs.Congestion.{new_congestion, after_timeout, after_loss, after_acknowledgement, exit_after}
 use Rattle.dcsctp_outstanding.specs.Items.{bytes_in_flight, unacknowledged_bytes, unacknowledged_items, never_acknowledged_items, marked_items, changed_between}
 use Rattle.dcsctp_outstanding.specs.Missing.{MissesUntil}
+use Rattle.dcsctp_outstanding.specs.Reports.{IsNewlyAcknowledged, IsLast}
 use Rattle.dcsctp_retransmission.specs.RoundTrip.{MeasuresRoundTrip}
 use Rattle.dcsctp_retransmission.specs.Answers.{SaysAnswer}
-use Rattle.dcsctp_outstanding.specs.Outstanding.{OutstandingModel, MayAddEnd, next_tsn, acknowledged_by, reported}
+use Rattle.dcsctp_outstanding.specs.Outstanding.{OutstandingModel, MayAddEnd, next_tsn, tsn_at, acknowledged_by, reported}
 
 pub record QueueModel : Type 0 where
   pub outstanding : OutstandingModel
@@ -146,10 +147,11 @@ lossy queue =
       fast_retransmit_due = if is_some queue.congestion.recovery_exit then queue.fast_retransmit_due else true;
     }
 
--- the items from the place `count` to before the place `limit` with one more miss
-abbrev pub missed_until : ℕ → ℕ → QueueModel → QueueModel
-missed_until count limit queue =
-    let items = changed_between Miss count limit queue.outstanding.items in
+-- the items from the place `count` to before the place `limit` with one more miss, by a SACK that acknowledges this TSN last of those
+-- that none before did
+abbrev pub missed_until : ℕ → ℕ → Option ℕ → QueueModel → QueueModel
+missed_until count limit newest queue =
+    let items = changed_between (Miss newest) count limit queue.outstanding.items in
     if nat_lt (marked_items queue.outstanding.items) (marked_items items) then lossy (with_items items queue) else with_items items queue
 
 -- what the SACK says for the congestion window: of the queue before it, and of the one with what it covers removed
@@ -173,9 +175,9 @@ grown_by ack queue =
     record queue { congestion = after_acknowledgement ack queue.congestion.recovery_exit queue.congestion }
 
 -- The SACK's items are acknowledged; misses count before the place `limit`.
-abbrev pub acknowledged_until : ℕ → List GapAckBlock → ℕ → QueueModel → QueueModel
-acknowledged_until count blocks limit old =
-    let left = without_first count (missed_until count limit (with_items (covered count blocks old.outstanding.items) old)) in
+abbrev pub acknowledged_until : ℕ → List GapAckBlock → ℕ → Option ℕ → QueueModel → QueueModel
+acknowledged_until count blocks limit newest old =
+    let left = without_first count (missed_until count limit newest (with_items (covered count blocks old.outstanding.items) old)) in
     grown_by (acknowledgement count old left) left
 
 -- fast recovery may end with this cumulative TSN
@@ -202,8 +204,12 @@ pub record TakesSack (now cumulative window : ℕ) (blocks : List GapAckBlock) (
   pub limit : ℕ
   pub missing : let count = acknowledged_by old.outstanding cumulative in
       MissesUntil (is_recovering count (exiting cumulative old)) count blocks old.outstanding.items limit
+  -- the place of the last item that it acknowledges and none before did
+  pub newest : Option ℕ
+  pub is_newest : let count = acknowledged_by old.outstanding cumulative in
+      IsLast (IsNewlyAcknowledged count blocks) old.outstanding.items newest
   pub is : let count = acknowledged_by old.outstanding cumulative in
-      new ≡ settled_at now window count (acknowledged_until count blocks limit (exiting cumulative old))
+      new ≡ settled_at now window count (acknowledged_until count blocks limit (option_map (tsn_at old.outstanding) newest) (exiting cumulative old))
 
 -- Are fewer items left that no SACK has acknowledged?
 abbrev pub has_acknowledged : QueueModel → QueueModel → Bool

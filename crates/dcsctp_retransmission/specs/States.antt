@@ -95,7 +95,7 @@ pub record SendsMarked (now : ℕ) (old new : Stage) : Type 0 where
   pub stays : is_due now old.queue.partial_reliability next.marked.item ≡ false
   pub fits : size_of old.queue.outstanding.header next.marked.item ≤ old.room
   pub is : new ≡ record old {
-    queue = with_items (changed_between SendAgain place (place + 1) old.queue.outstanding.items) old.queue;
+    queue = with_items (changed_between (SendAgain (next_tsn old.queue.outstanding)) place (place + 1) old.queue.outstanding.items) old.queue;
     tsns = old.tsns ++ tsn_at old.queue.outstanding place ∷ [];
     room = old.room - size_of old.queue.outstanding.header next.marked.item;
   }
@@ -235,7 +235,7 @@ pub record SendsPacket (now bytes : ℕ) (old : QueueModel) (waiting : Backlog) 
 abbrev pub SendsAt : ℕ → Item → QueueModel → Packet → QueueModel → Packet → Bool → Type 0
 SendsAt place item old before new after true =
     (size_of old.outstanding.header item ≤ before.room)
-    × (new ≡ with_items (changed_between SendAgain place (place + 1) old.outstanding.items) old)
+    × (new ≡ with_items (changed_between (SendAgain (next_tsn old.outstanding)) place (place + 1) old.outstanding.items) old)
     × (after.tsns.items ≡ before.tsns.items ++ tsn_at old.outstanding place ∷ [])
     × (after.room ≡ before.room - size_of old.outstanding.header item)
 SendsAt place item old before new after false = (new ≡ old) × (after.tsns.items ≡ before.tsns.items) × (after.room ≡ before.room)

@@ -13,6 +13,7 @@ use Rattle.dcsctp_outstanding.specs.declared.progress.ItemState.TheVariants.{InF
 use Rattle.dcsctp_outstanding.specs.declared.progress.Change.TheVariants.{SendAgain}
 use Rattle.dcsctp_outstanding.specs.Progress.{is_marked, is_unacknowledged}
 use Rattle.dcsctp_outstanding.specs.Items.{counted, unacknowledged_count, unacknowledged_items, changed_item, changed_between}
+use Rattle.dcsctp_outstanding.specs.Outstanding.{next_tsn}
 use Rattle.dcsctp_outstanding.proofs.ItemsLemmas.{length-changed_between}
 use Rattle.dcsctp_retransmission.specs.Queue.{QueueModel, retransmission_state, header_of}
 use Rattle.dcsctp_retransmission.specs.Sending.{counted_again}
@@ -28,21 +29,21 @@ was_unacknowledged Marked is = refl
 was_unacknowledged Acknowledged is = absurd (cc)
 was_unacknowledged Abandoned is = absurd (cc)
 
-again_keeps : (place : ℕ) (items : List Item) (item : Item) → slice_get items place ≡ Some item → is_marked item.progress.state ≡ true
-    → unacknowledged_items (changed_between SendAgain place (suc place) items) ≡ unacknowledged_items items
-again_keeps zero [] item at is = refl
-again_keeps zero (x ∷ xs) item at is =
+again_keeps : (next place : ℕ) (items : List Item) (item : Item) → slice_get items place ≡ Some item → is_marked item.progress.state ≡ true
+    → unacknowledged_items (changed_between (SendAgain next) place (suc place) items) ≡ unacknowledged_items items
+again_keeps next zero [] item at is = refl
+again_keeps next zero (x ∷ xs) item at is =
     let same : x ≡ item = cc in
     let was : unacknowledged_count x ≡ 1 = was_unacknowledged x.progress.state (ap (λ (y : Item). is_marked y.progress.state) same ∙ is) in
-    let now : unacknowledged_count (changed_item SendAgain x) ≡ 1 = refl in
+    let now : unacknowledged_count (changed_item (SendAgain next) x) ≡ 1 = refl in
     let old = sum_by-cons unacknowledged_count x xs in
-    let new = sum_by-cons unacknowledged_count (changed_item SendAgain x) xs in
+    let new = sum_by-cons unacknowledged_count (changed_item (SendAgain next) x) xs in
     omega (arith, was, now, old, new)
-again_keeps (suc place) [] item at is = refl
-again_keeps (suc place) (x ∷ xs) item at is =
-    let later = again_keeps place xs item at is in
+again_keeps next (suc place) [] item at is = refl
+again_keeps next (suc place) (x ∷ xs) item at is =
+    let later = again_keeps next place xs item at is in
     let old = sum_by-cons unacknowledged_count x xs in
-    let new = sum_by-cons unacknowledged_count x (changed_between SendAgain place (suc place) xs) in
+    let new = sum_by-cons unacknowledged_count x (changed_between (SendAgain next) place (suc place) xs) in
     omega (arith, later, old, new)
 
 -- what stays
@@ -56,15 +57,16 @@ record Stays (old new : QueueModel) : Type 0 where
 one_stays : (now : ℕ) (old new : Stage) → SendsMarked now old new → Stays old.queue new.queue
 one_stays now old new sends =
     let place : ℕ = sends.place in
+    let next : ℕ = next_tsn old.queue.outstanding in
     let items : List Item = old.queue.outstanding.items in
-    let queue : QueueModel = record old.queue { outstanding = record old.queue.outstanding { items = changed_between SendAgain place (place + 1) items } } in
+    let queue : QueueModel = record old.queue { outstanding = record old.queue.outstanding { items = changed_between (SendAgain next) place (place + 1) items } } in
     let is : new.queue ≡ queue = ap (λ (s : Stage). s.queue) sends.is in
     let one : place + 1 ≡ suc place = omega arith in
-    let kept : unacknowledged_items (changed_between SendAgain place (place + 1) items) ≡ unacknowledged_items items =
-    ap (λ (n : ℕ). unacknowledged_items (changed_between SendAgain place n items)) one ∙ again_keeps place items sends.next.marked.item sends.next.marked.at sends.next.marked.is in
+    let kept : unacknowledged_items (changed_between (SendAgain next) place (place + 1) items) ≡ unacknowledged_items items =
+    ap (λ (n : ℕ). unacknowledged_items (changed_between (SendAgain next) place n items)) one ∙ again_keeps next place items sends.next.marked.item sends.next.marked.at sends.next.marked.is in
     record {
       first = ap (λ (q : QueueModel). q.outstanding.first_tsn) is;
-      len = ap (λ (q : QueueModel). length q.outstanding.items) is ∙ length-changed_between SendAgain place (place + 1) items;
+      len = ap (λ (q : QueueModel). length q.outstanding.items) is ∙ length-changed_between (SendAgain next) place (place + 1) items;
       unacknowledged = ap (λ (q : QueueModel). unacknowledged_items q.outstanding.items) is ∙ kept;
       interleaving = ap (λ (q : QueueModel). q.interleaving) is;
       header = ap (λ (q : QueueModel). q.outstanding.header) is;

@@ -44,8 +44,8 @@ not_all true true true true true fails = absurd (all_hold fails)
 
 some_marked : (items : List Item) (place : ℕ) (item : Item) → slice_get items place ≡ Some item → is_marked item.progress.state ≡ true → (marked_items items == 0) ≡ false
 some_marked items place item at is =
-    let fewer = fewer_marked SendAgain (λ progress. refl) place (suc place) place items item (omega arith) (omega arith) at is in
-    by_number (marked_items items) (marked_items (changed_between SendAgain place (suc place) items)) fewer
+    let fewer = fewer_marked (SendAgain 0) (λ progress. refl) place (suc place) place items item (omega arith) (omega arith) at is in
+    by_number (marked_items items) (marked_items (changed_between (SendAgain 0) place (suc place) items)) fewer
   where
     by_number : (n m : ℕ) → m < n → (n == 0) ≡ false
     by_number n m less = grind (arith, nat_tests)

@@ -3,6 +3,7 @@ use Rattle.std.proofs.Common.{◌≡◌, ◌∙◌, ℕ, ◌+◌, ◌-◌, ◌%�
 use Rattle.std.proofs.lemmas.Bool.Decides.{nat_tests}
 use Rattle.dcsctp_machine.specs.turns.DataOutcomes.{is_sack_valid}
 use Rattle.std.specs.List.{sum_by}
+use Rattle.std.specs.Option.{option_map}
 use Rattle.std.proofs.lemmas.List.{map-append, length-drop}
 use Rattle.dcsctp_wire.specs.declared.chunk.sack.GapAckBlock.{GapAckBlock}
 use Rattle.dcsctp_machine.specs.Event.{Event}
@@ -17,9 +18,9 @@ use Rattle.dcsctp_outstanding.specs.declared.progress.ItemState.{ItemState}
 use Rattle.dcsctp_outstanding.specs.declared.progress.ItemState.TheVariants.{InFlight, Marked, Acknowledged, Abandoned}
 use Rattle.dcsctp_outstanding.specs.declared.progress.Progress.{Progress}
 use Rattle.dcsctp_outstanding.specs.declared.progress.Change.TheVariants.{Miss, Acknowledge}
-use Rattle.dcsctp_outstanding.specs.Progress.{is_unacknowledged, missed, acknowledged}
+use Rattle.dcsctp_outstanding.specs.Progress.{is_unacknowledged, tells_of, missed, missed_where, acknowledged}
 use Rattle.dcsctp_outstanding.specs.Items.{counted, unacknowledged_count, unacknowledged_items, never_acknowledged_count, never_acknowledged_items, marked_items, changed_item, changed_between}
-use Rattle.dcsctp_outstanding.specs.Outstanding.{OutstandingModel, next_tsn, acknowledged_by}
+use Rattle.dcsctp_outstanding.specs.Outstanding.{OutstandingModel, next_tsn, tsn_at, acknowledged_by}
 use Rattle.dcsctp_outstanding.proofs.ItemsLemmas.{counted_bounded, length-changed_between, length-reported}
 use Rattle.dcsctp_retransmission.proofs.AnswerLemmas.{miss_adds_none, acknowledge_adds_none, lessened, reported_lessens, dropped_lessens}
 use Rattle.dcsctp_retransmission.specs.Telling.{ends_delivery, told_by, told_of, delivered}
@@ -79,20 +80,24 @@ acknowledged_by_state progress Marked = omega arith
 acknowledged_by_state progress Acknowledged = omega arith
 acknowledged_by_state progress Abandoned = omega arith
 
-miss_lessens : (item : Item) → unacknowledged_count (changed_item Miss item) ≤ unacknowledged_count item
-miss_lessens item = missed_by item.progress item.progress.state
+miss_lessens : (newest : Option ℕ) (item : Item) → unacknowledged_count (changed_item (Miss newest) item) ≤ unacknowledged_count item
+miss_lessens newest item = go (tells_of item.progress.sent_before newest)
+  where
+    go : (b : Bool) → counted (is_unacknowledged (missed_where b item.progress).state) 1 ≤ unacknowledged_count item
+    go true = missed_by item.progress item.progress.state
+    go false = omega arith
 
 acknowledge_lessens : (item : Item) → unacknowledged_count (changed_item Acknowledge item) ≤ unacknowledged_count item
 acknowledge_lessens item = acknowledged_by_state item.progress item.progress.state
 
 -- a SACK with these blocks that passes so many items
-sack_lessens : (f : Item → ℕ) → ((item : Item) → f (changed_item Acknowledge item) ≤ f item) → ((item : Item) → f (changed_item Miss item) ≤ f item) → (count limit : ℕ) (blocks : List GapAckBlock) (items : List Item)
-    → sum_by f (drop count (changed_between Miss count limit (covered count blocks items))) ≤ sum_by f items
-sack_lessens f acknowledges misses count limit blocks items =
+sack_lessens : (f : Item → ℕ) (newest : Option ℕ) → ((item : Item) → f (changed_item Acknowledge item) ≤ f item) → ((item : Item) → f (changed_item (Miss newest) item) ≤ f item) → (count limit : ℕ) (blocks : List GapAckBlock) (items : List Item)
+    → sum_by f (drop count (changed_between (Miss newest) count limit (covered count blocks items))) ≤ sum_by f items
+sack_lessens f newest acknowledges misses count limit blocks items =
     omega (
       arith,
-      dropped_lessens f count (changed_between Miss count limit (covered count blocks items)),
-      lessened f Miss misses count limit (covered count blocks items),
+      dropped_lessens f count (changed_between (Miss newest) count limit (covered count blocks items)),
+      lessened f (Miss newest) misses count limit (covered count blocks items),
       reported_lessens f acknowledges count blocks (changed_between Acknowledge 0 count items),
       lessened f Acknowledge acknowledges 0 count items,
     )
@@ -105,11 +110,11 @@ record MissesKeep (old new : QueueModel) (items : List Item) : Type 0 where
   pub partial_reliability : new.partial_reliability ≡ old.partial_reliability
   pub interleaving : new.interleaving ≡ old.interleaving
 
-misses_keep : (count limit : ℕ) (queue : QueueModel) → MissesKeep queue (missed_until count limit queue) (changed_between Miss count limit queue.outstanding.items)
-misses_keep count limit queue =
-    go (nat_lt (marked_items queue.outstanding.items) (marked_items (changed_between Miss count limit queue.outstanding.items)))
+misses_keep : (count limit : ℕ) (newest : Option ℕ) (queue : QueueModel) → MissesKeep queue (missed_until count limit newest queue) (changed_between (Miss newest) count limit queue.outstanding.items)
+misses_keep count limit newest queue =
+    go (nat_lt (marked_items queue.outstanding.items) (marked_items (changed_between (Miss newest) count limit queue.outstanding.items)))
   where
-    go : (b : Bool) → MissesKeep queue (if b then lossy (with_items (changed_between Miss count limit queue.outstanding.items) queue) else with_items (changed_between Miss count limit queue.outstanding.items) queue) (changed_between Miss count limit queue.outstanding.items)
+    go : (b : Bool) → MissesKeep queue (if b then lossy (with_items (changed_between (Miss newest) count limit queue.outstanding.items) queue) else with_items (changed_between (Miss newest) count limit queue.outstanding.items) queue) (changed_between (Miss newest) count limit queue.outstanding.items)
     go true = record { outstanding = refl; partial_reliability = refl; interleaving = refl }
     go false = record { outstanding = refl; partial_reliability = refl; interleaving = refl }
 
@@ -131,16 +136,17 @@ pub sack_keeps : (now cumulative window : ℕ) (blocks : List GapAckBlock) (old 
 sack_keeps now cumulative window blocks old new within takes =
     let count : ℕ = acknowledged_by old.outstanding cumulative in
     let items : List Item = old.outstanding.items in
+    let newest : Option ℕ = option_map (tsn_at old.outstanding) takes.newest in
     let named : List Item = covered count blocks items in
-    let all : List Item = changed_between Miss count takes.limit named in
-    let mid = misses_keep count takes.limit (with_items named (exiting cumulative old)) in
+    let all : List Item = changed_between (Miss newest) count takes.limit named in
+    let mid = misses_keep count takes.limit newest (with_items named (exiting cumulative old)) in
     let after : OutstandingModel = without count (record old.outstanding { items = all }) in
     let same : new.outstanding ≡ after = ap (λ (q : QueueModel). q.outstanding) takes.is ∙ ap (without count) mid.outstanding in
     let len : length all ≡ length items =
-    length-changed_between Miss count takes.limit named ∙ (length-reported count blocks (changed_between Acknowledge 0 count items) ∙ length-changed_between Acknowledge 0 count items) in
+    length-changed_between (Miss newest) count takes.limit named ∙ (length-reported count blocks (changed_between Acknowledge 0 count items) ∙ length-changed_between Acknowledge 0 count items) in
     let left : length (drop count all) ≡ length all - count = length-drop count all in
-    let fewer = sack_lessens unacknowledged_count acknowledge_lessens miss_lessens count takes.limit blocks items in
-    let fewer_never = sack_lessens never_acknowledged_count acknowledge_adds_none miss_adds_none count takes.limit blocks items in
+    let fewer = sack_lessens unacknowledged_count newest acknowledge_lessens (miss_lessens newest) count takes.limit blocks items in
+    let fewer_never = sack_lessens never_acknowledged_count newest acknowledge_adds_none (miss_adds_none newest) count takes.limit blocks items in
     record {
       next_tsn_same = ap next_tsn same ∙ by_number old.outstanding.first_tsn count (length items) (length (drop count all)) within (left ∙ ap (λ (n : ℕ). n - count) len);
       header = ap (λ (o : OutstandingModel). o.header) same;

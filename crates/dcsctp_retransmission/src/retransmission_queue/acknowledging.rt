@@ -19,6 +19,7 @@ impl RetransmissionQueue {
     ghost use Rattle.std.specs.Duration.{as_nanos};
     ghost use Rattle.std.specs.Option.{option_map};
     ghost use Rattle.dcsctp_outstanding.specs.Missing.{MissesUntil};
+    ghost use Rattle.dcsctp_outstanding.specs.Outstanding.{tsn_at};
     ghost use Rattle.dcsctp_retransmission.specs.Queue.{acknowledged_until, missed_until, settled_at, is_recovering, HandlesSack};
     ghost use Rattle.dcsctp_outstanding.specs.Reports.{IsNewlyAcknowledged, IsLast};
     ghost use Rattle.dcsctp_retransmission.specs.RoundTrip.{round_trip_at};
@@ -54,7 +55,8 @@ impl RetransmissionQueue {
         let rtt = self.round_trip(newest, now);
         self.congestion.leave_recovery(cumulative_tsn_ack);
         let limit = self.miss_limit(count, blocks, newest);
-        self.acknowledge(count, blocks, limit);
+        let newest_tsn = self.newest_tsn(newest);
+        self.acknowledge(count, blocks, limit, newest_tsn);
         self.settle(now, a_rwnd, count);
         Ok(HandleSackResult::Valid {
             rtt,
@@ -99,18 +101,35 @@ impl RetransmissionQueue {
         }
     }
 
+    // The TSN of the item at the place.
+    fn newest_tsn(&self, newest: Option<usize>) -> Option<u32>
+        requires { IfSome newest (λ place. place < length self.now.outstanding.items) }
+        ensures { result ≡ option_map (tsn_at self.now.outstanding) newest }
+    {
+        match newest {
+            None => None,
+            Some(place) => Some(self.outstanding.tsn_at(place)),
+        }
+    }
+
     // Acknowledges the first items, so many, and those that the blocks name behind them. Misses count before the
-    // place `limit`.
-    fn acknowledge(&mut self, count: usize, blocks: &[GapAckBlock], limit: usize)
+    // place `limit`, by the newest TSN that is acknowledged now and wasn't before.
+    fn acknowledge(
+        &mut self,
+        count: usize,
+        blocks: &[GapAckBlock],
+        limit: usize,
+        newest: Option<u32>,
+    )
         requires { count ≤ length self.old.outstanding.items }
-        ensures { self.new ≡ acknowledged_until count blocks.now limit self.old }
+        ensures { self.new ≡ acknowledged_until count blocks.now limit newest self.old }
     {
         let bytes = self.outstanding.unacknowledged_bytes();
         let was_full = self.congestion.cwnd <= self.outstanding.in_flight_bytes();
         self.outstanding
             .change_between(Change::Acknowledge, 0, count);
         self.outstanding.acknowledge_blocks(count, blocks);
-        self.count_misses(count, limit);
+        self.count_misses(count, limit, newest);
         self.outstanding.remove_first(count);
         let left = self.outstanding.unacknowledged_bytes();
         self.congestion.handle_acknowledgement(Acknowledged {
@@ -122,11 +141,12 @@ impl RetransmissionQueue {
     }
 
     // Counts a miss of what is in flight from the place `count` on and before the place `limit`.
-    fn count_misses(&mut self, count: usize, limit: usize)
-        ensures { self.new ≡ missed_until count limit self.old }
+    fn count_misses(&mut self, count: usize, limit: usize, newest: Option<u32>)
+        ensures { self.new ≡ missed_until count limit newest self.old }
     {
         let before = self.outstanding.marked_items();
-        self.outstanding.change_between(Change::Miss, count, limit);
+        self.outstanding
+            .change_between(Change::Miss(newest), count, limit);
         if before < self.outstanding.marked_items() {
             if !self.congestion.is_in_fast_recovery() {
                 self.fast_retransmit_due = true;

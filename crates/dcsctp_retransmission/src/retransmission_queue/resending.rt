@@ -81,8 +81,9 @@ impl RetransmissionQueue {
         let _ = self.outstanding.len();
         packet.tsns.push(self.outstanding.tsn_at(place))?;
         packet.room -= size;
+        let next = self.outstanding.next_tsn();
         self.outstanding
-            .change_between(Change::SendAgain, place, place + 1);
+            .change_between(Change::SendAgain(next), place, place + 1);
         Ok(true)
     }
 

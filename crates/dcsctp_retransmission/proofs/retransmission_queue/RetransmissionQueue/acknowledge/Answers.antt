@@ -29,7 +29,7 @@ remove_first-requires c =
     let kept = length-changed_between Acknowledge 0 c.args.count c.self.inside.outstanding.items in
     let told = length-reported c.args.count c.args.blocks.now c.change_between.new.self.items in
     let count = ap (λ (m : QueueModel). length m.outstanding.items) c.count_misses.ensures in
-    let missed = length-missed_until c.args.count c.args.limit stage in
+    let missed = length-missed_until c.args.count c.args.limit c.args.newest stage in
     let same = ap (λ (m : QueueModel). length m.outstanding.items) c.self-2.view_is in
     let first = ap (λ (m : QueueModel). length m.outstanding.items) c.self.view_is in
     let a = ap (λ (m : OutstandingModel). length m.items) c.change_between.ensures in
@@ -82,9 +82,9 @@ returns c =
     } in
     let is_stage : stage ≡ with_items (covered c.args.count c.args.blocks.now c.args.self.now.outstanding.items) c.args.self.now =
     rw (c.acknowledge_blocks.ensures, c.change_between.ensures, ← c.self.view_is) refl in
-    let is_mid : mid ≡ missed_until c.args.count c.args.limit (with_items (covered c.args.count c.args.blocks.now c.args.self.now.outstanding.items) c.args.self.now) =
-    c.self-2.view_is ∙ c.count_misses.ensures ∙ ap (missed_until c.args.count c.args.limit) is_stage in
+    let is_mid : mid ≡ missed_until c.args.count c.args.limit c.args.newest (with_items (covered c.args.count c.args.blocks.now c.args.self.now.outstanding.items) c.args.self.now) =
+    c.self-2.view_is ∙ c.count_misses.ensures ∙ ap (missed_until c.args.count c.args.limit c.args.newest) is_stage in
     let is_left : left ≡ without_first c.args.count mid = rw c.remove_first.ensures refl in
     let is_ack : ack ≡ acknowledgement c.args.count c.args.self.now left =
     rw (c.saturating_sub.ensures, c.unacknowledged_bytes-bytes.ensures, c.unacknowledged_bytes-left.ensures, c.in_flight_bytes.ensures, c.unacknowledged_items.ensures, ← c.self.view_is) refl in
-    acknowledged_is c.args.count c.args.blocks.now c.args.limit c.args.self.now mid left _ ack is_mid is_left is_ack (rw c.handle_acknowledgement.ensures refl)
+    acknowledged_is c.args.count c.args.blocks.now c.args.limit c.args.newest c.args.self.now mid left _ ack is_mid is_left is_ack (rw c.handle_acknowledgement.ensures refl)

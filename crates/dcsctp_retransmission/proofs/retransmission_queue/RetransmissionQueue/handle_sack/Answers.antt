@@ -1,5 +1,7 @@
+use Rattle.std.specs.Prelude.{Option, ℕ}
+use Rattle.std.specs.Option.{option_map}
 use Rattle.std.proofs.Common.{subst, ◌≡◌, ◌≤◌, nat_lt, ◌∙◌, length, ap, refl, arith}
-use Rattle.dcsctp_outstanding.specs.Outstanding.{acknowledged_by}
+use Rattle.dcsctp_outstanding.specs.Outstanding.{acknowledged_by, tsn_at}
 use Rattle.dcsctp_outstanding.specs.Missing.{MissesUntil}
 use Rattle.dcsctp_retransmission.specs.Queue.{is_recovering, QueueModel, TakesSack, has_acknowledged, exiting, acknowledged_until, settled_at}
 use Rattle.dcsctp_retransmission.proofs.AnswerLemmas.{sack_answers}
@@ -23,10 +25,13 @@ returns-clause-turn c =
     let count_is : c.distance_to-count.result ≡ acknowledged_by c.args.self.now.outstanding c.args.cumulative_tsn_ack = rw (← c.self.view_is) c.distance_to-count.ensures.value in
     let few : c.distance_to-count.result ≤ length c.args.self.now.outstanding.items = rw (← c.self.view_is) (omega (arith, c.if-len-count.false, c.len.ensures.value)) in
     let Misses : QueueModel → Type 0 = λ q. MissesUntil (is_recovering c.distance_to-count.result q) c.distance_to-count.result c.args.blocks.now q.outstanding.items c.miss_limit-limit.result in
+    let newest_is : c.newest_tsn-newest_tsn.result ≡ option_map (tsn_at c.args.self.now.outstanding) c.newest_reported-newest.result = rw (← c.self.view_is) c.newest_tsn-newest_tsn.ensures in
     let takes : TakesSack c.args.now c.args.cumulative_tsn_ack c.args.a_rwnd c.args.blocks.now c.args.self.now c.settle.new.self = record {
       limit = c.miss_limit-limit.result;
       missing = rw (← count_is) (subst Misses is_stage (let at_stage : Misses stage = c.miss_limit-limit.ensures in at_stage));
-      is = rw (← count_is) (c.settle.ensures ∙ ap (settled_at c.args.now c.args.a_rwnd c.distance_to-count.result) (c.acknowledge.ensures ∙ ap (acknowledged_until c.distance_to-count.result c.args.blocks.now c.miss_limit-limit.result) is_stage));
+      newest = c.newest_reported-newest.result;
+      is_newest = rw (← count_is, ← c.self.view_is) c.newest_reported-newest.ensures;
+      is = rw (← count_is) (c.settle.ensures ∙ ap (settled_at c.args.now c.args.a_rwnd c.distance_to-count.result) (c.acknowledge.ensures ∙ (ap (λ (n : Option ℕ). acknowledged_until c.distance_to-count.result c.args.blocks.now c.miss_limit-limit.result n stage) newest_is ∙ ap (acknowledged_until c.distance_to-count.result c.args.blocks.now c.miss_limit-limit.result (option_map (tsn_at c.args.self.now.outstanding) c.newest_reported-newest.result)) is_stage)));
     } in
     let counts : nat_lt c.never_acknowledged_items.result c.never_acknowledged_items-before.result ≡ has_acknowledged c.args.self.now c.settle.new.self =
     rw (c.never_acknowledged_items.ensures, c.never_acknowledged_items-before.ensures, ← c.self.view_is, ← c.self-2.view_is) refl in (

@@ -26,7 +26,7 @@ returns-clause-fills c =
     } in
     let keeps : Keeps c.args.self.now stage =
     rw (c.change_between.ensures, ← c.self.view_is)
-    (keeps_with _ _ (fragments_changed SendAgain c.args.place (c.args.place + 1) c.self.inside.outstanding.items)) in
+    (keeps_with _ _ (fragments_changed (SendAgain c.next_tsn-next.result) c.args.place (c.args.place + 1) c.self.inside.outstanding.items)) in
     record {
       keeps = keeps;
       filling = λ bytes filled.

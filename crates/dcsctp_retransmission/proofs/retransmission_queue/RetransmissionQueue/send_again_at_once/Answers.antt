@@ -40,7 +40,7 @@ loop-place-preserved-then-place-eq0 c =
       λ waiting events.
           goes_at (Ok true) c.args.now c.in-Some.place (SendsMarked c.args.now) (stage c.args.self.now waiting events c.args.packet.now.tsns.items c.args.packet.now.room) c.next_marked.new.self c.send_again_at.new.self waiting events c.loop-place.packet c.send_again_at.new.packet next (λ m n is one. one)
           (rw c.next_marked.ensures.same (c.loop-place.invariant.1 waiting events)) stays sends tt,
-      sends_first_here c.loop-place.restarts c.in-Some.place c.args.self.now.outstanding.items c.next_marked.new.self.outstanding.items c.send_again_at.new.self.outstanding.items c.if-place-eq0.true next
+      sends_first_here c.loop-place.restarts _ c.in-Some.place c.args.self.now.outstanding.items c.next_marked.new.self.outstanding.items c.send_again_at.new.self.outstanding.items c.if-place-eq0.true next
           (ap (λ (q : QueueModel). q.outstanding.items) sends.1) (rw c.next_marked.ensures.same c.loop-place.invariant.2),
     )
 
@@ -61,6 +61,6 @@ loop-place-preserved c =
       λ waiting events.
           goes_at (Ok true) c.args.now c.in-Some.place (SendsMarked c.args.now) (stage c.args.self.now waiting events c.args.packet.now.tsns.items c.args.packet.now.room) c.next_marked.new.self c.send_again_at.new.self waiting events c.loop-place.packet c.send_again_at.new.packet next (λ m n is one. one)
           (rw c.next_marked.ensures.same (c.loop-place.invariant.1 waiting events)) stays sends tt,
-      sends_first_later c.loop-place.restarts c.in-Some.place c.args.self.now.outstanding.items c.next_marked.new.self.outstanding.items c.send_again_at.new.self.outstanding.items c.if-place-eq0.false
+      sends_first_later c.loop-place.restarts _ c.in-Some.place c.args.self.now.outstanding.items c.next_marked.new.self.outstanding.items c.send_again_at.new.self.outstanding.items c.if-place-eq0.false
           (ap (λ (q : QueueModel). q.outstanding.items) sends.1) (rw c.next_marked.ensures.same c.loop-place.invariant.2),
     )
