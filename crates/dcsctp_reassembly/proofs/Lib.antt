@@ -1,3 +1,4 @@
+pub mod NamedLemmas
 pub mod PartBytes
 pub mod ReassemblyLemmas
 pub mod ResultFacts

@@ -1,5 +1,5 @@
 -- Lemmas on streams in a map.
-use Rattle.std.proofs.Common.{Ordering, ◌≡◌, ◌==◌, ◌||◌, ℕ, Bool, true, false, cond, length, List, [], ◌∷◌, map, Option, Some, None, refl, sym, ◌∙◌, ap, subst}
+use Rattle.std.proofs.Common.{Ordering, ◌≡◌, ℕ, Bool, true, false, cond, List, [], ◌∷◌, map, Option, Some, None, refl, sym, ◌∙◌, ap, subst}
 use Rattle.std.specs.BTreeMap.{BTreeMap, get, is_at, UpdatesBy}
 use Rattle.std.specs.Map.{lookup}
 use Rattle.std.specs.Prelude.{is_some}
@@ -7,10 +7,6 @@ use Rattle.std.specs.Option.{option_map}
 use Rattle.std.specs.Ordering.{nat_cmp, is_eq}
 use Rattle.std.specs.declared.cmp.Ordering.TheVariants.{Less, Equal, Greater}
 use Rattle.std.proofs.lemmas.Map.Lookups.{exact_unsigned}
-use Rattle.std.specs.List.{list_any}
-use Rattle.dcsctp_machine.specs.declared.ids.StreamId.{StreamId}
-use Rattle.dcsctp_machine.specs.Ids.{stream_numbers}
-use Rattle.dcsctp_reassembly.specs.Queue.{names_stream}
 use Rattle.dcsctp_reassembly.specs.declared.stream.Stream.{Stream}
 use Rattle.dcsctp_reassembly.specs.Streams.{stream_of, new_stream}
 use Rattle.dcsctp_reassembly.specs.Reassembly.{entry_of, stream_on, stream_or_new}
@@ -60,12 +56,3 @@ stream_on-made key id old new stream updates absent fresh = go (is_at (nat_cmp k
 pub none_from : {X : Type 0} (o : Option X) → is_some o ≡ false → o ≡ None
 none_from None absent = refl
 none_from (Some x) absent = absurd (cc)
-
--- a stream is in a list by its number
-list_any-numbers : (id : ℕ) (streams : List StreamId) → list_any (λ stream. stream == id) (stream_numbers streams) ≡ list_any (λ stream. stream.0 == id) streams
-list_any-numbers id [] = refl
-list_any-numbers id (stream ∷ streams) = ap (λ rest. (stream.0 == id) || rest) (list_any-numbers id streams)
-
-pub names_stream-listed : (id : ℕ) (streams : List StreamId) → (length streams == 0) ≡ false → names_stream (stream_numbers streams) id ≡ list_any (λ stream. stream.0 == id) streams
-names_stream-listed id [] some = absurd (cc)
-names_stream-listed id (stream ∷ streams) some = list_any-numbers id (stream ∷ streams)

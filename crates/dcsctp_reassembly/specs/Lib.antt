@@ -1,4 +1,6 @@
 pub mod Held
+pub mod NamedFields
+pub mod NamedStreams
 pub mod Numbers
 pub mod Queue
 pub mod QueueFields

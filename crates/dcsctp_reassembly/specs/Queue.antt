@@ -3,7 +3,6 @@
 use Rattle.std.specs.Prelude.{◌≡◌, ◌==◌, ℕ, ◌+◌, ◌-◌, ◌^◌, nat_lt, Bool, true, false, ◌&&◌, Option, None, Some, List, [], ◌∷◌, ◌++◌, length, map}
 use Rattle.std.specs.List.{list_any, sum_by}
 use Rattle.dcsctp_machine.specs.Transfer.{ReassemblyState}
-use Rattle.dcsctp_machine.specs.Ids.{stream_numbers}
 use Rattle.dcsctp_reassembly.specs.declared.arrivals.SkippedTo.{SkippedTo}
 use Rattle.dcsctp_reassembly.specs.declared.reassembly_queue.Deferred.{Deferred}
 use Rattle.dcsctp_reassembly.specs.declared.reassembly_queue.Deferred.TheVariants.{Data as DeferredData, ForwardTsn}
@@ -39,7 +38,7 @@ waiting_of (ForwardTsn tsn skipped) = skipping tsn skipped.items
 
 abbrev pub deferral_of : Deferral → DeferralModel
 deferral_of deferral =
-    record { last_tsn = deferral.last_tsn; streams = stream_numbers deferral.streams.items; waiting = map waiting_of deferral.waiting.items }
+    record { last_tsn = deferral.last_tsn; streams = deferral.streams; waiting = map waiting_of deferral.waiting.items }
 
 -- how many bytes wait for the end of a deferred reset
 abbrev pub waiting_bytes : WaitingModel → ℕ

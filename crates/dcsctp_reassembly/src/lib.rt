@@ -5,6 +5,7 @@
 mod arrivals;
 mod incoming;
 mod joining;
+mod named;
 mod numbers;
 mod reassembly_queue;
 mod runs;

@@ -19,6 +19,7 @@ ghost use Rattle.dcsctp_reassembly.specs.Streams.{chunk_of};
 
 use crate::arrivals::{Data, SkippedTo};
 use crate::incoming::Incoming;
+use crate::named::NamedStreams;
 use crate::numbers::is_tsn_beyond;
 use dcsctp_api::{Message, StreamId};
 use std::alloc::{AllocError, Global};
@@ -37,7 +38,7 @@ enum Deferred {
 #[derive(Drop)]
 struct Deferral {
     last_tsn: u32,
-    streams: Vec<StreamId>,
+    streams: NamedStreams,
     waiting: VecDeque<Deferred>,
 }
 
@@ -168,7 +169,7 @@ impl ReassemblyQueue {
         match &self.deferral {
             None => false,
             Some(deferral) => {
-                is_tsn_beyond(tsn, deferral.last_tsn) && names(deferral.streams.as_slice(), id)
+                is_tsn_beyond(tsn, deferral.last_tsn) && deferral.streams.names(id)
             }
         }
     }
@@ -287,7 +288,7 @@ impl ReassemblyQueue {
         }
         self.deferral = Some(Deferral {
             last_tsn: sender_last_assigned_tsn,
-            streams: Vec::from_slice(self.incoming.alloc, streams)?,
+            streams: NamedStreams::new(self.incoming.alloc, streams)?,
             waiting: VecDeque::new(self.incoming.alloc),
         });
         Ok(())
@@ -367,18 +368,4 @@ fn work_all(incoming: &mut Incoming, waiting: &mut VecDeque<Deferred>) -> Result
         let _ = waiting.pop_front();
     }
     Ok(())
-}
-
-// Is the stream in the list?
-fn lists(streams: &[StreamId], id: StreamId) -> bool
-    ensures { result ≡ list_any (λ stream. stream.0 == id.0) streams.now }
-{
-    streams.iter().any(|stream| stream.0 == id.0)
-}
-
-// Is the stream named? An empty list names all.
-fn names(streams: &[StreamId], id: StreamId) -> bool
-    ensures { result ≡ names_stream (stream_numbers streams.now) id.0 }
-{
-    streams.is_empty() || lists(streams, id)
 }
