@@ -3,7 +3,7 @@
 # them. Each figure is the difference of two runs over the difference of their work, so what a run does
 # once doesn't count. Needs valgrind. BENCH names another build of the program.
 #
-#     scripts/measure.sh [speed | memory]
+#     scripts/measure.sh [speed | memory | strain]
 set -euo pipefail
 shopt -s inherit_errexit
 cd "$(dirname "$0")/.."
@@ -71,8 +71,25 @@ memory() {
     tell "bytes of a socket itself" awk '/^socket-bytes/ { print $2 }' "$folder/said"
 }
 
+# strained KIND HELD: what a packet costs that comes to a receiver which holds so many, the sender's share included.
+strained() {
+    local none ten
+    none=$(instructions strain "$1" "$2" 0)
+    ten=$(instructions strain "$1" "$2" 10)
+    awk -v difference="$((ten - none))" 'BEGIN { printf "%.0f\n", difference / 10 }'
+}
+
+strain() {
+    local kind held
+    for kind in fragments interleaved gaps waiting streams reset; do
+        for held in 10 10000; do
+            tell "$kind: $held held, a packet" strained "$kind" "$held"
+        done
+    done
+}
+
 case ${1:-all} in
-    speed | memory) "$1" ;;
+    speed | memory | strain) "$1" ;;
     all) speed; memory ;;
     *) echo "usage: scripts/measure.sh [speed | memory]" >&2; exit 2 ;;
 esac

@@ -1,5 +1,7 @@
 //! What the arguments of the program say.
 
+use crate::strain::{HOLES, Holding, Strain};
+
 /// What the program is to do.
 #[derive(Clone, Copy)]
 pub enum Command {
@@ -8,6 +10,9 @@ pub enum Command {
 
     /// Carries messages.
     Messages(Plan),
+
+    /// Strains a receiver.
+    Strain(Strain),
 
     /// Keeps so many pairs of connected sockets, each, where the flag says so, after 1 MiB went each way.
     Hold(u32, bool),
@@ -120,11 +125,40 @@ fn parse_plan(count: u32, words: &[String]) -> Option<Plan> {
     Some(plan)
 }
 
+// What a word says of what a receiver comes to hold; none where it says nothing.
+fn parse_holding(word: &str) -> Option<Holding> {
+    match word {
+        "fragments" => Some(Holding::Fragments),
+        "interleaved" => Some(Holding::Interleaved),
+        "gaps" => Some(Holding::Gaps),
+        "waiting" => Some(Holding::Waiting),
+        "streams" => Some(Holding::Streams),
+        "reset" => Some(Holding::Reset),
+        _ => None,
+    }
+}
+
+// How the words say that a receiver is strained: what it holds, how much, and how many packets come then.
+fn parse_strain(words: &[String]) -> Option<Strain> {
+    if words.len() != 3 {
+        return None;
+    }
+    Some(Strain {
+        holding: parse_holding(words.first()?.as_str())?,
+        held: number(words.get(1)?.as_str(), 1, MOST)?,
+        more: number(words.get(2)?.as_str(), 0, HOLES)?,
+    })
+}
+
 /// The command that these words say, without the name of the program; none where they say no command.
 pub fn parse_command(words: &[String]) -> Option<Command> {
-    let count = number(words.get(1)?.as_str(), 1, MOST)?;
-    let rest = words.get(2..)?;
-    match words.first()?.as_str() {
+    let (name, words) = words.split_first()?;
+    if name.as_str() == "strain" {
+        return Some(Command::Strain(parse_strain(words)?));
+    }
+    let count = number(words.first()?.as_str(), 1, MOST)?;
+    let rest = words.get(1..)?;
+    match name.as_str() {
         "handshakes" if rest.is_empty() => Some(Command::Handshakes(count)),
         "messages" => Some(Command::Messages(parse_plan(count, rest)?)),
         "hold" if rest.is_empty() => Some(Command::Hold(count, false)),

@@ -6,6 +6,7 @@
 //! dcsctp_bench messages N SIZE [unordered] [streams=K] [loss=PERMILLE] [seed=SEED] [delay=MS] [queued=Q]
 //!     [zero-checksum] [counts] [chunks]
 //! dcsctp_bench hold N [used]
+//! dcsctp_bench strain fragments|interleaved|gaps|waiting|streams|reset HELD MORE
 //! ```
 //!
 //! `handshakes` makes N pairs of sockets one after another, connects each and drops it. `messages` sends
@@ -14,8 +15,10 @@
 //! for half of so many milliseconds of a time of its own; behind Q messages more that are sent before any
 //! packet is handed over; and without checksums, as over DTLS. `counts` prints the packets, too, and
 //! `chunks` the time that passed, the chunks of data that were sent, and those that the peer had when they
-//! arrived. `hold` makes N pairs and keeps them, `used` after 1 MiB went each way. The exit status is 0
-//! where all went well, 1 where not, which standard error says, and 2 at bad arguments.
+//! arrived. `hold` makes N pairs and keeps them, `used` after 1 MiB went each way. `strain` has one socket
+//! hold HELD unfinished or waiting things that its peer sent, and then hands it MORE packets, 10 at most,
+//! whose contents belong among those. The exit status is 0 where all went well, 1 where not, which standard
+//! error says, and 2 at bad arguments.
 #![tactic(auto)]
 
 mod arguments;
@@ -24,6 +27,7 @@ mod commands;
 mod failure;
 mod ledger;
 mod pair;
+mod strain;
 mod traffic;
 
 use crate::arguments::{Command, parse_command};
@@ -35,7 +39,8 @@ use std::{env, io};
 const USAGE: &str = "usage: dcsctp_bench handshakes N
        dcsctp_bench messages N SIZE [unordered] [streams=K] [loss=PERMILLE] [seed=SEED] [delay=MS] [queued=Q]
            [zero-checksum] [counts] [chunks]
-       dcsctp_bench hold N [used]";
+       dcsctp_bench hold N [used]
+       dcsctp_bench strain fragments|interleaved|gaps|waiting|streams|reset HELD MORE";
 
 // The command that the arguments say; none where they say no command.
 fn command(rt: &(impl Env + Alloc<A = Global>)) -> io::Result<Option<Command>> {

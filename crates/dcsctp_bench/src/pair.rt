@@ -201,11 +201,26 @@ impl Pair {
             options.zero_checksum_alternate_error_detection_method =
                 ZERO_CHECKSUM_ALTERNATE_ERROR_DETECTION_METHOD_LOWER_LAYER_DTLS;
         }
+        Pair::with(alloc, &options)
+    }
+
+    /// Two closed sockets without checksums that interleave messages (RFC 8260) where the flag says so, and
+    /// a link that loses nothing.
+    pub fn strained(alloc: Global, is_interleaved: bool) -> Result<Pair, Failure> {
+        let mut options = Options::default();
+        options.zero_checksum_alternate_error_detection_method =
+            ZERO_CHECKSUM_ALTERNATE_ERROR_DETECTION_METHOD_LOWER_LAYER_DTLS;
+        options.enable_message_interleaving = is_interleaved;
+        Pair::with(alloc, &options)
+    }
+
+    // Two closed sockets with these options.
+    fn with(alloc: Global, options: &Options) -> Result<Pair, Failure> {
         if !options.is_valid() {
             return Err(Failure::NotConnected);
         }
-        let a = End::new(alloc, Side::B, &options, 1)?;
-        let b = End::new(alloc, Side::A, &options, 2)?;
+        let a = End::new(alloc, Side::B, options, 1)?;
+        let b = End::new(alloc, Side::A, options, 2)?;
         let link = Link {
             alloc,
             flying: VecDeque::new(alloc),
