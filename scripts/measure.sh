@@ -90,6 +90,6 @@ strain() {
 
 case ${1:-all} in
     speed | memory | strain) "$1" ;;
-    all) speed; memory ;;
-    *) echo "usage: scripts/measure.sh [speed | memory]" >&2; exit 2 ;;
+    all) speed; memory; strain ;;
+    *) echo "usage: scripts/measure.sh [speed | memory | strain]" >&2; exit 2 ;;
 esac

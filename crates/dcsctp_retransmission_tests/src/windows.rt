@@ -178,6 +178,72 @@ now 50
 sack 1015 100000 valid 1
 state cwnd 6000
 
+# what is lost again is sent again fast
+begin 1000 20000 1 0
+add-many 30 984
+send 1000 [1000]
+send 1000 [1001]
+send 1000 [1002]
+send 1000 [1003]
+send 1000 []
+sack 1000 100000 valid 1
+send 1000 [1004]
+send 1000 [1005]
+send 1000 []
+sack 1001 100000 valid 1
+send 1000 [1006]
+send 1000 [1007]
+send 1000 []
+sack 1002 100000 valid 1
+send 1000 [1008]
+send 1000 [1009]
+send 1000 []
+sack 1003 100000 valid 1
+send 1000 [1010]
+send 1000 [1011]
+send 1000 []
+sack 1004 100000 valid 1
+send 1000 [1012]
+send 1000 [1013]
+send 1000 []
+sack 1005 100000 valid 1
+send 1000 [1014]
+send 1000 [1015]
+send 1000 []
+# what is lost again is sent again fast: In flight: 1006 to 1015. 1006 is lost
+sack-block 2 2 1005 100000 valid 1
+sack-block 2 3 1005 100000 valid 1
+sack-block 2 4 1005 100000 valid 1
+state cwnd 5000
+state has-fast 1
+send-fast 1000 [1006]
+# what is lost again is sent again fast: 1006 is lost again. Three SACKs of what was sent before it don't count
+sack-block 2 7 1005 100000 valid 1
+send 1000 [1016]
+send 1000 []
+sack-block 2 8 1005 100000 valid 1
+send 1000 [1017]
+send 1000 []
+sack-block 2 10 1005 100000 valid 1
+send 1000 [1018]
+send 1000 [1019]
+send 1000 []
+# what is lost again is sent again fast: three SACKs of 1016, 1017 and 1018, which were sent behind it
+sack-block 2 11 1005 100000 valid 1
+send 1000 [1020]
+send 1000 []
+sack-block 2 12 1005 100000 valid 1
+send 1000 [1021]
+send 1000 []
+sack-block 2 13 1005 100000 valid 1
+send 1000 [1006]
+state rtx-packets 2
+state rtx-bytes 2000
+# what is lost again is sent again fast: the window is lowered once in a fast recovery
+state cwnd 5000
+sack 1018 100000 valid 1
+state cwnd 5000
+
 # the timer marks all
 begin 1000 20000 1 0
 add-many 10 984
