@@ -3,34 +3,36 @@
 //! There are four kinds of call. Queries (`state`, `association`, `messages_ready_count`, `has_failed`, ..)
 //! answer and change nothing. Inputs (`handle_input`, `advance_time`) bring what the peer sent, and the
 //! time. Commands (`connect`, `close`, `send`, `reset_streams`, ..) say what the user wants. Polls
-//! (`poll_event`, `get_next_message`, `poll_timeout`) take what the socket has to tell and the messages
-//! that came in, and ask when it wants to be told the time. A user
-//! drives it by a loop, and takes all that waits after each call (the crate `dcsctp_example` has it
-//! whole, with its contract):
+//! (`poll_event`, `get_next_message`, `poll_timeout`) take events and messages, and tell when to call again.
+//!
+//! A user drives it by a loop. This is one round (the crate `dcsctp_example` has it whole, with its contract):
 //!
 //! ```text
-//! socket.connect()?;
-//! drain(socket, told)?;
-//! for packet in incoming {
+//! socket.advance_time(now)?;
+//! if let Some(packet) = packet {
 //!     socket.handle_input(packet)?;
-//!     drain(socket, told)?;
 //! }
-//!
-//! // drain:
+//! for _ in 0..socket.messages_ready_count() {
+//!     if let Some(message) = socket.get_next_message() {
+//!         told.messages.push(message)?;
+//!     }
+//! }
 //! while let Some(event) = socket.poll_event() {
 //!     match event {
 //!         SocketEvent::SendPacket(packet) => told.packets.push(packet)?,
 //!         other => told.events.push(other)?,
 //!     }
 //! }
+//! Ok(socket.poll_timeout())
 //! ```
 //!
 //! Packets go to the peer, other events to the application. Events come in the order in which they
-//! happened. A later call invalidates none of them.
+//! happened. A later call invalidates none of them. Messages that are ready are dropped when their
+//! association ends, so take them before the next call.
 //!
-//! The socket reads no clock. Behind each call a user asks `poll_timeout`, and at that moment, or when
-//! one is at hand, calls `advance_time`: a packet that the peer never answered goes out again. Each call
-//! may move that moment, so it is asked anew.
+//! The socket reads no clock. After each call a user asks `poll_timeout`, and calls `advance_time` at that
+//! moment or earlier: a packet that the peer never answered is sent again then. Each call may move that
+//! moment.
 #![tactic(auto)]
 
 mod socket;
