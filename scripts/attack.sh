@@ -7,7 +7,7 @@ set -eu
 cd "$(dirname "$0")/.."
 top=$PWD
 machine=dcsctp_machine
-agreement=dcsctp_agreement
+agreement=dcsctp_machine_agreement
 
 # ---- which
 

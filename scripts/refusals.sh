@@ -1,5 +1,5 @@
 #!/usr/bin/env bash
-# Runs the tests of crates/dcsctp_refusal_tests once for each of their allocations, which is refused in that run,
+# Runs the tests of crates/dcsctp_socket_refusal_tests once for each of their allocations, which is refused in that run,
 # and fails unless each run keeps what sockets promise for this. `rt try --test --fail-alloc N` does so for one N,
 # and builds the tests anew each time; here they are what `rt test` built, and a malloc that refuses stands in
 # front of theirs. Needs a C compiler. PROGRAM names another build of the tests.
@@ -7,7 +7,7 @@ set -euo pipefail
 shopt -s inherit_errexit
 cd "$(dirname "$0")/.."
 ulimit -c 0
-crate=dcsctp_refusal_tests
+crate=dcsctp_socket_refusal_tests
 program=${PROGRAM:-$PWD/crates/$crate/out/${crate}_tests}
 is_built() {
     [ -x "$program" ] && [ -z "$(find crates -name '*.rt' -newer "$program" -print -quit)" ]

@@ -3,12 +3,12 @@
 
 use crate::failure::Failure;
 use crate::pair::Pair;
-use dcsctp_build::SctpPacketBuilder;
 use dcsctp_socket::{DcSctpSocket, SocketEvent};
 use dcsctp_wire::{
     Chunk, DataChunk, DataFlags, IDataChunk, OutgoingSsnResetRequestParameter, Parameter,
     ReConfigChunk,
 };
+use dcsctp_wire_build::SctpPacketBuilder;
 use std::alloc::{AllocError, Global};
 
 /// What the receiver comes to hold.

@@ -1,6 +1,6 @@
 -- What gives messages up, as the view tells it.
 use Rattle.std.proofs.Common.{◌≡◌, ◌<◌, ℕ, Option, None, Some, List, sym, ap, subst, ◌∙◌}
-use Rattle.dcsctp_build.specs.Building.{Building}
+use Rattle.dcsctp_wire_build.specs.Building.{Building}
 use Rattle.dcsctp_machine.specs.Event.{Event}
 use Rattle.dcsctp_machine.specs.Transfer.{Transfer, SendQueueState}
 use Rattle.dcsctp_machine.specs.Endpoint.{Endpoint}

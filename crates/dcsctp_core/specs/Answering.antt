@@ -2,7 +2,7 @@
 use Rattle.std.specs.Prelude.{◌≡◌, ℕ, true, None}
 use Rattle.std.specs.Option.{option_map}
 use Rattle.dcsctp_machine.specs.Endpoint.{started}
-use Rattle.dcsctp_send.specs.Timer.{TimerModel}
+use Rattle.dcsctp_send_timer.specs.Timer.{TimerModel}
 use Rattle.dcsctp_machine.specs.turns.BegunResets.{reconfiguration_settings}
 use Rattle.dcsctp_core.specs.declared.state.State.{State}
 use Rattle.dcsctp_core.specs.declared.state.State.TheVariants.{Closed, CookieWait, CookieEchoed, Open}

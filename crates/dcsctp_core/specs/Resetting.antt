@@ -2,7 +2,7 @@
 use Rattle.std.specs.Prelude.{◌≡◌, ◌≤◌, ◌<◌, ◌^◌, ℕ, true, false, Option, None, Some, List, ◌++◌, length, map}
 use Rattle.std.specs.List.{flat_map, AllByRecursion}
 use Rattle.dcsctp_wire.specs.Spelling.{chunk_bytes}
-use Rattle.dcsctp_build.specs.Building.{Building, bytes_remaining}
+use Rattle.dcsctp_wire_build.specs.Building.{Building, bytes_remaining}
 use Rattle.dcsctp_machine.specs.Ids.{stream_numbers}
 use Rattle.dcsctp_machine.specs.Packet.{chunk_out}
 use Rattle.dcsctp_machine.specs.control.FlushChanges.{reset_request}

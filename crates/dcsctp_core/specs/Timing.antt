@@ -5,7 +5,7 @@ use Rattle.dcsctp_machine.specs.Endpoint.{Endpoint, RunningTimer, is_due, is_res
 use Rattle.dcsctp_machine.specs.Outcome.{Outcome}
 use Rattle.dcsctp_machine.specs.TimeTurns.{Timer, deadline, has_come, expiry_input}
 use Rattle.dcsctp_machine.specs.Turn.{Turn}
-use Rattle.dcsctp_send.specs.Timer.{TimerModel, running_after}
+use Rattle.dcsctp_send_timer.specs.Timer.{TimerModel, running_after}
 use Rattle.dcsctp_core.specs.declared.context.Context.{Context}
 use Rattle.dcsctp_core.specs.View.{View, view_of}
 use Rattle.dcsctp_core.specs.Handling.{TakesIn, CutIn}

@@ -11,10 +11,10 @@ use crate::tx_error_counter::TxErrorCounter;
 use dcsctp_api::{
     ErrorKind, Events, Options, Pair, SctpImplementation, SocketEvent, SocketTime, Word,
 };
-use dcsctp_build::SctpPacketBuilder;
-use dcsctp_send::{BackoffAlgorithm, Timer};
+use dcsctp_send_timer::{BackoffAlgorithm, Timer};
 use dcsctp_transfer::QueuedMessages;
 use dcsctp_wire::{Chunk, sizes};
+use dcsctp_wire_build::SctpPacketBuilder;
 use rand_core::Rng;
 use std::alloc::{AllocError, Global};
 
@@ -94,7 +94,7 @@ impl<R: Rng> Context<R> {
     ghost use Rattle.dcsctp_machine.specs.TimeTurns.{own_timer};
     ghost use Rattle.dcsctp_machine.specs.turns.OwnTimers.{heartbeat_interval, heartbeat_timeout, reconfiguration, retransmission};
     ghost use Rattle.dcsctp_machine.specs.turns.HeartbeatOutcomes.{interval_expired, beating, timeout_outcome, answered, is_exhausted};
-    ghost use Rattle.dcsctp_send.specs.Timer.{running_deadline};
+    ghost use Rattle.dcsctp_send_timer.specs.Timer.{running_deadline};
     ghost use Rattle.dcsctp_core.specs.Timing.{where_expired, is_timer_due, ExpiresAlways};
     ghost use Rattle.dcsctp_core.specs.Reconfiguring.{request_over};
     ghost use Rattle.dcsctp_core.specs.View.{Moves, view_of, endpoint_of, outstanding_of, begun_heartbeats, message_counted, fresh_view, call_start};

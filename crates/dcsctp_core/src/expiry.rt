@@ -4,7 +4,7 @@ ghost use Rattle.std.specs.Prelude.{◌≡◌};
 ghost use Rattle.dcsctp_core.specs.Timing.{expiry_of, timer_after};
 
 use dcsctp_api::SocketTime;
-use dcsctp_send::Timer;
+use dcsctp_send_timer::Timer;
 
 /// What a timer says once it was told the time.
 #[derive(Clone, Copy, Debug, PartialEq, Eq)]

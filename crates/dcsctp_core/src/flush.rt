@@ -11,7 +11,7 @@ ghost use Rattle.dcsctp_core.specs.Handling.{TakesOne, FlushAt};
 use crate::context::Context;
 use crate::state::State;
 use dcsctp_api::{Options, SocketEvent, SocketTime};
-use dcsctp_build::SctpPacketBuilder;
+use dcsctp_wire_build::SctpPacketBuilder;
 use rand_core::Rng;
 use std::alloc::AllocError;
 

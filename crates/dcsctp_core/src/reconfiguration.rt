@@ -1,7 +1,7 @@
 //! The reconfiguration timer, by which an own request to reset streams is sent again (RFC 6525, section 5.1.1).
 
 ghost use Rattle.std.specs.Prelude.{◌≡◌};
-ghost use Rattle.dcsctp_send.specs.Timer.{running_deadline, expires_at};
+ghost use Rattle.dcsctp_send_timer.specs.Timer.{running_deadline, expires_at};
 ghost use Rattle.dcsctp_core.specs.Reconfiguring.{is_unanswered, without_retry, reconfiguration_told, request_in, tcb_changed};
 ghost use Rattle.dcsctp_core.specs.View.{reconfiguration_of, timer_of};
 

@@ -3,7 +3,7 @@
 use crate::expiry::{Expiry, expire};
 use crate::transmission_control_block::TransmissionControlBlock;
 use dcsctp_api::{Association, Pair, Phase, SocketState, SocketTime};
-use dcsctp_send::Timer;
+use dcsctp_send_timer::Timer;
 
 /// An INIT ACK is awaited.
 #[derive(Debug, Drop)]
@@ -158,7 +158,7 @@ impl State {
     ghost use Rattle.dcsctp_machine.specs.Endpoint.{own_tag, association_of};
     ghost use Rattle.dcsctp_api.specs.Calls.{socket_state_of, is_closed};
     ghost use Rattle.std.specs.Option.{option_map};
-    ghost use Rattle.dcsctp_send.specs.Timer.{running_deadline};
+    ghost use Rattle.dcsctp_send_timer.specs.Timer.{running_deadline};
     ghost use Rattle.dcsctp_core.specs.View.{core_of, tcb_of, t1_of, established_from};
     ghost use Rattle.dcsctp_core.specs.Timing.{expiry_of, t1_told};
 

@@ -4,7 +4,7 @@ ghost use Rattle.std.specs.Prelude.{◌≡◌, false, Some, IfOk, OnOk, OnErr, I
 ghost use Rattle.dcsctp_machine.specs.turns.FlushOutcomes.{first_ask, later_ask};
 ghost use Rattle.dcsctp_machine.specs.TimeTurns.{delay_deadline, loss_deadline, has_come};
 ghost use Rattle.dcsctp_machine.specs.turns.TransferMoves.{MovesForward, LosesAll};
-ghost use Rattle.dcsctp_streams.specs.Telling.{contents};
+ghost use Rattle.dcsctp_send_streams.specs.Telling.{contents};
 ghost use Rattle.dcsctp_transfer.specs.Filling.{TellsMore};
 ghost use Rattle.dcsctp_api.specs.Messages.{ready_below};
 ghost use Rattle.dcsctp_core.specs.View.{transfer_of};
@@ -13,9 +13,9 @@ ghost use Rattle.dcsctp_core.specs.Flushing.{FillsBelow, AcknowledgesBelow, Forw
 
 use crate::state::State;
 use dcsctp_api::{Events, Message, SocketTime};
-use dcsctp_build::SctpPacketBuilder;
 use dcsctp_transfer::{Data, HandledSack, QueuedMessages, SkippedTo, Transfer};
 use dcsctp_wire::SackChunk;
+use dcsctp_wire_build::SctpPacketBuilder;
 use std::alloc::AllocError;
 
 impl State {

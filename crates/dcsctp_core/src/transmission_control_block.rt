@@ -8,9 +8,9 @@ ghost use Rattle.dcsctp_core.specs.Flushing.{empty_packet};
 use dcsctp_api::{
     Association, Capabilities, Held, Options, Pair, Phase, ReconfigurationResponseResult, StreamId,
 };
-use dcsctp_build::SctpPacketBuilder;
-use dcsctp_send::Timer;
+use dcsctp_send_timer::Timer;
 use dcsctp_transfer::Transfer;
+use dcsctp_wire_build::SctpPacketBuilder;
 use std::alloc::{AllocError, Global};
 
 /// What an INIT ACK or a cookie tells of the peer.

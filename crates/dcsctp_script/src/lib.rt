@@ -13,7 +13,7 @@ mod script;
 mod setup;
 mod words;
 
-pub use dcsctp_lines::set_option;
-pub use dcsctp_printing::print_event;
+pub use dcsctp_script_lines::set_option;
+pub use dcsctp_script_printing::print_event;
 pub use failure::Status;
 pub use run::run_script;

@@ -1,10 +1,10 @@
 -- How long fragments are.
 use Rattle.std.proofs.Common.{◌≡◌, ◌∙◌, ℕ, ◌<◌, length, take, drop, vec_len, ap, arith}
 use Rattle.std.proofs.lemmas.List.{length-take, length-drop}
-use Rattle.dcsctp_streams.specs.declared.data.DataToSend.{DataToSend}
-use Rattle.dcsctp_streams.specs.declared.message.UnderWay.{UnderWay}
-use Rattle.dcsctp_streams.specs.Waiting.{Waiting}
-use Rattle.dcsctp_streams.specs.Fragment.{Fragment, fragment_of, fragment, HasSize}
+use Rattle.dcsctp_send_streams.specs.declared.data.DataToSend.{DataToSend}
+use Rattle.dcsctp_send_streams.specs.declared.message.UnderWay.{UnderWay}
+use Rattle.dcsctp_send_streams.specs.Waiting.{Waiting}
+use Rattle.dcsctp_send_streams.specs.Fragment.{Fragment, fragment_of, fragment, HasSize}
 use Rattle.dcsctp_send_queue.specs.Leaving.{size_produced}
 
 -- one byte at least where some are left, and at most as many as are asked for

@@ -1,7 +1,7 @@
 -- Lemmas on a front part of what is told.
 use Rattle.std.proofs.Common.{◌≡◌, ◌∙◌, ℕ, List, ◌++◌, append_assoc, sym, ap}
 use Rattle.dcsctp_machine.specs.Event.{Event}
-use Rattle.dcsctp_streams.specs.Telling.{TellsFront}
+use Rattle.dcsctp_send_streams.specs.Telling.{TellsFront}
 
 -- more was to follow
 pub front_left : (before whole more after : List (Event (List ℕ))) → TellsFront before whole after → TellsFront before (whole ++ more) after

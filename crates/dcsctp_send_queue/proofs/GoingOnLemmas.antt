@@ -4,14 +4,14 @@ use Rattle.std.proofs.lemmas.Bool.Decides.{nat_tests}
 use Rattle.std.specs.List.{insert}
 use Rattle.dcsctp_machine.specs.Event.{Event}
 use Rattle.dcsctp_send_queue.specs.declared.backlog.Backlog.{Backlog}
-use Rattle.dcsctp_streams.specs.declared.message.UnderWay.{UnderWay}
-use Rattle.dcsctp_streams.specs.Waiting.{Waiting, Stream, unused, front_of, counted}
-use Rattle.dcsctp_streams.specs.Ranking.{stream_at, IsFound, IsAscending}
+use Rattle.dcsctp_send_streams.specs.declared.message.UnderWay.{UnderWay}
+use Rattle.dcsctp_send_streams.specs.Waiting.{Waiting, Stream, unused, front_of, counted}
+use Rattle.dcsctp_send_streams.specs.Ranking.{stream_at, IsFound, IsAscending}
 use Rattle.dcsctp_send_queue.specs.Backlog.{changed, with_stream, used, IsUnderWay, CanGoOn}
 use Rattle.dcsctp_send_queue.specs.Calls.{Chooses, IsNamed}
 use Rattle.dcsctp_send_queue.specs.Leaving.{Drops, none, more, reduced, after_part, after_last, produced, is_last}
-use Rattle.dcsctp_streams.proofs.StreamLemmas.{stream_at-set, length-set_at}
-use Rattle.dcsctp_streams.proofs.NextLemmas.{same_place}
+use Rattle.dcsctp_send_streams.proofs.StreamLemmas.{stream_at-set, length-set_at}
+use Rattle.dcsctp_send_streams.proofs.NextLemmas.{same_place}
 use Rattle.dcsctp_send_queue.proofs.QueueLemmas.{less_test, not_less_test, changed_at, used_found, lost_after, used_lost, changed_insert, stream_at-either, under_way_set}
 
 -- a change of a stream that keeps its number and its oldest message

@@ -2,11 +2,11 @@
 use Rattle.std.proofs.Common.{◌≡◌, ◌==◌, ◌||◌, ℕ, zero, suc, ◌<◌, Bool, true, false, if◌then◌else◌, Option, List, [], ◌∷◌, drop, map, take, refl, sym, ap, ◌∙◌, arith}
 use Rattle.dcsctp_machine.specs.Transfer.{QueuedStream, is_among, handing, queue_handing_out}
 use Rattle.dcsctp_send_queue.specs.declared.backlog.Backlog.{Backlog}
-use Rattle.dcsctp_streams.specs.declared.message.UnderWay.{UnderWay}
-use Rattle.dcsctp_streams.specs.declared.stream.Pause.{Pause}
-use Rattle.dcsctp_streams.specs.declared.stream.Pause.TheVariants.{Open, Pausing, HandedOut}
-use Rattle.dcsctp_streams.specs.Waiting.{Stream, is_pausing, handed_out}
-use Rattle.dcsctp_streams.specs.Ranking.{IsBelow, IsAscending}
+use Rattle.dcsctp_send_streams.specs.declared.message.UnderWay.{UnderWay}
+use Rattle.dcsctp_send_streams.specs.declared.stream.Pause.{Pause}
+use Rattle.dcsctp_send_streams.specs.declared.stream.Pause.TheVariants.{Open, Pausing, HandedOut}
+use Rattle.dcsctp_send_streams.specs.Waiting.{Stream, is_pausing, handed_out}
+use Rattle.dcsctp_send_streams.specs.Ranking.{IsBelow, IsAscending}
 use Rattle.dcsctp_send_queue.specs.Backlog.{changed, queued_of, is_paused, is_under_way, is_ready, ready_streams, queue_state}
 use Rattle.dcsctp_send_queue.specs.Resets.{handing_out}
 use Rattle.dcsctp_send_queue.proofs.QueueLemmas.{same_test, other_test, changed-none, IsBelow-out}

@@ -2,11 +2,11 @@
 use Rattle.std.proofs.Common.{◌≡◌, nat_lt, ℕ, zero, suc, ◌+◌, ◌<◌, Bool, true, false, not, if◌then◌else◌, Option, None, Some, Ok, Err, List, [], ◌∷◌, length, refl, sym, ap, arith}
 use Rattle.std.proofs.lemmas.Bool.Decides.{nat_tests}
 use Rattle.dcsctp_machine.specs.Transfer.{is_none_ready}
-use Rattle.dcsctp_streams.specs.declared.message.UnderWay.{UnderWay}
-use Rattle.dcsctp_streams.specs.Waiting.{Stream, is_pausing}
-use Rattle.dcsctp_streams.specs.Ranking.{stream_at, count_pausing, IsFound, IsAscending}
-use Rattle.dcsctp_streams.proofs.CountLemmas.{one_pausing, count-cons}
-use Rattle.dcsctp_streams.proofs.NextLemmas.{absent_at}
+use Rattle.dcsctp_send_streams.specs.declared.message.UnderWay.{UnderWay}
+use Rattle.dcsctp_send_streams.specs.Waiting.{Stream, is_pausing}
+use Rattle.dcsctp_send_streams.specs.Ranking.{stream_at, count_pausing, IsFound, IsAscending}
+use Rattle.dcsctp_send_streams.proofs.CountLemmas.{one_pausing, count-cons}
+use Rattle.dcsctp_send_streams.proofs.NextLemmas.{absent_at}
 use Rattle.dcsctp_send_queue.specs.Backlog.{is_under_way, is_ready}
 use Rattle.dcsctp_send_queue.proofs.QueueLemmas.{same_test, other_test, IsBelow-out}
 use Rattle.dcsctp_send_queue.proofs.QueuedLemmas.{ready_ids}

@@ -2,9 +2,9 @@
 use Rattle.std.proofs.Common.{◌≡◌, ◌∙◌, ◌==◌, ℕ, Bool, true, false, if◌then◌else◌, Option, Some, Ok, List, [], ◌∷◌, set, map, refl, ap}
 use Rattle.dcsctp_machine.specs.Transfer.{QueuedStream}
 use Rattle.dcsctp_send_queue.specs.declared.backlog.Backlog.{Backlog}
-use Rattle.dcsctp_streams.specs.declared.message.UnderWay.{UnderWay}
-use Rattle.dcsctp_streams.specs.Waiting.{Stream, unused, counted}
-use Rattle.dcsctp_streams.specs.Ranking.{stream_at, IsFound, IsAscending}
+use Rattle.dcsctp_send_streams.specs.declared.message.UnderWay.{UnderWay}
+use Rattle.dcsctp_send_streams.specs.Waiting.{Stream, unused, counted}
+use Rattle.dcsctp_send_streams.specs.Ranking.{stream_at, IsFound, IsAscending}
 use Rattle.dcsctp_send_queue.specs.Backlog.{changed, queued_of, is_ready, queue_state, is_front_unordered, front_counted, renumbered, numbered_anew}
 use Rattle.dcsctp_send_queue.proofs.QueueLemmas.{changed_at, found_in-at}
 use Rattle.dcsctp_send_queue.proofs.QueuedLemmas.{ready_ids, ready-changed}

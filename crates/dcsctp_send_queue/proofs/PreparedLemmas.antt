@@ -4,12 +4,12 @@ use Rattle.std.proofs.lemmas.List.{length-take}
 use Rattle.dcsctp_machine.specs.Transfer.{QueuedStream, SendQueueState, queued_stream, queue_with}
 use Rattle.dcsctp_machine.specs.turns.PreparedResets.{is_under_way_on, pausing, with_number, ready_with, queue_pausing}
 use Rattle.dcsctp_send_queue.specs.declared.backlog.Backlog.{Backlog}
-use Rattle.dcsctp_streams.specs.declared.message.UnderWay.{UnderWay}
-use Rattle.dcsctp_streams.specs.declared.stream.Pause.{Pause}
-use Rattle.dcsctp_streams.specs.declared.stream.Pause.TheVariants.{Open, Pausing, HandedOut}
-use Rattle.dcsctp_streams.specs.Waiting.{Waiting, Stream, unused, is_pausing}
-use Rattle.dcsctp_streams.specs.Telling.{size_of}
-use Rattle.dcsctp_streams.specs.Ranking.{stream_at, IsBelow, IsAscending}
+use Rattle.dcsctp_send_streams.specs.declared.message.UnderWay.{UnderWay}
+use Rattle.dcsctp_send_streams.specs.declared.stream.Pause.{Pause}
+use Rattle.dcsctp_send_streams.specs.declared.stream.Pause.TheVariants.{Open, Pausing, HandedOut}
+use Rattle.dcsctp_send_streams.specs.Waiting.{Waiting, Stream, unused, is_pausing}
+use Rattle.dcsctp_send_streams.specs.Telling.{size_of}
+use Rattle.dcsctp_send_streams.specs.Ranking.{stream_at, IsBelow, IsAscending}
 use Rattle.dcsctp_send_queue.specs.Backlog.{changed, with_stream, is_used, used, found_in, stream_of, queued_of, is_paused, sent_of, is_under_way, is_ready, ready_streams, queue_state}
 use Rattle.dcsctp_send_queue.specs.Leaving.{count_under_way}
 use Rattle.dcsctp_send_queue.specs.Resets.{is_open, dropped_of, dropped_size, prepared_stream, with_used, prepared_open, prepared, shown_prepared}

@@ -2,11 +2,11 @@
 use Rattle.std.proofs.Common.{◌≡◌, ◌≢◌, ◌==◌, nat_lt, ℕ, zero, suc, ◌<◌, ◌≤◌, true, false, Some, Ok, Err, ◌⊎◌, inl, inr, List, [], ◌∷◌, length, set, refl, sym, ap, ◌∙◌, arith}
 use Rattle.std.proofs.lemmas.Bool.Decides.{nat_tests}
 use Rattle.std.specs.List.{insert}
-use Rattle.dcsctp_streams.specs.declared.message.UnderWay.{UnderWay}
-use Rattle.dcsctp_streams.specs.Waiting.{Waiting, Stream, front_of}
-use Rattle.dcsctp_streams.specs.Ranking.{stream_at, IsFound, IsBelow, IsAscending}
+use Rattle.dcsctp_send_streams.specs.declared.message.UnderWay.{UnderWay}
+use Rattle.dcsctp_send_streams.specs.Waiting.{Waiting, Stream, front_of}
+use Rattle.dcsctp_send_streams.specs.Ranking.{stream_at, IsFound, IsBelow, IsAscending}
 use Rattle.dcsctp_send_queue.specs.Backlog.{changed, with_stream, is_used, found_in, IsUnderWay}
-use Rattle.dcsctp_streams.proofs.StreamLemmas.{length-set_at}
+use Rattle.dcsctp_send_streams.proofs.StreamLemmas.{length-set_at}
 
 pub same_test : (a b : ℕ) → a ≡ b → (a == b) ≡ true
 same_test a b e = grind (arith, nat_tests)

@@ -3,15 +3,15 @@ use Rattle.std.proofs.Common.{◌≡◌, ◌≢◌, ◌==◌, nat_lt, ℕ, zero,
 use Rattle.std.proofs.lemmas.Bool.Decides.{nat_tests}
 use Rattle.dcsctp_machine.specs.Transfer.{QueuedStream, may_begin, has_data, queue_added, stream_among, with_queued, queued_stream, queue_with}
 use Rattle.dcsctp_send_queue.specs.declared.backlog.Backlog.{Backlog}
-use Rattle.dcsctp_streams.specs.declared.message.UnderWay.{UnderWay}
-use Rattle.dcsctp_streams.specs.Waiting.{Waiting, Stream, unused, with_message}
-use Rattle.dcsctp_streams.specs.Ranking.{stream_at, turn_if, turn_of, IsFound, IsBelow, IsAscending}
+use Rattle.dcsctp_send_streams.specs.declared.message.UnderWay.{UnderWay}
+use Rattle.dcsctp_send_streams.specs.Waiting.{Waiting, Stream, unused, with_message}
+use Rattle.dcsctp_send_streams.specs.Ranking.{stream_at, turn_if, turn_of, IsFound, IsBelow, IsAscending}
 use Rattle.dcsctp_send_queue.specs.Backlog.{changed, with_stream, is_used, used, found_in, stream_of, queued_of, is_paused, sent_of, is_ready, queue_state}
 use Rattle.dcsctp_machine.specs.Transfer as shown
 use Rattle.dcsctp_machine.specs.Transfer.{SendQueueState, more_bytes}
 use Rattle.std.specs.List.{list_any}
-use Rattle.dcsctp_streams.specs.declared.stream.Pause.{Pause}
-use Rattle.dcsctp_streams.specs.declared.stream.Pause.TheVariants.{Open, Pausing, HandedOut}
+use Rattle.dcsctp_send_streams.specs.declared.stream.Pause.{Pause}
+use Rattle.dcsctp_send_streams.specs.declared.stream.Pause.TheVariants.{Open, Pausing, HandedOut}
 use Rattle.dcsctp_send_queue.specs.Calls.{with_added}
 use Rattle.dcsctp_machine.specs.turns.SettingOutcomes.{stream_priority, stream_low_threshold, set_in_queue}
 use Rattle.dcsctp_send_queue.specs.Resets.{with_priority, with_threshold, may_send}

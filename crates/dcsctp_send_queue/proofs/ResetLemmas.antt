@@ -2,15 +2,15 @@
 use Rattle.std.proofs.Common.{◌≡◌, ◌≢◌, ◌==◌, ℕ, zero, suc, ◌-◌, ◌+◌, ◌^◌, ◌<◌, min, true, false, Option, None, Some, Result, Ok, Err, OnOk, OnErr, ◌⊎◌, inl, inr, List, [], ◌∷◌, length, set, map, take, refl, sym, ap, subst, ◌∙◌, arith}
 use Rattle.std.proofs.lemmas.Bool.Decides.{nat_tests}
 use Rattle.dcsctp_send_queue.specs.declared.backlog.Backlog.{Backlog}
-use Rattle.dcsctp_streams.specs.declared.message.UnderWay.{UnderWay}
-use Rattle.dcsctp_streams.specs.Waiting.{Waiting, Stream, unused, front_of, raised, paused, committed, rolled_back}
-use Rattle.dcsctp_streams.specs.declared.stream.Pause.{Pause}
-use Rattle.dcsctp_streams.specs.declared.stream.Pause.TheVariants.{Open, Pausing, HandedOut}
-use Rattle.dcsctp_streams.specs.Ranking.{stream_at, IsFound, IsAscending}
+use Rattle.dcsctp_send_streams.specs.declared.message.UnderWay.{UnderWay}
+use Rattle.dcsctp_send_streams.specs.Waiting.{Waiting, Stream, unused, front_of, raised, paused, committed, rolled_back}
+use Rattle.dcsctp_send_streams.specs.declared.stream.Pause.{Pause}
+use Rattle.dcsctp_send_streams.specs.declared.stream.Pause.TheVariants.{Open, Pausing, HandedOut}
+use Rattle.dcsctp_send_streams.specs.Ranking.{stream_at, IsFound, IsAscending}
 use Rattle.dcsctp_send_queue.specs.Backlog.{changed, used, stream_of, IsUnderWay, CanGoOn}
 use Rattle.dcsctp_send_queue.specs.Resets.{put_back, prepared_stream, prepared_open, prepared_in, prepare_events_in, is_open, dropped_size}
 use Rattle.dcsctp_send_queue.specs.Leaving.{DropsSome, pause_events, after_pause, size_not_begun, count_under_way, none}
-use Rattle.dcsctp_streams.proofs.StreamLemmas.{stream_at-set, length-set_at}
+use Rattle.dcsctp_send_streams.proofs.StreamLemmas.{stream_at-set, length-set_at}
 use Rattle.dcsctp_send_queue.proofs.QueueLemmas.{same_test, other_test, changed_at, found_in-at, stream_at-either, under_way_set}
 use Rattle.dcsctp_send_queue.proofs.GoingOnLemmas.{map_at, map_length}
 

@@ -2,15 +2,15 @@
 use Rattle.std.proofs.Common.{◌≡◌, ℕ, Option, None, Some, IfSome, List, [], ◌∷◌, filter, map, refl, sym, ap, ◌∙◌, Bool, true, false, if◌then◌else◌}
 use Rattle.dcsctp_machine.specs.Transfer.{QueuedStream, queued_stream, resumed, queue_with, with_more, queue_after_reset, handed_back, queue_handed_back}
 use Rattle.dcsctp_send_queue.specs.declared.backlog.Backlog.{Backlog}
-use Rattle.dcsctp_streams.specs.declared.message.UnderWay.{UnderWay}
-use Rattle.dcsctp_streams.specs.Waiting.{Stream, unused, begun_anew, raised, committed, rolled_back}
-use Rattle.dcsctp_streams.specs.Ranking.{IsAscending}
+use Rattle.dcsctp_send_streams.specs.declared.message.UnderWay.{UnderWay}
+use Rattle.dcsctp_send_streams.specs.Waiting.{Stream, unused, begun_anew, raised, committed, rolled_back}
+use Rattle.dcsctp_send_streams.specs.Ranking.{IsAscending}
 use Rattle.dcsctp_send_queue.specs.Backlog.{changed, used, queued_of, is_ready, queue_state, IsUnderWay, CanGoOn}
 use Rattle.dcsctp_send_queue.specs.Resets.{restarted}
 use Rattle.dcsctp_send_queue.proofs.QueueLemmas.{used_found}
 use Rattle.dcsctp_send_queue.proofs.QueuedLemmas.{queued_changed}
-use Rattle.dcsctp_streams.specs.declared.stream.Pause.{Pause}
-use Rattle.dcsctp_streams.specs.declared.stream.Pause.TheVariants.{Open, Pausing, HandedOut}
+use Rattle.dcsctp_send_streams.specs.declared.stream.Pause.{Pause}
+use Rattle.dcsctp_send_streams.specs.declared.stream.Pause.TheVariants.{Open, Pausing, HandedOut}
 
 -- each stream that begins anew is shown as one that isn't paused
 shown_anew : (streams : List Stream) → map queued_of (map begun_anew streams) ≡ map resumed (map queued_of streams)

@@ -1,16 +1,16 @@
 -- Messages that wait, and streams by number.
 use Rattle.std.proofs.Common.{◌≡◌, ℕ, zero, suc, ◌-◌, ◌+◌, ◌<◌, Some, Ok, Err, List, [], ◌∷◌, length, set, drop, refl, sym, ap, ◌∙◌, arith}
-use Rattle.dcsctp_streams.specs.declared.stream.Pause.{Pause}
-use Rattle.dcsctp_streams.specs.declared.stream.Pause.TheVariants.{Open, Pausing, HandedOut}
-use Rattle.dcsctp_streams.specs.declared.turns.Turn.{Turn}
-use Rattle.dcsctp_streams.specs.Waiting.{Waiting, Stream, front_of, without_front}
-use Rattle.dcsctp_streams.specs.Ranking.{stream_at, turn_if, IsNext, IsFound, IsAscending}
+use Rattle.dcsctp_send_streams.specs.declared.stream.Pause.{Pause}
+use Rattle.dcsctp_send_streams.specs.declared.stream.Pause.TheVariants.{Open, Pausing, HandedOut}
+use Rattle.dcsctp_send_streams.specs.declared.turns.Turn.{Turn}
+use Rattle.dcsctp_send_streams.specs.Waiting.{Waiting, Stream, front_of, without_front}
+use Rattle.dcsctp_send_streams.specs.Ranking.{stream_at, turn_if, IsNext, IsFound, IsAscending}
 use Rattle.dcsctp_send_queue.specs.declared.backlog.Backlog.{Backlog}
 use Rattle.dcsctp_send_queue.specs.Leaving.{without_rest, HasRest, HasMore}
 use Rattle.dcsctp_send_queue.specs.Backlog.{IsUnderWay}
-use Rattle.dcsctp_streams.specs.declared.message.UnderWay.{UnderWay}
-use Rattle.dcsctp_streams.proofs.StreamLemmas.{stream_at-set, length-set_at}
-use Rattle.dcsctp_streams.proofs.NextLemmas.{same_place, absent_at}
+use Rattle.dcsctp_send_streams.specs.declared.message.UnderWay.{UnderWay}
+use Rattle.dcsctp_send_streams.proofs.StreamLemmas.{stream_at-set, length-set_at}
+use Rattle.dcsctp_send_streams.proofs.NextLemmas.{same_place, absent_at}
 
 -- how many messages the streams have together
 abbrev pub count_messages : List Stream → ℕ

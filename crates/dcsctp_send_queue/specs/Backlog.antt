@@ -3,11 +3,11 @@ use Rattle.std.specs.Prelude.{◌≡◌, ℕ, ◌==◌, ◌<◌, nat_lt, Bool, t
 use Rattle.std.specs.List.{list_any}
 use Rattle.dcsctp_machine.specs.Transfer.{StreamNumber, QueuedStream, SendQueueState}
 use Rattle.dcsctp_send_queue.specs.declared.backlog.Backlog.{Backlog}
-use Rattle.dcsctp_streams.specs.declared.message.UnderWay.{UnderWay}
-use Rattle.dcsctp_streams.specs.declared.stream.Pause.{Pause}
-use Rattle.dcsctp_streams.specs.declared.stream.Pause.TheVariants.{Open, Pausing, HandedOut}
-use Rattle.dcsctp_streams.specs.Waiting.{Waiting, Stream, unused, is_pausing, front_of, next_numbers, counted}
-use Rattle.dcsctp_streams.specs.Ranking.{stream_at}
+use Rattle.dcsctp_send_streams.specs.declared.message.UnderWay.{UnderWay}
+use Rattle.dcsctp_send_streams.specs.declared.stream.Pause.{Pause}
+use Rattle.dcsctp_send_streams.specs.declared.stream.Pause.TheVariants.{Open, Pausing, HandedOut}
+use Rattle.dcsctp_send_streams.specs.Waiting.{Waiting, Stream, unused, is_pausing, front_of, next_numbers, counted}
+use Rattle.dcsctp_send_streams.specs.Ranking.{stream_at}
 
 -- the streams, where that of the number is changed
 abbrev pub changed : ℕ → (Stream → Stream) → List Stream → List Stream

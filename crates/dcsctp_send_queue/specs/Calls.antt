@@ -8,13 +8,13 @@ use Rattle.dcsctp_machine.specs.Event.{Event}
 use Rattle.dcsctp_machine.specs.declared.message.Message.{Message}
 use Rattle.dcsctp_machine.specs.declared.message.SendOptions.{SendOptions}
 use Rattle.dcsctp_machine.specs.Ids.{lifecycle_number}
-use Rattle.dcsctp_streams.specs.declared.data.DataToSend.{DataToSend}
-use Rattle.dcsctp_streams.specs.Fragment.{fragment_of, fragment}
+use Rattle.dcsctp_send_streams.specs.declared.data.DataToSend.{DataToSend}
+use Rattle.dcsctp_send_streams.specs.Fragment.{fragment_of, fragment}
 use Rattle.dcsctp_send_queue.specs.declared.backlog.Backlog.{Backlog}
-use Rattle.dcsctp_streams.specs.declared.message.UnderWay.{UnderWay}
-use Rattle.dcsctp_streams.specs.Telling.{TellsFront}
-use Rattle.dcsctp_streams.specs.Waiting.{Waiting, front_of, is_expired, with_message}
-use Rattle.dcsctp_streams.specs.Ranking.{stream_at, turns_of, IsNext}
+use Rattle.dcsctp_send_streams.specs.declared.message.UnderWay.{UnderWay}
+use Rattle.dcsctp_send_streams.specs.Telling.{TellsFront}
+use Rattle.dcsctp_send_streams.specs.Waiting.{Waiting, front_of, is_expired, with_message}
+use Rattle.dcsctp_send_streams.specs.Ranking.{stream_at, turns_of, IsNext}
 use Rattle.dcsctp_send_queue.specs.Backlog.{changed, used, begun}
 use Rattle.dcsctp_send_queue.specs.Leaving.{Drops, without_rest, drop_events, DropsAll, size_produced, produced, produced_events}
 

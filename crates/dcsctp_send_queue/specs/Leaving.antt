@@ -2,10 +2,10 @@
 use Rattle.std.specs.Prelude.{◌≡◌, ◌≤◌, ℕ, ◌+◌, ◌-◌, ◌==◌, ◌^◌, ◌%◌, ◌<◌, min, nat_le, Bool, true, false, Option, None, Some, List, [], ◌++◌, length, drop, slice_set, if◌then◌else◌}
 use Rattle.dcsctp_machine.specs.Event.{Event}
 use Rattle.dcsctp_send_queue.specs.declared.backlog.Backlog.{Backlog}
-use Rattle.dcsctp_streams.specs.declared.message.UnderWay.{UnderWay}
-use Rattle.dcsctp_streams.specs.Waiting.{Waiting, Stream, front_of, is_expired, without_front, paused, counted}
-use Rattle.dcsctp_streams.specs.Telling.{low_events, expiry_events, expiries, sent_events, size_of}
-use Rattle.dcsctp_streams.specs.Ranking.{stream_at, turns_of, IsNext}
+use Rattle.dcsctp_send_streams.specs.declared.message.UnderWay.{UnderWay}
+use Rattle.dcsctp_send_streams.specs.Waiting.{Waiting, Stream, front_of, is_expired, without_front, paused, counted}
+use Rattle.dcsctp_send_streams.specs.Telling.{low_events, expiry_events, expiries, sent_events, size_of}
+use Rattle.dcsctp_send_streams.specs.Ranking.{stream_at, turns_of, IsNext}
 use Rattle.dcsctp_send_queue.specs.Backlog.{is_under_way}
 
 -- so much leaves the stream at the place

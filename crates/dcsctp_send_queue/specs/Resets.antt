@@ -3,12 +3,12 @@ use Rattle.std.specs.Prelude.{◌≡◌, ◌⊎◌, ℕ, ◌+◌, ◌-◌, ◌^�
 use Rattle.std.specs.List.{list_any}
 use Rattle.dcsctp_machine.specs.Event.{Event}
 use Rattle.dcsctp_send_queue.specs.declared.backlog.Backlog.{Backlog}
-use Rattle.dcsctp_streams.specs.declared.message.UnderWay.{UnderWay}
-use Rattle.dcsctp_streams.specs.declared.stream.Pause.{Pause}
-use Rattle.dcsctp_streams.specs.declared.stream.Pause.TheVariants.{Open, Pausing, HandedOut}
-use Rattle.dcsctp_streams.specs.Waiting.{Waiting, Stream, paused, handed_out, begun_anew, raised}
-use Rattle.dcsctp_streams.specs.Telling.{low_events, expiries, size_of}
-use Rattle.dcsctp_streams.specs.Ranking.{turn_of}
+use Rattle.dcsctp_send_streams.specs.declared.message.UnderWay.{UnderWay}
+use Rattle.dcsctp_send_streams.specs.declared.stream.Pause.{Pause}
+use Rattle.dcsctp_send_streams.specs.declared.stream.Pause.TheVariants.{Open, Pausing, HandedOut}
+use Rattle.dcsctp_send_streams.specs.Waiting.{Waiting, Stream, paused, handed_out, begun_anew, raised}
+use Rattle.dcsctp_send_streams.specs.Telling.{low_events, expiries, size_of}
+use Rattle.dcsctp_send_streams.specs.Ranking.{turn_of}
 use Rattle.dcsctp_machine.specs.Transfer.{SendQueueState, queued_stream}
 use Rattle.dcsctp_machine.specs.turns.PreparedResets.{queue_pausing}
 use Rattle.dcsctp_send_queue.specs.Backlog.{changed, used, stream_of, queue_state}

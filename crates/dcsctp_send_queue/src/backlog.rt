@@ -1,13 +1,13 @@
 //! What a send queue holds, and the steps of its calls.
 
 ghost use Rattle.std.specs.Prelude.{◌≡◌, ◌&&◌};
-ghost use Rattle.dcsctp_streams.specs.Telling.{falls_low};
+ghost use Rattle.dcsctp_send_streams.specs.Telling.{falls_low};
 
 mod producing;
 mod resetting;
 
 use dcsctp_api::{Events, SocketEvent, StreamId};
-use dcsctp_streams::{OutgoingStream, QueuedMessage, Streams, UnderWay};
+use dcsctp_send_streams::{OutgoingStream, QueuedMessage, Streams, UnderWay};
 use std::alloc::{AllocError, Global};
 
 // Does an amount that falls by so much fall from above its threshold to it or below?
@@ -39,9 +39,9 @@ pub struct Backlog {
 
 impl Backlog {
     ghost use Rattle.std.specs.Prelude.{◌≡◌, ◌==◌, ◌+◌, ◌-◌, ◌<◌, ◌++◌, length, Some, None, Ok, Err, OnOk, OnErr, IfOk, IfSome};
-    ghost use Rattle.dcsctp_streams.specs.Waiting.{Waiting, unused, front_of, with_message};
-    ghost use Rattle.dcsctp_streams.specs.Telling.{contents, TellsFront};
-    ghost use Rattle.dcsctp_streams.specs.Ranking.{stream_at, IsFound, IsAscending};
+    ghost use Rattle.dcsctp_send_streams.specs.Waiting.{Waiting, unused, front_of, with_message};
+    ghost use Rattle.dcsctp_send_streams.specs.Telling.{contents, TellsFront};
+    ghost use Rattle.dcsctp_send_streams.specs.Ranking.{stream_at, IsFound, IsAscending};
     ghost use Rattle.dcsctp_send_queue.specs.Leaving.{reduced, without_rest, drop_events, part_events, HasMore, HasRest, count_under_way};
     ghost use Rattle.dcsctp_send_queue.specs.Backlog.{CanGoOn, changed, used, IsUnderWay};
     ghost use Rattle.dcsctp_send_queue.specs.Resets.{put_back, with_threshold, with_priority, may_send};

@@ -5,5 +5,5 @@
 mod backlog;
 mod send_queue;
 
-pub use dcsctp_streams::DataToSend;
+pub use dcsctp_send_streams::DataToSend;
 pub use send_queue::SendQueue;

@@ -5,7 +5,7 @@ ghost use Rattle.std.specs.Prelude.{◌<◌};
 
 use crate::backlog::Backlog;
 use dcsctp_api::{Events, Message, Options, SendOptions, SocketTime, StreamId};
-use dcsctp_streams::{DataToSend, QueuedMessage, Streams};
+use dcsctp_send_streams::{DataToSend, QueuedMessage, Streams};
 use std::alloc::{AllocError, Global};
 use std::marker::Model;
 
@@ -35,14 +35,14 @@ impl SendQueue {
     ghost use Rattle.std.specs.Prelude.{◌≡◌, ◌+◌, ◌-◌, ◌<◌, ◌++◌, vec_len, IfSome, OnOk, OnErr, IfOk, map, take, if◌then◌else◌, false, not};
     ghost use Rattle.dcsctp_machine.specs.Transfer.{empty_queue, queue_after_reset, queue_handed_back, queue_handing_out, queue_added, has_data, is_none_ready};
     ghost use Rattle.dcsctp_machine.specs.turns.SettingOutcomes.{stream_priority, stream_low_threshold, set_in_queue};
-    ghost use Rattle.dcsctp_streams.specs.Telling.{contents, TellsFront};
-    ghost use Rattle.dcsctp_streams.specs.Fragment.{HasSize};
-    ghost use Rattle.dcsctp_streams.specs.Waiting.{paused};
+    ghost use Rattle.dcsctp_send_streams.specs.Telling.{contents, TellsFront};
+    ghost use Rattle.dcsctp_send_streams.specs.Fragment.{HasSize};
+    ghost use Rattle.dcsctp_send_streams.specs.Waiting.{paused};
     ghost use Rattle.dcsctp_send_queue.specs.Backlog.{queue_state, changed, used, stream_of, ready_streams, numbered_for};
     ghost use Rattle.dcsctp_send_queue.specs.Calls.{no_backlog, queued, with_added, TakesNext, StopsTaking, StopsDiscarding, DiscardsNamed};
     ghost use Rattle.dcsctp_send_queue.specs.Leaving.{DropsSome};
     ghost use Rattle.dcsctp_send_queue.specs.Resets.{restarted, handing_out, may_send, IsUsedAtMost, with_threshold, with_priority, prepared, prepare_events, shown_prepared};
-    ghost use Rattle.dcsctp_streams.specs.Waiting.{committed, rolled_back};
+    ghost use Rattle.dcsctp_send_streams.specs.Waiting.{committed, rolled_back};
     ghost use Rattle.dcsctp_machine.specs.Ids.{stream_numbers};
 
     /// A queue with no messages, which numbers them as for no interleaving. It takes no memory.

@@ -6,7 +6,7 @@ use Rattle.dcsctp_api.specs.declared.errors.SocketFault.{SocketFault}
 use Rattle.dcsctp_api.specs.Calls.{UserView, Connects, Follows, FailsWhole, Closes, RanOut}
 use Rattle.dcsctp_core.specs.declared.context.Context.{Context}
 use Rattle.dcsctp_core.specs.View.{View, view_of}
-use Rattle.dcsctp_calls.specs.Parts.{WorksConnect, CallMoved, CallCut, ActTurns, WorksCall}
+use Rattle.dcsctp_socket_calls.specs.Parts.{WorksConnect, CallMoved, CallCut, ActTurns, WorksCall}
 use Rattle.dcsctp_socket.specs.SocketView.{Settles, user_view_of}
 use Rattle.dcsctp_machine.specs.declared.ends.AbortReason.TheVariants.{CloseCalled}
 use Rattle.dcsctp_machine.specs.declared.message.SendOptions.{SendOptions}
@@ -19,8 +19,8 @@ use Rattle.dcsctp_api.specs.declared.errors.ResetStreamsError.{ResetStreamsError
 use Rattle.dcsctp_api.specs.declared.errors.SendError.{SendError}
 use Rattle.dcsctp_api.specs.Messages.{Sends, SendsMany}
 use Rattle.dcsctp_api.specs.Resets.{ResetsOwn}
-use Rattle.dcsctp_calls.specs.MessageParts.{SendTurns, WorksSend, WorksSendMany}
-use Rattle.dcsctp_calls.specs.ResetParts.{ResetTurns, WorksReset}
+use Rattle.dcsctp_socket_calls.specs.MessageParts.{SendTurns, WorksSend, WorksSendMany}
+use Rattle.dcsctp_socket_calls.specs.ResetParts.{ResetTurns, WorksReset}
 
 -- ---- connect
 

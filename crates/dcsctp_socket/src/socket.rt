@@ -7,7 +7,7 @@ use dcsctp_api::{
     SendError, SendOptions, SocketEvent, SocketFault, SocketState, SocketTime, StreamId,
 };
 use dcsctp_core::Context;
-use dcsctp_decisions::poll_timeout;
+use dcsctp_core_decisions::poll_timeout;
 use dcsctp_machine::time_passes_quietly;
 use rand_core::Rng;
 use std::alloc::{AllocError, Global};
@@ -151,7 +151,7 @@ impl<R: Rng + Drop> DcSctpSocket for Socket<R> {
         if self.failed {
             return Err(SocketFault::Failed);
         }
-        let outcome = dcsctp_calls::handle_input(&mut self.context, packet);
+        let outcome = dcsctp_socket_calls::handle_input(&mut self.context, packet);
         settled(&mut self.failed, outcome)
     }
 
@@ -168,7 +168,7 @@ impl<R: Rng + Drop> DcSctpSocket for Socket<R> {
         if self.failed {
             return Err(SocketFault::Failed);
         }
-        let outcome = dcsctp_calls::connect(&mut self.context);
+        let outcome = dcsctp_socket_calls::connect(&mut self.context);
         settled(&mut self.failed, outcome)
     }
 
@@ -185,7 +185,7 @@ impl<R: Rng + Drop> DcSctpSocket for Socket<R> {
         if self.failed {
             return Err(SocketFault::Failed);
         }
-        let outcome = dcsctp_calls::close(&mut self.context);
+        let outcome = dcsctp_socket_calls::close(&mut self.context);
         settled(&mut self.failed, outcome)
     }
 
@@ -202,7 +202,7 @@ impl<R: Rng + Drop> DcSctpSocket for Socket<R> {
         if self.failed {
             return Err(SocketFault::Failed);
         }
-        let outcome = dcsctp_calls::shutdown(&mut self.context);
+        let outcome = dcsctp_socket_calls::shutdown(&mut self.context);
         settled(&mut self.failed, outcome)
     }
 
@@ -221,7 +221,7 @@ impl<R: Rng + Drop> DcSctpSocket for Socket<R> {
             return Err(SocketFault::Failed);
         }
         time_passes_quietly();
-        let outcome = dcsctp_calls::advance_time(&mut self.context, now);
+        let outcome = dcsctp_socket_calls::advance_time(&mut self.context, now);
         settled(&mut self.failed, outcome)
     }
 
@@ -246,7 +246,7 @@ impl<R: Rng + Drop> DcSctpSocket for Socket<R> {
         if self.failed {
             return Err(SocketFault::Failed);
         }
-        let outcome = dcsctp_calls::send(&mut self.context, message, options);
+        let outcome = dcsctp_socket_calls::send(&mut self.context, message, options);
         settled(&mut self.failed, outcome)
     }
 
@@ -265,7 +265,7 @@ impl<R: Rng + Drop> DcSctpSocket for Socket<R> {
         if self.failed {
             return Err(SocketFault::Failed);
         }
-        let outcome = dcsctp_calls::send_many(&mut self.context, messages, options);
+        let outcome = dcsctp_socket_calls::send_many(&mut self.context, messages, options);
         settled(&mut self.failed, outcome)
     }
 
@@ -283,7 +283,7 @@ impl<R: Rng + Drop> DcSctpSocket for Socket<R> {
         if self.failed {
             return Err(SocketFault::Failed);
         }
-        let outcome = dcsctp_calls::reset_streams(&mut self.context, stream_ids);
+        let outcome = dcsctp_socket_calls::reset_streams(&mut self.context, stream_ids);
         settled(&mut self.failed, outcome)
     }
 
@@ -292,7 +292,7 @@ impl<R: Rng + Drop> DcSctpSocket for Socket<R> {
         ensures generator { self.new.view.generator ≡ self.old.view.generator }
         ensures failed { self.new.failed ≡ self.old.failed }
     {
-        dcsctp_calls::get_next_message(&mut self.context)
+        dcsctp_socket_calls::get_next_message(&mut self.context)
     }
 
     fn messages_ready_count(&self) -> usize {
@@ -311,7 +311,7 @@ impl<R: Rng + Drop> DcSctpSocket for Socket<R> {
         ensures call { user_view_of self.new ≡ with_setting (longest_message max_message_size) (user_view_of self.old) }
         ensures generator { self.new.view.generator ≡ self.old.view.generator }
     {
-        dcsctp_calls::set_max_message_size(&mut self.context, max_message_size);
+        dcsctp_socket_calls::set_max_message_size(&mut self.context, max_message_size);
     }
 
     fn set_stream_priority(&mut self, stream_id: StreamId, priority: u16) -> Result<(), SocketFault>
@@ -323,7 +323,11 @@ impl<R: Rng + Drop> DcSctpSocket for Socket<R> {
         if self.failed {
             return Err(SocketFault::Failed);
         }
-        let outcome = dcsctp_calls::set_stream_priority(&mut self.context, stream_id, priority);
+        let outcome = dcsctp_socket_calls::set_stream_priority(
+            &mut self.context,
+            stream_id,
+            priority,
+        );
         settled(&mut self.failed, outcome)
     }
 
@@ -354,7 +358,7 @@ impl<R: Rng + Drop> DcSctpSocket for Socket<R> {
         if self.failed {
             return Err(SocketFault::Failed);
         }
-        let outcome = dcsctp_calls::set_buffered_amount_low_threshold(
+        let outcome = dcsctp_socket_calls::set_buffered_amount_low_threshold(
             &mut self.context,
             stream_id,
             bytes,

@@ -8,12 +8,12 @@ use Rattle.dcsctp_wire.specs.Content.{DataContent, IDataContent, ChunkContent, d
 use Rattle.dcsctp_wire.specs.ReadsBack.{IsByte, FitsChunk}
 use Rattle.dcsctp_wire.specs.Spelling.{chunk_bytes, data_fields, i_data_fields}
 use Rattle.dcsctp_wire.proofs.Lengths.{length-chunk_bytes, length-data_fields, length-i_data_fields}
-use Rattle.dcsctp_build.specs.Building.{Building, bytes_remaining}
-use Rattle.dcsctp_streams.specs.declared.data.DataToSend.{DataToSend}
-use Rattle.dcsctp_outstanding.specs.declared.item.Item.{Item}
-use Rattle.dcsctp_outstanding.specs.Items.{chunk_size}
-use Rattle.dcsctp_outstanding.specs.Outstanding.{OutstandingModel, distance_to, FindsPlaces}
-use Rattle.dcsctp_retransmission.specs.Sending.{HasFragment, PackedFrom, HandsOut, none as none_packed, more as more_packed}
+use Rattle.dcsctp_wire_build.specs.Building.{Building, bytes_remaining}
+use Rattle.dcsctp_send_streams.specs.declared.data.DataToSend.{DataToSend}
+use Rattle.dcsctp_send_outstanding.specs.declared.item.Item.{Item}
+use Rattle.dcsctp_send_outstanding.specs.Items.{chunk_size}
+use Rattle.dcsctp_send_outstanding.specs.Outstanding.{OutstandingModel, distance_to, FindsPlaces}
+use Rattle.dcsctp_send_retransmission.specs.Sending.{HasFragment, PackedFrom, HandsOut, none as none_packed, more as more_packed}
 use Rattle.dcsctp_transfer.specs.Filling.{IsDataChunk}
 use Rattle.dcsctp_transfer.specs.Adding.{HasChunk, HaveChunks, none, more, HasChunkWithin, AddsChunk, AddsChunkOf, AddsChunks, HasRest}
 

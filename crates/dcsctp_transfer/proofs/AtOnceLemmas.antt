@@ -3,21 +3,21 @@ use Rattle.std.proofs.Common.{◌≡◌, ◌∙◌, ℕ, zero, suc, ◌+◌, ◌
 use Rattle.std.specs.List.{AllByRecursion, slice_get}
 use Rattle.std.specs.declared.alloc.Global.{Global}
 use Rattle.std.proofs.lemmas.List.Sums.{sum_by-cons}
-use Rattle.dcsctp_build.specs.Building.{Building}
+use Rattle.dcsctp_wire_build.specs.Building.{Building}
 use Rattle.dcsctp_machine.specs.Transfer.{RetransmissionState, Transfer}
 use Rattle.dcsctp_api.specs.declared.events.SocketEvent.{SocketEvent}
 use Rattle.dcsctp_send_queue.specs.declared.backlog.Backlog.{Backlog}
-use Rattle.dcsctp_outstanding.specs.declared.item.Item.{Item}
-use Rattle.dcsctp_outstanding.specs.declared.progress.ItemState.{ItemState}
-use Rattle.dcsctp_outstanding.specs.declared.progress.ItemState.TheVariants.{InFlight, Marked, Acknowledged, Abandoned}
-use Rattle.dcsctp_outstanding.specs.declared.progress.Change.TheVariants.{SendAgain}
-use Rattle.dcsctp_outstanding.specs.Progress.{is_marked, is_unacknowledged}
-use Rattle.dcsctp_outstanding.specs.Items.{counted, unacknowledged_count, unacknowledged_items, changed_item, changed_between}
-use Rattle.dcsctp_outstanding.specs.Outstanding.{next_tsn}
-use Rattle.dcsctp_outstanding.proofs.ItemsLemmas.{length-changed_between}
-use Rattle.dcsctp_retransmission.specs.Queue.{QueueModel, retransmission_state, header_of}
-use Rattle.dcsctp_retransmission.specs.Sending.{counted_again}
-use Rattle.dcsctp_retransmission.specs.States.{Stage, stage, SendsMarked, Steps, none, more, Stops, SendsAtOnce}
+use Rattle.dcsctp_send_outstanding.specs.declared.item.Item.{Item}
+use Rattle.dcsctp_send_outstanding.specs.declared.progress.ItemState.{ItemState}
+use Rattle.dcsctp_send_outstanding.specs.declared.progress.ItemState.TheVariants.{InFlight, Marked, Acknowledged, Abandoned}
+use Rattle.dcsctp_send_outstanding.specs.declared.progress.Change.TheVariants.{SendAgain}
+use Rattle.dcsctp_send_outstanding.specs.Progress.{is_marked, is_unacknowledged}
+use Rattle.dcsctp_send_outstanding.specs.Items.{counted, unacknowledged_count, unacknowledged_items, changed_item, changed_between}
+use Rattle.dcsctp_send_outstanding.specs.Outstanding.{next_tsn}
+use Rattle.dcsctp_send_outstanding.proofs.ItemsLemmas.{length-changed_between}
+use Rattle.dcsctp_send_retransmission.specs.Queue.{QueueModel, retransmission_state, header_of}
+use Rattle.dcsctp_send_retransmission.specs.Sending.{counted_again}
+use Rattle.dcsctp_send_retransmission.specs.States.{Stage, stage, SendsMarked, Steps, none, more, Stops, SendsAtOnce}
 use Rattle.dcsctp_transfer.specs.Adding.{AddsChunks}
 use Rattle.dcsctp_transfer.specs.Filling.{IsDataChunk}
 use Rattle.dcsctp_transfer.specs.Sacks.{FillsAtOnce}

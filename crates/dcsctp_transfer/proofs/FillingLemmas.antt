@@ -4,14 +4,14 @@ use Rattle.std.proofs.lemmas.List.{append-nil}
 use Rattle.std.proofs.lemmas.Bool.Decides.{nat_tests}
 use Rattle.std.specs.List.{AllByRecursion}
 use Rattle.dcsctp_wire.specs.Content.{ChunkContent}
-use Rattle.dcsctp_build.specs.Building.{Building, bytes_remaining}
+use Rattle.dcsctp_wire_build.specs.Building.{Building, bytes_remaining}
 use Rattle.dcsctp_machine.specs.Event.{Event}
 use Rattle.dcsctp_machine.specs.Transfer.{SendQueueState, RetransmissionState, Transfer, has_data, must_give}
 use Rattle.dcsctp_send_queue.specs.declared.backlog.Backlog.{Backlog}
 use Rattle.dcsctp_send_queue.specs.Backlog.{queue_state}
-use Rattle.dcsctp_retransmission.specs.Queue.{QueueModel, header_of, retransmission_state}
-use Rattle.dcsctp_retransmission.specs.Sending.{Sends}
-use Rattle.dcsctp_retransmission.specs.Halting.{FillsUp}
+use Rattle.dcsctp_send_retransmission.specs.Queue.{QueueModel, header_of, retransmission_state}
+use Rattle.dcsctp_send_retransmission.specs.Sending.{Sends}
+use Rattle.dcsctp_send_retransmission.specs.Halting.{FillsUp}
 use Rattle.dcsctp_transfer.specs.Filling.{TellsMore, IsDataChunk, has_chunks, FillsPacket}
 use Rattle.dcsctp_transfer.specs.Adding.{AddsChunks}
 use Rattle.dcsctp_transfer.proofs.GivingLemmas.{gives_no_data, gives_nothing}

@@ -7,23 +7,23 @@ use Rattle.dcsctp_wire.specs.Content.{forward_tsn_chunk, i_forward_tsn_chunk}
 use Rattle.dcsctp_wire.specs.ReadsBack.{IsByte, FitsChunk}
 use Rattle.dcsctp_wire.specs.Spelling.{chunk_bytes}
 use Rattle.dcsctp_wire.proofs.Lengths.{length-chunk_bytes}
-use Rattle.dcsctp_build.specs.Building.{Building}
+use Rattle.dcsctp_wire_build.specs.Building.{Building}
 use Rattle.dcsctp_machine.specs.Event.{Event}
 use Rattle.dcsctp_machine.specs.Packet.{unworked}
 use Rattle.dcsctp_machine.specs.Transfer.{SendQueueState, RetransmissionState, Transfer}
 use Rattle.dcsctp_machine.specs.turns.FlushOutcomes.{IsForward}
 use Rattle.dcsctp_send_queue.specs.Backlog.{queue_state}
-use Rattle.dcsctp_outstanding.specs.declared.item.Item.{Item}
-use Rattle.dcsctp_retransmission.specs.declared.forward_tsn.Skipped.{Skipped}
-use Rattle.dcsctp_retransmission.specs.declared.forward_tsn.Skipped.TheVariants.{Streams, Messages}
-use Rattle.dcsctp_retransmission.specs.Queue.{QueueModel, header_of, retransmission_state}
-use Rattle.dcsctp_retransmission.specs.Sending.{Keeps}
-use Rattle.dcsctp_retransmission.specs.States.{Stage, is_due, Steps, none, more}
-use Rattle.dcsctp_retransmission.specs.GivingUp.{GivesUpFirst, GivesUpDue}
-use Rattle.dcsctp_retransmission.specs.Forwarding.{Lists}
-use Rattle.dcsctp_retransmission.specs.SkippedBytes.{ReadsAs}
-use Rattle.dcsctp_retransmission.proofs.GivingUpLemmas.{gives_up_at}
-use Rattle.dcsctp_retransmission.proofs.SendingLemmas.{keeps_refl, keeps_trans, gives_up_keeps}
+use Rattle.dcsctp_send_outstanding.specs.declared.item.Item.{Item}
+use Rattle.dcsctp_send_retransmission.specs.declared.forward_tsn.Skipped.{Skipped}
+use Rattle.dcsctp_send_retransmission.specs.declared.forward_tsn.Skipped.TheVariants.{Streams, Messages}
+use Rattle.dcsctp_send_retransmission.specs.Queue.{QueueModel, header_of, retransmission_state}
+use Rattle.dcsctp_send_retransmission.specs.Sending.{Keeps}
+use Rattle.dcsctp_send_retransmission.specs.States.{Stage, is_due, Steps, none, more}
+use Rattle.dcsctp_send_retransmission.specs.GivingUp.{GivesUpFirst, GivesUpDue}
+use Rattle.dcsctp_send_retransmission.specs.Forwarding.{Lists}
+use Rattle.dcsctp_send_retransmission.specs.SkippedBytes.{ReadsAs}
+use Rattle.dcsctp_send_retransmission.proofs.GivingUpLemmas.{gives_up_at}
+use Rattle.dcsctp_send_retransmission.proofs.SendingLemmas.{keeps_refl, keeps_trans, gives_up_keeps}
 use Rattle.dcsctp_transfer.specs.Filling.{told_content, TellsMore, with_chunk}
 use Rattle.dcsctp_transfer.specs.Forwarding.{forward_said, PutsForward, PutsWhere, Forwards}
 use Rattle.dcsctp_transfer.proofs.TellingLemmas.{tells_then, tells_given_up, tells_steps, tells_unclosed}

@@ -3,21 +3,21 @@ use Rattle.std.proofs.Common.{◌≡◌, ◌∙◌, ◌⊎◌, inl, inr, ℕ, su
 use Rattle.std.specs.List.{slice_get}
 use Rattle.std.proofs.lemmas.Bool.Decides.{nat_tests}
 use Rattle.dcsctp_machine.specs.Transfer.{SendQueueState, RetransmissionState, can_send, least_chunk, has_free_tsn, has_data, must_give}
-use Rattle.dcsctp_streams.specs.declared.message.UnderWay.{UnderWay}
-use Rattle.dcsctp_streams.proofs.NextLemmas.{none_any}
+use Rattle.dcsctp_send_streams.specs.declared.message.UnderWay.{UnderWay}
+use Rattle.dcsctp_send_streams.proofs.NextLemmas.{none_any}
 use Rattle.dcsctp_send_queue.specs.declared.backlog.Backlog.{Backlog}
 use Rattle.dcsctp_send_queue.specs.Backlog.{sent_of, queue_state}
 use Rattle.dcsctp_send_queue.proofs.QueuedLemmas.{data_shown}
-use Rattle.dcsctp_outstanding.specs.declared.item.Item.{Item}
-use Rattle.dcsctp_outstanding.specs.declared.progress.Change.TheVariants.{SendAgain}
-use Rattle.dcsctp_outstanding.specs.Progress.{is_marked}
-use Rattle.dcsctp_outstanding.specs.Items.{marked_items, changed_between}
-use Rattle.dcsctp_outstanding.specs.Outstanding.{OutstandingModel}
-use Rattle.dcsctp_outstanding.specs.Next.{HasNone}
-use Rattle.dcsctp_retransmission.specs.Queue.{QueueModel, header_of, retransmission_state}
-use Rattle.dcsctp_retransmission.specs.Halting.{HaltsNew, Halts, FillsUp}
-use Rattle.dcsctp_retransmission.proofs.HaltingLemmas.{fewer_marked}
-use Rattle.dcsctp_retransmission.proofs.SeenLemmas.{sees_windows}
+use Rattle.dcsctp_send_outstanding.specs.declared.item.Item.{Item}
+use Rattle.dcsctp_send_outstanding.specs.declared.progress.Change.TheVariants.{SendAgain}
+use Rattle.dcsctp_send_outstanding.specs.Progress.{is_marked}
+use Rattle.dcsctp_send_outstanding.specs.Items.{marked_items, changed_between}
+use Rattle.dcsctp_send_outstanding.specs.Outstanding.{OutstandingModel}
+use Rattle.dcsctp_send_outstanding.specs.Next.{HasNone}
+use Rattle.dcsctp_send_retransmission.specs.Queue.{QueueModel, header_of, retransmission_state}
+use Rattle.dcsctp_send_retransmission.specs.Halting.{HaltsNew, Halts, FillsUp}
+use Rattle.dcsctp_send_retransmission.proofs.HaltingLemmas.{fewer_marked}
+use Rattle.dcsctp_send_retransmission.proofs.SeenLemmas.{sees_windows}
 use Rattle.dcsctp_transfer.specs.Adding.{HaveChunks, none}
 use Rattle.dcsctp_transfer.proofs.AddingLemmas.{have_packed}
 

@@ -4,15 +4,15 @@ use Rattle.std.specs.List.{sum_by}
 use Rattle.std.proofs.lemmas.List.Sums.{sum_by-cons}
 use Rattle.dcsctp_machine.specs.Transfer.{RetransmissionState, Transfer}
 use Rattle.dcsctp_machine.specs.turns.TransferMoves.{LosesAll}
-use Rattle.dcsctp_outstanding.specs.declared.item.Item.{Item}
-use Rattle.dcsctp_outstanding.specs.declared.progress.ItemState.{ItemState}
-use Rattle.dcsctp_outstanding.specs.declared.progress.ItemState.TheVariants.{InFlight, Marked, Acknowledged, Abandoned}
-use Rattle.dcsctp_outstanding.specs.declared.progress.Progress.{Progress}
-use Rattle.dcsctp_outstanding.specs.declared.progress.Change.TheVariants.{Mark}
-use Rattle.dcsctp_outstanding.specs.Progress.{is_unacknowledged, is_in_flight, marked}
-use Rattle.dcsctp_outstanding.specs.Items.{counted, size_of, in_flight_size, bytes_in_flight, unacknowledged_count, never_acknowledged_count, changed_item, changed_between}
-use Rattle.dcsctp_outstanding.proofs.ItemsLemmas.{length-changed_between}
-use Rattle.dcsctp_retransmission.specs.Queue.{QueueModel, retransmission_state, queue_after_expiry}
+use Rattle.dcsctp_send_outstanding.specs.declared.item.Item.{Item}
+use Rattle.dcsctp_send_outstanding.specs.declared.progress.ItemState.{ItemState}
+use Rattle.dcsctp_send_outstanding.specs.declared.progress.ItemState.TheVariants.{InFlight, Marked, Acknowledged, Abandoned}
+use Rattle.dcsctp_send_outstanding.specs.declared.progress.Progress.{Progress}
+use Rattle.dcsctp_send_outstanding.specs.declared.progress.Change.TheVariants.{Mark}
+use Rattle.dcsctp_send_outstanding.specs.Progress.{is_unacknowledged, is_in_flight, marked}
+use Rattle.dcsctp_send_outstanding.specs.Items.{counted, size_of, in_flight_size, bytes_in_flight, unacknowledged_count, never_acknowledged_count, changed_item, changed_between}
+use Rattle.dcsctp_send_outstanding.proofs.ItemsLemmas.{length-changed_between}
+use Rattle.dcsctp_send_retransmission.specs.Queue.{QueueModel, retransmission_state, queue_after_expiry}
 use Rattle.dcsctp_transfer.specs.Sacks.{LosesWhere}
 
 -- A mark leaves what is unacknowledged, and adds nothing to what is in flight.

@@ -5,8 +5,8 @@ use Rattle.dcsctp_machine.specs.Event.{Event, buffered_amount_low, total_buffere
 use Rattle.dcsctp_machine.specs.Transfer.{QueuedStream, SendQueueState, queued_stream}
 use Rattle.dcsctp_machine.specs.turns.FlushOutcomes.{Told, amount_is_low, total_amount_is_low}
 use Rattle.dcsctp_machine.specs.turns.PreparedResets.{is_under_way_on, count_not_begun, queue_pausing, low_told, expired_told, Pauses, PreparesWhere, Prepares}
-use Rattle.dcsctp_streams.specs.Waiting.{Waiting, Stream}
-use Rattle.dcsctp_streams.specs.Telling.{TellsFront, expiries, falls_low, low_events, size_of}
+use Rattle.dcsctp_send_streams.specs.Waiting.{Waiting, Stream}
+use Rattle.dcsctp_send_streams.specs.Telling.{TellsFront, expiries, falls_low, low_events, size_of}
 use Rattle.dcsctp_send_queue.specs.declared.backlog.Backlog.{Backlog}
 use Rattle.dcsctp_send_queue.specs.Backlog.{stream_of, queued_of, sent_of, queue_state}
 use Rattle.dcsctp_send_queue.specs.Leaving.{count_under_way}

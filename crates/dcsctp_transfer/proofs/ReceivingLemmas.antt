@@ -4,23 +4,23 @@ use Rattle.std.proofs.lemmas.Bool.Decides.{nat_tests}
 use Rattle.std.specs.declared.alloc.AllocError.{AllocError}
 use Rattle.dcsctp_machine.specs.Transfer.{MessageContent, RetransmissionState, TimeoutState, Transfer}
 use Rattle.dcsctp_machine.specs.turns.TransferMoves as moves
-use Rattle.dcsctp_send.specs.Timer.{TimerModel, running_deadline}
-use Rattle.dcsctp_data_tracker.specs.Acknowledging as tracking
-use Rattle.dcsctp_data_tracker.specs.declared.data_tracker.AckState.{AckState}
-use Rattle.dcsctp_data_tracker.specs.declared.data_tracker.AckState.TheVariants.{Idle, BecomingDelayed, Delayed, Immediate}
-use Rattle.dcsctp_data_tracker.specs.Acknowledging.{TrackerModel, tracker_state, distance, number_of, has_numbers_left, is_valid_tsn, after_arrival, is_due, stopped, is_urgent, Observes}
+use Rattle.dcsctp_send_timer.specs.Timer.{TimerModel, running_deadline}
+use Rattle.dcsctp_receive_tracker.specs.Acknowledging as tracking
+use Rattle.dcsctp_receive_tracker.specs.declared.data_tracker.AckState.{AckState}
+use Rattle.dcsctp_receive_tracker.specs.declared.data_tracker.AckState.TheVariants.{Idle, BecomingDelayed, Delayed, Immediate}
+use Rattle.dcsctp_receive_tracker.specs.Acknowledging.{TrackerModel, tracker_state, distance, number_of, has_numbers_left, is_valid_tsn, after_arrival, is_due, stopped, is_urgent, Observes}
 use Rattle.dcsctp_machine.specs.turns.TransferMoves.{is_above_watermark, tsns_ahead, is_tsn_valid, GainsMessages, TakesTsn, TakesWhere, ReceivesData}
-use Rattle.dcsctp_reassembly.specs.declared.arrivals.SkippedTo.{SkippedTo}
-use Rattle.dcsctp_reassembly.specs.declared.arrivals.Numbering.{Numbering}
-use Rattle.dcsctp_reassembly.specs.declared.arrivals.Numbering.TheVariants.{Ordered, Unordered, InterleavedOrdered, InterleavedUnordered}
-use Rattle.dcsctp_reassembly.specs.declared.runs.Assembled.{Assembled}
-use Rattle.dcsctp_reassembly.specs.declared.runs.Assembled.TheVariants.{Dropped, Kept, Whole as WholeMessage}
-use Rattle.dcsctp_reassembly.specs.declared.stream.Taken.{Taken}
-use Rattle.dcsctp_reassembly.specs.Runs.{RunModel, PartModel, WholeModel, whole_of}
-use Rattle.dcsctp_reassembly.specs.Streams.{StreamModel, ChunkModel, ready_with, OrderedOutcome, UnorderedOutcome, TakesOrdered, TakesUnordered, TakesInOrder, TakesNumbered}
-use Rattle.dcsctp_reassembly.specs.Reassembly.{IncomingModel, TakesChunk, TakesData}
-use Rattle.dcsctp_reassembly.specs.Skipping.{ResetsStreams as Resets}
-use Rattle.dcsctp_reassembly.specs.Queue.{QueueModel, WaitingModel, arrived, queued_bytes, reassembly_state, can_count, is_deferred, with_deferred, with_waiting, skipping, is_forward_deferred, Takes, Forwards, Works, WorksAll, actions_of, Leaves, StaysDeferred}
+use Rattle.dcsctp_receive_reassembly.specs.declared.arrivals.SkippedTo.{SkippedTo}
+use Rattle.dcsctp_receive_reassembly.specs.declared.arrivals.Numbering.{Numbering}
+use Rattle.dcsctp_receive_reassembly.specs.declared.arrivals.Numbering.TheVariants.{Ordered, Unordered, InterleavedOrdered, InterleavedUnordered}
+use Rattle.dcsctp_receive_reassembly.specs.declared.runs.Assembled.{Assembled}
+use Rattle.dcsctp_receive_reassembly.specs.declared.runs.Assembled.TheVariants.{Dropped, Kept, Whole as WholeMessage}
+use Rattle.dcsctp_receive_reassembly.specs.declared.stream.Taken.{Taken}
+use Rattle.dcsctp_receive_reassembly.specs.Runs.{RunModel, PartModel, WholeModel, whole_of}
+use Rattle.dcsctp_receive_reassembly.specs.Streams.{StreamModel, ChunkModel, ready_with, OrderedOutcome, UnorderedOutcome, TakesOrdered, TakesUnordered, TakesInOrder, TakesNumbered}
+use Rattle.dcsctp_receive_reassembly.specs.Reassembly.{IncomingModel, TakesChunk, TakesData}
+use Rattle.dcsctp_receive_reassembly.specs.Skipping.{ResetsStreams as Resets}
+use Rattle.dcsctp_receive_reassembly.specs.Queue.{QueueModel, WaitingModel, arrived, queued_bytes, reassembly_state, can_count, is_deferred, with_deferred, with_waiting, skipping, is_forward_deferred, Takes, Forwards, Works, WorksAll, actions_of, Leaves, StaysDeferred}
 use Rattle.dcsctp_machine.specs.turns.ResetOutcomes.{ResetsStreams}
 
 -- ---- the receive window

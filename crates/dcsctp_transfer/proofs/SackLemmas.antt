@@ -4,13 +4,13 @@ use Rattle.std.specs.List.{AllByRecursion, flat_map}
 use Rattle.std.specs.Int.{w32, to_be_bytes}
 use Rattle.dcsctp_wire.specs.Content.{sack_chunk}
 use Rattle.dcsctp_wire.specs.ReadsBack.{IsByte, FitsSack}
-use Rattle.dcsctp_build.specs.Building.{Building}
+use Rattle.dcsctp_wire_build.specs.Building.{Building}
 use Rattle.dcsctp_machine.specs.Transfer.{TrackerState, Transfer}
 use Rattle.dcsctp_machine.specs.turns.TransferMoves as moves
-use Rattle.dcsctp_data_tracker.specs.declared.data_tracker.AckState.{AckState}
-use Rattle.dcsctp_data_tracker.specs.declared.data_tracker.AckState.TheVariants.{Idle, BecomingDelayed, Delayed, Immediate}
-use Rattle.dcsctp_data_tracker.specs.declared.data_tracker.SelectiveAck.{SelectiveAck}
-use Rattle.dcsctp_data_tracker.specs.Acknowledging.{TrackerModel, tracker_state, is_due, stopped, is_acknowledgement_due, acknowledged, block_bytes}
+use Rattle.dcsctp_receive_tracker.specs.declared.data_tracker.AckState.{AckState}
+use Rattle.dcsctp_receive_tracker.specs.declared.data_tracker.AckState.TheVariants.{Idle, BecomingDelayed, Delayed, Immediate}
+use Rattle.dcsctp_receive_tracker.specs.declared.data_tracker.SelectiveAck.{SelectiveAck}
+use Rattle.dcsctp_receive_tracker.specs.Acknowledging.{TrackerModel, tracker_state, is_due, stopped, is_acknowledgement_due, acknowledged, block_bytes}
 use Rattle.dcsctp_transfer.specs.Filling.{is_sack_wanted, with_chunk, Acknowledges}
 use Rattle.dcsctp_transfer.specs.Adding.{sack_of}
 

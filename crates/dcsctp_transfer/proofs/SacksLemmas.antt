@@ -12,20 +12,20 @@ use Rattle.dcsctp_machine.specs.turns.TransferMoves.{TakesSack}
 use Rattle.dcsctp_machine.specs.Ids.{lifecycle_number}
 use Rattle.dcsctp_machine.specs.declared.ids.LifecycleId.{LifecycleId}
 use Rattle.dcsctp_api.specs.declared.events.SocketEvent.{SocketEvent}
-use Rattle.dcsctp_streams.specs.Telling.{contents, TellsFront}
-use Rattle.dcsctp_outstanding.specs.declared.item.Item.{Item}
-use Rattle.dcsctp_outstanding.specs.declared.progress.ItemState.{ItemState}
-use Rattle.dcsctp_outstanding.specs.declared.progress.ItemState.TheVariants.{InFlight, Marked, Acknowledged, Abandoned}
-use Rattle.dcsctp_outstanding.specs.declared.progress.Progress.{Progress}
-use Rattle.dcsctp_outstanding.specs.declared.progress.Change.TheVariants.{Miss, Acknowledge}
-use Rattle.dcsctp_outstanding.specs.Progress.{is_unacknowledged, tells_of, missed, missed_where, acknowledged}
-use Rattle.dcsctp_outstanding.specs.Items.{counted, unacknowledged_count, unacknowledged_items, never_acknowledged_count, never_acknowledged_items, marked_items, changed_item, changed_between}
-use Rattle.dcsctp_outstanding.specs.Outstanding.{OutstandingModel, next_tsn, tsn_at, acknowledged_by}
-use Rattle.dcsctp_outstanding.proofs.ItemsLemmas.{counted_bounded, length-changed_between, length-reported}
-use Rattle.dcsctp_retransmission.proofs.AnswerLemmas.{miss_adds_none, acknowledge_adds_none, lessened, reported_lessens, dropped_lessens}
-use Rattle.dcsctp_retransmission.specs.Telling.{ends_delivery, told_by, told_of, delivered}
-use Rattle.dcsctp_retransmission.specs.Queue as queues
-use Rattle.dcsctp_retransmission.specs.Queue.{QueueModel, header_of, retransmission_state, with_items, covered, lossy, missed_until, exiting}
+use Rattle.dcsctp_send_streams.specs.Telling.{contents, TellsFront}
+use Rattle.dcsctp_send_outstanding.specs.declared.item.Item.{Item}
+use Rattle.dcsctp_send_outstanding.specs.declared.progress.ItemState.{ItemState}
+use Rattle.dcsctp_send_outstanding.specs.declared.progress.ItemState.TheVariants.{InFlight, Marked, Acknowledged, Abandoned}
+use Rattle.dcsctp_send_outstanding.specs.declared.progress.Progress.{Progress}
+use Rattle.dcsctp_send_outstanding.specs.declared.progress.Change.TheVariants.{Miss, Acknowledge}
+use Rattle.dcsctp_send_outstanding.specs.Progress.{is_unacknowledged, tells_of, missed, missed_where, acknowledged}
+use Rattle.dcsctp_send_outstanding.specs.Items.{counted, unacknowledged_count, unacknowledged_items, never_acknowledged_count, never_acknowledged_items, marked_items, changed_item, changed_between}
+use Rattle.dcsctp_send_outstanding.specs.Outstanding.{OutstandingModel, next_tsn, tsn_at, acknowledged_by}
+use Rattle.dcsctp_send_outstanding.proofs.ItemsLemmas.{counted_bounded, length-changed_between, length-reported}
+use Rattle.dcsctp_send_retransmission.proofs.AnswerLemmas.{miss_adds_none, acknowledge_adds_none, lessened, reported_lessens, dropped_lessens}
+use Rattle.dcsctp_send_retransmission.specs.Telling.{ends_delivery, told_by, told_of, delivered}
+use Rattle.dcsctp_send_retransmission.specs.Queue as queues
+use Rattle.dcsctp_send_retransmission.specs.Queue.{QueueModel, header_of, retransmission_state, with_items, covered, lossy, missed_until, exiting}
 use Rattle.dcsctp_transfer.specs.Sacks.{delivered_contents, TellsDelivered, TellsSome}
 
 -- ---- what is told

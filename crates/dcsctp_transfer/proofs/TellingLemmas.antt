@@ -8,16 +8,16 @@ use Rattle.dcsctp_machine.specs.turns.FlushOutcomes.{Told, amount_is_low, total_
 use Rattle.dcsctp_machine.specs.Ids.{lifecycle_number}
 use Rattle.dcsctp_machine.specs.declared.ids.LifecycleId.{LifecycleId}
 use Rattle.dcsctp_api.specs.declared.events.SocketEvent.{SocketEvent}
-use Rattle.dcsctp_streams.specs.Waiting.{Waiting, Stream}
-use Rattle.dcsctp_streams.specs.Ranking.{stream_at}
-use Rattle.dcsctp_streams.specs.Telling.{contents, TellsFront, expiry_events, sent_events, falls_low, low_events}
-use Rattle.dcsctp_streams.specs.declared.message.UnderWay.{UnderWay}
+use Rattle.dcsctp_send_streams.specs.Waiting.{Waiting, Stream}
+use Rattle.dcsctp_send_streams.specs.Ranking.{stream_at}
+use Rattle.dcsctp_send_streams.specs.Telling.{contents, TellsFront, expiry_events, sent_events, falls_low, low_events}
+use Rattle.dcsctp_send_streams.specs.declared.message.UnderWay.{UnderWay}
 use Rattle.dcsctp_send_queue.specs.declared.backlog.Backlog.{Backlog}
 use Rattle.dcsctp_send_queue.specs.Leaving.{Drops, none as none_dropped, more as more_dropped, DropsAll, drop_events, part_events, last_events, is_last, produced_events}
 use Rattle.dcsctp_send_queue.specs.Calls.{StopsTaking, DropsNext, PartNext, DiscardsNamed}
-use Rattle.dcsctp_outstanding.specs.declared.item.Item.{Item}
-use Rattle.dcsctp_retransmission.specs.Queue.{QueueModel}
-use Rattle.dcsctp_retransmission.specs.States.{Stage, stage, maybe_expired, Closes, GivesUpAt, SendsNew, FindsNone, StepAgain, StepNew, Steps, none, more, RefusesClosing, Refused, Stops, counting, TriesPacket, SendsPacket}
+use Rattle.dcsctp_send_outstanding.specs.declared.item.Item.{Item}
+use Rattle.dcsctp_send_retransmission.specs.Queue.{QueueModel}
+use Rattle.dcsctp_send_retransmission.specs.States.{Stage, stage, maybe_expired, Closes, GivesUpAt, SendsNew, FindsNone, StepAgain, StepNew, Steps, none, more, RefusesClosing, Refused, Stops, counting, TriesPacket, SendsPacket}
 use Rattle.dcsctp_transfer.specs.Filling.{told_content, TellsMore}
 
 abbrev Events : Type 0

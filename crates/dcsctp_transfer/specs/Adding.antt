@@ -5,12 +5,12 @@ use Rattle.dcsctp_wire.specs.Content.{SackContent, DataContent, IDataContent, Ch
 use Rattle.dcsctp_wire.specs.ReadsBack.{FitsChunk}
 use Rattle.dcsctp_wire.specs.Spelling.{chunk_bytes}
 use Rattle.dcsctp_wire.specs.declared.chunk.user_data.DataFlags.{DataFlags}
-use Rattle.dcsctp_streams.specs.declared.data.DataToSend.{DataToSend}
-use Rattle.dcsctp_build.specs.Building.{Building, bytes_remaining}
-use Rattle.dcsctp_data_tracker.specs.declared.data_tracker.SelectiveAck.{SelectiveAck}
-use Rattle.dcsctp_outstanding.specs.declared.item.Item.{Item}
-use Rattle.dcsctp_outstanding.specs.Items.{size_of}
-use Rattle.dcsctp_outstanding.specs.Outstanding.{OutstandingModel, tsn_at}
+use Rattle.dcsctp_send_streams.specs.declared.data.DataToSend.{DataToSend}
+use Rattle.dcsctp_wire_build.specs.Building.{Building, bytes_remaining}
+use Rattle.dcsctp_receive_tracker.specs.declared.data_tracker.SelectiveAck.{SelectiveAck}
+use Rattle.dcsctp_send_outstanding.specs.declared.item.Item.{Item}
+use Rattle.dcsctp_send_outstanding.specs.Items.{size_of}
+use Rattle.dcsctp_send_outstanding.specs.Outstanding.{OutstandingModel, tsn_at}
 use Rattle.dcsctp_transfer.specs.Filling.{IsDataChunk}
 
 -- The TSN is that of an item, whose chunk is so long.

@@ -4,7 +4,7 @@ use Rattle.std.specs.List.{AllByRecursion, flat_map}
 use Rattle.dcsctp_wire.specs.Content.{SackContent, ChunkContent, sack_chunk}
 use Rattle.dcsctp_wire.specs.ReadsBack.{FitsSack, FitsChunk}
 use Rattle.dcsctp_wire.specs.Spelling.{chunk_bytes}
-use Rattle.dcsctp_build.specs.Building.{Building, bytes_remaining}
+use Rattle.dcsctp_wire_build.specs.Building.{Building, bytes_remaining}
 use Rattle.dcsctp_machine.specs.Event.{Event, buffered_amount_low, total_buffered_amount_low, lifecycle_message_fully_sent, lifecycle_message_maybe_expired, lifecycle_message_expired, lifecycle_end}
 use Rattle.dcsctp_machine.specs.Transfer.{SendQueueState, RetransmissionState, Transfer, has_data, can_send, must_give}
 use Rattle.dcsctp_machine.specs.turns.TransferMoves.{acknowledged}

@@ -3,14 +3,14 @@ use Rattle.std.specs.Prelude.{◌≡◌, ◌≤◌, ℕ, min, length, Bool, fals
 use Rattle.dcsctp_wire.specs.Content.{ChunkContent, forward_tsn_chunk, i_forward_tsn_chunk}
 use Rattle.dcsctp_wire.specs.ReadsBack.{FitsChunk}
 use Rattle.dcsctp_wire.specs.Spelling.{chunk_bytes}
-use Rattle.dcsctp_build.specs.Building.{Building, bytes_remaining}
+use Rattle.dcsctp_wire_build.specs.Building.{Building, bytes_remaining}
 use Rattle.dcsctp_machine.specs.Event.{Event}
 use Rattle.dcsctp_machine.specs.Packet.{unworked}
 use Rattle.dcsctp_machine.specs.Endpoint.{moment_after}
 use Rattle.dcsctp_machine.specs.Transfer.{SendQueueState, Transfer}
 use Rattle.dcsctp_machine.specs.turns.FlushOutcomes.{Told, IsForward}
-use Rattle.dcsctp_retransmission.specs.declared.forward_tsn.Skipped.{Skipped}
-use Rattle.dcsctp_retransmission.specs.declared.forward_tsn.Skipped.TheVariants.{Streams, Messages}
+use Rattle.dcsctp_send_retransmission.specs.declared.forward_tsn.Skipped.{Skipped}
+use Rattle.dcsctp_send_retransmission.specs.declared.forward_tsn.Skipped.TheVariants.{Streams, Messages}
 use Rattle.dcsctp_transfer.specs.Filling.{told_content, with_chunk}
 
 -- the chunk with this new cumulative TSN and these entries

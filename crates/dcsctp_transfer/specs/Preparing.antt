@@ -4,7 +4,7 @@ use Rattle.dcsctp_machine.specs.Event.{Event}
 use Rattle.dcsctp_machine.specs.Transfer.{SendQueueState}
 use Rattle.dcsctp_machine.specs.turns.FlushOutcomes.{Told}
 use Rattle.dcsctp_machine.specs.turns.PreparedResets.{Prepares}
-use Rattle.dcsctp_streams.specs.Telling.{TellsFront}
+use Rattle.dcsctp_send_streams.specs.Telling.{TellsFront}
 use Rattle.dcsctp_transfer.specs.Filling.{told_content}
 
 -- The stream was prepared, and the user was told of it.

@@ -6,8 +6,8 @@ ghost use Rattle.std.specs.List.{AllByRecursion};
 ghost use Rattle.dcsctp_wire.specs.Content.{chunk_content};
 ghost use Rattle.dcsctp_wire.specs.ReadsBack.{IsByte};
 ghost use Rattle.dcsctp_machine.specs.Endpoint.{moment_after};
-ghost use Rattle.dcsctp_streams.specs.Telling.{contents};
-ghost use Rattle.dcsctp_retransmission.specs.SkippedBytes.{ReadsAs};
+ghost use Rattle.dcsctp_send_streams.specs.Telling.{contents};
+ghost use Rattle.dcsctp_send_retransmission.specs.SkippedBytes.{ReadsAs};
 ghost use Rattle.dcsctp_transfer.specs.Filling.{TellsMore, with_chunk};
 ghost use Rattle.dcsctp_transfer.specs.Forwarding.{forward_said, PutsForward, Forwards};
 
@@ -15,11 +15,11 @@ use crate::queued_messages::QueuedMessages;
 use crate::sending::in_bytes;
 use crate::transfer::Transfer;
 use dcsctp_api::Events;
-use dcsctp_build::SctpPacketBuilder;
 use dcsctp_machine::SocketTime;
-use dcsctp_retransmission::{ForwardTsn, RetransmissionQueue, Skipped};
-use dcsctp_send::RetransmissionTimeout;
+use dcsctp_send_retransmission::{ForwardTsn, RetransmissionQueue, Skipped};
+use dcsctp_send_timer::RetransmissionTimeout;
 use dcsctp_wire::{Chunk, ForwardTsnChunk, IForwardTsnChunk};
+use dcsctp_wire_build::SctpPacketBuilder;
 use std::alloc::{AllocError, Global};
 use std::time::Duration;
 

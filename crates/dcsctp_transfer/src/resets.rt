@@ -6,7 +6,7 @@ ghost use Rattle.dcsctp_machine.specs.Ids.{stream_numbers};
 ghost use Rattle.dcsctp_machine.specs.Transfer.{is_none_ready, queue_handed_back, queue_handing_out};
 ghost use Rattle.dcsctp_machine.specs.turns.BegunResets.{last_assigned_tsn};
 ghost use Rattle.dcsctp_machine.specs.turns.ResetOutcomes.{is_tsn_beyond, ResetsStreams};
-ghost use Rattle.dcsctp_streams.specs.Telling.{contents};
+ghost use Rattle.dcsctp_send_streams.specs.Telling.{contents};
 ghost use Rattle.dcsctp_transfer.specs.Preparing.{TriesStream};
 
 use crate::queued_messages::QueuedMessages;

@@ -1,14 +1,14 @@
 //! SACKs that come in (RFC 9260, sections 6.2.1 and 6.3).
 
 ghost use Rattle.std.specs.Prelude.{◌≡◌};
-ghost use Rattle.dcsctp_streams.specs.Telling.{contents};
+ghost use Rattle.dcsctp_send_streams.specs.Telling.{contents};
 ghost use Rattle.dcsctp_machine.specs.TimeTurns.{has_come};
 ghost use Rattle.dcsctp_transfer.specs.Sacks.{HandlesSack, LosesWhere};
 
 use crate::transfer::Transfer;
 use dcsctp_api::Events;
 use dcsctp_machine::SocketTime;
-use dcsctp_retransmission::HandleSackResult;
+use dcsctp_send_retransmission::HandleSackResult;
 use dcsctp_wire::{SackChunk, clean_sack};
 use std::alloc::AllocError;
 use std::time::Duration;

@@ -5,12 +5,12 @@ ghost use Rattle.std.specs.List.{AllByRecursion};
 ghost use Rattle.dcsctp_wire.specs.Content.{data_chunk, i_data_chunk, sack_chunk, chunk_content};
 ghost use Rattle.dcsctp_wire.specs.ReadsBack.{IsByte, FitsChunk};
 ghost use Rattle.dcsctp_wire.specs.Spelling.{chunk_bytes};
-ghost use Rattle.dcsctp_build.specs.Building.{bytes_remaining};
+ghost use Rattle.dcsctp_wire_build.specs.Building.{bytes_remaining};
 ghost use Rattle.dcsctp_machine.specs.Transfer.{has_data, can_send};
-ghost use Rattle.dcsctp_streams.specs.Telling.{contents};
-ghost use Rattle.dcsctp_outstanding.specs.Items.{chunk_size};
-ghost use Rattle.dcsctp_retransmission.specs.Queue.{header_of};
-ghost use Rattle.dcsctp_retransmission.specs.Sending.{HandsOut};
+ghost use Rattle.dcsctp_send_streams.specs.Telling.{contents};
+ghost use Rattle.dcsctp_send_outstanding.specs.Items.{chunk_size};
+ghost use Rattle.dcsctp_send_retransmission.specs.Queue.{header_of};
+ghost use Rattle.dcsctp_send_retransmission.specs.Sending.{HandsOut};
 ghost use Rattle.dcsctp_transfer.specs.Filling.{IsDataChunk, TellsMore, FillsPacket, may_give, is_sack_wanted, with_chunk, Acknowledges};
 ghost use Rattle.dcsctp_transfer.specs.Sacks.{FillsAtOnce};
 ghost use Rattle.dcsctp_transfer.specs.Adding.{HasChunkWithin, AddsChunkOf, AddsChunks, sack_of, flags_said, ppid_or_fsn, data_said, i_data_said, chunk_said};
@@ -18,12 +18,12 @@ ghost use Rattle.dcsctp_transfer.specs.Adding.{HasChunkWithin, AddsChunkOf, Adds
 use crate::queued_messages::QueuedMessages;
 use crate::transfer::Transfer;
 use dcsctp_api::Events;
-use dcsctp_build::SctpPacketBuilder;
-use dcsctp_data_tracker::SelectiveAck;
 use dcsctp_machine::SocketTime;
-use dcsctp_retransmission::RetransmissionQueue;
+use dcsctp_receive_tracker::SelectiveAck;
 use dcsctp_send_queue::DataToSend;
+use dcsctp_send_retransmission::RetransmissionQueue;
 use dcsctp_wire::{Chunk, DataChunk, DataFlags, IDataChunk, SackChunk};
+use dcsctp_wire_build::SctpPacketBuilder;
 use std::alloc::AllocError;
 
 impl Transfer {

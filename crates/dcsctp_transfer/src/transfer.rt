@@ -1,10 +1,10 @@
 //! What belongs to an association: what is in flight, and what was received.
 
-use dcsctp_data_tracker::DataTracker;
 use dcsctp_machine::{Capabilities, Options};
-use dcsctp_reassembly::ReassemblyQueue;
-use dcsctp_retransmission::RetransmissionQueue;
-use dcsctp_send::RetransmissionTimeout;
+use dcsctp_receive_reassembly::ReassemblyQueue;
+use dcsctp_receive_tracker::DataTracker;
+use dcsctp_send_retransmission::RetransmissionQueue;
+use dcsctp_send_timer::RetransmissionTimeout;
 use std::alloc::Global;
 use std::marker::Model;
 
@@ -34,10 +34,10 @@ impl Drop for Transfer {
 impl Model for Transfer {
     ghost use Rattle.std.specs.Prelude.{◌≡◌};
     ghost use Rattle.dcsctp_machine.specs.Transfer.{Transfer};
-    ghost use Rattle.dcsctp_send.specs.RetransmissionTimeout.{timeout_state};
-    ghost use Rattle.dcsctp_retransmission.specs.Queue.{retransmission_state, header_of};
-    ghost use Rattle.dcsctp_data_tracker.specs.Acknowledging.{tracker_state};
-    ghost use Rattle.dcsctp_reassembly.specs.Queue.{reassembly_state};
+    ghost use Rattle.dcsctp_send_timer.specs.RetransmissionTimeout.{timeout_state};
+    ghost use Rattle.dcsctp_send_retransmission.specs.Queue.{retransmission_state, header_of};
+    ghost use Rattle.dcsctp_receive_tracker.specs.Acknowledging.{tracker_state};
+    ghost use Rattle.dcsctp_receive_reassembly.specs.Queue.{reassembly_state};
 
     ghost Value = { Transfer };
 

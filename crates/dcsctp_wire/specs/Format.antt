@@ -5,7 +5,7 @@ use Rattle.std.specs.List.{AllByRecursion}
 use Rattle.std.specs.Int.{w32, from_le_bytes}
 use Rattle.dcsctp_wire.specs.declared.packet.WireOptions.{WireOptions}
 use Rattle.dcsctp_wire.specs.Numbers.{init_type, init_ack_type, heartbeat_type, heartbeat_ack_type, abort_type, error_type, re_config_type}
-use Rattle.dcsctp_checksum.specs.Crc32c.{packet_checksum_of}
+use Rattle.dcsctp_wire_checksum.specs.Crc32c.{packet_checksum_of}
 use Rattle.dcsctp_wire.specs.Content.{ParameterContent, InitContent, CauseContent, ChunkContent, init_chunk, init_ack_chunk, heartbeat_chunk, heartbeat_ack_chunk, abort_chunk, error_chunk, cookie_echo_chunk, re_config_chunk, PacketContent}
 use Rattle.dcsctp_wire.specs.Fields.{u16_at, u32_at, parameter_of, cause_of, lowest_bit, fields_in}
 

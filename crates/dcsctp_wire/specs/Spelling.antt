@@ -7,7 +7,7 @@ use Rattle.dcsctp_wire.specs.declared.reconfiguration.ReconfigurationResponseRes
 use Rattle.dcsctp_wire.specs.declared.reconfiguration.NextTsns.{NextTsns}
 use Rattle.dcsctp_wire.specs.declared.chunk.user_data.DataFlags.{DataFlags}
 use Rattle.dcsctp_wire.specs.Numbers.{data_type, init_type, init_ack_type, sack_type, heartbeat_type, heartbeat_ack_type, abort_type, shutdown_type, shutdown_ack_type, error_type, cookie_echo_type, cookie_ack_type, shutdown_complete_type, i_data_type, re_config_type, forward_tsn_type, i_forward_tsn_type, heartbeat_info_type, state_cookie_type, outgoing_ssn_reset_request_type, incoming_ssn_reset_request_type, reconfiguration_response_type, zero_checksum_acceptable_type, supported_extensions_type, forward_tsn_supported_type, missing_mandatory_parameter_code, unrecognized_chunk_type_code, no_user_data_code, cookie_received_while_shutting_down_code, user_initiated_abort_code, protocol_violation_code}
-use Rattle.dcsctp_checksum.specs.Crc32c.{packet_checksum_of}
+use Rattle.dcsctp_wire_checksum.specs.Crc32c.{packet_checksum_of}
 use Rattle.dcsctp_wire.specs.Format.{padding_of}
 use Rattle.dcsctp_wire.specs.Content.{ParameterContent, heartbeat_info, state_cookie, outgoing_ssn_reset_request, incoming_ssn_reset_request, reconfiguration_response, supported_extensions, zero_checksum_acceptable, forward_tsn_supported, unknown_parameter, InitContent, CauseContent, missing_mandatory_parameter, unrecognized_chunk_type, no_user_data, cookie_received_while_shutting_down, user_initiated_abort, protocol_violation, unknown_cause, DataContent, IDataContent, SackContent, ChunkContent, data_chunk, init_chunk, init_ack_chunk, sack_chunk, heartbeat_chunk, heartbeat_ack_chunk, abort_chunk, shutdown_chunk, shutdown_ack_chunk, error_chunk, cookie_echo_chunk, cookie_ack_chunk, shutdown_complete_chunk, i_data_chunk, re_config_chunk, forward_tsn_chunk, i_forward_tsn_chunk, unknown_chunk, PacketContent}
 

@@ -1,6 +1,6 @@
 //! SCTP packets on the wire (RFC 9260, section 3): what bytes say, and the bytes that say it.
 //!
-//! `SctpPacket::from_bytes` reads a packet, whose chunks borrow its bytes. `dcsctp_build` writes one.
+//! `SctpPacket::from_bytes` reads a packet, whose chunks borrow its bytes. `dcsctp_wire_build` writes one.
 #![tactic(auto)]
 
 mod bytes;

@@ -9,7 +9,7 @@ ghost use Rattle.dcsctp_wire.specs.Format.{is_cookie_echo, checksum_accepted, Is
 
 use crate::bytes::{u16_at, u32_at};
 use crate::chunk::{Chunk, read_chunks};
-use dcsctp_checksum::packet_checksum;
+use dcsctp_wire_checksum::packet_checksum;
 use std::alloc::{AllocError, AllocFailed, Global};
 
 /// What a reader knows of itself.

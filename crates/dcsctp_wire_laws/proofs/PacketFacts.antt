@@ -1,7 +1,7 @@
 -- Outside examples of packets, written by hand from RFC 9260, section 3.1, computed by the definitions.
 use Rattle.std.proofs.Common.{◌≡◌, ℕ, Bool, true, false, List, [], ◌∷◌, refl, arith}
 use Rattle.dcsctp_wire.specs.declared.packet.WireOptions.{WireOptions}
-use Rattle.dcsctp_checksum.specs.Crc32c.{bit_step, eight_bit_steps, byte_step, register_after, crc32c_of, packet_checksum_of}
+use Rattle.dcsctp_wire_checksum.specs.Crc32c.{bit_step, eight_bit_steps, byte_step, register_after, crc32c_of, packet_checksum_of}
 use Rattle.dcsctp_wire.specs.Content.{cookie_echo_chunk, cookie_ack_chunk, PacketContent}
 use Rattle.dcsctp_wire.specs.Fields.{fields_in}
 use Rattle.dcsctp_wire.specs.Format.{frame_at, form_of, checksum_accepted, IsPacket}

@@ -4,11 +4,11 @@ use Rattle.std.specs.Int.{w32, to_le_bytes, from_le_bytes}
 use Rattle.std.specs.List.{AllByRecursion}
 use Rattle.std.proofs.lemmas.List.{take_at, drop_at}
 use Rattle.std.proofs.lemmas.Nat.{xor_lt, from_le_bytes-to_le_bytes_4}
-use Rattle.dcsctp_checksum.specs.Crc32c.{polynomial, all_ones, bit_step, eight_bit_steps, byte_step, register_after, crc32c_of, packet_checksum_of}
+use Rattle.dcsctp_wire_checksum.specs.Crc32c.{polynomial, all_ones, bit_step, eight_bit_steps, byte_step, register_after, crc32c_of, packet_checksum_of}
 use Rattle.dcsctp_wire.specs.Spelling.{zeros, packet_bytes_of, checksum_field}
 use Rattle.dcsctp_wire.specs.ReadsBack.{IsByte}
 use Rattle.dcsctp_wire_laws.proofs.InBytes.{both, in_zeros}
-use Rattle.dcsctp_checksum.proofs.Crc32cLemmas.{bit_step_even, bit_step_odd, parity}
+use Rattle.dcsctp_wire_checksum.proofs.Crc32cLemmas.{bit_step_even, bit_step_odd, parity}
 
 -- ---- the checksum of bytes has 32 bits
 

@@ -7,8 +7,8 @@ ghost use Rattle.dcsctp_wire.specs.Spelling.{chunk_bytes, packet_bytes};
 
 use crate::checks::{same, shows};
 use crate::kinds::ROWS;
-use dcsctp_build::SctpPacketBuilder;
 use dcsctp_wire::{Chunk, CookieEchoChunk, SctpPacket, ShutdownCompleteChunk, WireOptions};
+use dcsctp_wire_build::SctpPacketBuilder;
 use std::alloc::{AllocError, Global};
 use std::process::Abort;
 

@@ -1,7 +1,7 @@
 //! Checksums, with the values that others publish (RFC 9260, appendix A).
 
 use crate::checks::same;
-use dcsctp_checksum::{crc32c, packet_checksum};
+use dcsctp_wire_checksum::{crc32c, packet_checksum};
 
 #[rattlefmt::skip]
 const ASCENDING: [u8; 32] = [

@@ -12,10 +12,10 @@ use Rattle.dcsctp_machine.specs.Endpoint.{Endpoint}
 use Rattle.dcsctp_machine.specs.CallTurns.{Turned, events_of}
 use Rattle.dcsctp_machine.specs.declared.schedule.Side.{Side}
 use Rattle.dcsctp_machine.specs.Sockets.{Worked, Both, turns_after, acts_of}
-use Rattle.dcsctp_refinement.specs.Agreement.{HasDistinctTags}
-use Rattle.dcsctp_refinement.specs.Deadlines.{RunsT1}
-use Rattle.dcsctp_refinement.specs.Handshake.{ConnectThroughout, handshake_acts, connections, IsConnected, AreConnected, FittingSocketsConnect}
-use Rattle.dcsctp_refinement.specs.Laws.{SocketLaws}
+use Rattle.dcsctp_machine_refinement.specs.Agreement.{HasDistinctTags}
+use Rattle.dcsctp_machine_refinement.specs.Deadlines.{RunsT1}
+use Rattle.dcsctp_machine_refinement.specs.Handshake.{ConnectThroughout, handshake_acts, connections, IsConnected, AreConnected, FittingSocketsConnect}
+use Rattle.dcsctp_machine_refinement.specs.Laws.{SocketLaws}
 use Rattle.dcsctp_machine.specs.Schedule.{ActContent, step_content, step_act}
 use Rattle.dcsctp_world.specs.Shown.{SideShown, WorldView, options_of}
 use Rattle.dcsctp_world.specs.Run.{SideRuns, IsRun}

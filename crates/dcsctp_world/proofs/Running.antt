@@ -22,7 +22,7 @@ use Rattle.dcsctp_world.specs.declared.act.Reply.{Reply}
 use Rattle.dcsctp_world.specs.declared.watched_socket.WatchedSocket.{WatchedSocket}
 use Rattle.dcsctp_world.specs.Shown.{SideShown, WorldView, fresh_side, fresh_world, options_of}
 use Rattle.dcsctp_world.specs.Growth.{Grows}
-use Rattle.dcsctp_refinement.specs.Agreement.{IsUsable}
+use Rattle.dcsctp_machine_refinement.specs.Agreement.{IsUsable}
 use Rattle.dcsctp_world.specs.Run.{SideRuns, IsRun}
 use Rattle.dcsctp_world.specs.Acts.{with_associations, Applied}
 use Rattle.dcsctp_world.specs.Parts.{shown, world_of}

@@ -11,10 +11,10 @@ use Rattle.dcsctp_machine.specs.control.HandshakeChanges.{new_held}
 use Rattle.dcsctp_machine.specs.CallTurns.{AlongTurns}
 use Rattle.dcsctp_machine.specs.Past.{Each, InPlace}
 use Rattle.dcsctp_machine.specs.Sockets.{Both, of_side, turns_after, acts_of}
-use Rattle.dcsctp_refinement.specs.Agreement.{HasDistinctTags, AgreeThroughout, noted_past}
-use Rattle.dcsctp_refinement.specs.Deadlines.{RunsT1}
-use Rattle.dcsctp_refinement.specs.Handshake.{handshake_acts, AreFitting, ConnectThroughout, connections}
-use Rattle.dcsctp_refinement.specs.OneSocket.{EndsByAnswer, TellsEnd}
+use Rattle.dcsctp_machine_refinement.specs.Agreement.{HasDistinctTags, AgreeThroughout, noted_past}
+use Rattle.dcsctp_machine_refinement.specs.Deadlines.{RunsT1}
+use Rattle.dcsctp_machine_refinement.specs.Handshake.{handshake_acts, AreFitting, ConnectThroughout, connections}
+use Rattle.dcsctp_machine_refinement.specs.OneSocket.{EndsByAnswer, TellsEnd}
 use Rattle.dcsctp_world.specs.Shown.{SideShown, WorldView}
 use Rattle.dcsctp_world.specs.Run.{IsRun}
 

@@ -4,7 +4,7 @@ use Rattle.dcsctp_machine.specs.declared.options.Options.{Options}
 use Rattle.dcsctp_machine.specs.declared.schedule.Side.{Side}
 use Rattle.dcsctp_machine.specs.CallTurns.{Turned, pairs_of}
 use Rattle.dcsctp_machine.specs.Sockets.{Both, of_side, Worked, SocketRun, turns_after, endpoint_after, events_shown, packets_shown, acts_of, associations_of}
-use Rattle.dcsctp_refinement.specs.Agreement.{AreUsable}
+use Rattle.dcsctp_machine_refinement.specs.Agreement.{AreUsable}
 use Rattle.dcsctp_world.specs.Shown.{SideShown, WorldView}
 
 -- A side after these turns: it has not failed, no event waits in it, and it shows what they brought.

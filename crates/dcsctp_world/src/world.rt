@@ -3,7 +3,7 @@
 use crate::act::{Reply, are_honest, side_of};
 use crate::watched_socket::WatchedSocket;
 use dcsctp_machine::{Act, Outside, Side, Step, options_fit};
-use dcsctp_refinement::socket_laws;
+use dcsctp_machine_refinement::socket_laws;
 use dcsctp_socket::{Association, Options, Pair, Socket, SocketEvent, SocketFault};
 use rand_core::Rng;
 use std::alloc::Global;

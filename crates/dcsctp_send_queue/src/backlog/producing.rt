@@ -4,15 +4,15 @@ ghost use Rattle.std.specs.Prelude.{◌≡◌};
 
 use super::Backlog;
 use dcsctp_api::{Events, SocketTime, StreamId};
-use dcsctp_streams::{DataToSend, UnderWay};
+use dcsctp_send_streams::{DataToSend, UnderWay};
 use std::alloc::AllocError;
 
 impl Backlog {
     ghost use Rattle.std.specs.Prelude.{◌≡◌, ◌==◌, ◌+◌, ◌-◌, ◌<◌, ◌++◌, ℕ, length, Some, None, Ok, OnOk, OnErr, IfOk, IfSome};
-    ghost use Rattle.dcsctp_streams.specs.Waiting.{Waiting, front_of, is_expired};
-    ghost use Rattle.dcsctp_streams.specs.Telling.{contents, TellsFront};
-    ghost use Rattle.dcsctp_streams.specs.Ranking.{stream_at};
-    ghost use Rattle.dcsctp_streams.specs.Fragment.{fragment_of, fragment, HasSize};
+    ghost use Rattle.dcsctp_send_streams.specs.Waiting.{Waiting, front_of, is_expired};
+    ghost use Rattle.dcsctp_send_streams.specs.Telling.{contents, TellsFront};
+    ghost use Rattle.dcsctp_send_streams.specs.Ranking.{stream_at};
+    ghost use Rattle.dcsctp_send_streams.specs.Fragment.{fragment_of, fragment, HasSize};
     ghost use Rattle.dcsctp_send_queue.specs.Leaving.{after_part, part_events, after_last, last_events, HasMore, HasRest, DropsAll, DropsSome, NextUnexpired, size_produced, produced, produced_events};
     ghost use Rattle.dcsctp_send_queue.specs.Backlog.{CanGoOn, begun, IsUnderWay, is_front_unordered, numbered_anew, numbered_for, queue_state};
     ghost use Rattle.dcsctp_send_queue.specs.Calls.{StopsTaking, StopsDiscarding, TakesNext, DiscardsNamed};

@@ -4,16 +4,16 @@ ghost use Rattle.std.specs.Prelude.{◌≡◌, ◌&&◌};
 
 use super::Backlog;
 use dcsctp_api::{Events, StreamId};
-use dcsctp_streams::Pause;
+use dcsctp_send_streams::Pause;
 use std::alloc::AllocError;
 
 impl Backlog {
     ghost use Rattle.std.specs.Prelude.{◌≡◌, ◌==◌, ◌+◌, ◌-◌, ◌<◌, ◌++◌, length, take, Ok, Err, OnOk, OnErr, IfOk, not};
-    ghost use Rattle.dcsctp_streams.specs.Waiting.{handed_out};
+    ghost use Rattle.dcsctp_send_streams.specs.Waiting.{handed_out};
     ghost use Rattle.dcsctp_machine.specs.Ids.{stream_numbers};
     ghost use Rattle.dcsctp_machine.specs.Transfer.{is_none_ready};
-    ghost use Rattle.dcsctp_streams.specs.Telling.{contents, TellsFront};
-    ghost use Rattle.dcsctp_streams.specs.Ranking.{stream_at, count_pausing, IsAscending};
+    ghost use Rattle.dcsctp_send_streams.specs.Telling.{contents, TellsFront};
+    ghost use Rattle.dcsctp_send_streams.specs.Ranking.{stream_at, count_pausing, IsAscending};
     ghost use Rattle.dcsctp_send_queue.specs.Leaving.{count_under_way, after_pause, pause_events};
     ghost use Rattle.dcsctp_send_queue.specs.Backlog.{CanGoOn, begun, changed, ready_streams, is_ready};
     ghost use Rattle.dcsctp_send_queue.specs.Resets.{prepared, prepare_events, IsUsedAtMost, handing_out};

@@ -1,5 +1,5 @@
 use Rattle.std.proofs.Common.{sym, subst}
-use Rattle.dcsctp_retransmission.specs.SkippedBytes.{ReadsAs}
+use Rattle.dcsctp_send_retransmission.specs.SkippedBytes.{ReadsAs}
 use Rattle.dcsctp_transfer.proofs.ForwardingLemmas.{puts_forward}
 use Rattle.dcsctp_transfer.proofs.forwarding.put_forward_tsn.Goals as goal
 

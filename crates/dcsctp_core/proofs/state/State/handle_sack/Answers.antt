@@ -1,4 +1,4 @@
-use Rattle.dcsctp_streams.specs.Telling.{contents}
+use Rattle.dcsctp_send_streams.specs.Telling.{contents}
 use Rattle.dcsctp_core.proofs.BelowLemmas.{sacks_echoed, sacks_open}
 use Rattle.dcsctp_core.proofs.state.State.handle_sack.Goals as goal
 

@@ -1,6 +1,6 @@
 use Rattle.std.proofs.Common.{◌++◌, inr, refl, ap, sym, ◌∙◌, arith}
 use Rattle.std.proofs.lemmas.Result.{err_from_is_err_and}
-use Rattle.dcsctp_streams.specs.Telling.{contents}
+use Rattle.dcsctp_send_streams.specs.Telling.{contents}
 use Rattle.dcsctp_send_queue.specs.Leaving.{produced_events}
 use Rattle.dcsctp_send_queue.proofs.FrontLemmas.{front_from}
 use Rattle.dcsctp_send_queue.proofs.GoingOnLemmas.{can_go_on-produced, drops-under_way}

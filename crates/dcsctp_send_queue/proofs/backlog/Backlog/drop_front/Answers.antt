@@ -1,7 +1,7 @@
 use Rattle.std.proofs.Common.{◌≡◌, ◌∙◌, ℕ, ◌-◌, Some, length, ap, sym, subst}
 use Rattle.std.proofs.lemmas.Result.{err_from_is_err_and}
-use Rattle.dcsctp_streams.specs.Waiting.{Waiting, Stream, front_of}
-use Rattle.dcsctp_streams.specs.Telling.{contents, expiry_events, TellsFront}
+use Rattle.dcsctp_send_streams.specs.Waiting.{Waiting, Stream, front_of}
+use Rattle.dcsctp_send_streams.specs.Telling.{contents, expiry_events, TellsFront}
 use Rattle.dcsctp_send_queue.specs.Leaving.{part_events}
 use Rattle.dcsctp_send_queue.proofs.FrontLemmas.{front_left, front_right}
 use Rattle.dcsctp_send_queue.proofs.backlog.Backlog.drop_front.Goals as goal

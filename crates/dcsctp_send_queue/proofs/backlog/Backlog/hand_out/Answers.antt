@@ -2,7 +2,7 @@ use Rattle.std.proofs.Common.{◌+◌, ap, refl, ◌∙◌, List, get_or, arith}
 use Rattle.dcsctp_machine.specs.Ids.{stream_numbers}
 use Rattle.dcsctp_machine.specs.declared.ids.StreamId.{StreamId}
 use Rattle.dcsctp_send_queue.specs.declared.backlog.Backlog.{Backlog}
-use Rattle.dcsctp_streams.specs.Waiting.{Stream, handed_out}
+use Rattle.dcsctp_send_streams.specs.Waiting.{Stream, handed_out}
 use Rattle.dcsctp_send_queue.specs.Backlog.{changed}
 use Rattle.dcsctp_send_queue.proofs.ReadyLemmas.{handing_out-step, handing_out-all, can_go_on-handing_out}
 use Rattle.dcsctp_send_queue.proofs.backlog.Backlog.hand_out.Goals as goal

@@ -1,5 +1,5 @@
 use Rattle.std.proofs.Common.{ap, sym, ◌∙◌, List}
-use Rattle.dcsctp_streams.specs.Waiting.{Stream, handed_out}
+use Rattle.dcsctp_send_streams.specs.Waiting.{Stream, handed_out}
 use Rattle.dcsctp_send_queue.proofs.QueueLemmas.{changed_at}
 use Rattle.dcsctp_send_queue.proofs.ReadyLemmas.{changed_lost}
 use Rattle.dcsctp_send_queue.proofs.backlog.Backlog.hand_out_one.Goals as goal

@@ -1,7 +1,7 @@
 use Rattle.std.proofs.Common.{inl, refl, ◌++◌, [], append_assoc, ap, sym, ◌∙◌, arith, rules}
 use Rattle.std.proofs.lemmas.Result.{err_from_is_err_and}
 use Rattle.dcsctp_send_queue.proofs.FrontLemmas.{front_from}
-use Rattle.dcsctp_streams.specs.Telling.{contents}
+use Rattle.dcsctp_send_streams.specs.Telling.{contents}
 use Rattle.dcsctp_send_queue.specs.Leaving.{none, more, drop_events}
 use Rattle.dcsctp_send_queue.proofs.WaitingLemmas.{count-without_rest, next_front}
 use Rattle.dcsctp_send_queue.proofs.backlog.Backlog.next_unexpired.Goals as goal

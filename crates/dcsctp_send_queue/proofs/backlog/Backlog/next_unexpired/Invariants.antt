@@ -1,4 +1,4 @@
-use Rattle.dcsctp_streams.specs.Telling.{contents}
+use Rattle.dcsctp_send_streams.specs.Telling.{contents}
 use Rattle.dcsctp_send_queue.specs.Leaving.{DropsAll}
 use Rattle.dcsctp_send_queue.proofs.WaitingLemmas.{count_messages}
 use Rattle.dcsctp_send_queue.proofs.backlog.Backlog.next_unexpired.Given as goal

@@ -1,7 +1,7 @@
 use Rattle.std.proofs.Common.{◌≡◌, ◌∙◌, ℕ, Bool, Some, set, ap}
 use Rattle.dcsctp_send_queue.specs.declared.backlog.Backlog.{Backlog}
-use Rattle.dcsctp_streams.specs.Waiting.{Stream, next_numbers, counted}
-use Rattle.dcsctp_streams.specs.Ranking.{stream_at}
+use Rattle.dcsctp_send_streams.specs.Waiting.{Stream, next_numbers, counted}
+use Rattle.dcsctp_send_streams.specs.Ranking.{stream_at}
 use Rattle.dcsctp_send_queue.specs.Backlog.{queue_state, front_counted, is_front_unordered}
 use Rattle.dcsctp_send_queue.proofs.NumberingLemmas.{anew_at, anew_shown}
 use Rattle.dcsctp_send_queue.proofs.backlog.Backlog.number_anew.Goals as goal

@@ -1,8 +1,8 @@
 use Rattle.std.proofs.Common.{◌≡◌, ◌∙◌, ◌-◌, ◌^◌, ◌++◌, ℕ, List, drop, min, ap, subst}
 use Rattle.std.proofs.lemmas.Result.{err_from_is_err_and}
-use Rattle.dcsctp_streams.specs.Waiting.{Waiting, Stream}
-use Rattle.dcsctp_streams.specs.Ranking.{stream_at}
-use Rattle.dcsctp_streams.specs.Telling.{contents, expiries, size_of, TellsFront}
+use Rattle.dcsctp_send_streams.specs.Waiting.{Waiting, Stream}
+use Rattle.dcsctp_send_streams.specs.Ranking.{stream_at}
+use Rattle.dcsctp_send_streams.specs.Telling.{contents, expiries, size_of, TellsFront}
 use Rattle.dcsctp_send_queue.specs.declared.backlog.Backlog.{Backlog}
 use Rattle.dcsctp_send_queue.specs.Leaving.{part_events, count_under_way, not_begun, size_not_begun}
 use Rattle.dcsctp_send_queue.proofs.FrontLemmas.{front_left, front_right}

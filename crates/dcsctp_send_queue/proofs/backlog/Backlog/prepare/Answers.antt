@@ -1,7 +1,7 @@
 use Rattle.std.proofs.Common.{ℕ, List, ◌++◌, ap, sym, subst, ◌∙◌, rules}
 use Rattle.dcsctp_machine.specs.Event.{Event}
 use Rattle.dcsctp_send_queue.specs.declared.backlog.Backlog.{Backlog}
-use Rattle.dcsctp_streams.specs.Telling.{contents, TellsFront}
+use Rattle.dcsctp_send_streams.specs.Telling.{contents, TellsFront}
 use Rattle.dcsctp_send_queue.specs.Resets.{is_open, prepared_in, prepare_events_in}
 use Rattle.dcsctp_send_queue.proofs.ResetLemmas.{on_ok_map, on_err_map, paused_is, open_is, closed_is, open_events, closed_events, can_go_on-after_pause}
 use Rattle.dcsctp_send_queue.proofs.QueueLemmas.{found_in-at}

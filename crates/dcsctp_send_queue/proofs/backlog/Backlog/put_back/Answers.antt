@@ -1,5 +1,5 @@
 use Rattle.std.proofs.Common.{◌∙◌}
-use Rattle.dcsctp_streams.specs.Waiting.{raised}
+use Rattle.dcsctp_send_streams.specs.Waiting.{raised}
 use Rattle.dcsctp_send_queue.proofs.ResetLemmas.{put_back_is}
 use Rattle.dcsctp_send_queue.proofs.QueueLemmas.{changed_at}
 use Rattle.dcsctp_send_queue.proofs.backlog.Backlog.put_back.Goals as goal

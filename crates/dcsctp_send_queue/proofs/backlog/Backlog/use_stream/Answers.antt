@@ -1,7 +1,7 @@
 use Rattle.std.proofs.Common.{ap, ◌∙◌}
 use Rattle.std.specs.List.{insert}
-use Rattle.dcsctp_streams.specs.Waiting.{unused}
-use Rattle.dcsctp_streams.proofs.PlaceLemmas.{IsAscending-insert}
+use Rattle.dcsctp_send_streams.specs.Waiting.{unused}
+use Rattle.dcsctp_send_streams.proofs.PlaceLemmas.{IsAscending-insert}
 use Rattle.dcsctp_send_queue.proofs.GoingOnLemmas.{insert-used, can_go_on-insert}
 use Rattle.dcsctp_send_queue.proofs.backlog.Backlog.use_stream.Goals as goal
 

@@ -5,7 +5,7 @@ use Rattle.dcsctp_core.specs.View.{view_of}
 use Rattle.dcsctp_socket.specs.SocketView.{SocketView, user_view_of}
 use Rattle.dcsctp_machine.specs.declared.ends.AbortReason.TheVariants.{CloseCalled}
 use Rattle.dcsctp_machine.specs.control.Acts.{abort_with}
-use Rattle.dcsctp_calls.specs.Parts.{WorksCall, ActTurns}
+use Rattle.dcsctp_socket_calls.specs.Parts.{WorksCall, ActTurns}
 use Rattle.dcsctp_socket.proofs.AnsweredCalls.{closes}
 use Rattle.dcsctp_socket.proofs.socket.SocketDcSctpSocket.close.Goals as goal
 

@@ -2,7 +2,7 @@ use Rattle.dcsctp_api.specs.Calls.{Connects}
 use Rattle.dcsctp_core.specs.declared.context.Context.{Context}
 use Rattle.dcsctp_core.specs.View.{view_of}
 use Rattle.dcsctp_socket.specs.SocketView.{SocketView, user_view_of}
-use Rattle.dcsctp_calls.specs.Parts.{WorksConnect}
+use Rattle.dcsctp_socket_calls.specs.Parts.{WorksConnect}
 use Rattle.dcsctp_socket.proofs.AnsweredCalls.{connects}
 use Rattle.std.proofs.Common.{subst}
 use Rattle.dcsctp_socket.proofs.socket.SocketDcSctpSocket.connect.Goals as goal

@@ -4,7 +4,7 @@ use Rattle.dcsctp_api.specs.Resets.{ResetsOwn}
 use Rattle.dcsctp_core.specs.declared.context.Context.{Context}
 use Rattle.dcsctp_core.specs.View.{view_of}
 use Rattle.dcsctp_socket.specs.SocketView.{SocketView, user_view_of}
-use Rattle.dcsctp_calls.specs.ResetParts.{WorksReset}
+use Rattle.dcsctp_socket_calls.specs.ResetParts.{WorksReset}
 use Rattle.dcsctp_socket.proofs.AnsweredCalls.{resets}
 use Rattle.dcsctp_socket.proofs.socket.SocketDcSctpSocket.reset_streams.Goals as goal
 

@@ -4,7 +4,7 @@ use Rattle.dcsctp_api.specs.Messages.{SendsMany}
 use Rattle.dcsctp_core.specs.declared.context.Context.{Context}
 use Rattle.dcsctp_core.specs.View.{view_of}
 use Rattle.dcsctp_socket.specs.SocketView.{SocketView, user_view_of}
-use Rattle.dcsctp_calls.specs.MessageParts.{WorksSendMany}
+use Rattle.dcsctp_socket_calls.specs.MessageParts.{WorksSendMany}
 use Rattle.dcsctp_socket.proofs.AnsweredCalls.{sends_many}
 use Rattle.dcsctp_socket.proofs.socket.SocketDcSctpSocket.send_many.Goals as goal
 

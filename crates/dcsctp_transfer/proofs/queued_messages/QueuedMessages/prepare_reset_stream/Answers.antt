@@ -1,6 +1,6 @@
 use Rattle.std.proofs.Common.{subst}
 use Rattle.dcsctp_machine.specs.Transfer.{SendQueueState}
-use Rattle.dcsctp_streams.specs.Telling.{contents}
+use Rattle.dcsctp_send_streams.specs.Telling.{contents}
 use Rattle.dcsctp_send_queue.specs.Backlog.{queue_state}
 use Rattle.dcsctp_transfer.specs.Preparing.{TriesStream}
 use Rattle.dcsctp_transfer.proofs.PreparingLemmas.{tries_prepared}

@@ -1,6 +1,6 @@
 use Rattle.std.proofs.Common.{◌∙◌, ap, sym, ℕ, ◌%◌, ◌^◌}
 use Rattle.dcsctp_machine.specs.Transfer.{Transfer}
-use Rattle.dcsctp_data_tracker.specs.Acknowledging.{tracker_state}
+use Rattle.dcsctp_receive_tracker.specs.Acknowledging.{tracker_state}
 use Rattle.dcsctp_transfer.proofs.SackLemmas.{gives_wanted}
 use Rattle.dcsctp_transfer.proofs.transfer.Transfer.acknowledge.Goals as goal
 

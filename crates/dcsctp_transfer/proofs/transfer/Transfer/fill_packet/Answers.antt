@@ -1,8 +1,8 @@
 use Rattle.std.proofs.Common.{◌∙◌, ap, sym, subst, not, ◌==◌, ℕ, length}
 use Rattle.std.proofs.lemmas.Result.{err_from_is_err_and}
 use Rattle.dcsctp_machine.specs.Transfer.{Transfer}
-use Rattle.dcsctp_retransmission.specs.Queue.{retransmission_state}
-use Rattle.dcsctp_retransmission.specs.Halting.{FillsUp}
+use Rattle.dcsctp_send_retransmission.specs.Queue.{retransmission_state}
+use Rattle.dcsctp_send_retransmission.specs.Halting.{FillsUp}
 use Rattle.dcsctp_transfer.specs.Adding.{AddsChunks}
 use Rattle.dcsctp_transfer.proofs.FillingLemmas.{none_waits, fills_none, fills_some}
 use Rattle.dcsctp_transfer.proofs.TellingLemmas.{tells_packet}

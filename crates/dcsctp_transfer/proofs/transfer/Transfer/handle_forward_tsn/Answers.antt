@@ -1,6 +1,6 @@
 use Rattle.std.proofs.Common.{◌∙◌, sym}
-use Rattle.dcsctp_send.specs.RetransmissionTimeout.{timeout_state}
-use Rattle.dcsctp_retransmission.specs.Queue.{retransmission_state}
+use Rattle.dcsctp_send_timer.specs.RetransmissionTimeout.{timeout_state}
+use Rattle.dcsctp_send_retransmission.specs.Queue.{retransmission_state}
 use Rattle.dcsctp_transfer.proofs.ReceivingLemmas.{forwards_as, gains_by_skipping, moved_forward}
 use Rattle.dcsctp_transfer.proofs.transfer.Transfer.handle_forward_tsn.Goals as goal
 

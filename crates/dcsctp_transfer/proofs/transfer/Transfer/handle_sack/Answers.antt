@@ -1,9 +1,9 @@
 use Rattle.std.proofs.Common.{◌∙◌, ap, take}
 use Rattle.std.proofs.lemmas.Result.{err_from_is_err_and}
 use Rattle.dcsctp_machine.specs.Transfer.{RetransmissionState, Transfer}
-use Rattle.dcsctp_streams.specs.Telling.{contents}
-use Rattle.dcsctp_outstanding.specs.Outstanding.{acknowledged_by}
-use Rattle.dcsctp_retransmission.specs.Queue.{retransmission_state}
+use Rattle.dcsctp_send_streams.specs.Telling.{contents}
+use Rattle.dcsctp_send_outstanding.specs.Outstanding.{acknowledged_by}
+use Rattle.dcsctp_send_retransmission.specs.Queue.{retransmission_state}
 use Rattle.dcsctp_transfer.proofs.SacksLemmas.{sack_valid, sack_invalid, told_if_valid, tells_delivered, tells_some, sack_keeps, takes_sack, has_shown}
 use Rattle.dcsctp_transfer.proofs.transfer.Transfer.handle_sack.Goals as goal
 

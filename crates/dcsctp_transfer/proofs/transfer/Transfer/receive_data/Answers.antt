@@ -1,7 +1,7 @@
 use Rattle.std.proofs.Common.{◌∙◌, sym}
-use Rattle.dcsctp_send.specs.RetransmissionTimeout.{timeout_state}
-use Rattle.dcsctp_retransmission.specs.Queue.{retransmission_state}
-use Rattle.dcsctp_reassembly.specs.Streams.{chunk_of}
+use Rattle.dcsctp_send_timer.specs.RetransmissionTimeout.{timeout_state}
+use Rattle.dcsctp_send_retransmission.specs.Queue.{retransmission_state}
+use Rattle.dcsctp_receive_reassembly.specs.Streams.{chunk_of}
 use Rattle.dcsctp_transfer.proofs.ReceivingLemmas.{gains_by_data, data_received}
 use Rattle.dcsctp_transfer.proofs.transfer.Transfer.receive_data.Goals as goal
 

@@ -1,6 +1,6 @@
 use Rattle.dcsctp_machine.specs.Ids.{stream_numbers}
-use Rattle.dcsctp_send.specs.RetransmissionTimeout.{timeout_state}
-use Rattle.dcsctp_retransmission.specs.Queue.{retransmission_state}
+use Rattle.dcsctp_send_timer.specs.RetransmissionTimeout.{timeout_state}
+use Rattle.dcsctp_send_retransmission.specs.Queue.{retransmission_state}
 use Rattle.dcsctp_transfer.proofs.ReceivingLemmas.{gains_by_answer, streams_reset}
 use Rattle.dcsctp_transfer.proofs.transfer.Transfer.reset_streams.Goals as goal
 

@@ -1,9 +1,0 @@
-use Rattle.std.proofs.Common.{◌≡◌, map, drop}
-use Rattle.dcsctp_wire.specs.Content.{chunk_content}
-use Rattle.dcsctp_machine.specs.Packet.{content_in}
-use Rattle.dcsctp_machine.specs.Turn.{has_data}
-use Rattle.dcsctp_calls.proofs.calls.has_data.Given as goal
-
--- a DATA chunk, if there is one, is among the chunks that are left
-abbrev pub invariant-loop-chunk : goal.invariant-loop-chunk
-invariant-loop-chunk l = has_data (map content_in (map chunk_content (drop l.chunk-index l.chunks))) ≡ has_data (map content_in (map chunk_content l.chunks))

@@ -1,8 +1,0 @@
--- The five are those of the definition.
-use Rattle.std.proofs.Common.{rules}
-use Rattle.dcsctp_checksum.specs.Folds.{taps_at}
-use Rattle.dcsctp_checksum.proofs.taps.Goals as goal
-
-pub returns : goal.returns
-unfolding taps_at
-returns c = search rules

@@ -1,0 +1,126 @@
+-- Data and what the peer gave up come in.
+use Rattle.std.proofs.Common.{◌≡◌, ◌==◌, ◌&&◌, not, ℕ, suc, Bool, true, false, Option, None, Some, Result, Ok, Err, List, [], ◌∷◌, length, refl, sym, ap, subst, ◌∙◌, arith}
+use Rattle.std.specs.Prelude.{is_some}
+use Rattle.std.proofs.lemmas.Bool.Decides.{nat_tests}
+use Rattle.std.proofs.lemmas.List.{append-nil}
+use Rattle.rand_core.specs.Stream.{Stream}
+use Rattle.dcsctp_machine.specs.declared.kinds.ErrorKind.TheVariants.{NotConnected}
+use Rattle.dcsctp_machine.specs.Transfer.{Transfer}
+use Rattle.dcsctp_machine.specs.Endpoint.{Endpoint, held_in}
+use Rattle.dcsctp_machine.specs.Outcome.{Outcome, still, reports}
+use Rattle.dcsctp_machine.specs.turns.TransferMoves.{is_above_watermark, is_tsn_valid, TakesWhere, HeedsFlag, MovesForward, delay_over}
+use Rattle.dcsctp_machine.specs.turns.DataOutcomes.{with_transfer, no_user_data_outcome, not_connected_text, ReceiveTurn, DataTurn, ForwardTurn}
+use Rattle.dcsctp_core.specs.declared.context.Context.{Context}
+use Rattle.dcsctp_core.specs.declared.state.State.{State}
+use Rattle.dcsctp_core.specs.View.{View, transfer_of, endpoint_of, view_of, Moves}
+use Rattle.dcsctp_core.specs.Handling.{Tries, Takes, report_turn, TakesIn, CutIn, TakesOne}
+use Rattle.dcsctp_core.specs.Below.{ChangesBelow, Receives}
+use Rattle.dcsctp_core.proofs.BelowLemmas.{below_moves, same_view}
+use Rattle.dcsctp_core.proofs.Moving.{moves_still}
+use Rattle.dcsctp_core_data.specs.Data.{DataAt, ForwardAt, no_user_data_turn}
+use Rattle.dcsctp_core_data.proofs.TakingLemmas.{takes_one, tries_one, cut_before}
+
+-- ---- what always may come of it
+
+abbrev taken : Bool → Transfer → Transfer
+taken true transfer = record transfer { tracker = delay_over transfer.tracker }
+taken false transfer = transfer
+
+taken_where : (b : Bool) (transfer : Transfer) → TakesWhere b transfer (taken b transfer)
+taken_where true transfer = record { retransmission = refl; timeout = refl; owes = refl; delay = refl; reassembly = record { more = []; messages = sym (append-nil transfer.reassembly.messages); window = refl } }
+taken_where false transfer = refl
+
+taken_due : (b above valid : Bool) (transfer : Transfer) → b ≡ (not above && valid) → above ≡ false → valid ≡ true → (taken b transfer).tracker.is_acknowledgement_due ≡ true
+taken_due true above valid transfer is low near = refl
+taken_due false above valid transfer is low near = absurd (cc)
+
+any_received : (e : Endpoint) (found : Option Transfer) (immediate : Bool) (tsn : ℕ) → (o : Outcome) × ReceiveTurn e found immediate tsn o
+any_received e None immediate tsn = (reports e NotConnected not_connected_text, refl)
+any_received e (Some transfer) immediate tsn =
+    let test : Bool = not (is_above_watermark transfer.reassembly) && is_tsn_valid transfer.tracker tsn in
+    let left : Transfer = taken test transfer in (
+      still (with_transfer e left),
+      (left, taken_where test transfer, λ flag low near. taken_due test (is_above_watermark transfer.reassembly) (is_tsn_valid transfer.tracker tsn) transfer refl low near, refl),
+    )
+
+any_data : (e : Endpoint) (immediate : Bool) (tsn : ℕ) (payload : List ℕ) → (o : Outcome) × DataTurn e immediate tsn payload o
+any_data e immediate tsn [] = (no_user_data_outcome e (held_in e.core) tsn, refl)
+any_data e immediate tsn (byte ∷ bytes) = any_received e e.below.transfer immediate tsn
+
+pub data_cut : {R : Type 0} (view : View R) (immediate : Bool) (tsn : ℕ) (payload : List ℕ) → CutIn (DataAt immediate tsn payload) view view.events
+data_cut view immediate tsn payload =
+    let any = any_data view.endpoint immediate tsn payload in
+    cut_before (DataAt immediate tsn payload) view any.0 any.1
+
+any_forward : (e : Endpoint) (found : Option Transfer) (tsn : ℕ) → (o : Outcome) × ForwardTurn e found tsn o
+any_forward e None tsn = (still e, refl)
+any_forward e (Some transfer) tsn =
+    let left : Transfer = taken (is_tsn_valid transfer.tracker tsn) transfer in
+    (still (with_transfer e left), (left, taken_where (is_tsn_valid transfer.tracker tsn) transfer, refl))
+
+pub forward_cut : {R : Type 0} (view : View R) (tsn : ℕ) → CutIn (ForwardAt tsn) view view.events
+forward_cut view tsn =
+    let any = any_forward view.endpoint view.endpoint.below.transfer tsn in
+    cut_before (ForwardAt tsn) view any.0 any.1
+
+-- ---- data
+
+pub empty_refused : {R E : Type 0} (stream : R → Stream) (old : Context R) (result : Result (Unit {0}) E) (new : Context R) (immediate : Bool) (tsn : ℕ) (payload : List ℕ)
+    → (length payload == 0) ≡ true → Takes stream (no_user_data_turn tsn) old result new → TakesOne stream (DataAt immediate tsn payload) old result new
+empty_refused stream old result new immediate tsn [] empty h = takes_one stream (no_user_data_turn tsn) (DataAt immediate tsn []) old result new refl h
+empty_refused stream old result new immediate tsn (byte ∷ bytes) empty h = absurd (not_none (length bytes) empty)
+  where
+    not_none : (n : ℕ) → (suc n == 0) ≡ true → ⊥
+    not_none n none = grind (arith, nat_tests, none)
+
+no_peer : (e : Endpoint) (found : Option Transfer) (immediate : Bool) (tsn : ℕ) → is_some found ≡ false → ReceiveTurn e found immediate tsn (reports e NotConnected not_connected_text)
+no_peer e None immediate tsn none = refl
+no_peer e (Some transfer) immediate tsn none = absurd (cc)
+
+pub not_connected : {R E : Type 0} (stream : R → Stream) (old : Context R) (result : Result (Unit {0}) E) (new : Context R) (immediate : Bool) (tsn : ℕ) (payload : List ℕ)
+    → (length payload == 0) ≡ false → is_some (transfer_of old.state) ≡ false → Tries stream (report_turn NotConnected not_connected_text) old result new
+    → TakesOne stream (DataAt immediate tsn payload) old result new
+not_connected stream old result new immediate tsn [] some none h = absurd (cc)
+not_connected stream old result new immediate tsn (byte ∷ bytes) some none h =
+    tries_one stream (report_turn NotConnected not_connected_text) (DataAt immediate tsn (byte ∷ bytes)) old result new (no_peer (endpoint_of old) (transfer_of old.state) immediate tsn none) h
+
+received : {R : Type 0} (stream : R → Stream) (old : Context R) (state : State) (found : Option Transfer) (immediate : Bool) (tsn byte : ℕ) (bytes : List ℕ) → transfer_of old.state ≡ found → is_some found ≡ true
+    → ChangesBelow (Receives immediate tsn) found old.state state → TakesIn stream (DataAt immediate tsn (byte ∷ bytes)) (view_of old) (view_of (record old { state = state }))
+received stream old state None immediate tsn byte bytes holds some changes = absurd (cc)
+received stream old state (Some transfer) immediate tsn byte bytes holds some changes =
+    let e : Endpoint = endpoint_of old in
+    let o : Outcome = still (with_transfer e changes.0) in
+    record {
+      outcome = o;
+      turn = subst (λ (f : Option Transfer). ReceiveTurn e f immediate tsn o) (sym holds) (changes.0, changes.2.0, changes.2.1, refl);
+      moves = below_moves stream old state transfer changes.0 holds changes.1;
+    }
+
+pub data_received : {R : Type 0} (stream : R → Stream) (old : Context R) (state : State) (immediate : Bool) (tsn : ℕ) (payload : List ℕ) → (length payload == 0) ≡ false
+    → is_some (transfer_of old.state) ≡ true → ChangesBelow (Receives immediate tsn) (transfer_of old.state) old.state state
+    → TakesIn stream (DataAt immediate tsn payload) (view_of old) (view_of (record old { state = state }))
+data_received stream old state immediate tsn [] some held changes = absurd (cc)
+data_received stream old state immediate tsn (byte ∷ bytes) some held changes = received stream old state (transfer_of old.state) immediate tsn byte bytes refl held changes
+
+-- ---- what the peer gave up
+
+forwarded : {R : Type 0} (stream : R → Stream) (old : Context R) (state : State) (found : Option Transfer) (tsn : ℕ) → transfer_of old.state ≡ found
+    → ChangesBelow (MovesForward tsn) found old.state state → TakesIn stream (ForwardAt tsn) (view_of old) (view_of (record old { state = state }))
+forwarded {R = R} stream old state None tsn holds changes =
+    record {
+      outcome = still (endpoint_of old);
+      turn = subst (λ (f : Option Transfer). ForwardTurn (endpoint_of old) f tsn (still (endpoint_of old))) (sym holds) refl;
+      moves = subst (λ (v : View R). Moves stream (view_of old) (still (endpoint_of old)) v) (sym (same_view old state changes)) (moves_still stream (view_of old));
+    }
+forwarded stream old state (Some transfer) tsn holds changes =
+    let e : Endpoint = endpoint_of old in
+    let o : Outcome = still (with_transfer e changes.0) in
+    record {
+      outcome = o;
+      turn = subst (λ (f : Option Transfer). ForwardTurn e f tsn o) (sym holds) (changes.0, changes.2, refl);
+      moves = below_moves stream old state transfer changes.0 holds changes.1;
+    }
+
+pub forward_taken : {R : Type 0} (stream : R → Stream) (old : Context R) (state : State) (tsn : ℕ) → ChangesBelow (MovesForward tsn) (transfer_of old.state) old.state state
+    → TakesIn stream (ForwardAt tsn) (view_of old) (view_of (record old { state = state }))
+forward_taken stream old state tsn changes = forwarded stream old state (transfer_of old.state) tsn refl changes

@@ -1,0 +1,40 @@
+-- Data without a payload is refused.
+use Rattle.std.proofs.Common.{◌≡◌, ℕ, Some, List, [], ◌∷◌, ◌++◌, map, refl, ap, subst, ◌∙◌}
+use Rattle.std.proofs.lemmas.List.{append-nil}
+use Rattle.rand_core.specs.Stream.{Stream}
+use Rattle.dcsctp_machine.specs.declared.kinds.ErrorKind.TheVariants.{ProtocolViolation}
+use Rattle.dcsctp_machine.specs.Settings.{ports_of}
+use Rattle.dcsctp_machine.specs.Event.{error}
+use Rattle.dcsctp_machine.specs.Endpoint.{Endpoint, Core, closed, cookie_wait, cookie_echoed, open_in, held_in}
+use Rattle.dcsctp_machine.specs.Outcome.{Outcome, reports}
+use Rattle.dcsctp_machine.specs.turns.DataOutcomes.{no_user_data_text, no_user_data_outcome}
+use Rattle.dcsctp_core.specs.declared.context.Context.{Context}
+use Rattle.dcsctp_core.specs.View.{View, endpoint_of, view_of, Moves, CutTurn}
+use Rattle.dcsctp_core.specs.Handling.{report_turn}
+use Rattle.dcsctp_core.proofs.Composing.{behind, Adds, Draws, moves_behind, moves_as, cut_after}
+use Rattle.dcsctp_core_data.specs.Data.{told_outcome, no_user_data_told, no_user_data_turn}
+
+told_is : (e : Endpoint) (core : Core) (tsn : ℕ) → no_user_data_outcome e (held_in core) tsn ≡ behind [] (error ProtocolViolation no_user_data_text ∷ []) (told_outcome e core tsn)
+told_is e closed tsn = refl
+told_is e (cookie_wait my) tsn = refl
+told_is e (cookie_echoed my held cookie) tsn = refl
+told_is e (open_in phase my held) tsn = refl
+
+told_adds : {R : Type 0} (stream : R → Stream) (a b : View R) → Moves stream a (report_turn ProtocolViolation no_user_data_text a) b → Adds a (error ProtocolViolation no_user_data_text ∷ []) b
+told_adds stream a b moves = record { ports = ap (λ (e : Endpoint). ports_of e.options) moves.endpoint; events = moves.events }
+
+told_draws : {R : Type 0} (stream : R → Stream) (a b : View R) → Moves stream a (report_turn ProtocolViolation no_user_data_text a) b → Draws stream a [] b
+told_draws stream a b moves = record { words = moves.words; pairs = moves.pairs ∙ append-nil a.pairs; drawn = moves.drawn }
+
+pub told_moves : {R : Type 0} (stream : R → Stream) (a b c : View R) (tsn : ℕ) → Moves stream a (report_turn ProtocolViolation no_user_data_text a) b → Moves stream b (no_user_data_told tsn b) c
+    → Moves stream a (no_user_data_turn tsn a) c
+told_moves stream a b c tsn first second =
+    let here : Moves stream b (told_outcome a.endpoint a.endpoint.core tsn) c = subst (λ (e : Endpoint). Moves stream b (told_outcome e e.core tsn) c) first.endpoint second in
+    moves_as stream a c _ _ (told_is a.endpoint a.endpoint.core tsn)
+    (moves_behind stream a b c [] (error ProtocolViolation no_user_data_text ∷ []) (told_outcome a.endpoint a.endpoint.core tsn) (told_adds stream a b first) (told_draws stream a b first) here)
+
+pub told_cut : {R : Type 0} (stream : R → Stream) (a b c : View R) (tsn : ℕ) → Moves stream a (report_turn ProtocolViolation no_user_data_text a) b → c ≡ b → CutTurn a (no_user_data_turn tsn a) c.events
+told_cut {R = R} stream a b c tsn first same =
+    cut_after a (no_user_data_turn tsn a) c.events (error ProtocolViolation no_user_data_text ∷ []) (told_outcome a.endpoint a.endpoint.core tsn).events
+    (ap (λ (o : Outcome). o.events) (told_is a.endpoint a.endpoint.core tsn))
+    (ap (λ (v : View R). v.events) same ∙ (told_adds stream a b first).events)

@@ -1,0 +1,74 @@
+//! FORWARD-TSN (RFC 3758, section 3.6) and I-FORWARD-TSN (RFC 8260, section 2.3.1) that come in.
+
+ghost use Rattle.dcsctp_core.specs.Handling.{TakesOne};
+ghost use Rattle.dcsctp_core_data.specs.Data.{ForwardAt};
+
+use dcsctp_api::StreamId;
+use dcsctp_core::Context;
+use dcsctp_transfer::SkippedTo;
+use dcsctp_wire::{ForwardTsnChunk, IForwardTsnChunk};
+use rand_core::Rng;
+use std::alloc::{AllocError, Global};
+
+// What a FORWARD-TSN skips. The one error is that a growth was refused.
+fn skipped_in(alloc: Global, chunk: &ForwardTsnChunk<'_>) -> Result<Vec<SkippedTo>, AllocError> {
+    let mut skipped = Vec::new(alloc);
+    for index in 0..chunk.skipped_stream_count() {
+        let entry = chunk.skipped_stream(index);
+        skipped.push(SkippedTo::Ssn {
+            stream_id: StreamId(entry.stream_id),
+            ssn: entry.ssn,
+        })?;
+    }
+    Ok(skipped)
+}
+
+// What an I-FORWARD-TSN skips. The one error is that a growth was refused.
+fn skipped_messages_in(
+    alloc: Global,
+    chunk: &IForwardTsnChunk<'_>,
+) -> Result<Vec<SkippedTo>, AllocError> {
+    let mut skipped = Vec::new(alloc);
+    for index in 0..chunk.skipped_stream_count() {
+        let entry = chunk.skipped_stream(index);
+        skipped.push(SkippedTo::Mid {
+            stream_id: StreamId(entry.stream_id),
+            is_unordered: entry.is_unordered,
+            mid: entry.mid,
+        })?;
+    }
+    Ok(skipped)
+}
+
+/// Works a FORWARD-TSN: what the peer gave up is waited for no longer. Without an association it changes
+/// nothing.
+///
+/// The one error is that a growth was refused. No event stands then.
+pub fn handle_forward_tsn<R: Rng>(
+    context: &mut Context<R>,
+    chunk: &ForwardTsnChunk<'_>,
+) -> Result<(), AllocError>
+    ensures { TakesOne R.stream (ForwardAt chunk.now.new_cumulative_tsn) context.old result context.new }
+{
+    let skipped = skipped_in(context.alloc, chunk)?;
+    context
+        .state
+        .handle_forward_tsn(chunk.new_cumulative_tsn, &skipped)?;
+    Ok(())
+}
+
+/// Works an I-FORWARD-TSN, as `handle_forward_tsn` does a FORWARD-TSN.
+///
+/// The one error is that a growth was refused. No event stands then.
+pub fn handle_i_forward_tsn<R: Rng>(
+    context: &mut Context<R>,
+    chunk: &IForwardTsnChunk<'_>,
+) -> Result<(), AllocError>
+    ensures { TakesOne R.stream (ForwardAt chunk.now.new_cumulative_tsn) context.old result context.new }
+{
+    let skipped = skipped_messages_in(context.alloc, chunk)?;
+    context
+        .state
+        .handle_forward_tsn(chunk.new_cumulative_tsn, &skipped)?;
+    Ok(())
+}

@@ -1,0 +1,39 @@
+//! The end of a packet: its data is acknowledged (RFC 9260, section 6.2).
+
+ghost use Rattle.dcsctp_core.specs.Handling.{TakesOne};
+ghost use Rattle.dcsctp_core_data.specs.Data.{EndsAt, AcknowledgesAt};
+
+use dcsctp_core::Context;
+use rand_core::Rng;
+use std::alloc::AllocError;
+
+// Sends a SACK to the peer, with what waits behind it.
+//
+// The one error is that a growth was refused. The first events of the turn may stand then.
+fn acknowledge<R: Rng>(context: &mut Context<R>) -> Result<(), AllocError>
+    ensures { AcknowledgesAt R.stream context.old result context.new }
+{
+    match context.state.tcb() {
+        None => {}
+        Some(tcb) => {
+            let mut packet = tcb.new_packet(context.alloc, &context.options)?;
+            context.state.acknowledge(false, &mut packet)?;
+            context.send_buffered_packets_with(packet)?;
+        }
+    }
+    Ok(())
+}
+
+/// Says that a packet was worked whole: what came with it is acknowledged at once, by a SACK with what waits
+/// behind it, or after a delay (RFC 9260, section 6.2).
+///
+/// The one error is that a growth was refused. The first events of the turn may stand then.
+pub fn end_packet<R: Rng>(context: &mut Context<R>) -> Result<(), AllocError>
+    ensures { TakesOne R.stream EndsAt context.old result context.new }
+{
+    context.state.end_packet(context.moment);
+    if context.state.is_acknowledgement_due() {
+        acknowledge(context)?;
+    }
+    Ok(())
+}

@@ -1,0 +1,82 @@
+//! Data that is refused: without a payload, and without an association.
+
+ghost use Rattle.std.specs.Prelude.{[], ◌∷◌};
+ghost use Rattle.dcsctp_wire.specs.Content.{error_chunk, no_user_data};
+ghost use Rattle.dcsctp_machine.specs.turns.DataOutcomes.{not_connected_text, no_user_data_text};
+ghost use Rattle.dcsctp_core.specs.Handling.{Emits, Takes, Tries, report_turn};
+ghost use Rattle.dcsctp_core_data.specs.Data.{no_user_data_told, no_user_data_turn};
+
+use dcsctp_api::ErrorKind;
+use dcsctp_core::Context;
+use dcsctp_wire::{Chunk, ErrorCause, ErrorChunk};
+use rand_core::Rng;
+use std::alloc::AllocError;
+
+const NO_USER_DATA: &str = "Received DATA chunk with no user data";
+
+const NOT_CONNECTED: &str = "Received unexpected commands on socket that is not connected";
+
+// Reports data without an association. The one error is that a growth was refused. Nothing has changed then.
+pub(crate) fn report_not_connected<R: Rng>(context: &mut Context<R>) -> Result<(), AllocError>
+    ensures { Tries R.stream (report_turn ErrorKind.NotConnected not_connected_text) context.old result
+        context.new }
+{
+    let text = String::from_str(context.alloc, NOT_CONNECTED)?;
+    context.report(ErrorKind::NotConnected, text)?;
+    Ok(())
+}
+
+// Reports data without a payload to the user. The one error is that a growth was refused. Nothing has changed
+// then.
+fn report_no_user_data<R: Rng>(context: &mut Context<R>) -> Result<(), AllocError>
+    ensures { Tries R.stream (report_turn ErrorKind.ProtocolViolation no_user_data_text) context.old
+        result context.new }
+{
+    let text = String::from_str(context.alloc, NO_USER_DATA)?;
+    context.report(ErrorKind::ProtocolViolation, text)?;
+    Ok(())
+}
+
+// Sends an ERROR of the cause No User Data under this tag, where it fits `mtu`.
+//
+// The one error is that a growth was refused. Nothing has changed then.
+fn emit_no_user_data<R: Rng>(
+    context: &mut Context<R>,
+    tag: u32,
+    write_checksum: bool,
+    tsn: u32,
+) -> Result<(), AllocError>
+    ensures { Emits write_checksum tag (error_chunk (no_user_data tsn ∷ [])) context.old result context.new }
+{
+    let mut error_causes = Vec::with_capacity(context.alloc, 1)?;
+    error_causes.push(ErrorCause::NoUserData { tsn })?;
+    let error = ErrorChunk { error_causes };
+    context.emit(tag, write_checksum, &Chunk::Error(error))?;
+    Ok(())
+}
+
+// Tells the peer, where one is held, that its data has no payload. The one error is that a growth was refused.
+// Nothing has changed then.
+fn tell_no_user_data<R: Rng>(context: &mut Context<R>, tsn: u32) -> Result<(), AllocError>
+    ensures { Tries R.stream (no_user_data_told tsn) context.old result context.new }
+{
+    match context.state.tcb() {
+        None => {}
+        Some(tcb) => {
+            let tag = tcb.peer.tag;
+            let write_checksum = !tcb.capabilities.zero_checksum_enabled();
+            emit_no_user_data(context, tag, write_checksum, tsn)?;
+        }
+    }
+    Ok(())
+}
+
+// Refuses data without a payload, whose TSN is this (RFC 9260, section 3.3.10.9). The one error is that a
+// growth was refused. The first events of the turn may stand then.
+pub(crate) fn refuse_empty<R: Rng>(context: &mut Context<R>, tsn: u32) -> Result<(), AllocError>
+    ensures { Takes R.stream (no_user_data_turn tsn) context.old result context.new }
+{
+    report_no_user_data(context)?;
+    tell_no_user_data(context, tsn)?;
+    Ok(())
+}

@@ -1,0 +1,88 @@
+//! SACK (RFC 9260, sections 3.3.4 and 6.2.1) that comes in.
+
+ghost use Rattle.std.specs.Prelude.{◌≡◌, if◌then◌else◌};
+ghost use Rattle.dcsctp_machine.specs.turns.DataOutcomes.{no_tcb_text};
+ghost use Rattle.dcsctp_core.specs.View.{view_of, endpoint_of};
+ghost use Rattle.dcsctp_core.specs.Handling.{TakesOne, Tries, report_turn};
+ghost use Rattle.dcsctp_core_data.specs.Sacks.{SackAt, ProceedsWhereHeld, ResendsWhereHeld};
+
+use dcsctp_api::ErrorKind;
+use dcsctp_core::Context;
+use dcsctp_core_shutdown::step_shutdown;
+use dcsctp_transfer::HandledSack;
+use dcsctp_wire::SackChunk;
+use rand_core::Rng;
+use std::alloc::AllocError;
+
+const NO_TCB: &str = "No TCB";
+
+// Reports a SACK without an association. The one error is that a growth was refused. Nothing has changed then.
+fn report_no_tcb<R: Rng>(context: &mut Context<R>) -> Result<(), AllocError>
+    ensures { Tries R.stream (report_turn ErrorKind.NotConnected no_tcb_text) context.old result context.new }
+{
+    let text = String::from_str(context.alloc, NO_TCB)?;
+    context.report(ErrorKind::NotConnected, text)?;
+    Ok(())
+}
+
+// No error counts where the peer has acknowledged something that it hadn't before (RFC 9260, section 8.1).
+fn heed_answer<R: Rng>(context: &mut Context<R>, acknowledges: bool)
+    ensures { view_of context.new ≡ record (view_of context.old) {
+      endpoint = record
+          (endpoint_of context.old) {
+            error_count = if acknowledges then 0 else (endpoint_of context.old).error_count;
+          };
+    } }
+{
+    if acknowledges {
+        context.reset_errors();
+    }
+}
+
+// What was lost goes out at once, where it is to, and then what waits. The one error is that a growth was
+// refused. The first events of the turn may stand then.
+fn resend<R: Rng>(context: &mut Context<R>) -> Result<(), AllocError>
+    ensures { ResendsWhereHeld R.stream context.old result context.new }
+{
+    context.send_at_once()?;
+    context.send_buffered_packets()?;
+    Ok(())
+}
+
+// A shutdown that waited for the acknowledgement goes on; then what was lost goes out, and what waits. The one error is
+// that a growth was refused. The first events of the turn may stand then.
+fn proceed<R: Rng>(context: &mut Context<R>) -> Result<(), AllocError>
+    ensures { ProceedsWhereHeld R.stream context.old result context.new }
+{
+    step_shutdown(context)?;
+    resend(context)?;
+    Ok(())
+}
+
+/// Works a SACK: what it acknowledges is in flight no longer, and shows that the peer is there; what was lost
+/// goes out again, at once or in the flush behind it (RFC 9260, sections 6.2.1, 7.2.4 and 8.1). A shutdown that waits for
+/// the last acknowledgement goes on before that (section 9.2). One that is
+/// behind, or of a TSN that was never sent, changes nothing; without an association it is reported.
+///
+/// The one error is that a growth was refused. The first events of the turn may stand then.
+pub fn handle_sack<R: Rng>(
+    context: &mut Context<R>,
+    chunk: &SackChunk<'_>,
+) -> Result<(), AllocError>
+    ensures { TakesOne R.stream (SackAt chunk.now.cumulative_tsn_ack) context.old result context.new }
+{
+    if !context.state.holds_peer() {
+        return report_no_tcb(context);
+    }
+    let handled = context
+        .state
+        .handle_sack(&mut context.events, context.moment, chunk)?;
+    match handled {
+        HandledSack::Invalid => {}
+        HandledSack::Valid { acknowledges } => {
+            heed_answer(context, acknowledges);
+            proceed(context)?;
+        }
+    }
+    Ok(())
+}

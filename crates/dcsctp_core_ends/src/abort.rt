@@ -1,0 +1,33 @@
+//! ABORT (RFC 9260, section 9.1).
+
+ghost use Rattle.std.specs.Prelude.{map};
+ghost use Rattle.dcsctp_wire.specs.Content.{cause_content};
+ghost use Rattle.dcsctp_core.specs.Handling.{WorksWhole};
+ghost use Rattle.dcsctp_core_ends.specs.Ends.{abort_turn};
+
+use dcsctp_api::ErrorKind;
+use dcsctp_core::{Context, Following, State};
+use dcsctp_wire::{AbortChunk, causes_text};
+use rand_core::Rng;
+use std::alloc::AllocError;
+
+/// Works an ABORT: it ends an association with a peer, and the rest of its packet is dropped. Where no
+/// peer is held, nothing happens.
+///
+/// The one error is that a growth was refused. Nothing has changed then.
+pub fn handle_abort<R: Rng>(
+    context: &mut Context<R>,
+    abort: &AbortChunk<'_>,
+) -> Result<Following, AllocError>
+    ensures { WorksWhole R.stream (abort_turn (map cause_content abort.now.error_causes.items))
+        context.old result context.new }
+{
+    match context.state {
+        State::Closed | State::CookieWait(_) => Ok(Following::NextChunk),
+        State::CookieEchoed(_) | State::Open(_) => {
+            let text = causes_text(context.alloc, &abort.error_causes)?;
+            context.internal_close(ErrorKind::PeerReported, text)?;
+            Ok(Following::DroppedRest)
+        }
+    }
+}

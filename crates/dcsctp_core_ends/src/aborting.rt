@@ -1,0 +1,130 @@
+//! The own abort (RFC 9260, section 9.1).
+
+ghost use Rattle.std.specs.Prelude.{◌≡◌, true, false, IsOk, [], ◌∷◌};
+ghost use Rattle.dcsctp_wire.specs.Content.{cause_content, abort_chunk};
+ghost use Rattle.dcsctp_machine.specs.Cause.{reason_text, causes_of};
+ghost use Rattle.dcsctp_machine.specs.turns.EndOutcomes.{end_of};
+ghost use Rattle.dcsctp_api.specs.Calls.{is_closed};
+ghost use Rattle.dcsctp_core.specs.View.{core_of};
+ghost use Rattle.dcsctp_core.specs.Handling.{Tries, Takes, Emits, close_turn};
+ghost use Rattle.dcsctp_core_ends.specs.Ends.{abort_sent_turn, aborting_turn};
+
+use dcsctp_api::ErrorKind;
+use dcsctp_core::{Context, State};
+use dcsctp_machine::{AbortReason, Violation};
+use dcsctp_wire::{AbortChunk, Chunk, ErrorCause};
+use rand_core::Rng;
+use std::alloc::AllocError;
+
+// What is said of it.
+fn text_of(reason: AbortReason) -> &'static str
+    ensures { result.now ≡ reason_text reason }
+{
+    match reason {
+        AbortReason::CloseCalled => "Close called",
+        AbortReason::Violation(Violation::DataWithInterleaving) => {
+            "DATA/FORWARD-TSN chunk received when message interleaving is negotiated"
+        }
+        AbortReason::Violation(Violation::InterleavedDataWithout) => {
+            "I-DATA/I-FORWARD-TSN chunk received when message interleaving is not negotiated"
+        }
+        AbortReason::Violation(Violation::ForwardTsnWithout) => {
+            "FORWARD-TSN/I-FORWARD-TSN chunk received when partial reliability is not negotiated"
+        }
+        AbortReason::TooManyErrors => "Too many retransmissions",
+    }
+}
+
+// The cause that the peer is told.
+fn cause_of(reason: AbortReason) -> ErrorCause<'static>
+    ensures { cause_content result ∷ [] ≡ causes_of reason }
+{
+    let text = text_of(reason).as_bytes();
+    match reason {
+        AbortReason::CloseCalled => ErrorCause::UserInitiatedAbort { text },
+        AbortReason::Violation(_) => ErrorCause::ProtocolViolation { text },
+        AbortReason::TooManyErrors => ErrorCause::UserInitiatedAbort { text },
+    }
+}
+
+// Sends an ABORT for this reason under this tag, where it fits `mtu`.
+//
+// The one error is that a growth was refused. Nothing has changed then.
+fn emit_abort<R: Rng>(
+    context: &mut Context<R>,
+    tag: u32,
+    write_checksum: bool,
+    reason: AbortReason,
+) -> Result<(), AllocError>
+    ensures { Emits write_checksum tag (abort_chunk false (causes_of reason)) context.old result
+        context.new }
+{
+    let mut error_causes = Vec::with_capacity(context.alloc, 1)?;
+    error_causes.push(cause_of(reason))?;
+    let abort = AbortChunk {
+        tag_reflected: false,
+        error_causes,
+    };
+    context.emit(tag, write_checksum, &Chunk::Abort(abort))?;
+    Ok(())
+}
+
+// Sends an ABORT for this reason to the peer, where one is held and it fits `mtu`.
+//
+// The one error is that a growth was refused. Nothing has changed then.
+fn send_abort<R: Rng>(context: &mut Context<R>, reason: AbortReason) -> Result<(), AllocError>
+    ensures { Tries R.stream (abort_sent_turn reason) context.old result context.new }
+{
+    match context.state.tcb() {
+        None => {}
+        Some(tcb) => {
+            let tag = tcb.peer.tag;
+            let write_checksum = !tcb.capabilities.zero_checksum_enabled();
+            emit_abort(context, tag, write_checksum, reason)?;
+        }
+    }
+    Ok(())
+}
+
+// Ends the association with the event for this reason. A closed socket stays as it is.
+//
+// The one error is that a growth was refused. Nothing has changed then.
+fn end<R: Rng>(context: &mut Context<R>, reason: AbortReason) -> Result<(), AllocError>
+    ensures { Tries R.stream (close_turn (end_of reason)) context.old result context.new }
+{
+    let alloc = context.alloc;
+    match reason {
+        AbortReason::CloseCalled => {
+            context.internal_close(ErrorKind::NoError, String::new(alloc))?;
+        }
+        AbortReason::Violation(_) => {
+            let text = String::from_str(alloc, text_of(reason))?;
+            context.internal_close(ErrorKind::ProtocolViolation, text)?;
+        }
+        AbortReason::TooManyErrors => {
+            let text = String::from_str(alloc, text_of(reason))?;
+            context.internal_close(ErrorKind::TooManyRetries, text)?;
+        }
+    }
+    Ok(())
+}
+
+/// Aborts the association for this reason (RFC 9260, section 9.1): an ABORT goes out where a peer is held
+/// and it fits `mtu`, and the association ends, with OnClosed where its user closed it, else with
+/// OnAborted. A closed socket stays as it is, and want of memory is never the answer.
+///
+/// The one error is that a growth was refused. The first events of the turn may stand then.
+pub fn abort_association<R: Rng>(
+    context: &mut Context<R>,
+    reason: AbortReason,
+) -> Result<(), AllocError>
+    ensures turn { Takes R.stream (aborting_turn reason) context.old result context.new }
+    ensures closed { is_closed (core_of context.old.state) ≡ true → IsOk result }
+{
+    if let State::Closed = context.state {
+        return Ok(());
+    }
+    send_abort(context, reason)?;
+    end(context, reason)?;
+    Ok(())
+}

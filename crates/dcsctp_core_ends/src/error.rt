@@ -1,0 +1,32 @@
+//! ERROR (RFC 9260, section 3.3.10).
+
+ghost use Rattle.std.specs.Prelude.{map};
+ghost use Rattle.dcsctp_wire.specs.Content.{cause_content};
+ghost use Rattle.dcsctp_core.specs.Handling.{Tries};
+ghost use Rattle.dcsctp_core_ends.specs.Ends.{error_turn};
+
+use dcsctp_api::ErrorKind;
+use dcsctp_core::{Context, State};
+use dcsctp_wire::{ErrorChunk, causes_text};
+use rand_core::Rng;
+use std::alloc::AllocError;
+
+/// Works an ERROR: the user is told the texts of its causes, where a peer is held. Else nothing happens.
+///
+/// The one error is that a growth was refused. Nothing has changed then.
+pub fn handle_error<R: Rng>(
+    context: &mut Context<R>,
+    error: &ErrorChunk<'_>,
+) -> Result<(), AllocError>
+    ensures { Tries R.stream (error_turn (map cause_content error.now.error_causes.items))
+        context.old result context.new }
+{
+    match context.state {
+        State::Closed | State::CookieWait(_) => {}
+        State::CookieEchoed(_) | State::Open(_) => {
+            let text = causes_text(context.alloc, &error.error_causes)?;
+            context.report(ErrorKind::PeerReported, text)?;
+        }
+    }
+    Ok(())
+}

@@ -1,0 +1,89 @@
+//! What breaks the protocol that was negotiated (RFC 8260, section 2.2.1; RFC 3758, section 3.3.1).
+
+ghost use Rattle.std.specs.Prelude.{◌≡◌};
+ghost use Rattle.dcsctp_wire.specs.Content.{chunk_content};
+ghost use Rattle.dcsctp_machine.specs.Packet.{content_in};
+ghost use Rattle.dcsctp_machine.specs.turns.PlainOutcomes.{data_violation, i_data_violation, forward_tsn_violation, i_forward_tsn_violation};
+ghost use Rattle.dcsctp_core.specs.View.{core_of};
+ghost use Rattle.dcsctp_core_ends.specs.Ends.{violation_in};
+
+use dcsctp_core::State;
+use dcsctp_machine::{Capabilities, Violation};
+use dcsctp_wire::Chunk;
+
+// How a DATA breaks it, if it does.
+fn data_violation(capabilities: &Capabilities) -> Option<Violation>
+    ensures { result ≡ data_violation capabilities.now.message_interleaving }
+{
+    if capabilities.message_interleaving {
+        return Some(Violation::DataWithInterleaving);
+    }
+    None
+}
+
+// How an I-DATA does.
+fn i_data_violation(capabilities: &Capabilities) -> Option<Violation>
+    ensures { result ≡ i_data_violation capabilities.now.message_interleaving }
+{
+    if capabilities.message_interleaving {
+        return None;
+    }
+    Some(Violation::InterleavedDataWithout)
+}
+
+// How a FORWARD-TSN does.
+fn forward_tsn_violation(capabilities: &Capabilities) -> Option<Violation>
+    ensures { result ≡ forward_tsn_violation capabilities.now.message_interleaving
+        capabilities.now.partial_reliability }
+{
+    if capabilities.message_interleaving {
+        return Some(Violation::DataWithInterleaving);
+    }
+    if capabilities.partial_reliability {
+        return None;
+    }
+    Some(Violation::ForwardTsnWithout)
+}
+
+// How an I-FORWARD-TSN does.
+fn i_forward_tsn_violation(capabilities: &Capabilities) -> Option<Violation>
+    ensures { result ≡ i_forward_tsn_violation capabilities.now.message_interleaving
+        capabilities.now.partial_reliability }
+{
+    if !capabilities.message_interleaving {
+        return Some(Violation::InterleavedDataWithout);
+    }
+    if capabilities.partial_reliability {
+        return None;
+    }
+    Some(Violation::ForwardTsnWithout)
+}
+
+/// How a chunk breaks what was negotiated, where a peer is held: data, and what skips it, has the form of
+/// RFC 8260 exactly where message interleaving is negotiated, and nothing is skipped without partial
+/// reliability. It takes no memory.
+pub fn violation_of(state: &State, chunk: &Chunk<'_>) -> Option<Violation>
+    ensures { result ≡ violation_in (core_of state.now) (content_in (chunk_content chunk.now)) }
+{
+    let tcb = state.tcb()?;
+    match chunk {
+        Chunk::Data(_) => data_violation(&tcb.capabilities),
+        Chunk::IData(_) => i_data_violation(&tcb.capabilities),
+        Chunk::ForwardTsn(_) => forward_tsn_violation(&tcb.capabilities),
+        Chunk::IForwardTsn(_) => i_forward_tsn_violation(&tcb.capabilities),
+        Chunk::Init(_) => None,
+        Chunk::InitAck(_) => None,
+        Chunk::Sack(_) => None,
+        Chunk::HeartbeatRequest(_) => None,
+        Chunk::HeartbeatAck(_) => None,
+        Chunk::Abort(_) => None,
+        Chunk::Shutdown(_) => None,
+        Chunk::ShutdownAck => None,
+        Chunk::Error(_) => None,
+        Chunk::CookieEcho(_) => None,
+        Chunk::CookieAck => None,
+        Chunk::ShutdownComplete(_) => None,
+        Chunk::ReConfig(_) => None,
+        Chunk::Unknown(_) => None,
+    }
+}

@@ -1,0 +1,209 @@
+-- The steps of an association that a cookie makes.
+use Rattle.std.proofs.Common.{◌≡◌, ℕ, Bool, Option, None, Some, List, [], ◌∷◌, ◌++◌, map, refl, sym, ap, subst, ◌∙◌}
+use Rattle.std.proofs.lemmas.List.{append-nil}
+use Rattle.rand_core.specs.Stream.{Stream, next_u64}
+use Rattle.dcsctp_machine.specs.declared.association.Held.{Held}
+use Rattle.dcsctp_machine.specs.declared.word.Word.TheVariants.{U64}
+use Rattle.dcsctp_machine.specs.Settings.{ports_of}
+use Rattle.dcsctp_machine.specs.Cookie.{Cookie}
+use Rattle.dcsctp_machine.specs.Event.{Event, connected, connection_restarted}
+use Rattle.dcsctp_machine.specs.Packet.{Emission, cookie_ack}
+use Rattle.dcsctp_machine.specs.Transfer.{SendQueueState, StreamNumber, begun_again, resumed, queue_after_reset}
+use Rattle.dcsctp_machine.specs.Endpoint.{Endpoint, held_in}
+use Rattle.dcsctp_machine.specs.Outcome.{Outcome}
+use Rattle.dcsctp_machine.specs.control.Effect.{Effect, holds, connects, link_of}
+use Rattle.dcsctp_machine.specs.control.CookieEchoChanges.{held_by_cookie}
+use Rattle.dcsctp_machine.specs.turns.FlushOutcomes.{Answer, first_ask, flush_answered, packets_allowed}
+use Rattle.dcsctp_machine.specs.turns.CookieEchoOutcomes.{established_by, acknowledgement, establish_by, queue_kept, queue_begun, interleaves, EstablishAnswers}
+use Rattle.dcsctp_machine.proofs.AnswerLemmas.{any_answers}
+use Rattle.dcsctp_api.specs.Calls.{user_event}
+use Rattle.dcsctp_api.specs.declared.events.SocketEvent.{SocketEvent}
+use Rattle.dcsctp_api.specs.declared.events.SocketEvent.TheVariants.{OnConnected}
+use Rattle.dcsctp_core.specs.declared.context.Context.{Context}
+use Rattle.dcsctp_core.specs.View.{View, Moves, CutTurn, view_of, endpoint_of}
+use Rattle.dcsctp_core.specs.Drawing.{long_word, DrawsNext}
+use Rattle.dcsctp_core.specs.Handling.{TakesIn, CutIn}
+use Rattle.dcsctp_core.proofs.Composing.{behind, Draws, moves_behind, cut_behind, moves_noting, cut_noting, cut_first, added_one}
+use Rattle.dcsctp_core_handshake.specs.Echoes.{acknowledges_by, acknowledged_by, AcknowledgedAnswers, AcknowledgementAt, AssociationAt, EstablishAt, ReplaceAt, RestartAt, established_with}
+
+-- ---- a flush at the endpoint that a cookie makes
+
+-- what is answered to the flush of a COOKIE ACK there
+pub record AcknowledgedThere (e : Endpoint) (answers : List Answer) (held : Held) (o : Outcome) : Type 0 where
+  pub allowed : AcknowledgedAnswers e (Some held) answers
+  pub is : o ≡ acknowledges_by (flush_answered answers) e held []
+
+pub there : {R : Type 0} (mid : View R) (e : Endpoint) (held : Held) (o : Outcome) (turn : AcknowledgementAt mid o) → mid.endpoint ≡ e → held_in e.core ≡ Some held → AcknowledgedThere e turn.0 held o
+there mid e held o turn here kept =
+    let answers : List Answer = turn.0 in
+    record {
+      allowed = subst (λ (peer : Option Held). AcknowledgedAnswers e peer answers) kept (subst (λ (x : Endpoint). AcknowledgedAnswers x (held_in x.core) answers) here turn.1);
+      is = turn.2 ∙ ap (λ (x : Endpoint). acknowledged_by (flush_answered answers) x (held_in x.core)) here ∙ ap (λ (peer : Option Held). acknowledged_by (flush_answered answers) e peer) kept;
+    }
+
+-- ---- an association that is made, and acknowledged
+
+abbrev effects_of : Endpoint → Cookie → List Effect
+effects_of e cookie = holds (link_of cookie.maker (held_by_cookie e.options cookie)) ∷ connects (link_of cookie.maker (held_by_cookie e.options cookie)) ∷ []
+
+-- after these events and this word
+pub associates : {R : Type 0} (stream : R → Stream) (old mid new : View R) (cookie : Cookie) (queue : SendQueueState) (tie : ℕ) (events : List (Event Emission))
+    → tie ≡ long_word (stream old.generator) → mid.endpoint ≡ established_by old.endpoint cookie queue tie
+    → mid.events ≡ old.events ++ map (user_event (ports_of old.endpoint.options)) events → Draws stream old (U64 tie ∷ []) mid
+    → TakesIn stream AcknowledgementAt mid new → TakesIn stream (AssociationAt stream cookie queue events) old new
+associates {R = R} stream old mid new cookie queue tie events drawn here added draws t =
+    let e : Endpoint = established_by old.endpoint cookie queue tie in
+    let held : Held = held_by_cookie old.endpoint.options cookie in
+    let answers : List Answer = t.turn.0 in
+    let a : AcknowledgedThere e answers held t.outcome = there mid e held t.outcome t.turn here refl in
+    let m : Moves stream mid (acknowledges_by (flush_answered answers) e held []) new = subst (λ (o : Outcome). Moves stream mid o new) a.is t.moves in
+    let all : Moves stream old (establish_by (flush_answered answers) old.endpoint cookie queue tie events) new =
+    moves_noting stream old new (effects_of old.endpoint cookie) (flush_answered answers e (U64 tie ∷ []) events (acknowledgement held cookie).with_checksum cookie.addressee.tag (cookie_ack ∷ [])) refl
+    (moves_behind stream old mid new (U64 tie ∷ []) events (acknowledges_by (flush_answered answers) e held [])
+    (record { ports = ap (λ (x : Endpoint). ports_of x.options) here; events = added }) draws m) in
+    subst (λ (word : ℕ). (answered : List Answer) × EstablishAnswers old.endpoint cookie queue word answered × Moves stream old (establish_by (flush_answered answered) old.endpoint cookie queue word events) new → TakesIn stream (AssociationAt stream cookie queue events) old new)
+    (sym drawn) (λ h. record { outcome = establish_by (flush_answered h.0) old.endpoint cookie queue (long_word (stream old.generator)) events; turn = (h.0, h.1, refl); moves = h.2 })
+    (answers, a.allowed, all)
+
+-- the same, cut
+pub associates_cut : {R : Type 0} (stream : R → Stream) (old mid : View R) (es : List (Event (List ℕ))) (cookie : Cookie) (queue : SendQueueState) (tie : ℕ) (events : List (Event Emission))
+    → tie ≡ long_word (stream old.generator) → mid.endpoint ≡ established_by old.endpoint cookie queue tie
+    → mid.events ≡ old.events ++ map (user_event (ports_of old.endpoint.options)) events
+    → CutIn AcknowledgementAt mid es → CutIn (AssociationAt stream cookie queue events) old es
+associates_cut {R = R} stream old mid es cookie queue tie events drawn here added t =
+    let e : Endpoint = established_by old.endpoint cookie queue tie in
+    let held : Held = held_by_cookie old.endpoint.options cookie in
+    let answers : List Answer = t.turn.0 in
+    let a : AcknowledgedThere e answers held t.outcome = there mid e held t.outcome t.turn here refl in
+    let m : CutTurn mid (acknowledges_by (flush_answered answers) e held []) es = subst (λ (o : Outcome). CutTurn mid o es) a.is t.cut in
+    let all : CutTurn old (establish_by (flush_answered answers) old.endpoint cookie queue tie events) es =
+    cut_noting old (effects_of old.endpoint cookie) (flush_answered answers e (U64 tie ∷ []) events (acknowledgement held cookie).with_checksum cookie.addressee.tag (cookie_ack ∷ [])) es
+    (cut_behind old mid (U64 tie ∷ []) events (acknowledges_by (flush_answered answers) e held []) es
+    (record { ports = ap (λ (x : Endpoint). ports_of x.options) here; events = added }) m) in
+    subst (λ (word : ℕ). (answered : List Answer) × EstablishAnswers old.endpoint cookie queue word answered × CutTurn old (establish_by (flush_answered answered) old.endpoint cookie queue word events) es → CutIn (AssociationAt stream cookie queue events) old es)
+    (sym drawn) (λ h. record { outcome = establish_by (flush_answered h.0) old.endpoint cookie queue (long_word (stream old.generator)) events; turn = (h.0, h.1, refl); cut = h.2 })
+    (answers, a.allowed, all)
+
+-- before its first event
+pub association_unmade : {R : Type 0} (stream : R → Stream) (old : View R) (es : List (Event (List ℕ))) (cookie : Cookie) (queue : SendQueueState) (events : List (Event Emission))
+    → es ≡ old.events → CutIn (AssociationAt stream cookie queue events) old es
+association_unmade stream old es cookie queue events same =
+    let tie : ℕ = long_word (stream old.generator) in
+    let e : Endpoint = established_by old.endpoint cookie queue tie in
+    let some = any_answers first_ask (packets_allowed e.options.max_burst e.core) e (acknowledgement (held_by_cookie old.endpoint.options cookie) cookie) in
+    let o : Outcome = establish_by (flush_answered some.0) old.endpoint cookie queue tie events in
+    record { outcome = o; turn = (some.0, some.1, refl); cut = cut_first old o es same }
+
+-- ---- where no peer is held
+
+-- what stands once it is made: a word was drawn, and OnConnected was added
+abbrev Made : {R : Type 0} → Context R → List SocketEvent → Cookie → ℕ → View R → Type 0
+Made drawn added cookie tie mid = mid ≡ record (view_of (record drawn { events = added })) { endpoint = established_with (endpoint_of (record drawn { events = added })) cookie tie }
+
+made_endpoint : {R : Type 0} (stream : R → Stream) (old drawn : Context R) (added : List SocketEvent) (cookie : Cookie) (tie : ℕ) (mid : View R)
+    → DrawsNext stream next_u64 U64 old tie drawn → Made drawn added cookie tie mid → mid.endpoint ≡ established_with (endpoint_of old) cookie tie
+made_endpoint {R = R} stream old drawn added cookie tie mid d made =
+    ap (λ (v : View R). v.endpoint) made ∙ ap (λ (x : Context R). established_with (endpoint_of (record x { events = added })) cookie tie) d.only
+
+made_events : {R : Type 0} (stream : R → Stream) (old drawn : Context R) (added : List SocketEvent) (cookie : Cookie) (tie : ℕ) (mid : View R)
+    → DrawsNext stream next_u64 U64 old tie drawn → added ≡ drawn.events ++ OnConnected ∷ [] → Made drawn added cookie tie mid → mid.events ≡ (view_of old).events ++ connected ∷ []
+made_events {R = R} stream old drawn added cookie tie mid d one made =
+    ap (λ (v : View R). v.events) made ∙ added_one old.events added OnConnected (one ∙ ap (λ (x : Context R). x.events ++ OnConnected ∷ []) d.only)
+
+pub establishes : {R : Type 0} (stream : R → Stream) (old drawn : Context R) (added : List SocketEvent) (cookie : Cookie) (tie : ℕ) (mid new : View R)
+    → DrawsNext stream next_u64 U64 old tie drawn → added ≡ drawn.events ++ OnConnected ∷ [] → Made drawn added cookie tie mid
+    → TakesIn stream AcknowledgementAt mid new → TakesIn stream (EstablishAt stream cookie) (view_of old) new
+establishes {R = R} stream old drawn added cookie tie mid new d one made t =
+    let same : drawn.pairs ≡ old.pairs = d.pairs in
+    let same_pairs : (view_of drawn).pairs ≡ (view_of old).pairs = cc in
+    let all = associates stream (view_of old) mid new cookie (queue_kept (endpoint_of old) cookie) tie (connected ∷ []) d.from_stream
+    (made_endpoint stream old drawn added cookie tie mid d made) (made_events stream old drawn added cookie tie mid d one made)
+    (record {
+      words = ap (λ (v : View R). v.words) made ∙ d.kept;
+      pairs = ap (λ (v : View R). v.pairs) made ∙ same_pairs;
+      drawn = (d.from_stream, ap (λ (v : View R). stream v.generator) made ∙ d.left);
+    }) t in
+    record { outcome = all.outcome; turn = all.turn; moves = all.moves }
+
+pub establishes_cut : {R : Type 0} (stream : R → Stream) (old drawn : Context R) (added : List SocketEvent) (cookie : Cookie) (tie : ℕ) (mid : View R) (es : List (Event (List ℕ)))
+    → DrawsNext stream next_u64 U64 old tie drawn → added ≡ drawn.events ++ OnConnected ∷ [] → Made drawn added cookie tie mid
+    → CutIn AcknowledgementAt mid es → CutIn (EstablishAt stream cookie) (view_of old) es
+establishes_cut stream old drawn added cookie tie mid es d one made t =
+    let all = associates_cut stream (view_of old) mid es cookie (queue_kept (endpoint_of old) cookie) tie (connected ∷ []) d.from_stream
+    (made_endpoint stream old drawn added cookie tie mid d made) (made_events stream old drawn added cookie tie mid d one made) t in
+    record { outcome = all.outcome; turn = all.turn; cut = all.cut }
+
+pub establish_unmade : {R : Type 0} (stream : R → Stream) (old : View R) (es : List (Event (List ℕ))) (cookie : Cookie) → es ≡ old.events → CutIn (EstablishAt stream cookie) old es
+establish_unmade stream old es cookie same =
+    let all = association_unmade stream old es cookie (queue_kept old.endpoint cookie) (connected ∷ []) same in
+    record { outcome = all.outcome; turn = all.turn; cut = all.cut }
+
+-- ---- in place of another
+
+abbrev queue_reset : {R : Type 0} → View R → View R
+queue_reset view = record view { endpoint = record view.endpoint { below = record view.endpoint.below { queue = queue_after_reset view.endpoint.below.queue } } }
+
+-- Whether messages are numbered for interleaving is said before or after.
+reset_by : (queue : SendQueueState) (b : Bool) (message : Option StreamNumber)
+    → record (begun_again queue message) { streams = map resumed (begun_again queue message).streams; ready_streams = []; is_interleaved = b }
+    ≡ record (begun_again (record queue { is_interleaved = b }) message) { streams = map resumed (begun_again (record queue { is_interleaved = b }) message).streams; ready_streams = [] }
+reset_by queue b None = refl
+reset_by queue b (Some message) = refl
+
+reset_is : (e : Endpoint) (cookie : Cookie) → record (queue_after_reset e.below.queue) { is_interleaved = interleaves e cookie } ≡ queue_begun e cookie
+reset_is e cookie = reset_by e.below.queue (interleaves e cookie) e.below.queue.under_way
+
+pub replaces : {R : Type 0} (stream : R → Stream) (old mid new : View R) (cookie : Cookie) → mid ≡ queue_reset old
+    → TakesIn stream (EstablishAt stream cookie) mid new → TakesIn stream (ReplaceAt stream cookie) old new
+replaces {R = R} stream old mid new cookie is t =
+    let here : TakesIn stream (EstablishAt stream cookie) (queue_reset old) new = subst (λ (v : View R). TakesIn stream (EstablishAt stream cookie) v new) is t in
+    let m = here.moves in
+    record {
+      outcome = here.outcome;
+      turn = subst (λ (queue : SendQueueState). AssociationAt stream cookie queue (connected ∷ []) old here.outcome) (reset_is old.endpoint cookie) here.turn;
+      moves = record { endpoint = m.endpoint; events = m.events; words = m.words; pairs = m.pairs; drawn = m.drawn };
+    }
+
+pub replaces_cut : {R : Type 0} (stream : R → Stream) (old mid : View R) (es : List (Event (List ℕ))) (cookie : Cookie) → mid ≡ queue_reset old
+    → CutIn (EstablishAt stream cookie) mid es → CutIn (ReplaceAt stream cookie) old es
+replaces_cut {R = R} stream old mid es cookie is t =
+    let here : CutIn (EstablishAt stream cookie) (queue_reset old) es = subst (λ (v : View R). CutIn (EstablishAt stream cookie) v es) is t in
+    record {
+      outcome = here.outcome;
+      turn = subst (λ (queue : SendQueueState). AssociationAt stream cookie queue (connected ∷ []) old here.outcome) (reset_is old.endpoint cookie) here.turn;
+      cut = record { count = here.cut.count; added = here.cut.added };
+    }
+
+-- ---- a restart: in place of another, behind its event
+
+abbrev behind_it : Outcome → Outcome
+behind_it o = behind [] (connection_restarted ∷ []) o
+
+abbrev restarting : {R : Type 0} → View R → View R
+restarting view = record view { events = view.events ++ connection_restarted ∷ [] }
+
+pub restarts : {R : Type 0} (stream : R → Stream) (old mid new : View R) (cookie : Cookie) → mid ≡ restarting old
+    → TakesIn stream (ReplaceAt stream cookie) mid new → TakesIn stream (RestartAt stream cookie) old new
+restarts {R = R} stream old mid new cookie is t =
+    let here : TakesIn stream (ReplaceAt stream cookie) (restarting old) new = subst (λ (v : View R). TakesIn stream (ReplaceAt stream cookie) v new) is t in
+    record {
+      outcome = behind_it here.outcome;
+      turn = (here.turn.0, here.turn.1, ap behind_it here.turn.2);
+      moves = moves_behind stream old (restarting old) new [] (connection_restarted ∷ []) here.outcome
+          (record { ports = refl; events = refl }) (record { words = sym (append-nil old.words); pairs = refl; drawn = refl }) here.moves;
+    }
+
+pub restarts_cut : {R : Type 0} (stream : R → Stream) (old mid : View R) (es : List (Event (List ℕ))) (cookie : Cookie) → mid ≡ restarting old
+    → CutIn (ReplaceAt stream cookie) mid es → CutIn (RestartAt stream cookie) old es
+restarts_cut {R = R} stream old mid es cookie is t =
+    let here : CutIn (ReplaceAt stream cookie) (restarting old) es = subst (λ (v : View R). CutIn (ReplaceAt stream cookie) v es) is t in
+    record {
+      outcome = behind_it here.outcome;
+      turn = (here.turn.0, here.turn.1, ap behind_it here.turn.2);
+      cut = cut_behind old (restarting old) [] (connection_restarted ∷ []) here.outcome es (record { ports = refl; events = refl }) here.cut;
+    }
+
+pub restart_unmade : {R : Type 0} (stream : R → Stream) (old : View R) (es : List (Event (List ℕ))) (cookie : Cookie) → es ≡ old.events → CutIn (RestartAt stream cookie) old es
+restart_unmade stream old es cookie same =
+    let all = association_unmade stream old es cookie (queue_begun old.endpoint cookie) (connection_restarted ∷ connected ∷ []) same in
+    record { outcome = all.outcome; turn = all.turn; cut = all.cut }

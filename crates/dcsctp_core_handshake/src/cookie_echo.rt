@@ -1,0 +1,221 @@
+//! COOKIE ECHO (RFC 9260, sections 5.1 and 5.2.4).
+
+ghost use Rattle.std.specs.Prelude.{◌≡◌, [], ◌∷◌, IfOk, map};
+ghost use Rattle.dcsctp_wire.specs.Content.{cause_content, cookie_received_while_shutting_down};
+ghost use Rattle.dcsctp_api.specs.Cookie.{cookie_of};
+ghost use Rattle.dcsctp_core.specs.View.{core_of, view_of, endpoint_of};
+ghost use Rattle.dcsctp_core.specs.Handling.{Tries, TakesOne, Works, WorksOne};
+ghost use Rattle.dcsctp_core_handshake.specs.Handshake.{CookieEchoAt};
+ghost use Rattle.dcsctp_core_handshake.specs.Echoes.{awaits_complete, established_with, AcknowledgementAt, EstablishAt, ReplaceAt, RestartAt, MaintainAt, RestartWhereAt, refuse_turn, refused_restart_turn};
+
+use crate::texts::{INVALID_TAG, SHUTTING_DOWN};
+use dcsctp_api::{ErrorKind, Pair, SocketEvent, StateCookie};
+use dcsctp_core::{Context, Following, OpenPhase, OpenState, State, TransmissionControlBlock};
+use dcsctp_core_decisions::{CookieResolution, peer_by_cookie, resolve};
+use dcsctp_wire::{Chunk, CookieEchoChunk, ErrorCause, ErrorChunk};
+use rand_core::Rng;
+use std::alloc::{AllocError, Global};
+
+/// Sends COOKIE ACK to the peer that is held: it is in front of a flush.
+///
+/// The one error is that a growth was refused. The first events of the turn may stand then.
+fn send_cookie_ack<R: Rng>(context: &mut Context<R>) -> Result<(), AllocError>
+    ensures { TakesOne R.stream AcknowledgementAt context.old result context.new }
+{
+    let Some(tcb) = context.state.tcb() else {
+        return Ok(());
+    };
+    let mut packet = tcb.new_packet(context.alloc, &context.options)?;
+    packet.add(&Chunk::CookieAck);
+    context.send_buffered_packets_with(packet)?;
+    Ok(())
+}
+
+// Makes the association that a cookie shows. What waits to be sent stays.
+fn begin_association<R: Rng>(context: &mut Context<R>, cookie: &StateCookie, tie_tag: u64)
+    ensures { view_of context.new ≡ record (view_of context.old) {
+      endpoint = established_with
+          (endpoint_of context.old)
+          (cookie_of cookie.now)
+          tie_tag;
+    } }
+{
+    let peer = peer_by_cookie(&context.options, cookie);
+    let my = Pair {
+        tag: cookie.my_tag,
+        first_tsn: cookie.my_initial_tsn,
+    };
+    let interleaving = peer.capabilities.message_interleaving;
+    context.send_queue.enable_message_interleaving(interleaving);
+    let tcb = TransmissionControlBlock::new(context.alloc, &context.options, my, &peer, tie_tag);
+    context.state = State::Open(OpenState {
+        phase: OpenPhase::Established,
+        tcb,
+    });
+    context.start_heartbeat_interval();
+}
+
+/// Makes the association that a cookie shows, and acknowledges it. What waits to be sent stays.
+///
+/// The one error is that a growth was refused. The first events of the turn may stand then.
+fn establish<R: Rng>(context: &mut Context<R>, cookie: &StateCookie) -> Result<(), AllocError>
+    ensures { TakesOne R.stream (EstablishAt R.stream (cookie_of cookie.now)) context.old result
+        context.new }
+{
+    let tie_tag = context.draw_u64()?;
+    context.events.add(SocketEvent::OnConnected())?;
+    begin_association(context, cookie, tie_tag);
+    send_cookie_ack(context)?;
+    Ok(())
+}
+
+/// Makes the association that a cookie shows in place of the one that is held. What waits to be sent
+/// begins anew.
+///
+/// The one error is that a growth was refused. The first events of the turn may stand then.
+fn replace<R: Rng>(context: &mut Context<R>, cookie: &StateCookie) -> Result<(), AllocError>
+    ensures { TakesOne R.stream (ReplaceAt R.stream (cookie_of cookie.now)) context.old result
+        context.new }
+{
+    context.send_queue.reset();
+    establish(context, cookie)?;
+    Ok(())
+}
+
+/// Makes the association anew, since the peer began it anew.
+///
+/// The one error is that a growth was refused. The first events of the turn may stand then.
+fn restart<R: Rng>(context: &mut Context<R>, cookie: &StateCookie) -> Result<(), AllocError>
+    ensures { TakesOne R.stream (RestartAt R.stream (cookie_of cookie.now)) context.old result
+        context.new }
+{
+    context.events.add(SocketEvent::OnConnectionRestarted())?;
+    replace(context, cookie)?;
+    Ok(())
+}
+
+// The ERROR of a restart that is refused (RFC 9260, section 3.3.10.10).
+fn shutting_down_error(alloc: Global) -> Result<ErrorChunk<'static>, AllocError>
+    ensures { IfOk result (λ error. map cause_content error.error_causes.items
+        ≡ cookie_received_while_shutting_down ∷ []) }
+{
+    let mut error_causes = Vec::with_capacity(alloc, 1)?;
+    error_causes.push(ErrorCause::CookieReceivedWhileShuttingDown)?;
+    Ok(ErrorChunk { error_causes })
+}
+
+// Refuses a restart, since a SHUTDOWN ACK waits for its answer: SHUTDOWN ACK goes out again, with an ERROR of the cause
+// Cookie Received While Shutting Down, and the error is reported (RFC 9260, section 5.2.4, A). Without a peer nothing
+// happens.
+//
+// The one error is that a growth was refused. The first events of the turn may stand then.
+fn refuse_restart<R: Rng>(context: &mut Context<R>) -> Result<Following, AllocError>
+    ensures { Works R.stream refused_restart_turn context.old result context.new }
+{
+    let Some(tcb) = context.state.tcb() else {
+        return Ok(Following::NextChunk);
+    };
+    let text = String::from_str(context.alloc, SHUTTING_DOWN)?;
+    let mut packet = tcb.new_packet(context.alloc, &context.options)?;
+    let error = shutting_down_error(context.alloc)?;
+    packet.add(&Chunk::ShutdownAck);
+    packet.add(&Chunk::Error(error));
+    context.send_unless_empty(packet)?;
+    context.report(ErrorKind::WrongSequence, text)?;
+    Ok(Following::DroppedRest)
+}
+
+// A SHUTDOWN ACK waits for its answer.
+fn awaits_complete(state: &State) -> bool
+    ensures { result ≡ awaits_complete (core_of state.now) }
+{
+    match state {
+        State::Closed | State::CookieWait(_) | State::CookieEchoed(_) => false,
+        State::Open(opened) => match opened.phase {
+            OpenPhase::Established | OpenPhase::ShutdownPending => false,
+            OpenPhase::ShutdownSent(_) | OpenPhase::ShutdownReceived => false,
+            OpenPhase::ShutdownAckSent(_) => true,
+        },
+    }
+}
+
+// Makes the association anew, unless a SHUTDOWN ACK waits for its answer.
+//
+// The one error is that a growth was refused. The first events of the turn may stand then.
+fn restart_where_open<R: Rng>(
+    context: &mut Context<R>,
+    cookie: &StateCookie,
+) -> Result<Following, AllocError>
+    ensures { WorksOne R.stream (RestartWhereAt R.stream (cookie_of cookie.now)) context.old result
+        context.new }
+{
+    if awaits_complete(&context.state) {
+        return refuse_restart(context);
+    }
+    restart(context, cookie)?;
+    Ok(Following::NextChunk)
+}
+
+/// Acknowledges the association that is held; where its COOKIE ACK is awaited, it is established.
+///
+/// The one error is that a growth was refused. The first events of the turn may stand then.
+fn maintain<R: Rng>(context: &mut Context<R>) -> Result<(), AllocError>
+    ensures { TakesOne R.stream MaintainAt context.old result context.new }
+{
+    match context.state {
+        State::CookieEchoed(_) => {
+            context.events.add(SocketEvent::OnConnected())?;
+            context.state.establish();
+            context.start_heartbeat_interval();
+            send_cookie_ack(context)?;
+        }
+        State::Open(_) => send_cookie_ack(context)?,
+        State::Closed => {}
+        State::CookieWait(_) => {}
+    }
+    Ok(())
+}
+
+/// Works a COOKIE ECHO in a packet with this header tag. After one that is refused or discarded the rest
+/// of the packet is dropped.
+///
+/// The one error is that a growth was refused. The first events of the turn may stand then.
+pub fn handle_cookie_echo<R: Rng>(
+    context: &mut Context<R>,
+    header_tag: u32,
+    chunk: &CookieEchoChunk<'_>,
+) -> Result<Following, AllocError>
+    ensures { WorksOne R.stream (CookieEchoAt header_tag chunk.now.cookie.now) context.old result
+        context.new }
+{
+    let cookie = match StateCookie::from_bytes(chunk.cookie) {
+        Ok(cookie) => cookie,
+        Err(text) => {
+            refuse(context, text)?;
+            return Ok(Following::DroppedRest);
+        }
+    };
+    match resolve(&context.state, header_tag, &cookie) {
+        CookieResolution::EstablishNew => establish(context, &cookie)?,
+        CookieResolution::RestartDetected => return restart_where_open(context, &cookie),
+        CookieResolution::SimultaneousInit => replace(context, &cookie)?,
+        CookieResolution::Discard => return Ok(Following::DroppedRest),
+        CookieResolution::MaintainExisting => maintain(context)?,
+        CookieResolution::InvalidTag => {
+            refuse(context, INVALID_TAG)?;
+            return Ok(Following::DroppedRest);
+        }
+    }
+    Ok(Following::NextChunk)
+}
+
+/// Reports that a COOKIE ECHO was refused, and why.
+///
+/// The one error is that a growth was refused. Nothing has changed then.
+fn refuse<R: Rng>(context: &mut Context<R>, text: &str) -> Result<(), AllocError>
+    ensures { Tries R.stream (refuse_turn text.now) context.old result context.new }
+{
+    let text = String::from_str(context.alloc, text)?;
+    context.report(ErrorKind::ParseFailed, text)?;
+    Ok(())
+}

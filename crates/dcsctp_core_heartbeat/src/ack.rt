@@ -1,0 +1,70 @@
+//! HEARTBEAT ACK (RFC 9260, sections 3.3.6 and 8.3).
+
+ghost use Rattle.std.specs.Prelude.{◌≡◌, map};
+ghost use Rattle.std.specs.Option.{option_map};
+ghost use Rattle.dcsctp_wire.specs.Content.{parameter_content};
+ghost use Rattle.dcsctp_machine.specs.turns.HeartbeatOutcomes.{info_in, counter_of, invalid_info_text};
+ghost use Rattle.dcsctp_core.specs.Handling.{Tries, report_turn};
+ghost use Rattle.dcsctp_core_heartbeat.specs.Heartbeats.{heartbeat_ack_turn};
+
+use dcsctp_api::ErrorKind;
+use dcsctp_core::Context;
+use dcsctp_wire::{HeartbeatAckChunk, Parameter, u32_at};
+use rand_core::Rng;
+use std::alloc::AllocError;
+
+const INVALID_INFO: &str = "Failed to parse HEARTBEAT-ACK; Invalid info parameter";
+
+// What the HEARTBEAT bore: the first Heartbeat Info counts.
+fn heartbeat_info<'a>(parameters: &[Parameter<'a>]) -> Option<&'a [u8]>
+    ensures { option_map (λ bytes. bytes.now) result ≡ info_in (map parameter_content parameters.now) }
+{
+    for parameter in parameters {
+        if let Parameter::HeartbeatInfo { info } = parameter {
+            return Some(*info);
+        }
+    }
+    None
+}
+
+// The counter that the HEARTBEAT bore, in four bytes.
+fn counter_in(parameters: &[Parameter<'_>]) -> Option<u32>
+    ensures { result ≡ counter_of (info_in (map parameter_content parameters.now)) }
+{
+    match heartbeat_info(parameters) {
+        Some(info) if info.len() == 4 => Some(u32_at(info, 0)),
+        Some(_) | None => None,
+    }
+}
+
+// Reports an answer without a counter. The one error is that a growth was refused. Nothing has changed then.
+fn report_invalid_info<R: Rng>(context: &mut Context<R>) -> Result<(), AllocError>
+    ensures { Tries R.stream (report_turn ErrorKind.ParseFailed invalid_info_text) context.old result
+        context.new }
+{
+    let text = String::from_str(context.alloc, INVALID_INFO)?;
+    context.report(ErrorKind::ParseFailed, text)?;
+    Ok(())
+}
+
+/// Works a HEARTBEAT ACK. One with the counter of the last HEARTBEAT shows that the peer is there: no answer
+/// is awaited, and no error counts. One without a counter of four bytes is reported.
+///
+/// The one error is that a growth was refused. Nothing has changed then.
+pub fn handle_heartbeat_ack<R: Rng>(
+    context: &mut Context<R>,
+    chunk: &HeartbeatAckChunk<'_>,
+) -> Result<(), AllocError>
+    ensures { Tries R.stream (heartbeat_ack_turn (map parameter_content chunk.now.parameters.items))
+        context.old result context.new }
+{
+    match counter_in(&chunk.parameters) {
+        None => report_invalid_info(context)?,
+        Some(counter) => {
+            if counter == context.heartbeat_counter() {
+                context.end_heartbeat();
+            }
+        }
+    }
+    Ok(())
+}

@@ -1,0 +1,74 @@
+//! The heartbeat interval, and the timer of its answer (RFC 9260, section 8.3). Called where the time is told.
+
+ghost use Rattle.std.specs.Prelude.{[], ◌∷◌};
+ghost use Rattle.std.specs.Int.{w32, to_be_bytes};
+ghost use Rattle.dcsctp_wire.specs.Content.{heartbeat_chunk, heartbeat_info};
+ghost use Rattle.dcsctp_machine.specs.TimeTurns.{own_timer};
+ghost use Rattle.dcsctp_machine.specs.turns.OwnTimers.{heartbeat_interval, heartbeat_timeout};
+ghost use Rattle.dcsctp_core.specs.Handling.{Takes, Emits};
+ghost use Rattle.dcsctp_core.specs.Timing.{Expires, ExpiresAlways};
+ghost use Rattle.dcsctp_core_heartbeat.specs.Heartbeats.{beat_turn};
+
+use dcsctp_core::Context;
+use dcsctp_wire::{Chunk, HeartbeatRequestChunk, Parameter};
+use rand_core::Rng;
+use std::alloc::AllocError;
+
+// Sends a HEARTBEAT with this counter under this tag, where it fits `mtu`.
+//
+// The one error is that a growth was refused. Nothing has changed then.
+fn emit_heartbeat<R: Rng>(
+    context: &mut Context<R>,
+    tag: u32,
+    write_checksum: bool,
+    counter: u32,
+) -> Result<(), AllocError>
+    ensures { Emits write_checksum tag (heartbeat_chunk (heartbeat_info (to_be_bytes w32 counter) ∷ []))
+        context.old result context.new }
+{
+    let info = counter.to_be_bytes();
+    let mut parameters = Vec::with_capacity(context.alloc, 1)?;
+    parameters.push(Parameter::HeartbeatInfo { info: &info })?;
+    let heartbeat = HeartbeatRequestChunk { parameters };
+    context.emit(tag, write_checksum, &Chunk::HeartbeatRequest(heartbeat))?;
+    Ok(())
+}
+
+// Sends the next HEARTBEAT to the peer, where one is held. The one error is that a growth was refused. The
+// first events of the turn may stand then.
+fn send_heartbeat<R: Rng>(context: &mut Context<R>) -> Result<(), AllocError>
+    ensures { Takes R.stream beat_turn context.old result context.new }
+{
+    match context.state.tcb() {
+        None => {}
+        Some(tcb) => {
+            let tag = tcb.peer.tag;
+            let write_checksum = !tcb.capabilities.zero_checksum_enabled();
+            let counter = context.next_heartbeat();
+            emit_heartbeat(context, tag, write_checksum, counter)?;
+        }
+    }
+    Ok(())
+}
+
+/// Tells the heartbeat interval the present moment, and answers whether it expires: it goes on, and a
+/// HEARTBEAT goes out to the peer, where one is held.
+///
+/// The one error is that a growth was refused. The first events of the turn may stand then.
+pub fn handle_heartbeat_interval<R: Rng>(context: &mut Context<R>) -> Result<bool, AllocError>
+    ensures { Expires R.stream (own_timer heartbeat_interval) context.old result context.new }
+{
+    if !context.expire_heartbeat_interval() {
+        return Ok(false);
+    }
+    send_heartbeat(context)?;
+    Ok(true)
+}
+
+/// Tells the timer of the answer to a HEARTBEAT the present moment, and answers whether it expires: the
+/// answer didn't come, and an error is counted. It takes no memory.
+pub fn handle_heartbeat_timeout<R: Rng>(context: &mut Context<R>) -> bool
+    ensures { ExpiresAlways R.stream (own_timer heartbeat_timeout) context.old result context.new }
+{
+    context.expire_heartbeat_timeout()
+}

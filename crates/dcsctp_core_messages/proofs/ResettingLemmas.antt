@@ -1,0 +1,223 @@
+-- Own streams that are prepared to be reset, one after another, and then a flush.
+use Rattle.std.proofs.Common.{◌≡◌, ◌-◌, ℕ, Bool, true, false, Option, None, Some, Result, Ok, Err, List, [], ◌∷◌, ◌++◌, length, map, take, refl, sym, ap, subst, ◌∙◌, arith}
+use Rattle.std.proofs.lemmas.List.{append-nil, map-append}
+use Rattle.std.proofs.Math.Seq.{take-append_seam}
+use Rattle.rand_core.specs.Stream.{Stream}
+use Rattle.dcsctp_machine.specs.Event.{Event}
+use Rattle.dcsctp_machine.specs.Settings.{ports_of}
+use Rattle.dcsctp_machine.specs.Transfer.{SendQueueState, queued_stream}
+use Rattle.dcsctp_machine.specs.Endpoint.{Endpoint, held_in}
+use Rattle.dcsctp_machine.specs.Outcome.{Outcome, still, quiet, then_outcome}
+use Rattle.dcsctp_machine.specs.turns.FlushOutcomes.{Told, told_event}
+use Rattle.dcsctp_machine.specs.turns.DataOutcomes.{flush_by, FlushTurn}
+use Rattle.dcsctp_machine.specs.turns.PreparedResets.{ResetRefusal, reset_refusal, has_fallen, low_told, queue_pausing, PreparesWhere, PreparesAll, none, more, with_queue, OwnResetsWhere, OwnResetsTurn}
+use Rattle.dcsctp_send_streams.specs.Telling.{contents}
+use Rattle.dcsctp_transfer.specs.Preparing.{PreparesStream, StopsPreparing, TriesStream}
+use Rattle.dcsctp_core.specs.declared.context.Context.{Context}
+use Rattle.dcsctp_core.specs.View.{View, view_of}
+use Rattle.dcsctp_core.specs.Handling.{TakesIn, CutIn, TakesOne, FlushAt}
+use Rattle.dcsctp_core.proofs.Composing.{cut_longer}
+use Rattle.dcsctp_core.proofs.FillLemmas.{told_user}
+use Rattle.dcsctp_core.proofs.FlushLemmas.{moves_next}
+use Rattle.dcsctp_core.proofs.Moving.{moves_still}
+use Rattle.dcsctp_core_messages.specs.Resetting.{PreparesOne, PreparesSome, OneAt, SomeAt, ResetsAt}
+use Rattle.dcsctp_core_messages.proofs.QueueingLemmas.{cut_next}
+use Rattle.dcsctp_core_messages.proofs.SendingLemmas.{any_to}
+
+-- ---- one stream
+
+module _ {R : Type 0} (stream : R → Stream) (id : ℕ) (a : View R) where
+  one_prepared : (left : SendQueueState) (events : List (Event (List ℕ))) → PreparesStream id a.endpoint.below.queue a.events left events
+      → TakesIn stream (OneAt id) a (record a { endpoint = with_queue a.endpoint left; events = events })
+  one_prepared left events p =
+      record {
+        outcome = quiet (with_queue a.endpoint left) [] (map told_event p.told);
+        turn = record { queue = left; told = p.told; prepares = p.prepares; is = refl };
+        moves = record {
+          endpoint = refl;
+          events = p.tells ∙ ap (λ (es : List (Event (List ℕ))). a.events ++ es) (told_user (ports_of a.endpoint.options) p.told);
+          words = sym (append-nil a.words);
+          pairs = sym (append-nil a.pairs);
+          drawn = refl;
+        };
+      }
+
+  one_stopped : (events : List (Event (List ℕ))) → StopsPreparing id a.endpoint.below.queue a.events events → CutIn (OneAt id) a events
+  one_stopped events p =
+      let front : List (Event (List ℕ)) = p.tells.front in
+      record {
+        outcome = quiet (with_queue a.endpoint p.left) [] (map told_event p.told);
+        turn = record { queue = p.left; told = p.told; prepares = p.prepares; is = refl };
+        cut = record {
+          count = length front;
+          added = p.tells.told
+              ∙ ap (λ (es : List (Event (List ℕ))). a.events ++ es)
+              (sym (take-append_seam front p.tells.rest) ∙ ap (take (length front)) (sym p.tells.parts ∙ told_user (ports_of a.endpoint.options) p.told));
+        };
+      }
+
+pub tries_one : {R E : Type 0} (stream : R → Stream) (id : ℕ) (old : Context R) (result : Result (Unit {0}) E) (new : Context R)
+    → view_of new ≡ record (view_of old) { endpoint = with_queue (view_of old).endpoint new.send_queue; events = contents new.events }
+    → TriesStream id old.send_queue (contents old.events) result new.send_queue (contents new.events) → TakesOne stream (OneAt id) old result new
+tries_one {R = R} stream id old (Ok done) new is tries =
+    subst (λ (v : View R). TakesIn stream (OneAt id) (view_of old) v) (sym is) (one_prepared stream id (view_of old) new.send_queue (contents new.events) tries)
+tries_one stream id old (Err error) new is tries = one_stopped stream id (view_of old) (contents new.events) tries
+
+-- ---- whatever a stream is, it may be prepared
+
+any_where : (b : Bool) (id : ℕ) (queue : SendQueueState) → (told : List Told) × (left : SendQueueState) × PreparesWhere b id queue told left
+any_where true id queue = ([], queue, (refl, refl))
+any_where false id queue = (
+  low_told (queued_stream queue id) 0 (has_fallen queue.total_low_threshold queue.total_buffered_amount (queue.total_buffered_amount - 0)) ++ [],
+  queue_pausing id 0 queue,
+  record {
+    bytes = 0;
+    names = [];
+    left = refl;
+    tells = refl;
+    named = omega arith;
+    none = λ zero. refl;
+  },
+)
+
+any_all : (ids : List ℕ) (queue : SendQueueState) → (told : List Told) × (left : SendQueueState) × PreparesAll ids queue told left
+any_all [] queue = ([], queue, none queue)
+any_all (id ∷ ids) queue =
+    let first = any_where (queued_stream queue id).is_paused id queue in
+    let rest = any_all ids first.1 in
+    (first.0 ++ rest.0, rest.1, more id ids queue first.1 rest.1 first.0 rest.0 first.2 rest.2)
+
+any_some : (ids : List ℕ) (e : Endpoint) → (o : Outcome) × PreparesSome ids e o
+any_some ids e =
+    let any = any_all ids e.below.queue in
+    (quiet (with_queue e any.1) [] (map told_event any.0), record { queue = any.1; told = any.0; prepares = any.2; is = refl })
+
+-- ---- several
+
+some_more : (id : ℕ) (ids : List ℕ) (e : Endpoint) (o p : Outcome) → PreparesOne id e o → PreparesSome ids o.after p → PreparesSome (id ∷ ids) e (then_outcome o p)
+some_more id ids e o p h k =
+    let after : o.after ≡ with_queue e h.queue = ap (λ (x : Outcome). x.after) h.is in
+    record {
+      queue = k.queue;
+      told = h.told ++ k.told;
+      prepares = more id ids e.below.queue h.queue k.queue h.told k.told h.prepares (subst (λ (x : Endpoint). PreparesAll ids x.below.queue k.told k.queue) after k.prepares);
+      is = ap (λ (x : Outcome). then_outcome x p) h.is
+          ∙ (ap (then_outcome (quiet (with_queue e h.queue) [] (map told_event h.told))) (k.is ∙ ap (λ (x : Endpoint). quiet (with_queue x k.queue) [] (map told_event k.told)) after)
+          ∙ ap (quiet (with_queue e k.queue) []) (sym (map-append told_event h.told k.told)));
+    }
+
+one_options : (id : ℕ) (e : Endpoint) (o : Outcome) → PreparesOne id e o → o.after.options ≡ e.options
+one_options id e o h = ap (λ (x : Outcome). x.after.options) h.is
+
+some_options : (ids : List ℕ) (e : Endpoint) (o : Outcome) → PreparesSome ids e o → o.after.options ≡ e.options
+some_options ids e o h = ap (λ (x : Outcome). x.after.options) h.is
+
+none_prepared : {R : Type 0} (stream : R → Stream) (a : View R) → TakesIn stream (SomeAt []) a a
+none_prepared stream a =
+    record { outcome = still a.endpoint; turn = record { queue = a.endpoint.below.queue; told = []; prepares = none a.endpoint.below.queue; is = refl }; moves = moves_still stream a }
+
+module _ {R : Type 0} (stream : R → Stream) (id : ℕ) (ids : List ℕ) (a b : View R) where
+  then_prepared : (c : View R) → TakesIn stream (OneAt id) a b → TakesIn stream (SomeAt ids) b c → TakesIn stream (SomeAt (id ∷ ids)) a c
+  then_prepared c h k =
+      record {
+        outcome = then_outcome h.outcome k.outcome;
+        turn = some_more id ids a.endpoint h.outcome k.outcome h.turn (subst (λ (e : Endpoint). PreparesSome ids e k.outcome) h.moves.endpoint k.turn);
+        moves = moves_next stream a b c h.outcome k.outcome (one_options id a.endpoint h.outcome h.turn) h.moves k.moves;
+      }
+
+  then_stopped : (events : List (Event (List ℕ))) → TakesIn stream (OneAt id) a b → CutIn (SomeAt ids) b events → CutIn (SomeAt (id ∷ ids)) a events
+  then_stopped events h k =
+      record {
+        outcome = then_outcome h.outcome k.outcome;
+        turn = some_more id ids a.endpoint h.outcome k.outcome h.turn (subst (λ (e : Endpoint). PreparesSome ids e k.outcome) h.moves.endpoint k.turn);
+        cut = cut_next stream a b h.outcome k.outcome events (one_options id a.endpoint h.outcome h.turn) h.moves k.cut;
+      }
+
+  first_stopped : (events : List (Event (List ℕ))) → CutIn (OneAt id) a events → CutIn (SomeAt (id ∷ ids)) a events
+  first_stopped events h =
+      let any = any_some ids h.outcome.after in
+      record {
+        outcome = then_outcome h.outcome any.0;
+        turn = some_more id ids a.endpoint h.outcome any.0 h.turn any.1;
+        cut = cut_longer a h.outcome (then_outcome h.outcome any.0) any.0.events events refl h.cut;
+      }
+
+-- ---- what is left of some streams
+
+-- What is left of these streams completes the whole, whatever becomes of it.
+pub record GoesOn {R : Type 0} (stream : R → Stream) (all : List ℕ) (start : View R) (left : List ℕ) (here : View R) : Type 0 where
+  pub takes : (new : View R) → TakesIn stream (SomeAt left) here new → TakesIn stream (SomeAt all) start new
+  pub cuts : (events : List (Event (List ℕ))) → CutIn (SomeAt left) here events → CutIn (SomeAt all) start events
+
+pub goes_from_start : {R : Type 0} (stream : R → Stream) (all : List ℕ) (start : View R) → GoesOn stream all start all start
+goes_from_start stream all start = record { takes = λ new h. h; cuts = λ events h. h }
+
+pub goes_next : {R : Type 0} (stream : R → Stream) (all : List ℕ) (start : View R) (id : ℕ) (left : List ℕ) (here next : View R)
+    → GoesOn stream all start (id ∷ left) here → TakesIn stream (OneAt id) here next → GoesOn stream all start left next
+goes_next stream all start id left here next g h =
+    record {
+      takes = λ new k. g.takes new (then_prepared stream id left here next new h k);
+      cuts = λ events k. g.cuts events (then_stopped stream id left here next events h k);
+    }
+
+pub goes_cut : {R : Type 0} (stream : R → Stream) (all : List ℕ) (start : View R) (id : ℕ) (left : List ℕ) (here : View R) (events : List (Event (List ℕ)))
+    → GoesOn stream all start (id ∷ left) here → CutIn (OneAt id) here events → CutIn (SomeAt all) start events
+goes_cut stream all start id left here events g h = g.cuts events (first_stopped stream id left here here events h)
+
+pub goes_done : {R : Type 0} (stream : R → Stream) (all : List ℕ) (start : View R) (left : List ℕ) (here : View R) → left ≡ [] → GoesOn stream all start left here → TakesIn stream (SomeAt all) start here
+goes_done stream all start left here is g =
+    g.takes here (subst (λ (ids : List ℕ). TakesIn stream (SomeAt ids) here here) (sym is) (none_prepared stream here))
+
+-- ---- the turn
+
+resets_where : (ids : List ℕ) (e : Endpoint) (refusal : Option ResetRefusal) (o : Outcome) → refusal ≡ reset_refusal e → OwnResetsWhere refusal e ids o → OwnResetsTurn e ids o
+resets_where ids e refusal o is h = subst (λ (r : Option ResetRefusal). OwnResetsWhere r e ids o) is h
+
+flushes_behind : (ids : List ℕ) (e : Endpoint) (o p : Outcome) → None ≡ reset_refusal e → PreparesSome ids e o → FlushTurn o.after p → OwnResetsTurn e ids (then_outcome o p)
+flushes_behind ids e o p is h k =
+    resets_where ids e None (then_outcome o p) is
+    (record {
+      queue = h.queue;
+      told = h.told;
+      prepares = h.prepares;
+      flushed = p;
+      flushes = subst (λ (x : Endpoint). FlushTurn x p) (ap (λ (x : Outcome). x.after) h.is) k;
+      is = ap (λ (x : Outcome). then_outcome x p) h.is;
+    })
+
+any_flush : (e : Endpoint) → (o : Outcome) × FlushTurn e o
+any_flush e =
+    let any = any_to e (held_in e.core) in
+    (flush_by e (held_in e.core) any.0, (any.0, any.1, refl))
+
+module _ {R : Type 0} (stream : R → Stream) (ids : List ℕ) (a : View R) where
+  pub resets_refused : (refusal : ResetRefusal) → Some refusal ≡ reset_refusal a.endpoint → TakesIn stream (ResetsAt ids) a a
+  resets_refused refusal is =
+      record { outcome = still a.endpoint; turn = resets_where ids a.endpoint (Some refusal) (still a.endpoint) is refl; moves = moves_still stream a }
+
+  pub resets_done : (b c : View R) → None ≡ reset_refusal a.endpoint → TakesIn stream (SomeAt ids) a b → TakesIn stream FlushAt b c → TakesIn stream (ResetsAt ids) a c
+  resets_done b c is h k =
+      record {
+        outcome = then_outcome h.outcome k.outcome;
+        turn = flushes_behind ids a.endpoint h.outcome k.outcome is h.turn (subst (λ (e : Endpoint). FlushTurn e k.outcome) h.moves.endpoint k.turn);
+        moves = moves_next stream a b c h.outcome k.outcome (some_options ids a.endpoint h.outcome h.turn) h.moves k.moves;
+      }
+
+  -- a growth was refused while they were prepared
+  pub resets_cut : (events : List (Event (List ℕ))) → None ≡ reset_refusal a.endpoint → CutIn (SomeAt ids) a events → CutIn (ResetsAt ids) a events
+  resets_cut events is h =
+      let any = any_flush h.outcome.after in
+      record {
+        outcome = then_outcome h.outcome any.0;
+        turn = flushes_behind ids a.endpoint h.outcome any.0 is h.turn any.1;
+        cut = cut_longer a h.outcome (then_outcome h.outcome any.0) any.0.events events refl h.cut;
+      }
+
+  -- or in the flush
+  pub resets_cut_later : (b : View R) (events : List (Event (List ℕ))) → None ≡ reset_refusal a.endpoint → TakesIn stream (SomeAt ids) a b → CutIn FlushAt b events → CutIn (ResetsAt ids) a events
+  resets_cut_later b events is h k =
+      record {
+        outcome = then_outcome h.outcome k.outcome;
+        turn = flushes_behind ids a.endpoint h.outcome k.outcome is h.turn (subst (λ (e : Endpoint). FlushTurn e k.outcome) h.moves.endpoint k.turn);
+        cut = cut_next stream a b h.outcome k.outcome events (some_options ids a.endpoint h.outcome h.turn) h.moves k.cut;
+      }

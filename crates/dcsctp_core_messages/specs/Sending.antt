@@ -1,0 +1,101 @@
+-- What sending does, as turns of a socket's view.
+use Rattle.std.specs.Prelude.{◌≡◌, ℕ, Bool, true, false, Option, Some, None, Result, Ok, Err, List, [], ◌∷◌, ◌++◌}
+use Rattle.std.specs.Option.{option_map}
+use Rattle.rand_core.specs.Stream.{Stream}
+use Rattle.dcsctp_machine.specs.declared.ids.LifecycleId.{LifecycleId}
+use Rattle.dcsctp_machine.specs.Ids.{lifecycle_number}
+use Rattle.dcsctp_machine.specs.Event.{Event, lifecycle_end}
+use Rattle.dcsctp_machine.specs.Packet.{Emission}
+use Rattle.dcsctp_machine.specs.Outcome.{Outcome, still, quiet, reports}
+use Rattle.dcsctp_machine.specs.turns.MessageOutcomes.{MessageRefusal, message_refusal, refusal_kind, refusal_text, refusal_events, Sending, message_queued, queue_one, queue_all, refused_from, takes_any, SendTurn}
+use Rattle.dcsctp_api.specs.declared.errors.BatchSendError.{BatchSendError}
+use Rattle.dcsctp_api.specs.declared.errors.SendError.{SendError}
+use Rattle.dcsctp_api.specs.Messages.{refusal_of, refusal_in, refused_in, IsBatchAnswer}
+use Rattle.dcsctp_core.specs.declared.context.Context.{Context}
+use Rattle.dcsctp_core.specs.View.{View, view_of, Moves, CutTurn}
+use Rattle.dcsctp_core.specs.Handling.{Tries, TakesIn, CutIn, TakesOne, FlushAt}
+use Rattle.dcsctp_core_messages.specs.declared.queueing.QueuedAll.{QueuedAll}
+
+-- ---- a message that is refused
+
+-- what is told of the message of this name, where it has one
+abbrev pub end_events : Option LifecycleId → List (Event Emission)
+end_events None = []
+end_events (Some id) = lifecycle_end (lifecycle_number id) ∷ []
+
+abbrev pub end_turn : {R : Type 0} → Option LifecycleId → View R → Outcome
+end_turn id view = quiet view.endpoint [] (end_events id)
+
+-- The end of a message of this name is told, where it has one; or a growth was refused, and nothing has changed.
+abbrev pub EndTold : {R E : Type 0} → (R → Stream) → Option LifecycleId → Context R → Result (Unit {0}) E → Context R → Type 0
+EndTold stream id old result new = Tries stream (end_turn id) old result new
+
+-- Why a message is refused is told; or a growth was refused, and nothing has changed.
+abbrev pub ErrorTold : {R E : Type 0} → (R → Stream) → MessageRefusal → Context R → Result (Unit {0}) E → Context R → Type 0
+ErrorTold stream refusal old result new =
+    Tries stream (λ view. reports view.endpoint (refusal_kind refusal) (refusal_text refusal)) old result new
+
+abbrev pub refusal_turn : {R : Type 0} → MessageRefusal → Option LifecycleId → View R → Outcome
+refusal_turn refusal id view = quiet view.endpoint [] (refusal_events refusal (option_map lifecycle_number id))
+
+-- ---- a message that is taken or refused
+
+abbrev pub queued_turn : {R : Type 0} → Sending → View R → Outcome
+queued_turn message view = still (message_queued view.endpoint message)
+
+-- The message was taken or refused; or a growth was refused, and the first of its events may stand.
+abbrev pub Queues : {R E : Type 0} → (R → Stream) → Sending → Context R → Result (Option SendError) E → Context R → Type 0
+Queues stream message old (Ok refused) new =
+    (option_map refusal_of refused ≡ message_refusal (view_of old).endpoint message.stream message.bytes)
+    × Moves stream (view_of old) (queue_one (view_of old).endpoint message) (view_of new)
+Queues stream message old (Err error) new = CutTurn (view_of old) (queue_one (view_of old).endpoint message) (view_of new).events
+
+-- It is noted whether the message of this place was refused.
+abbrev pub NotedAt : ℕ → Option MessageRefusal → QueuedAll → QueuedAll → Type 0
+NotedAt place None old new = (new.refused.items ≡ old.refused.items) × (new.has_taken ≡ true)
+NotedAt place (Some refusal) old new =
+    (refused_in new.refused.items ≡ refused_in old.refused.items ++ record { place = place; refusal = refusal } ∷ [])
+    × (new.has_taken ≡ old.has_taken)
+
+-- The message of this place was taken or refused, and that was noted; or a growth was refused, and the first of its events may
+-- stand.
+abbrev pub QueuesAt : {R E : Type 0} → (R → Stream) → ℕ → Sending → QueuedAll → Context R → Result (Unit {0}) E → QueuedAll → Context R → Type 0
+QueuesAt stream place message queued old (Ok done) queued_then new =
+    NotedAt place (message_refusal (view_of old).endpoint message.stream message.bytes) queued queued_then
+    × Moves stream (view_of old) (queue_one (view_of old).endpoint message) (view_of new)
+QueuesAt stream place message queued old (Err error) queued_then new = CutTurn (view_of old) (queue_one (view_of old).endpoint message) (view_of new).events
+
+-- Each of these was taken or refused.
+pub record AreQueued {R : Type 0} (stream : R → Stream) (messages : List Sending) (old : View R) (queued : QueuedAll) (new : View R) : Type 0 where
+  pub refused : refused_in queued.refused.items ≡ refused_from 0 old.endpoint messages
+  pub taken : queued.has_taken ≡ takes_any old.endpoint messages
+  pub moves : Moves stream old (queue_all old.endpoint messages) new
+
+abbrev pub QueuesAll : {R E : Type 0} → (R → Stream) → List Sending → Context R → Result QueuedAll E → Context R → Type 0
+QueuesAll stream messages old (Ok queued) new = AreQueued stream messages (view_of old) queued (view_of new)
+QueuesAll stream messages old (Err error) new = CutTurn (view_of old) (queue_all (view_of old).endpoint messages) (view_of new).events
+
+-- ---- send and send_many
+
+abbrev pub SendAt : {R : Type 0} → List Sending → View R → Outcome → Type 0
+SendAt messages view o = SendTurn view.endpoint messages o
+
+-- The message was sent or refused; or a growth was refused, and the first of the turn's events may stand.
+abbrev pub SendsOne : {R E : Type 0} → (R → Stream) → Sending → Context R → Result (Result (Unit {0}) SendError) E → Context R → Type 0
+SendsOne stream message old (Ok answer) new =
+    (refusal_in answer ≡ message_refusal (view_of old).endpoint message.stream message.bytes)
+    × TakesIn stream (SendAt (message ∷ [])) (view_of old) (view_of new)
+SendsOne stream message old (Err error) new = CutIn (SendAt (message ∷ [])) (view_of old) (view_of new).events
+
+-- the same of several
+abbrev pub SendsAll : {R E : Type 0} → (R → Stream) → List Sending → Context R → Result (Result (Unit {0}) BatchSendError) E → Context R → Type 0
+SendsAll stream messages old (Ok answer) new =
+    IsBatchAnswer (refused_from 0 (view_of old).endpoint messages) answer
+    × TakesIn stream (SendAt messages) (view_of old) (view_of new)
+SendsAll stream messages old (Err error) new = CutIn (SendAt messages) (view_of old) (view_of new).events
+
+-- What waits went out, where it was to; else nothing has changed.
+abbrev pub FlushesWhere : {R E : Type 0} → (R → Stream) → Bool → Context R → Result (Unit {0}) E → Context R → Type 0
+FlushesWhere stream true old result new = TakesOne stream FlushAt old result new
+FlushesWhere stream false old (Ok done) new = view_of new ≡ view_of old
+FlushesWhere stream false old (Err error) new = ⊥

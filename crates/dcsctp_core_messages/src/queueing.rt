@@ -1,0 +1,106 @@
+//! Messages that enter the send queue, or are refused.
+
+ghost use Rattle.std.specs.Prelude.{◌<◌, vec_len, map};
+ghost use Rattle.dcsctp_machine.specs.Transfer.{message_content};
+ghost use Rattle.dcsctp_machine.specs.turns.MessageOutcomes.{sending_of};
+ghost use Rattle.dcsctp_core.specs.Handling.{Tries};
+ghost use Rattle.dcsctp_core_messages.specs.Sending.{queued_turn, Queues, QueuesAt, QueuesAll};
+
+use crate::refusal::{refusal, tell_refusal};
+use dcsctp_api::{Message, SendError, SendOptions};
+use dcsctp_core::Context;
+use rand_core::Rng;
+use std::alloc::AllocError;
+
+/// What came of messages that were to be queued.
+#[derive(Drop)]
+pub(crate) struct QueuedAll {
+    /// Those that were refused, in ascending order: the place of each, from 0, and why.
+    pub refused: Vec<(usize, SendError)>,
+
+    /// Was one of them taken?
+    pub has_taken: bool,
+}
+
+// Takes a message that isn't refused into the queue. The one error is that a growth was refused. Nothing has
+// changed then.
+fn add_message<R: Rng>(
+    context: &mut Context<R>,
+    message: Message,
+    options: &SendOptions,
+) -> Result<(), AllocError>
+    requires { 0 < vec_len message.payload }
+    ensures { Tries R.stream (queued_turn (sending_of options.now (message_content message))) context.old result
+        context.new }
+{
+    context.send_queue.add(context.moment, message, options)?;
+    context.count_message();
+    Ok(())
+}
+
+/// Takes a message into the queue, or refuses it and tells so; why it is refused is answered.
+///
+/// The one error is that a growth was refused. The first of the events may stand then.
+pub(crate) fn queue_message<R: Rng>(
+    context: &mut Context<R>,
+    message: Message,
+    options: &SendOptions,
+) -> Result<Option<SendError>, AllocError>
+    ensures { Queues R.stream (sending_of options.now (message_content message)) context.old result
+        context.new }
+{
+    match refusal(context, message.stream_id, message.payload.len()) {
+        Some(error) => {
+            tell_refusal(context, error, options.lifecycle_id)?;
+            Ok(Some(error))
+        }
+        None => {
+            add_message(context, message, options)?;
+            Ok(None)
+        }
+    }
+}
+
+// Takes the message of this place or refuses it, and notes which.
+//
+// The one error is that a growth was refused. The first of the events may stand then.
+fn queue_at<R: Rng>(
+    context: &mut Context<R>,
+    place: usize,
+    message: Message,
+    options: &SendOptions,
+    queued: &mut QueuedAll,
+) -> Result<(), AllocError>
+    ensures { QueuesAt R.stream place (sending_of options.now (message_content message)) queued.old context.old
+        result queued.new context.new }
+{
+    match queue_message(context, message, options)? {
+        Some(error) => queued.refused.push((place, error))?,
+        None => queued.has_taken = true,
+    }
+    Ok(())
+}
+
+/// Takes several messages or refuses them, one after another.
+///
+/// The one error is that a growth was refused. The first of the events may stand then.
+pub(crate) fn queue_messages<R: Rng>(
+    context: &mut Context<R>,
+    messages: Vec<Message>,
+    options: &SendOptions,
+) -> Result<QueuedAll, AllocError>
+    ensures { QueuesAll R.stream (map (sending_of options.now) (map message_content messages.items))
+        context.old result context.new }
+{
+    let mut queued = QueuedAll {
+        refused: Vec::new(context.alloc),
+        has_taken: false,
+    };
+    let mut place = 0;
+    let mut waiting = messages.into_iter();
+    while let Some(message) = waiting.next() {
+        queue_at(context, place, message, options, &mut queued)?;
+        place += 1;
+    }
+    Ok(queued)
+}

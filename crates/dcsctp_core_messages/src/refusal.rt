@@ -1,0 +1,110 @@
+//! Messages that are refused: why, and what the user is told.
+
+ghost use Rattle.std.specs.Prelude.{◌≡◌};
+ghost use Rattle.std.specs.Option.{option_map};
+ghost use Rattle.dcsctp_machine.specs.turns.MessageOutcomes.{message_refusal, refusal_kind, refusal_text, is_full};
+ghost use Rattle.dcsctp_api.specs.Messages.{refusal_of};
+ghost use Rattle.dcsctp_core.specs.View.{endpoint_of};
+ghost use Rattle.dcsctp_core.specs.Handling.{Takes};
+ghost use Rattle.dcsctp_core_messages.specs.Sending.{refusal_turn, EndTold, ErrorTold};
+
+use dcsctp_api::{ErrorKind, LifecycleId, SendError, SocketEvent, StreamId};
+use dcsctp_core::Context;
+use rand_core::Rng;
+use std::alloc::AllocError;
+
+/// Why a message of so many bytes is refused on this stream: the first reason that there is. It takes no
+/// memory.
+pub(crate) fn refusal<R: Rng>(
+    context: &Context<R>,
+    stream_id: StreamId,
+    len: usize,
+) -> Option<SendError>
+    ensures { option_map refusal_of result ≡ message_refusal (endpoint_of context.now) stream_id.0 len }
+{
+    let limit = context.options.max_message_size;
+    if len == 0 {
+        return Some(SendError::EmptyPayload);
+    }
+    if limit < len {
+        return Some(SendError::MessageTooLarge { len, limit });
+    }
+    if context.state.is_shutting_down() {
+        return Some(SendError::ShuttingDown);
+    }
+    if has_no_room(context, stream_id) {
+        return Some(SendError::ResourceExhaustion);
+    }
+    None
+}
+
+// Does as much wait as may wait, in all or on this stream?
+fn has_no_room<R: Rng>(context: &Context<R>, stream_id: StreamId) -> bool
+    ensures { result ≡ is_full (endpoint_of context.now).options (endpoint_of context.now).below.queue stream_id.0 }
+{
+    context.options.max_send_buffer_size <= context.send_queue.total_buffered_amount()
+        || context.options.per_stream_send_queue_limit
+            <= context.send_queue.buffered_amount(stream_id)
+}
+
+// Tells that the message of this name has come to its end, where it has one. The one error is that a growth
+// was refused. Nothing has changed then.
+fn tell_end<R: Rng>(
+    context: &mut Context<R>,
+    lifecycle_id: Option<LifecycleId>,
+) -> Result<(), AllocError>
+    ensures { EndTold R.stream lifecycle_id context.old result context.new }
+{
+    if let Some(id) = lifecycle_id {
+        context.events.add(SocketEvent::OnLifecycleEnd(id))?;
+    }
+    Ok(())
+}
+
+// What kind of error it is that a message is refused so.
+fn kind_of(error: SendError) -> ErrorKind
+    ensures { result ≡ refusal_kind (refusal_of error) }
+{
+    match error {
+        SendError::EmptyPayload => ErrorKind::ProtocolViolation,
+        SendError::MessageTooLarge { len: _, limit: _ } => ErrorKind::ProtocolViolation,
+        SendError::ShuttingDown => ErrorKind::WrongSequence,
+        SendError::ResourceExhaustion => ErrorKind::ResourceExhaustion,
+    }
+}
+
+// What is told of it.
+fn text_of(error: SendError) -> &'static str
+    ensures { result.now ≡ refusal_text (refusal_of error) }
+{
+    match error {
+        SendError::EmptyPayload => "Unable to send empty message",
+        SendError::MessageTooLarge { len: _, limit: _ } => "Unable to send too large message",
+        SendError::ShuttingDown => "Unable to send message as the socket is shutting down",
+        SendError::ResourceExhaustion => "Unable to send message as the send queue is full",
+    }
+}
+
+// Reports why a message is refused. The one error is that a growth was refused. Nothing has changed then.
+fn report_refusal<R: Rng>(context: &mut Context<R>, error: SendError) -> Result<(), AllocError>
+    ensures { ErrorTold R.stream (refusal_of error) context.old result context.new }
+{
+    let text = String::from_str(context.alloc, text_of(error))?;
+    context.report(kind_of(error), text)?;
+    Ok(())
+}
+
+/// Tells the user that a message of this name is refused: its end, where it has a name, and then why.
+///
+/// The one error is that a growth was refused. The first of these events may stand then.
+pub(crate) fn tell_refusal<R: Rng>(
+    context: &mut Context<R>,
+    error: SendError,
+    lifecycle_id: Option<LifecycleId>,
+) -> Result<(), AllocError>
+    ensures { Takes R.stream (refusal_turn (refusal_of error) lifecycle_id) context.old result context.new }
+{
+    tell_end(context, lifecycle_id)?;
+    report_refusal(context, error)?;
+    Ok(())
+}

@@ -1,0 +1,74 @@
+//! `reset_streams` (RFC 6525, section 5.1.2).
+
+ghost use Rattle.std.specs.Prelude.{◌≡◌};
+ghost use Rattle.std.specs.Option.{option_map};
+ghost use Rattle.dcsctp_machine.specs.Ids.{stream_numbers};
+ghost use Rattle.dcsctp_machine.specs.turns.PreparedResets.{reset_refusal};
+ghost use Rattle.dcsctp_api.specs.Resets.{reset_refusal_of};
+ghost use Rattle.dcsctp_core.specs.View.{endpoint_of};
+ghost use Rattle.dcsctp_core.specs.Handling.{TakesOne};
+ghost use Rattle.dcsctp_core_messages.specs.Resetting.{OneAt, SomeAt, ResetsAll};
+
+use dcsctp_api::{ResetStreamsError, StreamId};
+use dcsctp_core::Context;
+use rand_core::Rng;
+use std::alloc::AllocError;
+
+/// Resets own streams: each is prepared in turn, and then what waits goes out. Where no peer is held, or resets
+/// weren't negotiated, that is refused, and nothing changes.
+///
+/// The one error is that a growth was refused. The first events of the turn may stand then.
+pub fn do_reset_streams<R: Rng>(
+    context: &mut Context<R>,
+    stream_ids: &[StreamId],
+) -> Result<Result<(), ResetStreamsError>, AllocError>
+    ensures { ResetsAll R.stream (stream_numbers stream_ids.now) context.old result context.new }
+{
+    match refusal(context) {
+        Some(error) => Ok(Err(error)),
+        None => {
+            prepare_streams(context, stream_ids)?;
+            context.send_buffered_packets()?;
+            Ok(Ok(()))
+        }
+    }
+}
+
+// Why no stream can be reset. It takes no memory.
+fn refusal<R: Rng>(context: &Context<R>) -> Option<ResetStreamsError>
+    ensures { option_map reset_refusal_of result ≡ reset_refusal (endpoint_of context.now) }
+{
+    match context.state.tcb() {
+        None => Some(ResetStreamsError::NotConnected),
+        Some(tcb) => {
+            if tcb.capabilities.reconfig {
+                return None;
+            }
+            Some(ResetStreamsError::NotSupported)
+        }
+    }
+}
+
+// Prepares a stream for its reset. The one error is that a growth was refused. The first of its events may
+// stand then.
+fn prepare_stream<R: Rng>(context: &mut Context<R>, stream_id: StreamId) -> Result<(), AllocError>
+    ensures { TakesOne R.stream (OneAt stream_id.0) context.old result context.new }
+{
+    context
+        .send_queue
+        .prepare_reset_stream(&mut context.events, stream_id)
+}
+
+// Prepares one stream after another. The one error is that a growth was refused. The first of the events may
+// stand then.
+fn prepare_streams<R: Rng>(
+    context: &mut Context<R>,
+    stream_ids: &[StreamId],
+) -> Result<(), AllocError>
+    ensures { TakesOne R.stream (SomeAt (stream_numbers stream_ids.now)) context.old result context.new }
+{
+    for stream_id in stream_ids {
+        prepare_stream(context, *stream_id)?;
+    }
+    Ok(())
+}

@@ -1,0 +1,16 @@
+//! `get_next_message`.
+
+ghost use Rattle.dcsctp_core.specs.View.{view_of};
+ghost use Rattle.dcsctp_core_messages.specs.Taking.{TakesNextOf};
+
+use dcsctp_api::Message;
+use dcsctp_core::Context;
+use rand_core::Rng;
+
+/// Takes the message that became ready first, where one is ready, and gives its bytes back to the receive
+/// window (RFC 9260, section 6.2). It takes no memory.
+pub fn get_next_message<R: Rng>(context: &mut Context<R>) -> Option<Message>
+    ensures { TakesNextOf (view_of context.old) result (view_of context.new) }
+{
+    context.state.get_next_message()
+}

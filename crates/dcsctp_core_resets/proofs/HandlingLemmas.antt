@@ -1,0 +1,681 @@
+-- A RE-CONFIG comes in: its streams, its answers, and all of its turn.
+use Rattle.std.proofs.Common.{◌≡◌, ◌==◌, ◌+◌, ℕ, nat_le, not, length, arith, Bool, true, false, Option, None, Some, Result, Ok, Err, List, [], ◌∷◌, ◌++◌, map, take, refl, sym, ap, subst, ◌∙◌, append_assoc}
+use Rattle.std.specs.Prelude.{is_some, IsTrue, ◌↔◌, ◌≢◌}
+use Rattle.std.specs.Option.{option_map}
+use Rattle.std.proofs.lemmas.Bool.Decides.{nat_tests}
+use Rattle.std.proofs.lemmas.List.{append-nil, map-append}
+use Rattle.rand_core.specs.Stream.{Stream}
+use Rattle.dcsctp_wire.specs.declared.parameter.Parameter.{Parameter}
+use Rattle.dcsctp_wire.specs.Content.{re_config_chunk}
+use Rattle.dcsctp_wire.specs.Spelling.{chunk_bytes, header_bytes, packet_bytes_of}
+use Rattle.dcsctp_machine.specs.declared.association.Pair.{Pair}
+use Rattle.dcsctp_machine.specs.declared.association.Held.{Held}
+use Rattle.dcsctp_machine.specs.declared.kinds.ErrorKind.TheVariants.{ProtocolViolation}
+use Rattle.dcsctp_wire.specs.declared.reconfiguration.ReconfigurationResponseResult.{ReconfigurationResponseResult}
+use Rattle.dcsctp_wire.specs.declared.reconfiguration.ReconfigurationResponseResult.TheVariants.{SuccessNothingToDo, SuccessPerformed, Denied, ErrorWrongSSN, ErrorRequestAlreadyInProgress, ErrorBadSequenceNumber, InProgress}
+use Rattle.dcsctp_machine.specs.Settings.{Ports, ports_of, packet_size_limit}
+use Rattle.dcsctp_machine.specs.Event.{Event, sent, incoming_stream_reset}
+use Rattle.dcsctp_machine.specs.Packet.{Content, re_config, chunk_out, Emission, emission_bytes}
+use Rattle.dcsctp_machine.specs.Reconfiguration.{RequestedReset, ResetParameter, outgoing_reset_request, incoming_reset_request, reconfiguration_response, other_reset_parameter, reset_parameter_content}
+use Rattle.dcsctp_machine.specs.Transfer.{Transfer}
+use Rattle.dcsctp_machine.specs.Endpoint.{Endpoint, Core, cookie_echoed, open_in, OpenPhase, held_in}
+use Rattle.std.specs.Prelude.{if◌then◌else◌}
+use Rattle.dcsctp_machine.specs.Outcome.{Outcome, still, quiet, sends, emits, counted, fits, noting, to_peer}
+use Rattle.dcsctp_machine.specs.control.Effect.{Effect, drawn_in}
+use Rattle.dcsctp_machine.specs.control.ResetChanges.{Place, again, next, astray, place_of, Answered, incoming_by, Informed, informed_by, is_outstanding, informed_where, WorkedParameters, work_parameters, work_chunk}
+use Rattle.dcsctp_machine.specs.turns.FlushOutcomes.{is_none, Answer, draft_to, flush_of, first_ask, packets_allowed}
+use Rattle.dcsctp_machine.specs.turns.DataOutcomes.{flush_by, AnswersTo, FlushTurn}
+use Rattle.dcsctp_machine.specs.turns.ResetOutcomes.{requested_in, is_reached, worked_in, OwnAnswer, unanswered, retried, over, own_moved, own_answer, in_progress_among, answered_in, worked_part, own_streams, has_reset, ResetsBelow, ResetsStreams, their_streams, told_of, core_with, resets_worked, reset_refusal_text, responses_outcome, responses_by, ResponseAnswers, resets_by, WorksResets, ResetTurn}
+use Rattle.dcsctp_machine.proofs.AnswerLemmas.{any_answers}
+use Rattle.dcsctp_machine.proofs.TurnLemmas.{drawn_in-append}
+use Rattle.dcsctp_api.specs.Calls.{user_event}
+use Rattle.dcsctp_core.specs.declared.context.Context.{Context}
+use Rattle.dcsctp_core.specs.declared.state.State.{State}
+use Rattle.dcsctp_core.specs.declared.transmission_control_block.TransmissionControlBlock.{TransmissionControlBlock}
+use Rattle.dcsctp_core.specs.declared.state.State.TheVariants.{Closed, CookieWait, CookieEchoed, Open}
+use Rattle.dcsctp_core.specs.Reconfiguring.{request_in}
+use Rattle.dcsctp_core.specs.View.{View, Drawn, number_of, tcb_of, held_of, phase_in, core_of, outstanding_of, transfer_of, endpoint_of, view_of, Moves}
+use Rattle.dcsctp_core.specs.Handling.{Tries, Emits, emitted, report_turn, FlushAt, TakesIn, CutIn, TakesOne}
+use Rattle.dcsctp_core.specs.Below.{ChangesBelow}
+use Rattle.dcsctp_core.proofs.BelowLemmas.{below_view, same_view}
+use Rattle.dcsctp_core.proofs.Moving.{moves_still}
+use Rattle.dcsctp_core.proofs.Composing.{behind, Adds, Draws, moves_behind, moves_as, cut_behind, cut_first, cut_longer, moves_noting, cut_noting}
+use Rattle.dcsctp_core_resets.specs.declared.requests.LastRequest.{LastRequest}
+use Rattle.dcsctp_core_resets.specs.declared.requests.Treatment.{Treatment}
+use Rattle.dcsctp_core_resets.specs.declared.requests.Treatment.TheVariants.{Nothing, Deferred, Performed}
+use Rattle.dcsctp_core_resets.specs.declared.requests.WorkedRequests.{WorkedRequests}
+use Rattle.dcsctp_core_resets.specs.declared.requests.OwnAnswer.TheVariants as own
+use Rattle.dcsctp_core_resets.specs.declared.requests.OwnAnswer as requests
+use Rattle.dcsctp_core_resets.specs.Requests.{reset_parameters, held_with, held_out, held_now, is_performed, treated_events, left_out, own_kind, own_events, told_so, WorksChunk}
+use Rattle.dcsctp_core_resets.proofs.RequestLemmas.{resets_of, has_both}
+use Rattle.dcsctp_core_resets.specs.Resets.{ReConfigAt, last_in, core_asked, asked_at, left_at, is_performed_for, told_for, Treats, core_settled, settled_at, own_told, told_both, told_where, responses_to, responses_turn, FinishAt}
+use Rattle.dcsctp_core_resets.proofs.SettlingLemmas.{none_numbered}
+
+-- ---- the answers, and what waits behind them
+
+-- An error in place of both.
+told_of_error : {R E : Type 0} (stream : R → Stream) (old : Context R) (result : Result (Unit {0}) E) (new : Context R) (held : Held) (parameters responses : List ResetParameter)
+    → Tries stream (report_turn ProtocolViolation (reset_refusal_text parameters)) old result new → TakesOne stream (FinishAt held true parameters responses) old result new
+told_of_error stream old (Ok done) new held parameters responses h =
+    record { outcome = report_turn ProtocolViolation (reset_refusal_text parameters) (view_of old); turn = ([], refl, refl); moves = h }
+told_of_error {R = R} stream old (Err fault) new held parameters responses h =
+    record {
+      outcome = report_turn ProtocolViolation (reset_refusal_text parameters) (view_of old);
+      turn = ([], refl, refl);
+      cut = cut_first (view_of old) (report_turn ProtocolViolation (reset_refusal_text parameters) (view_of old)) (view_of new).events (ap (λ (v : View R). v.events) h);
+    }
+
+pub refused_finish : {R E : Type 0} (stream : R → Stream) (old : Context R) (result : Result (Unit {0}) E) (new : Context R) (held : Held) (b : Bool) (parameters responses : List ResetParameter) → b ≡ true
+    → Tries stream (report_turn ProtocolViolation (reset_refusal_text parameters)) old result new → TakesOne stream (FinishAt held b parameters responses) old result new
+refused_finish stream old result new held b parameters responses is h =
+    subst (λ (x : Bool). TakesOne stream (FinishAt held x parameters responses) old result new) (sym is) (told_of_error stream old result new held parameters responses h)
+
+-- the flush where a peer is held
+held_flush : (e : Endpoint) (peer : Option Held) (held : Held) (o : Outcome) → peer ≡ Some held → (answers : List Answer) × AnswersTo e peer answers × (o ≡ flush_by e peer answers)
+    → (answers : List Answer) × AnswersTo e (Some held) answers × (o ≡ flush_by e (Some held) answers)
+held_flush e peer held o is turn = subst (λ (p : Option Held). (answers : List Answer) × AnswersTo e p answers × (o ≡ flush_by e p answers)) is turn
+
+-- What goes out as an answer leaves the peer as it was, and draws nothing.
+record Answers (e : Endpoint) (o : Outcome) : Type 0 where
+  held : held_in o.after.core ≡ held_in e.core
+  ports : ports_of o.after.options ≡ ports_of e.options
+  words : o.words ≡ []
+  effects : o.effects ≡ []
+
+emitted_answers : (b : Bool) (e : Endpoint) (emission : Emission) → Answers e (if b then sends e [] [] emission else quiet e [] [])
+emitted_answers true e emission = record { held = refl; ports = refl; words = refl; effects = refl }
+emitted_answers false e emission = record { held = refl; ports = refl; words = refl; effects = refl }
+
+answers_of : (e : Endpoint) (held : Held) (responses : List ResetParameter) → Answers e (responses_outcome e held responses)
+answers_of e held [] = record { held = refl; ports = refl; words = refl; effects = refl }
+answers_of e held (response ∷ responses) = emitted_answers (fits e (to_peer held (re_config (response ∷ responses)))) e (to_peer held (re_config (response ∷ responses)))
+
+-- the same of the turn that the handler takes
+turn_is : {R : Type 0} (old : Context R) (held : Held) (responses : List ResetParameter) → held_in (core_of old.state) ≡ Some held → responses_turn responses (view_of old) ≡ responses_outcome (endpoint_of old) held responses
+turn_is old held responses holds = ap (λ (p : Option Held). responses_to (endpoint_of old) p responses) holds
+
+-- These events were added, and nothing was drawn.
+sent_adds : {R : Type 0} (stream : R → Stream) (old mid : View R) (o : Outcome) → Answers old.endpoint o → Moves stream old o mid → Adds old o.events mid
+sent_adds stream old mid o a moves = record { ports = ap (λ (e : Endpoint). ports_of e.options) moves.endpoint ∙ a.ports; events = moves.events }
+
+sent_draws : {R : Type 0} (stream : R → Stream) (old mid : View R) (o : Outcome) → Answers old.endpoint o → Moves stream old o mid → Draws stream old [] mid
+sent_draws stream old mid o a moves =
+    record {
+      words = moves.words ∙ ap (λ ws. old.words ++ ws) a.words;
+      pairs = moves.pairs ∙ ap (λ (es : List Effect). old.pairs ++ drawn_in es) a.effects ∙ append-nil old.pairs;
+      drawn = subst (λ ws. Drawn (stream old.generator) ws (stream mid.generator)) a.words moves.drawn;
+    }
+
+-- where the flush begins
+flush_here : {R : Type 0} (stream : R → Stream) (old : Context R) (mid : View R) (held : Held) (responses : List ResetParameter) (o : Outcome) → held_in (core_of old.state) ≡ Some held
+    → Moves stream (view_of old) (responses_outcome (endpoint_of old) held responses) mid → FlushAt mid o
+    → (answers : List Answer) × AnswersTo (responses_outcome (endpoint_of old) held responses).after (Some held) answers × (o ≡ flush_by (responses_outcome (endpoint_of old) held responses).after (Some held) answers)
+flush_here stream old mid held responses o holds moves turn =
+    let sent : Outcome = responses_outcome (endpoint_of old) held responses in
+    held_flush sent.after (held_in sent.after.core) held o ((answers_of (endpoint_of old) held responses).held ∙ holds)
+    (subst (λ (e : Endpoint). FlushTurn e o) moves.endpoint turn)
+
+pub finished : {R : Type 0} (stream : R → Stream) (old : Context R) (mid new : View R) (held : Held) (b : Bool) (parameters responses : List ResetParameter) → b ≡ false → held_in (core_of old.state) ≡ Some held
+    → Moves stream (view_of old) (responses_turn responses (view_of old)) mid → TakesIn stream FlushAt mid new → TakesIn stream (FinishAt held b parameters responses) (view_of old) new
+finished stream old mid new held true parameters responses is holds first second = absurd (cc)
+finished stream old mid new held false parameters responses is holds first second =
+    let e : Endpoint = endpoint_of old in
+    let sent : Outcome = responses_outcome e held responses in
+    let a : Answers e sent = answers_of e held responses in
+    let moves : Moves stream (view_of old) sent mid = moves_as stream (view_of old) mid _ sent (sym (turn_is old held responses holds)) first in
+    let flush = flush_here stream old mid held responses second.outcome holds moves second.turn in
+    record {
+      outcome = behind [] sent.events second.outcome;
+      turn = (flush.0, flush.1, ap (behind [] sent.events) flush.2);
+      moves = moves_behind stream (view_of old) mid new [] sent.events second.outcome (sent_adds stream (view_of old) mid sent a moves) (sent_draws stream (view_of old) mid sent a moves) second.moves;
+    }
+
+pub finish_cut : {R : Type 0} (stream : R → Stream) (old : Context R) (mid : View R) (events : List (Event (List ℕ))) (held : Held) (b : Bool) (parameters responses : List ResetParameter) → b ≡ false
+    → held_in (core_of old.state) ≡ Some held → Moves stream (view_of old) (responses_turn responses (view_of old)) mid → CutIn FlushAt mid events → CutIn (FinishAt held b parameters responses) (view_of old) events
+finish_cut stream old mid events held true parameters responses is holds first second = absurd (cc)
+finish_cut stream old mid events held false parameters responses is holds first second =
+    let e : Endpoint = endpoint_of old in
+    let sent : Outcome = responses_outcome e held responses in
+    let a : Answers e sent = answers_of e held responses in
+    let moves : Moves stream (view_of old) sent mid = moves_as stream (view_of old) mid _ sent (sym (turn_is old held responses holds)) first in
+    let flush = flush_here stream old mid held responses second.outcome holds moves second.turn in
+    record {
+      outcome = behind [] sent.events second.outcome;
+      turn = (flush.0, flush.1, ap (behind [] sent.events) flush.2);
+      cut = cut_behind (view_of old) mid [] sent.events second.outcome events (sent_adds stream (view_of old) mid sent a moves) second.cut;
+    }
+
+-- what the flush may be answered
+some_answers : (refused : Bool) (e : Endpoint) (held : Held) (responses : List ResetParameter) → (answers : List Answer) × ResponseAnswers refused e held responses answers
+some_answers true e held responses = ([], refl)
+some_answers false e held responses =
+    let after : Endpoint = (responses_outcome e held responses).after in
+    any_answers first_ask (packets_allowed after.options.max_burst after.core) after (draft_to held)
+
+-- Nothing of it has happened.
+pub finish_refused : {R : Type 0} (old : Context R) (new : View R) (held : Held) (b : Bool) (parameters responses : List ResetParameter) → new ≡ view_of old → CutIn (FinishAt held b parameters responses) (view_of old) new.events
+finish_refused {R = R} old new held b parameters responses same =
+    let e : Endpoint = endpoint_of old in
+    let some = some_answers b e held responses in
+    let o : Outcome = responses_by b e [] held parameters responses some.0 in
+    record { outcome = o; turn = (some.0, some.1, refl); cut = cut_first (view_of old) o new.events (ap (λ (v : View R). v.events) same) }
+
+-- ---- the streams
+
+left_same : (found : Option Transfer) → ResetsBelow false found found
+left_same None = refl
+left_same (Some transfer) = refl
+
+-- Nothing below has changed, and nothing is told.
+pub untreated : {R : Type 0} (view : View R) → view ≡ left_at view view.endpoint.below.transfer []
+untreated view = ap (λ (es : List (Event (List ℕ))). let v : View _ = record view { events = es } in v) (sym (append-nil view.events))
+
+pub nothing_treated : {R : Type 0} (treatment : Treatment) (reset : Option RequestedReset) (old : Context R) (new : View R) → is_performed_for treatment reset ≡ false → told_for treatment reset ≡ [] → new ≡ view_of old
+    → (left : Option Transfer) × ResetsBelow (is_performed_for treatment reset) (transfer_of old.state) left × (new ≡ left_at (view_of old) left (told_for treatment reset))
+nothing_treated treatment reset old new none told same = (
+  transfer_of old.state,
+  subst (λ (b : Bool). ResetsBelow b (transfer_of old.state) (transfer_of old.state)) (sym none) (left_same (transfer_of old.state)),
+  same ∙ untreated (view_of old) ∙ ap (left_at (view_of old) (transfer_of old.state)) (sym told),
+)
+
+-- Streams were reset below an association.
+performed_by : {R : Type 0} (old : Context R) (state : State) (found : Option Transfer) → transfer_of old.state ≡ found → ChangesBelow ResetsStreams found old.state state
+    → (left : Option Transfer) × ResetsBelow true found left × (view_of (record old { state = state }) ≡ record (view_of old) { endpoint = record (endpoint_of old) { below = record (endpoint_of old).below { transfer = left } } })
+performed_by {R = R} old state None holds changes =
+    (None, refl, same_view old state changes ∙ ap (λ (f : Option Transfer). let v : View R = record (view_of old) { endpoint = record (endpoint_of old) { below = record (endpoint_of old).below { transfer = f } } } in v) holds)
+performed_by old state (Some transfer) holds changes = (Some changes.0, (changes.0, refl, changes.2), below_view old state transfer changes.0 holds changes.1)
+
+pub performed : {R : Type 0} (old : Context R) (state : State) (events : List (Event (List ℕ))) (reset : RequestedReset) → ChangesBelow ResetsStreams (transfer_of old.state) old.state state
+    → events ≡ (view_of old).events ++ incoming_stream_reset reset.streams ∷ []
+    → (left : Option Transfer) × ResetsBelow true (transfer_of old.state) left × (record (view_of (record old { state = state })) { events = events } ≡ left_at (view_of old) left (incoming_stream_reset reset.streams ∷ []))
+performed {R = R} old state events reset changes told =
+    let h = performed_by old state (transfer_of old.state) refl changes in (
+      h.0,
+      h.1,
+      ap (λ (v : View R). let w : View R = record v { events = events } in w) h.2
+          ∙ ap (λ (es : List (Event (List ℕ))). let w : View R = record (view_of old) { endpoint = record (endpoint_of old) { below = record (endpoint_of old).below { transfer = h.0 } }; events = es } in w) told,
+    )
+
+-- ---- one packet of them
+
+-- a packet of one chunk, by whether it fits
+emitted_where : {R : Type 0} (stream : R → Stream) (v : View R) (emission : Emission) (bytes : List ℕ) (b : Bool) → emission_bytes (ports_of v.endpoint.options) emission ≡ bytes
+    → Moves stream v (if b then sends v.endpoint [] [] emission else quiet v.endpoint [] []) (if b then record v { endpoint = counted v.endpoint; events = v.events ++ sent bytes ∷ [] } else v)
+emitted_where stream v emission bytes true is =
+    record {
+      endpoint = refl;
+      events = ap (λ (bs : List ℕ). v.events ++ sent bs ∷ []) (sym is);
+      words = sym (append-nil v.words);
+      pairs = sym (append-nil v.pairs);
+      drawn = refl;
+    }
+emitted_where stream v emission bytes false is = record { endpoint = refl; events = sym (append-nil v.events); words = sym (append-nil v.words); pairs = sym (append-nil v.pairs); drawn = refl }
+
+-- a packet of one chunk to the peer
+pub emits_moves : {R : Type 0} (stream : R → Stream) (v : View R) (held : Held) (content : Content)
+    → Moves stream v (emits v.endpoint [] (to_peer held content)) (emitted (held.capabilities.zero_checksum_method.0 == 0) held.peer.tag (chunk_out content) v)
+emits_moves {R = R} stream v held content =
+    let options = v.endpoint.options in
+    let emission : Emission = to_peer held content in
+    let bytes : List ℕ = chunk_bytes (chunk_out content) in
+    let spelled : List ℕ = packet_bytes_of emission.with_checksum (header_bytes options.local_port options.remote_port held.peer.tag) bytes in
+    let alone : bytes ++ [] ≡ bytes = append-nil bytes in
+    subst (λ (b : Bool). Moves stream v (if fits v.endpoint emission then sends v.endpoint [] [] emission else quiet v.endpoint [] []) (if b then record v { endpoint = counted v.endpoint; events = v.events ++ sent spelled ∷ [] } else v))
+    (ap (λ (bs : List ℕ). nat_le (12 + length bs) (packet_size_limit options)) alone)
+    (emitted_where stream v emission spelled (fits v.endpoint emission)
+    (ap (λ (bs : List ℕ). packet_bytes_of emission.with_checksum (header_bytes options.local_port options.remote_port held.peer.tag) bs) alone))
+
+pub tcb_holds : (s : State) (tcb : TransmissionControlBlock) → tcb_of s ≡ Some tcb → held_in (core_of s) ≡ Some (held_of tcb)
+tcb_holds Closed tcb is = absurd (cc)
+tcb_holds (CookieWait wait) tcb is = absurd (cc)
+tcb_holds (CookieEchoed echoed) tcb is = ap (λ (t : Option TransmissionControlBlock). option_map held_of t) is
+tcb_holds (Open opened) tcb is = ap (λ (t : Option TransmissionControlBlock). option_map held_of t) is
+
+-- The answers go out, or a growth was refused.
+some_sent : {R E : Type 0} (stream : R → Stream) (old : Context R) (result : Result (Unit {0}) E) (new : Context R) (held : Held) (response : ResetParameter) (responses : List ResetParameter) (with_checksum : Bool)
+    → held_in (core_of old.state) ≡ Some held → with_checksum ≡ (held.capabilities.zero_checksum_method.0 == 0)
+    → Emits with_checksum held.peer.tag (re_config_chunk (map reset_parameter_content (response ∷ responses))) old result new → Tries stream (responses_turn (response ∷ responses)) old result new
+some_sent stream old (Ok done) new held response responses with_checksum holds checks h =
+    let content : Content = re_config (response ∷ responses) in
+    subst (λ (v : View _). Moves stream (view_of old) (responses_turn (response ∷ responses) (view_of old)) v)
+    (ap (λ (b : Bool). emitted b held.peer.tag (chunk_out content) (view_of old)) (sym checks) ∙ sym h)
+    (moves_as stream (view_of old) _ _ _ (turn_is old held (response ∷ responses) holds) (emits_moves stream (view_of old) held content))
+some_sent stream old (Err fault) new held response responses with_checksum holds checks h = h
+
+pub responses_sent : {R E : Type 0} (stream : R → Stream) (old : Context R) (result : Result (Unit {0}) E) (new : Context R) (tcb : TransmissionControlBlock) (responses : List ResetParameter) (with_checksum : Bool)
+    → is_none responses ≡ false → tcb_of old.state ≡ Some tcb → with_checksum ≡ (tcb.capabilities.zero_checksum_method.0 == 0)
+    → Emits with_checksum tcb.peer.tag (re_config_chunk (map reset_parameter_content responses)) old result new → Tries stream (responses_turn responses) old result new
+responses_sent stream old result new tcb [] with_checksum some holds checks h = absurd (cc)
+responses_sent stream old result new tcb (response ∷ responses) with_checksum some holds checks h =
+    some_sent stream old result new (held_of tcb) response responses with_checksum (tcb_holds old.state tcb holds) checks h
+
+-- a flag by what it says
+pub flag_is : (flag : Bool) (method : ℕ) → (IsTrue flag ↔ (method ≢ 0)) → not flag ≡ (method == 0)
+flag_is true method says = grind (arith, nat_tests, says.0 refl)
+flag_is false method says = grind (arith, nat_tests, says.1)
+
+-- the answers of a flush that took place or was cut
+pub finish_by : {R E : Type 0} (stream : R → Stream) (old mid : Context R) (result : Result (Unit {0}) E) (new : Context R) (held : Held) (b : Bool) (parameters responses : List ResetParameter) → b ≡ false
+    → held_in (core_of old.state) ≡ Some held → Moves stream (view_of old) (responses_turn responses (view_of old)) (view_of mid) → TakesOne stream FlushAt mid result new
+    → TakesOne stream (FinishAt held b parameters responses) old result new
+finish_by stream old mid (Ok done) new held b parameters responses is holds first second = finished stream old (view_of mid) (view_of new) held b parameters responses is holds first second
+finish_by stream old mid (Err fault) new held b parameters responses is holds first second = finish_cut stream old (view_of mid) (view_of new).events held b parameters responses is holds first second
+
+-- ---- what was decided of the streams
+
+abbrev CarriedAs : {R : Type 0} → WorkedRequests → Option RequestedReset → Context R → View R → Type 0
+CarriedAs w reset old new =
+    (left : Option Transfer) × ResetsBelow (is_performed_for w.treatment reset) (transfer_of old.state) left
+    × (new ≡ left_at (settled_at (own_kind w.own) (view_of old)) left (told_where w reset old))
+
+abbrev TreatsAs : {R : Type 0} → Treatment → Option RequestedReset → Context R → View R → Type 0
+TreatsAs treatment reset old new =
+    (left : Option Transfer) × ResetsBelow (is_performed_for treatment reset) (transfer_of old.state) left × (new ≡ left_at (view_of old) left (told_for treatment reset))
+
+pub treated_none : {R : Type 0} (treatment : Treatment) (old : Context R) → TreatsAs treatment None old (view_of old)
+treated_none Nothing old = nothing_treated Nothing None old (view_of old) refl refl refl
+treated_none Deferred old = nothing_treated Deferred None old (view_of old) refl refl refl
+treated_none Performed old = nothing_treated Performed None old (view_of old) refl refl refl
+
+pub deferred_by : {R E : Type 0} (old : Context R) (result : Result (Unit {0}) E) (new : Context R) (reset : RequestedReset) → view_of new ≡ view_of old → Treats Deferred (Some reset) old result new
+deferred_by old (Ok done) new reset same = nothing_treated Deferred (Some reset) old (view_of new) refl refl same
+deferred_by {R = R} old (Err fault) new reset same = ap (λ (v : View R). v.events) same
+
+-- ---- all of it
+
+-- a peer that is held, with the own request
+pub record Peer (state : State) : Type 0 where
+  pub my : Pair
+  pub held : Held
+  pub holds : held_in (core_of state) ≡ Some held
+  pub own : number_of (request_in state) ≡ held.own_outstanding
+  pub last : held_out (number_of (request_in state)) (held_with held (last_in state)) ≡ held
+  pub settled : (answer : OwnAnswer) (last : LastRequest) → core_settled answer (core_asked last (core_of state)) ≡ core_with (core_of state) (held_out (left_out answer held.own_outstanding) (held_with held last))
+  pub keeps : (held : Held) → held_in (core_with (core_of state) held) ≡ Some held
+  pub turn : (e : Endpoint) (parameters : List ResetParameter) (o : Outcome) → WorksResets e my held parameters o → ResetTurn e (core_of state) parameters o
+
+echoed_settled : (my : Pair) (held : Held) (cookie : List ℕ) (answer : OwnAnswer) (last : LastRequest)
+    → core_settled answer (core_asked last (cookie_echoed my held cookie)) ≡ core_with (cookie_echoed my held cookie) (held_out (left_out answer held.own_outstanding) (held_with held last))
+echoed_settled my held cookie unanswered last = refl
+echoed_settled my held cookie retried last = refl
+echoed_settled my held cookie over last = refl
+
+open_settled : (phase : OpenPhase) (my : Pair) (held : Held) (answer : OwnAnswer) (last : LastRequest)
+    → core_settled answer (core_asked last (open_in phase my held)) ≡ core_with (open_in phase my held) (held_out (left_out answer held.own_outstanding) (held_with held last))
+open_settled phase my held unanswered last = refl
+open_settled phase my held retried last = refl
+open_settled phase my held over last = refl
+
+pub peer_of : (state : State) → is_some (transfer_of state) ≡ true → Peer state
+peer_of Closed some = absurd (cc)
+peer_of (CookieWait wait) some = absurd (cc)
+peer_of (CookieEchoed echoed) some =
+    record {
+      my = echoed.tcb.my;
+      held = held_of echoed.tcb;
+      holds = refl;
+      own = refl;
+      last = refl;
+      settled = echoed_settled echoed.tcb.my (held_of echoed.tcb) echoed.cookie.items;
+      keeps = λ held. refl;
+      turn = λ e parameters o h. h;
+    }
+peer_of (Open opened) some =
+    record {
+      my = opened.tcb.my;
+      held = held_of opened.tcb;
+      holds = refl;
+      own = refl;
+      last = refl;
+      settled = open_settled (phase_in opened.phase) opened.tcb.my (held_of opened.tcb);
+      keeps = λ held. refl;
+      turn = λ e parameters o h. h;
+    }
+
+-- Without one nothing happens.
+pub unheld : (e : Endpoint) (state : State) (parameters : List ResetParameter) → is_some (transfer_of state) ≡ false → ResetTurn e (core_of state) parameters (still e)
+unheld e Closed parameters none = refl
+unheld e (CookieWait wait) parameters none = refl
+unheld e (CookieEchoed echoed) parameters none = absurd (cc)
+unheld e (Open opened) parameters none = absurd (cc)
+
+pub rests : {R : Type 0} (stream : R → Stream) (old : Context R) (parameters : List ResetParameter) → is_some (transfer_of old.state) ≡ false → TakesIn stream (ReConfigAt parameters) (view_of old) (view_of old)
+rests stream old parameters none = record { outcome = still (endpoint_of old); turn = unheld (endpoint_of old) old.state parameters none; moves = moves_still stream (view_of old) }
+
+-- ---- where its turn was cut before its first event
+
+left_any : (b : Bool) (found : Option Transfer) → ResetsBelow b found found
+left_any true None = refl
+left_any true (Some transfer) =
+    (transfer, refl, record { reassembly = record { more = []; messages = sym (append-nil transfer.reassembly.messages); window = refl }; rest = refl })
+left_any false None = refl
+left_any false (Some transfer) = refl
+
+any_turn : (e : Endpoint) (my : Pair) (held : Held) (parameters : List ResetParameter) → (o : Outcome) × WorksResets e my held parameters o
+any_turn e my held parameters =
+    let w : WorkedParameters = worked_in e my held parameters in
+    let some = some_answers w.is_refused (resets_worked e (answered_in held w parameters) w.held e.below.transfer) w.held w.answers in (
+      resets_by e held w parameters e.below.transfer some.0,
+      record { left = e.below.transfer; below = left_any (has_reset w.effects) e.below.transfer; answers = some.0; allowed = some.1; is = refl },
+    )
+
+pub reset_refused : {R : Type 0} (old : Context R) (p : Peer old.state) (parameters : List ResetParameter) (events : List (Event (List ℕ))) → events ≡ (view_of old).events → CutIn (ReConfigAt parameters) (view_of old) events
+reset_refused old p parameters events same =
+    let any = any_turn (endpoint_of old) p.my p.held parameters in
+    record { outcome = any.0; turn = p.turn (endpoint_of old) parameters any.0 any.1; cut = cut_first (view_of old) any.0 events same }
+
+-- ---- what the machine makes of it
+
+-- Without an outgoing request no stream is reset.
+incoming_resets : (held : Held) (number : ℕ) (place : Place) → has_reset (incoming_by held number place).effects ≡ false
+incoming_resets held number again = refl
+incoming_resets held number next = refl
+incoming_resets held number astray = refl
+
+answer_resets : (my : Pair) (held : Held) (number : ℕ) (result : ReconfigurationResponseResult) → has_reset (informed_by my held number result).effects ≡ false
+answer_resets my held number SuccessNothingToDo = refl
+answer_resets my held number SuccessPerformed = refl
+answer_resets my held number Denied = refl
+answer_resets my held number ErrorWrongSSN = refl
+answer_resets my held number ErrorRequestAlreadyInProgress = refl
+answer_resets my held number ErrorBadSequenceNumber = refl
+answer_resets my held number InProgress = refl
+
+informed_resets : (b : Bool) (my : Pair) (held : Held) (number : ℕ) (result : ReconfigurationResponseResult) → has_reset (informed_where my held number result b).effects ≡ false
+informed_resets true my held number result = answer_resets my held number result
+informed_resets false my held number result = refl
+
+unrequested : (my : Pair) (reached has : Bool) (held : Held) (parameters : List ResetParameter) → requested_in parameters ≡ None → has_reset (work_parameters my reached has held parameters).effects ≡ false
+unrequested my reached has held [] none = refl
+unrequested my reached has held (outgoing_reset_request number answered reset ∷ parameters) none = absurd (cc)
+unrequested my reached has held (incoming_reset_request number streams ∷ parameters) none =
+    let first : Answered = incoming_by held number (place_of held.peer_last number) in
+    has_both first.effects (work_parameters my reached has first.held parameters).effects
+    ∙ ap (λ (b : Bool). resets_of b (has_reset (work_parameters my reached has first.held parameters).effects)) (incoming_resets held number (place_of held.peer_last number))
+    ∙ unrequested my reached has first.held parameters none
+unrequested my reached has held (reconfiguration_response number result ∷ parameters) none =
+    let first : Informed = informed_where my held number result (is_outstanding number held.own_outstanding) in
+    has_both first.effects (work_parameters my reached has first.held parameters).effects
+    ∙ ap (λ (b : Bool). resets_of b (has_reset (work_parameters my reached has first.held parameters).effects)) (informed_resets (is_outstanding number held.own_outstanding) my held number result)
+    ∙ unrequested my reached has first.held parameters none
+unrequested my reached has held (other_reset_parameter parameter ∷ parameters) none = unrequested my reached has held parameters none
+
+chunk_unrequested : (my : Pair) (reached : Bool) (held : Held) (parameters : List ResetParameter) → requested_in parameters ≡ None → has_reset (work_chunk my reached held parameters).effects ≡ false
+chunk_unrequested my reached held [] none = refl
+chunk_unrequested my reached held (parameter ∷ parameters) none = unrequested my reached false held (parameter ∷ parameters) none
+
+-- what was treated is what was wanted
+record Wanted (treatment : Treatment) (reset : Option RequestedReset) : Type 0 where
+  performed : is_performed treatment ≡ is_performed_for treatment reset
+  told : (ports : Ports) → map (user_event ports) (treated_events treatment (their_streams reset)) ≡ told_for treatment reset
+
+wanted : (treatment : Treatment) (reset : Option RequestedReset) → (reset ≡ None → is_performed treatment ≡ false) → Wanted treatment reset
+wanted Performed None none = let never : true ≡ false = none refl in absurd (cc)
+wanted Performed (Some reset) none = record { performed = refl; told = λ ports. refl }
+wanted Deferred None none = record { performed = refl; told = λ ports. refl }
+wanted Deferred (Some reset) none = record { performed = refl; told = λ ports. refl }
+wanted Nothing None none = record { performed = refl; told = λ ports. refl }
+wanted Nothing (Some reset) none = record { performed = refl; told = λ ports. refl }
+
+-- what is told of the own request, and of both
+own_user : (ports : Ports) (answer : requests.OwnAnswer) (streams : List ℕ) → map (user_event ports) (own_events answer streams) ≡ own_told answer streams
+own_user ports own.Unanswered streams = refl
+own_user ports own.InProgress streams = refl
+own_user ports own.Performed streams = refl
+own_user ports own.Failed streams = refl
+
+both_user : (ports : Ports) (first : Bool) (answer : requests.OwnAnswer) (treatment : Treatment) (reset : Option RequestedReset) (streams : List ℕ) → Wanted treatment reset
+    → map (user_event ports) (told_so first answer treatment (their_streams reset) streams) ≡ told_both first answer treatment reset streams
+both_user ports true answer treatment reset streams w =
+    map-append (user_event ports) (own_events answer streams) (treated_events treatment (their_streams reset))
+    ∙ ap (λ (es : List (Event (List ℕ))). es ++ map (user_event ports) (treated_events treatment (their_streams reset))) (own_user ports answer streams)
+    ∙ ap (λ (es : List (Event (List ℕ))). own_told answer streams ++ es) (w.told ports)
+both_user ports false answer treatment reset streams w =
+    map-append (user_event ports) (treated_events treatment (their_streams reset)) (own_events answer streams)
+    ∙ ap (λ (es : List (Event (List ℕ))). es ++ map (user_event ports) (own_events answer streams)) (w.told ports)
+    ∙ ap (λ (es : List (Event (List ℕ))). told_for treatment reset ++ es) (own_user ports answer streams)
+
+-- behind what the user is told
+responses_behind : (refused : Bool) (e : Endpoint) (told : List (Event Emission)) (held : Held) (parameters responses : List ResetParameter) (answers : List Answer)
+    → responses_by refused e told held parameters responses answers ≡ behind [] told (responses_by refused e [] held parameters responses answers)
+responses_behind true e told held parameters responses answers = refl
+responses_behind false e told held parameters responses answers =
+    let sent : Outcome = responses_outcome e held responses in
+    let flush : Outcome = flush_of sent.after (draft_to held) answers in
+    ap (λ (events : List (Event Emission)). let o : Outcome = record flush { events = events } in o) (append_assoc told sent.events flush.events)
+
+-- what the parameters make of the numbers, as the code keeps it
+abbrev kept_by : Held → List Effect → WorkedRequests → WorkedParameters
+kept_by held effects w = record { held = held_now held w; effects = effects; answers = reset_parameters w.responses.items; is_refused = w.is_refused }
+
+abbrev WorksBy : Endpoint → Held → List ResetParameter → Outcome → WorkedParameters → Type 0
+WorksBy e held parameters o worked =
+    (left : Option Transfer) × ResetsBelow (has_reset worked.effects) e.below.transfer left × (answers : List Answer)
+    × ResponseAnswers worked.is_refused (resets_worked e (answered_in held worked parameters) worked.held left) worked.held worked.answers answers
+    × (o ≡ resets_by e held worked parameters left answers)
+
+works_resets : (e : Endpoint) (my : Pair) (held : Held) (parameters : List ResetParameter) (o : Outcome) → WorksBy e held parameters o (worked_in e my held parameters) → WorksResets e my held parameters o
+works_resets e my held parameters o h = record { left = h.0; below = h.1; answers = h.2; allowed = h.3; is = h.4 }
+
+-- what was made of the parameters of a chunk that came in
+abbrev WorkedAt : {R : Type 0} → Context R → List ResetParameter → WorkedRequests → Type 0
+WorkedAt old parameters w = WorksChunk (is_reached (transfer_of old.state) (requested_in parameters)) (last_in old.state) (number_of (request_in old.state)) parameters w
+
+-- What the code keeps is what the machine makes of the parameters.
+kept_is : {R : Type 0} (old : Context R) (p : Peer old.state) (parameters : List ResetParameter) (w : WorkedRequests) (h : WorkedAt old parameters w)
+    → worked_in (endpoint_of old) p.my p.held parameters ≡ kept_by p.held (h.effects p.my p.held) w
+kept_is old p parameters w h =
+    ap (work_all p.my (is_reached (transfer_of old.state) (requested_in parameters)) parameters) (sym p.last) ∙ h.whole p.my p.held
+  where
+    work_all : Pair → Bool → List ResetParameter → Held → WorkedParameters
+    work_all my reached ps held = work_chunk my reached held ps
+
+wanted_of : {R : Type 0} (old : Context R) (p : Peer old.state) (parameters : List ResetParameter) (w : WorkedRequests) (h : WorkedAt old parameters w) → Wanted w.treatment (requested_in parameters)
+wanted_of old p parameters w h =
+    wanted w.treatment (requested_in parameters)
+    (λ none. sym (h.treats p.my p.held).has ∙ ap (λ (x : WorkedParameters). has_reset x.effects) (sym (kept_is old p parameters w h))
+    ∙ chunk_unrequested p.my (is_reached (transfer_of old.state) (requested_in parameters)) p.held parameters none)
+
+-- Nothing becomes of an own request where there is none.
+kind_none : (answer : requests.OwnAnswer) → own_kind answer ≡ unanswered → answer ≡ own.Unanswered
+kind_none own.Unanswered is = refl
+kind_none own.InProgress is = absurd (cc)
+kind_none own.Performed is = absurd (cc)
+kind_none own.Failed is = absurd (cc)
+
+pub nobody_asked : {R : Type 0} (old asked : Context R) (w : WorkedRequests) (parameters : List ResetParameter) → WorkedAt old parameters w → view_of asked ≡ asked_at w.last (view_of old)
+    → outstanding_of asked.state ≡ None → w.own ≡ own.Unanswered
+nobody_asked {R = R} old asked w parameters h here none =
+    let before : outstanding_of old.state ≡ None = sym (ap (λ (v : View R). v.endpoint.outstanding) here) ∙ none in
+    kind_none w.own (h.own ∙ ap (λ (n : Option ℕ). own_answer n w.outstanding (in_progress_among n (worked_part false parameters))) (none_numbered old.state before))
+
+-- the view once both requests were treated
+abbrev pub carried_view : {R : Type 0} → Context R → WorkedRequests → List ResetParameter → Option Transfer → View R
+carried_view old w parameters left =
+    left_at (settled_at (own_kind w.own) (asked_at w.last (view_of old))) left (told_both w.is_own_first w.own w.treatment (requested_in parameters) (own_streams (outstanding_of old.state)))
+
+-- the events that were added by then
+abbrev told_by : {R : Type 0} → Context R → WorkedRequests → List ResetParameter → List (Event Emission)
+told_by old w parameters = told_so w.is_own_first w.own w.treatment (their_streams (requested_in parameters)) (own_streams (outstanding_of old.state))
+
+-- its outcome, from that of what comes behind
+abbrev all_of : List Effect → List (Event Emission) → Outcome → Outcome
+all_of effects told later = noting effects (behind [] told later)
+
+-- where what comes behind begins
+begins_there : (answer : OwnAnswer) (e : Endpoint) (asked core : Core) (left : Option Transfer) (held : Held) → core_settled answer asked ≡ core_with e.core held
+    → (let moved : Endpoint = own_moved answer (record e { core = asked }) in record moved { core = core_settled answer asked; below = record moved.below { transfer = left } }) ≡ resets_worked e answer held left
+begins_there unanswered e asked core left held is = ap (λ (c : Core). let x : Endpoint = record e { core = c; below = record e.below { transfer = left } } in x) is
+begins_there retried e asked core left held is =
+    let moved : Endpoint = own_moved retried e in ap (λ (c : Core). let x : Endpoint = record moved { core = c; below = record moved.below { transfer = left } } in x) is
+begins_there over e asked core left held is =
+    let moved : Endpoint = own_moved over e in ap (λ (c : Core). let x : Endpoint = record moved { core = c; below = record moved.below { transfer = left } } in x) is
+
+-- what is known of the association by then
+core_by : {R : Type 0} (old : Context R) (p : Peer old.state) (parameters : List ResetParameter) (w : WorkedRequests) → WorkedAt old parameters w
+    → core_settled (own_kind w.own) (core_asked w.last (core_of old.state)) ≡ core_with (core_of old.state) (held_now p.held w)
+core_by old p parameters w h =
+    p.settled (own_kind w.own) w.last
+    ∙ ap (λ (n : Option ℕ). core_with (core_of old.state) (held_out n (held_with p.held w.last))) (ap (left_out (own_kind w.own)) (sym p.own) ∙ sym h.left)
+
+-- what becomes of the own request
+kind_by : {R : Type 0} (old : Context R) (p : Peer old.state) (parameters : List ResetParameter) (w : WorkedRequests) (h : WorkedAt old parameters w)
+    → own_kind w.own ≡ answered_in p.held (kept_by p.held (h.effects p.my p.held) w) parameters
+kind_by old p parameters w h = h.own ∙ ap (λ (n : Option ℕ). own_answer n w.outstanding (in_progress_among n (worked_part false parameters))) p.own
+
+endpoint_by : {R : Type 0} (old : Context R) (p : Peer old.state) (parameters : List ResetParameter) (w : WorkedRequests) (h : WorkedAt old parameters w) (left : Option Transfer)
+    → (carried_view old w parameters left).endpoint ≡ resets_worked (endpoint_of old) (answered_in p.held (kept_by p.held (h.effects p.my p.held) w) parameters) (held_now p.held w) left
+endpoint_by old p parameters w h left =
+    begins_there (own_kind w.own) (endpoint_of old) (core_asked w.last (core_of old.state)) (core_of old.state) left (held_now p.held w) (core_by old p parameters w h)
+    ∙ ap (λ (a : OwnAnswer). resets_worked (endpoint_of old) a (held_now p.held w) left) (kind_by old p parameters w h)
+
+works_by : {R : Type 0} (old : Context R) (p : Peer old.state) (parameters : List ResetParameter) (w : WorkedRequests) (h : WorkedAt old parameters w) (left : Option Transfer) (later : Outcome)
+    → ResetsBelow (is_performed_for w.treatment (requested_in parameters)) (transfer_of old.state) left
+    → FinishAt (held_now p.held w) w.is_refused parameters (reset_parameters w.responses.items) (carried_view old w parameters left) later
+    → WorksBy (endpoint_of old) p.held parameters (all_of (h.effects p.my p.held) (told_by old w parameters) later) (kept_by p.held (h.effects p.my p.held) w)
+works_by old p parameters w h left later below turn =
+    let e : Endpoint = endpoint_of old in
+    let held : Held = held_now p.held w in
+    let responses : List ResetParameter = reset_parameters w.responses.items in
+    let effects : List Effect = h.effects p.my p.held in
+    let kept : WorkedParameters = kept_by p.held effects w in
+    let here : Endpoint = (carried_view old w parameters left).endpoint in
+    let there : here ≡ resets_worked e (answered_in p.held kept parameters) held left = endpoint_by old p parameters w h left in
+    let told : told_of e parameters kept.effects ≡ told_by old w parameters = (h.treats p.my p.held).told (their_streams (requested_in parameters)) (own_streams e.outstanding) in (
+      left,
+      subst (λ (b : Bool). ResetsBelow b e.below.transfer left) (sym ((h.treats p.my p.held).has ∙ (wanted_of old p parameters w h).performed)) below,
+      turn.0,
+      subst (λ (x : Endpoint). ResponseAnswers w.is_refused x held responses turn.0) there turn.1,
+      ap (all_of effects (told_by old w parameters)) turn.2
+          ∙ ap (λ (o : Outcome). let x : Outcome = noting effects o in x) (sym (responses_behind w.is_refused here (told_by old w parameters) held parameters responses turn.0))
+          ∙ ap (λ (x : Endpoint). let o : Outcome = noting effects (responses_by w.is_refused x (told_by old w parameters) held parameters responses turn.0) in o) there
+          ∙ ap (λ (events : List (Event Emission)). let o : Outcome = noting effects (responses_by w.is_refused (resets_worked e (answered_in p.held kept parameters) held left) events held parameters responses turn.0) in o) (sym told),
+    )
+
+turn_by : {R : Type 0} (old : Context R) (p : Peer old.state) (parameters : List ResetParameter) (w : WorkedRequests) (h : WorkedAt old parameters w) (left : Option Transfer) (later : Outcome)
+    → ResetsBelow (is_performed_for w.treatment (requested_in parameters)) (transfer_of old.state) left
+    → FinishAt (held_now p.held w) w.is_refused parameters (reset_parameters w.responses.items) (carried_view old w parameters left) later
+    → ReConfigAt parameters (view_of old) (all_of (h.effects p.my p.held) (told_by old w parameters) later)
+turn_by old p parameters w h left later below turn =
+    let o : Outcome = all_of (h.effects p.my p.held) (told_by old w parameters) later in
+    p.turn (endpoint_of old) parameters o
+    (works_resets (endpoint_of old) p.my p.held parameters o
+    (subst (WorksBy (endpoint_of old) p.held parameters o) (sym (kept_is old p parameters w h)) (works_by old p parameters w h left later below turn)))
+
+-- Its ports stay.
+settled_ports : (answer : OwnAnswer) (e : Endpoint) → ports_of (own_moved answer e).options ≡ ports_of e.options
+settled_ports unanswered e = refl
+settled_ports retried e = refl
+settled_ports over e = refl
+
+adds_told : {R : Type 0} (old : Context R) (p : Peer old.state) (parameters : List ResetParameter) (w : WorkedRequests) (h : WorkedAt old parameters w) (left : Option Transfer)
+    → Adds (view_of old) (told_by old w parameters) (carried_view old w parameters left)
+adds_told old p parameters w h left =
+    record {
+      ports = settled_ports (own_kind w.own) (record (endpoint_of old) { core = core_asked w.last (core_of old.state) });
+      events = ap (λ (es : List (Event (List ℕ))). (view_of old).events ++ es)
+          (sym (both_user (ports_of old.options) w.is_own_first w.own w.treatment (requested_in parameters) (own_streams (outstanding_of old.state)) (wanted_of old p parameters w h)));
+    }
+
+drawn_behind : (front rest : List Effect) → drawn_in front ≡ [] → drawn_in rest ≡ drawn_in (front ++ rest)
+drawn_behind front rest none = ap (λ (ps : List Pair). ps ++ drawn_in rest) (sym none) ∙ sym (drawn_in-append front rest)
+
+pub reset_done : {R : Type 0} (stream : R → Stream) (old : Context R) (p : Peer old.state) (parameters : List ResetParameter) (w : WorkedRequests) → WorkedAt old parameters w → (left : Option Transfer)
+    → ResetsBelow (is_performed_for w.treatment (requested_in parameters)) (transfer_of old.state) left
+    → (new : View R) → TakesIn stream (FinishAt (held_now p.held w) w.is_refused parameters (reset_parameters w.responses.items)) (carried_view old w parameters left) new → TakesIn stream (ReConfigAt parameters) (view_of old) new
+reset_done stream old p parameters w h left below new second =
+    let told : List (Event Emission) = told_by old w parameters in
+    record {
+      outcome = all_of (h.effects p.my p.held) told second.outcome;
+      turn = turn_by old p parameters w h left second.outcome below second.turn;
+      moves = moves_noting stream (view_of old) new (h.effects p.my p.held) (behind [] told second.outcome) (drawn_behind (h.effects p.my p.held) second.outcome.effects (h.treats p.my p.held).drawn)
+          (moves_behind stream (view_of old) (carried_view old w parameters left) new [] told second.outcome (adds_told old p parameters w h left)
+          (record { words = sym (append-nil (view_of old).words); pairs = refl; drawn = refl }) second.moves);
+    }
+
+pub reset_cut : {R : Type 0} (old : Context R) (p : Peer old.state) (parameters : List ResetParameter) (w : WorkedRequests) → WorkedAt old parameters w → (left : Option Transfer)
+    → ResetsBelow (is_performed_for w.treatment (requested_in parameters)) (transfer_of old.state) left
+    → (events : List (Event (List ℕ))) → CutIn (FinishAt (held_now p.held w) w.is_refused parameters (reset_parameters w.responses.items)) (carried_view old w parameters left) events
+    → CutIn (ReConfigAt parameters) (view_of old) events
+reset_cut old p parameters w h left below events second =
+    let told : List (Event Emission) = told_by old w parameters in
+    record {
+      outcome = all_of (h.effects p.my p.held) told second.outcome;
+      turn = turn_by old p parameters w h left second.outcome below second.turn;
+      cut = cut_noting (view_of old) (h.effects p.my p.held) (behind [] told second.outcome) events
+          (cut_behind (view_of old) (carried_view old w parameters left) [] told second.outcome events (adds_told old p parameters w h left) second.cut);
+    }
+
+-- by whether a growth was refused
+pub reset_by : {R E : Type 0} (stream : R → Stream) (old mid : Context R) (p : Peer old.state) (parameters : List ResetParameter) (w : WorkedRequests) → WorkedAt old parameters w → (left : Option Transfer)
+    → ResetsBelow (is_performed_for w.treatment (requested_in parameters)) (transfer_of old.state) left → view_of mid ≡ carried_view old w parameters left → (result : Result (Unit {0}) E) (new : Context R)
+    → TakesOne stream (FinishAt (held_now p.held w) w.is_refused parameters (reset_parameters w.responses.items)) mid result new → TakesOne stream (ReConfigAt parameters) old result new
+reset_by {R = R} stream old mid p parameters w h left below here (Ok done) new second =
+    reset_done stream old p parameters w h left below (view_of new)
+    (subst (λ (v : View R). TakesIn stream (FinishAt (held_now p.held w) w.is_refused parameters (reset_parameters w.responses.items)) v (view_of new)) here second)
+reset_by {R = R} stream old mid p parameters w h left below here (Err fault) new second =
+    reset_cut old p parameters w h left below (view_of new).events
+    (subst (λ (v : View R). CutIn (FinishAt (held_now p.held w) w.is_refused parameters (reset_parameters w.responses.items)) v (view_of new).events) here second)
+
+-- The peer is held still.
+pub still_held : {R : Type 0} (old mid : Context R) (p : Peer old.state) (w : WorkedRequests) (parameters : List ResetParameter) (left : Option Transfer) → WorkedAt old parameters w
+    → view_of mid ≡ carried_view old w parameters left → held_in (core_of mid.state) ≡ Some (held_now p.held w)
+still_held {R = R} old mid p w parameters left h here =
+    ap (λ (v : View R). held_in v.endpoint.core) here ∙ ap held_in (core_by old p parameters w h) ∙ p.keeps (held_now p.held w)
+
+-- answers in memory, where there are some
+pub some_said : (responses : List Parameter) → (length responses == 0) ≡ false → is_none (reset_parameters responses) ≡ false
+some_said [] some = absurd (cc)
+some_said (response ∷ responses) some = refl
+
+-- both requests were treated, behind the numbers
+pub carried_so : {R : Type 0} (old asked mid : Context R) (w : WorkedRequests) (reset : Option RequestedReset) (parameters : List ResetParameter) → view_of asked ≡ asked_at w.last (view_of old)
+    → reset ≡ requested_in parameters → CarriedAs w reset asked (view_of mid)
+    → (left : Option Transfer) × ResetsBelow (is_performed_for w.treatment (requested_in parameters)) (transfer_of old.state) left × (view_of mid ≡ carried_view old w parameters left)
+carried_so {R = R} old asked mid w reset parameters here wanted h =
+    let below : transfer_of asked.state ≡ transfer_of old.state = ap (λ (v : View R). v.endpoint.below.transfer) here in
+    let told : Option RequestedReset → List (Event (List ℕ)) = λ r. told_both w.is_own_first w.own w.treatment r (own_streams (outstanding_of old.state)) in (
+      h.0,
+      subst (λ (r : Option RequestedReset). ResetsBelow (is_performed_for w.treatment r) (transfer_of old.state) h.0) wanted
+          (subst (λ (f : Option Transfer). ResetsBelow (is_performed_for w.treatment reset) f h.0) below h.1),
+      h.2
+          ∙ ap (λ (v : View R). left_at (settled_at (own_kind w.own) v) h.0 (told_both w.is_own_first w.own w.treatment reset (own_streams v.endpoint.outstanding))) here
+          ∙ ap (λ (r : Option RequestedReset). left_at (settled_at (own_kind w.own) (asked_at w.last (view_of old))) h.0 (told r)) wanted,
+    )
+
+-- What the user is told of both comes first.
+told_first : (e : Endpoint) (my : Pair) (held : Held) (parameters : List ResetParameter) (o : Outcome) → WorksResets e my held parameters o
+    → (more : List (Event Emission)) × (o.events ≡ told_of e parameters (worked_in e my held parameters).effects ++ more)
+told_first e my held parameters o h =
+    let w : WorkedParameters = worked_in e my held parameters in
+    let there : Endpoint = resets_worked e (answered_in held w parameters) w.held h.left in (
+      (responses_by w.is_refused there [] w.held parameters w.answers h.answers).events,
+      ap (λ (x : Outcome). x.events) h.is ∙ ap (λ (x : Outcome). x.events) (responses_behind w.is_refused there (told_of e parameters w.effects) w.held parameters w.answers h.answers),
+    )
+
+-- Where it was cut before both were told, a front part of what is told was added.
+pub carried_cut : {R : Type 0} (old asked mid : Context R) (p : Peer old.state) (w : WorkedRequests) (reset : Option RequestedReset) (parameters : List ResetParameter) → WorkedAt old parameters w
+    → view_of asked ≡ asked_at w.last (view_of old) → reset ≡ requested_in parameters → (count : ℕ) × ((view_of mid).events ≡ (view_of asked).events ++ take count (told_where w reset asked))
+    → CutIn (ReConfigAt parameters) (view_of old) (view_of mid).events
+carried_cut {R = R} old asked mid p w reset parameters h here wanted cut =
+    let e : Endpoint = endpoint_of old in
+    let worked : WorkedParameters = worked_in e p.my p.held parameters in
+    let any = any_turn e p.my p.held parameters in
+    let first = told_first e p.my p.held parameters any.0 any.1 in
+    let before : Outcome = record any.0 { events = told_of e parameters worked.effects } in
+    let streams : List ℕ = own_streams (outstanding_of old.state) in
+    let told : told_where w reset asked ≡ map (user_event (ports_of old.options)) (told_of e parameters worked.effects) =
+    ap (λ (r : Option RequestedReset). told_both w.is_own_first w.own w.treatment r (own_streams (outstanding_of asked.state))) wanted
+    ∙ ap (λ (v : View R). told_both w.is_own_first w.own w.treatment (requested_in parameters) (own_streams v.endpoint.outstanding)) here
+    ∙ sym (both_user (ports_of old.options) w.is_own_first w.own w.treatment (requested_in parameters) streams (wanted_of old p parameters w h))
+    ∙ ap (map (user_event (ports_of old.options)))
+    (sym ((h.treats p.my p.held).told (their_streams (requested_in parameters)) streams) ∙ ap (λ (x : WorkedParameters). told_of e parameters x.effects) (sym (kept_is old p parameters w h))) in
+    record {
+      outcome = any.0;
+      turn = p.turn e parameters any.0 any.1;
+      cut = cut_longer (view_of old) before any.0 first.0 (view_of mid).events first.1
+          (record {
+            count = cut.0;
+            added = cut.1 ∙ ap (λ (v : View R). v.events ++ take cut.0 (told_where w reset asked)) here ∙ ap (λ (es : List (Event (List ℕ))). (view_of old).events ++ take cut.0 es) told;
+          });
+    }

@@ -1,0 +1,740 @@
+-- What is made of the peer's requests, parameter by parameter, is what the machine makes of them.
+use Rattle.std.proofs.Common.{◌≡◌, ◌&&◌, ◌⊎◌, inl, inr, ℕ, ◌+◌, ◌<◌, nat_eq, Bool, true, false, Option, None, List, [], ◌∷◌, ◌++◌, map, length, take, drop, get_or, refl, sym, subst, ap, ◌∙◌, append_assoc, arith, ◌==◌, ◌||◌, not, Some}
+use Rattle.std.proofs.lemmas.List.{append-nil, map-append, take_more, take-append-drop}
+use Rattle.std.proofs.lemmas.Bool.Decides.{nat_tests}
+use Rattle.dcsctp_wire.specs.declared.parameter.Parameter.{Parameter}
+use Rattle.dcsctp_wire.specs.declared.parameter.Parameter.TheVariants as parameters
+use Rattle.dcsctp_wire.specs.declared.reconfiguration.OutgoingSsnResetRequestParameter.{OutgoingSsnResetRequestParameter}
+use Rattle.dcsctp_wire.specs.declared.reconfiguration.ReconfigurationResponseResult.{ReconfigurationResponseResult}
+use Rattle.dcsctp_wire.specs.Content.{ParameterContent, parameter_content}
+use Rattle.dcsctp_machine.specs.declared.association.Pair.{Pair}
+use Rattle.dcsctp_machine.specs.declared.association.Held.{Held}
+use Rattle.dcsctp_machine.specs.Event.{Event}
+use Rattle.dcsctp_machine.specs.Packet.{Emission}
+use Rattle.dcsctp_machine.specs.Reconfiguration.{RequestedReset, ResetParameter, outgoing_reset_request, incoming_reset_request, reconfiguration_response, other_reset_parameter, reset_parameter_content, reset_parameter_in}
+use Rattle.dcsctp_machine.specs.control.Effect.{Effect, draws, sends, holds, connects, ends, begins, completes, fails, accepts, performs, drawn_in}
+use Rattle.dcsctp_machine.specs.control.ResetChanges.{Place, again, next, astray, place_of, Answered, outgoing_by, incoming_by, Informed, is_outstanding, informed_where, WorkedParameters, after_request, after_answer, work_parameters, work_chunk, informed_by}
+use Rattle.dcsctp_machine.specs.turns.FlushOutcomes.{is_none}
+use Rattle.dcsctp_machine.specs.turns.ResetOutcomes.{has_reset, reset_events, worked_part, is_in_progress, own_answer, in_progress_among}
+use Rattle.dcsctp_core_resets.specs.declared.requests.Treatment.{Treatment}
+use Rattle.dcsctp_core_resets.specs.declared.requests.Treatment.TheVariants.{Nothing}
+use Rattle.dcsctp_core_resets.specs.declared.requests.LastRequest.{LastRequest}
+use Rattle.dcsctp_core_resets.specs.declared.requests.AnsweredRequest.{AnsweredRequest}
+use Rattle.dcsctp_core_resets.specs.declared.requests.WorkedRequests.{WorkedRequests}
+use Rattle.dcsctp_core_resets.specs.Requests.{said_by, reset_parameters, is_outgoing, held_with, is_performed, treated_events, Treats, AnswersAs, Responds, behind_these, AreResponses, WorksOne, WorksChunk, held_out, own_events, own_kind, own_ended, with_result, with_response, left_out, SameOwn, held_now, told_so, TreatsBoth, Brings, brings_nothing, brings_request, brings_answer}
+use Rattle.std.specs.List.{list_any}
+use Rattle.std.proofs.lemmas.List.Folds.{list_any-append}
+use Rattle.dcsctp_wire.specs.declared.reconfiguration.ReconfigurationResponseResult.TheVariants.{SuccessNothingToDo, SuccessPerformed, Denied, ErrorWrongSSN, ErrorRequestAlreadyInProgress, ErrorBadSequenceNumber, InProgress}
+use Rattle.dcsctp_core_resets.specs.declared.requests.OwnAnswer.{OwnAnswer}
+use Rattle.dcsctp_core_resets.specs.declared.requests.OwnAnswer.TheVariants as own
+use Rattle.dcsctp_machine.specs.turns.ResetOutcomes as outcomes
+
+-- ---- effects
+
+pub nothing_treats : Treats Nothing []
+nothing_treats = record { has = refl; told = λ theirs own. refl; drawn = refl }
+
+-- what effects come to one behind another
+abbrev pub resets_of : Bool → Bool → Bool
+resets_of true second = true
+resets_of false second = second
+
+pub has_both : (front rest : List Effect) → has_reset (front ++ rest) ≡ resets_of (has_reset front) (has_reset rest)
+has_both [] rest = refl
+has_both (performs peer number ∷ front) rest = refl
+has_both (accepts number ∷ front) rest = has_both front rest
+has_both (draws pair ∷ front) rest = has_both front rest
+has_both (sends packet ∷ front) rest = has_both front rest
+has_both (holds link ∷ front) rest = has_both front rest
+has_both (connects link ∷ front) rest = has_both front rest
+has_both (ends ∷ front) rest = has_both front rest
+has_both (begins number ∷ front) rest = has_both front rest
+has_both (completes my number ∷ front) rest = has_both front rest
+has_both (fails number ∷ front) rest = has_both front rest
+
+told_both : (theirs own : List ℕ) (front rest : List Effect) → reset_events theirs own (front ++ rest) ≡ reset_events theirs own front ++ reset_events theirs own rest
+told_both theirs own [] rest = refl
+told_both theirs own (performs peer number ∷ front) rest = ap (λ (es : List (Event Emission)). reset_events theirs own (performs peer number ∷ []) ++ es) (told_both theirs own front rest)
+told_both theirs own (completes my number ∷ front) rest = ap (λ (es : List (Event Emission)). reset_events theirs own (completes my number ∷ []) ++ es) (told_both theirs own front rest)
+told_both theirs own (fails number ∷ front) rest = ap (λ (es : List (Event Emission)). reset_events theirs own (fails number ∷ []) ++ es) (told_both theirs own front rest)
+told_both theirs own (accepts number ∷ front) rest = told_both theirs own front rest
+told_both theirs own (draws pair ∷ front) rest = told_both theirs own front rest
+told_both theirs own (sends packet ∷ front) rest = told_both theirs own front rest
+told_both theirs own (holds link ∷ front) rest = told_both theirs own front rest
+told_both theirs own (connects link ∷ front) rest = told_both theirs own front rest
+told_both theirs own (ends ∷ front) rest = told_both theirs own front rest
+told_both theirs own (begins number ∷ front) rest = told_both theirs own front rest
+
+drawn_both : (front rest : List Effect) → drawn_in front ≡ [] → drawn_in rest ≡ [] → drawn_in (front ++ rest) ≡ []
+drawn_both [] rest none more = more
+drawn_both (draws pair ∷ front) rest none more = absurd (cc)
+drawn_both (performs peer number ∷ front) rest none more = drawn_both front rest none more
+drawn_both (accepts number ∷ front) rest none more = drawn_both front rest none more
+drawn_both (sends packet ∷ front) rest none more = drawn_both front rest none more
+drawn_both (holds link ∷ front) rest none more = drawn_both front rest none more
+drawn_both (connects link ∷ front) rest none more = drawn_both front rest none more
+drawn_both (ends ∷ front) rest none more = drawn_both front rest none more
+drawn_both (begins number ∷ front) rest none more = drawn_both front rest none more
+drawn_both (completes my number ∷ front) rest none more = drawn_both front rest none more
+drawn_both (fails number ∷ front) rest none more = drawn_both front rest none more
+
+-- nothing in front, or nothing behind
+nothing_in_front : (t : Treatment) (front rest : List Effect) → Treats Nothing front → Treats t rest → Treats t (front ++ rest)
+nothing_in_front t front rest first second =
+    record {
+      has = has_both front rest ∙ ap (λ (b : Bool). resets_of b (has_reset rest)) first.has ∙ second.has;
+      told = λ theirs own. told_both theirs own front rest ∙ ap (λ (es : List (Event Emission)). es ++ reset_events theirs own rest) (first.told theirs own) ∙ second.told theirs own;
+      drawn = drawn_both front rest first.drawn second.drawn;
+    }
+
+resets_alone : (b : Bool) → resets_of b false ≡ b
+resets_alone true = refl
+resets_alone false = refl
+
+nothing_behind : (t : Treatment) (front rest : List Effect) → Treats t front → Treats Nothing rest → Treats t (front ++ rest)
+nothing_behind t front rest first second =
+    record {
+      has = has_both front rest ∙ ap (λ (b : Bool). resets_of (has_reset front) b) second.has ∙ resets_alone (has_reset front) ∙ first.has;
+      told = λ theirs own. told_both theirs own front rest ∙ ap (λ (es : List (Event Emission)). reset_events theirs own front ++ es) (second.told theirs own)
+          ∙ append-nil (reset_events theirs own front) ∙ first.told theirs own;
+      drawn = drawn_both front rest first.drawn second.drawn;
+    }
+
+-- ---- one parameter
+
+-- no answer to the own request
+same_own : (w : WorkedRequests) → SameOwn w w
+same_own w = record { outstanding = refl; own = refl; first = refl }
+
+own_then : (a b c : WorkedRequests) → SameOwn a b → SameOwn b c → SameOwn a c
+own_then a b c one two = record { outstanding = two.outstanding ∙ one.outstanding; own = two.own ∙ one.own; first = two.first ∙ one.first }
+
+-- whether an outgoing request was worked so far
+or_not : (b c : Bool) → c ≡ false → b ≡ (b || c)
+or_not true c is = refl
+or_not false c is = sym is
+
+or_one : (b : Bool) → (b || true) ≡ true
+or_one true = refl
+or_one false = refl
+
+-- one that brings nothing
+rests_one : (reached : Bool) (parameter : ResetParameter) (w : WorkedRequests)
+    → in_progress_among w.outstanding (parameter ∷ []) ≡ false → is_outgoing parameter ≡ false
+    → ((my : Pair) (base : Held) (rest : List ResetParameter)
+    → work_parameters my reached w.has_worked (held_now base w) (parameter ∷ rest) ≡ work_parameters my reached w.has_worked (held_now base w) rest)
+    → WorksOne reached parameter w w
+rests_one reached parameter w other requests whole =
+    record {
+      effects = λ my base. [];
+      responses = [];
+      are = refl;
+      added = sym (append-nil w.responses.items);
+      refused = refl;
+      has = or_not w.has_worked (is_outgoing parameter) requests;
+      brings = brings_nothing refl refl (same_own w) (λ my base. nothing_treats) other;
+      whole = whole;
+    }
+
+other_answers : (outstanding : Option ℕ) (parameter : ParameterContent) → in_progress_among outstanding (other_reset_parameter parameter ∷ []) ≡ false
+other_answers None parameter = refl
+other_answers (Some number) parameter = refl
+
+outgoing_answers : (outstanding : Option ℕ) (number answered : ℕ) (reset : RequestedReset) → in_progress_among outstanding (outgoing_reset_request number answered reset ∷ []) ≡ false
+outgoing_answers None number answered reset = refl
+outgoing_answers (Some own) number answered reset = refl
+
+incoming_answers : (outstanding : Option ℕ) (number : ℕ) (streams : List ℕ) → in_progress_among outstanding (incoming_reset_request number streams ∷ []) ≡ false
+incoming_answers None number streams = refl
+incoming_answers (Some own) number streams = refl
+
+pub other_one : (reached : Bool) (parameter : ParameterContent) (w : WorkedRequests) → WorksOne reached (other_reset_parameter parameter) w w
+other_one reached parameter w = rests_one reached (other_reset_parameter parameter) w (other_answers w.outstanding parameter) refl (λ my base rest. refl)
+
+-- A response to another request says nothing.
+or_false : (b : Bool) → b ≡ false → (b || false) ≡ false
+or_false false is = refl
+or_false true is = absurd (cc)
+
+another_by : (own number : ℕ) (result : ReconfigurationResponseResult) → (number == own) ≡ false → in_progress_among (Some own) (reconfiguration_response number result ∷ []) ≡ false
+another_by own number SuccessNothingToDo is = refl
+another_by own number SuccessPerformed is = refl
+another_by own number Denied is = refl
+another_by own number ErrorWrongSSN is = refl
+another_by own number ErrorRequestAlreadyInProgress is = refl
+another_by own number ErrorBadSequenceNumber is = refl
+another_by own number InProgress is = or_false (number == own) is
+
+another_answers : (outstanding : Option ℕ) (number : ℕ) (result : ReconfigurationResponseResult) → is_outstanding number outstanding ≡ false
+    → in_progress_among outstanding (reconfiguration_response number result ∷ []) ≡ false
+another_answers None number result is = refl
+another_answers (Some own) number result is = another_by own number result is
+
+-- one to the own request
+own_is : (outstanding : Option ℕ) (number : ℕ) → is_outstanding number outstanding ≡ true → outstanding ≡ Some number
+own_is None number is = absurd (cc)
+own_is (Some own) number is = ap (λ (n : ℕ). Some n) (let same : own ≡ number = grind (arith, nat_tests) in same)
+
+response_whole : (result : ReconfigurationResponseResult) (my : Pair) (reached : Bool) (number : ℕ) (w : WorkedRequests) (base : Held) (rest : List ResetParameter)
+    → after_answer (informed_by my (held_now base w) number result) (work_parameters my reached w.has_worked (informed_by my (held_now base w) number result).held rest)
+    ≡ behind_these (informed_by my (held_now base w) number result).effects [] (work_parameters my reached (with_result result w).has_worked (held_now base (with_result result w)) rest)
+response_whole SuccessNothingToDo my reached number w base rest = refl
+response_whole SuccessPerformed my reached number w base rest = refl
+response_whole Denied my reached number w base rest = refl
+response_whole ErrorWrongSSN my reached number w base rest = refl
+response_whole ErrorRequestAlreadyInProgress my reached number w base rest = refl
+response_whole ErrorBadSequenceNumber my reached number w base rest = refl
+response_whole InProgress my reached number w base rest = refl
+
+result_keeps : (result : ReconfigurationResponseResult) (w : WorkedRequests) → ((with_result result w).responses ≡ w.responses) × ((with_result result w).is_refused ≡ w.is_refused)
+result_keeps SuccessNothingToDo w = (refl, refl)
+result_keeps SuccessPerformed w = (refl, refl)
+result_keeps Denied w = (refl, refl)
+result_keeps ErrorWrongSSN w = (refl, refl)
+result_keeps ErrorRequestAlreadyInProgress w = (refl, refl)
+result_keeps ErrorBadSequenceNumber w = (refl, refl)
+result_keeps InProgress w = (refl, refl)
+
+result_has : (result : ReconfigurationResponseResult) (w : WorkedRequests) → (with_result result w).has_worked ≡ w.has_worked
+result_has SuccessNothingToDo w = refl
+result_has SuccessPerformed w = refl
+result_has Denied w = refl
+result_has ErrorWrongSSN w = refl
+result_has ErrorRequestAlreadyInProgress w = refl
+result_has ErrorBadSequenceNumber w = refl
+result_has InProgress w = refl
+
+response_by : (b : Bool) (reached : Bool) (number : ℕ) (result : ReconfigurationResponseResult) (w : WorkedRequests) → is_outstanding number w.outstanding ≡ b
+    → WorksOne reached (reconfiguration_response number result) w (with_response b result w)
+response_by false reached number result w is =
+    rests_one reached (reconfiguration_response number result) w (another_answers w.outstanding number result is) refl
+    (λ my base rest. ap (λ (b : Bool). let first : Informed = informed_where my (held_now base w) number result b in after_answer first (work_parameters my reached w.has_worked first.held rest)) is)
+response_by true reached number result w is =
+    record {
+      effects = λ my base. (informed_by my (held_now base w) number result).effects;
+      responses = [];
+      are = refl;
+      added = ap (λ rs. rs.items) (result_keeps result w).0 ∙ sym (append-nil w.responses.items);
+      refused = (result_keeps result w).1;
+      has = result_has result w ∙ or_not w.has_worked false refl;
+      brings = brings_answer number result refl (own_is w.outstanding number is) refl (λ my base. refl);
+      whole = λ my base rest.
+          ap (λ (b : Bool). let first : Informed = informed_where my (held_now base w) number result b in after_answer first (work_parameters my reached w.has_worked first.held rest)) is
+          ∙ response_whole result my reached number w base rest;
+    }
+
+pub response_one : (reached : Bool) (number : ℕ) (result : ReconfigurationResponseResult) (w new : WorkedRequests) → new ≡ with_response (is_outstanding number w.outstanding) result w
+    → WorksOne reached (reconfiguration_response number result) w new
+response_one reached number result w new is =
+    subst (WorksOne reached (reconfiguration_response number result) w) (sym is) (response_by (is_outstanding number w.outstanding) reached number result w refl)
+
+one_response : (number : ℕ) (answer : ReconfigurationResponseResult) (old new : WorkedRequests) (h : Responds number answer old new) → AreResponses (h.response ∷ [])
+one_response number answer old new h =
+    ap (λ (c : ParameterContent). reset_parameter_content (reset_parameter_in c) ∷ []) h.says ∙ ap (λ (c : ParameterContent). c ∷ []) (sym h.says)
+
+-- it says this
+response_says : (number : ℕ) (answer : ReconfigurationResponseResult) (old new : WorkedRequests) (h : Responds number answer old new)
+    → reset_parameters (h.response ∷ []) ≡ reconfiguration_response number answer ∷ []
+response_says number answer old new h = ap (λ (c : ParameterContent). reset_parameter_in c ∷ []) h.says
+
+-- a request that was answered, and what stands behind it
+answered_then : (my : Pair) (reached has : Bool) (base : Held) (number : ℕ) (a : AnsweredRequest) (first : Answered) (responses : List ResetParameter) (rest : List ResetParameter)
+    → AnswersAs base a first → responses ≡ reconfiguration_response number a.result ∷ []
+    → after_request number first (work_parameters my reached has first.held rest) ≡ behind_these first.effects responses (work_parameters my reached has (held_with base a.last) rest)
+answered_then my reached has base number a first responses rest h says =
+    ap (λ (held : Held). after_request number first (work_parameters my reached has held rest)) h.held
+    ∙ ap (λ (result : ReconfigurationResponseResult). behind_these first.effects (reconfiguration_response number result ∷ []) (work_parameters my reached has (held_with base a.last) rest)) h.result
+    ∙ ap (λ (rs : List ResetParameter). behind_these first.effects rs (work_parameters my reached has (held_with base a.last) rest)) (sym says)
+
+pub outgoing_one : (reached : Bool) (number answered : ℕ) (reset : RequestedReset) (old between new : WorkedRequests) (a : AnsweredRequest) → old.has_worked ≡ false
+    → ((base : Held) → AnswersAs base a (outgoing_by (held_with base old.last) number reached (place_of old.last.number number)))
+    → Responds number a.result old between → new.responses ≡ between.responses → new.last ≡ a.last → new.treatment ≡ a.treatment → new.has_worked ≡ true → SameOwn between new → new.is_refused ≡ between.is_refused
+    → WorksOne reached (outgoing_reset_request number answered reset) old new
+outgoing_one reached number answered reset old between new a fresh answers h responses last treatment has own refused =
+    let after : Held → Held = held_out old.outstanding in
+    let first : Held → Answered = λ base. outgoing_by (held_with (after base) old.last) number reached (place_of old.last.number number) in
+    let same : SameOwn old new = own_then old between new h.own own in
+    record {
+      effects = λ my base. (first base).effects;
+      responses = h.response ∷ [];
+      are = one_response number a.result old between h;
+      added = ap (λ rs. rs.items) responses ∙ h.added;
+      refused = refused ∙ h.is_refused;
+      has = has ∙ sym (or_one old.has_worked);
+      brings = brings_request fresh has same (λ my base. subst (λ (t : Treatment). Treats t (first base).effects) (sym treatment) (answers (after base)).treats)
+          (outgoing_answers old.outstanding number answered reset);
+      whole = λ my base rest.
+          ap (λ (b : Bool). work_parameters my reached b (held_with (after base) old.last) (outgoing_reset_request number answered reset ∷ rest)) fresh
+          ∙ answered_then my reached true (after base) number a (first base) (reset_parameters (h.response ∷ [])) rest (answers (after base)) (response_says number a.result old between h)
+          ∙ ap (λ (b : Bool). behind_these (first base).effects (reset_parameters (h.response ∷ [])) (work_parameters my reached b (held_with (after base) a.last) rest)) (sym has)
+          ∙ ap (λ (l : LastRequest). behind_these (first base).effects (reset_parameters (h.response ∷ [])) (work_parameters my reached new.has_worked (held_with (after base) l) rest)) (sym last)
+          ∙ ap (λ (o : Option ℕ). behind_these (first base).effects (reset_parameters (h.response ∷ [])) (work_parameters my reached new.has_worked (held_out o (held_with base new.last)) rest)) (sym same.outstanding);
+    }
+
+-- No stream is reset for an incoming request.
+incoming_treats : (held : Held) (number : ℕ) (place : Place) → Treats Nothing (incoming_by held number place).effects
+incoming_treats held number again = nothing_treats
+incoming_treats held number next = record { has = refl; told = λ theirs own. refl; drawn = refl }
+incoming_treats held number astray = nothing_treats
+
+pub incoming_one : (reached : Bool) (number : ℕ) (streams : List ℕ) (old between new : WorkedRequests) (a : AnsweredRequest)
+    → ((base : Held) → AnswersAs base a (incoming_by (held_with base old.last) number (place_of old.last.number number)))
+    → Responds number a.result old between → new.responses ≡ between.responses → new.last ≡ a.last → new.treatment ≡ between.treatment → new.has_worked ≡ between.has_worked → SameOwn between new
+    → new.is_refused ≡ between.is_refused → WorksOne reached (incoming_reset_request number streams) old new
+incoming_one reached number streams old between new a answers h responses last treatment has own refused =
+    let after : Held → Held = held_out old.outstanding in
+    let first : Held → Answered = λ base. incoming_by (held_with (after base) old.last) number (place_of old.last.number number) in
+    let same : SameOwn old new = own_then old between new h.own own in
+    record {
+      effects = λ my base. (first base).effects;
+      responses = h.response ∷ [];
+      are = one_response number a.result old between h;
+      added = ap (λ rs. rs.items) responses ∙ h.added;
+      refused = refused ∙ h.is_refused;
+      has = has ∙ h.has_worked ∙ or_not old.has_worked false refl;
+      brings = brings_nothing (treatment ∙ h.treatment) (has ∙ h.has_worked) same (λ my base. incoming_treats (held_with (after base) old.last) number (place_of old.last.number number))
+          (incoming_answers old.outstanding number streams);
+      whole = λ my base rest.
+          answered_then my reached old.has_worked (after base) number a (first base) (reset_parameters (h.response ∷ [])) rest (answers (after base)) (response_says number a.result old between h)
+          ∙ ap (λ (b : Bool). behind_these (first base).effects (reset_parameters (h.response ∷ [])) (work_parameters my reached b (held_with (after base) a.last) rest)) (sym (has ∙ h.has_worked))
+          ∙ ap (λ (l : LastRequest). behind_these (first base).effects (reset_parameters (h.response ∷ [])) (work_parameters my reached new.has_worked (held_with (after base) l) rest)) (sym last)
+          ∙ ap (λ (o : Option ℕ). behind_these (first base).effects (reset_parameters (h.response ∷ [])) (work_parameters my reached new.has_worked (held_out o (held_with base new.last)) rest)) (sym same.outstanding);
+    }
+
+-- The first outgoing request is worked.
+second_by : (has : Bool) (parameter : ResetParameter) → is_outgoing parameter ≡ true → (has && is_outgoing parameter) ≡ false → has ≡ false
+second_by true parameter outgoing first = absurd (cc)
+second_by false parameter outgoing first = refl
+
+pub not_second : (has : Bool) (parameter : Parameter) (request : OutgoingSsnResetRequestParameter) → parameter ≡ parameters.OutgoingSsnResetRequest request → (has && is_outgoing (said_by parameter)) ≡ false → has ≡ false
+not_second has parameter request is first = second_by has (said_by parameter) (ap (λ (p : Parameter). is_outgoing (said_by p)) is) first
+
+-- ---- the parameters so far
+
+-- Where the own request stands: as it did, perhaps answered as in progress; or at its end, of which the user is told first, or behind
+-- what became of the peer's request.
+pub data OwnStands (start : Option ℕ) (front : List ResetParameter) (w : WorkedRequests) : Type 0 where
+  awaited : w.outstanding ≡ start → own_kind w.own ≡ own_answer start start (in_progress_among start front) → ((streams : List ℕ) → own_events w.own streams ≡ []) → OwnStands start front w
+  ended : (number : ℕ) → start ≡ Some number → w.outstanding ≡ None → own_kind w.own ≡ outcomes.over → (w.is_own_first ≡ true) ⊎ (w.has_worked ≡ true) → OwnStands start front w
+
+-- What was made of these, whatever stands behind them.
+pub record Progress (reached : Bool) (last : LastRequest) (start : Option ℕ) (front : List ResetParameter) (w : WorkedRequests) : Type 0 where
+  pub effects : Pair → Held → List Effect
+  pub are : AreResponses w.responses.items
+  pub treats : (my : Pair) (base : Held) → TreatsBoth w (effects my base)
+  pub fresh : w.has_worked ≡ false → w.treatment ≡ Nothing
+  pub own : OwnStands start front w
+  pub part : (rest : List ResetParameter) → worked_part false (front ++ rest) ≡ front ++ worked_part w.has_worked rest
+  pub whole : (my : Pair) (base : Held) (rest : List ResetParameter)
+      → work_parameters my reached false (held_out start (held_with base last)) (front ++ rest)
+      ≡ behind_these (effects my base) (reset_parameters w.responses.items) (work_parameters my reached w.has_worked (held_now base w) rest)
+
+nothing_asked : (start : Option ℕ) → own_answer start start (in_progress_among start []) ≡ outcomes.unanswered
+nothing_asked None = refl
+nothing_asked (Some number) = refl
+
+-- before any parameter
+abbrev pub begun : LastRequest → Option ℕ → Bool → WorkedRequests → WorkedRequests
+begun last start refused w =
+    record w { last = last; treatment = Nothing; has_worked = false; outstanding = start; own = own.Unanswered; is_own_first = false; is_refused = refused }
+
+pub none_so_far : (reached : Bool) (last : LastRequest) (start : Option ℕ) (refused : Bool) (w : WorkedRequests) → w.responses.items ≡ [] → w ≡ begun last start refused w → Progress reached last start [] w
+none_so_far reached last start refused w none is =
+    subst (Progress reached last start []) (sym is)
+    (record {
+      effects = λ my base. [];
+      are = ap (λ (ps : List Parameter). map reset_parameter_content (reset_parameters ps)) none ∙ ap (λ (ps : List Parameter). map parameter_content ps) (sym none);
+      treats = λ my base. record { has = refl; told = λ theirs streams. refl; drawn = refl };
+      fresh = λ h. refl;
+      own = awaited refl (sym (nothing_asked start)) (λ streams. refl);
+      part = λ rest. refl;
+      whole = λ my base rest.
+          ap (λ (ps : List Parameter). behind_these [] (reset_parameters ps) (work_parameters my reached false (held_out start (held_with base last)) rest)) (sym none);
+    })
+
+said_append : (xs ys : List Parameter) → reset_parameters (xs ++ ys) ≡ reset_parameters xs ++ reset_parameters ys
+said_append xs ys = ap (λ (cs : List ParameterContent). map reset_parameter_in cs) (map-append parameter_content xs ys) ∙ map-append reset_parameter_in (map parameter_content xs) (map parameter_content ys)
+
+both_responses : (xs ys : List Parameter) → AreResponses xs → AreResponses ys → AreResponses (xs ++ ys)
+both_responses xs ys first second =
+    ap (λ (ps : List ResetParameter). map reset_parameter_content ps) (said_append xs ys)
+    ∙ map-append reset_parameter_content (reset_parameters xs) (reset_parameters ys)
+    ∙ ap (λ (cs : List ParameterContent). cs ++ map reset_parameter_content (reset_parameters ys)) first
+    ∙ ap (λ (cs : List ParameterContent). map parameter_content xs ++ cs) second
+    ∙ sym (map-append parameter_content xs ys)
+
+-- what both bring
+behind_both : (es fs : List Effect) (xs ys : List ResetParameter) (rest : WorkedParameters) → behind_these es xs (behind_these fs ys rest) ≡ behind_these (es ++ fs) (xs ++ ys) rest
+behind_both es fs xs ys rest =
+    ap (λ (all : List Effect). record rest { effects = all; answers = xs ++ (ys ++ rest.answers) }) (sym (append_assoc es fs rest.effects))
+    ∙ ap (λ (all : List ResetParameter). record rest { effects = (es ++ fs) ++ rest.effects; answers = all }) (sym (append_assoc xs ys rest.answers))
+
+-- what the user is told so far, and then nothing more
+told_same : (old new : WorkedRequests) (theirs streams : List ℕ) → SameOwn old new → new.treatment ≡ old.treatment
+    → told_so new.is_own_first new.own new.treatment theirs streams ≡ told_so old.is_own_first old.own old.treatment theirs streams
+told_same old new theirs streams same is =
+    ap (λ (b : Bool). told_so b new.own new.treatment theirs streams) same.first
+    ∙ ap (λ (a : OwnAnswer). told_so old.is_own_first a new.treatment theirs streams) same.own
+    ∙ ap (λ (t : Treatment). told_so old.is_own_first old.own t theirs streams) is
+
+then_nothing : (old new : WorkedRequests) (es fs : List Effect) → TreatsBoth old es → Treats Nothing fs → SameOwn old new → new.treatment ≡ old.treatment → TreatsBoth new (es ++ fs)
+then_nothing old new es fs first second same is =
+    record {
+      has = has_both es fs ∙ ap (λ (b : Bool). resets_of (has_reset es) b) second.has ∙ resets_alone (has_reset es) ∙ first.has ∙ sym (ap is_performed is);
+      told = λ theirs streams. told_both theirs streams es fs ∙ ap (λ (xs : List (Event Emission)). reset_events theirs streams es ++ xs) (second.told theirs streams)
+          ∙ append-nil (reset_events theirs streams es) ∙ first.told theirs streams ∙ sym (told_same old new theirs streams same is);
+      drawn = drawn_both es fs first.drawn second.drawn;
+    }
+
+-- .. then of the peer's request
+joins : (b : Bool) (a : OwnAnswer) (t : Treatment) (theirs streams : List ℕ) → (own_events a streams ≡ []) ⊎ (b ≡ true) → told_so b a Nothing theirs streams ++ treated_events t theirs ≡ told_so b a t theirs streams
+joins true own.Unanswered t theirs streams early = refl
+joins false own.Unanswered t theirs streams early = sym (append-nil (treated_events t theirs))
+joins true own.InProgress t theirs streams early = refl
+joins false own.InProgress t theirs streams early = sym (append-nil (treated_events t theirs))
+joins true own.Performed t theirs streams early = refl
+joins false own.Performed t theirs streams (inl silent) = absurd (cc)
+joins false own.Performed t theirs streams (inr first) = absurd (cc)
+joins true own.Failed t theirs streams early = refl
+joins false own.Failed t theirs streams (inl silent) = absurd (cc)
+joins false own.Failed t theirs streams (inr first) = absurd (cc)
+
+-- Nothing was told of the own request, or that comes first.
+early : (start : Option ℕ) (front : List ResetParameter) (w : WorkedRequests) (streams : List ℕ) → OwnStands start front w → w.has_worked ≡ false → (own_events w.own streams ≡ []) ⊎ (w.is_own_first ≡ true)
+early start front w streams (awaited same kind silent) fresh = inl (silent streams)
+early start front w streams (ended number is none kind (inl first)) fresh = inr first
+early start front w streams (ended number is none kind (inr worked)) fresh = absurd (cc)
+
+then_request : (old new : WorkedRequests) (es fs : List Effect) → TreatsBoth old es → old.treatment ≡ Nothing → ((streams : List ℕ) → (own_events old.own streams ≡ []) ⊎ (old.is_own_first ≡ true)) → Treats new.treatment fs
+    → SameOwn old new → TreatsBoth new (es ++ fs)
+then_request old new es fs first nothing before second same =
+    record {
+      has = has_both es fs ∙ ap (λ (b : Bool). resets_of b (has_reset fs)) (first.has ∙ ap is_performed nothing) ∙ second.has;
+      told = λ theirs streams.
+          told_both theirs streams es fs
+          ∙ ap (λ (xs : List (Event Emission)). xs ++ reset_events theirs streams fs) (first.told theirs streams ∙ ap (λ (t : Treatment). told_so old.is_own_first old.own t theirs streams) nothing)
+          ∙ ap (λ (xs : List (Event Emission)). told_so old.is_own_first old.own Nothing theirs streams ++ xs) (second.told theirs streams)
+          ∙ joins old.is_own_first old.own new.treatment theirs streams (before streams)
+          ∙ ap (λ (b : Bool). told_so b old.own new.treatment theirs streams) (sym same.first)
+          ∙ ap (λ (a : OwnAnswer). told_so new.is_own_first a new.treatment theirs streams) (sym same.own);
+      drawn = drawn_both es fs first.drawn second.drawn;
+    }
+
+-- .. then of the own request
+quietly : (b : Bool) (a : OwnAnswer) (t : Treatment) (theirs streams : List ℕ) → own_events a streams ≡ [] → told_so b a t theirs streams ≡ treated_events t theirs
+quietly true a t theirs streams silent = ap (λ (xs : List (Event Emission)). xs ++ treated_events t theirs) silent
+quietly false a t theirs streams silent = ap (λ (xs : List (Event Emission)). treated_events t theirs ++ xs) silent ∙ append-nil (treated_events t theirs)
+
+closes : (b worked : Bool) (a answer : OwnAnswer) (t : Treatment) (theirs streams : List ℕ) → own_events a streams ≡ [] → (worked ≡ false → t ≡ Nothing)
+    → told_so b a t theirs streams ++ own_events answer streams ≡ told_so (not worked) answer t theirs streams
+closes b true a answer t theirs streams silent fresh = ap (λ (xs : List (Event Emission)). xs ++ own_events answer streams) (quietly b a t theirs streams silent)
+closes b false a answer t theirs streams silent fresh =
+    ap (λ (xs : List (Event Emission)). xs ++ own_events answer streams) (quietly b a t theirs streams silent)
+    ∙ ap (λ (u : Treatment). treated_events u theirs ++ own_events answer streams) (fresh refl)
+    ∙ sym (append-nil (own_events answer streams))
+    ∙ ap (λ (u : Treatment). own_events answer streams ++ treated_events u theirs) (sym (fresh refl))
+
+-- what these effects come to of the own request alone
+record Tells (answer : OwnAnswer) (effects : List Effect) : Type 0 where
+  has : has_reset effects ≡ false
+  told : (theirs streams : List ℕ) → reset_events theirs streams effects ≡ own_events answer streams
+  drawn : drawn_in effects ≡ []
+
+then_ended : (old : WorkedRequests) (answer : OwnAnswer) (es fs : List Effect) → TreatsBoth old es → ((streams : List ℕ) → own_events old.own streams ≡ []) → (old.has_worked ≡ false → old.treatment ≡ Nothing)
+    → Tells answer fs → TreatsBoth (own_ended answer old) (es ++ fs)
+then_ended old answer es fs first silent fresh tells =
+    record {
+      has = has_both es fs ∙ ap (λ (b : Bool). resets_of (has_reset es) b) tells.has ∙ resets_alone (has_reset es) ∙ first.has;
+      told = λ theirs streams.
+          told_both theirs streams es fs
+          ∙ ap (λ (xs : List (Event Emission)). xs ++ reset_events theirs streams fs) (first.told theirs streams)
+          ∙ ap (λ (xs : List (Event Emission)). told_so old.is_own_first old.own old.treatment theirs streams ++ xs) (tells.told theirs streams)
+          ∙ closes old.is_own_first old.has_worked old.own answer old.treatment theirs streams (silent streams) fresh;
+      drawn = drawn_both es fs first.drawn tells.drawn;
+    }
+
+then_awaited : (old : WorkedRequests) (es : List Effect) → TreatsBoth old es → ((streams : List ℕ) → own_events old.own streams ≡ []) → TreatsBoth (record old { own = own.InProgress }) (es ++ [])
+then_awaited old es first silent =
+    record {
+      has = ap has_reset (append-nil es) ∙ first.has;
+      told = λ theirs streams. ap (reset_events theirs streams) (append-nil es) ∙ first.told theirs streams
+          ∙ quietly old.is_own_first old.own old.treatment theirs streams (silent streams) ∙ sym (quietly old.is_own_first own.InProgress old.treatment theirs streams refl);
+      drawn = ap drawn_in (append-nil es) ∙ first.drawn;
+    }
+
+then_result : (result : ReconfigurationResponseResult) (my : Pair) (held : Held) (number : ℕ) (old : WorkedRequests) (es : List Effect) → TreatsBoth old es → ((streams : List ℕ) → own_events old.own streams ≡ [])
+    → (old.has_worked ≡ false → old.treatment ≡ Nothing) → TreatsBoth (with_result result old) (es ++ (informed_by my held number result).effects)
+then_result SuccessNothingToDo my held number old es first silent fresh = then_ended old own.Performed es _ first silent fresh (record { has = refl; told = λ theirs streams. refl; drawn = refl })
+then_result SuccessPerformed my held number old es first silent fresh = then_ended old own.Performed es _ first silent fresh (record { has = refl; told = λ theirs streams. refl; drawn = refl })
+then_result Denied my held number old es first silent fresh = then_ended old own.Failed es _ first silent fresh (record { has = refl; told = λ theirs streams. refl; drawn = refl })
+then_result ErrorWrongSSN my held number old es first silent fresh = then_ended old own.Failed es _ first silent fresh (record { has = refl; told = λ theirs streams. refl; drawn = refl })
+then_result ErrorRequestAlreadyInProgress my held number old es first silent fresh = then_ended old own.Failed es _ first silent fresh (record { has = refl; told = λ theirs streams. refl; drawn = refl })
+then_result ErrorBadSequenceNumber my held number old es first silent fresh = then_ended old own.Failed es _ first silent fresh (record { has = refl; told = λ theirs streams. refl; drawn = refl })
+then_result InProgress my held number old es first silent fresh = then_awaited old es first silent
+
+-- ---- one more parameter
+
+-- where the own request is awaited, an answer to it comes
+silent_of : (start : Option ℕ) (front : List ResetParameter) (w : WorkedRequests) (number : ℕ) → OwnStands start front w → w.outstanding ≡ Some number → (streams : List ℕ) → own_events w.own streams ≡ []
+silent_of start front w number (awaited same kind silent) is streams = silent streams
+silent_of start front w number (ended other was none kind first) is streams = absurd (cc)
+
+treats_more : (start : Option ℕ) (front : List ResetParameter) (parameter : ResetParameter) (old new : WorkedRequests) (effects : Pair → Held → List Effect) (my : Pair) (base : Held) (es : List Effect)
+    → TreatsBoth old es → (old.has_worked ≡ false → old.treatment ≡ Nothing) → OwnStands start front old → Brings parameter old new effects → TreatsBoth new (es ++ effects my base)
+treats_more start front parameter old new effects my base es first fresh own (brings_nothing treatment has same treats other) = then_nothing old new es (effects my base) first (treats my base) same treatment
+treats_more start front parameter old new effects my base es first fresh own (brings_request not_yet has same treats other) =
+    then_request old new es (effects my base) first (fresh not_yet) (λ streams. early start front old streams own not_yet) (treats my base) same
+treats_more start front parameter old new effects my base es first fresh own (brings_answer number result is awaits now brings) =
+    subst (λ (w : WorkedRequests). TreatsBoth w (es ++ effects my base)) (sym now)
+    (subst (λ (fs : List Effect). TreatsBoth (with_result result old) (es ++ fs)) (sym (brings my base))
+    (then_result result my (held_now base old) number old es first (silent_of start front old number own awaits) fresh))
+
+result_worked : (result : ReconfigurationResponseResult) (w : WorkedRequests) → ((with_result result w).has_worked ≡ w.has_worked) × ((with_result result w).treatment ≡ w.treatment)
+result_worked SuccessNothingToDo w = (refl, refl)
+result_worked SuccessPerformed w = (refl, refl)
+result_worked Denied w = (refl, refl)
+result_worked ErrorWrongSSN w = (refl, refl)
+result_worked ErrorRequestAlreadyInProgress w = (refl, refl)
+result_worked ErrorBadSequenceNumber w = (refl, refl)
+result_worked InProgress w = (refl, refl)
+
+fresh_more : (parameter : ResetParameter) (old new : WorkedRequests) (effects : Pair → Held → List Effect) → (old.has_worked ≡ false → old.treatment ≡ Nothing) → Brings parameter old new effects
+    → new.has_worked ≡ false → new.treatment ≡ Nothing
+fresh_more parameter old new effects fresh (brings_nothing treatment has same treats other) is = treatment ∙ fresh (sym has ∙ is)
+fresh_more parameter old new effects fresh (brings_request not_yet has same treats other) is = absurd (cc)
+fresh_more parameter old new effects fresh (brings_answer number result was awaits now brings) is =
+    ap (λ (w : WorkedRequests). w.treatment) now ∙ (result_worked result old).1 ∙ fresh (sym (result_worked result old).0 ∙ sym (ap (λ (w : WorkedRequests). w.has_worked) now) ∙ is)
+
+-- whether it was answered as in progress, with one more
+among_more : (start : Option ℕ) (front : List ResetParameter) (parameter : ResetParameter) → in_progress_among start (parameter ∷ []) ≡ false → in_progress_among start (front ++ parameter ∷ []) ≡ in_progress_among start front
+among_more None front parameter other = refl
+among_more (Some number) front parameter other =
+    list_any-append (is_in_progress number) front (parameter ∷ []) ∙ ap (λ (b : Bool). list_any (is_in_progress number) front || b) other ∙ or_right (list_any (is_in_progress number) front)
+  where
+    or_right : (b : Bool) → (b || false) ≡ b
+    or_right true = refl
+    or_right false = refl
+
+stays_more : (start : Option ℕ) (front : List ResetParameter) (parameter : ResetParameter) (old new : WorkedRequests) → OwnStands start front old → SameOwn old new → (old.has_worked ≡ true → new.has_worked ≡ true)
+    → in_progress_among old.outstanding (parameter ∷ []) ≡ false → OwnStands start (front ++ parameter ∷ []) new
+stays_more start front parameter old new (awaited is kind silent) same worked other =
+    awaited (same.outstanding ∙ is)
+    (ap own_kind same.own ∙ kind ∙ ap (λ (b : Bool). own_answer start start b) (sym (among_more start front parameter (subst (λ (o : Option ℕ). in_progress_among o (parameter ∷ []) ≡ false) is other))))
+    (λ streams. ap (λ (a : OwnAnswer). own_events a streams) same.own ∙ silent streams)
+stays_more start front parameter old new (ended number is none kind (inl first)) same worked other = ended number is (same.outstanding ∙ none) (ap own_kind same.own ∙ kind) (inl (same.first ∙ first))
+stays_more start front parameter old new (ended number is none kind (inr has)) same worked other = ended number is (same.outstanding ∙ none) (ap own_kind same.own ∙ kind) (inr (worked has))
+
+first_or_worked : (b : Bool) → (not b ≡ true) ⊎ (b ≡ true)
+first_or_worked true = inr refl
+first_or_worked false = inl refl
+
+answered_now : (number : ℕ) (front : List ResetParameter) → in_progress_among (Some number) (front ++ reconfiguration_response number InProgress ∷ []) ≡ true
+answered_now number front =
+    list_any-append (is_in_progress number) front (reconfiguration_response number InProgress ∷ []) ∙ ap (λ (b : Bool). list_any (is_in_progress number) front || (b || false)) (same_number number) ∙ or_true (list_any (is_in_progress number) front)
+  where
+    same_number : (n : ℕ) → (n == n) ≡ true
+    same_number n = grind (arith, nat_tests)
+
+    or_true : (b : Bool) → (b || true) ≡ true
+    or_true true = refl
+    or_true false = refl
+
+by_result : (result : ReconfigurationResponseResult) (number : ℕ) (front : List ResetParameter) (old : WorkedRequests) → old.outstanding ≡ Some number
+    → OwnStands (Some number) (front ++ reconfiguration_response number result ∷ []) (with_result result old)
+by_result SuccessNothingToDo number front old is = ended number refl refl refl (first_or_worked old.has_worked)
+by_result SuccessPerformed number front old is = ended number refl refl refl (first_or_worked old.has_worked)
+by_result Denied number front old is = ended number refl refl refl (first_or_worked old.has_worked)
+by_result ErrorWrongSSN number front old is = ended number refl refl refl (first_or_worked old.has_worked)
+by_result ErrorRequestAlreadyInProgress number front old is = ended number refl refl refl (first_or_worked old.has_worked)
+by_result ErrorBadSequenceNumber number front old is = ended number refl refl refl (first_or_worked old.has_worked)
+by_result InProgress number front old is = awaited is (ap (λ (b : Bool). own_answer (Some number) (Some number) b) (sym (answered_now number front))) (λ streams. refl)
+
+-- what the own request was before
+start_of : (start : Option ℕ) (front : List ResetParameter) (w : WorkedRequests) (number : ℕ) → OwnStands start front w → w.outstanding ≡ Some number → start ≡ Some number
+start_of start front w number (awaited same kind silent) is = sym same ∙ is
+start_of start front w number (ended other was none kind first) is = absurd (cc)
+
+own_more : (start : Option ℕ) (front : List ResetParameter) (parameter : ResetParameter) (old new : WorkedRequests) (effects : Pair → Held → List Effect) → OwnStands start front old → Brings parameter old new effects
+    → OwnStands start (front ++ parameter ∷ []) new
+own_more start front parameter old new effects own (brings_nothing treatment has same treats other) = stays_more start front parameter old new own same (λ is. has ∙ is) other
+own_more start front parameter old new effects own (brings_request not_yet has same treats other) = stays_more start front parameter old new own same (λ is. has) other
+own_more start front parameter old new effects own (brings_answer number result is awaits now brings) =
+    subst (OwnStands start (front ++ parameter ∷ [])) (sym now)
+    (subst (λ (p : ResetParameter). OwnStands start (front ++ p ∷ []) (with_result result old)) (sym is)
+    (subst (λ (o : Option ℕ). OwnStands o (front ++ reconfiguration_response number result ∷ []) (with_result result old)) (sym (start_of start front old number own awaits)) (by_result result number front old awaits)))
+
+-- which parameters are worked
+part_one : (has : Bool) (parameter : ResetParameter) (after : Bool) (rest : List ResetParameter) → (has && is_outgoing parameter) ≡ false → after ≡ (has || is_outgoing parameter)
+    → worked_part has (parameter ∷ rest) ≡ parameter ∷ worked_part after rest
+part_one true (outgoing_reset_request number answered reset) after rest first is = absurd (cc)
+part_one false (outgoing_reset_request number answered reset) after rest first is = ap (λ (b : Bool). outgoing_reset_request number answered reset ∷ worked_part b rest) (sym is)
+part_one true (incoming_reset_request number streams) after rest first is = ap (λ (b : Bool). incoming_reset_request number streams ∷ worked_part b rest) (sym is)
+part_one false (incoming_reset_request number streams) after rest first is = ap (λ (b : Bool). incoming_reset_request number streams ∷ worked_part b rest) (sym is)
+part_one true (reconfiguration_response number result) after rest first is = ap (λ (b : Bool). reconfiguration_response number result ∷ worked_part b rest) (sym is)
+part_one false (reconfiguration_response number result) after rest first is = ap (λ (b : Bool). reconfiguration_response number result ∷ worked_part b rest) (sym is)
+part_one true (other_reset_parameter parameter) after rest first is = ap (λ (b : Bool). other_reset_parameter parameter ∷ worked_part b rest) (sym is)
+part_one false (other_reset_parameter parameter) after rest first is = ap (λ (b : Bool). other_reset_parameter parameter ∷ worked_part b rest) (sym is)
+
+-- It isn't the second outgoing request.
+pub none_if : (has outgoing : Bool) → outgoing ≡ false → (has && outgoing) ≡ false
+none_if true outgoing is = is
+none_if false outgoing is = refl
+
+pub none_yet : (has outgoing : Bool) → has ≡ false → (has && outgoing) ≡ false
+none_yet true outgoing is = absurd (cc)
+none_yet false outgoing is = refl
+
+-- One more was worked.
+pub one_more : (reached : Bool) (last : LastRequest) (start : Option ℕ) (front : List ResetParameter) (parameter : ResetParameter) (old new : WorkedRequests)
+    → (old.has_worked && is_outgoing parameter) ≡ false → Progress reached last start front old → WorksOne reached parameter old new
+    → Progress reached last start (front ++ parameter ∷ []) new
+one_more reached last start front parameter old new first done step =
+    record {
+      effects = λ my base. done.effects my base ++ step.effects my base;
+      are = subst AreResponses (sym step.added) (both_responses old.responses.items step.responses done.are step.are);
+      treats = λ my base. treats_more start front parameter old new step.effects my base (done.effects my base) (done.treats my base) done.fresh done.own step.brings;
+      fresh = fresh_more parameter old new step.effects done.fresh step.brings;
+      own = own_more start front parameter old new step.effects done.own step.brings;
+      part = λ rest.
+          ap (worked_part false) (append_assoc front (parameter ∷ []) rest) ∙ done.part (parameter ∷ rest)
+          ∙ ap (λ (ps : List ResetParameter). front ++ ps) (part_one old.has_worked parameter new.has_worked rest first step.has)
+          ∙ sym (append_assoc front (parameter ∷ []) (worked_part new.has_worked rest));
+      whole = λ my base rest.
+          ap (λ (ps : List ResetParameter). work_parameters my reached false (held_out start (held_with base last)) ps) (append_assoc front (parameter ∷ []) rest)
+          ∙ done.whole my base (parameter ∷ rest)
+          ∙ ap (λ (w : WorkedParameters). behind_these (done.effects my base) (reset_parameters old.responses.items) w) (step.whole my base rest)
+          ∙ behind_both (done.effects my base) (step.effects my base) (reset_parameters old.responses.items) (reset_parameters step.responses) (work_parameters my reached new.has_worked (held_now base new) rest)
+          ∙ ap (λ (ps : List ResetParameter). behind_these (done.effects my base ++ step.effects my base) ps (work_parameters my reached new.has_worked (held_now base new) rest))
+          (sym (said_append old.responses.items step.responses) ∙ ap (λ (ps : List Parameter). reset_parameters ps) (sym step.added));
+    }
+
+-- what became of the own request in the end
+own_at_end : (start : Option ℕ) (front : List ResetParameter) (w : WorkedRequests) → OwnStands start front w → own_kind w.own ≡ own_answer start w.outstanding (in_progress_among start front)
+own_at_end start front w (awaited is kind silent) = kind ∙ ap (λ (o : Option ℕ). own_answer start o (in_progress_among start front)) (sym is)
+own_at_end start front w (ended number is none kind first) =
+    kind ∙ ap (λ (o : Option ℕ). own_answer o None (in_progress_among o front)) (sym is) ∙ ap (λ (o : Option ℕ). own_answer start o (in_progress_among start front)) (sym none)
+
+-- and which is outstanding still
+kind_left : (kind : outcomes.OwnAnswer) (start : Option ℕ) (b : Bool) → kind ≡ own_answer start start b → left_out kind start ≡ start
+kind_left outcomes.unanswered start b is = refl
+kind_left outcomes.retried start b is = refl
+kind_left outcomes.over None b is = refl
+kind_left outcomes.over (Some number) true is = absurd (cc)
+kind_left outcomes.over (Some number) false is = absurd (cc)
+
+left_at_end : (start : Option ℕ) (front : List ResetParameter) (w : WorkedRequests) → OwnStands start front w → w.outstanding ≡ left_out (own_kind w.own) start
+left_at_end start front w (awaited is kind silent) = is ∙ sym (kind_left (own_kind w.own) start (in_progress_among start front) kind)
+left_at_end start front w (ended number is none kind first) = none ∙ ap (λ (k : outcomes.OwnAnswer). left_out k start) (sym kind)
+
+-- ---- a chunk
+
+-- a chunk that has a parameter
+chunk_of : (my : Pair) (reached : Bool) (held : Held) (parameters : List ResetParameter) → is_none parameters ≡ false → work_chunk my reached held parameters ≡ work_parameters my reached false held parameters
+chunk_of my reached held [] some = absurd (cc)
+chunk_of my reached held (parameter ∷ parameters) some = refl
+
+-- its end
+bring_all : (es : List Effect) (rs : List ResetParameter) (held : Held) → behind_these es rs (record { held = held; effects = []; answers = []; is_refused = false }) ≡ record { held = held; effects = es; answers = rs; is_refused = false }
+bring_all es rs held =
+    ap (λ (all : List Effect). record { held = held; effects = all; answers = rs ++ []; is_refused = false }) (append-nil es)
+    ∙ ap (λ (all : List ResetParameter). record { held = held; effects = es; answers = all; is_refused = false }) (append-nil rs)
+
+bring_refused : (es : List Effect) (rs : List ResetParameter) (held : Held) → behind_these es rs (record { held = held; effects = []; answers = []; is_refused = true }) ≡ record { held = held; effects = es; answers = rs; is_refused = true }
+bring_refused es rs held =
+    ap (λ (all : List Effect). record { held = held; effects = all; answers = rs ++ []; is_refused = true }) (append-nil es)
+    ∙ ap (λ (all : List ResetParameter). record { held = held; effects = es; answers = all; is_refused = true }) (append-nil rs)
+
+pub all_worked : (reached : Bool) (last : LastRequest) (start : Option ℕ) (parameters : List ResetParameter) (w : WorkedRequests) → Progress reached last start parameters w → is_none parameters ≡ false → w.is_refused ≡ false
+    → WorksChunk reached last start parameters w
+all_worked reached last start parameters w done some taken =
+    record {
+      effects = done.effects;
+      are = done.are;
+      treats = done.treats;
+      own = own_at_end start parameters w done.own ∙ ap (λ (ps : List ResetParameter). own_answer start w.outstanding (in_progress_among start ps)) (sym (whole_part w.has_worked parameters (done.part [])));
+      left = left_at_end start parameters w done.own;
+      whole = λ my base.
+          chunk_of my reached (held_out start (held_with base last)) parameters some
+          ∙ ap (λ (ps : List ResetParameter). work_parameters my reached false (held_out start (held_with base last)) ps) (sym (append-nil parameters))
+          ∙ done.whole my base []
+          ∙ bring_all (done.effects my base) (reset_parameters w.responses.items) (held_now base w)
+          ∙ ap (λ (b : Bool). record { held = held_now base w; effects = done.effects my base; answers = reset_parameters w.responses.items; is_refused = b }) (sym taken);
+    }
+  where
+    whole_part : (has : Bool) (ps : List ResetParameter) → worked_part false (ps ++ []) ≡ ps ++ worked_part has [] → worked_part false ps ≡ ps
+    whole_part true ps is = ap (worked_part false) (sym (append-nil ps)) ∙ is ∙ append-nil ps
+    whole_part false ps is = ap (worked_part false) (sym (append-nil ps)) ∙ is ∙ append-nil ps
+
+-- A second outgoing request is an error.
+second_outgoing : (my : Pair) (reached has : Bool) (held : Held) (parameter : ResetParameter) (rest : List ResetParameter) → has ≡ true → is_outgoing parameter ≡ true
+    → work_parameters my reached has held (parameter ∷ rest) ≡ record { held = held; effects = []; answers = []; is_refused = true }
+second_outgoing my reached true held (outgoing_reset_request number answered reset) rest has is = refl
+second_outgoing my reached false held (outgoing_reset_request number answered reset) rest has is = absurd (cc)
+second_outgoing my reached has held (incoming_reset_request number streams) rest worked is = absurd (cc)
+second_outgoing my reached has held (reconfiguration_response number result) rest worked is = absurd (cc)
+second_outgoing my reached has held (other_reset_parameter parameter) rest worked is = absurd (cc)
+
+not_none : (front rest : List ResetParameter) (parameter : ResetParameter) → is_none (front ++ parameter ∷ rest) ≡ false
+not_none [] rest parameter = refl
+not_none (first ∷ front) rest parameter = refl
+
+second_part : (has : Bool) (parameter : ResetParameter) (rest : List ResetParameter) → has ≡ true → is_outgoing parameter ≡ true → worked_part has (parameter ∷ rest) ≡ []
+second_part true (outgoing_reset_request number answered reset) rest has is = refl
+second_part false (outgoing_reset_request number answered reset) rest has is = absurd (cc)
+second_part has (incoming_reset_request number streams) rest worked is = absurd (cc)
+second_part has (reconfiguration_response number result) rest worked is = absurd (cc)
+second_part has (other_reset_parameter parameter) rest worked is = absurd (cc)
+
+pub second_worked : (reached : Bool) (last : LastRequest) (start : Option ℕ) (front rest : List ResetParameter) (parameter : ResetParameter) (w v : WorkedRequests) → Progress reached last start front w → w.has_worked ≡ true
+    → is_outgoing parameter ≡ true → v ≡ record w { is_refused = true } → WorksChunk reached last start (front ++ parameter ∷ rest) v
+second_worked reached last start front rest parameter w v done has is here =
+    subst (WorksChunk reached last start (front ++ parameter ∷ rest)) (sym here)
+    (record {
+      effects = done.effects;
+      are = done.are;
+      treats = λ my base. let t = done.treats my base in record { has = t.has; told = t.told; drawn = t.drawn };
+      own = own_at_end start front w done.own
+          ∙ ap (λ (ps : List ResetParameter). own_answer start w.outstanding (in_progress_among start ps))
+          (sym (done.part (parameter ∷ rest) ∙ ap (λ (ps : List ResetParameter). front ++ ps) (second_part w.has_worked parameter rest has is) ∙ append-nil front));
+      left = left_at_end start front w done.own;
+      whole = λ my base.
+          chunk_of my reached (held_out start (held_with base last)) (front ++ parameter ∷ rest) (not_none front rest parameter)
+          ∙ done.whole my base (parameter ∷ rest)
+          ∙ ap (λ (after : WorkedParameters). behind_these (done.effects my base) (reset_parameters w.responses.items) after) (second_outgoing my reached w.has_worked (held_now base w) parameter rest has is)
+          ∙ bring_refused (done.effects my base) (reset_parameters w.responses.items) (held_now base w);
+    })
+
+-- A chunk without parameters is an error too.
+pub none_worked : (reached : Bool) (last : LastRequest) (start : Option ℕ) (w : WorkedRequests) → Progress reached last start [] w → w.is_refused ≡ true → WorksChunk reached last start [] w
+none_worked reached last start w done refused =
+    record {
+      effects = done.effects;
+      are = done.are;
+      treats = done.treats;
+      own = own_at_end start [] w done.own;
+      left = left_at_end start [] w done.own;
+      whole = λ my base.
+          ap (λ (after : WorkedParameters). record after { is_refused = true }) (done.whole my base [])
+          ∙ bring_refused (done.effects my base) (reset_parameters w.responses.items) (held_now base w)
+          ∙ ap (λ (b : Bool). record { held = held_now base w; effects = done.effects my base; answers = reset_parameters w.responses.items; is_refused = b }) (sym refused);
+    }
+
+-- ---- the loop
+
+pub parameters_more : (parameters : List Parameter) (i : ℕ) (d : Parameter) → i < length parameters
+    → reset_parameters (take (i + 1) parameters) ≡ reset_parameters (take i parameters) ++ said_by (get_or parameters i d) ∷ []
+parameters_more parameters i d lt = ap (λ (ps : List Parameter). reset_parameters ps) (take_more parameters i d lt) ∙ said_append (take i parameters) (get_or parameters i d ∷ [])
+
+pub parameters_split : (parameters : List Parameter) (i : ℕ) (d : Parameter) → i < length parameters
+    → reset_parameters parameters ≡ reset_parameters (take i parameters) ++ said_by (get_or parameters i d) ∷ reset_parameters (drop (i + 1) parameters)
+parameters_split parameters i d lt =
+    let after : List ResetParameter = reset_parameters (drop (i + 1) parameters) in
+    ap (λ (ps : List Parameter). reset_parameters ps) (sym (take-append-drop (i + 1) parameters))
+    ∙ said_append (take (i + 1) parameters) (drop (i + 1) parameters)
+    ∙ ap (λ (ps : List ResetParameter). ps ++ after) (parameters_more parameters i d lt)
+    ∙ append_assoc (reset_parameters (take i parameters)) (said_by (get_or parameters i d) ∷ []) after
+
+pub ends_worked : (reached : Bool) (last : LastRequest) (start : Option ℕ) (parameters : List Parameter) (w : WorkedRequests) → Progress reached last start (reset_parameters parameters) w → w.is_refused ≡ nat_eq (length parameters) 0
+    → WorksChunk reached last start (reset_parameters parameters) w
+ends_worked reached last start [] w done refused = none_worked reached last start w done refused
+ends_worked reached last start (parameter ∷ parameters) w done refused = all_worked reached last start (reset_parameters (parameter ∷ parameters)) w done refl (refused ∙ grind (arith, nat_tests))

@@ -1,0 +1,175 @@
+-- The own request was answered: what becomes of it, and what the user is told of it and of the peer's request.
+use Rattle.std.proofs.Common.{◌≡◌, ℕ, Bool, true, false, Option, None, Some, Result, Ok, Err, List, [], ◌∷◌, ◌++◌, length, take, refl, sym, ap, subst, ◌∙◌, append_assoc}
+use Rattle.std.specs.Option.{option_map}
+use Rattle.std.proofs.lemmas.List.{append-nil}
+use Rattle.dcsctp_machine.specs.Event.{Event}
+use Rattle.dcsctp_machine.specs.Reconfiguration.{RequestedReset}
+use Rattle.dcsctp_machine.specs.Transfer.{Transfer}
+use Rattle.dcsctp_machine.specs.Endpoint.{OutstandingRequest, RunningTimer, cookie_echoed, open_in}
+use Rattle.dcsctp_machine.specs.turns.ResetOutcomes.{OwnAnswer, unanswered, retried, over, waiting, own_streams, ResetsBelow}
+use Rattle.dcsctp_api.specs.declared.events.SocketEvent.{SocketEvent}
+use Rattle.dcsctp_core.specs.declared.context.Context.{Context}
+use Rattle.dcsctp_core.specs.declared.state.CookieEchoState.{CookieEchoState}
+use Rattle.dcsctp_core.specs.declared.state.OpenState.{OpenState}
+use Rattle.dcsctp_core.specs.declared.state.State.{State}
+use Rattle.dcsctp_core.specs.declared.transmission_control_block.ResetRequest.{ResetRequest}
+use Rattle.dcsctp_core.specs.declared.transmission_control_block.TransmissionControlBlock.{TransmissionControlBlock}
+use Rattle.dcsctp_core.specs.declared.state.State.TheVariants.{Closed, CookieWait, CookieEchoed, Open}
+use Rattle.dcsctp_core.specs.View.{View, number_of, request_of, timer_of, held_of, phase_in, outstanding_of, transfer_of, view_of}
+use Rattle.dcsctp_send_timer.specs.Timer.{TimerModel}
+use Rattle.dcsctp_core.specs.Answering.{delayed, Retries, RetriesIn}
+use Rattle.dcsctp_core.specs.Reconfiguring.{request_in}
+use Rattle.dcsctp_core_resets.specs.declared.requests.OwnAnswer.TheVariants as own
+use Rattle.dcsctp_core_resets.specs.declared.requests.WorkedRequests.{WorkedRequests}
+use Rattle.dcsctp_core_resets.specs.Requests.{held_out, own_kind}
+use Rattle.dcsctp_core_resets.specs.Resets.{left_at, settled_at, own_told, event_told, Settles, Tells, is_performed_for, told_for, Treats, told_both, told_where, Carried}
+
+-- ---- the request that is outstanding
+
+number_none : (request : Option ResetRequest) → request_of request ≡ None → number_of request ≡ None
+number_none None none = refl
+number_none (Some request) none = absurd (cc)
+
+pub none_numbered : (s : State) → outstanding_of s ≡ None → number_of (request_in s) ≡ None
+none_numbered Closed none = refl
+none_numbered (CookieWait wait) none = refl
+none_numbered (CookieEchoed echoed) none = number_none echoed.tcb.reset_request none
+none_numbered (Open opened) none = number_none opened.tcb.reset_request none
+
+-- ---- it is in progress
+
+number_delayed : (timer : TimerModel) (request : Option ResetRequest) → number_of (option_map (delayed timer) request) ≡ number_of request
+number_delayed timer None = refl
+number_delayed timer (Some request) = refl
+
+request_delayed : (timer : TimerModel) (request : Option ResetRequest) → request_of (option_map (delayed timer) request) ≡ option_map waiting (request_of request)
+request_delayed timer None = refl
+request_delayed timer (Some request) = refl
+
+timer_delayed : (timer : TimerModel) (running : Option RunningTimer) (request : Option ResetRequest) → timer.running ≡ running → (request ≡ None → ⊥)
+    → timer_of (option_map (delayed timer) request) ≡ running
+timer_delayed timer running None runs some = absurd (some refl)
+timer_delayed timer running (Some request) runs some = runs
+
+-- the view with this own request and this timer
+abbrev asking : {R : Type 0} → View R → Option OutstandingRequest → Option RunningTimer → View R
+asking view request timer =
+    record view { endpoint = record view.endpoint { outstanding = request; timers = record view.endpoint.timers { reconfiguration = timer } } }
+
+echoed_view : {R : Type 0} (old : Context R) (echoed : CookieEchoState) (tcb : TransmissionControlBlock) → Retries old.moment echoed.tcb tcb → (echoed.tcb.reset_request ≡ None → ⊥)
+    → view_of (record old { state = CookieEchoed (record echoed { tcb = tcb }) }) ≡ settled_at retried (view_of (record old { state = CookieEchoed echoed }))
+echoed_view {R = R} old echoed tcb h some =
+    let v : View R = view_of (record old { state = CookieEchoed echoed }) in
+    let numbered : Option ℕ → Option OutstandingRequest → Option RunningTimer → View R =
+    λ n r t. record (asking v r t) { endpoint = record (asking v r t).endpoint { core = cookie_echoed echoed.tcb.my (held_out n (held_of echoed.tcb)) echoed.cookie.items } } in
+    let rr : Option ResetRequest = echoed.tcb.reset_request in
+    let later : Option ResetRequest = option_map (delayed h.timer) rr in
+    ap (λ (t : TransmissionControlBlock). view_of (record old { state = CookieEchoed (record echoed { tcb = t }) })) h.is
+    ∙ ap (λ (n : Option ℕ). numbered n (request_of later) (timer_of later)) (number_delayed h.timer rr)
+    ∙ ap (λ (r : Option OutstandingRequest). numbered (number_of rr) r (timer_of later)) (request_delayed h.timer rr)
+    ∙ ap (λ (t : Option RunningTimer). numbered (number_of rr) (option_map waiting (request_of rr)) t) (timer_delayed h.timer _ rr h.runs some)
+
+open_view : {R : Type 0} (old : Context R) (opened : OpenState) (tcb : TransmissionControlBlock) → Retries old.moment opened.tcb tcb → (opened.tcb.reset_request ≡ None → ⊥)
+    → view_of (record old { state = Open (record opened { tcb = tcb }) }) ≡ settled_at retried (view_of (record old { state = Open opened }))
+open_view {R = R} old opened tcb h some =
+    let v : View R = view_of (record old { state = Open opened }) in
+    let numbered : Option ℕ → Option OutstandingRequest → Option RunningTimer → View R =
+    λ n r t. record (asking v r t) { endpoint = record (asking v r t).endpoint { core = open_in (phase_in opened.phase) opened.tcb.my (held_out n (held_of opened.tcb)) } } in
+    let rr : Option ResetRequest = opened.tcb.reset_request in
+    let later : Option ResetRequest = option_map (delayed h.timer) rr in
+    ap (λ (t : TransmissionControlBlock). view_of (record old { state = Open (record opened { tcb = t }) })) h.is
+    ∙ ap (λ (n : Option ℕ). numbered n (request_of later) (timer_of later)) (number_delayed h.timer rr)
+    ∙ ap (λ (r : Option OutstandingRequest). numbered (number_of rr) r (timer_of later)) (request_delayed h.timer rr)
+    ∙ ap (λ (t : Option RunningTimer). numbered (number_of rr) (option_map waiting (request_of rr)) t) (timer_delayed h.timer _ rr h.runs some)
+
+-- an answer counts where a request is outstanding
+asked_some : (request : Option ResetRequest) → (request_of request ≡ None → own.InProgress ≡ own.Unanswered) → request ≡ None → ⊥
+asked_some request asked none = let never = asked (ap request_of none) in absurd (cc)
+
+retried_view : {R : Type 0} (old : Context R) (s new : State) → RetriesIn old.moment s new → (outstanding_of s ≡ None → own.InProgress ≡ own.Unanswered)
+    → view_of (record old { state = new }) ≡ settled_at retried (view_of (record old { state = s }))
+retried_view old Closed new h asked = let never = asked refl in absurd (cc)
+retried_view old (CookieWait wait) new h asked = let never = asked refl in absurd (cc)
+retried_view old (CookieEchoed echoed) new h asked = ap (λ (s : State). view_of (record old { state = s })) h.2 ∙ echoed_view old echoed h.0 h.1 (asked_some echoed.tcb.reset_request asked)
+retried_view old (Open opened) new h asked = ap (λ (s : State). view_of (record old { state = s })) h.2 ∙ open_view old opened h.0 h.1 (asked_some opened.tcb.reset_request asked)
+
+pub retried_settles : {R : Type 0} (old : Context R) (new : State) → RetriesIn old.moment old.state new → Settles own.InProgress old None (record old { state = new })
+retried_settles old new h = λ asked. (retried_view old old.state new h asked, refl)
+
+-- ---- both requests
+
+-- What lies below is as it was.
+settled_transfer : {R : Type 0} (answer : OwnAnswer) (v : View R) → (settled_at answer v).endpoint.below.transfer ≡ v.endpoint.below.transfer
+settled_transfer unanswered v = refl
+settled_transfer retried v = refl
+settled_transfer over v = refl
+
+abbrev Settled : {R : Type 0} → WorkedRequests → Context R → Option SocketEvent → Context R → Type 0
+Settled w old told mid = (view_of mid ≡ settled_at (own_kind w.own) (view_of old)) × (event_told told ≡ own_told w.own (own_streams (outstanding_of old.state)))
+
+transfer_same : {R : Type 0} (w : WorkedRequests) (old mid : Context R) (told : Option SocketEvent) → Settled w old told mid → transfer_of mid.state ≡ transfer_of old.state
+transfer_same {R = R} w old mid told h = ap (λ (v : View R). v.endpoint.below.transfer) h.0 ∙ settled_transfer (own_kind w.own) (view_of old)
+
+events_same : {R : Type 0} (w : WorkedRequests) (old mid : Context R) (told : Option SocketEvent) → Settled w old told mid → (view_of mid).events ≡ (view_of old).events
+events_same {R = R} w old mid told h = ap (λ (v : View R). v.events) h.0
+
+front_of : (front back : List (Event (List ℕ))) → take (length front) (front ++ back) ≡ front
+front_of [] back = refl
+front_of (first ∷ front) back = ap (λ (es : List (Event (List ℕ))). first ∷ es) (front_of front back)
+
+-- where a growth was refused before the first event
+pub none_told : {R : Type 0} (w : WorkedRequests) (reset : Option RequestedReset) (old mid new : Context R) (told : Option SocketEvent) → Settled w old told mid → (view_of new).events ≡ (view_of mid).events
+    → (count : ℕ) × ((view_of new).events ≡ (view_of old).events ++ take count (told_where w reset old))
+none_told w reset old mid new told h same = (0, same ∙ events_same w old mid told h ∙ sym (append-nil (view_of old).events))
+
+-- .. before the second
+one_told : (old new front back all : List (Event (List ℕ))) → all ≡ front ++ back → new ≡ old ++ front → (count : ℕ) × (new ≡ old ++ take count all)
+one_told old new front back all is told =
+    (length front, told ∙ ap (λ (es : List (Event (List ℕ))). old ++ es) (sym (front_of front back)) ∙ ap (λ (es : List (Event (List ℕ))). old ++ take (length front) es) (sym is))
+
+-- both were told
+both_told : {R : Type 0} (w : WorkedRequests) (reset : Option RequestedReset) (old : Context R) (left : Option Transfer) (front back : List (Event (List ℕ))) → told_where w reset old ≡ front ++ back
+    → left_at (left_at (settled_at (own_kind w.own) (view_of old)) left front) left back ≡ left_at (settled_at (own_kind w.own) (view_of old)) left (told_where w reset old)
+both_told {R = R} w reset old left front back is =
+    let v : View R = settled_at (own_kind w.own) (view_of old) in
+    ap (λ (es : List (Event (List ℕ))). let n : View R = record (left_at v left []) { events = es } in n) (append_assoc v.events front back) ∙ ap (λ (es : List (Event (List ℕ))). left_at v left es) (sym is)
+
+-- The own request comes first.
+pub own_first : {R E : Type 0} (w : WorkedRequests) (reset : Option RequestedReset) (old mid between : Context R) (told : Option SocketEvent) (result : Result (Unit {0}) E) (new : Context R) → w.is_own_first ≡ true
+    → Settled w old told mid → view_of between ≡ record (view_of mid) { events = (view_of mid).events ++ event_told told } → Treats w.treatment reset between result new → Carried w reset old result new
+own_first {R = R} w reset old mid between told (Ok done) new first h tells treats =
+    let streams : List ℕ = own_streams (outstanding_of old.state) in
+    let is : told_where w reset old ≡ own_told w.own streams ++ told_for w.treatment reset = ap (λ (b : Bool). told_both b w.own w.treatment reset streams) first in
+    let here : view_of between ≡ record (settled_at (own_kind w.own) (view_of old)) { events = (settled_at (own_kind w.own) (view_of old)).events ++ own_told w.own streams } =
+    tells ∙ ap (λ (v : View R). let n : View R = record v { events = v.events ++ event_told told } in n) h.0
+    ∙ ap (λ (es : List (Event (List ℕ))). let n : View R = record (settled_at (own_kind w.own) (view_of old)) { events = (settled_at (own_kind w.own) (view_of old)).events ++ es } in n) h.1 in
+    let below : transfer_of between.state ≡ transfer_of old.state = ap (λ (v : View R). v.endpoint.below.transfer) here ∙ settled_transfer (own_kind w.own) (view_of old) in (
+      treats.0,
+      subst (λ (f : Option Transfer). ResetsBelow (is_performed_for w.treatment reset) f treats.0) below treats.1,
+      treats.2 ∙ ap (λ (v : View R). left_at v treats.0 (told_for w.treatment reset)) here ∙ both_told w reset old treats.0 (own_told w.own streams) (told_for w.treatment reset) is,
+    )
+own_first {R = R} w reset old mid between told (Err fault) new first h tells treats =
+    let streams : List ℕ = own_streams (outstanding_of old.state) in
+    one_told (view_of old).events (view_of new).events (own_told w.own streams) (told_for w.treatment reset) (told_where w reset old)
+    (ap (λ (b : Bool). told_both b w.own w.treatment reset streams) first)
+    (treats ∙ ap (λ (v : View R). v.events) tells ∙ ap (λ (es : List (Event (List ℕ))). es ++ event_told told) (events_same w old mid told h) ∙ ap (λ (es : List (Event (List ℕ))). (view_of old).events ++ es) h.1)
+
+-- The peer's comes first.
+pub peer_first : {R E : Type 0} (w : WorkedRequests) (reset : Option RequestedReset) (old mid between : Context R) (told : Option SocketEvent) (left : Option Transfer) (result : Result (Unit {0}) E) (new : Context R) → w.is_own_first ≡ false
+    → Settled w old told mid → ResetsBelow (is_performed_for w.treatment reset) (transfer_of mid.state) left → view_of between ≡ left_at (view_of mid) left (told_for w.treatment reset)
+    → Tells told between result new → Carried w reset old result new
+peer_first {R = R} w reset old mid between told left (Ok done) new first h below treated tells =
+    let streams : List ℕ = own_streams (outstanding_of old.state) in
+    let v : View R = settled_at (own_kind w.own) (view_of old) in
+    let is : told_where w reset old ≡ told_for w.treatment reset ++ own_told w.own streams = ap (λ (b : Bool). told_both b w.own w.treatment reset streams) first in (
+      left,
+      subst (λ (f : Option Transfer). ResetsBelow (is_performed_for w.treatment reset) f left) (transfer_same w old mid told h) below,
+      tells ∙ ap (λ (n : View R). let m : View R = record n { events = n.events ++ event_told told } in m) (treated ∙ ap (λ (n : View R). left_at n left (told_for w.treatment reset)) h.0)
+          ∙ ap (λ (es : List (Event (List ℕ))). left_at (left_at v left (told_for w.treatment reset)) left es) h.1
+          ∙ both_told w reset old left (told_for w.treatment reset) (own_told w.own streams) is,
+    )
+peer_first {R = R} w reset old mid between told left (Err fault) new first h below treated tells =
+    let streams : List ℕ = own_streams (outstanding_of old.state) in
+    one_told (view_of old).events (view_of new).events (told_for w.treatment reset) (own_told w.own streams) (told_where w reset old)
+    (ap (λ (b : Bool). told_both b w.own w.treatment reset streams) first)
+    (tells ∙ ap (λ (v : View R). v.events) treated ∙ ap (λ (es : List (Event (List ℕ))). es ++ told_for w.treatment reset) (events_same w old mid told h))

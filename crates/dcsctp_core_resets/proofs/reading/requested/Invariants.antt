@@ -1,0 +1,8 @@
+use Rattle.std.proofs.Common.{◌≡◌, drop}
+use Rattle.dcsctp_machine.specs.turns.ResetOutcomes.{requested_in}
+use Rattle.dcsctp_core_resets.specs.Requests.{reset_parameters}
+use Rattle.dcsctp_core_resets.proofs.reading.requested.Given as goal
+
+-- the first one is among the parameters that are left
+abbrev pub invariant-loop-parameter : goal.invariant-loop-parameter
+invariant-loop-parameter l = requested_in (reset_parameters (drop l.parameter-index l.parameters)) ≡ requested_in (reset_parameters l.parameters)

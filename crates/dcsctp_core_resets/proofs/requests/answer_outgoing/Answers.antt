@@ -1,0 +1,7 @@
+use Rattle.std.proofs.Common.{subst}
+use Rattle.dcsctp_machine.specs.control.ResetChanges.{Place, outgoing_by}
+use Rattle.dcsctp_core_resets.specs.Requests.{AnswersAs, held_with}
+use Rattle.dcsctp_core_resets.proofs.requests.answer_outgoing.Goals as goal
+
+pub returns-in-Astray : goal.returns-in-Astray
+returns-in-Astray c = λ base. subst (λ (place : Place). AnswersAs base c.refused.result (outgoing_by (held_with base c.args.last) c.args.number c.args.is_reached place)) c.in-Astray.ensures (c.refused.ensures base)

@@ -1,0 +1,190 @@
+-- What the code makes of the peer's requests, as the machine says it (RFC 6525, section 5.2).
+use Rattle.std.specs.Prelude.{◌≡◌, ℕ, Bool, true, false, not, ◌||◌, Option, None, Some, List, [], ◌∷◌, ◌++◌, map}
+use Rattle.dcsctp_wire.specs.declared.parameter.Parameter.{Parameter}
+use Rattle.dcsctp_wire.specs.declared.reconfiguration.ReconfigurationResponseResult.{ReconfigurationResponseResult}
+use Rattle.dcsctp_wire.specs.declared.reconfiguration.ReconfigurationResponseResult.TheVariants.{SuccessNothingToDo, SuccessPerformed, Denied, ErrorWrongSSN, ErrorRequestAlreadyInProgress, ErrorBadSequenceNumber, InProgress}
+use Rattle.dcsctp_wire.specs.Content.{parameter_content}
+use Rattle.dcsctp_machine.specs.declared.association.Pair.{Pair}
+use Rattle.dcsctp_machine.specs.declared.association.Held.{Held}
+use Rattle.dcsctp_machine.specs.Event.{Event, incoming_stream_reset, streams_reset_failed, streams_reset_performed}
+use Rattle.dcsctp_machine.specs.Packet.{Emission}
+use Rattle.dcsctp_machine.specs.Reconfiguration.{ResetParameter, outgoing_reset_request, reconfiguration_response, reset_parameter_content, reset_parameter_in}
+use Rattle.dcsctp_machine.specs.control.Effect.{Effect, drawn_in}
+use Rattle.dcsctp_machine.specs.control.ResetChanges.{Answered, with_last, informed_by, WorkedParameters, work_parameters, work_chunk}
+use Rattle.dcsctp_machine.specs.control.ResetChanges as changes
+use Rattle.dcsctp_machine.specs.turns.ResetOutcomes.{has_reset, worked_part, own_answer, in_progress_among, reset_events}
+use Rattle.dcsctp_machine.specs.turns.ResetOutcomes as outcomes
+use Rattle.dcsctp_core_resets.specs.declared.requests.Place.{Place}
+use Rattle.dcsctp_core_resets.specs.declared.requests.Place.TheVariants.{Again, Next, Astray}
+use Rattle.dcsctp_core_resets.specs.declared.requests.Treatment.{Treatment}
+use Rattle.dcsctp_core_resets.specs.declared.requests.Treatment.TheVariants.{Nothing, Deferred, Performed}
+use Rattle.dcsctp_core_resets.specs.declared.requests.OwnAnswer.{OwnAnswer}
+use Rattle.dcsctp_core_resets.specs.declared.requests.OwnAnswer.TheVariants as own
+use Rattle.dcsctp_core_resets.specs.declared.requests.LastRequest.{LastRequest}
+use Rattle.dcsctp_core_resets.specs.declared.requests.AnsweredRequest.{AnsweredRequest}
+use Rattle.dcsctp_core_resets.specs.declared.requests.WorkedRequests.{WorkedRequests}
+
+-- ---- parameters
+
+abbrev pub said_by : Parameter → ResetParameter
+said_by parameter = reset_parameter_in (parameter_content parameter)
+
+abbrev pub reset_parameters : List Parameter → List ResetParameter
+reset_parameters parameters = map reset_parameter_in (map parameter_content parameters)
+
+abbrev pub is_outgoing : ResetParameter → Bool
+is_outgoing (outgoing_reset_request number answered reset) = true
+is_outgoing parameter = false
+
+-- ---- one request
+
+abbrev pub in_place : Place → changes.Place
+in_place Again = changes.again
+in_place Next = changes.next
+in_place Astray = changes.astray
+
+-- the association with this last request of the peer
+abbrev pub held_with : Held → LastRequest → Held
+held_with held last = with_last held last.number last.result
+
+-- and with this own request
+abbrev pub held_out : Option ℕ → Held → Held
+held_out outstanding held = record held { own_outstanding = outstanding }
+
+abbrev pub is_performed : Treatment → Bool
+is_performed Performed = true
+is_performed Deferred = false
+is_performed Nothing = false
+
+-- what the user is told, where the peer wants these streams reset
+abbrev pub treated_events : Treatment → List ℕ → List (Event Emission)
+treated_events Performed theirs = incoming_stream_reset theirs ∷ []
+treated_events Deferred theirs = []
+treated_events Nothing theirs = []
+
+-- That is what these effects come to.
+pub record Treats (treatment : Treatment) (effects : List Effect) : Type 0 where
+  pub has : has_reset effects ≡ is_performed treatment
+  pub told : (theirs own : List ℕ) → reset_events theirs own effects ≡ treated_events treatment theirs
+  pub drawn : drawn_in effects ≡ []
+
+-- An answer of the code is that of the machine.
+pub record AnswersAs (base : Held) (a : AnsweredRequest) (b : Answered) : Type 0 where
+  pub held : b.held ≡ held_with base a.last
+  pub result : b.result ≡ a.result
+  pub treats : Treats a.treatment b.effects
+
+-- ---- the own request
+
+-- what the user is told, where it resets these streams
+abbrev pub own_events : OwnAnswer → List ℕ → List (Event Emission)
+own_events own.Unanswered streams = []
+own_events own.InProgress streams = []
+own_events own.Performed streams = streams_reset_performed streams ∷ []
+own_events own.Failed streams = streams_reset_failed streams ∷ []
+
+-- the number of the request that is outstanding still
+abbrev pub left_out : outcomes.OwnAnswer → Option ℕ → Option ℕ
+left_out outcomes.unanswered outstanding = outstanding
+left_out outcomes.retried outstanding = outstanding
+left_out outcomes.over outstanding = None
+
+-- what the machine says of it
+abbrev pub own_kind : OwnAnswer → outcomes.OwnAnswer
+own_kind own.Unanswered = outcomes.unanswered
+own_kind own.InProgress = outcomes.retried
+own_kind own.Performed = outcomes.over
+own_kind own.Failed = outcomes.over
+
+-- What was made of parameters, once it has ended so. What it tells comes first where no outgoing request was worked so far.
+abbrev pub own_ended : OwnAnswer → WorkedRequests → WorkedRequests
+own_ended answer worked = record worked { outstanding = None; own = answer; is_own_first = not worked.has_worked }
+
+abbrev pub with_result : ReconfigurationResponseResult → WorkedRequests → WorkedRequests
+with_result SuccessNothingToDo worked = own_ended own.Performed worked
+with_result SuccessPerformed worked = own_ended own.Performed worked
+with_result Denied worked = own_ended own.Failed worked
+with_result ErrorWrongSSN worked = own_ended own.Failed worked
+with_result ErrorRequestAlreadyInProgress worked = own_ended own.Failed worked
+with_result ErrorBadSequenceNumber worked = own_ended own.Failed worked
+with_result InProgress worked = record worked { own = own.InProgress }
+
+-- An answer to another request changes nothing.
+abbrev pub with_response : Bool → ReconfigurationResponseResult → WorkedRequests → WorkedRequests
+with_response true result worked = with_result result worked
+with_response false result worked = worked
+
+-- It is as it was.
+pub record SameOwn (old new : WorkedRequests) : Type 0 where
+  pub outstanding : new.outstanding ≡ old.outstanding
+  pub own : new.own ≡ old.own
+  pub first : new.is_own_first ≡ old.is_own_first
+
+-- ---- the parameters of a chunk
+
+-- One more is answered.
+pub record Responds (number : ℕ) (answer : ReconfigurationResponseResult) (old new : WorkedRequests) : Type 0 where
+  pub response : Parameter
+  pub says : parameter_content response ≡ reset_parameter_content (reconfiguration_response number answer)
+  pub added : new.responses.items ≡ old.responses.items ++ response ∷ []
+  pub last : new.last ≡ old.last
+  pub treatment : new.treatment ≡ old.treatment
+  pub has_worked : new.has_worked ≡ old.has_worked
+  pub own : SameOwn old new
+  pub is_refused : new.is_refused ≡ old.is_refused
+
+-- these effects and answers, and then what the rest brings
+abbrev pub behind_these : List Effect → List ResetParameter → WorkedParameters → WorkedParameters
+behind_these effects answers rest = record rest { effects = effects ++ rest.effects; answers = answers ++ rest.answers }
+
+-- each is written as it is read
+abbrev pub AreResponses : List Parameter → Type 0
+AreResponses responses = map reset_parameter_content (reset_parameters responses) ≡ map parameter_content responses
+
+-- what is kept of the association
+abbrev pub held_now : Held → WorkedRequests → Held
+held_now base worked = held_out worked.outstanding (held_with base worked.last)
+
+-- what the user is told of both, in their order
+abbrev pub told_so : Bool → OwnAnswer → Treatment → List ℕ → List ℕ → List (Event Emission)
+told_so true answer treatment theirs streams = own_events answer streams ++ treated_events treatment theirs
+told_so false answer treatment theirs streams = treated_events treatment theirs ++ own_events answer streams
+
+-- That is what the effects of a chunk come to.
+pub record TreatsBoth (worked : WorkedRequests) (effects : List Effect) : Type 0 where
+  pub has : has_reset effects ≡ is_performed worked.treatment
+  pub told : (theirs streams : List ℕ) → reset_events theirs streams effects ≡ told_so worked.is_own_first worked.own worked.treatment theirs streams
+  pub drawn : drawn_in effects ≡ []
+
+-- What a parameter brings: nothing, what becomes of a request of the peer, or what becomes of the own one.
+pub data Brings (parameter : ResetParameter) (old new : WorkedRequests) (effects : Pair → Held → List Effect) : Type 0 where
+  brings_nothing : new.treatment ≡ old.treatment → new.has_worked ≡ old.has_worked → SameOwn old new → ((my : Pair) (base : Held) → Treats Nothing (effects my base))
+      → in_progress_among old.outstanding (parameter ∷ []) ≡ false → Brings parameter old new effects
+  brings_request : old.has_worked ≡ false → new.has_worked ≡ true → SameOwn old new → ((my : Pair) (base : Held) → Treats new.treatment (effects my base))
+      → in_progress_among old.outstanding (parameter ∷ []) ≡ false → Brings parameter old new effects
+  brings_answer : (number : ℕ) (result : ReconfigurationResponseResult) → parameter ≡ reconfiguration_response number result → old.outstanding ≡ Some number → new ≡ with_result result old
+      → ((my : Pair) (base : Held) → effects my base ≡ (informed_by my (held_now base old) number result).effects) → Brings parameter old new effects
+
+-- A parameter was worked: whatever stands behind it, the machine goes on from what the code keeps.
+pub record WorksOne (reached : Bool) (parameter : ResetParameter) (old new : WorkedRequests) : Type 0 where
+  pub effects : Pair → Held → List Effect
+  pub responses : List Parameter
+  pub are : AreResponses responses
+  pub added : new.responses.items ≡ old.responses.items ++ responses
+  pub refused : new.is_refused ≡ old.is_refused
+  pub has : new.has_worked ≡ (old.has_worked || is_outgoing parameter)
+  pub brings : Brings parameter old new effects
+  pub whole : (my : Pair) (base : Held) (rest : List ResetParameter)
+      → work_parameters my reached old.has_worked (held_now base old) (parameter ∷ rest)
+      ≡ behind_these (effects my base) (reset_parameters responses) (work_parameters my reached new.has_worked (held_now base new) rest)
+
+-- All were worked.
+pub record WorksChunk (reached : Bool) (last : LastRequest) (outstanding : Option ℕ) (parameters : List ResetParameter) (worked : WorkedRequests) : Type 0 where
+  pub effects : Pair → Held → List Effect
+  pub are : AreResponses worked.responses.items
+  pub treats : (my : Pair) (base : Held) → TreatsBoth worked (effects my base)
+  pub own : own_kind worked.own ≡ own_answer outstanding worked.outstanding (in_progress_among outstanding (worked_part false parameters))
+  pub left : worked.outstanding ≡ left_out (own_kind worked.own) outstanding
+  pub whole : (my : Pair) (base : Held)
+      → work_chunk my reached (held_out outstanding (held_with base last)) parameters
+      ≡ record { held = held_now base worked; effects = effects my base; answers = reset_parameters worked.responses.items; is_refused = worked.is_refused }

@@ -1,0 +1,159 @@
+-- What the handler of RE-CONFIG does, as turns of a socket's view (RFC 6525, section 5.2).
+use Rattle.std.specs.Prelude.{◌≡◌, ℕ, Bool, true, false, Option, None, Some, Result, Ok, Err, List, [], ◌∷◌, ◌++◌, take}
+use Rattle.rand_core.specs.Stream.{Stream}
+use Rattle.dcsctp_wire.specs.declared.reconfiguration.OutgoingSsnResetRequestParameter.{OutgoingSsnResetRequestParameter}
+use Rattle.dcsctp_wire.specs.declared.reconfiguration.ReconfigurationResponseResult.TheVariants.{SuccessNothingToDo}
+use Rattle.dcsctp_machine.specs.declared.association.Held.{Held}
+use Rattle.dcsctp_machine.specs.Event.{Event, incoming_stream_reset, streams_reset_failed, streams_reset_performed}
+use Rattle.dcsctp_api.specs.declared.events.SocketEvent.{SocketEvent}
+use Rattle.dcsctp_api.specs.Events.{event_content}
+use Rattle.dcsctp_machine.specs.Reconfiguration.{RequestedReset, ResetParameter, streams_in}
+use Rattle.dcsctp_machine.specs.Transfer.{Transfer}
+use Rattle.dcsctp_machine.specs.Endpoint.{Endpoint, Core, cookie_echoed, open_in, held_in}
+use Rattle.dcsctp_machine.specs.Outcome.{Outcome, still}
+use Rattle.dcsctp_machine.specs.turns.FlushOutcomes.{Answer}
+use Rattle.dcsctp_machine.specs.turns.ResetOutcomes.{OwnAnswer, unanswered, retried, over, own_moved, own_streams, ResetsBelow, responses_outcome, responses_by, ResponseAnswers, ResetTurn}
+use Rattle.dcsctp_core.specs.declared.state.State.{State}
+use Rattle.dcsctp_core.specs.declared.state.State.TheVariants.{Closed, CookieWait, CookieEchoed, Open}
+use Rattle.dcsctp_core.specs.declared.context.Context.{Context}
+use Rattle.dcsctp_core.specs.View.{View, core_of, outstanding_of, transfer_of, view_of}
+use Rattle.dcsctp_core.specs.Handling.{TakesOne}
+use Rattle.dcsctp_core_resets.specs.declared.requests.LastRequest.{LastRequest}
+use Rattle.dcsctp_core_resets.specs.declared.requests.Treatment.{Treatment}
+use Rattle.dcsctp_core_resets.specs.declared.requests.Treatment.TheVariants.{Performed}
+use Rattle.dcsctp_core_resets.specs.declared.requests.WorkedRequests.{WorkedRequests}
+use Rattle.dcsctp_core_resets.specs.declared.requests.OwnAnswer.TheVariants as own
+use Rattle.dcsctp_core_resets.specs.declared.requests.OwnAnswer as requests
+use Rattle.dcsctp_core_resets.specs.Requests.{held_with, held_out, own_kind, reset_parameters, AreResponses}
+
+-- A RE-CONFIG with these parameters came in.
+abbrev pub ReConfigAt : {R : Type 0} → List ResetParameter → View R → Outcome → Type 0
+ReConfigAt parameters view o = ResetTurn view.endpoint view.endpoint.core parameters o
+
+-- what an Outgoing SSN Reset Request wants
+abbrev pub wanted_by : OutgoingSsnResetRequestParameter → RequestedReset
+wanted_by request = record { last_tsn = request.sender_last_assigned_tsn; streams = streams_in request.streams.now }
+
+-- ---- the last request
+
+-- that of the peer that is held
+abbrev pub last_in : State → LastRequest
+last_in Closed = record { number = 0; result = SuccessNothingToDo }
+last_in (CookieWait wait) = record { number = 0; result = SuccessNothingToDo }
+last_in (CookieEchoed echoed) = record { number = echoed.tcb.last_processed_req_seq_nbr; result = echoed.tcb.last_processed_req_result }
+last_in (Open opened) = record { number = opened.tcb.last_processed_req_seq_nbr; result = opened.tcb.last_processed_req_result }
+
+abbrev pub core_asked : LastRequest → Core → Core
+core_asked last (cookie_echoed my held cookie) = cookie_echoed my (held_with held last) cookie
+core_asked last (open_in phase my held) = open_in phase my (held_with held last)
+core_asked last core = core
+
+-- the view with another last request of the peer
+abbrev pub asked_at : {R : Type 0} → LastRequest → View R → View R
+asked_at last view = record view { endpoint = record view.endpoint { core = core_asked last view.endpoint.core } }
+
+-- ---- the streams
+
+-- the view with this below its association, and these events behind the others
+abbrev pub left_at : {R : Type 0} → View R → Option Transfer → List (Event (List ℕ)) → View R
+left_at view left events = record view { endpoint = record view.endpoint { below = record view.endpoint.below { transfer = left } }; events = view.events ++ events }
+
+-- The streams were reset, and the user is told; or a growth was refused, and no event was added.
+abbrev pub Performs : {R E : Type 0} → RequestedReset → Context R → Result (Unit {0}) E → Context R → Type 0
+Performs reset old (Ok done) new =
+    (left : Option Transfer) × ResetsBelow true (transfer_of old.state) left × (view_of new ≡ left_at (view_of old) left (incoming_stream_reset reset.streams ∷ []))
+Performs reset old (Err error) new = (view_of new).events ≡ (view_of old).events
+
+-- are they, where a request wants it?
+abbrev pub is_performed_for : Treatment → Option RequestedReset → Bool
+is_performed_for Performed (Some reset) = true
+is_performed_for treatment reset = false
+
+abbrev pub told_for : Treatment → Option RequestedReset → List (Event (List ℕ))
+told_for Performed (Some reset) = incoming_stream_reset reset.streams ∷ []
+told_for treatment reset = []
+
+abbrev pub Treats : {R E : Type 0} → Treatment → Option RequestedReset → Context R → Result (Unit {0}) E → Context R → Type 0
+Treats treatment reset old (Ok done) new =
+    (left : Option Transfer) × ResetsBelow (is_performed_for treatment reset) (transfer_of old.state) left × (view_of new ≡ left_at (view_of old) left (told_for treatment reset))
+Treats treatment reset old (Err error) new = (view_of new).events ≡ (view_of old).events
+
+-- ---- the own request
+
+-- Its number is outstanding no longer, once it has ended.
+abbrev pub core_ended : Core → Core
+core_ended (cookie_echoed my held cookie) = cookie_echoed my (held_out None held) cookie
+core_ended (open_in phase my held) = open_in phase my (held_out None held)
+core_ended core = core
+
+abbrev pub core_settled : OwnAnswer → Core → Core
+core_settled unanswered core = core
+core_settled retried core = core
+core_settled over core = core_ended core
+
+-- the view once it was answered so
+abbrev pub settled_at : {R : Type 0} → OwnAnswer → View R → View R
+settled_at answer view =
+    let moved : Endpoint = own_moved answer view.endpoint in
+    record view { endpoint = record moved { core = core_settled answer view.endpoint.core } }
+
+-- what the user is told of it, where it resets these streams
+abbrev pub own_told : requests.OwnAnswer → List ℕ → List (Event (List ℕ))
+own_told own.Unanswered streams = []
+own_told own.InProgress streams = []
+own_told own.Performed streams = streams_reset_performed streams ∷ []
+own_told own.Failed streams = streams_reset_failed streams ∷ []
+
+abbrev pub event_told : Option SocketEvent → List (Event (List ℕ))
+event_told None = []
+event_told (Some event) = event_content event ∷ []
+
+-- It was answered so, where one is outstanding, and this is to be told.
+abbrev pub Settles : {R : Type 0} → requests.OwnAnswer → Context R → Option SocketEvent → Context R → Type 0
+Settles answer old told new =
+    (outstanding_of old.state ≡ None → answer ≡ own.Unanswered)
+    → (view_of new ≡ settled_at (own_kind answer) (view_of old)) × (event_told told ≡ own_told answer (own_streams (outstanding_of old.state)))
+
+-- The user is told.
+abbrev pub Tells : {R E : Type 0} → Option SocketEvent → Context R → Result (Unit {0}) E → Context R → Type 0
+Tells event old (Ok done) new = view_of new ≡ record (view_of old) { events = (view_of old).events ++ event_told event }
+Tells event old (Err error) new = (view_of new).events ≡ (view_of old).events
+
+-- what the user is told of both, in their order
+abbrev pub told_both : Bool → requests.OwnAnswer → Treatment → Option RequestedReset → List ℕ → List (Event (List ℕ))
+told_both true answer treatment reset streams = own_told answer streams ++ told_for treatment reset
+told_both false answer treatment reset streams = told_for treatment reset ++ own_told answer streams
+
+abbrev pub told_where : {R : Type 0} → WorkedRequests → Option RequestedReset → Context R → List (Event (List ℕ))
+told_where worked reset old = told_both worked.is_own_first worked.own worked.treatment reset (own_streams (outstanding_of old.state))
+
+-- What was decided of both was done; or a growth was refused, and a front part of what is told was added.
+abbrev pub Carried : {R E : Type 0} → WorkedRequests → Option RequestedReset → Context R → Result (Unit {0}) E → Context R → Type 0
+Carried worked reset old (Ok done) new =
+    (left : Option Transfer) × ResetsBelow (is_performed_for worked.treatment reset) (transfer_of old.state) left
+    × (view_of new ≡ left_at (settled_at (own_kind worked.own) (view_of old)) left (told_where worked reset old))
+Carried worked reset old (Err error) new = (count : ℕ) × ((view_of new).events ≡ (view_of old).events ++ take count (told_where worked reset old))
+
+abbrev pub CarriesOut : {R E : Type 0} → WorkedRequests → Option RequestedReset → Context R → Result (Unit {0}) E → Context R → Type 0
+CarriesOut worked reset old result new = (outstanding_of old.state ≡ None → worked.own ≡ own.Unanswered) → Carried worked reset old result new
+
+-- ---- the answers
+
+-- They go out to the peer that is held.
+abbrev pub responses_to : Endpoint → Option Held → List ResetParameter → Outcome
+responses_to e None responses = still e
+responses_to e (Some held) responses = responses_outcome e held responses
+
+abbrev pub responses_turn : {R : Type 0} → List ResetParameter → View R → Outcome
+responses_turn responses view = responses_to view.endpoint (held_in view.endpoint.core) responses
+
+-- The answers go out, and a flush behind them; or an error is told.
+abbrev pub FinishAt : {R : Type 0} → Held → Bool → List ResetParameter → List ResetParameter → View R → Outcome → Type 0
+FinishAt held refused parameters responses view o =
+    (answers : List Answer) × ResponseAnswers refused view.endpoint held responses answers × (o ≡ responses_by refused view.endpoint [] held parameters responses answers)
+
+-- That is so where a peer is held.
+abbrev pub Finishes : {R E : Type 0} → (R → Stream) → List ResetParameter → WorkedRequests → Context R → Result (Unit {0}) E → Context R → Type 0
+Finishes stream parameters worked old result new =
+    AreResponses worked.responses.items → (held : Held) → held_in (core_of old.state) ≡ Some held
+    → TakesOne stream (FinishAt held worked.is_refused parameters (reset_parameters worked.responses.items)) old result new

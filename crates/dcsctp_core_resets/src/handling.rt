@@ -1,0 +1,360 @@
+//! RE-CONFIG (RFC 6525, sections 3.1 and 5.2) that comes in.
+
+ghost use Rattle.std.specs.Prelude.{◌≡◌, OnOk, OnErr, IfOk};
+ghost use Rattle.std.specs.Option.{option_map};
+ghost use Rattle.dcsctp_wire.specs.Content.{re_config_chunk};
+ghost use Rattle.std.specs.Prelude.{map};
+ghost use Rattle.dcsctp_machine.specs.Reconfiguration.{reset_parameter_content};
+ghost use Rattle.dcsctp_machine.specs.turns.ResetOutcomes.{requested_in, is_reached, reset_refusal_text, ResetsStreams};
+ghost use Rattle.dcsctp_core.specs.Reconfiguring.{request_in};
+ghost use Rattle.dcsctp_core.specs.View.{number_of, transfer_of, view_of};
+ghost use Rattle.dcsctp_core.specs.Below.{ChangesBelow};
+ghost use Rattle.dcsctp_core.specs.Handling.{Emits, TakesOne, Tries, report_turn};
+ghost use Rattle.dcsctp_core_resets.specs.Requests.{AreResponses, WorksChunk, reset_parameters};
+ghost use Rattle.dcsctp_core_resets.specs.Resets.{CarriesOut, Finishes, Performs, ReConfigAt, Settles, Tells, Treats, asked_at, last_in, responses_turn, wanted_by};
+
+use crate::reading::{requested, streams_of};
+use crate::requests::{LastRequest, OwnAnswer, Treatment, WorkedRequests, work_requests};
+use dcsctp_api::{ErrorKind, ReconfigurationResponseResult, SocketEvent, StreamId};
+use dcsctp_core::{Context, State};
+use dcsctp_wire::{Chunk, OutgoingSsnResetRequestParameter, Parameter, ReConfigChunk};
+use rand_core::Rng;
+use std::alloc::{AllocError, Global};
+
+const NO_PARAMETER: &str = "RE-CONFIG chunk must have at least one parameter";
+
+const SECOND_REQUEST: &str =
+    "RE-CONFIG chunk must not have multiple Outgoing SSN Reset Request parameters";
+
+// ---- what is decided
+
+// The last request of the peer that is held.
+fn last_request(state: &State) -> LastRequest
+    ensures { result ≡ last_in state.now }
+{
+    match state.tcb() {
+        None => LastRequest {
+            number: 0,
+            result: ReconfigurationResponseResult::SuccessNothingToDo,
+        },
+        Some(tcb) => LastRequest {
+            number: tcb.last_processed_req_seq_nbr,
+            result: tcb.last_processed_req_result,
+        },
+    }
+}
+
+// Has all come from the peer that is held that it had sent before this request (RFC 6525, section 5.2.2, E2)?
+fn is_reached(state: &State, request: Option<OutgoingSsnResetRequestParameter<'_>>) -> bool
+    ensures { result ≡ is_reached (transfer_of state.now) (option_map wanted_by request.entry) }
+{
+    match request {
+        None => true,
+        Some(request) => match state {
+            State::Closed | State::CookieWait(_) => true,
+            State::CookieEchoed(echoed) => echoed
+                .tcb
+                .transfer
+                .has_received_up_to(request.sender_last_assigned_tsn),
+            State::Open(opened) => opened
+                .tcb
+                .transfer
+                .has_received_up_to(request.sender_last_assigned_tsn),
+        },
+    }
+}
+
+// What becomes of these parameters. The one error is that a growth was refused.
+fn work(
+    alloc: Global,
+    state: &State,
+    parameters: &[Parameter<'_>],
+) -> Result<WorkedRequests, AllocError>
+    ensures { IfOk result (λ worked. WorksChunk
+        (is_reached (transfer_of state.now) (requested_in (reset_parameters parameters.now)))
+        (last_in state.now) (number_of (request_in state.now)) (reset_parameters parameters.now) worked) }
+{
+    let last = last_request(state);
+    let outstanding = state.outstanding_number();
+    let is_reached = is_reached(state, requested(parameters));
+    work_requests(alloc, last, outstanding, is_reached, parameters)
+}
+
+// ---- the streams
+
+// Keeps the last request of the peer, where one is held.
+fn keep_last<R: Rng>(context: &mut Context<R>, last: LastRequest)
+    ensures { view_of context.new ≡ asked_at last (view_of context.old) }
+{
+    match &mut context.state {
+        State::Closed | State::CookieWait(_) => {}
+        State::CookieEchoed(echoed) => {
+            echoed.tcb.last_processed_req_seq_nbr = last.number;
+            echoed.tcb.last_processed_req_result = last.result;
+        }
+        State::Open(opened) => {
+            opened.tcb.last_processed_req_seq_nbr = last.number;
+            opened.tcb.last_processed_req_result = last.result;
+        }
+    }
+}
+
+// Resets streams of the peer that is held. The one error is that a growth was refused.
+fn reset_streams(state: &mut State, streams: &[StreamId]) -> Result<(), AllocError>
+    ensures { ChangesBelow ResetsStreams (transfer_of state.old) state.old state.new }
+{
+    match state {
+        State::Closed | State::CookieWait(_) => Ok(()),
+        State::CookieEchoed(echoed) => echoed.tcb.transfer.reset_streams(streams),
+        State::Open(opened) => opened.tcb.transfer.reset_streams(streams),
+    }
+}
+
+// Lets what comes beyond this TSN on these streams wait until they are reset. The one error is that a growth
+// was refused.
+fn defer_reset(state: &mut State, last_tsn: u32, streams: &[StreamId]) -> Result<(), AllocError>
+    ensures { state.new ≡ state.old }
+{
+    match state {
+        State::Closed | State::CookieWait(_) => Ok(()),
+        State::CookieEchoed(echoed) => echoed.tcb.transfer.defer_reset(last_tsn, streams),
+        State::Open(opened) => opened.tcb.transfer.defer_reset(last_tsn, streams),
+    }
+}
+
+// Resets the streams that a request names, and tells the user. The one error is that a growth was refused. No
+// event was added then.
+fn perform<R: Rng>(
+    context: &mut Context<R>,
+    request: &OutgoingSsnResetRequestParameter<'_>,
+) -> Result<(), AllocError>
+    ensures { Performs (wanted_by request.now) context.old result context.new }
+{
+    let streams = streams_of(context.alloc, request)?;
+    reset_streams(&mut context.state, &streams)?;
+    context
+        .events
+        .add(SocketEvent::OnIncomingStreamReset(streams))?;
+    Ok(())
+}
+
+// Lets the reset that a request wants wait. The one error is that a growth was refused.
+fn defer<R: Rng>(
+    context: &mut Context<R>,
+    request: &OutgoingSsnResetRequestParameter<'_>,
+) -> Result<(), AllocError>
+    ensures { view_of context.new ≡ view_of context.old }
+{
+    let streams = streams_of(context.alloc, request)?;
+    defer_reset(
+        &mut context.state,
+        request.sender_last_assigned_tsn,
+        &streams,
+    )
+}
+
+// Does with the streams that the peer wants reset what was decided. The one error is that a growth was refused.
+// No event was added then.
+fn treat<R: Rng>(
+    context: &mut Context<R>,
+    request: Option<OutgoingSsnResetRequestParameter<'_>>,
+    treatment: Treatment,
+) -> Result<(), AllocError>
+    ensures { Treats treatment (option_map wanted_by request.entry) context.old result context.new }
+{
+    match request {
+        None => Ok(()),
+        Some(request) => match treatment {
+            Treatment::Nothing => Ok(()),
+            Treatment::Deferred => defer(context, &request),
+            Treatment::Performed => perform(context, &request),
+        },
+    }
+}
+
+// ---- the own request
+
+// The peer has answered the own request so (RFC 6525, section 5.2.7). One that is in progress is sent again
+// later; one that has ended gives its streams back to the send queue, and what the user is told of it is
+// answered. It takes no memory.
+fn settle<R: Rng>(context: &mut Context<R>, own: OwnAnswer) -> Option<SocketEvent>
+    ensures { Settles own context.old result context.new }
+{
+    match own {
+        OwnAnswer::Unanswered => None,
+        OwnAnswer::InProgress => {
+            context.state.retry_reset(context.moment);
+            None
+        }
+        OwnAnswer::Performed => {
+            context.send_queue.commit_reset_streams();
+            match context.state.end_reset() {
+                None => None,
+                Some(request) => Some(SocketEvent::OnStreamsResetPerformed(request.streams)),
+            }
+        }
+        OwnAnswer::Failed => {
+            context.send_queue.rollback_reset_streams();
+            match context.state.end_reset() {
+                None => None,
+                Some(request) => Some(SocketEvent::OnStreamsResetFailed(request.streams)),
+            }
+        }
+    }
+}
+
+// Tells the user of it, where there is something to tell. The one error is that a growth was refused. Nothing
+// has changed then.
+fn tell<R: Rng>(context: &mut Context<R>, event: Option<SocketEvent>) -> Result<(), AllocError>
+    ensures { Tells event context.old result context.new }
+{
+    match event {
+        None => Ok(()),
+        Some(event) => {
+            context.events.add(event)?;
+            Ok(())
+        }
+    }
+}
+
+// Does with the own request, and with the streams that the peer wants reset, what was decided, and tells the
+// user of both in the order in which it was decided. The one error is that a growth was refused. The first of
+// the two events may stand then.
+fn carry_out<R: Rng>(
+    context: &mut Context<R>,
+    request: Option<OutgoingSsnResetRequestParameter<'_>>,
+    worked: &WorkedRequests,
+) -> Result<(), AllocError>
+    ensures { CarriesOut worked.now (option_map wanted_by request.entry) context.old result context.new }
+{
+    let told = settle(context, worked.own);
+    if worked.is_own_first {
+        tell(context, told)?;
+        return treat(context, request, worked.treatment);
+    }
+    treat(context, request, worked.treatment)?;
+    tell(context, told)
+}
+
+// ---- the answers
+
+// Why a chunk with these parameters is an error.
+fn refusal_text(parameters: &[Parameter<'_>]) -> &'static str
+    ensures { result.now ≡ reset_refusal_text (reset_parameters parameters.now) }
+{
+    if parameters.is_empty() {
+        NO_PARAMETER
+    } else {
+        SECOND_REQUEST
+    }
+}
+
+// Reports a chunk that is an error. The one error of this call is that a growth was refused. Nothing has changed
+// then.
+fn refuse<R: Rng>(context: &mut Context<R>, parameters: &[Parameter<'_>]) -> Result<(), AllocError>
+    ensures { Tries R.stream
+        (report_turn ErrorKind.ProtocolViolation (reset_refusal_text (reset_parameters parameters.now)))
+        context.old result context.new }
+{
+    let text = String::from_str(context.alloc, refusal_text(parameters))?;
+    context.report(ErrorKind::ProtocolViolation, text)?;
+    Ok(())
+}
+
+// Sends these answers under this tag, where they fit `mtu`. The one error is that a growth was refused. Nothing
+// has changed then.
+fn emit_responses<R: Rng>(
+    context: &mut Context<R>,
+    tag: u32,
+    write_checksum: bool,
+    responses: Vec<Parameter<'static>>,
+) -> Result<(), AllocError>
+    ensures { AreResponses responses.entry.items → Emits write_checksum tag
+        (re_config_chunk (map reset_parameter_content (reset_parameters responses.entry.items))) context.old
+        result context.new }
+{
+    let chunk = Chunk::ReConfig(ReConfigChunk {
+        parameters: responses,
+    });
+    context.emit(tag, write_checksum, &chunk)?;
+    Ok(())
+}
+
+// Sends these answers to the peer that is held, where there are some and they fit `mtu`. The one error is that
+// a growth was refused. Nothing has changed then.
+fn respond<R: Rng>(
+    context: &mut Context<R>,
+    responses: Vec<Parameter<'static>>,
+) -> Result<(), AllocError>
+    ensures { AreResponses responses.entry.items
+        → Tries R.stream (responses_turn (reset_parameters responses.entry.items)) context.old result
+        context.new }
+{
+    if responses.as_slice().is_empty() {
+        return Ok(());
+    }
+    match context.state.tcb() {
+        None => Ok(()),
+        Some(tcb) => {
+            let tag = tcb.peer.tag;
+            let write_checksum = !tcb.capabilities.zero_checksum_enabled();
+            emit_responses(context, tag, write_checksum, responses)
+        }
+    }
+}
+
+// Answers the peer that is held, and lets out what waits behind that; a chunk that is an error is reported in
+// place of both. The one error is that a growth was refused. The first events of the turn may stand then.
+fn finish<R: Rng>(
+    context: &mut Context<R>,
+    parameters: &[Parameter<'_>],
+    worked: WorkedRequests,
+) -> Result<(), AllocError>
+    ensures { Finishes R.stream (reset_parameters parameters.now) worked context.old result context.new }
+{
+    if worked.is_refused {
+        return refuse(context, parameters);
+    }
+    respond(context, worked.responses)?;
+    context.send_buffered_packets()
+}
+
+// Works these parameters of a RE-CONFIG. The one error is that a growth was refused. The first events of the
+// turn may stand then.
+fn handle_parameters<R: Rng>(
+    context: &mut Context<R>,
+    parameters: &[Parameter<'_>],
+) -> Result<(), AllocError>
+    ensures { TakesOne R.stream (ReConfigAt (reset_parameters parameters.now)) context.old result
+        context.new }
+{
+    if !context.state.holds_peer() {
+        return Ok(());
+    }
+    let worked = work(context.alloc, &context.state, parameters)?;
+    keep_last(context, worked.last);
+    carry_out(context, requested(parameters), &worked)?;
+    finish(context, parameters, worked)
+}
+
+/// Works a RE-CONFIG (RFC 6525, section 5.2): each request of the peer is answered, in one packet, and a flush
+/// follows. An Outgoing SSN Reset Request with the next number resets the streams that it names once all has
+/// come that was sent before it, of which the user is told; until then it is in progress, and is worked again
+/// where it comes again. For an Incoming SSN Reset Request nothing is reset.
+///
+/// An answer to the own request that is outstanding ends it (section 5.2.7): its streams are reset, or aren't,
+/// of which the user is told, and both take messages again. One that is in progress is sent again later.
+///
+/// A chunk without parameters, or with a second Outgoing SSN Reset Request, is reported, and no answer goes
+/// out; what stood before the second request was worked. Without a peer nothing happens.
+///
+/// The one error is that a growth was refused. The first events of the turn may stand then.
+pub fn handle_re_config<R: Rng>(
+    context: &mut Context<R>,
+    chunk: &ReConfigChunk<'_>,
+) -> Result<(), AllocError>
+    ensures { TakesOne R.stream (ReConfigAt (reset_parameters chunk.now.parameters.items)) context.old
+        result context.new }
+{
+    handle_parameters(context, &chunk.parameters)
+}

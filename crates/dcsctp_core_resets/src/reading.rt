@@ -1,0 +1,41 @@
+//! What the parameters of a RE-CONFIG name.
+
+ghost use Rattle.std.specs.Prelude.{◌≡◌, IfOk};
+ghost use Rattle.std.specs.Option.{option_map};
+ghost use Rattle.dcsctp_machine.specs.Ids.{stream_numbers};
+ghost use Rattle.dcsctp_machine.specs.Reconfiguration.{streams_in};
+ghost use Rattle.dcsctp_machine.specs.turns.ResetOutcomes.{requested_in};
+ghost use Rattle.dcsctp_core_resets.specs.Requests.{reset_parameters};
+ghost use Rattle.dcsctp_core_resets.specs.Resets.{wanted_by};
+
+use dcsctp_api::StreamId;
+use dcsctp_wire::{OutgoingSsnResetRequestParameter, Parameter};
+use std::alloc::{AllocError, Global};
+
+/// The first Outgoing SSN Reset Request, where there is one: no other of its chunk is worked.
+pub(crate) fn requested<'a>(
+    parameters: &[Parameter<'a>],
+) -> Option<OutgoingSsnResetRequestParameter<'a>>
+    ensures { option_map wanted_by result ≡ requested_in (reset_parameters parameters.now) }
+{
+    for parameter in parameters {
+        if let Parameter::OutgoingSsnResetRequest(request) = parameter {
+            return Some(*request);
+        }
+    }
+    None
+}
+
+/// The streams that a request names. The one error is that a growth was refused.
+pub(crate) fn streams_of(
+    alloc: Global,
+    request: &OutgoingSsnResetRequestParameter<'_>,
+) -> Result<Vec<StreamId>, AllocError>
+    ensures { IfOk result (λ streams. stream_numbers streams.items ≡ streams_in request.now.streams.now) }
+{
+    let mut streams = Vec::new(alloc);
+    for index in 0..request.stream_count() {
+        streams.push(StreamId(request.stream(index)))?;
+    }
+    Ok(streams)
+}

@@ -1,0 +1,337 @@
+//! What the parameters of a RE-CONFIG make of the peer's requests, how these are answered, and what becomes of the
+//! own one (RFC 6525, section 5.2). It is a decision, and changes nothing of a socket.
+
+ghost use Rattle.std.specs.Prelude.{◌≡◌, ◌&&◌, false, OnOk, IfOk};
+ghost use Rattle.dcsctp_machine.specs.declared.association.Held.{Held};
+ghost use Rattle.dcsctp_machine.specs.control.ResetChanges.{outgoing_by, incoming_by, is_outstanding};
+ghost use Rattle.dcsctp_machine.specs.control.ResetChanges as changes;
+ghost use Rattle.dcsctp_core_resets.specs.Requests.{AnswersAs, Responds, WorksOne, WorksChunk, held_with, in_place, is_outgoing, own_ended, reset_parameters, said_by, with_response};
+
+use dcsctp_wire::{Parameter, ReconfigurationResponseParameter, ReconfigurationResponseResult};
+use std::alloc::{AllocError, Global};
+
+/// The last request of the peer that was accepted, and the answer to it.
+#[derive(Clone, Copy, Debug)]
+pub struct LastRequest {
+    /// Its number.
+    pub number: u32,
+
+    /// The answer.
+    pub result: ReconfigurationResponseResult,
+}
+
+/// What becomes of the streams that the peer wants reset.
+#[derive(Clone, Copy, Debug, PartialEq, Eq)]
+pub enum Treatment {
+    /// Nothing: no stream is to be reset, or no longer.
+    Nothing,
+
+    /// They are reset later, once all has come that was sent before.
+    Deferred,
+
+    /// They are reset now.
+    Performed,
+}
+
+/// What becomes of the own request to reset streams.
+#[derive(Clone, Copy, Debug, PartialEq, Eq)]
+pub enum OwnAnswer {
+    /// Nothing: it isn't answered, or there is none.
+    Unanswered,
+
+    /// It is in progress, and is sent again later.
+    InProgress,
+
+    /// It was performed.
+    Performed,
+
+    /// It failed.
+    Failed,
+}
+
+/// Where a request's number stands to the last one.
+#[derive(Clone, Copy, Debug, PartialEq, Eq)]
+enum Place {
+    /// It is the last one again.
+    Again,
+
+    /// It is the next one.
+    Next,
+
+    /// It is neither.
+    Astray,
+}
+
+/// How a request is answered.
+#[derive(Clone, Copy, Debug)]
+pub struct AnsweredRequest {
+    /// The last request from here on.
+    pub last: LastRequest,
+
+    /// What the peer is told.
+    pub result: ReconfigurationResponseResult,
+
+    /// What becomes of the streams.
+    pub treatment: Treatment,
+}
+
+/// What was made of parameters.
+#[derive(Drop)]
+pub struct WorkedRequests {
+    /// The last request from here on.
+    pub last: LastRequest,
+
+    /// What becomes of the streams that the peer wants reset.
+    pub treatment: Treatment,
+
+    /// Was an Outgoing SSN Reset Request among them?
+    pub has_worked: bool,
+
+    /// The number of the own request that is outstanding from here on.
+    pub outstanding: Option<u32>,
+
+    /// What becomes of the own request.
+    pub own: OwnAnswer,
+
+    /// Did it end before an Outgoing SSN Reset Request was worked?
+    pub is_own_first: bool,
+
+    /// Are they an error: none at all, or a second Outgoing SSN Reset Request?
+    pub is_refused: bool,
+
+    /// The answers, in the order of the requests.
+    pub responses: Vec<Parameter<'static>>,
+}
+
+// Where the number of a request stands (RFC 6525, section 5.2.1).
+fn place_of(last: u32, number: u32) -> Place
+    ensures { in_place result ≡ changes.place_of last number }
+{
+    if number == last {
+        Place::Again
+    } else if number == last.wrapping_add(1) {
+        Place::Next
+    } else {
+        Place::Astray
+    }
+}
+
+// A request of this number is worked: performed where all has come that was sent before it, else in progress
+// (RFC 6525, section 5.2.2).
+fn worked(number: u32, is_reached: bool) -> AnsweredRequest
+    ensures { (base : Held) → AnswersAs base result (changes.worked base number is_reached) }
+{
+    if is_reached {
+        let result = ReconfigurationResponseResult::SuccessPerformed;
+        AnsweredRequest {
+            last: LastRequest { number, result },
+            result,
+            treatment: Treatment::Performed,
+        }
+    } else {
+        let result = ReconfigurationResponseResult::InProgress;
+        AnsweredRequest {
+            last: LastRequest { number, result },
+            result,
+            treatment: Treatment::Deferred,
+        }
+    }
+}
+
+// The last request again is answered as before; one in progress is worked again.
+fn repeated(last: LastRequest, is_reached: bool) -> AnsweredRequest
+    ensures { (base : Held) → AnswersAs base result (changes.repeated (held_with base last) last.result is_reached) }
+{
+    match last.result {
+        ReconfigurationResponseResult::InProgress => worked(last.number, is_reached),
+        ReconfigurationResponseResult::SuccessNothingToDo
+        | ReconfigurationResponseResult::SuccessPerformed
+        | ReconfigurationResponseResult::Denied
+        | ReconfigurationResponseResult::ErrorWrongSSN
+        | ReconfigurationResponseResult::ErrorRequestAlreadyInProgress
+        | ReconfigurationResponseResult::ErrorBadSequenceNumber => AnsweredRequest {
+            last,
+            result: last.result,
+            treatment: Treatment::Nothing,
+        },
+    }
+}
+
+// A request whose number is neither the last nor the next is refused.
+fn refused(last: LastRequest) -> AnsweredRequest
+    ensures { (base : Held) → AnswersAs base result (changes.refused (held_with base last)) }
+{
+    AnsweredRequest {
+        last,
+        result: ReconfigurationResponseResult::ErrorBadSequenceNumber,
+        treatment: Treatment::Nothing,
+    }
+}
+
+// How an Outgoing SSN Reset Request of this number is answered.
+fn answer_outgoing(last: LastRequest, number: u32, is_reached: bool) -> AnsweredRequest
+    ensures { (base : Held) → AnswersAs base result (outgoing_by (held_with base last) number is_reached
+        (changes.place_of last.number number)) }
+{
+    match place_of(last.number, number) {
+        Place::Again => repeated(last, is_reached),
+        Place::Next => worked(number, is_reached),
+        Place::Astray => refused(last),
+    }
+}
+
+// How an Incoming SSN Reset Request of this number is answered: no stream is reset for it.
+fn answer_incoming(last: LastRequest, number: u32) -> AnsweredRequest
+    ensures { (base : Held) → AnswersAs base result (incoming_by (held_with base last) number
+        (changes.place_of last.number number)) }
+{
+    match place_of(last.number, number) {
+        Place::Again | Place::Next => {
+            let result = ReconfigurationResponseResult::SuccessNothingToDo;
+            AnsweredRequest {
+                last: LastRequest { number, result },
+                result,
+                treatment: Treatment::Nothing,
+            }
+        }
+        Place::Astray => refused(last),
+    }
+}
+
+// Is it an Outgoing SSN Reset Request?
+fn is_outgoing(parameter: &Parameter<'_>) -> bool
+    ensures { result ≡ is_outgoing (said_by parameter.now) }
+{
+    match parameter {
+        Parameter::OutgoingSsnResetRequest(_) => true,
+        Parameter::HeartbeatInfo { .. }
+        | Parameter::StateCookie { .. }
+        | Parameter::IncomingSsnResetRequest(_)
+        | Parameter::ReconfigurationResponse(_)
+        | Parameter::SupportedExtensions { .. }
+        | Parameter::ZeroChecksumAcceptable { .. }
+        | Parameter::ForwardTsnSupported
+        | Parameter::Unknown { .. } => false,
+    }
+}
+
+impl WorkedRequests {
+    // Answers a request of this number. The one error is that a growth was refused.
+    fn respond(
+        &mut self,
+        number: u32,
+        answer: ReconfigurationResponseResult,
+    ) -> Result<(), AllocError>
+        ensures { OnOk result (Responds number answer self.old self.new) }
+    {
+        self.responses.push(Parameter::ReconfigurationResponse(
+            ReconfigurationResponseParameter {
+                response_seq_nbr: number,
+                result: answer,
+                next_tsns: None,
+            },
+        ))?;
+        Ok(())
+    }
+
+    // The own request has ended so. What the user is told of it comes first where no request of the peer was worked.
+    fn end_own(&mut self, answer: OwnAnswer)
+        ensures { self.new ≡ own_ended answer self.old }
+    {
+        self.outstanding = None;
+        self.own = answer;
+        self.is_own_first = !self.has_worked;
+    }
+
+    // Takes an answer to a request of this number: where it is the own one that is outstanding, that was performed,
+    // has failed, or is in progress (RFC 6525, section 5.2.7).
+    fn take_response(&mut self, number: u32, answer: ReconfigurationResponseResult)
+        ensures { self.new ≡ with_response (is_outstanding number self.old.outstanding) answer self.old }
+    {
+        match self.outstanding {
+            Some(outstanding) if outstanding == number => match answer {
+                ReconfigurationResponseResult::SuccessPerformed
+                | ReconfigurationResponseResult::SuccessNothingToDo => {
+                    self.end_own(OwnAnswer::Performed)
+                }
+                ReconfigurationResponseResult::Denied
+                | ReconfigurationResponseResult::ErrorWrongSSN
+                | ReconfigurationResponseResult::ErrorRequestAlreadyInProgress
+                | ReconfigurationResponseResult::ErrorBadSequenceNumber => {
+                    self.end_own(OwnAnswer::Failed)
+                }
+                ReconfigurationResponseResult::InProgress => self.own = OwnAnswer::InProgress,
+            },
+            Some(_) | None => {}
+        }
+    }
+
+    // Works a parameter. The one error is that a growth was refused.
+    fn work(&mut self, is_reached: bool, parameter: &Parameter<'_>) -> Result<(), AllocError>
+        requires { (self.old.has_worked && is_outgoing (said_by parameter.now)) ≡ false }
+        ensures { OnOk result (WorksOne is_reached (said_by parameter.now) self.old self.new) }
+    {
+        match parameter {
+            Parameter::OutgoingSsnResetRequest(request) => {
+                let number = request.request_seq_nbr;
+                let answered = answer_outgoing(self.last, number, is_reached);
+                self.respond(number, answered.result)?;
+                self.last = answered.last;
+                self.treatment = answered.treatment;
+                self.has_worked = true;
+                Ok(())
+            }
+            Parameter::IncomingSsnResetRequest(request) => {
+                let number = request.request_seq_nbr;
+                let answered = answer_incoming(self.last, number);
+                self.respond(number, answered.result)?;
+                self.last = answered.last;
+                Ok(())
+            }
+            Parameter::ReconfigurationResponse(response) => {
+                self.take_response(response.response_seq_nbr, response.result);
+                Ok(())
+            }
+            Parameter::HeartbeatInfo { .. } => Ok(()),
+            Parameter::StateCookie { .. } => Ok(()),
+            Parameter::SupportedExtensions { .. } => Ok(()),
+            Parameter::ZeroChecksumAcceptable { .. } => Ok(()),
+            Parameter::ForwardTsnSupported => Ok(()),
+            Parameter::Unknown { .. } => Ok(()),
+        }
+    }
+}
+
+/// Works the parameters of a RE-CONFIG, up to a second Outgoing SSN Reset Request: a chunk with two is an
+/// error, as is one without any parameter. `is_reached` says whether all has come that was sent before the
+/// first such request, and `outstanding` is the number of the own request, where one is outstanding.
+///
+/// The one error is that a growth was refused.
+pub(crate) fn work_requests(
+    alloc: Global,
+    last: LastRequest,
+    outstanding: Option<u32>,
+    is_reached: bool,
+    parameters: &[Parameter<'_>],
+) -> Result<WorkedRequests, AllocError>
+    ensures { IfOk result (λ worked. WorksChunk is_reached last outstanding (reset_parameters parameters.now) worked) }
+{
+    let mut worked = WorkedRequests {
+        last,
+        treatment: Treatment::Nothing,
+        has_worked: false,
+        outstanding,
+        own: OwnAnswer::Unanswered,
+        is_own_first: false,
+        is_refused: parameters.is_empty(),
+        responses: Vec::new(alloc),
+    };
+    for parameter in parameters {
+        if worked.has_worked && is_outgoing(parameter) {
+            worked.is_refused = true;
+            return Ok(worked);
+        }
+        worked.work(is_reached, parameter)?;
+    }
+    Ok(worked)
+}

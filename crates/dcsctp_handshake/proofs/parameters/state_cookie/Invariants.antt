@@ -1,8 +1,0 @@
-use Rattle.std.proofs.Common.{◌≡◌, map, drop}
-use Rattle.dcsctp_wire.specs.Content.{parameter_content}
-use Rattle.dcsctp_machine.specs.Packet.{cookie_in}
-use Rattle.dcsctp_handshake.proofs.parameters.state_cookie.Given as goal
-
--- what is left says what all say
-abbrev pub invariant-loop-parameter : goal.invariant-loop-parameter
-invariant-loop-parameter l = cookie_in (map parameter_content (drop l.parameter-index l.parameters)) ≡ cookie_in (map parameter_content l.parameters)

@@ -1,0 +1,137 @@
+-- The turns of data leave T1 running where the association connects.
+use Rattle.std.proofs.Common.{ℕ, Bool, true, false, cond, Option, None, Some, List, [], ◌∷◌, sym, subst}
+use Rattle.dcsctp_wire.specs.Content.{no_user_data}
+use Rattle.dcsctp_machine.specs.declared.association.Held.{Held}
+use Rattle.dcsctp_machine.specs.declared.kinds.ErrorKind.TheVariants.{ProtocolViolation}
+use Rattle.dcsctp_machine.specs.Event.{error}
+use Rattle.dcsctp_machine.specs.Packet.{plain, error_of}
+use Rattle.dcsctp_machine.specs.Transfer.{MessageContent, TrackerState, Transfer}
+use Rattle.dcsctp_machine.specs.Endpoint.{Endpoint, held_in}
+use Rattle.dcsctp_machine.specs.Outcome.{Outcome, quiet, sends, fits, to_peer, behind}
+use Rattle.dcsctp_machine.specs.control.Choices.{plain_contents}
+use Rattle.dcsctp_machine.specs.turns.FlushOutcomes.{Answer, goes_out, draft_to}
+use Rattle.dcsctp_machine.specs.turns.TransferMoves.{acknowledged}
+use Rattle.dcsctp_machine.specs.turns.MessageOutcomes.{MessageRefusal, message_refusal, Sending, queue_by, queue_one, queue_all, takes_any, SendAnswers, send_by, SendTurn}
+use Rattle.dcsctp_machine.specs.turns.PreparedResets.{ResetRefusal, reset_refusal, with_queue, OwnResetsWhere, OwnResetsTurn}
+use Rattle.dcsctp_machine.specs.turns.DataOutcomes.{with_transfer, with_tracker, flush_by, AnswersTo, FlushTurn, no_user_data_text, no_user_data_outcome, ReceiveTurn, DataTurn, ForwardTurn, is_sack_valid, FastRetransmits, sack_taken, AcknowledgesBy, SackWhere, SackBy, SackTurn, acknowledging, EndWhere, EndsBy, TakeWhere, TakeTurn, delay_outcome, LossTurn}
+use Rattle.dcsctp_machine.proofs.FlushKeeps.{goes_out_keeps}
+use Rattle.dcsctp_machine_refinement.proofs.T1Shutdown.{step_up}
+use Rattle.dcsctp_machine_refinement.proofs.T1Turns.{Up, UpAfter, kept_up, flush_up}
+
+-- ---- a flush by itself
+
+to_up : (e : Endpoint) (peer : Option Held) (answers : List Answer) → AnswersTo e peer answers → Up e → UpAfter (flush_by e peer answers)
+to_up e None answers allowed h = h
+to_up e (Some held) answers allowed h = flush_up e (draft_to held) answers allowed h
+
+pub flush_turn_up : (e : Endpoint) (o : Outcome) → FlushTurn e o → Up e → UpAfter o
+flush_turn_up e o turn h = subst UpAfter (sym turn.2) (to_up e (held_in e.core) turn.0 turn.1 h)
+
+-- ---- DATA and FORWARD-TSN
+
+reported_up : (b : Bool) (e : Endpoint) (held : Held) (tsn : ℕ) → Up e
+    → UpAfter (behind [] (error ProtocolViolation no_user_data_text ∷ []) (cond b (sends e [] [] (to_peer held (plain (error_of (no_user_data tsn ∷ []))))) (quiet e [] [])))
+reported_up true e held tsn h = h
+reported_up false e held tsn h = h
+
+no_data_up : (e : Endpoint) (peer : Option Held) (tsn : ℕ) → Up e → UpAfter (no_user_data_outcome e peer tsn)
+no_data_up e None tsn h = h
+no_data_up e (Some held) tsn h = reported_up (fits e (to_peer held (plain (error_of (no_user_data tsn ∷ []))))) e held tsn h
+
+receive_up : (e : Endpoint) (transfer : Option Transfer) (immediate : Bool) (tsn : ℕ) (o : Outcome) → ReceiveTurn e transfer immediate tsn o → Up e → UpAfter o
+receive_up e None immediate tsn o turn h = subst UpAfter (sym turn) h
+receive_up e (Some transfer) immediate tsn o turn h = subst UpAfter (sym turn.3) h
+
+pub data_up : (e : Endpoint) (immediate : Bool) (tsn : ℕ) (payload : List ℕ) (o : Outcome) → DataTurn e immediate tsn payload o → Up e → UpAfter o
+data_up e immediate tsn [] o turn h = subst UpAfter (sym turn) (no_data_up e (held_in e.core) tsn h)
+data_up e immediate tsn (byte ∷ bytes) o turn h = receive_up e e.below.transfer immediate tsn o turn h
+
+pub forward_up : (e : Endpoint) (transfer : Option Transfer) (tsn : ℕ) (o : Outcome) → ForwardTurn e transfer tsn o → Up e → UpAfter o
+forward_up e None tsn o turn h = subst UpAfter (sym turn) h
+forward_up e (Some transfer) tsn o turn h = subst UpAfter (sym turn.2) h
+
+-- ---- SACK
+
+fast_up : (b : Bool) (e : Endpoint) (held : Held) (transfer : Transfer) (o : Outcome) → FastRetransmits b e held transfer o → Up e → UpAfter o
+fast_up false e held transfer o turn h = subst UpAfter (sym turn) h
+fast_up true e held transfer o turn h =
+    let base : Endpoint = with_transfer e turn.left in
+    let with_checksum : Bool = (draft_to held).with_checksum in
+    subst UpAfter (sym turn.is)
+    (kept_up None base (goes_out base [] with_checksum held.peer.tag (plain_contents turn.chunks)) (goes_out_keeps base [] with_checksum held.peer.tag (plain_contents turn.chunks)) h)
+
+acknowledges_up : (e : Endpoint) (held : Held) (transfer : Transfer) (o : Outcome) → AcknowledgesBy e held transfer o → Up e → UpAfter o
+acknowledges_up e held transfer o turn h =
+    let step : UpAfter turn.stepped = subst UpAfter (sym turn.steps) (step_up (sack_taken e transfer turn.left) e.core h) in
+    let fast : UpAfter turn.fast = fast_up turn.left.retransmission.has_fast_retransmit turn.stepped.after held turn.left turn.fast turn.resends step in
+    subst UpAfter (sym turn.is) (flush_up turn.fast.after (draft_to held) turn.answers turn.allowed fast)
+
+sack_where_up : (b : Bool) (e : Endpoint) (held : Held) (transfer : Transfer) (o : Outcome) → SackWhere b e held transfer o → Up e → UpAfter o
+sack_where_up false e held transfer o turn h = subst UpAfter (sym turn) h
+sack_where_up true e held transfer o turn h = acknowledges_up e held transfer o turn h
+
+sack_by_up : (e : Endpoint) (peer : Option Held) (transfer : Transfer) (tsn : ℕ) (o : Outcome) → SackBy e peer transfer tsn o → Up e → UpAfter o
+sack_by_up e None transfer tsn o turn h = subst UpAfter (sym turn) h
+sack_by_up e (Some held) transfer tsn o turn h = sack_where_up (is_sack_valid transfer.retransmission tsn) e held transfer o turn h
+
+pub sack_up : (e : Endpoint) (transfer : Option Transfer) (tsn : ℕ) (o : Outcome) → SackTurn e transfer tsn o → Up e → UpAfter o
+sack_up e None tsn o turn h = subst UpAfter (sym turn) h
+sack_up e (Some transfer) tsn o turn h = sack_by_up e (held_in e.core) transfer tsn o turn h
+
+-- ---- the end of a packet
+
+end_where_up : (b : Bool) (e : Endpoint) (peer : Option Held) (transfer : Transfer) (tracker : TrackerState) (o : Outcome) → EndWhere b e peer transfer tracker o → Up e → UpAfter o
+end_where_up true e (Some held) transfer tracker o turn h =
+    subst UpAfter (sym turn.is) (flush_up (with_tracker e transfer (acknowledged tracker)) (acknowledging e held turn.sack) turn.answers turn.allowed h)
+end_where_up true e None transfer tracker o turn h = subst UpAfter (sym turn) h
+end_where_up false e peer transfer tracker o turn h = subst UpAfter (sym turn) h
+
+pub end_up : (e : Endpoint) (transfer : Option Transfer) (o : Outcome) → EndsBy e transfer o → Up e → UpAfter o
+end_up e None o turn h = subst UpAfter (sym turn) h
+end_up e (Some transfer) o turn h = end_where_up turn.0.is_acknowledgement_due e (held_in e.core) transfer turn.0 o turn.2 h
+
+-- ---- what the user takes and sends
+
+take_where_up : (e : Endpoint) (transfer : Transfer) (messages : List MessageContent) (o : Outcome) → TakeWhere e transfer messages o → Up e → UpAfter o
+take_where_up e transfer [] o turn h = subst UpAfter (sym turn) h
+take_where_up e transfer (message ∷ messages) o turn h = subst UpAfter (sym turn.2) h
+
+pub take_up : (e : Endpoint) (transfer : Option Transfer) (o : Outcome) → TakeTurn e transfer o → Up e → UpAfter o
+take_up e None o turn h = subst UpAfter (sym turn) h
+take_up e (Some transfer) o turn h = take_where_up e transfer transfer.reassembly.messages o turn h
+
+queue_one_up : (e : Endpoint) (message : Sending) (refusal : Option MessageRefusal) → Up e → UpAfter (queue_by e message refusal)
+queue_one_up e message None h = h
+queue_one_up e message (Some refusal) h = h
+
+queue_all_up : (e : Endpoint) (messages : List Sending) → Up e → UpAfter (queue_all e messages)
+queue_all_up e [] h = h
+queue_all_up e (message ∷ messages) h =
+    queue_all_up (queue_one e message).after messages (queue_one_up e message (message_refusal e message.stream message.bytes) h)
+
+send_where_up : (b : Bool) (e : Endpoint) (answers : List Answer) → SendAnswers b e answers → Up e → UpAfter (send_by b e answers)
+send_where_up false e answers allowed h = h
+send_where_up true e answers allowed h = to_up e (held_in e.core) answers allowed h
+
+pub send_up : (e : Endpoint) (messages : List Sending) (o : Outcome) → SendTurn e messages o → Up e → UpAfter o
+send_up e messages o turn h =
+    subst UpAfter (sym turn.2) (send_where_up (takes_any e messages) (queue_all e messages).after turn.0 turn.1 (queue_all_up e messages h))
+
+-- ---- own streams that the user resets
+
+resets_where_up : (refusal : Option ResetRefusal) (e : Endpoint) (ids : List ℕ) (o : Outcome) → OwnResetsWhere refusal e ids o → Up e → UpAfter o
+resets_where_up None e ids o turn h = subst UpAfter (sym turn.is) (flush_turn_up (with_queue e turn.queue) turn.flushed turn.flushes h)
+resets_where_up (Some refusal) e ids o turn h = subst UpAfter (sym turn) h
+
+pub resets_up : (e : Endpoint) (ids : List ℕ) (o : Outcome) → OwnResetsTurn e ids o → Up e → UpAfter o
+resets_up e ids o turn h = resets_where_up (reset_refusal e) e ids o turn h
+
+-- ---- timers
+
+pub delay_up : (e : Endpoint) (transfer : Option Transfer) → Up e → UpAfter (delay_outcome e transfer)
+delay_up e None h = h
+delay_up e (Some transfer) h = h
+
+pub loss_up : (e : Endpoint) (transfer : Option Transfer) (o : Outcome) → LossTurn e transfer o → Up e → UpAfter o
+loss_up e None o turn h = subst UpAfter (sym turn) h
+loss_up e (Some transfer) o turn h = subst UpAfter (sym turn.2) h

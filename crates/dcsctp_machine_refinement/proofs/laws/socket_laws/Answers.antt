@@ -1,0 +1,12 @@
+use Rattle.dcsctp_machine_refinement.proofs.laws.socket_laws.Goals as goal
+
+pub returns : goal.returns
+returns c =
+    record {
+      agree = c.sockets_agree.ensures;
+      connect = c.fitting_sockets_connect.ensures;
+      numbers = c.socket_effects_in_place.ensures;
+      answers = c.socket_requests_end_by_answers.ensures;
+      ends = c.sockets_tell_ends.ensures;
+      t1 = c.sockets_run_t1.ensures;
+    }

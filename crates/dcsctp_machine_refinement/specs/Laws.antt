@@ -1,0 +1,13 @@
+-- All that holds of the sockets of a run.
+use Rattle.dcsctp_machine_refinement.specs.Agreement.{SocketsAgree}
+use Rattle.dcsctp_machine_refinement.specs.Deadlines.{SocketsRunT1}
+use Rattle.dcsctp_machine_refinement.specs.Handshake.{FittingSocketsConnect}
+use Rattle.dcsctp_machine_refinement.specs.OneSocket.{SocketEffectsInPlace, SocketRequestsEndByAnswers, SocketsTellEnds}
+
+pub record SocketLaws : Type 0 where
+  pub agree : SocketsAgree
+  pub connect : FittingSocketsConnect
+  pub numbers : SocketEffectsInPlace
+  pub answers : SocketRequestsEndByAnswers
+  pub ends : SocketsTellEnds
+  pub t1 : SocketsRunT1

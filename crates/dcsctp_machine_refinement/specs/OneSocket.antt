@@ -1,0 +1,61 @@
+-- What holds of one socket of a run, whatever bytes it is handed, by what its turns noted: the numbers of requests, by what they
+-- end, and how its ends are told.
+use Rattle.std.specs.Prelude.{◌≡◌, ◌≢◌, ℕ, suc, List, [], ◌∷◌}
+use Rattle.std.specs.List.{AllByRecursion}
+use Rattle.dcsctp_wire.specs.declared.reconfiguration.ReconfigurationResponseResult.{ReconfigurationResponseResult}
+use Rattle.dcsctp_machine.specs.declared.association.Pair.{Pair}
+use Rattle.dcsctp_machine.specs.declared.options.Options.{Options}
+use Rattle.dcsctp_machine.specs.declared.schedule.Side.{Side}
+use Rattle.dcsctp_machine.specs.control.Effect.{completes, fails}
+use Rattle.dcsctp_machine.specs.Event.{Event, closed, aborted}
+use Rattle.dcsctp_machine.specs.Packet.{Emission}
+use Rattle.dcsctp_machine.specs.Endpoint.{Endpoint, fresh_endpoint}
+use Rattle.dcsctp_machine.specs.Endpoint as machine
+use Rattle.dcsctp_machine.specs.Turn.{Input, chunk_input}
+use Rattle.dcsctp_machine.specs.CallTurns.{Turned, AlongTurns}
+use Rattle.dcsctp_machine.specs.Past.{Has, Each, InPlace}
+use Rattle.dcsctp_machine.specs.Sockets.{Worked, Both, of_side, turns_after, SocketRun}
+use Rattle.dcsctp_machine_agreement.specs.OneSide.{IsSuccess, IsRefusal, HasResponse, parameters_in}
+use Rattle.dcsctp_machine_refinement.specs.Agreement.{AreUsable, noted_past}
+
+-- Each effect of a socket's turns stands in its place: one holding connects at most once, own requests go up by one and one at a
+-- time, the peer's accepted ones too, and each of these is performed at most once (RFC 6525, section 4.1).
+abbrev pub SocketEffectsInPlace : Type 0
+SocketEffectsInPlace =
+    (options : Both Options) (run : List Worked) → AreUsable options → SocketRun options run → (side : Side)
+    → Each InPlace (noted_past (of_side side (turns_after run)))
+
+-- The input is a RE-CONFIG with an answer to this number of this kind.
+abbrev pub BearsAnswer : (ReconfigurationResponseResult → Type 0) → ℕ → Input → Type 0
+BearsAnswer Kind number (chunk_input tag content) = HasResponse Kind number (parameters_in content)
+BearsAnswer Kind number input = ⊥
+
+-- An own request ends in a turn of such a chunk, and in no other (RFC 6525, section 5.2.7).
+pub record EndsByAnswer (turn : Turned) : Type 0 where
+  pub completed : (my : Pair) (number : ℕ) → Has (completes my number) turn.outcome.effects → BearsAnswer IsSuccess number turn.input
+  pub failed : (number : ℕ) → Has (fails number) turn.outcome.effects → BearsAnswer IsRefusal number turn.input
+
+abbrev pub SocketRequestsEndByAnswers : Type 0
+SocketRequestsEndByAnswers =
+    (options : Both Options) (run : List Worked) → SocketRun options run → (side : Side)
+    → AllByRecursion EndsByAnswer (of_side side (turns_after run))
+
+-- ---- ends
+
+-- how many of these events end an association
+abbrev pub ends_told : List (Event Emission) → ℕ
+ends_told [] = 0
+ends_told (closed ∷ events) = suc (ends_told events)
+ends_told (aborted kind text ∷ events) = suc (ends_told events)
+ends_told (event ∷ events) = ends_told events
+
+-- A turn that leads to Closed from another phase adds OnClosed or OnAborted once, and a turn that doesn't adds neither
+-- (RFC 9260, section 9).
+pub data TellsEnd (e : Endpoint) (turn : Turned) : Type 0 where
+  it_ends : e.core ≢ machine.closed → turn.outcome.after.core ≡ machine.closed → ends_told turn.outcome.events ≡ 1 → TellsEnd e turn
+  it_stays : (turn.outcome.after.core ≡ machine.closed → e.core ≡ machine.closed) → ends_told turn.outcome.events ≡ 0 → TellsEnd e turn
+
+abbrev pub SocketsTellEnds : Type 0
+SocketsTellEnds =
+    (options : Both Options) (run : List Worked) → SocketRun options run → (side : Side)
+    → AlongTurns TellsEnd (fresh_endpoint (of_side side options)) (of_side side (turns_after run))

@@ -1,0 +1,91 @@
+//! Theorems on the runs of two sockets.
+
+ghost use Rattle.dcsctp_machine_refinement.specs.Agreement.{SocketsAgree};
+ghost use Rattle.dcsctp_machine_refinement.specs.Deadlines.{SocketsRunT1};
+ghost use Rattle.dcsctp_machine_refinement.specs.Handshake.{FittingSocketsConnect};
+ghost use Rattle.dcsctp_machine_refinement.specs.Laws.{SocketLaws};
+ghost use Rattle.dcsctp_machine_refinement.specs.OneSocket.{SocketEffectsInPlace, SocketRequestsEndByAnswers, SocketsTellEnds};
+
+use dcsctp_machine::{
+    acts_are_controlled, admitted_packets_may_be_worked, answer_keeps_agreement,
+    chunks_are_controlled, cookie_reads_back, offer_reads_back, packets_are_controlled,
+};
+use dcsctp_machine_agreement::{
+    answers_end_requests, effects_in_place, effects_mean, ends_once, sides_agree,
+};
+use dcsctp_wire_laws::{built_packet_reads_as_itself, built_packet_reads_back};
+
+/// Two sockets agree, over every schedule that loses, repeats, delays and reorders their packets, as long as
+/// no act comes from outside: each OnConnected finds that the other holds, or held, the crossed association
+/// with what the two have in common; each own request to reset streams that was performed finds that the
+/// other performed it.
+pub fn sockets_agree()
+    ensures { SocketsAgree }
+{
+    sides_agree();
+    effects_mean();
+    acts_are_controlled();
+    packets_are_controlled();
+    admitted_packets_may_be_worked();
+    offer_reads_back();
+    built_packet_reads_as_itself();
+}
+
+/// The four packets of the handshake, delivered in turn, connect two fresh sockets that fit each other
+/// (RFC 9260, section 5.1): each has connected once, and the two are Established and crossed.
+pub fn fitting_sockets_connect()
+    ensures { FittingSocketsConnect }
+{
+    built_packet_reads_back();
+    built_packet_reads_as_itself();
+    offer_reads_back();
+    answer_keeps_agreement();
+    cookie_reads_back();
+}
+
+/// What each socket of a run noted stands in its place, whatever bytes it was handed: one holding connects at
+/// most once, the numbers of requests go up by one, and each accepted request is performed at most once (RFC
+/// 6525, section 4.1).
+pub fn socket_effects_in_place()
+    ensures { SocketEffectsInPlace }
+{
+    effects_in_place();
+    chunks_are_controlled();
+    acts_are_controlled();
+}
+
+/// An own request of a socket ends in the turn of an answer with its number, and in no other (RFC 6525,
+/// section 5.2.7).
+pub fn socket_requests_end_by_answers()
+    ensures { SocketRequestsEndByAnswers }
+{
+    answers_end_requests();
+    acts_are_controlled();
+}
+
+/// A turn of a socket that leads to the closed state from another adds one event that says so, OnClosed or
+/// OnAborted, and no other turn adds one (RFC 9260, section 9).
+pub fn sockets_tell_ends()
+    ensures { SocketsTellEnds }
+{
+    ends_once();
+    acts_are_controlled();
+}
+
+/// At each socket of a run that awaits an INIT ACK or a COOKIE ACK, T1 runs (RFC 9260, section 5.1): so
+/// whatever is lost and whatever bytes it was handed, it wants to be told the time again.
+pub fn sockets_run_t1()
+    ensures { SocketsRunT1 }
+{}
+
+/// All that holds of the sockets of a run: the theorems above.
+pub fn socket_laws()
+    ensures { SocketLaws }
+{
+    sockets_agree();
+    fitting_sockets_connect();
+    socket_effects_in_place();
+    socket_requests_end_by_answers();
+    sockets_tell_ends();
+    sockets_run_t1();
+}

@@ -1,7 +1,0 @@
-use Rattle.std.proofs.Common.{◌∙◌, sym}
-use Rattle.dcsctp_outstanding.proofs.ReportLemmas.{last_awaited}
-use Rattle.dcsctp_outstanding.proofs.outstanding.Outstanding.last_unacknowledged.Goals as goal
-
-pub returns-then-is_unacknowledged : goal.returns-then-is_unacknowledged
-returns-then-is_unacknowledged c =
-    last_awaited c.args.self.now.items c.args.start c.args.end c.loop-place.place c.item.result.now c.loop-place-test.true c.loop-place.invariant.within.1 c.item.ensures (sym c.is_unacknowledged.ensures ∙ c.if-is_unacknowledged.true) c.loop-place.invariant.none_behind

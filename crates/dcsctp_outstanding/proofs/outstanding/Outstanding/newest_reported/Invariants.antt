@@ -1,6 +1,0 @@
-use Rattle.std.proofs.Common.{take}
-use Rattle.dcsctp_outstanding.specs.Reports.{IsNewlyAcknowledged, IsLast}
-use Rattle.dcsctp_outstanding.proofs.outstanding.Outstanding.newest_reported.Given as goal
-
-abbrev pub invariant-loop-block : goal.invariant-loop-block
-invariant-loop-block l = IsLast (IsNewlyAcknowledged l.count (take l.block-index l.blocks)) l.self.items l.newest

@@ -1,0 +1,109 @@
+-- Lemmas on messages that are skipped and streams that are reset.
+use Rattle.std.proofs.Common.{◌≡◌, ◌==◌, ℕ, suc, ◌+◌, ◌≤◌, Bool, true, false, List, [], ◌∷◌, ◌++◌, length, if◌then◌else◌, arith, refl, sym, ◌∙◌, ap, subst}
+use Rattle.std.specs.Prelude.{IsSome, nat_le}
+use Rattle.std.specs.BTreeMap.{BTreeMap, get}
+use Rattle.std.specs.Ordering.{nat_cmp}
+use Rattle.std.proofs.lemmas.List.{append_assoc, append-nil, length-map}
+use Rattle.dcsctp_receive_reassembly.specs.declared.arrivals.SkippedTo.{SkippedTo}
+use Rattle.dcsctp_receive_reassembly.specs.declared.arrivals.SkippedTo.TheVariants.{Ssn, Mid}
+use Rattle.dcsctp_receive_reassembly.specs.declared.incoming.Incoming.{Incoming}
+use Rattle.dcsctp_receive_reassembly.specs.declared.stream.Stream.{Stream}
+use Rattle.dcsctp_receive_reassembly.specs.Numbers.{number_near, short_number_near}
+use Rattle.dcsctp_receive_reassembly.specs.Runs.{WholeModel}
+use Rattle.dcsctp_receive_reassembly.specs.Streams.{StreamModel, delivered_as, due, not_due, next_after, next_past, deliveries_from, skipped, skipped_stream, skip_deliveries}
+use Rattle.dcsctp_receive_reassembly.specs.Reassembly.{IncomingModel, Balances, stream_on}
+use Rattle.dcsctp_receive_reassembly.specs.Skipping.{AllMade, room_for, skipped_on, skipped_by, deliveries_by, SkipsOne, SkipsAll, reset_by, parts_left, ResetsOne, ResetsEach}
+
+-- ---- streams that are there
+
+pub AllMade-kept : (entries : List SkippedTo) (old new : BTreeMap ℕ Stream) → ((id : ℕ) → IsSome (get nat_cmp old id) → IsSome (get nat_cmp new id)) → AllMade entries old → AllMade entries new
+AllMade-kept [] old new kept made = tt
+AllMade-kept (entry ∷ entries) old new kept made = (kept (skipped_stream entry) made.0, AllMade-kept entries old new kept made.1)
+
+pub AllMade-more : (front : List SkippedTo) (entry : SkippedTo) (streams : BTreeMap ℕ Stream) → AllMade front streams → IsSome (get nat_cmp streams (skipped_stream entry)) → AllMade (front ++ entry ∷ []) streams
+AllMade-more [] entry streams made last = (last, tt)
+AllMade-more (first ∷ front) entry streams made last = (made.0, AllMade-more front entry streams made.1 last)
+
+-- ---- room
+
+due_length : (next : ℕ) (waiting : List WholeModel) → length (due next waiting) + length (not_due next waiting) ≡ length waiting
+due_length next [] = refl
+due_length next (whole ∷ waiting) = go (nat_le whole.number next) (due_length (next_after next whole) waiting)
+  where
+    go : (comes : Bool) → length (due (next_after next whole) waiting) + length (not_due (next_after next whole) waiting) ≡ length waiting → length (if comes then whole ∷ due (next_after next whole) waiting else []) + length (if comes then not_due (next_after next whole) waiting else whole ∷ waiting) ≡ suc (length waiting)
+    go true rest = omega (arith, rest)
+    go false rest = omega arith
+
+deliveries_length : (next : ℕ) (stream : StreamModel) → length (deliveries_from next stream) + length (not_due next stream.waiting) ≡ length stream.waiting
+deliveries_length next stream = omega (arith, due_length next stream.waiting, length-map (due next stream.waiting) (delivered_as stream.id))
+
+pub skipped_length : (entry : SkippedTo) (stream : StreamModel) → length (skip_deliveries entry stream) + length (skipped entry stream).waiting ≡ length stream.waiting
+skipped_length (Ssn id ssn) stream = deliveries_length (next_past (short_number_near stream.next ssn) stream.next) stream
+skipped_length (Mid id false mid) stream = deliveries_length (next_past (number_near stream.next mid) stream.next) stream
+skipped_length (Mid id true mid) stream = omega arith
+
+room_for-less : (entries : List SkippedTo) (f g : ℕ → StreamModel) → ((id : ℕ) → length (g id).waiting ≤ length (f id).waiting) → room_for entries g ≤ room_for entries f
+room_for-less [] f g less = omega arith
+room_for-less (entry ∷ entries) f g less = omega (arith, less (skipped_stream entry), room_for-less entries f g less)
+
+skipped_on-less : (entry : SkippedTo) (id : ℕ) (stream : StreamModel) → length (skipped_on entry id stream).waiting ≤ length stream.waiting
+skipped_on-less entry id stream = go (skipped_stream entry == id)
+  where
+    go : (is_it : Bool) → length (if is_it then skipped entry stream else stream).waiting ≤ length stream.waiting
+    go true = omega (arith, skipped_length entry stream)
+    go false = omega arith
+
+pub room_left : (entry : SkippedTo) (entries : List SkippedTo) (old new : IncomingModel) (len capacity : ℕ) → SkipsOne entry old new → len + room_for (entry ∷ entries) (λ id. stream_on id old.streams) ≤ capacity → len + length (skip_deliveries entry (stream_on (skipped_stream entry) old.streams)) + room_for entries (λ id. stream_on id new.streams) ≤ capacity
+room_left entry entries old new len capacity skips room =
+    omega (
+      arith,
+      room,
+      skipped_length entry (stream_on (skipped_stream entry) old.streams),
+      room_for-less entries (λ id. stream_on id old.streams) (λ id. stream_on id new.streams) (λ id. subst (λ (stream : StreamModel). length stream.waiting ≤ length (stream_on id old.streams).waiting) (sym (skips.streams id)) (skipped_on-less entry id (stream_on id old.streams))),
+    )
+
+-- ---- entries in turn
+
+deliveries_by-same : (entries : List SkippedTo) (f g : ℕ → StreamModel) → ((id : ℕ) → f id ≡ g id) → deliveries_by entries f ≡ deliveries_by entries g
+deliveries_by-same [] f g same = refl
+deliveries_by-same (entry ∷ entries) f g same =
+    ap (λ stream. skip_deliveries entry stream ++ deliveries_by entries (λ id. skipped_on entry id (f id))) (same (skipped_stream entry))
+    ∙ ap (λ rest. skip_deliveries entry (g (skipped_stream entry)) ++ rest) (deliveries_by-same entries (λ id. skipped_on entry id (f id)) (λ id. skipped_on entry id (g id)) (λ id. ap (λ stream. skipped_on entry id stream) (same id)))
+
+pub SkipsAll-step : (entry : SkippedTo) (entries : List SkippedTo) (old between new : IncomingModel) → SkipsOne entry old between → SkipsAll entries between new → SkipsAll (entry ∷ entries) old new
+SkipsAll-step entry entries old between new one rest =
+    let later : deliveries_by entries (λ id. stream_on id between.streams) ≡ deliveries_by entries (λ id. skipped_on entry id (stream_on id old.streams)) = deliveries_by-same entries (λ id. stream_on id between.streams) (λ id. skipped_on entry id (stream_on id old.streams)) one.streams in
+    record {
+      streams = λ id. rest.streams id ∙ ap (λ stream. skipped_by entries id stream) (one.streams id);
+      ready =
+          rest.ready
+          ∙ ap (λ front. front ++ deliveries_by entries (λ id. stream_on id between.streams)) one.ready
+          ∙ append_assoc old.ready (skip_deliveries entry (stream_on (skipped_stream entry) old.streams)) (deliveries_by entries (λ id. stream_on id between.streams))
+          ∙ ap (λ more. old.ready ++ (skip_deliveries entry (stream_on (skipped_stream entry) old.streams) ++ more)) later;
+      received = rest.received ∙ one.received;
+      unordered = rest.unordered ∙ one.unordered;
+      last = rest.last ∙ one.last;
+    }
+
+pub SkipsAll-none : (incoming : IncomingModel) → SkipsAll [] incoming incoming
+SkipsAll-none incoming =
+    record { streams = λ id. refl; ready = sym (append-nil incoming.ready); received = refl; unordered = refl; last = refl }
+
+-- ---- bytes
+
+pub Balances-both : (old between new : Incoming) → Balances old between → Balances between new → Balances old new
+Balances-both old between new first second = λ within. omega (arith, first within, second (omega (arith, first within)))
+
+-- ---- streams that are reset
+
+pub ResetsEach-step : (reset : ℕ) (resets : List ℕ) (old between new : IncomingModel) → ResetsOne reset old between → ResetsEach resets between new → ResetsEach (reset ∷ resets) old new
+ResetsEach-step reset resets old between new one rest =
+    record {
+      streams = λ id. rest.streams id ∙ ap (λ stream. reset_by resets id stream) (one.streams id);
+      unordered = rest.unordered ∙ ap (λ runs. parts_left resets runs) one.unordered;
+      kept = record { ready = rest.kept.ready ∙ one.kept.ready; received = rest.kept.received ∙ one.kept.received; last = rest.kept.last ∙ one.kept.last };
+    }
+
+pub ResetsEach-none : (incoming : IncomingModel) → ResetsEach [] incoming incoming
+ResetsEach-none incoming =
+    record { streams = λ id. refl; unordered = refl; kept = record { ready = refl; received = refl; last = refl } }

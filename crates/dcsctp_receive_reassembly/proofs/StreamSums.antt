@@ -1,0 +1,105 @@
+-- How many bytes the streams of a map have once one is made, written or removed.
+use Rattle.std.proofs.Common.{◌≡◌, ℕ, ◌+◌, Bool, true, false, List, [], ◌∷◌, map, Option, Some, None, arith, refl, sym, ap, subst}
+use Rattle.std.specs.Prelude.{unwrap_or, IsSome}
+use Rattle.std.specs.Option.{option_map}
+use Rattle.std.specs.List.{sum_by}
+use Rattle.std.specs.Map.{lookup, values_of, remove_entry, set_value}
+use Rattle.std.specs.BTreeMap.{BTreeMap, get, is_at, insert_entry, IsOrdered, UpdatesBy, WritesThrough}
+use Rattle.std.specs.Ordering.{nat_cmp}
+use Rattle.std.proofs.lemmas.Cmp.{nat_cmp_total}
+use Rattle.std.proofs.lemmas.List.Sums.{sum_by-cons}
+use Rattle.std.proofs.lemmas.Map.Entries.{sum_by-insert_entry, sum_by-remove_entry, sum_by-set_value}
+use Rattle.dcsctp_receive_reassembly.specs.declared.stream.Stream.{Stream}
+use Rattle.dcsctp_receive_reassembly.specs.QueuedBytes.{stream_bytes, streams_bytes}
+use Rattle.dcsctp_receive_reassembly.specs.Streams.{StreamModel, stream_of, new_stream}
+use Rattle.dcsctp_receive_reassembly.specs.Reassembly.{entry_of, stream_on}
+use Rattle.dcsctp_receive_reassembly.proofs.ReassemblyLemmas.{stream_on-get, stream_on-other, same_key}
+
+abbrev bytes_of : Stream → ℕ
+bytes_of stream = stream_bytes (stream_of stream)
+
+pub streams_bytes-values : (entries : List (ℕ × Stream)) → streams_bytes (map entry_of entries) ≡ sum_by bytes_of (values_of entries)
+streams_bytes-values [] = refl
+streams_bytes-values (entry ∷ entries) =
+    omega (arith, streams_bytes-values entries, sum_by-cons (λ (e : ℕ × StreamModel). stream_bytes e.1) (entry_of entry) (map entry_of entries), sum_by-cons bytes_of entry.1 (values_of entries))
+
+-- a stream on which nothing came in is made
+pub streams_bytes-made : (id : ℕ) (old new : BTreeMap ℕ Stream) (stream : Stream) → new.entries ≡ insert_entry nat_cmp old.entries id stream → IsOrdered nat_cmp old → get nat_cmp old id ≡ None → stream_of stream ≡ new_stream id → streams_bytes (map entry_of new.entries) ≡ streams_bytes (map entry_of old.entries)
+streams_bytes-made id old new stream entries ordered absent fresh =
+    let none : unwrap_or (option_map bytes_of (lookup (is_at (nat_cmp id)) old.entries)) 0 ≡ 0 = ap (λ o. unwrap_or (option_map bytes_of o) 0) absent in
+    let empty : bytes_of stream ≡ 0 = ap stream_bytes fresh in
+    omega (
+      arith,
+      none,
+      empty,
+      ap (λ es. sum_by bytes_of (values_of es)) entries,
+      streams_bytes-values old.entries,
+      streams_bytes-values new.entries,
+      sum_by-insert_entry bytes_of nat_cmp_total old.entries id stream ordered,
+    )
+
+-- a stream that is there is written
+pub streams_bytes-written : (id : ℕ) (old new : BTreeMap ℕ Stream) (before after : Stream) → new.entries ≡ set_value (is_at (nat_cmp id)) old.entries after → get nat_cmp old id ≡ Some before → streams_bytes (map entry_of new.entries) + bytes_of before ≡ streams_bytes (map entry_of old.entries) + bytes_of after
+streams_bytes-written id old new before after entries found =
+    omega (
+      arith,
+      ap (λ es. sum_by bytes_of (values_of es)) entries,
+      streams_bytes-values old.entries,
+      streams_bytes-values new.entries,
+      sum_by-set_value bytes_of (is_at (nat_cmp id)) old.entries before after found,
+    )
+
+stream_or_none : (id : ℕ) (o : Option Stream) (streams : BTreeMap ℕ Stream) → get nat_cmp streams id ≡ o → unwrap_or (option_map bytes_of o) 0 ≡ stream_bytes (stream_on id (map entry_of streams.entries))
+stream_or_none id None streams is = ap stream_bytes (sym (stream_on-get id streams None is))
+stream_or_none id (Some stream) streams is = ap stream_bytes (sym (stream_on-get id streams (Some stream) is))
+
+-- a stream is removed, where it is there
+pub streams_bytes-removed : (id : ℕ) (old new : BTreeMap ℕ Stream) → new.entries ≡ remove_entry (is_at (nat_cmp id)) old.entries → streams_bytes (map entry_of new.entries) + stream_bytes (stream_on id (map entry_of old.entries)) ≡ streams_bytes (map entry_of old.entries)
+streams_bytes-removed id old new entries =
+    omega (
+      arith,
+      ap (λ es. sum_by bytes_of (values_of es)) entries,
+      streams_bytes-values old.entries,
+      streams_bytes-values new.entries,
+      stream_or_none id (get nat_cmp old id) old refl,
+      sum_by-remove_entry bytes_of (is_at (nat_cmp id)) old.entries,
+    )
+
+-- What is known of a map once the stream at an identifier was written.
+pub record Written (id : ℕ) (old new : BTreeMap ℕ Stream) (before after : Stream) : Type 0 where
+  pub was : stream_on id (map entry_of old.entries) ≡ stream_of before
+  pub becomes : stream_on id (map entry_of new.entries) ≡ stream_of after
+  pub others : (other : ℕ) → (other ≡ id → ⊥) → stream_on other (map entry_of new.entries) ≡ stream_on other (map entry_of old.entries)
+  pub bytes : streams_bytes (map entry_of new.entries) + bytes_of before ≡ streams_bytes (map entry_of old.entries) + bytes_of after
+  pub made : (other : ℕ) → IsSome (get nat_cmp old other) → IsSome (get nat_cmp new other)
+
+some_from : {X : Type 0} (o : Option X) (x : X) → o ≡ Some x → IsSome o
+some_from None x is = absurd (cc)
+some_from (Some y) x is = refl
+
+pub stream_written : (id : ℕ) (old new : BTreeMap ℕ Stream) (before after : Stream) → get nat_cmp old id ≡ Some before → WritesThrough nat_cmp (nat_cmp id) old after new → Written id old new before after
+stream_written id old new before after found writes =
+    let updates : UpdatesBy nat_cmp (nat_cmp id) old new (Some after) = writes.3 (some_from (get nat_cmp old id) before found) in
+    record {
+      was = stream_on-get id old (Some before) found;
+      becomes = stream_on-get id new (Some after) updates.1;
+      others = λ other apart. stream_on-other id other old new after updates apart;
+      bytes = streams_bytes-written id old new before after writes.0 found;
+      made = λ other is. go other (is_at (nat_cmp id) other) refl is;
+    }
+  where
+    go : (other : ℕ) (at : Bool) → is_at (nat_cmp id) other ≡ at → IsSome (get nat_cmp old other) → IsSome (get nat_cmp new other)
+    go other true at is =
+        let updates : UpdatesBy nat_cmp (nat_cmp id) old new (Some after) = writes.3 (some_from (get nat_cmp old id) before found) in
+        subst (λ (key : ℕ). IsSome (get nat_cmp new key)) (same_key id other at) (some_from (get nat_cmp new id) after updates.1)
+    go other false elsewhere is =
+        let updates : UpdatesBy nat_cmp (nat_cmp id) old new (Some after) = writes.3 (some_from (get nat_cmp old id) before found) in
+        subst (λ o. IsSome o) (sym (updates.2 other elsewhere)) is
+
+-- a stream that was there is there once another is made
+pub made_kept : (key : ℕ) (old new : BTreeMap ℕ Stream) (stream : Stream) → UpdatesBy nat_cmp (nat_cmp key) old new (Some stream) → (other : ℕ) → IsSome (get nat_cmp old other) → IsSome (get nat_cmp new other)
+made_kept key old new stream updates other is = go (is_at (nat_cmp key) other) refl
+  where
+    go : (at : Bool) → is_at (nat_cmp key) other ≡ at → IsSome (get nat_cmp new other)
+    go true at = subst (λ (id : ℕ). IsSome (get nat_cmp new id)) (same_key key other at) (some_from (get nat_cmp new key) stream updates.1)
+    go false elsewhere = subst (λ o. IsSome o) (sym (updates.2 other elsewhere)) is

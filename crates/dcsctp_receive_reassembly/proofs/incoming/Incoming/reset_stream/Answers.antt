@@ -1,0 +1,21 @@
+-- The bytes that are dropped are no longer counted.
+use Rattle.std.proofs.Common.{map, arith, ap}
+use Rattle.dcsctp_receive_reassembly.specs.Held.{runs_bytes}
+use Rattle.dcsctp_receive_reassembly.specs.Runs.{run_of, is_within}
+use Rattle.dcsctp_receive_reassembly.proofs.StreamBytes.{parted_bytes}
+use Rattle.dcsctp_receive_reassembly.proofs.incoming.Incoming.reset_stream.Goals as goal
+
+pub returns-clause-bytes : goal.returns-clause-bytes
+returns-clause-bytes c =
+    λ within.
+    omega (
+      arith,
+      within,
+      c.saturating_sub.ensures,
+      c.saturating_sub-self.ensures,
+      c.drop_messages-dropped.ensures.size,
+      ap runs_bytes c.drop_messages-dropped.ensures.kept,
+      parted_bytes (λ run. is_within c.from.result c.from-2.result run.number) (map run_of c.args.self.now.unordered.items),
+      c.forget_stream-forgotten.ensures.bytes,
+      c.forget_stream-forgotten.ensures.size,
+    )

@@ -1,0 +1,17 @@
+use Rattle.std.proofs.Common.{◌≡◌, ◌+◌, map}
+use Rattle.std.specs.VecDeque.{deque_len}
+use Rattle.dcsctp_receive_reassembly.specs.Runs.{run_of, up_to_place, behind_place}
+use Rattle.dcsctp_receive_reassembly.specs.Held.{capped, runs_bytes}
+use Rattle.dcsctp_receive_reassembly.proofs.runs.drop_places.Given as goal
+
+-- What is dropped from here on, with what was, is what is dropped from the beginning.
+abbrev pub invariant-loop-runs : goal.invariant-loop-runs
+invariant-loop-runs l =
+    record {
+      kept : behind_place l.place (map run_of l.runs.items) ≡ behind_place l.place (map run_of l.initial.runs.items);
+      size : capped (l.dropped + runs_bytes (up_to_place l.place (map run_of l.runs.items))) ≡ capped (runs_bytes (up_to_place l.place (map run_of l.initial.runs.items)));
+      bound : l.dropped ≡ capped l.dropped;
+    }
+
+abbrev pub decreases-loop-runs : goal.decreases-loop-runs
+decreases-loop-runs l = deque_len l.runs

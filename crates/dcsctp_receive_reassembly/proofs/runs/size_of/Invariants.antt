@@ -1,0 +1,7 @@
+use Rattle.std.proofs.Common.{◌≡◌, map, take}
+use Rattle.dcsctp_receive_reassembly.specs.Held.{capped, payloads_bytes}
+use Rattle.dcsctp_receive_reassembly.proofs.runs.size_of.Given as goal
+
+abbrev pub invariant-loop-index : goal.invariant-loop-index
+invariant-loop-index l =
+    l.size ≡ capped (payloads_bytes (map (λ payload. payload.items) (take l.index l.payloads.items)))

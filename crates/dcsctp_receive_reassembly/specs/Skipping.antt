@@ -1,0 +1,108 @@
+-- Messages that are skipped, and streams that begin anew (RFC 3758, section 3.6; RFC 8260, section 2.3.1; RFC 6525, section 5.2.2).
+use Rattle.std.specs.Prelude.{◌≡◌, ◌==◌, ℕ, ◌+◌, not, if◌then◌else◌, List, [], ◌∷◌, ◌++◌, length, IsSome}
+use Rattle.std.specs.List.{filter}
+use Rattle.std.specs.BTreeMap.{BTreeMap, get}
+use Rattle.std.specs.Ordering.{nat_cmp}
+use Rattle.dcsctp_machine.specs.Transfer.{MessageContent}
+use Rattle.dcsctp_receive_reassembly.specs.declared.arrivals.SkippedTo.{SkippedTo}
+use Rattle.dcsctp_receive_reassembly.specs.declared.stream.Stream.{Stream}
+use Rattle.dcsctp_receive_reassembly.specs.Numbers.{number_near}
+use Rattle.dcsctp_receive_reassembly.specs.Runs.{RunModel, is_within, behind_place}
+use Rattle.dcsctp_receive_reassembly.specs.Streams.{StreamModel, new_stream, skipped_stream, skipped, skip_deliveries}
+use Rattle.dcsctp_receive_reassembly.specs.Reassembly.{IncomingModel, stream_on, received_more}
+
+-- Is there a stream for each entry?
+abbrev pub AllMade : List SkippedTo → BTreeMap ℕ Stream → Type 0
+AllMade [] streams = Unit {0}
+AllMade (entry ∷ entries) streams = IsSome (get nat_cmp streams (skipped_stream entry)) × AllMade entries streams
+
+-- how many messages wait on the streams of the entries
+abbrev pub room_for : List SkippedTo → (ℕ → StreamModel) → ℕ
+room_for [] streams = 0
+room_for (entry ∷ entries) streams = length (streams (skipped_stream entry)).waiting + room_for entries streams
+
+-- a stream once an entry, or all of them in turn, are worked
+abbrev pub skipped_on : SkippedTo → ℕ → StreamModel → StreamModel
+skipped_on entry id stream = if skipped_stream entry == id then skipped entry stream else stream
+
+abbrev pub skipped_by : List SkippedTo → ℕ → StreamModel → StreamModel
+skipped_by [] id stream = stream
+skipped_by (entry ∷ entries) id stream = skipped_by entries id (skipped_on entry id stream)
+
+-- what becomes ready then
+abbrev pub deliveries_by : List SkippedTo → (ℕ → StreamModel) → List MessageContent
+deliveries_by [] streams = []
+deliveries_by (entry ∷ entries) streams =
+    skip_deliveries entry (streams (skipped_stream entry)) ++ deliveries_by entries (λ id. skipped_on entry id (streams id))
+
+-- Messages of one stream are skipped; those that become ready are not counted yet.
+pub record SkipsOne (entry : SkippedTo) (old new : IncomingModel) : Type 0 where
+  pub streams : (id : ℕ) → stream_on id new.streams ≡ skipped_on entry id (stream_on id old.streams)
+  pub ready : new.ready ≡ old.ready ++ skip_deliveries entry (stream_on (skipped_stream entry) old.streams)
+  pub received : new.messages_received ≡ old.messages_received
+  pub unordered : new.unordered ≡ old.unordered
+  pub last : new.last_tsn_number ≡ old.last_tsn_number
+
+-- Messages of the streams that are named are skipped.
+pub record SkipsAll (entries : List SkippedTo) (old new : IncomingModel) : Type 0 where
+  pub streams : (id : ℕ) → stream_on id new.streams ≡ skipped_by entries id (stream_on id old.streams)
+  pub ready : new.ready ≡ old.ready ++ deliveries_by entries (λ id. stream_on id old.streams)
+  pub received : new.messages_received ≡ old.messages_received
+  pub unordered : new.unordered ≡ old.unordered
+  pub last : new.last_tsn_number ≡ old.last_tsn_number
+
+-- A FORWARD TSN or I-FORWARD-TSN is worked whose TSN has this number: beside the messages that it names, the parts of unordered
+-- messages of DATA that begin at it or before it are dropped.
+pub record MovesTo (tsn_number : ℕ) (entries : List SkippedTo) (old new : IncomingModel) : Type 0 where
+  pub streams : (id : ℕ) → stream_on id new.streams ≡ skipped_by entries id (stream_on id old.streams)
+  pub ready : new.ready ≡ old.ready ++ deliveries_by entries (λ id. stream_on id old.streams)
+  pub received : new.messages_received ≡ received_more (length (deliveries_by entries (λ id. stream_on id old.streams))) old.messages_received
+  pub unordered : new.unordered ≡ behind_place tsn_number old.unordered
+  pub last : new.last_tsn_number ≡ tsn_number
+
+abbrev pub MovesOn : ℕ → List SkippedTo → IncomingModel → IncomingModel → Type 0
+MovesOn tsn entries old new = MovesTo (number_near old.last_tsn_number tsn) entries old new
+
+-- ---- streams that begin anew; messages that are ready stay
+
+-- a stream once one stream, or each of these, is reset
+abbrev pub reset_on : ℕ → ℕ → StreamModel → StreamModel
+reset_on reset id stream = if reset == id then new_stream id else stream
+
+abbrev pub reset_by : List ℕ → ℕ → StreamModel → StreamModel
+reset_by [] id stream = stream
+reset_by (reset ∷ resets) id stream = reset_by resets id (reset_on reset id stream)
+
+-- the parts of unordered messages of DATA then
+abbrev pub parts_of_others : ℕ → List RunModel → List RunModel
+parts_of_others reset runs = filter (λ run. not (is_within reset reset run.number)) runs
+
+abbrev pub parts_left : List ℕ → List RunModel → List RunModel
+parts_left [] runs = runs
+parts_left (reset ∷ resets) runs = parts_left resets (parts_of_others reset runs)
+
+-- What is ready stays, and what is counted of it.
+pub record KeepsReady (old new : IncomingModel) : Type 0 where
+  pub ready : new.ready ≡ old.ready
+  pub received : new.messages_received ≡ old.messages_received
+  pub last : new.last_tsn_number ≡ old.last_tsn_number
+
+pub record ResetsOne (reset : ℕ) (old new : IncomingModel) : Type 0 where
+  pub streams : (id : ℕ) → stream_on id new.streams ≡ reset_on reset id (stream_on id old.streams)
+  pub unordered : new.unordered ≡ parts_of_others reset old.unordered
+  pub kept : KeepsReady old new
+
+pub record ResetsEach (resets : List ℕ) (old new : IncomingModel) : Type 0 where
+  pub streams : (id : ℕ) → stream_on id new.streams ≡ reset_by resets id (stream_on id old.streams)
+  pub unordered : new.unordered ≡ parts_left resets old.unordered
+  pub kept : KeepsReady old new
+
+pub record ResetsAll (old new : IncomingModel) : Type 0 where
+  pub streams : (id : ℕ) → stream_on id new.streams ≡ new_stream id
+  pub unordered : new.unordered ≡ []
+  pub kept : KeepsReady old new
+
+-- The streams of the list begin anew; an empty list names all.
+abbrev pub ResetsStreams : List ℕ → IncomingModel → IncomingModel → Type 0
+ResetsStreams [] old new = ResetsAll old new
+ResetsStreams (reset ∷ resets) old new = ResetsEach (reset ∷ resets) old new

@@ -1,0 +1,245 @@
+-- Incoming streams: whole ordered messages that wait for their turn, and parts (RFC 9260, sections 6.5 and 6.6; RFC 3758,
+-- section 3.6). Messages are numbered without wrap.
+use Rattle.std.specs.List.{filter}
+use Rattle.std.specs.Prelude.{◌≡◌, ◌==◌, ℕ, ◌+◌, ◌-◌, ◌^◌, ◌<◌, ◌≤◌, MatchBool, min, max, nat_le, take, drop, slice_get, if◌then◌else◌, not, Bool, true, false, Option, None, Some, List, [], ◌∷◌, ◌++◌, length, map}
+use Rattle.dcsctp_machine.specs.Transfer.{MessageContent}
+use Rattle.dcsctp_receive_reassembly.specs.declared.arrivals.Data.{Data}
+use Rattle.dcsctp_receive_reassembly.specs.declared.arrivals.SkippedTo.{SkippedTo}
+use Rattle.dcsctp_receive_reassembly.specs.declared.arrivals.SkippedTo.TheVariants.{Ssn, Mid}
+use Rattle.dcsctp_receive_reassembly.specs.declared.arrivals.Numbering.{Numbering}
+use Rattle.dcsctp_receive_reassembly.specs.declared.arrivals.Numbering.TheVariants.{Ordered, Unordered, InterleavedOrdered, InterleavedUnordered}
+use Rattle.dcsctp_receive_reassembly.specs.Numbers.{number_near, short_number_near, short_number_from, fragment_place}
+use Rattle.dcsctp_receive_reassembly.specs.declared.stream.Stream.{Stream}
+use Rattle.dcsctp_receive_reassembly.specs.declared.stream.Taken.{Taken}
+use Rattle.dcsctp_receive_reassembly.specs.declared.runs.Assembled.{Assembled}
+use Rattle.dcsctp_receive_reassembly.specs.declared.runs.Assembled.TheVariants.{Dropped, Kept, Whole as WholeMessage}
+use Rattle.dcsctp_receive_reassembly.specs.Runs.{RunModel, PartModel, WholeModel, AddsPart, is_within, run_of, whole_of}
+use Rattle.dcsctp_receive_reassembly.specs.Held.{runs_bytes}
+
+pub record StreamModel : Type 0 where
+  pub id : ℕ
+  -- the number of the ordered message that comes next
+  pub next : ℕ
+  -- the number of the unordered message of which a part came in last
+  pub last_unordered : ℕ
+  -- whole ordered messages behind one that is missing, ascending
+  pub waiting : List WholeModel
+  -- parts of ordered and of unordered messages
+  pub ordered : List RunModel
+  pub unordered : List RunModel
+
+abbrev pub stream_of : Stream → StreamModel
+stream_of stream =
+    record {
+      id = stream.id.0;
+      next = stream.next;
+      last_unordered = stream.last_unordered;
+      waiting = map whole_of stream.waiting.items;
+      ordered = map run_of stream.ordered.items;
+      unordered = map run_of stream.unordered.items;
+    }
+
+-- a stream on which nothing came in
+abbrev pub new_stream : ℕ → StreamModel
+new_stream id = record { id = id; next = 2 ^ 32; last_unordered = 2 ^ 32; waiting = []; ordered = []; unordered = [] }
+
+-- a whole message, as the user takes it
+abbrev pub delivered_as : ℕ → WholeModel → MessageContent
+delivered_as id whole = record { stream = id; ppid = whole.ppid; payload = whole.payload }
+
+-- ---- delivery in order
+
+-- the next number once this message is delivered
+abbrev pub next_after : ℕ → WholeModel → ℕ
+next_after next whole = if whole.number == next then min (next + 1) (2 ^ 64 - 1) else next
+
+-- the messages that come before the first that is missing, those that wait, and the number of that first
+abbrev pub due : ℕ → List WholeModel → List WholeModel
+due next [] = []
+due next (whole ∷ waiting) = if nat_le whole.number next then whole ∷ due (next_after next whole) waiting else []
+
+abbrev pub not_due : ℕ → List WholeModel → List WholeModel
+not_due next [] = []
+not_due next (whole ∷ waiting) = if nat_le whole.number next then not_due (next_after next whole) waiting else whole ∷ waiting
+
+abbrev pub next_due : ℕ → List WholeModel → ℕ
+next_due next [] = next
+next_due next (whole ∷ waiting) = if nat_le whole.number next then next_due (next_after next whole) waiting else next
+
+-- a stream whose next number is this, once all that can be delivered is
+abbrev pub delivered_from : ℕ → StreamModel → StreamModel
+delivered_from next stream = record stream { next = next_due next stream.waiting; waiting = not_due next stream.waiting }
+
+-- what is delivered then
+abbrev pub deliveries_from : ℕ → StreamModel → List MessageContent
+deliveries_from next stream = map (delivered_as stream.id) (due next stream.waiting)
+
+-- the number behind a skipped one, where that isn't before the next
+abbrev pub next_past : ℕ → ℕ → ℕ
+next_past skipped next = max next (min (skipped + 1) (2 ^ 64 - 1))
+
+-- ---- data that comes in
+
+abbrev pub NothingTaken : Taken → Type 0
+NothingTaken taken = (taken.kept_bytes ≡ 0) × (taken.ready ≡ 0)
+
+abbrev pub KeptOnly : PartModel → Taken → Type 0
+KeptOnly part taken = (taken.kept_bytes ≡ length part.payload) × (taken.ready ≡ 0)
+
+-- the messages that become ready with an ordered one that is next: it and those that waited for it
+abbrev pub ready_with : StreamModel → WholeModel → List MessageContent
+ready_with stream whole = delivered_as stream.id whole ∷ deliveries_from (next_after stream.next whole) stream
+
+-- Is the message, if there is one, numbered below the number, or not?
+abbrev pub NumberedBelow : ℕ → Option WholeModel → Type 0
+NumberedBelow number None = Unit {0}
+NumberedBelow number (Some whole) = whole.number < number
+
+abbrev pub NumberedFrom : ℕ → Option WholeModel → Type 0
+NumberedFrom number None = Unit {0}
+NumberedFrom number (Some whole) = number ≤ whole.number
+
+-- Where a number belongs among the messages that wait: the one before is numbered below it, the next one is not.
+pub record IsTurn (at number : ℕ) (waiting : List WholeModel) : Type 0 where
+  pub before : 0 < at → NumberedBelow number (slice_get waiting (at - 1))
+  pub behind : NumberedFrom number (slice_get waiting at)
+
+-- A message waits among others, which keep their order.
+pub record WaitsAmong (whole : WholeModel) (old new : List WholeModel) : Type 0 where
+  pub at : ℕ
+  pub turn : IsTurn at whole.number old
+  pub waiting : new ≡ take at old ++ whole ∷ drop at old
+
+-- A whole ordered message: it is next, and becomes ready with those that waited for it; or it waits.
+pub record TakesWhole (whole : WholeModel) (old : StreamModel) (before : List MessageContent) (size : ℕ) (taken : Taken) (new : StreamModel) (after : List MessageContent) : Type 0 where
+  pub kept : taken.kept_bytes ≡ size
+  pub ready : after ≡ (if whole.number == old.next then before ++ ready_with old whole else before)
+  pub count : taken.ready ≡ (if whole.number == old.next then length (ready_with old whole) else 0)
+  pub next : new.next ≡ (if whole.number == old.next then next_due (next_after old.next whole) old.waiting else old.next)
+  pub waiting : MatchBool (whole.number == old.next) (new.waiting ≡ not_due (next_after old.next whole) old.waiting) (WaitsAmong whole old.waiting new.waiting)
+
+-- What a part of an ordered message does, by what became of it.
+abbrev pub OrderedOutcome : PartModel → StreamModel → List MessageContent → Assembled → Taken → StreamModel → List MessageContent → Type 0
+OrderedOutcome part old before Dropped taken new after = (new ≡ old) × (after ≡ before) × NothingTaken taken
+OrderedOutcome part old before Kept taken new after =
+    (new.next ≡ old.next) × (new.waiting ≡ old.waiting) × (after ≡ before) × KeptOnly part taken
+OrderedOutcome part old before (WholeMessage whole) taken new after =
+    TakesWhole (whole_of whole) old before (length part.payload) taken new after
+
+-- A part of an ordered message, or a whole one, that isn't before the next.
+pub record TakesOrdered (part : PartModel) (old : StreamModel) (before : List MessageContent) (taken : Taken) (new : StreamModel) (after : List MessageContent) : Type 0 where
+  pub outcome : Assembled
+  pub parts : AddsPart part old.ordered outcome new.ordered
+  pub does : OrderedOutcome part old before outcome taken new after
+  pub id : new.id ≡ old.id
+  pub unordered : (new.last_unordered ≡ old.last_unordered) × (new.unordered ≡ old.unordered)
+
+-- What a part of an unordered message does, by what became of it: one that makes its message whole makes it ready.
+abbrev pub UnorderedOutcome : PartModel → (WholeModel → MessageContent) → List MessageContent → Assembled → Taken → List MessageContent → Type 0
+UnorderedOutcome part shown before Dropped taken after = (after ≡ before) × NothingTaken taken
+UnorderedOutcome part shown before Kept taken after = (after ≡ before) × KeptOnly part taken
+UnorderedOutcome part shown before (WholeMessage whole) taken after =
+    (after ≡ before ++ shown (whole_of whole) ∷ []) × (taken.kept_bytes ≡ length part.payload) × (taken.ready ≡ 1)
+
+-- A part of an unordered message, or a whole one, of which these runs hold the parts.
+pub record TakesUnordered (part : PartModel) (shown : WholeModel → MessageContent) (old : List RunModel) (before : List MessageContent) (taken : Taken) (new : List RunModel) (after : List MessageContent) : Type 0 where
+  pub outcome : Assembled
+  pub parts : AddsPart part old outcome new
+  pub does : UnorderedOutcome part shown before outcome taken after
+
+-- ---- chunks of data
+
+-- what a chunk bears
+pub record ChunkModel : Type 0 where
+  pub stream : ℕ
+  pub numbering : Numbering
+  pub ppid : ℕ
+  pub payload : List ℕ
+  pub is_beginning : Bool
+  pub is_end : Bool
+
+abbrev pub chunk_of : Data → ChunkModel
+chunk_of chunk =
+    record { stream = chunk.stream_id.0; numbering = chunk.numbering; ppid = chunk.ppid.0; payload = chunk.payload.items; is_beginning = chunk.is_beginning; is_end = chunk.is_end }
+
+-- a part at this place, out of a chunk
+abbrev pub data_part : ChunkModel → ℕ → ℕ → PartModel
+data_part chunk place number =
+    record { place = place; number = number; ppid = chunk.ppid; payload = chunk.payload; is_beginning = chunk.is_beginning; is_end = chunk.is_end }
+
+-- A part of an ordered I-DATA message, or a whole one: it is dropped where its message is before the next.
+pub record TakesInOrder (part : PartModel) (old : StreamModel) (before : List MessageContent) (taken : Taken) (new : StreamModel) (after : List MessageContent) : Type 0 where
+  pub past : part.number < old.next → NothingTaken taken × (new ≡ old) × (after ≡ before)
+  pub ahead : old.next ≤ part.number → TakesOrdered part old before taken new after
+
+-- the same of an unordered I-DATA message
+pub record TakesOutOfOrder (part : PartModel) (old : StreamModel) (before : List MessageContent) (taken : Taken) (new : StreamModel) (after : List MessageContent) : Type 0 where
+  pub unordered : TakesUnordered part (delivered_as old.id) old.unordered before taken new.unordered after
+  pub last : new.last_unordered ≡ part.number
+  pub others : (new.id ≡ old.id) × (new.next ≡ old.next) × (new.waiting ≡ old.waiting) × (new.ordered ≡ old.ordered)
+
+-- the same of an unordered message of DATA, whose parts go by their TSNs
+pub record TakesApart (part : PartModel) (old : StreamModel) (before : List MessageContent) (taken : Taken) (new : StreamModel) (after : List MessageContent) : Type 0 where
+  pub unordered : TakesUnordered part (delivered_as old.id) old.unordered before taken new.unordered after
+  pub others : (new.id ≡ old.id) × (new.next ≡ old.next) × (new.waiting ≡ old.waiting) × (new.ordered ≡ old.ordered)
+  pub last : new.last_unordered ≡ old.last_unordered
+
+-- Data of a stream came in, whose TSN has this number. The parts of an ordered message of DATA go by their TSNs, those of I-DATA
+-- by their fragment numbers.
+--
+-- A stream sequence number is read from the next one on, up to its whole range: the TSN is new, and all TSNs of a message that was
+-- delivered or skipped count as received (RFC 3758, section 3.5). A message identifier is the nearest: nobody is 2^31 messages ahead,
+-- and a part of a message that was skipped may come late, since parts of I-DATA messages need not have TSNs in a row.
+abbrev pub TakesNumbered : ℕ → ChunkModel → Numbering → StreamModel → List MessageContent → Taken → StreamModel → List MessageContent → Type 0
+TakesNumbered tsn chunk (Ordered ssn) old before taken new after =
+    TakesOrdered (data_part chunk tsn (short_number_from old.next ssn)) old before taken new after
+TakesNumbered tsn chunk Unordered old before taken new after = TakesApart (data_part chunk tsn 0) old before taken new after
+TakesNumbered tsn chunk (InterleavedOrdered mid fsn) old before taken new after =
+    TakesInOrder (data_part chunk (fragment_place (number_near old.next mid) fsn) (number_near old.next mid)) old before taken new after
+TakesNumbered tsn chunk (InterleavedUnordered mid fsn) old before taken new after =
+    TakesOutOfOrder (data_part chunk (fragment_place (number_near old.last_unordered mid) fsn) (number_near old.last_unordered mid)) old before taken new after
+
+abbrev pub TakesOnStream : ℕ → ChunkModel → StreamModel → List MessageContent → Taken → StreamModel → List MessageContent → Type 0
+TakesOnStream tsn chunk old before taken new after = TakesNumbered tsn chunk chunk.numbering old before taken new after
+
+-- ---- messages that are skipped (RFC 3758, section 3.6; RFC 8260, section 2.3.1)
+
+-- the runs of the messages up to a number, and the others
+abbrev pub runs_up_to : ℕ → List RunModel → List RunModel
+runs_up_to number runs = filter (λ run. is_within 0 number run.number) runs
+
+abbrev pub runs_behind : ℕ → List RunModel → List RunModel
+runs_behind number runs = filter (λ run. not (is_within 0 number run.number)) runs
+
+-- The ordered messages up to a number are skipped: what isn't whole of them is dropped, whole ones and those that follow in a row
+-- become ready.
+abbrev pub skipped_in_order : ℕ → StreamModel → StreamModel
+skipped_in_order number stream =
+    delivered_from (next_past number stream.next) (record stream { ordered = runs_behind number stream.ordered })
+
+-- The unordered messages up to a number are skipped: what is there of them is dropped.
+abbrev pub skipped_out_of_order : ℕ → StreamModel → StreamModel
+skipped_out_of_order number stream = record stream { last_unordered = number; unordered = runs_behind number stream.unordered }
+
+-- the stream on which messages are skipped
+abbrev pub skipped_stream : SkippedTo → ℕ
+skipped_stream (Ssn id ssn) = id.0
+skipped_stream (Mid id is_unordered mid) = id.0
+
+-- the stream then
+abbrev pub skipped : SkippedTo → StreamModel → StreamModel
+skipped (Ssn id ssn) stream = skipped_in_order (short_number_near stream.next ssn) stream
+skipped (Mid id false mid) stream = skipped_in_order (number_near stream.next mid) stream
+skipped (Mid id true mid) stream = skipped_out_of_order (number_near stream.last_unordered mid) stream
+
+-- what becomes ready then
+abbrev pub skip_deliveries : SkippedTo → StreamModel → List MessageContent
+skip_deliveries (Ssn id ssn) stream = deliveries_from (next_past (short_number_near stream.next ssn) stream.next) stream
+skip_deliveries (Mid id false mid) stream = deliveries_from (next_past (number_near stream.next mid) stream.next) stream
+skip_deliveries (Mid id true mid) stream = []
+
+-- how many bytes are dropped then
+abbrev pub skip_bytes : SkippedTo → StreamModel → ℕ
+skip_bytes (Ssn id ssn) stream = runs_bytes (runs_up_to (short_number_near stream.next ssn) stream.ordered)
+skip_bytes (Mid id false mid) stream = runs_bytes (runs_up_to (number_near stream.next mid) stream.ordered)
+skip_bytes (Mid id true mid) stream = runs_bytes (runs_up_to (number_near stream.last_unordered mid) stream.unordered)

@@ -1,0 +1,240 @@
+//! What came in and doesn't wait for the end of a deferred reset: the streams, the parts of unordered
+//! messages, and the messages that are ready (RFC 9260, sections 6.5, 6.6 and 6.9).
+
+ghost use Rattle.std.specs.Prelude.{◌≡◌, ℕ, ◌+◌, ◌^◌, ◌<◌, map, true, IfOk, OnOk, OnErr, IsSome, IfSome, IfNone, length, [], ◌∷◌};
+ghost use Rattle.std.specs.BTreeMap.{get};
+ghost use Rattle.std.specs.Ordering.{nat_cmp};
+ghost use Rattle.dcsctp_receive_reassembly.specs.Held.{capped};
+ghost use Rattle.dcsctp_receive_reassembly.specs.QueuedBytes.{ready_bytes, streams_bytes};
+ghost use Rattle.dcsctp_machine.specs.Transfer.{message_content};
+ghost use Rattle.dcsctp_receive_reassembly.specs.Streams.{chunk_of, TakesOnStream};
+ghost use Rattle.dcsctp_receive_reassembly.specs.Reassembly.{
+  incoming_of,
+  entry_of,
+  stream_on,
+  Balances,
+  nothing,
+  received_more,
+  KeepsStreams,
+  SameIncoming,
+  TakesUnorderedData,
+  TakesStreamData,
+  TakesChunk,
+  TakesData,
+};
+
+use crate::arrivals::{Data, Numbering};
+use crate::numbers::number_near;
+use crate::runs::Run;
+use crate::stream::{FIRST_NUMBER, Stream, Taken, part_of_data, take_unordered};
+use dcsctp_api::{Message, StreamId};
+use std::alloc::{AllocError, Global};
+use std::collections::{BTreeMap, VecDeque};
+
+/// All that is kept of what came in.
+#[derive(Drop)]
+pub struct Incoming {
+    pub alloc: Global,
+
+    /// The bytes of all that is kept, and of what waits for the end of a deferred reset.
+    pub queued_bytes: usize,
+
+    /// How many messages became ready.
+    pub messages_received: u64,
+
+    pub ready: VecDeque<Message>,
+    pub streams: BTreeMap<u16, Stream>,
+
+    /// Parts of unordered messages of DATA, by their TSNs. The number of a message is its stream.
+    pub unordered: VecDeque<Run>,
+
+    /// The number of the TSN that was worked last.
+    pub last_tsn_number: u64,
+}
+
+/// Makes the stream, if nothing came in on it yet.
+pub fn make_stream(
+    alloc: Global,
+    streams: &mut BTreeMap<u16, Stream>,
+    id: StreamId,
+) -> Result<(), AllocError>
+    ensures made { OnOk result (IsSome (get nat_cmp streams.new id.0)) }
+    ensures kept { (other : ℕ) → IsSome (get nat_cmp streams.old other) → IsSome (get nat_cmp streams.new other) }
+    ensures streams { KeepsStreams (map entry_of streams.old.entries) (map entry_of streams.new.entries) }
+    ensures bytes { streams_bytes (map entry_of streams.new.entries) ≡ streams_bytes (map entry_of streams.old.entries) }
+{
+    if !streams.contains_key(&id.0) {
+        let _ = streams.insert(id.0, Stream::new(alloc, id))?;
+    }
+    Ok(())
+}
+
+// Takes data in on its stream, which is there. The other streams stay.
+fn take_on_made(
+    alloc: Global,
+    streams: &mut BTreeMap<u16, Stream>,
+    tsn_number: u64,
+    chunk: Data,
+    ready: &mut VecDeque<Message>,
+) -> Result<Taken, AllocError>
+    requires { IsSome (get nat_cmp streams.old chunk.stream_id.0) }
+    ensures ok { IfOk result (λ taken. TakesOnStream tsn_number (chunk_of chunk) (stream_on chunk.stream_id.0 (map entry_of streams.old.entries)) (map message_content ready.old.items) taken (stream_on chunk.stream_id.0 (map entry_of streams.new.entries)) (map message_content ready.new.items)) }
+    ensures others { (other : ℕ) → (other ≡ chunk.stream_id.0 → ⊥) → stream_on other (map entry_of streams.new.entries) ≡ stream_on other (map entry_of streams.old.entries) }
+    ensures bytes { IfOk result (λ taken. streams_bytes (map entry_of streams.new.entries) + ready_bytes (map message_content ready.new.items) ≡ streams_bytes (map entry_of streams.old.entries) + ready_bytes (map message_content ready.old.items) + taken.kept_bytes) }
+    ensures err { OnErr result ((map message_content ready.new.items ≡ map message_content ready.old.items) × (stream_on chunk.stream_id.0 (map entry_of streams.new.entries) ≡ stream_on chunk.stream_id.0 (map entry_of streams.old.entries)) × (streams_bytes (map entry_of streams.new.entries) ≡ streams_bytes (map entry_of streams.old.entries))) }
+{
+    let stream = streams.get_mut(&chunk.stream_id.0).unwrap();
+    let taken = stream.take(alloc, tsn_number, chunk, ready)?;
+    Ok(taken)
+}
+
+// Takes data in on its stream, which is made first. The other streams stay.
+fn take_on_new(
+    alloc: Global,
+    streams: &mut BTreeMap<u16, Stream>,
+    tsn_number: u64,
+    chunk: Data,
+    ready: &mut VecDeque<Message>,
+) -> Result<Taken, AllocError>
+    ensures ok { IfOk result (λ taken. TakesOnStream tsn_number (chunk_of chunk) (stream_on chunk.stream_id.0 (map entry_of streams.old.entries)) (map message_content ready.old.items) taken (stream_on chunk.stream_id.0 (map entry_of streams.new.entries)) (map message_content ready.new.items)) }
+    ensures others { (other : ℕ) → (other ≡ chunk.stream_id.0 → ⊥) → stream_on other (map entry_of streams.new.entries) ≡ stream_on other (map entry_of streams.old.entries) }
+    ensures bytes { IfOk result (λ taken. streams_bytes (map entry_of streams.new.entries) + ready_bytes (map message_content ready.new.items) ≡ streams_bytes (map entry_of streams.old.entries) + ready_bytes (map message_content ready.old.items) + taken.kept_bytes) }
+    ensures err { OnErr result ((map message_content ready.new.items ≡ map message_content ready.old.items) × (stream_on chunk.stream_id.0 (map entry_of streams.new.entries) ≡ stream_on chunk.stream_id.0 (map entry_of streams.old.entries)) × (streams_bytes (map entry_of streams.new.entries) ≡ streams_bytes (map entry_of streams.old.entries))) }
+{
+    make_stream(alloc, streams, chunk.stream_id)?;
+    take_on_made(alloc, streams, tsn_number, chunk, ready)
+}
+
+// Takes data in on its stream, which is made if nothing came in on it yet. The other streams stay. One that
+// is there is looked up once.
+#[inline(always)]
+fn take_on(
+    alloc: Global,
+    streams: &mut BTreeMap<u16, Stream>,
+    tsn_number: u64,
+    chunk: Data,
+    ready: &mut VecDeque<Message>,
+) -> Result<Taken, AllocError>
+    ensures ok { IfOk result (λ taken. TakesOnStream tsn_number (chunk_of chunk) (stream_on chunk.stream_id.0 (map entry_of streams.old.entries)) (map message_content ready.old.items) taken (stream_on chunk.stream_id.0 (map entry_of streams.new.entries)) (map message_content ready.new.items)) }
+    ensures others { (other : ℕ) → (other ≡ chunk.stream_id.0 → ⊥) → stream_on other (map entry_of streams.new.entries) ≡ stream_on other (map entry_of streams.old.entries) }
+    ensures bytes { IfOk result (λ taken. streams_bytes (map entry_of streams.new.entries) + ready_bytes (map message_content ready.new.items) ≡ streams_bytes (map entry_of streams.old.entries) + ready_bytes (map message_content ready.old.items) + taken.kept_bytes) }
+    ensures err { OnErr result ((map message_content ready.new.items ≡ map message_content ready.old.items) × (stream_on chunk.stream_id.0 (map entry_of streams.new.entries) ≡ stream_on chunk.stream_id.0 (map entry_of streams.old.entries)) × (streams_bytes (map entry_of streams.new.entries) ≡ streams_bytes (map entry_of streams.old.entries))) }
+{
+    match streams.get_mut(&chunk.stream_id.0) {
+        Some(stream) => {
+            let taken = stream.take(alloc, tsn_number, chunk, ready)?;
+            Ok(taken)
+        }
+        None => take_on_new(alloc, streams, tsn_number, chunk, ready),
+    }
+}
+
+impl Incoming {
+    /// Nothing came in yet.
+    pub fn new(alloc: Global) -> Incoming
+        ensures queued { result.queued_bytes ≡ 0 }
+        ensures incoming { incoming_of result ≡ nothing }
+    {
+        Incoming {
+            alloc,
+            queued_bytes: 0,
+            messages_received: 0,
+            ready: VecDeque::new(alloc),
+            streams: BTreeMap::new(alloc),
+            unordered: VecDeque::new(alloc),
+            last_tsn_number: FIRST_NUMBER,
+        }
+    }
+
+    // Counts data that was taken.
+    fn count(&mut self, taken: Taken)
+        ensures incoming { incoming_of self.new ≡ record (incoming_of self.old) { messages_received = received_more taken.ready self.old.messages_received } }
+        ensures queued { self.new.queued_bytes ≡ capped (self.old.queued_bytes + taken.kept_bytes) }
+    {
+        self.queued_bytes = self.queued_bytes.saturating_add(taken.kept_bytes);
+        self.messages_received = self.messages_received.saturating_add(taken.ready as u64);
+    }
+
+    // A part of an unordered message of DATA came in.
+    fn take_unordered(&mut self, tsn_number: u64, chunk: Data) -> Result<(), AllocError>
+        requires { self.old.queued_bytes + length chunk.payload.items < 2 ^ 64 }
+        ensures ok { OnOk result (TakesUnorderedData tsn_number (chunk_of chunk) (incoming_of self.old) (incoming_of self.new)) }
+        ensures bytes { Balances self.old self.new }
+        ensures err { OnErr result (SameIncoming (incoming_of self.old) (incoming_of self.new)) }
+        ensures count { OnErr result (self.new.queued_bytes ≡ self.old.queued_bytes) }
+    {
+        let id = chunk.stream_id;
+        let part = part_of_data(chunk, u128::from(tsn_number), u64::from(id.0));
+        let taken = take_unordered(self.alloc, id, &mut self.unordered, part, &mut self.ready)?;
+        self.count(taken);
+        Ok(())
+    }
+
+    // Data of a stream came in, but for unordered DATA.
+    #[inline(always)]
+    fn take_on_stream(&mut self, tsn_number: u64, chunk: Data) -> Result<(), AllocError>
+        requires { self.old.queued_bytes + length chunk.payload.items < 2 ^ 64 }
+        ensures ok { OnOk result (TakesStreamData tsn_number (chunk_of chunk) (incoming_of self.old) (incoming_of self.new)) }
+        ensures bytes { Balances self.old self.new }
+        ensures err { OnErr result (SameIncoming (incoming_of self.old) (incoming_of self.new)) }
+        ensures count { OnErr result (self.new.queued_bytes ≡ self.old.queued_bytes) }
+    {
+        let taken = take_on(
+            self.alloc,
+            &mut self.streams,
+            tsn_number,
+            chunk,
+            &mut self.ready,
+        )?;
+        self.count(taken);
+        Ok(())
+    }
+
+    // Data came in whose TSN has this number.
+    #[inline(always)]
+    fn take_numbered(&mut self, tsn_number: u64, chunk: Data) -> Result<(), AllocError>
+        requires { self.old.queued_bytes + length chunk.payload.items < 2 ^ 64 }
+        ensures ok { OnOk result (TakesChunk tsn_number chunk.numbering (chunk_of chunk) (incoming_of self.old) (incoming_of self.new)) }
+        ensures bytes { Balances self.old self.new }
+        ensures err { OnErr result (SameIncoming (incoming_of self.old) (incoming_of self.new)) }
+        ensures count { OnErr result (self.new.queued_bytes ≡ self.old.queued_bytes) }
+    {
+        match chunk.numbering {
+            Numbering::Unordered => self.take_unordered(tsn_number, chunk),
+            Numbering::Ordered { .. }
+            | Numbering::InterleavedOrdered { .. }
+            | Numbering::InterleavedUnordered { .. } => self.take_on_stream(tsn_number, chunk),
+        }
+    }
+
+    /// Works data, whose bytes can be counted. If there is no memory for it, all stays.
+    #[inline(always)]
+    pub fn take(&mut self, tsn: u32, chunk: Data) -> Result<(), AllocError>
+        requires { self.old.queued_bytes + length chunk.payload.items < 2 ^ 64 }
+        ensures ok { OnOk result (TakesData tsn (chunk_of chunk) (incoming_of self.old) (incoming_of self.new)) }
+        ensures bytes { Balances self.old self.new }
+        ensures err { OnErr result (SameIncoming (incoming_of self.old) (incoming_of self.new)) }
+        ensures count { OnErr result (self.new.queued_bytes ≡ self.old.queued_bytes) }
+    {
+        let tsn_number = number_near(self.last_tsn_number, tsn);
+        self.take_numbered(tsn_number, chunk)?;
+        self.last_tsn_number = tsn_number;
+        Ok(())
+    }
+
+    /// Takes the message that became ready first.
+    pub fn next_message(&mut self) -> Option<Message>
+        ensures some { IfSome result (λ message. map message_content self.old.ready.items ≡ message_content message ∷ map message_content self.new.ready.items) }
+        ensures left { IfSome result (λ _. incoming_of self.new ≡ record (incoming_of self.old) { ready = map message_content self.new.ready.items }) }
+        ensures none { IfNone result ((map message_content self.old.ready.items ≡ []) × (incoming_of self.new ≡ incoming_of self.old)) }
+        ensures bytes { Balances self.old self.new }
+    {
+        match self.ready.pop_front() {
+            Some(message) => {
+                self.queued_bytes = self.queued_bytes.saturating_sub(message.payload.len());
+                Some(message)
+            }
+            None => None,
+        }
+    }
+}

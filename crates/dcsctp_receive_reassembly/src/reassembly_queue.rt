@@ -1,0 +1,371 @@
+//! What came in and was not taken by the user yet (RFC 9260, sections 6.5, 6.6 and 6.9; RFC 8260; RFC 3758,
+//! section 3.6; RFC 6525, section 5.2.2). The association hands it each data chunk whose TSN is new, each
+//! FORWARD TSN chunk, and each reset of incoming streams.
+
+ghost use Rattle.std.specs.Prelude.{◌≡◌, ◌==◌, ◌+◌, ◌≤◌, true, false, map, length, [], IsOk, OnOk, OnErr, IsSome};
+ghost use Rattle.std.specs.List.{list_any, sum_by};
+ghost use Rattle.dcsctp_machine.specs.Ids.{stream_numbers};
+ghost use Rattle.dcsctp_receive_reassembly.specs.Reassembly.{incoming_of, held_bytes, SameIncoming, TakesData};
+ghost use Rattle.dcsctp_receive_reassembly.specs.Queue.{
+  names_stream,
+  waiting_of,
+  waiting_bytes,
+  Works,
+  WorksAll,
+  WorksFront,
+};
+ghost use Rattle.dcsctp_machine.specs.Transfer.{message_content};
+ghost use Rattle.dcsctp_receive_reassembly.specs.Streams.{chunk_of};
+
+use crate::arrivals::{Data, SkippedTo};
+use crate::incoming::Incoming;
+use crate::named::NamedStreams;
+use crate::numbers::is_tsn_beyond;
+use dcsctp_api::{Message, StreamId};
+use std::alloc::{AllocError, Global};
+use std::collections::VecDeque;
+use std::fmt;
+use std::marker::Model;
+
+// What waits for the end of a deferred reset.
+#[derive(Drop)]
+enum Deferred {
+    Data(u32, Data),
+    ForwardTsn(u32, Vec<SkippedTo>),
+}
+
+// A reset of streams that waits for data that was sent before it.
+#[derive(Drop)]
+struct Deferral {
+    last_tsn: u32,
+    streams: NamedStreams,
+    waiting: VecDeque<Deferred>,
+}
+
+/// The data that came in: parts of messages, whole messages that wait for their turn, and whole messages
+/// that the user did not take yet.
+#[derive(Drop)]
+pub struct ReassemblyQueue {
+    incoming: Incoming,
+    max_size: usize,
+    deferral: Option<Deferral>,
+}
+
+impl Model for ReassemblyQueue {
+    ghost use Rattle.std.specs.Option.{option_map};
+    ghost use Rattle.dcsctp_receive_reassembly.specs.Queue.{QueueModel, deferral_of};
+    ghost use Rattle.dcsctp_receive_reassembly.specs.Reassembly.{incoming_of};
+
+    ghost Value = { QueueModel };
+
+    ghost use Rattle.dcsctp_receive_reassembly.specs.QueueFields.{IsCounted};
+
+    ghost view = { λ queue. record {
+      incoming = incoming_of queue.incoming;
+      max_size = queue.max_size;
+      deferral = option_map deferral_of queue.deferral;
+    } };
+
+    ghost invariant = { IsCounted };
+}
+
+/// It prints its name alone.
+impl fmt::Debug for ReassemblyQueue {
+    ghost use Rattle.std.specs.Prelude.{None};
+
+    ghost debug_output = { λ _. None };
+
+    fn fmt<W: fmt::Write>(&self, f: &mut fmt::Formatter<W>) -> fmt::Result {
+        f.write_str("ReassemblyQueue")
+    }
+}
+
+impl ReassemblyQueue {
+    ghost use Rattle.std.specs.Prelude.{◌*◌, nat_le, ◌∷◌, IfSome, IfNone};
+    ghost use Rattle.dcsctp_receive_reassembly.specs.Queue.{
+      new_queue,
+      reassembly_state,
+      queued_bytes,
+      can_count,
+      is_deferred,
+      with_deferred,
+      with_waiting,
+      Takes,
+      Forwards,
+      skipping,
+      is_forward_deferred,
+      SameQueue,
+      entered,
+      Leaves,
+      StaysDeferred,
+    };
+
+    /// Nothing came in yet, and at most `max_size` bytes are kept. It takes no memory.
+    pub fn new(alloc: Global, max_size: usize) -> ReassemblyQueue
+        ensures whole { result ≡ new_queue max_size }
+        ensures shown { reassembly_state result ≡ record {
+          messages = [];
+          messages_received = 0;
+          window = max_size;
+          remaining_bytes = max_size;
+        } }
+    {
+        ReassemblyQueue {
+            incoming: Incoming::new(alloc),
+            max_size,
+            deferral: None,
+        }
+    }
+
+    /// Takes the message that became ready first; none where none is ready. It takes no memory.
+    pub fn get_next_message(&mut self) -> Option<Message>
+        ensures some { IfSome result (λ message. self.old.incoming.ready ≡ message_content message ∷ self.new.incoming.ready) }
+        ensures left { IfSome result (λ _. self.new ≡ record self.old { incoming = record self.old.incoming { ready = self.new.incoming.ready } }) }
+        ensures none { IfNone result ((self.old.incoming.ready ≡ []) × (self.new ≡ self.old)) }
+    {
+        self.incoming.next_message()
+    }
+
+    /// How many messages are ready to be taken.
+    pub fn messages_ready_count(&self) -> usize
+        ensures { result ≡ length (reassembly_state self.now).messages }
+    {
+        self.incoming.ready.len()
+    }
+
+    /// How many messages became ready so far. It stops at 2^64 - 1.
+    pub fn rx_messages_count(&self) -> u64
+        ensures { result ≡ (reassembly_state self.now).messages_received }
+    {
+        self.incoming.messages_received
+    }
+
+    /// How many more bytes are kept: the receive window that the peer is told (RFC 9260, section 6.2).
+    pub fn remaining_bytes(&self) -> usize
+        ensures left { result ≡ (reassembly_state self.now).remaining_bytes }
+        ensures within { result ≤ self.now.max_size }
+    {
+        self.max_size.saturating_sub(self.incoming.queued_bytes)
+    }
+
+    /// Is nothing left of the receive window?
+    pub fn is_full(&self) -> bool
+        ensures { result ≡ nat_le self.now.max_size (queued_bytes self.now) }
+    {
+        self.max_size <= self.incoming.queued_bytes
+    }
+
+    /// Are nine tenths of the receive window in use, or more?
+    pub fn is_above_watermark(&self) -> bool
+        ensures { result ≡ nat_le (9 * self.now.max_size) (10 * queued_bytes self.now) }
+    {
+        9 * (self.max_size as u128) <= 10 * (self.incoming.queued_bytes as u128)
+    }
+
+    // Does what comes with this TSN on this stream wait for the end of a deferred reset?
+    fn is_deferred(&self, tsn: u32, id: StreamId) -> bool
+        ensures { result ≡ is_deferred tsn id.0 self.now.deferral }
+    {
+        match &self.deferral {
+            None => false,
+            Some(deferral) => {
+                is_tsn_beyond(tsn, deferral.last_tsn) && deferral.streams.names(id)
+            }
+        }
+    }
+
+    /// Takes data in whose TSN is new. Messages that are whole now become ready to be taken: an unordered
+    /// one at once, an ordered one when all before it on its stream did (RFC 9260, sections 6.5, 6.6 and
+    /// 6.9).
+    ///
+    /// A message of one chunk keeps its payload; that of a longer one is joined by one copy. Parts of one
+    /// message have TSNs in a row from B to E (DATA), or fragment numbers in a row (RFC 8260, section 2.1).
+    /// A stream sequence number is read from the expected one on, up to 65,535 ahead. I-DATA of an ordered
+    /// message whose identifier is before the expected one is dropped, as is a part that is there already. In
+    /// a deferred reset data beyond its last TSN waits on the streams that it names.
+    ///
+    /// Data whose bytes would bring those that are held to 2^64 is dropped. If there is no memory for it, the
+    /// data is dropped, and all that was there before stays.
+    pub fn add(&mut self, tsn: u32, chunk: Data) -> Result<(), AllocError>
+        ensures deferred { can_count (length chunk.payload.items) self.old ≡ true → is_deferred tsn chunk.stream_id.0 self.old.deferral ≡ true → OnOk result (self.new ≡ with_deferred tsn (chunk_of chunk) self.old) }
+        ensures taken { can_count (length chunk.payload.items) self.old ≡ true → is_deferred tsn chunk.stream_id.0 self.old.deferral ≡ false → OnOk result (Takes tsn (chunk_of chunk) self.old self.new) }
+        ensures too_much { can_count (length chunk.payload.items) self.old ≡ false → IsOk result × (self.new ≡ self.old) }
+        ensures err { OnErr result (SameQueue self.old self.new) }
+    {
+        if !self.can_count(chunk.payload.len()) {
+            return Ok(());
+        }
+        if self.is_deferred(tsn, chunk.stream_id) {
+            return self.defer(tsn, chunk);
+        }
+        self.incoming.take(tsn, chunk)
+    }
+
+    // Can the bytes be counted with so many more?
+    fn can_count(&self, size: usize) -> bool
+        ensures { result ≡ can_count size self.now }
+    {
+        self.incoming.queued_bytes.checked_add(size).is_some()
+    }
+
+    // Data waits for the end of a deferred reset.
+    fn defer(&mut self, tsn: u32, chunk: Data) -> Result<(), AllocError>
+        requires deferral { IsSome self.old.deferral }
+        requires bytes { can_count (length chunk.payload.items) self.old ≡ true }
+        ensures ok { OnOk result (self.new ≡ with_deferred tsn (chunk_of chunk) self.old) }
+        ensures err { OnErr result (self.new ≡ self.old) }
+    {
+        if let Some(deferral) = &mut self.deferral {
+            let size = chunk.payload.len();
+            deferral.waiting.push_back(Deferred::Data(tsn, chunk))?;
+            self.incoming.queued_bytes = self.incoming.queued_bytes.saturating_add(size);
+        }
+        Ok(())
+    }
+
+    /// Works a FORWARD TSN or I-FORWARD-TSN chunk (RFC 3758, section 3.6; RFC 8260, section 2.3.1). On each
+    /// stream that it names, the ordered messages up to its number are skipped: those that aren't whole are
+    /// dropped, and whole ones that waited for them become ready. Parts of unordered messages are dropped
+    /// where they begin at the new cumulative TSN or before it (DATA), or belong to a message up to the
+    /// number named (I-DATA). In a deferred reset one beyond its last TSN waits.
+    ///
+    /// If there is no memory for it, all stays.
+    pub fn handle_forward_tsn(
+        &mut self,
+        new_cumulative_tsn: u32,
+        skipped: &[SkippedTo],
+    ) -> Result<(), AllocError>
+        ensures deferred { is_forward_deferred new_cumulative_tsn self.old.deferral ≡ true → OnOk result (self.new ≡ record self.old { deferral = with_waiting (skipping new_cumulative_tsn skipped.now) self.old.deferral }) }
+        ensures worked { is_forward_deferred new_cumulative_tsn self.old.deferral ≡ false → OnOk result (Forwards new_cumulative_tsn skipped.now self.old self.new) }
+        ensures err { OnErr result (SameQueue self.old self.new) }
+    {
+        if self.is_forward_deferred(new_cumulative_tsn) {
+            return self.defer_forward(new_cumulative_tsn, skipped);
+        }
+        self.incoming.forward(new_cumulative_tsn, skipped)
+    }
+
+    // Does a FORWARD TSN wait for the end of a deferred reset?
+    fn is_forward_deferred(&self, tsn: u32) -> bool
+        ensures { result ≡ is_forward_deferred tsn self.now.deferral }
+    {
+        match &self.deferral {
+            None => false,
+            Some(deferral) => is_tsn_beyond(tsn, deferral.last_tsn),
+        }
+    }
+
+    // A FORWARD TSN waits for the end of a deferred reset.
+    fn defer_forward(&mut self, tsn: u32, skipped: &[SkippedTo]) -> Result<(), AllocError>
+        ensures ok { OnOk result (self.new ≡ record self.old { deferral = with_waiting (skipping tsn skipped.now) self.old.deferral }) }
+        ensures err { OnErr result (self.new ≡ self.old) }
+    {
+        if let Some(deferral) = &mut self.deferral {
+            let skipped = Vec::from_slice(self.incoming.alloc, skipped)?;
+            deferral
+                .waiting
+                .push_back(Deferred::ForwardTsn(tsn, skipped))?;
+        }
+        Ok(())
+    }
+
+    /// A reset of streams came in before all data that was sent before it (RFC 6525, section 5.2.2). What
+    /// comes with a TSN beyond the sender's last one at that time waits from now on, on the streams that are
+    /// named (an empty list: all), until the streams are reset. While one such reset waits, another changes
+    /// nothing.
+    ///
+    /// If there is no memory for it, nothing changes.
+    pub fn enter_deferred_reset(
+        &mut self,
+        sender_last_assigned_tsn: u32,
+        streams: &[StreamId],
+    ) -> Result<(), AllocError>
+        ensures ok { OnOk result (self.new ≡ record self.old { deferral = entered sender_last_assigned_tsn (stream_numbers streams.now) self.old.deferral }) }
+        ensures err { OnErr result (self.new ≡ self.old) }
+    {
+        if self.deferral.is_some() {
+            return Ok(());
+        }
+        self.deferral = Some(Deferral {
+            last_tsn: sender_last_assigned_tsn,
+            streams: NamedStreams::new(self.incoming.alloc, streams)?,
+            waiting: VecDeque::new(self.incoming.alloc),
+        });
+        Ok(())
+    }
+
+    /// Resets the streams that are named (an empty list: all), so that the next message on each has the
+    /// number 0, and drops what was kept of them but messages that are ready (RFC 6525, section 5.2.2). Then
+    /// what waited for this is worked, in the order in which it came.
+    ///
+    /// If there is no memory for something that waited, that and what came after it waits on: the deferral
+    /// stands with the rest, the streams are reset, and what was worked before stays so.
+    pub fn reset_streams_and_leave_deferred_reset(
+        &mut self,
+        streams: &[StreamId],
+    ) -> Result<(), AllocError>
+        ensures ok { OnOk result (Leaves (stream_numbers streams.now) self.old self.new) }
+        ensures err { OnErr result (StaysDeferred (stream_numbers streams.now) self.old self.new) }
+    {
+        self.incoming.reset_streams(streams);
+        match self.deferral.take() {
+            None => Ok(()),
+            Some(mut deferral) => match work_all(&mut self.incoming, &mut deferral.waiting) {
+                Ok(()) => Ok(()),
+                Err(error) => {
+                    self.deferral = Some(deferral);
+                    Err(error)
+                }
+            },
+        }
+    }
+}
+
+// Works data that waited. If there is no memory for it, all stays.
+fn work_data(incoming: &mut Incoming, tsn: u32, chunk: &Data) -> Result<(), AllocError>
+    requires { held_bytes (incoming_of incoming.old) + length chunk.now.payload.items ≤ incoming.old.queued_bytes }
+    ensures ok { OnOk result (TakesData tsn (chunk_of chunk.now) (incoming_of incoming.old) (incoming_of incoming.new)) }
+    ensures worked { OnOk result (incoming.new.queued_bytes + held_bytes (incoming_of incoming.old) + length chunk.now.payload.items ≡ incoming.old.queued_bytes + held_bytes (incoming_of incoming.new)) }
+    ensures err { OnErr result (SameIncoming (incoming_of incoming.old) (incoming_of incoming.new)) }
+    ensures left { OnErr result (incoming.new.queued_bytes + held_bytes (incoming_of incoming.old) ≡ incoming.old.queued_bytes + held_bytes (incoming_of incoming.new)) }
+{
+    let copy = chunk.copied(incoming.alloc)?;
+    let size = chunk.payload.len();
+    incoming.queued_bytes -= size;
+    match incoming.take(tsn, copy) {
+        Ok(()) => Ok(()),
+        Err(error) => {
+            incoming.queued_bytes += size;
+            Err(error)
+        }
+    }
+}
+
+// Works what waited. If there is no memory for it, all stays.
+fn work(incoming: &mut Incoming, action: &Deferred) -> Result<(), AllocError>
+    requires { held_bytes (incoming_of incoming.old) + waiting_bytes (waiting_of action.now) ≤ incoming.old.queued_bytes }
+    ensures ok { OnOk result (Works (waiting_of action.now) (incoming_of incoming.old) (incoming_of incoming.new)) }
+    ensures worked { OnOk result (incoming.new.queued_bytes + held_bytes (incoming_of incoming.old) + waiting_bytes (waiting_of action.now) ≡ incoming.old.queued_bytes + held_bytes (incoming_of incoming.new)) }
+    ensures err { OnErr result (SameIncoming (incoming_of incoming.old) (incoming_of incoming.new)) }
+    ensures left { OnErr result (incoming.new.queued_bytes + held_bytes (incoming_of incoming.old) ≡ incoming.old.queued_bytes + held_bytes (incoming_of incoming.new)) }
+{
+    match action {
+        Deferred::Data(tsn, chunk) => work_data(incoming, *tsn, chunk),
+        Deferred::ForwardTsn(tsn, skipped) => incoming.forward(*tsn, skipped.as_slice()),
+    }
+}
+
+// Works all that waited, in turn. If there is no memory for something, that and the rest wait on.
+fn work_all(incoming: &mut Incoming, waiting: &mut VecDeque<Deferred>) -> Result<(), AllocError>
+    requires { incoming.old.queued_bytes ≡ held_bytes (incoming_of incoming.old) + sum_by waiting_bytes (map waiting_of waiting.old.items) }
+    ensures ok { OnOk result (WorksAll (map waiting_of waiting.old.items) (incoming_of incoming.old) (incoming_of incoming.new)) }
+    ensures err { OnErr result (WorksFront (map waiting_of waiting.old.items) (incoming_of incoming.old) (incoming_of incoming.new) (map waiting_of waiting.new.items)) }
+    ensures bytes { incoming.new.queued_bytes ≡ held_bytes (incoming_of incoming.new) + sum_by waiting_bytes (map waiting_of waiting.new.items) }
+    ensures none { OnOk result (map waiting_of waiting.new.items ≡ []) }
+{
+    while !waiting.is_empty() {
+        work(incoming, &waiting[0])?;
+        let _ = waiting.pop_front();
+    }
+    Ok(())
+}

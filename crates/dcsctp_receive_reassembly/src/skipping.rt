@@ -1,0 +1,254 @@
+//! Messages that are skipped (RFC 3758, section 3.6; RFC 8260, section 2.3.1), and streams that begin anew
+//! (RFC 6525, section 5.2.2).
+
+ghost use Rattle.std.specs.Prelude.{◌≡◌, ◌==◌, ℕ, ◌+◌, ◌<◌, ◌≤◌, ◌++◌, map, length, OnOk, OnErr, IsSome, if◌then◌else◌};
+ghost use Rattle.std.specs.VecDeque.{deque_len, deque_capacity};
+ghost use Rattle.std.specs.BTreeMap.{get};
+ghost use Rattle.std.specs.Ordering.{nat_cmp};
+ghost use Rattle.dcsctp_machine.specs.Ids.{stream_numbers};
+ghost use Rattle.dcsctp_receive_reassembly.specs.Held.{capped};
+ghost use Rattle.dcsctp_receive_reassembly.specs.QueuedBytes.{ready_bytes, stream_bytes, streams_bytes};
+ghost use Rattle.dcsctp_receive_reassembly.specs.Runs.{behind_place};
+ghost use Rattle.dcsctp_machine.specs.Transfer.{message_content};
+ghost use Rattle.dcsctp_receive_reassembly.specs.Streams.{new_stream, skipped_stream, skipped, skip_deliveries, skip_bytes};
+ghost use Rattle.dcsctp_receive_reassembly.specs.Reassembly.{
+  incoming_of,
+  entry_of,
+  stream_on,
+  Balances,
+  KeepsStreams,
+  SameIncoming,
+};
+ghost use Rattle.dcsctp_receive_reassembly.specs.Skipping.{
+  AllMade,
+  room_for,
+  skipped_on,
+  SkipsOne,
+  SkipsAll,
+  MovesTo,
+  MovesOn,
+  ResetsOne,
+  ResetsAll,
+  ResetsEach,
+  ResetsStreams,
+};
+
+use crate::arrivals::SkippedTo;
+use crate::incoming::{Incoming, make_stream};
+use crate::numbers::number_near;
+use crate::runs::{drop_messages, drop_places, size_of_runs};
+use crate::stream::Stream;
+use dcsctp_api::{Message, StreamId};
+use std::alloc::{AllocError, Global};
+use std::collections::{BTreeMap, VecDeque};
+
+// The stream on which messages are skipped.
+fn stream_of(entry: &SkippedTo) -> StreamId
+    ensures { result.0 ≡ skipped_stream entry.now }
+{
+    match entry {
+        SkippedTo::Ssn { stream_id, .. } | SkippedTo::Mid { stream_id, .. } => *stream_id,
+    }
+}
+
+// Makes the streams that are named, where nothing came in on them yet.
+fn make_streams(
+    alloc: Global,
+    streams: &mut BTreeMap<u16, Stream>,
+    entries: &[SkippedTo],
+) -> Result<(), AllocError>
+    ensures made { OnOk result (AllMade entries.now streams.new) }
+    ensures streams { KeepsStreams (map entry_of streams.old.entries) (map entry_of streams.new.entries) }
+    ensures bytes { streams_bytes (map entry_of streams.new.entries) ≡ streams_bytes (map entry_of streams.old.entries) }
+{
+    for entry in entries {
+        make_stream(alloc, streams, stream_of(entry))?;
+    }
+    Ok(())
+}
+
+// How many messages wait on a stream.
+fn waiting_on(streams: &BTreeMap<u16, Stream>, id: StreamId) -> usize
+    ensures { result ≡ length (stream_on id.0 (map entry_of streams.now.entries)).waiting }
+{
+    match streams.get(&id.0) {
+        Some(stream) => stream.waiting.len(),
+        None => 0,
+    }
+}
+
+// How many messages wait on the streams that are named, and no more than a usize counts.
+fn room_for(streams: &BTreeMap<u16, Stream>, entries: &[SkippedTo]) -> usize
+    ensures { result ≡ capped (room_for entries.now (λ id. stream_on id (map entry_of streams.now.entries))) }
+{
+    let mut room: usize = 0;
+    for entry in entries {
+        room = room.saturating_add(waiting_on(streams, stream_of(entry)));
+    }
+    room
+}
+
+// Skips messages on their stream, which is there, and answers how many bytes are dropped. The other
+// streams stay. There is room for all that wait.
+fn skip_on(
+    streams: &mut BTreeMap<u16, Stream>,
+    entry: &SkippedTo,
+    ready: &mut VecDeque<Message>,
+) -> usize
+    requires made { IsSome (get nat_cmp streams.old (skipped_stream entry.now)) }
+    requires room { deque_len ready.old + length (stream_on (skipped_stream entry.now) (map entry_of streams.old.entries)).waiting ≤ deque_capacity ready.old }
+    ensures streams { (id : ℕ) → stream_on id (map entry_of streams.new.entries) ≡ skipped_on entry.now id (stream_on id (map entry_of streams.old.entries)) }
+    ensures made { (id : ℕ) → IsSome (get nat_cmp streams.old id) → IsSome (get nat_cmp streams.new id) }
+    ensures ready { map message_content ready.new.items ≡ map message_content ready.old.items ++ skip_deliveries entry.now (stream_on (skipped_stream entry.now) (map entry_of streams.old.entries)) }
+    ensures bytes { streams_bytes (map entry_of streams.new.entries) + ready_bytes (map message_content ready.new.items) + skip_bytes entry.now (stream_on (skipped_stream entry.now) (map entry_of streams.old.entries)) ≡ streams_bytes (map entry_of streams.old.entries) + ready_bytes (map message_content ready.old.items) }
+    ensures size { result ≡ capped (skip_bytes entry.now (stream_on (skipped_stream entry.now) (map entry_of streams.old.entries))) }
+    ensures room { deque_capacity ready.new ≡ deque_capacity ready.old }
+{
+    let stream = streams.get_mut(&stream_of(entry).0).unwrap();
+    stream.skip(entry, ready)
+}
+
+// Forgets the stream, so that it begins anew, and answers how many bytes it had, and no more than a usize
+// counts.
+fn forget_stream(streams: &mut BTreeMap<u16, Stream>, id: StreamId) -> usize
+    ensures streams { (other : ℕ) → stream_on other (map entry_of streams.new.entries) ≡ (if id.0 == other then new_stream other else stream_on other (map entry_of streams.old.entries)) }
+    ensures bytes { streams_bytes (map entry_of streams.new.entries) + stream_bytes (stream_on id.0 (map entry_of streams.old.entries)) ≡ streams_bytes (map entry_of streams.old.entries) }
+    ensures size { result ≡ capped (stream_bytes (stream_on id.0 (map entry_of streams.old.entries))) }
+{
+    match streams.remove(&id.0) {
+        Some(stream) => stream.size(),
+        None => 0,
+    }
+}
+
+// Forgets all streams, and answers how many bytes they had, and no more than a usize counts.
+fn forget_streams(streams: &mut BTreeMap<u16, Stream>) -> usize
+    ensures streams { (other : ℕ) → stream_on other (map entry_of streams.new.entries) ≡ new_stream other }
+    ensures bytes { streams_bytes (map entry_of streams.new.entries) ≡ 0 }
+    ensures size { result ≡ capped (streams_bytes (map entry_of streams.old.entries)) }
+{
+    let mut size: usize = 0;
+    while let Some((_, stream)) = streams.pop_first() {
+        size = size.saturating_add(stream.size());
+    }
+    streams.clear();
+    size
+}
+
+impl Incoming {
+    // Skips messages of one stream, which is there. There is room for all that wait on it.
+    fn skip(&mut self, entry: &SkippedTo)
+        requires made { IsSome (get nat_cmp self.old.streams (skipped_stream entry.now)) }
+        requires room { deque_len self.old.ready + length (stream_on (skipped_stream entry.now) (map entry_of self.old.streams.entries)).waiting ≤ deque_capacity self.old.ready }
+        ensures skips { SkipsOne entry.now (incoming_of self.old) (incoming_of self.new) }
+        ensures made { (id : ℕ) → IsSome (get nat_cmp self.old.streams id) → IsSome (get nat_cmp self.new.streams id) }
+        ensures room { deque_capacity self.new.ready ≡ deque_capacity self.old.ready }
+        ensures bytes { Balances self.old self.new }
+    {
+        let dropped = skip_on(&mut self.streams, entry, &mut self.ready);
+        self.queued_bytes = self.queued_bytes.saturating_sub(dropped);
+    }
+
+    // Skips messages of streams that are there. There is room for all that wait on them.
+    fn skip_all(&mut self, entries: &[SkippedTo])
+        requires made { AllMade entries.now self.old.streams }
+        requires room { deque_len self.old.ready + room_for entries.now (λ id. stream_on id (map entry_of self.old.streams.entries)) ≤ deque_capacity self.old.ready }
+        ensures skips { SkipsAll entries.now (incoming_of self.old) (incoming_of self.new) }
+        ensures bytes { Balances self.old self.new }
+    {
+        for entry in entries {
+            self.skip(entry);
+        }
+    }
+
+    // Drops the parts of unordered messages of DATA that begin at this TSN or before it.
+    fn drop_unordered(&mut self, tsn_number: u64)
+        ensures incoming { incoming_of self.new ≡ record (incoming_of self.old) { unordered = behind_place tsn_number (incoming_of self.old).unordered } }
+        ensures ready { self.new.ready ≡ self.old.ready }
+        ensures streams { self.new.streams ≡ self.old.streams }
+        ensures bytes { Balances self.old self.new }
+    {
+        let dropped = drop_places(&mut self.unordered, u128::from(tsn_number));
+        self.queued_bytes = self.queued_bytes.saturating_sub(dropped);
+    }
+
+    // Works a FORWARD TSN whose TSN has this number. There is room for all that wait on the streams that it
+    // names.
+    fn move_on(&mut self, tsn_number: u64, entries: &[SkippedTo])
+        requires made { AllMade entries.now self.old.streams }
+        requires room { deque_len self.old.ready + room_for entries.now (λ id. stream_on id (map entry_of self.old.streams.entries)) ≤ deque_capacity self.old.ready }
+        ensures moves { MovesTo tsn_number entries.now (incoming_of self.old) (incoming_of self.new) }
+        ensures bytes { Balances self.old self.new }
+    {
+        let before = self.ready.len();
+        self.drop_unordered(tsn_number);
+        self.skip_all(entries);
+        let count = self.ready.len().saturating_sub(before);
+        self.messages_received = self.messages_received.saturating_add(count as u64);
+        self.last_tsn_number = tsn_number;
+    }
+
+    /// Works a FORWARD TSN or I-FORWARD-TSN that doesn't wait for the end of a deferred reset. All memory is
+    /// taken first: if there is none, all stays.
+    pub fn forward(&mut self, tsn: u32, entries: &[SkippedTo]) -> Result<(), AllocError>
+        ensures ok { OnOk result (MovesOn tsn entries.now (incoming_of self.old) (incoming_of self.new)) }
+        ensures bytes { Balances self.old self.new }
+        ensures err { OnErr result (SameIncoming (incoming_of self.old) (incoming_of self.new)) }
+    {
+        make_streams(self.alloc, &mut self.streams, entries)?;
+        let room = room_for(&self.streams, entries);
+        self.ready.try_reserve(room)?;
+        let tsn_number = number_near(self.last_tsn_number, tsn);
+        self.move_on(tsn_number, entries);
+        Ok(())
+    }
+
+    // Forgets the stream, so that it begins anew.
+    fn reset_stream(&mut self, id: StreamId)
+        ensures resets { ResetsOne id.0 (incoming_of self.old) (incoming_of self.new) }
+        ensures bytes { Balances self.old self.new }
+    {
+        let dropped = drop_messages(&mut self.unordered, u64::from(id.0), u64::from(id.0));
+        let forgotten = forget_stream(&mut self.streams, id);
+        self.queued_bytes = self
+            .queued_bytes
+            .saturating_sub(dropped)
+            .saturating_sub(forgotten);
+    }
+
+    // Forgets all streams.
+    fn reset_all_streams(&mut self)
+        ensures resets { ResetsAll (incoming_of self.old) (incoming_of self.new) }
+        ensures bytes { Balances self.old self.new }
+    {
+        let dropped = size_of_runs(&self.unordered);
+        self.unordered.clear();
+        let forgotten = forget_streams(&mut self.streams);
+        self.queued_bytes = self
+            .queued_bytes
+            .saturating_sub(dropped)
+            .saturating_sub(forgotten);
+    }
+
+    // Forgets these streams.
+    fn reset_each_stream(&mut self, streams: &[StreamId])
+        ensures resets { ResetsEach (stream_numbers streams.now) (incoming_of self.old) (incoming_of self.new) }
+        ensures bytes { Balances self.old self.new }
+    {
+        for id in streams {
+            self.reset_stream(*id);
+        }
+    }
+
+    /// Forgets the streams that are named, so that they begin anew; an empty list names all.
+    pub fn reset_streams(&mut self, streams: &[StreamId])
+        ensures resets { ResetsStreams (stream_numbers streams.now) (incoming_of self.old) (incoming_of self.new) }
+        ensures bytes { Balances self.old self.new }
+    {
+        if streams.is_empty() {
+            self.reset_all_streams();
+        } else {
+            self.reset_each_stream(streams);
+        }
+    }
+}

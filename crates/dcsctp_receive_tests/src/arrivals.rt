@@ -1,0 +1,91 @@
+//! What a test does to the reassembly queue and what it expects of it, as a table of steps.
+
+use crate::checks::Place;
+use crate::receiver::Receiver;
+use dcsctp_api::StreamId;
+use dcsctp_receive_reassembly::Numbering;
+use std::alloc::AllocGlobal;
+use std::process::Abort;
+
+/// Which part of its message a chunk bears: its flags B and E.
+#[derive(Clone, Copy)]
+pub enum Part {
+    /// B alone.
+    First,
+
+    /// Neither.
+    Middle,
+
+    /// E alone.
+    Last,
+
+    /// B and E.
+    Whole,
+}
+
+/// One step. The first step of a table is `Begins`.
+#[derive(Clone, Copy)]
+pub enum Step {
+    /// A new queue takes the place of the old one, with a receive window of so many bytes.
+    Begins(usize),
+
+    /// A chunk comes in: its TSN and stream, which message it is of, which part of it, and its bytes.
+    Add(u32, u16, Numbering, Part, &'static str),
+
+    /// A FORWARD-TSN of this TSN skips the ordered messages of stream 7 up to this number.
+    Skips(u32, u16),
+
+    /// An I-FORWARD-TSN of this TSN skips messages of stream 7, unordered ones or not, up to this identifier.
+    SkipsMessages(u32, bool, u32),
+
+    /// The reset of these streams waits for the data up to this TSN. None named: all.
+    Defers(u32, &'static [StreamId]),
+
+    /// These streams begin anew. None named: all.
+    Resets(&'static [StreamId]),
+
+    /// The next message has these bytes.
+    Gives(&'static str),
+
+    /// No message is ready, and so much is left of the window.
+    Rests(usize),
+
+    /// So much is left of the window.
+    Remains(usize),
+
+    /// So many messages became ready so far.
+    Counts(u64),
+
+    /// Is the window full, and are nine tenths of it in use?
+    Fills(bool, bool),
+}
+
+/// Takes the steps one after the other.
+pub fn run<R: Abort + AllocGlobal>(rt: &R, steps: &[(&'static str, Step)]) {
+    let mut receiver = Receiver::new(rt.alloc(), 0);
+    for index in 0..steps.len() {
+        let (name, step) = steps[index];
+        take_step(rt, Place { name, index }, &mut receiver, step);
+    }
+}
+
+// One match for all: each arm is one call.
+fn take_step(rt: &impl Abort, place: Place, receiver: &mut Receiver, step: Step) {
+    match step {
+        Step::Begins(window) => receiver.begin(window),
+        Step::Add(tsn, stream, numbering, part, bytes) => {
+            receiver.add(rt, tsn, (stream, numbering), part, bytes)
+        }
+        Step::Skips(tsn, ssn) => receiver.skip(rt, tsn, ssn),
+        Step::SkipsMessages(tsn, is_unordered, mid) => {
+            receiver.skip_messages(rt, tsn, is_unordered, mid)
+        }
+        Step::Defers(tsn, streams) => receiver.defer(rt, tsn, streams),
+        Step::Resets(streams) => receiver.reset(rt, streams),
+        Step::Gives(bytes) => receiver.gives(rt, place, bytes),
+        Step::Rests(remaining) => receiver.rests(rt, place, remaining),
+        Step::Remains(remaining) => receiver.remains(rt, place, remaining),
+        Step::Counts(messages) => receiver.counts(rt, place, messages),
+        Step::Fills(is_full, is_above) => receiver.fills(rt, place, is_full, is_above),
+    }
+}

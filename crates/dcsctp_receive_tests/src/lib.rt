@@ -1,0 +1,20 @@
+//! Tests of `dcsctp_receive_tracker` and `dcsctp_receive_reassembly` by their public calls. Their values were worked
+//! out by hand from the rules.
+#![tactic(auto)]
+
+#[cfg(test)]
+mod arrivals;
+#[cfg(test)]
+mod checks;
+#[cfg(test)]
+mod messages;
+#[cfg(test)]
+mod packets;
+#[cfg(test)]
+mod receiver;
+#[cfg(test)]
+mod resets;
+#[cfg(test)]
+mod tracker;
+#[cfg(test)]
+mod tracking;

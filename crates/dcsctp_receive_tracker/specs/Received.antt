@@ -1,0 +1,51 @@
+-- Which TSNs came in (RFC 9260, section 6.2). TSNs are numbered without wrap: the number of a TSN modulo 2^32 is the TSN.
+use Rattle.std.specs.Prelude.{◌≡◌, ◌==◌, ℕ, ◌+◌, ◌<◌, ◌≤◌, nat_le, Bool, false, not, ◌&&◌, ◌||◌, List, [], ◌∷◌}
+use Rattle.dcsctp_receive_tracker.specs.declared.received.TsnRange.{TsnRange}
+
+-- Do the ranges ascend, with a number missing between each two, and one between this number and the first of them?
+abbrev pub IsBeyond : ℕ → List TsnRange → Type 0
+IsBeyond number [] = Unit {0}
+IsBeyond number (range ∷ ranges) = (number + 1 < range.first) × (range.first ≤ range.last) × IsBeyond range.last ranges
+
+-- Do the ranges ascend, with a number missing between each two?
+abbrev pub IsSpaced : List TsnRange → Type 0
+IsSpaced [] = Unit {0}
+IsSpaced (range ∷ ranges) = (range.first ≤ range.last) × IsBeyond range.last ranges
+
+-- the last number of the last range, or this one where there is none
+abbrev pub end_of : ℕ → List TsnRange → ℕ
+end_of number [] = number
+end_of number (range ∷ ranges) = end_of range.last ranges
+
+-- Does the first range hold the number or a later one, or touch the number?
+abbrev pub StartsFrom : ℕ → List TsnRange → Type 0
+StartsFrom number [] = Unit {0}
+StartsFrom number (range ∷ ranges) = number ≤ range.last + 1
+
+-- Is the number in one of the ranges?
+abbrev pub is_in : ℕ → List TsnRange → Bool
+is_in number [] = false
+is_in number (range ∷ ranges) = (nat_le range.first number && nat_le number range.last) || is_in number ranges
+
+-- Are all up to this number received, or is it in one of the ranges?
+abbrev pub is_received : ℕ → ℕ → List TsnRange → Bool
+is_received cumulative number ranges = nat_le number cumulative || is_in number ranges
+
+-- The number is added to the ranges beyond a cumulative one, and nothing else.
+pub record Adds (cumulative number : ℕ) (old new : List TsnRange) : Type 0 where
+  pub beyond : IsBeyond cumulative new
+  pub members : (other : ℕ) → is_in other new ≡ (is_in other old || (other == number))
+
+-- All up to the number are received with what is in the ranges; `reached` is the last before the first that is missing.
+pub record Advances (number : ℕ) (old : List TsnRange) (reached : ℕ) (new : List TsnRange) : Type 0 where
+  pub forward : number ≤ reached
+  pub beyond : IsBeyond reached new
+  pub members : (other : ℕ) → is_received reached other new ≡ is_received number other old
+
+-- A number is received: is it new, and what is received then? Where it isn't new, nothing changes.
+pub record Receives (number cumulative : ℕ) (old : List TsnRange) (is_new : Bool) (reached : ℕ) (new : List TsnRange) : Type 0 where
+  pub answer : is_new ≡ not (is_received cumulative number old)
+  pub forward : cumulative ≤ reached
+  pub beyond : IsBeyond reached new
+  pub members : (other : ℕ) → is_received reached other new ≡ (is_received cumulative other old || (other == number))
+  pub known : is_new ≡ false → (reached ≡ cumulative) × (new ≡ old)

@@ -1,0 +1,414 @@
+//! Which TSNs came in, and when that is acknowledged (RFC 9260, sections 6.2 and 6.7). The association
+//! tells it each DATA chunk, each FORWARD TSN chunk, each end of a packet and each moment.
+
+ghost use Rattle.std.specs.Prelude.{◌≡◌, ◌<◌, ◌-◌, ◌^◌, ◌≤◌, true, take, length, IfOk};
+ghost use Rattle.std.specs.List.{flat_map};
+ghost use Rattle.std.specs.Duration.{as_nanos};
+ghost use Rattle.std.specs.Int.{w32, to_be_bytes};
+ghost use Rattle.dcsctp_receive_tracker.specs.Received.{IsBeyond};
+ghost use Rattle.dcsctp_receive_tracker.specs.Acknowledging.{
+  number_of,
+  block_bytes,
+  IsWithinReach,
+  acknowledgement_delay,
+  after_arrival,
+  is_due,
+};
+
+use crate::received::{Received, advance};
+use dcsctp_machine::{BackoffAlgorithm, Options, SocketTime};
+use dcsctp_send_timer::Timer;
+use dcsctp_wire::SackChunk;
+use std::alloc::{AllocError, Global};
+use std::collections::VecDeque;
+use std::marker::Model;
+use std::time::Duration;
+
+// A TSN further ahead of the cumulative one is refused: a gap ack block couldn't name it
+// (RFC 9260, section 3.3.4).
+const MAX_TSN_DISTANCE: u64 = 65535;
+
+// No SACK holds more gap ack blocks, or more duplicate TSNs.
+const MAX_GAP_ACK_BLOCKS: usize = 20;
+
+const MAX_DUPLICATE_TSNS: usize = 20;
+
+// Past this number of TSNs no TSN is taken any more. No association lives so long.
+const LAST_CUMULATIVE: u64 = 0xffff_fffe_ffff_ffff;
+
+/// When the data that came in is acknowledged.
+#[derive(Clone, Copy, Debug, PartialEq, Eq)]
+pub enum AckState {
+    /// All is acknowledged.
+    Idle,
+
+    /// Data came in with the packet that is being worked; it may be acknowledged later.
+    BecomingDelayed,
+
+    /// A packet with data waits to be acknowledged, and the timer runs.
+    Delayed,
+
+    /// The next SACK is due at once.
+    Immediate,
+}
+
+// What a packet with new data or a FORWARD TSN leads to: every second one is acknowledged at once, and an
+// urgent one, too (RFC 9260, section 6.2).
+fn after_arrival(state: AckState, is_urgent: bool) -> AckState
+    ensures { result ≡ after_arrival state is_urgent }
+{
+    if is_urgent {
+        return AckState::Immediate;
+    }
+    match state {
+        AckState::Idle | AckState::BecomingDelayed => AckState::BecomingDelayed,
+        AckState::Delayed | AckState::Immediate => AckState::Immediate,
+    }
+}
+
+// Is a SACK due in this state, or could one go along with other chunks?
+fn is_due(state: AckState, also_if_delayed: bool) -> bool
+    ensures { result ≡ is_due state also_if_delayed }
+{
+    match state {
+        AckState::Idle => false,
+        AckState::BecomingDelayed | AckState::Delayed => also_if_delayed,
+        AckState::Immediate => true,
+    }
+}
+
+// The number of a TSN, which is within 2^31 of the cumulative one (RFC 9260, section 1.6).
+fn number_of(cumulative: u64, tsn: u32) -> u64
+    requires { cumulative < 2 ^ 64 - 2 ^ 32 }
+    ensures { result ≡ number_of cumulative tsn }
+{
+    let ahead = u64::from(tsn.wrapping_sub((cumulative % 0x1_0000_0000) as u32));
+    if ahead < 0x8000_0000 {
+        cumulative + ahead
+    } else {
+        cumulative.saturating_sub(0x1_0000_0000 - ahead)
+    }
+}
+
+// The shorter of half the retransmission timeout and the longest delay.
+fn acknowledgement_delay(rto: Duration, longest: Duration) -> Duration
+    ensures { as_nanos result ≡ acknowledgement_delay (as_nanos rto) (as_nanos longest) }
+{
+    let half = rto / 2;
+    if longest < half { longest } else { half }
+}
+
+// The gap ack blocks of a SACK, four bytes each: the first ranges, as distances from the cumulative TSN.
+fn gap_ack_blocks(alloc: Global, received: &Received) -> Result<Vec<u8>, AllocError>
+    requires beyond { IsBeyond received.now.cumulative received.now.ranges.items }
+    requires near { IsWithinReach received.now.cumulative received.now.ranges.items }
+    ensures { IfOk result (λ blocks. blocks.items ≡ flat_map (block_bytes received.now.cumulative) (take 20 received.now.ranges.items)) }
+{
+    let count = received.ranges.len().min(MAX_GAP_ACK_BLOCKS);
+    let mut blocks = Vec::with_capacity(alloc, 4 * count)?;
+    for index in 0..count {
+        let range = received.ranges[index];
+        let start = (range.first - received.cumulative) as u16;
+        let end = (range.last - received.cumulative) as u16;
+        blocks.extend_from_slice(&start.to_be_bytes())?;
+        blocks.extend_from_slice(&end.to_be_bytes())?;
+    }
+    Ok(blocks)
+}
+
+// The duplicate TSNs of a SACK, four bytes each.
+fn tsn_bytes(alloc: Global, tsns: &[u32]) -> Result<Vec<u8>, AllocError>
+    requires { length tsns.now ≤ 20 }
+    ensures { IfOk result (λ bytes. bytes.items ≡ flat_map (to_be_bytes w32) tsns.now) }
+{
+    let mut bytes = Vec::with_capacity(alloc, 4 * tsns.len())?;
+    for tsn in tsns {
+        bytes.extend_from_slice(&tsn.to_be_bytes())?;
+    }
+    Ok(bytes)
+}
+
+/// What a SACK says (RFC 9260, section 3.3.4). It owns the lists that the chunk borrows.
+#[derive(Debug, Drop)]
+pub struct SelectiveAck {
+    /// The last TSN before the first that is missing.
+    pub cumulative_tsn_ack: u32,
+
+    /// The receive window in bytes.
+    pub a_rwnd: u32,
+
+    /// The gap ack blocks, ascending, four bytes each.
+    pub gap_ack_blocks: Vec<u8>,
+
+    /// The TSNs that came again, four bytes each.
+    pub duplicate_tsns: Vec<u8>,
+}
+
+impl SelectiveAck {
+    /// The chunk that says so.
+    pub fn chunk(&self) -> SackChunk<'_>
+        ensures cumulative { result.cumulative_tsn_ack ≡ self.now.cumulative_tsn_ack }
+        ensures window { result.a_rwnd ≡ self.now.a_rwnd }
+        ensures blocks { result.gap_ack_blocks.now ≡ self.now.gap_ack_blocks.items }
+        ensures duplicates { result.duplicate_tsns.now ≡ self.now.duplicate_tsns.items }
+    {
+        SackChunk {
+            cumulative_tsn_ack: self.cumulative_tsn_ack,
+            a_rwnd: self.a_rwnd,
+            gap_ack_blocks: self.gap_ack_blocks.as_slice(),
+            duplicate_tsns: self.duplicate_tsns.as_slice(),
+        }
+    }
+}
+
+/// The TSNs that came in from the peer, and when they are acknowledged.
+///
+/// A contract numbers the TSNs without wrap: the number of a TSN modulo 2^32 is the TSN, and the first
+/// that the association takes is numbered as itself.
+#[derive(Debug, Drop)]
+pub struct DataTracker {
+    alloc: Global,
+    received: Received,
+
+    // What came again since the last SACK.
+    duplicates: Vec<u32>,
+
+    // Did any data come in?
+    has_seen_data: bool,
+
+    acknowledgement: AckState,
+    delay: Timer,
+    longest_delay: Duration,
+}
+
+impl Model for DataTracker {
+    ghost use Rattle.std.specs.Duration.{as_nanos};
+    ghost use Rattle.dcsctp_receive_tracker.specs.Acknowledging.{TrackerModel};
+
+    ghost Value = { TrackerModel };
+
+    ghost use Rattle.dcsctp_receive_tracker.specs.TrackerFields.{IsKept};
+
+    ghost view = { λ tracker. record {
+      cumulative = tracker.received.cumulative;
+      ranges = tracker.received.ranges.items;
+      duplicates = tracker.duplicates.items;
+      has_seen_data = tracker.has_seen_data;
+      acknowledgement = tracker.acknowledgement;
+      delay = tracker.delay;
+      longest_delay = as_nanos tracker.longest_delay;
+    } };
+
+    ghost invariant = { IsKept };
+}
+
+impl DataTracker {
+    ghost use Rattle.std.specs.Prelude.{OnOk, OnErr, ◌%◌, []};
+    ghost use Rattle.dcsctp_machine.specs.Transfer.{new_tracker};
+    ghost use Rattle.dcsctp_receive_tracker.specs.Acknowledging.{
+      new_tracker_model,
+      tracker_state,
+      is_valid_tsn,
+      Observes,
+      Forwards,
+      after_packet_end,
+      is_acknowledgement_due,
+      acknowledged,
+      after_moment,
+      stopped,
+      RunsWhereDelayed,
+    };
+    ghost use Rattle.dcsctp_send_timer.specs.Timer.{running_deadline, expires_at};
+
+    /// Nothing came in yet, and `peer_initial_tsn` is the TSN that is to come first. The one before it
+    /// counts as received (RFC 9260, section 6.2), which is 2^32 - 1 where the first is 0. It takes no
+    /// memory.
+    pub fn new(alloc: Global, options: &Options, peer_initial_tsn: u32) -> DataTracker
+        ensures whole { result ≡ new_tracker_model options.now peer_initial_tsn }
+        ensures shown { tracker_state result ≡ new_tracker peer_initial_tsn }
+    {
+        let longest_delay = options.delayed_ack_max_timeout;
+        DataTracker {
+            alloc,
+            received: Received {
+                cumulative: u64::from(peer_initial_tsn.wrapping_sub(1)),
+                ranges: VecDeque::new(alloc),
+            },
+            duplicates: Vec::new(alloc),
+            has_seen_data: false,
+            acknowledgement: AckState::Idle,
+            delay: Timer::new(
+                acknowledgement_delay(options.rto_initial, longest_delay),
+                BackoffAlgorithm::Fixed,
+                Some(0),
+                None,
+            ),
+            longest_delay,
+        }
+    }
+
+    /// The last TSN before the first that is missing. A SACK acknowledges all up to it as received
+    /// (RFC 9260, sections 3.3.4 and 6.2).
+    pub fn last_cumulative_acked_tsn(&self) -> u32
+        ensures { result ≡ self.now.cumulative % 2 ^ 32 }
+    {
+        (self.received.cumulative % 0x1_0000_0000) as u32
+    }
+
+    /// May data with this TSN be taken? Not where it is more than 65,535 ahead of the cumulative TSN, since
+    /// no gap ack block could name it; one that is behind may, as a duplicate. Which of two TSNs is ahead
+    /// goes by serial number arithmetic (RFC 9260, section 1.6). After 2^64 - 2^32 TSNs none is taken.
+    pub fn is_tsn_valid(&self, tsn: u32) -> bool
+        ensures { result ≡ is_valid_tsn self.now.cumulative tsn }
+    {
+        let cumulative = self.received.cumulative;
+        cumulative <= LAST_CUMULATIVE && number_of(cumulative, tsn) <= cumulative + MAX_TSN_DISTANCE
+    }
+
+    /// Takes the TSN of a DATA chunk in, and answers whether it is new (RFC 9260, section 6.2).
+    ///
+    /// It is acknowledged at once where it is the first of the association, or has the I flag, comes again,
+    /// or leaves a gap, and where another packet waits already (RFC 9260, sections 5.1, 6.2 and 6.7). A TSN
+    /// that comes again is told in the next SACK, unless that has 20 already.
+    ///
+    /// If there is no memory for it, nothing changes.
+    pub fn observe(&mut self, tsn: u32, immediate_ack: bool) -> Result<bool, AllocError>
+        requires { is_valid_tsn self.old.cumulative tsn ≡ true }
+        ensures ok { IfOk result (λ is_new. Observes tsn immediate_ack self.old is_new self.new) }
+        ensures err { OnErr result (self.new ≡ self.old) }
+    {
+        let number = number_of(self.received.cumulative, tsn);
+        let is_new = self.received.receive(number)?;
+        if !is_new && self.duplicates.len() < MAX_DUPLICATE_TSNS {
+            self.duplicates.push(tsn)?;
+        }
+        let is_urgent = !is_new
+            || immediate_ack
+            || !self.has_seen_data
+            || !self.received.ranges.is_empty();
+        self.has_seen_data = true;
+        self.acknowledgement = after_arrival(self.acknowledgement, is_urgent);
+        self.delay.stop();
+        Ok(is_new)
+    }
+
+    /// Tells the tracker that a packet was worked whole. Data that came with it and needn't be acknowledged
+    /// at once is acknowledged after the delay (RFC 9260, section 6.2).
+    pub fn observe_packet_end(&mut self, now: SocketTime)
+        ensures left { self.new ≡ after_packet_end now self.old }
+        ensures runs { RunsWhereDelayed self.new.acknowledgement self.new.delay.running }
+    {
+        if self.acknowledgement == AckState::BecomingDelayed {
+            self.acknowledgement = AckState::Delayed;
+            self.delay.start(now);
+        }
+    }
+
+    /// Is a SACK due, whatever else goes out?
+    pub fn is_acknowledgement_due(&self) -> bool
+        ensures { result ≡ (tracker_state self.now).is_acknowledgement_due }
+    {
+        is_due(self.acknowledgement, false)
+    }
+
+    /// Did data come in that isn't acknowledged yet? Then a SACK may go along with other chunks (RFC 9260,
+    /// section 6.1).
+    pub fn owes_acknowledgement(&self) -> bool
+        ensures { result ≡ (tracker_state self.now).owes_acknowledgement }
+    {
+        is_due(self.acknowledgement, true)
+    }
+
+    /// Is a SACK to be sent now? One that is delayed counts where other chunks go out that it can go along
+    /// with. Where the answer is yes, all counts as acknowledged.
+    pub fn should_send_ack(&mut self, also_if_delayed: bool) -> bool
+        ensures answer { result ≡ is_acknowledgement_due also_if_delayed self.old }
+        ensures left { self.new ≡ acknowledged also_if_delayed self.old }
+    {
+        let is_due = is_due(self.acknowledgement, also_if_delayed);
+        if is_due {
+            self.acknowledgement = AckState::Idle;
+            self.delay.stop();
+        }
+        is_due
+    }
+
+    /// What a SACK says now, with the receive window `a_rwnd`: at most 20 gap ack blocks, the lowest, and the
+    /// TSNs that came again, which are then forgotten (RFC 9260, section 6.2). Where there is neither, no
+    /// memory is taken.
+    ///
+    /// If there is no memory, nothing changes.
+    pub fn create_selective_ack(&mut self, a_rwnd: u32) -> Result<SelectiveAck, AllocError>
+        ensures cumulative { IfOk result (λ sack. sack.cumulative_tsn_ack ≡ self.old.cumulative % 2 ^ 32) }
+        ensures window { IfOk result (λ sack. sack.a_rwnd ≡ a_rwnd) }
+        ensures blocks { IfOk result (λ sack. sack.gap_ack_blocks.items ≡ flat_map (block_bytes self.old.cumulative) (take 20 self.old.ranges)) }
+        ensures duplicates { IfOk result (λ sack. sack.duplicate_tsns.items ≡ flat_map (to_be_bytes w32) self.old.duplicates) }
+        ensures few { length self.old.duplicates ≤ 20 }
+        ensures ok { OnOk result (self.new ≡ record self.old { duplicates = [] }) }
+        ensures err { OnErr result (self.new ≡ self.old) }
+    {
+        let blocks = gap_ack_blocks(self.alloc, &self.received)?;
+        let duplicates = tsn_bytes(self.alloc, self.duplicates.as_slice())?;
+        self.duplicates.clear();
+        Ok(SelectiveAck {
+            cumulative_tsn_ack: (self.received.cumulative % 0x1_0000_0000) as u32,
+            a_rwnd,
+            gap_ack_blocks: blocks,
+            duplicate_tsns: duplicates,
+        })
+    }
+
+    /// Works a FORWARD TSN chunk (RFC 3758, section 3.6): all up to `new_cumulative_tsn` count as received,
+    /// and it is acknowledged as data is. Where that isn't beyond the cumulative TSN, a SACK is due at once,
+    /// nothing else changes, and the answer is no.
+    pub fn handle_forward_tsn(&mut self, new_cumulative_tsn: u32) -> bool
+        ensures { Forwards new_cumulative_tsn self.old result self.new }
+    {
+        let cumulative = self.received.cumulative;
+        if cumulative > LAST_CUMULATIVE || number_of(cumulative, new_cumulative_tsn) <= cumulative {
+            self.acknowledgement = AckState::Immediate;
+            self.delay.stop();
+            return false;
+        }
+        let number = number_of(cumulative, new_cumulative_tsn);
+        self.received.cumulative = advance(&mut self.received.ranges, number);
+        self.acknowledgement = after_arrival(self.acknowledgement, false);
+        self.delay.stop();
+        true
+    }
+
+    /// Tells the tracker that the moment `now` has come, and answers whether the delay is over, so that a
+    /// SACK is due. Before its deadline nothing changes.
+    pub fn handle_timeout(&mut self, now: SocketTime) -> bool
+        ensures answer { result ≡ expires_at now self.old.delay.running }
+        ensures left { self.new ≡ after_moment now self.old }
+    {
+        let is_over = self.delay.expire(now);
+        if is_over {
+            self.acknowledgement = AckState::Immediate;
+        }
+        is_over
+    }
+
+    /// When the delay is over; none where no acknowledgement is delayed.
+    pub fn next_timeout(&self) -> Option<SocketTime>
+        ensures { result ≡ running_deadline self.now.delay.running }
+    {
+        self.delay.next_expiry()
+    }
+
+    /// The retransmission timeout is `rto` from now on. The next delay is the shorter of its half and
+    /// `delayed_ack_max_timeout` of the options.
+    pub fn update_rto(&mut self, rto: Duration)
+        ensures { self.new ≡ record self.old {
+          delay = record self.old.delay {
+            settings = record self.old.delay.settings {
+              duration = acknowledgement_delay (as_nanos rto) self.old.longest_delay;
+            };
+          };
+        } }
+    {
+        self.delay
+            .set_duration(acknowledgement_delay(rto, self.longest_delay));
+    }
+}

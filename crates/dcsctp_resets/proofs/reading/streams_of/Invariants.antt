@@ -1,8 +1,0 @@
-use Rattle.std.proofs.Common.{◌≡◌, take}
-use Rattle.dcsctp_machine.specs.Ids.{stream_numbers}
-use Rattle.dcsctp_machine.specs.Reconfiguration.{streams_in}
-use Rattle.dcsctp_resets.proofs.reading.streams_of.Given as goal
-
--- the streams so far
-abbrev pub invariant-loop-index : goal.invariant-loop-index
-invariant-loop-index l = stream_numbers l.streams.items ≡ take l.index (streams_in l.request.streams.now)

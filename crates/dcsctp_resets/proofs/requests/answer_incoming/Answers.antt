@@ -1,7 +1,0 @@
-use Rattle.std.proofs.Common.{subst}
-use Rattle.dcsctp_machine.specs.control.ResetChanges.{Place, incoming_by}
-use Rattle.dcsctp_resets.specs.Requests.{AnswersAs, held_with}
-use Rattle.dcsctp_resets.proofs.requests.answer_incoming.Goals as goal
-
-pub returns-in-Astray : goal.returns-in-Astray
-returns-in-Astray c = λ base. subst (λ (place : Place). AnswersAs base c.refused.result (incoming_by (held_with base c.args.last) c.args.number place)) c.in-Astray.ensures (c.refused.ensures base)

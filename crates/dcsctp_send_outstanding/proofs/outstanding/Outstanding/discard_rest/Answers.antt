@@ -1,0 +1,67 @@
+use Rattle.std.proofs.Common.{inl, ◌≡◌, ◌∙◌, List, Some, true, subst, ◌<◌, ◌^◌, ◌+◌, length, ap, refl, inr, arith}
+use Rattle.dcsctp_send_outstanding.specs.Progress.{is_marked}
+use Rattle.dcsctp_send_outstanding.specs.Outstanding.{OutstandingModel}
+use Rattle.dcsctp_send_outstanding.proofs.ItemsLemmas.{kept_pushed, sums_leave_room, size_bounded}
+use Rattle.std.proofs.lemmas.Result.{err_from_is_err_and}
+use Rattle.std.specs.List.{slice_get}
+use Rattle.dcsctp_send_queue.specs.Calls.{DiscardsNamed, StopsDiscarding}
+use Rattle.dcsctp_send_streams.specs.Telling.{contents}
+use Rattle.dcsctp_send_outstanding.specs.declared.item.Item.{Item}
+use Rattle.dcsctp_send_outstanding.specs.Messages.{IsEndOf}
+use Rattle.dcsctp_send_outstanding.proofs.MessageLemmas.{index_at}
+use Rattle.dcsctp_send_outstanding.proofs.SettledLemmas.{settled_pushed}
+use Rattle.dcsctp_send_outstanding.proofs.outstanding.Outstanding.discard_rest.Goals as goal
+
+pub add-requires : goal.add-requires
+add-requires c =
+    rw c.size-size.ensures
+    (sums_leave_room _ c.self.inside.cursor c.self.inside.items.items _ _ _ (size_bounded c.self.inside.header c.self.invariant.header_fits c.end_of_message-item.result) c.self.invariant)
+
+pub invariant_of-self-then-branch : goal.invariant_of-self-then-branch
+invariant_of-self-then-branch c =
+    let room : length c.self.inside.items.items + 1 < 2 ^ 31 = omega (arith, c.requires.room, ap (λ (m : OutstandingModel). length m.items) c.self.view_is) in
+    rw (c.push_back_reserved.ensures.items, c.in_ok-reserve.ensures.items)
+    (kept_pushed _ _ _ _ _ _ _ _ c.self.invariant room c.size-size.ensures c.add.ensures (ap is_marked (let e = c.end_of_message-item.ensures in e.is_abandoned)) (settled_pushed _ _ _ c.self.invariant.settled))
+
+pub returns-then-branch-clause-may : goal.returns-then-branch-clause-may
+returns-then-branch-clause-may c =
+    let is = c.end_of_message-item.ensures in
+    inr (record {
+      item = c.end_of_message-item.result;
+      is_abandoned = is.is_abandoned;
+      grows = rw (c.push_back_reserved.ensures.items, c.in_ok-reserve.ensures.items, ← c.self.view_is) refl;
+    })
+
+pub returns-then-branch-clause-ok : goal.returns-then-branch-clause-ok
+returns-then-branch-clause-ok c last at =
+    let own : slice_get c.reserve.new.self.items c.args.place ≡ Some last =
+    ap (λ (xs : List Item). slice_get xs c.args.place) c.in_ok-reserve.ensures.items ∙ (ap (λ (m : OutstandingModel). slice_get m.items c.args.place) c.self.view_is ∙ at) in
+    let first = index_at c.reserve.new.self.items c.args.place c.index.result.now last c.index.ensures own in
+    let second = index_at c.reserve.new.self.items c.args.place c.index-2.result.now last c.index-2.ensures own in
+    let third = index_at c.reserve.new.self.items c.args.place c.index-then-branch.result.now last c.index-then-branch.ensures own in
+    let told = rw c.if-branch.true at c.in_ok-discard.ensures.ok in
+    let P : Item → Type 0 = λ x. DiscardsNamed c.args.queue.now x.fragment.stream_id.0 c.index-2.result.now.fragment.message_id (contents c.args.events.now) true c.discard.new.self (contents c.discard.new.events) in
+    let Q : Item → Type 0 = λ x. DiscardsNamed c.args.queue.now last.fragment.stream_id.0 x.fragment.message_id (contents c.args.events.now) true c.discard.new.self (contents c.discard.new.events) in
+    let R : Item → Type 0 = λ x. IsEndOf c.args.now c.args.begins_after_reset x c.end_of_message-item.result in
+    record {
+      is_dropped = true;
+      drops = subst Q second (subst P first told);
+      ends = record {
+        item = c.end_of_message-item.result;
+        is_end = subst R third c.end_of_message-item.ensures;
+        grows = rw (c.push_back_reserved.ensures.items, c.in_ok-reserve.ensures.items, ← c.self.view_is) refl;
+      };
+    }
+
+pub returns-in_err-discard-clause-front : goal.returns-in_err-discard-clause-front
+returns-in_err-discard-clause-front c last at =
+    let own : slice_get c.reserve.new.self.items c.args.place ≡ Some last =
+    ap (λ (xs : List Item). slice_get xs c.args.place) c.in_ok-reserve.ensures.items ∙ (ap (λ (m : OutstandingModel). slice_get m.items c.args.place) c.self.view_is ∙ at) in
+    let first = index_at c.reserve.new.self.items c.args.place c.index.result.now last c.index.ensures own in
+    let second = index_at c.reserve.new.self.items c.args.place c.index-2.result.now last c.index-2.ensures own in
+    let P : Item → Type 0 = λ x. StopsDiscarding c.args.queue.now x.fragment.stream_id.0 c.index-2.result.now.fragment.message_id (contents c.args.events.now) (contents c.discard.new.events) in
+    let Q : Item → Type 0 = λ x. StopsDiscarding c.args.queue.now last.fragment.stream_id.0 x.fragment.message_id (contents c.args.events.now) (contents c.discard.new.events) in
+    rw (err_from_is_err_and c.from_residual-in_err-discard.result c.from_residual-in_err-discard.ensures.1).1 (inr (subst Q second (subst P first c.in_err-discard.ensures.front)))
+
+pub returns-in_err-reserve-clause-front : goal.returns-in_err-reserve-clause-front
+returns-in_err-reserve-clause-front c last at = rw (err_from_is_err_and c.from_residual.result c.from_residual.ensures.1).1 (inl refl)

@@ -1,0 +1,65 @@
+-- The items of one message, and what it is to drop the rest of it (RFC 3758, section 3.5).
+use Rattle.std.specs.Prelude.{◌≡◌, ◌+◌, ◌%◌, ◌^◌, ◌<◌, ◌≤◌, ℕ, Bool, true, false, None, Some, List, [], ◌∷◌, ◌++◌, length, slice_get}
+use Rattle.dcsctp_machine.specs.Event.{Event}
+use Rattle.dcsctp_send_queue.specs.declared.backlog.Backlog.{Backlog}
+use Rattle.dcsctp_send_queue.specs.Calls.{DiscardsNamed}
+use Rattle.dcsctp_send_streams.specs.Fragment.{fragment_of}
+use Rattle.dcsctp_send_outstanding.specs.declared.item.Item.{Item}
+use Rattle.dcsctp_send_outstanding.specs.declared.progress.ItemState.TheVariants.{Abandoned}
+use Rattle.dcsctp_send_outstanding.specs.Outstanding.{OutstandingModel}
+
+-- it holds of the item at this place
+abbrev pub AtPlace : List Item → ℕ → (Item → Type 0) → Type 0
+AtPlace items place P = (item : Item) → slice_get items place ≡ Some item → P item
+
+-- the row of items with the same message as the one at this place begins there
+pub record StartsMessage (place start : ℕ) (items : List Item) : Type 0 where
+  pub from : start ≤ place
+  pub same : (k : ℕ) (item own : Item) → start ≤ k → k ≤ place → slice_get items k ≡ Some item → slice_get items place ≡ Some own
+      → item.fragment.message_id ≡ own.fragment.message_id
+  pub other : (k : ℕ) (item own : Item) → k + 1 ≡ start → slice_get items k ≡ Some item → slice_get items place ≡ Some own
+      → (item.fragment.message_id ≡ own.fragment.message_id → ⊥)
+
+-- it ends before this place
+pub record EndsMessage (place end : ℕ) (items : List Item) : Type 0 where
+  pub to : place < end
+  pub within : end ≤ length items
+  pub same : (k : ℕ) (item own : Item) → place ≤ k → k < end → slice_get items k ≡ Some item → slice_get items place ≡ Some own
+      → item.fragment.message_id ≡ own.fragment.message_id
+  pub other : (item own : Item) → slice_get items end ≡ Some item → slice_get items place ≡ Some own
+      → (item.fragment.message_id ≡ own.fragment.message_id → ⊥)
+
+-- The items round this place that bear the same message: from `start` to before `end`.
+abbrev pub IsMessage : ℕ → ℕ → ℕ → List Item → Type 0
+IsMessage place start end items = StartsMessage place start items × EndsMessage place end items
+
+-- the end of a message, whose last item is this one so far: it is abandoned, and has no payload
+pub record IsEndOf (now : ℕ) (begins : Bool) (last item : Item) : Type 0 where
+  pub is_abandoned : item.progress.state ≡ Abandoned
+  pub sent_at : item.sent_at ≡ now
+  pub begins_after_reset : item.begins_after_reset ≡ begins
+  pub is : fragment_of item.fragment ≡ record (fragment_of last.fragment) {
+    fsn = (last.fragment.fsn + 1) % 2 ^ 32;
+    is_beginning = false;
+    is_end = true;
+    payload = [];
+    lifecycle = None;
+  }
+
+-- one more item, which is the end of the message
+pub record AddsEndOf (now : ℕ) (begins : Bool) (last : Item) (old new : OutstandingModel) : Type 0 where
+  pub item : Item
+  pub is_end : IsEndOf now begins last item
+  pub grows : new ≡ record old { items = old.items ++ item ∷ [] }
+
+-- the end is added where something of the message was dropped
+abbrev pub EndsDropped : ℕ → Bool → Item → OutstandingModel → OutstandingModel → Bool → Type 0
+EndsDropped now begins last old new true = AddsEndOf now begins last old new
+EndsDropped now begins last old new false = new ≡ old
+
+-- What waits of the message in the send queue is dropped. Where the flag is set, streams were reset since the last item was added: the
+-- end of the message lies behind the reset.
+pub record DropsRest (now : ℕ) (begins : Bool) (last : Item) (old : OutstandingModel) (waiting : Backlog) (told : List (Event (List ℕ))) (new : OutstandingModel) (left : Backlog) (telling : List (Event (List ℕ))) : Type 0 where
+  pub is_dropped : Bool
+  pub drops : DiscardsNamed waiting last.fragment.stream_id.0 last.fragment.message_id told is_dropped left telling
+  pub ends : EndsDropped now begins last old new is_dropped

@@ -1,0 +1,16 @@
+-- Which item comes next, and where none can.
+use Rattle.std.specs.Prelude.{◌≡◌, ℕ, None, List, []}
+use Rattle.dcsctp_send_queue.specs.declared.backlog.Backlog.{Backlog}
+use Rattle.dcsctp_send_streams.specs.Ranking.{turns_of}
+use Rattle.dcsctp_send_outstanding.specs.declared.item.Item.{Item}
+use Rattle.dcsctp_send_outstanding.specs.Outstanding.{NoneMarkedBefore, IsMarkedAt}
+
+-- The item at this place is the first that waits to be sent again.
+pub record IsNextMarked (place : ℕ) (items : List Item) : Type 0 where
+  pub marked : IsMarkedAt place items
+  pub first : NoneMarkedBefore place items
+
+-- No message is under way, and none can be begun.
+pub record HasNone (waiting : Backlog) : Type 0 where
+  pub idle : waiting.under_way ≡ None
+  pub none_left : turns_of waiting.streams ≡ []

@@ -1,0 +1,37 @@
+-- Which items a SACK reports (RFC 9260, sections 3.3.4 and 6.2.1). The cumulative TSN passes the first `count` items, and the
+-- offsets of the blocks count from it.
+use Rattle.std.specs.Prelude.{◌≡◌, ◌⊎◌, ℕ, ◌+◌, ◌<◌, ◌≤◌, true, max, Option, None, Some, List, [], ◌∷◌, slice_get}
+use Rattle.dcsctp_wire.specs.declared.chunk.sack.GapAckBlock.{GapAckBlock}
+use Rattle.dcsctp_send_outstanding.specs.declared.item.Item.{Item}
+use Rattle.dcsctp_send_outstanding.specs.Progress.{is_unacknowledged}
+
+-- the place is from `start` on and before `end`
+abbrev pub IsWithin : ℕ → ℕ → ℕ → Type 0
+IsWithin start end place = (start ≤ place) × (place < end)
+
+-- A block names the item at this place: the one behind the cumulative TSN has the offset 1.
+abbrev pub Names : ℕ → List GapAckBlock → ℕ → Type 0
+Names count [] place = ⊥
+Names count (block ∷ blocks) place = ((count + block.start ≤ place + 1) × (place + 1 ≤ count + block.end)) ⊎ Names count blocks place
+
+-- The SACK acknowledges the item at this place, and none before did.
+abbrev pub IsNewlyAcknowledged : ℕ → List GapAckBlock → ℕ → Item → Type 0
+IsNewlyAcknowledged count blocks place item = ((place < count) ⊎ Names count blocks place) × (is_unacknowledged item.progress.state ≡ true)
+
+-- The item at this place is the last of which that holds.
+pub record IsLastAt (Holds : ℕ → Item → Type 0) (items : List Item) (place : ℕ) : Type 0 where
+  pub item : Item
+  pub at : slice_get items place ≡ Some item
+  pub holds : Holds place item
+  pub last : (k : ℕ) (other : Item) → place < k → slice_get items k ≡ Some other → Holds k other → ⊥
+
+-- the place of the last item of which that holds; none where it holds of none
+abbrev pub IsLast : (ℕ → Item → Type 0) → List Item → Option ℕ → Type 0
+IsLast Holds items None = (k : ℕ) (item : Item) → slice_get items k ≡ Some item → Holds k item → ⊥
+IsLast Holds items (Some place) = IsLastAt Holds items place
+
+-- the later of two places
+abbrev pub later_of : Option ℕ → Option ℕ → Option ℕ
+later_of None other = other
+later_of (Some place) None = Some place
+later_of (Some place) (Some other) = Some (max place other)

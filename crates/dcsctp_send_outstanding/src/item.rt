@@ -1,0 +1,35 @@
+//! What was sent under one TSN.
+
+ghost use Rattle.std.specs.Prelude.{◌≡◌, ◌≤◌};
+
+use crate::progress::Progress;
+use dcsctp_api::SocketTime;
+use dcsctp_send_queue::DataToSend;
+
+/// What was sent under one TSN.
+#[derive(Drop)]
+pub struct Item {
+    /// What its chunk says. The payload is empty where it stands for the end of an abandoned message.
+    pub fragment: DataToSend,
+
+    /// How far it is.
+    pub progress: Progress,
+
+    /// When it was sent first.
+    pub sent_at: SocketTime,
+
+    /// Were streams reset before it was sent? No FORWARD-TSN reaches across that.
+    pub begins_after_reset: bool,
+}
+
+impl Item {
+    ghost use Rattle.dcsctp_send_outstanding.specs.Items.{size_of};
+
+    /// How long its chunk is, with a header of this size and its padding. No payload is above 65,535 bytes.
+    pub fn size(&self, header: usize) -> usize
+        requires { header ≤ 20 }
+        ensures { result ≡ size_of header self.now }
+    {
+        header + (self.fragment.payload.len().min(65535) + 3) / 4 * 4
+    }
+}

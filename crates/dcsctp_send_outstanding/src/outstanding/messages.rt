@@ -1,0 +1,126 @@
+//! Messages among the items: where they lie, and the end of one that is given up (RFC 3758, section 3.5).
+
+ghost use Rattle.std.specs.Prelude.{◌≡◌, ◌<◌, ◌+◌, ◌^◌};
+ghost use Rattle.dcsctp_send_outstanding.specs.Messages.{IsEndOf};
+
+use super::Outstanding;
+use crate::item::Item;
+use crate::progress::{Change, Progress};
+use dcsctp_api::{Events, SocketTime};
+use dcsctp_send_queue::{DataToSend, SendQueue};
+use std::alloc::{AllocError, Global};
+
+impl Outstanding {
+    ghost use Rattle.std.specs.Prelude.{◌⊎◌, ◌==◌, OnOk, OnErr, length};
+    ghost use Rattle.dcsctp_send_outstanding.specs.Outstanding.{MayAddEnd};
+    ghost use Rattle.dcsctp_send_outstanding.specs.Messages.{AtPlace, StartsMessage, EndsMessage, IsMessage, DropsRest};
+    ghost use Rattle.dcsctp_send_streams.specs.Telling.{contents};
+    ghost use Rattle.dcsctp_send_queue.specs.Calls.{StopsDiscarding};
+
+    /// Drops what waits in the queue of the message of the item at the place. Where there was some, an
+    /// abandoned item without a payload stands for the end of the message. `begins_after_reset` says whether
+    /// streams were reset since the last item was added.
+    pub fn discard_rest(
+        &mut self,
+        events: &mut Events,
+        queue: &mut SendQueue,
+        now: SocketTime,
+        place: usize,
+        begins_after_reset: bool,
+    ) -> Result<(), AllocError>
+        requires place { place < length self.old.items }
+        requires room { length self.old.items + 1 < 2 ^ 31 }
+        ensures may { MayAddEnd self.old self.new }
+        ensures ok { AtPlace self.old.items place (λ last. OnOk result (DropsRest now begins_after_reset last self.old queue.old (contents events.old) self.new queue.new (contents events.new))) }
+        ensures err { OnErr result ((self.new ≡ self.old) × (queue.new ≡ queue.old)) }
+        ensures front { AtPlace self.old.items place (λ last. OnErr result ((contents events.new ≡ contents events.old) ⊎ StopsDiscarding queue.old last.fragment.stream_id.0 last.fragment.message_id (contents events.old) (contents events.new))) }
+    {
+        self.items.reserve(1)?;
+        let stream_id = self.items[place].fragment.stream_id;
+        let message_id = self.items[place].fragment.message_id;
+        if queue.discard(events, stream_id, message_id)? {
+            let item = end_of_message(self.alloc, &self.items[place], now, begins_after_reset);
+            let size = item.size(self.header);
+            self.totals.add(item.progress, size);
+            self.items.push_back_reserved(item);
+        }
+        Ok(())
+    }
+
+    /// The places of the message of the item at this place: the first, and the one behind the last. A message
+    /// lies on consecutive TSNs, since the send queue ends one before it begins another.
+    pub fn message_places(&self, place: usize) -> (usize, usize)
+        requires { place < length self.now.items }
+        ensures { IsMessage place result.0 result.1 self.now.items }
+    {
+        (self.message_start(place), self.message_end(place))
+    }
+
+    // Does the item at the place bear the message?
+    fn bears(&self, place: usize, message_id: u64) -> bool
+        requires { place < length self.now.items }
+        ensures { AtPlace self.now.items place (λ item. result ≡ (item.fragment.message_id == message_id)) }
+    {
+        self.item(place).fragment.message_id == message_id
+    }
+
+    // The first place of the message.
+    fn message_start(&self, place: usize) -> usize
+        requires { place < length self.now.items }
+        ensures { StartsMessage place result self.now.items }
+    {
+        let message_id = self.item(place).fragment.message_id;
+        let mut start = place;
+        while 0 < start {
+            if !self.bears(start - 1, message_id) {
+                return start;
+            }
+            start -= 1;
+        }
+        0
+    }
+
+    // The place behind the last of the message.
+    fn message_end(&self, place: usize) -> usize
+        requires { place < length self.now.items }
+        ensures { EndsMessage place result self.now.items }
+    {
+        let message_id = self.item(place).fragment.message_id;
+        let len = self.len();
+        let mut end = place + 1;
+        while end < len {
+            if !self.bears(end, message_id) {
+                return end;
+            }
+            end += 1;
+        }
+        len
+    }
+}
+
+// The end of an abandoned message, which never goes out.
+fn end_of_message(alloc: Global, item: &Item, now: SocketTime, begins_after_reset: bool) -> Item
+    ensures { IsEndOf now begins_after_reset item.now result }
+{
+    let fragment = &item.fragment;
+    Item {
+        fragment: DataToSend {
+            message_id: fragment.message_id,
+            stream_id: fragment.stream_id,
+            ssn: fragment.ssn,
+            mid: fragment.mid,
+            fsn: fragment.fsn.wrapping_add(1),
+            ppid: fragment.ppid,
+            is_unordered: fragment.is_unordered,
+            is_beginning: false,
+            is_end: true,
+            payload: Vec::new(alloc),
+            max_retransmissions: fragment.max_retransmissions,
+            expires_at: fragment.expires_at,
+            lifecycle_id: None,
+        },
+        progress: Progress::new().changed(Change::Abandon),
+        sent_at: now,
+        begins_after_reset,
+    }
+}

@@ -1,0 +1,153 @@
+-- Lemmas on why no more chunks go into a packet.
+use Rattle.std.proofs.Common.{◌≡◌, ◌∙◌, inl, inr, nat_lt, ℕ, zero, suc, ◌+◌, ◌-◌, ◌^◌, ◌<◌, ◌≤◌, min, Bool, true, false, if◌then◌else◌, Some, Result, Ok, Err, IfOk, OnOk, List, [], ◌∷◌, ◌++◌, refl, ap, Vec, arith}
+use Rattle.std.specs.List.{slice_get}
+use Rattle.std.specs.declared.alloc.Global.{Global}
+use Rattle.std.specs.declared.alloc.AllocError.{AllocError}
+use Rattle.std.proofs.lemmas.List.Sums.{sum_by-cons, sum_by_push}
+use Rattle.dcsctp_send_timer.specs.Timer.{TimerModel}
+use Rattle.dcsctp_send_queue.specs.declared.backlog.Backlog.{Backlog}
+use Rattle.dcsctp_send_outstanding.specs.declared.item.Item.{Item}
+use Rattle.dcsctp_send_outstanding.specs.declared.progress.ItemState.{ItemState}
+use Rattle.dcsctp_send_outstanding.specs.declared.progress.Progress.{Progress}
+use Rattle.dcsctp_send_outstanding.specs.declared.progress.Change.{Change}
+use Rattle.dcsctp_send_outstanding.specs.declared.progress.Change.TheVariants.{SendAgain, Abandon}
+use Rattle.dcsctp_send_outstanding.specs.Progress.{is_marked, changed}
+use Rattle.dcsctp_send_outstanding.specs.Items.{counted, marked_count, marked_items, changed_item, changed_between}
+use Rattle.dcsctp_send_outstanding.specs.Outstanding.{OutstandingModel, next_tsn, IsMarkedAt, MayAddEnd, SendsNext}
+use Rattle.dcsctp_send_retransmission.specs.Queue.{QueueModel, GivesUp}
+use Rattle.dcsctp_send_retransmission.specs.declared.packet.Packet.{Packet}
+use Rattle.dcsctp_send_retransmission.specs.Sending.{counted_again, Filled, Fills, none as none_packed}
+use Rattle.dcsctp_send_outstanding.specs.Next.{IsNextMarked}
+use Rattle.dcsctp_send_retransmission.specs.Halting.{WaitsForRoom, HaltsAgain, HaltsNew, Halts, SendsAgain, GoesAgain, FillsUp}
+
+-- the change leaves no item marked
+abbrev pub Unmarks : Change → Type 0
+Unmarks change = (progress : Progress) → is_marked (changed change progress).state ≡ false
+
+marked_at_most : (change : Change) → Unmarks change → (start end : ℕ) (items : List Item) → marked_items (changed_between change start end items) ≤ marked_items items
+marked_at_most change unmarks zero zero items = omega arith
+marked_at_most change unmarks zero (suc end) [] = omega arith
+marked_at_most change unmarks zero (suc end) (x ∷ xs) =
+    let later = marked_at_most change unmarks zero end xs in
+    let here = ap (λ (b : Bool). counted b 1) (unmarks x.progress) in
+    let old = sum_by-cons marked_count x xs in
+    let new = sum_by-cons marked_count (changed_item change x) (changed_between change zero end xs) in
+    omega arith
+marked_at_most change unmarks (suc start) zero items = omega arith
+marked_at_most change unmarks (suc start) (suc end) [] = omega arith
+marked_at_most change unmarks (suc start) (suc end) (x ∷ xs) =
+    let later = marked_at_most change unmarks start end xs in
+    let old = sum_by-cons marked_count x xs in
+    let new = sum_by-cons marked_count x (changed_between change start end xs) in
+    omega arith
+
+-- such a change of a marked item leaves fewer
+pub fewer_marked : (change : Change) → Unmarks change → (start end place : ℕ) (items : List Item) (item : Item) → start ≤ place → place < end → slice_get items place ≡ Some item → is_marked item.progress.state ≡ true → marked_items (changed_between change start end items) < marked_items items
+fewer_marked change unmarks zero zero place items item from to at is = absurd (omega arith)
+fewer_marked change unmarks zero (suc end) place [] item from to at is = absurd (cc)
+fewer_marked change unmarks zero (suc end) zero (x ∷ xs) item from to at is =
+    let same : x ≡ item = cc in
+    let was = ap (λ (y : Item). marked_count y) same ∙ ap (λ (b : Bool). counted b 1) is in
+    let later = marked_at_most change unmarks zero end xs in
+    let here = ap (λ (b : Bool). counted b 1) (unmarks x.progress) in
+    let old = sum_by-cons marked_count x xs in
+    let new = sum_by-cons marked_count (changed_item change x) (changed_between change zero end xs) in
+    omega arith
+fewer_marked change unmarks zero (suc end) (suc place) (x ∷ xs) item from to at is =
+    let later = fewer_marked change unmarks zero end place xs item (omega arith) (omega arith) at is in
+    let here = ap (λ (b : Bool). counted b 1) (unmarks x.progress) in
+    let old = sum_by-cons marked_count x xs in
+    let new = sum_by-cons marked_count (changed_item change x) (changed_between change zero end xs) in
+    omega arith
+fewer_marked change unmarks (suc start) zero place items item from to at is = absurd (omega arith)
+fewer_marked change unmarks (suc start) (suc end) place [] item from to at is = absurd (cc)
+fewer_marked change unmarks (suc start) (suc end) zero (x ∷ xs) item from to at is = absurd (omega arith)
+fewer_marked change unmarks (suc start) (suc end) (suc place) (x ∷ xs) item from to at is =
+    let later = fewer_marked change unmarks start end place xs item (omega arith) (omega arith) at is in
+    let old = sum_by-cons marked_count x xs in
+    let new = sum_by-cons marked_count x (changed_between change start end xs) in
+    omega arith
+
+-- an item stays at its place where one is pushed
+slice_get_stays : (items : List Item) (new : Item) (k : ℕ) (item : Item) → slice_get items k ≡ Some item → slice_get (items ++ new ∷ []) k ≡ Some item
+slice_get_stays [] new k item at = absurd (cc)
+slice_get_stays (x ∷ xs) new zero item at = at
+slice_get_stays (x ∷ xs) new (suc k) item at = slice_get_stays xs new k item at
+
+-- the end of a message doesn't wait to be sent again
+end_marked : (old new : OutstandingModel) → MayAddEnd old new → marked_items new.items ≡ marked_items old.items
+end_marked old new (inl same) = ap (λ (m : OutstandingModel). marked_items m.items) same
+end_marked old new (inr ends) =
+    let items = ap (λ (m : OutstandingModel). marked_items m.items) ends.grows in
+    let all = sum_by_push marked_count old.items ends.item in
+    let zero_more = ap (λ (s : ItemState). counted (is_marked s) 1) ends.is_abandoned in
+    omega arith
+
+end_stays : (old new : OutstandingModel) (place : ℕ) (item : Item) → MayAddEnd old new → slice_get old.items place ≡ Some item → slice_get new.items place ≡ Some item
+end_stays old new place item (inl same) at = ap (λ (m : OutstandingModel). slice_get m.items place) same ∙ at
+end_stays old new place item (inr ends) at = ap (λ (m : OutstandingModel). slice_get m.items place) ends.grows ∙ slice_get_stays old.items ends.item place item at
+
+-- where a lost message is given up, fewer wait to be sent again
+pub gives_up_fewer : (place : ℕ) (old new : QueueModel) → GivesUp place old new → IsMarkedAt place old.outstanding.items → marked_items new.outstanding.items < marked_items old.outstanding.items
+gives_up_fewer place old new up at =
+    let items = ap (λ (q : QueueModel). marked_items q.outstanding.items) up.is in
+    let grown = end_marked old.outstanding up.grown.outstanding up.grows.ends in
+    let fewer = fewer_marked Abandon (λ progress. refl) up.start up.end place up.grown.outstanding.items at.item up.from up.to (end_stays old.outstanding up.grown.outstanding place at.item up.grows.ends at.at) at.is in
+    omega arith
+
+-- The first marked item didn't fit.
+pub waits_for_room : (place : ℕ) (old new : OutstandingModel) (room left : ℕ) → IsNextMarked place old.items → SendsAgain place old room new left false → WaitsForRoom left new
+waits_for_room place old new room left next again =
+    rw (again.0, again.1) (record { place = place; next = next; item = next.marked.item; at = next.marked.at; longer = again.2 next.marked.item next.marked.at })
+
+-- what a try to send the first marked item again leaves
+pub goes_again : (r : Result Bool AllocError) (place : ℕ) (old between new : QueueModel) (room left : ℕ) → marked_items between.outstanding.items ≤ marked_items old.outstanding.items → IsNextMarked place between.outstanding.items → IfOk r (SendsAgain place between.outstanding room new.outstanding left) → IfOk r (GoesAgain old new left)
+goes_again (Ok true) place old between new room left fewer next again =
+    let items = ap (λ (m : OutstandingModel). marked_items m.items) again in
+    let one = fewer_marked (SendAgain (next_tsn between.outstanding)) (λ progress. refl) place (place + 1) place between.outstanding.items next.marked.item (omega arith) (omega arith) next.marked.at next.marked.is in
+    omega arith
+goes_again (Ok false) place old between new room left fewer next again =
+    let items = ap (λ (m : OutstandingModel). marked_items m.items) again.0 in (
+      omega arith,
+      inr (inr (waits_for_room place between.outstanding new.outstanding room left next again)),
+    )
+goes_again (Err error) place old between new room left fewer next again = tt
+
+-- a new item doesn't wait to be sent again
+pub next_marked_same : (now max : ℕ) (old new : OutstandingModel) (tsn : ℕ) → SendsNext now max old new tsn → marked_items new.items ≡ marked_items old.items
+next_marked_same now max old new tsn sends =
+    let items = ap (λ (m : OutstandingModel). marked_items m.items) sends.grows in
+    let all = sum_by_push marked_count old.items sends.item in
+    let zero_more = ap (λ (p : Progress). counted (is_marked p.state) 1) sends.is_first.progress in
+    omega arith
+
+-- counting changes no reason
+pub halts_counted : (size room : ℕ) (queue : QueueModel) → HaltsAgain room queue → HaltsAgain room (counted_again size queue)
+halts_counted size room queue halts = go (nat_lt 0 size)
+  where
+    go : (b : Bool) → HaltsAgain room (if b then record queue { packets_retransmitted = min (queue.packets_retransmitted + 1) (2 ^ 64 - 1); bytes_retransmitted = min (queue.bytes_retransmitted + size) (2 ^ 64 - 1) } else queue)
+    go true = halts
+    go false = halts
+
+-- some wait to be sent again
+pub halts_marked : (room : ℕ) (queue : QueueModel) (waiting : Backlog) → HaltsAgain room queue → (marked_items queue.outstanding.items ≡ 0 → ⊥) → Halts room queue waiting
+halts_marked room queue waiting (inl none_left) some = absurd (some none_left)
+halts_marked room queue waiting (inr reason) some = inl reason
+
+-- none waits to be sent again
+pub halts_new : {E : Type 0} (r : Result Unit E) (room : ℕ) (old queue : QueueModel) (waiting : Backlog) → marked_items old.outstanding.items ≡ 0 → marked_items queue.outstanding.items ≡ marked_items old.outstanding.items → OnOk r (HaltsNew room queue waiting) → OnOk r (Halts room queue waiting)
+halts_new (Ok done) room old queue waiting none_left same halts = inr (same ∙ none_left, halts)
+halts_new (Err error) room old queue waiting none_left same halts = tt
+
+-- the timer is no reason
+pub fills_up_timed : {E : Type 0} (r : Result (Vec ℕ Global) E) (bytes : ℕ) (queue : QueueModel) (timer : TimerModel) (waiting : Backlog) → IfOk r (λ tsns. FillsUp bytes queue waiting tsns.items) → IfOk r (λ tsns. FillsUp bytes (record queue { timer = timer }) waiting tsns.items)
+fills_up_timed (Ok tsns) bytes queue timer waiting fills =
+    record { used = fills.used; packed = fills.packed; room = fills.room; sum = fills.sum; halts = fills.halts }
+fills_up_timed (Err error) bytes queue timer waiting fills = tt
+
+-- a packet that was empty is filled up
+pub fills_up : (bytes : ℕ) (old new : QueueModel) (before after : Packet) (waiting : Backlog) → before.tsns.items ≡ [] → before.room ≡ bytes → Fills old before new after → Halts after.room new waiting → FillsUp bytes new waiting after.tsns.items
+fills_up bytes old new before after waiting empty room fills halts =
+    let start : Filled bytes old before = record { used = 0; packed = rw empty none_packed; sum = omega arith } in
+    let filled = fills.filling bytes start in
+    record { used = filled.used; packed = filled.packed; room = after.room; sum = filled.sum; halts = halts }

@@ -1,0 +1,148 @@
+-- Lemmas on how a packet is filled.
+use Rattle.std.proofs.Common.{◌≡◌, ◌⊎◌, ◌∙◌, ◌+◌, ◌-◌, Bool, ◌<◌, true, false, ◌^◌, ℕ, zero, suc, Option, Some, Result, Ok, Err, OnOk, OnErr, IfOk, IfSome, ◌++◌, subst, inl, inr, List, [], ◌∷◌, length, refl, ap, sym, arith}
+use Rattle.std.specs.List.{slice_get}
+use Rattle.std.specs.declared.alloc.AllocError.{AllocError}
+use Rattle.dcsctp_api.specs.declared.events.SocketEvent.{SocketEvent}
+use Rattle.dcsctp_send_queue.specs.declared.backlog.Backlog.{Backlog}
+use Rattle.dcsctp_send_queue.specs.Calls.{Takes, StopsDiscarding}
+use Rattle.dcsctp_machine.specs.Event.{Event}
+use Rattle.dcsctp_send_streams.specs.Telling.{contents}
+use Rattle.dcsctp_send_outstanding.specs.declared.item.Item.{Item}
+use Rattle.dcsctp_send_retransmission.specs.declared.packet.Packet.{Packet}
+use Rattle.dcsctp_send_outstanding.specs.Items.{size_of, changed_between}
+use Rattle.dcsctp_send_outstanding.specs.declared.progress.Change.{Change}
+use Rattle.dcsctp_send_outstanding.specs.declared.progress.Change.TheVariants.{SendAgain}
+use Rattle.dcsctp_send_outstanding.specs.Progress.{is_marked}
+use Rattle.dcsctp_send_outstanding.specs.Outstanding.{OutstandingModel}
+use Rattle.dcsctp_send_outstanding.specs.Next.{IsNextMarked}
+use Rattle.dcsctp_send_retransmission.specs.Queue.{QueueModel}
+use Rattle.dcsctp_send_retransmission.proofs.SendingLemmas.{last_pushed, with_outstanding}
+use Rattle.dcsctp_send_retransmission.specs.States.{Stage, stage, is_due, DropsRestAt, Closes, RefusesClosing, payload_room, SendsNew, StepAgain, StepNew, counting, GoesFilling, StopsFilling, Steps, none, more, Stops, Goes, SendsAt, SendsMarked, SendsFirst, is_first_marked}
+use Rattle.dcsctp_send_outstanding.specs.Handing.{SendsItem}
+
+-- there is one item at a place
+pub same_at : (items : List Item) (place : ℕ) (a b : Item) → slice_get items place ≡ Some a → slice_get items place ≡ Some b → a ≡ b
+same_at items place a b first second = let both : Some a ≡ Some b = sym first ∙ second in cc
+
+pub record Found (items : List Item) (place : ℕ) : Type 0 where
+  pub item : Item
+  pub at : slice_get items place ≡ Some item
+
+pub found : (items : List Item) (place : ℕ) → place < length items → Found items place
+found [] place within = absurd (omega arith)
+found (x ∷ xs) zero within = record { item = x; at = refl }
+found (x ∷ xs) (suc place) within = let later = found xs place (omega arith) in record { item = later.item; at = later.at }
+
+pub on_ok_map : {A E : Type 0} {P Q : Type 0} (r : Result A E) → (P → Q) → OnOk r P → OnOk r Q
+on_ok_map (Ok done) f p = f p
+on_ok_map (Err error) f p = tt
+
+pub closes_rest : (now : ℕ) (last : Item) (old new : Stage) (is_end : Bool) → is_end ≡ false → length old.queue.outstanding.items + 1 < 2 ^ 31 → DropsRestAt now last old new → Closes now last old new is_end
+closes_rest now last old new true is_false room drops = absurd (cc)
+closes_rest now last old new false is_false room drops = inl (room, drops)
+
+-- ---- steps
+
+pub steps_trans : (Step : Stage → Stage → Type 0) (a b c : Stage) → Steps Step a b → Steps Step b c → Steps Step a c
+steps_trans Step a b c first none = first
+steps_trans Step a b c first (more between new steps step) = more between new (steps_trans Step a b between first steps) step
+
+pub stops_trans : (now : ℕ) (Step : Stage → Stage → Type 0) (a b c : Stage) → Steps Step a b → Stops now Step b c → Stops now Step a c
+stops_trans now Step a b c first stops =
+    record { at = stops.at; steps = steps_trans Step a b stops.at first stops.steps; queue = stops.queue; refused = stops.refused }
+
+pub goes_trans : {A : Type 0} (r : Result A AllocError) (now : ℕ) (Step : Stage → Stage → Type 0) (a b c : Stage) → Steps Step a b → Goes now Step b c r → Goes now Step a c r
+goes_trans (Ok done) now Step a b c first later = steps_trans Step a b c first later
+goes_trans (Err error) now Step a b c first later = stops_trans now Step a b c first later
+
+-- the first item that waits is sent again, where it fits
+pub goes_at : (r : Result Bool AllocError) (now place : ℕ) (Step : Stage → Stage → Type 0) (start : Stage) (old new : QueueModel) (waiting : Backlog) (events : List SocketEvent) (before after : Packet) (next : IsNextMarked place old.outstanding.items)
+    → ((m n : Stage) → m.queue ≡ old → SendsMarked now m n → Step m n)
+    → Steps Step start (stage old waiting events before.tsns.items before.room)
+    → is_due now old.partial_reliability next.marked.item ≡ false
+    → IfOk r (SendsAt place next.marked.item old before new after) → OnErr r (new ≡ old)
+    → Goes now Step start (stage new waiting events after.tsns.items after.room) r
+goes_at (Ok true) now place Step start old new waiting events before after next embed steps stays sends err =
+    more (stage old waiting events before.tsns.items before.room) (stage new waiting events after.tsns.items after.room) steps
+    (embed (stage old waiting events before.tsns.items before.room) (stage new waiting events after.tsns.items after.room) refl
+    (record { place = place; next = next; stays = stays; fits = sends.0; is = rw (sends.1, sends.2, sends.3) refl }))
+goes_at (Ok false) now place Step start old new waiting events before after next embed steps stays sends err = rw (sends.0, sends.1, sends.2) steps
+goes_at (Err error) now place Step start old new waiting events before after next embed steps stays sends err =
+    record { at = stage old waiting events before.tsns.items before.room; steps = steps; queue = err; refused = inl (refl, refl) }
+
+-- a change behind the first item
+first_stays : (change : Change) (start end : ℕ) (items : List Item) → is_first_marked (changed_between change (suc start) end items) ≡ is_first_marked items
+first_stays change start zero items = refl
+first_stays change start (suc end) [] = refl
+first_stays change start (suc end) (x ∷ xs) = refl
+
+first_sent : (next : ℕ) (items : List Item) → is_first_marked (changed_between (SendAgain next) 0 1 items) ≡ false
+first_sent next [] = refl
+first_sent next (x ∷ xs) = refl
+
+first_waits : (items : List Item) (item : Item) → slice_get items 0 ≡ Some item → is_marked item.progress.state ≡ true → is_first_marked items ≡ true
+first_waits [] item at is = absurd (cc)
+first_waits (x ∷ xs) item at is = let same : x ≡ item = cc in ap (λ (y : Item). is_marked y.progress.state) same ∙ is
+
+-- the first item is sent again
+pub sends_first_here : (restarts : Bool) (tsn place : ℕ) (old items new : List Item) → place ≡ 0 → IsNextMarked place items → new ≡ changed_between (SendAgain tsn) place (place + 1) items → SendsFirst old items restarts → SendsFirst old new true
+sends_first_here true tsn place old items new here next is first = (first.0, ap is_first_marked is ∙ (ap (λ (p : ℕ). is_first_marked (changed_between (SendAgain tsn) p (p + 1) items)) here ∙ first_sent tsn items))
+sends_first_here false tsn place old items new here next is first =
+    let at : slice_get items 0 ≡ Some next.marked.item = ap (slice_get items) (sym here) ∙ next.marked.at in
+    (sym first ∙ first_waits items next.marked.item at next.marked.is, ap is_first_marked is ∙ (ap (λ (p : ℕ). is_first_marked (changed_between (SendAgain tsn) p (p + 1) items)) here ∙ first_sent tsn items))
+
+-- a later item is
+pub sends_first_later : (restarts : Bool) (tsn place : ℕ) (old items new : List Item) → (place ≡ 0 → ⊥) → new ≡ changed_between (SendAgain tsn) place (place + 1) items → SendsFirst old items restarts → SendsFirst old new restarts
+sends_first_later restarts tsn zero old items new later is first = absurd (later refl)
+sends_first_later true tsn (suc place) old items new later is first = (first.0, ap is_first_marked is ∙ (first_stays (SendAgain tsn) place (suc place + 1) items ∙ first.1))
+sends_first_later false tsn (suc place) old items new later is first = ap is_first_marked is ∙ (first_stays (SendAgain tsn) place (suc place + 1) items ∙ first)
+
+-- a new item goes out
+pub sends_new : (now max : ℕ) (old : QueueModel) (before after : Packet) (place size tsn : ℕ) (new : OutstandingModel) (waiting left : Backlog) (events telling : List SocketEvent)
+    → SendsItem now max old.reset_begun old.outstanding waiting (contents events) new left (contents telling) tsn → place ≡ length old.outstanding.items
+    → IfSome (slice_get new.items place) (λ item. size ≡ size_of new.header item) → max ≡ payload_room old.outstanding.header before.room
+    → after.tsns.items ≡ before.tsns.items ++ tsn ∷ [] → after.room ≡ before.room - size
+    → SendsNew now (stage old waiting events before.tsns.items before.room) (stage (with_outstanding new false old) left telling after.tsns.items after.room)
+sends_new now max old before after place size tsn new waiting left events telling sends place_is sized max_is tsns room =
+    let items = ap (λ (m : OutstandingModel). m.items) sends.grows in
+    let header = ap (λ (m : OutstandingModel). m.header) sends.grows in
+    let at : slice_get new.items place ≡ Some sends.item = rw (items, place_is) (last_pushed old.outstanding.items sends.item) in
+    let P : Option Item → Type 0 = λ x. IfSome x (λ item. size ≡ size_of new.header item) in
+    let size_is : size ≡ size_of old.outstanding.header sends.item = subst P at sized ∙ ap (λ (h : ℕ). size_of h sends.item) header in
+    let T : ℕ → Type 0 = λ m. Takes now m waiting (contents events) sends.item.fragment left (contents telling) in
+    record {
+      item = sends.item;
+      is_fresh = sends.is_fresh;
+      begins = sends.begins;
+      takes = subst T max_is sends.takes;
+      is = rw (sends.grows, tsns, room, size_is, sends.tsn_is) refl;
+    }
+
+pub goes_filling : {A : Type 0} (r : Result A AllocError) (now : ℕ) (old resent new : Stage) → Steps (StepAgain now) old resent → Goes now (StepNew now) (counting old.room resent) new r → GoesFilling now old new r
+goes_filling (Ok done) now old resent new again anew = record { resent = resent; again = again; anew = anew }
+goes_filling (Err error) now old resent new again stops = inr (record { resent = resent; again = again; stops = stops })
+
+-- what is in a packet that isn't handed out
+pub stops_any : (now : ℕ) (Step : Stage → Stage → Type 0) (old : Stage) (queue : QueueModel) (waiting : Backlog) (events : List SocketEvent) (tsns other : List ℕ) (room more_room : ℕ)
+    → Stops now Step old (stage queue waiting events tsns room) → Stops now Step old (stage queue waiting events other more_room)
+stops_any now Step old queue waiting events tsns other room more_room stops =
+    record { at = stops.at; steps = stops.steps; queue = stops.queue; refused = stops.refused }
+
+pub stops_filling_any : (now : ℕ) (old : Stage) (queue : QueueModel) (waiting : Backlog) (events : List SocketEvent) (tsns other : List ℕ) (room more_room : ℕ)
+    → StopsFilling now old (stage queue waiting events tsns room) → StopsFilling now old (stage queue waiting events other more_room)
+stops_filling_any now old queue waiting events tsns other room more_room (inl stops) = inl (stops_any now (StepAgain now) old queue waiting events tsns other room more_room stops)
+stops_filling_any now old queue waiting events tsns other room more_room (inr later) =
+    inr (record {
+      resent = later.resent;
+      again = later.again;
+      stops = stops_any now (StepNew now) (counting old.room later.resent) queue waiting events tsns other room more_room later.stops;
+    })
+
+pub on_err_map : {A E : Type 0} {P Q : Type 0} (r : Result A E) → (P → Q) → OnErr r P → OnErr r Q
+on_err_map (Ok done) f p = tt
+on_err_map (Err error) f p = f p
+
+pub refuses_rest : (last : Item) (waiting : Backlog) (told telling : List (Event (List ℕ))) (is_end : Bool) → is_end ≡ false
+    → (telling ≡ told) ⊎ StopsDiscarding waiting last.fragment.stream_id.0 last.fragment.message_id told telling → RefusesClosing last waiting told telling is_end
+refuses_rest last waiting told telling true is_false refused = absurd (cc)
+refuses_rest last waiting told telling false is_false refused = refused

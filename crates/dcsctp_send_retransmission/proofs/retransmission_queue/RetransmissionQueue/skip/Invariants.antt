@@ -1,0 +1,12 @@
+use Rattle.std.proofs.Common.{◌≡◌, ℕ, ◌<◌, true, Some, take}
+use Rattle.std.specs.List.{slice_get}
+use Rattle.dcsctp_send_outstanding.specs.declared.item.Item.{Item}
+use Rattle.dcsctp_send_retransmission.specs.Forwarding.{goes_on}
+use Rattle.dcsctp_send_retransmission.specs.Skipping.{Collects}
+use Rattle.dcsctp_send_retransmission.proofs.retransmission_queue.RetransmissionQueue.skip.Given as goal
+
+abbrev pub invariant-loop-place : goal.invariant-loop-place
+invariant-loop-place l = record {
+  each : (k : ℕ) (item : Item) → k < l.place → slice_get l.self.outstanding.items k ≡ Some item → goes_on k item ≡ true;
+  collects : Collects l.self (take l.place l.self.outstanding.items) l.numbers.entries;
+}

@@ -1,0 +1,22 @@
+-- Whether a SACK is an answer, which ends the count of errors (RFC 9260, section 8.1).
+use Rattle.std.specs.Prelude.{◌≡◌, ◌⊎◌, ℕ, ◌<◌, Bool, true, false, Some, List, slice_get}
+use Rattle.dcsctp_wire.specs.declared.chunk.sack.GapAckBlock.{GapAckBlock}
+use Rattle.dcsctp_send_outstanding.specs.declared.item.Item.{Item}
+use Rattle.dcsctp_send_outstanding.specs.Reports.{Names}
+
+-- The SACK acknowledges the item at this place: the cumulative TSN passes it, which passes the first ones, so many, or a block names
+-- it. No SACK has acknowledged it before. It may have been given up.
+abbrev pub IsAcknowledgedFirst : ℕ → List GapAckBlock → ℕ → Item → Type 0
+IsAcknowledgedFirst count blocks place item = ((place < count) ⊎ Names count blocks place) × (item.progress.was_acknowledged ≡ false)
+
+-- There is such an item.
+pub record Answers (count : ℕ) (blocks : List GapAckBlock) (items : List Item) : Type 0 where
+  pub place : ℕ
+  pub item : Item
+  pub at : slice_get items place ≡ Some item
+  pub is : IsAcknowledgedFirst count blocks place item
+
+-- This says whether there is one.
+abbrev pub SaysAnswer : Bool → ℕ → List GapAckBlock → List Item → Type 0
+SaysAnswer true count blocks items = Answers count blocks items
+SaysAnswer false count blocks items = Answers count blocks items → ⊥

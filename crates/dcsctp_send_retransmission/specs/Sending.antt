@@ -1,0 +1,75 @@
+-- What goes into a packet, and what stays of the items that were accepted before (RFC 9260, section 6.1).
+use Rattle.std.specs.Prelude.{◌≡◌, ◌-◌, min, nat_lt, if◌then◌else◌, ℕ, ◌+◌, ◌%◌, ◌^◌, ◌≤◌, Some, List, [], ◌∷◌, ◌++◌, slice_get}
+use Rattle.dcsctp_send_streams.specs.declared.data.DataToSend.{DataToSend}
+use Rattle.dcsctp_send_outstanding.specs.declared.item.Item.{Item}
+use Rattle.dcsctp_send_retransmission.specs.declared.packet.Packet.{Packet}
+use Rattle.dcsctp_send_outstanding.specs.Items.{size_of}
+use Rattle.dcsctp_send_outstanding.specs.Outstanding.{OutstandingModel}
+use Rattle.dcsctp_send_retransmission.specs.Queue.{QueueModel, timer_with}
+
+-- the item at this place bears the fragment
+pub record HasFragment (place : ℕ) (fragment : DataToSend) (items : List Item) : Type 0 where
+  pub item : Item
+  pub at : slice_get items place ≡ Some item
+  pub is : item.fragment ≡ fragment
+
+-- each item stays at its place, with its fragment
+abbrev pub KeepsFragments : List Item → List Item → Type 0
+KeepsFragments old new = (k : ℕ) (item : Item) → slice_get old k ≡ Some item → HasFragment k item.fragment new
+
+-- No fragment is lost, and neither the cumulative TSN nor the windows nor the timer change.
+pub record Keeps (old new : QueueModel) : Type 0 where
+  pub first_tsn : new.outstanding.first_tsn ≡ old.outstanding.first_tsn
+  pub header : new.outstanding.header ≡ old.outstanding.header
+  pub fragments : KeepsFragments old.outstanding.items new.outstanding.items
+  pub congestion : new.congestion ≡ old.congestion
+  pub timer : new.timer ≡ old.timer
+  pub peer_window : new.peer_window ≡ old.peer_window
+  pub partial_reliability : new.partial_reliability ≡ old.partial_reliability
+  pub interleaving : new.interleaving ≡ old.interleaving
+
+-- These TSNs are those of items, and their chunks take up so many bytes.
+pub data Packed (first header : ℕ) (items : List Item) : List ℕ → ℕ → Type 0 where
+  none : Packed first header items [] 0
+  more : (tsns : List ℕ) (used place : ℕ) (item : Item) (tsn size : ℕ) → Packed first header items tsns used → slice_get items place ≡ Some item → tsn ≡ (first + place) % 2 ^ 32 → size ≡ size_of header item → Packed first header items (tsns ++ tsn ∷ []) (used + size)
+
+-- the same of what is outstanding
+abbrev pub PackedFrom : OutstandingModel → List ℕ → ℕ → Type 0
+PackedFrom outstanding tsns used = Packed outstanding.first_tsn outstanding.header outstanding.items tsns used
+
+-- A packet that had so many bytes of room holds chunks of the queue.
+pub record Filled (bytes : ℕ) (queue : QueueModel) (packet : Packet) : Type 0 where
+  pub used : ℕ
+  pub packed : PackedFrom queue.outstanding packet.tsns.items used
+  pub sum : used + packet.room ≡ bytes
+
+-- what a packet was filled with stays, and more may come
+abbrev pub GoesOnFilling : QueueModel → Packet → QueueModel → Packet → Type 0
+GoesOnFilling old before new after = (bytes : ℕ) → Filled bytes old before → Filled bytes new after
+
+-- Nothing is lost, and the packet goes on being filled.
+pub record Fills (old : QueueModel) (before : Packet) (new : QueueModel) (after : Packet) : Type 0 where
+  pub keeps : Keeps old new
+  pub filling : GoesOnFilling old before new after
+
+-- the TSNs of outstanding items, whose chunks fit into so many bytes
+pub record HandsOut (bytes : ℕ) (outstanding : OutstandingModel) (tsns : List ℕ) : Type 0 where
+  pub used : ℕ
+  pub fits : used ≤ bytes
+  pub packed : PackedFrom outstanding tsns used
+
+-- Nothing is lost, and the timer runs where something is outstanding.
+pub record Sends (now : ℕ) (old new : QueueModel) : Type 0 where
+  pub sent : QueueModel
+  pub keeps : Keeps old sent
+  pub is : new ≡ record sent { timer = timer_with now sent.outstanding.items sent.timer }
+
+-- one more packet with so many bytes of chunks that were sent again, where there are any
+abbrev pub counted_again : ℕ → QueueModel → QueueModel
+counted_again size queue =
+    if nat_lt 0 size
+    then record queue {
+      packets_retransmitted = min (queue.packets_retransmitted + 1) (2 ^ 64 - 1);
+      bytes_retransmitted = min (queue.bytes_retransmitted + size) (2 ^ 64 - 1);
+    }
+    else queue

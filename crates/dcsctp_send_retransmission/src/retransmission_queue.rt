@@ -1,0 +1,284 @@
+//! What is in flight, and how much more may be sent: the sending side of RFC 9260, sections 6.1 to 6.3 and 7.2,
+//! and of RFC 3758, section 3.5.
+
+ghost use Rattle.std.specs.Prelude.{◌≡◌};
+
+mod abandoning;
+mod acknowledging;
+mod forwarding;
+mod resending;
+mod sending;
+
+use crate::congestion::CongestionControl;
+use dcsctp_api::SocketTime;
+use dcsctp_machine::{BackoffAlgorithm, Options};
+use dcsctp_send_outstanding::{Change, Outstanding};
+use dcsctp_send_queue::DataToSend;
+use dcsctp_send_timer::Timer;
+use std::alloc::Global;
+use std::marker::Model;
+use std::time::Duration;
+
+/// The data of an association that was sent and is not acknowledged yet, with the windows that bound it.
+///
+/// A contract sees the items, the windows and the timer; `retransmission_state` of it is what a user sees.
+#[derive(Drop)]
+pub struct RetransmissionQueue {
+    outstanding: Outstanding,
+    congestion: CongestionControl,
+    timer: Timer,
+
+    // The receive window that the peer announced last.
+    peer_window: usize,
+
+    partial_reliability: bool,
+    interleaving: bool,
+    fast_retransmit_due: bool,
+
+    // Were streams reset since the last item was sent?
+    reset_begun: bool,
+
+    packets_retransmitted: usize,
+    bytes_retransmitted: u64,
+    alloc: Global,
+
+    // The list of the last packet's TSNs, whose room serves the next packet.
+    spare: Vec<u32>,
+}
+
+impl Model for RetransmissionQueue {
+    ghost use Rattle.dcsctp_send_retransmission.specs.Queue.{QueueModel};
+
+    ghost Value = { QueueModel };
+
+    ghost view = { λ queue. record {
+      outstanding = queue.outstanding;
+      congestion = queue.congestion;
+      timer = queue.timer;
+      peer_window = queue.peer_window;
+      partial_reliability = queue.partial_reliability;
+      interleaving = queue.interleaving;
+      fast_retransmit_due = queue.fast_retransmit_due;
+      reset_begun = queue.reset_begun;
+      packets_retransmitted = queue.packets_retransmitted;
+      bytes_retransmitted = queue.bytes_retransmitted;
+    } };
+}
+
+impl RetransmissionQueue {
+    ghost use Rattle.std.specs.Prelude.{true, ◌&&◌, IfNone, ◌+◌, ◌-◌, ◌/◌, ◌%◌, ◌^◌, ◌<◌, ◌≤◌, IfSome, length};
+    ghost use Rattle.std.specs.Duration.{as_nanos};
+    ghost use Rattle.dcsctp_machine.specs.Transfer.{new_retransmission};
+    ghost use Rattle.dcsctp_send_timer.specs.Timer.{expires_at};
+    ghost use Rattle.dcsctp_send_outstanding.specs.Items.{unacknowledged_items};
+    ghost use Rattle.dcsctp_send_outstanding.specs.Outstanding.{next_tsn, distance_to, FindsPlaces};
+    ghost use Rattle.dcsctp_send_retransmission.specs.Queue.{retransmission_state, new_queue, may_send, queue_at, timer_with};
+    ghost use Rattle.dcsctp_send_retransmission.specs.Sending.{counted_again, HasFragment};
+
+    /// Nothing was sent yet: the first TSN is `my_initial_tsn`, the peer's receive window is the one that it
+    /// announced, `a_rwnd` bytes, and the congestion window is `cwnd_mtus_initial` MTUs of the options
+    /// (RFC 9260, section 7.2.1). It takes no memory.
+    pub fn new(
+        alloc: Global,
+        options: &Options,
+        my_initial_tsn: u32,
+        a_rwnd: u32,
+        partial_reliability: bool,
+        interleaving: bool,
+    ) -> RetransmissionQueue
+        ensures seen { retransmission_state result ≡ new_retransmission options.now partial_reliability interleaving my_initial_tsn a_rwnd }
+        ensures whole { result ≡ new_queue options.now my_initial_tsn a_rwnd partial_reliability interleaving }
+    {
+        RetransmissionQueue {
+            outstanding: Outstanding::new(
+                alloc,
+                my_initial_tsn,
+                if interleaving { 20 } else { 16 },
+            ),
+            congestion: CongestionControl::new(options, a_rwnd),
+            timer: Timer::new(
+                options.rto_initial,
+                BackoffAlgorithm::Exponential,
+                None,
+                options.max_timer_backoff_duration,
+            ),
+            peer_window: a_rwnd as usize,
+            partial_reliability,
+            interleaving,
+            fast_retransmit_due: false,
+            reset_begun: false,
+            packets_retransmitted: 0,
+            bytes_retransmitted: 0,
+            alloc,
+            spare: Vec::new(alloc),
+        }
+    }
+
+    /// Takes back the list that `get_chunks_to_send` answered, whose room serves the next packet.
+    pub fn take_back(&mut self, tsns: Vec<u32>)
+        ensures { self.new ≡ self.old }
+    {
+        self.spare = tsns;
+    }
+
+    /// Do messages go out as I-DATA (RFC 8260, section 2.1)?
+    pub fn is_interleaving(&self) -> bool
+        ensures { result ≡ (retransmission_state self.now).message_interleaving }
+    {
+        self.interleaving
+    }
+
+    /// The TSN that goes out next.
+    pub fn next_tsn(&self) -> u32
+        ensures { result ≡ (retransmission_state self.now).next_tsn }
+    {
+        self.outstanding.next_tsn()
+    }
+
+    /// The TSN that was assigned last, or the one before the first (RFC 6525, section 4.1).
+    pub fn last_assigned_tsn(&self) -> u32
+        ensures { result ≡ (next_tsn self.now.outstanding + (2 ^ 32 - 1)) % 2 ^ 32 }
+    {
+        self.outstanding.next_tsn().wrapping_sub(1)
+    }
+
+    /// The peer's receive window less what is in flight, in bytes (RFC 9260, section 6.2.1).
+    pub fn rwnd(&self) -> usize
+        ensures { result ≡ (retransmission_state self.now).rwnd }
+    {
+        self.peer_window
+            .saturating_sub(self.outstanding.in_flight_bytes())
+    }
+
+    /// The congestion window, in bytes (RFC 9260, section 7.2).
+    pub fn cwnd(&self) -> usize
+        ensures { result ≡ (retransmission_state self.now).cwnd }
+    {
+        self.congestion.cwnd
+    }
+
+    /// How many items were sent that the cumulative TSN ack hasn't passed.
+    pub fn outstanding_items(&self) -> usize
+        ensures value { result ≡ (retransmission_state self.now).outstanding_items }
+        ensures few { result < 2 ^ 31 }
+    {
+        self.outstanding.len()
+    }
+
+    /// How many of them were found lost, and wait to be sent again.
+    pub fn marked_items(&self) -> usize
+        ensures { result ≡ (retransmission_state self.now).marked_items }
+    {
+        self.outstanding.marked_items()
+    }
+
+    /// How many items were sent and neither acknowledged nor abandoned.
+    pub fn unacked_items(&self) -> usize
+        ensures { result ≡ (retransmission_state self.now).unacknowledged_items }
+    {
+        self.outstanding.unacknowledged_items()
+    }
+
+    /// How many packets with chunks that were sent again there were; it stops at the greatest number.
+    pub fn rtx_packets_count(&self) -> usize
+        ensures { result ≡ (retransmission_state self.now).packets_retransmitted }
+    {
+        self.packets_retransmitted
+    }
+
+    /// The bytes that were sent again, chunk headers and padding included; it stops at the greatest number.
+    pub fn rtx_bytes_count(&self) -> u64
+        ensures { result ≡ (retransmission_state self.now).bytes_retransmitted }
+    {
+        self.bytes_retransmitted
+    }
+
+    /// When the retransmission timer expires next; none where it doesn't run.
+    pub fn next_timeout(&self) -> Option<SocketTime>
+        ensures { result ≡ (retransmission_state self.now).deadline }
+    {
+        self.timer.next_expiry()
+    }
+
+    /// How long an acknowledgement is awaited when the timer is started next (RFC 9260, section 6.3.2).
+    pub fn update_rto(&mut self, rto: Duration)
+        ensures { self.new ≡ record self.old {
+          timer = record self.old.timer {
+            settings = record self.old.timer.settings { duration = as_nanos rto };
+          };
+        } }
+    {
+        self.timer.set_duration(rto);
+    }
+
+    /// May more be sent? That is so where less than the congestion window and less than the peer's window is
+    /// in flight, or nothing (RFC 9260, section 6.1).
+    pub fn can_send_data(&self) -> bool
+        ensures { result ≡ may_send self.now }
+    {
+        let flying = self.outstanding.in_flight_bytes();
+        flying == 0 || (flying < self.congestion.cwnd && flying < self.peer_window)
+    }
+
+    /// Notes that outgoing streams are reset: no FORWARD-TSN reaches across, since numbers begin anew behind
+    /// the last assigned TSN (RFC 6525, section 5.1.2).
+    pub fn begin_reset_streams(&mut self)
+        ensures { self.new ≡ record self.old { reset_begun = true } }
+    {
+        self.reset_begun = true;
+    }
+
+    /// What the chunk of the TSN says; none where the TSN isn't outstanding.
+    pub fn chunk(&self, tsn: u32) -> Option<&DataToSend>
+        ensures found { IfSome result (λ fragment. HasFragment (distance_to self.now.outstanding tsn) fragment.now self.now.outstanding.items) }
+        ensures none { IfNone result (length self.now.outstanding.items ≤ distance_to self.now.outstanding tsn) }
+        ensures places { FindsPlaces self.now.outstanding }
+    {
+        let place = self.outstanding.distance_to(tsn);
+        if place < self.outstanding.len() {
+            Some(&self.outstanding.item(place).fragment)
+        } else {
+            None
+        }
+    }
+
+    /// Tells the queue that the moment `now` has come, and answers whether the retransmission timer expires.
+    /// Before its deadline it doesn't, and nothing changes.
+    ///
+    /// Once it expires all that was in flight is marked to be sent again, one MTU is left of the congestion
+    /// window, and the timer goes on for twice as long as before, at most `max_timer_backoff_duration` of the
+    /// options (RFC 9260, section 6.3.3).
+    pub fn handle_timeout(&mut self, now: SocketTime) -> bool
+        ensures answer { result ≡ expires_at now self.old.timer.running }
+        ensures left { self.new ≡ queue_at now self.old }
+    {
+        if !self.timer.expire(now) {
+            return false;
+        }
+        let len = self.outstanding.len();
+        self.outstanding.change_between(Change::Mark, 0, len);
+        self.congestion.handle_timeout();
+        true
+    }
+
+    // Runs the timer where something is outstanding, and only there (RFC 9260, section 6.3.2).
+    fn keep_timer(&mut self, now: SocketTime)
+        ensures { self.new ≡ record self.old { timer = timer_with now self.old.outstanding.items self.old.timer } }
+    {
+        if self.outstanding.len() == 0 {
+            self.timer.stop();
+        } else if !self.timer.is_running() {
+            self.timer.start(now);
+        }
+    }
+
+    // Counts a packet with so many bytes of chunks that were sent again, where there are any.
+    fn count_sent_again(&mut self, size: usize)
+        ensures { self.new ≡ counted_again size self.old }
+    {
+        if 0 < size {
+            self.packets_retransmitted = self.packets_retransmitted.saturating_add(1);
+            self.bytes_retransmitted = self.bytes_retransmitted.saturating_add(size as u64);
+        }
+    }
+}

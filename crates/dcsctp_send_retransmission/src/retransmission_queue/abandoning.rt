@@ -1,0 +1,195 @@
+//! Giving messages up, and telling the peer (RFC 3758, section 3.5; RFC 8260, section 2.3.1).
+
+ghost use Rattle.std.specs.Prelude.{◌≡◌, ◌++◌, true, OnOk, OnErr};
+ghost use Rattle.dcsctp_send_streams.specs.Telling.{contents, TellsFront};
+ghost use Rattle.dcsctp_send_retransmission.specs.States.{is_used_up, is_over, is_due, maybe_expired};
+
+use super::RetransmissionQueue;
+use dcsctp_api::{Events, LifecycleId, SocketEvent, SocketTime};
+use dcsctp_send_outstanding::{Change, Item};
+use dcsctp_send_queue::SendQueue;
+use std::alloc::AllocError;
+
+impl RetransmissionQueue {
+    ghost use Rattle.std.specs.Prelude.{ℕ, List, [], ◌&&◌, ◌+◌, ◌-◌, ◌/◌, ◌<◌, ◌≤◌, IfOk, length};
+    ghost use Rattle.dcsctp_send_timer.specs.Timer.{expires_at};
+    ghost use Rattle.dcsctp_send_outstanding.specs.Items.{is_first_abandoned};
+    ghost use Rattle.dcsctp_send_retransmission.specs.Queue.{MayGrow, GivesUp};
+    ghost use Rattle.dcsctp_send_outstanding.specs.Messages.{AtPlace};
+    ghost use Rattle.dcsctp_send_outstanding.specs.Progress.{is_unacknowledged};
+    ghost use Rattle.dcsctp_send_retransmission.specs.States.{RefusesUpAt, RefusesClosing, GivesUpAt, Closes, stage};
+    ghost use Rattle.dcsctp_send_retransmission.specs.GivingUp.{GivesUpDue, GivesUpIf};
+
+    // Is the message of the item at the place to be given up in place of being sent again?
+    pub(super) fn is_to_be_given_up(&self, place: usize, now: SocketTime) -> bool
+        requires { place < length self.now.outstanding.items }
+        ensures { AtPlace self.now.outstanding.items place (λ item. result ≡ is_due now self.now.partial_reliability item) }
+    {
+        self.partial_reliability && is_lost_for_good(self.outstanding.item(place), now)
+    }
+
+    // Gives up the message of the item at the place, with what waits of it in the send queue.
+    pub(super) fn give_up(
+        &mut self,
+        events: &mut Events,
+        queue: &mut SendQueue,
+        now: SocketTime,
+        place: usize,
+    ) -> Result<(), AllocError>
+        requires { place < length self.old.outstanding.items }
+        ensures ok { OnOk result (GivesUp place self.old self.new) }
+        ensures whole { OnOk result ((tsns : List ℕ) (room : ℕ) → GivesUpAt now place (stage self.old queue.old events.old tsns room) (stage self.new queue.new events.new tsns room)) }
+        ensures err { OnErr result ((self.new ≡ self.old) × (queue.new ≡ queue.old)) }
+        ensures front { OnErr result (RefusesUpAt place self.old.outstanding.items queue.old (contents events.old) (contents events.new)) }
+    {
+        let (start, end) = self.outstanding.message_places(place);
+        self.close_message(events, queue, now, end - 1)?;
+        self.outstanding.change_between(Change::Abandon, start, end);
+        Ok(())
+    }
+
+    // Tells that a message was given up whose last item is at the place; or drops what waits of it in the send
+    // queue, where it wasn't fully sent.
+    fn close_message(
+        &mut self,
+        events: &mut Events,
+        queue: &mut SendQueue,
+        now: SocketTime,
+        place: usize,
+    ) -> Result<(), AllocError>
+        requires { place < length self.old.outstanding.items }
+        ensures may { MayGrow self.old self.new }
+        ensures ok { AtPlace self.old.outstanding.items place (λ last. OnOk result ((tsns : List ℕ) (room : ℕ) → Closes now last (stage self.old queue.old events.old tsns room) (stage self.new queue.new events.new tsns room) last.fragment.is_end)) }
+        ensures err { OnErr result ((self.new ≡ self.old) × (queue.new ≡ queue.old)) }
+        ensures front { AtPlace self.old.outstanding.items place (λ last. OnErr result (RefusesClosing last queue.old (contents events.old) (contents events.new) last.fragment.is_end)) }
+    {
+        let last = &self.outstanding.item(place).fragment;
+        if last.is_end {
+            return tell_maybe_expired(events, last.lifecycle_id);
+        }
+        if !self.outstanding.has_room() {
+            return Ok(());
+        }
+        self.outstanding
+            .discard_rest(events, queue, now, place, self.reset_begun)
+    }
+
+    /// Is a FORWARD-TSN due at the moment `now`? That is so where partial reliability was negotiated and the
+    /// first item that is outstanding was given up. First what is lost is given up, as `get_chunks_to_send` does,
+    /// up to the first item that is awaited still.
+    ///
+    /// `Err`: memory was refused. Some messages may have been given up.
+    pub fn should_send_forward_tsn(
+        &mut self,
+        events: &mut Events,
+        queue: &mut SendQueue,
+        now: SocketTime,
+    ) -> Result<bool, AllocError>
+        ensures due { IfOk result (λ due. due ≡ (self.old.partial_reliability && is_first_abandoned self.new.outstanding.items)) }
+        ensures gives_up { GivesUpDue now (stage self.old queue.old events.old [] 0) (stage self.new queue.new events.new [] 0) result }
+    {
+        if !self.partial_reliability {
+            return Ok(false);
+        }
+        self.give_up_first(events, queue, now)?;
+        Ok(self.is_first_abandoned())
+    }
+
+    // Gives up what is due, from the first item on up to one that is awaited still.
+    fn give_up_first(
+        &mut self,
+        events: &mut Events,
+        queue: &mut SendQueue,
+        now: SocketTime,
+    ) -> Result<(), AllocError>
+        ensures { GivesUpDue now (stage self.old queue.old events.old [] 0) (stage self.new queue.new events.new [] 0) result }
+    {
+        for place in 0..self.outstanding.len() {
+            self.give_up_if_due(events, queue, now, place)?;
+            if self.is_awaited(place) {
+                return Ok(());
+            }
+        }
+        Ok(())
+    }
+
+    // Gives up the message of the item at the place, where it is to be.
+    fn give_up_if_due(
+        &mut self,
+        events: &mut Events,
+        queue: &mut SendQueue,
+        now: SocketTime,
+        place: usize,
+    ) -> Result<(), AllocError>
+        requires { place < length self.old.outstanding.items }
+        ensures { AtPlace self.old.outstanding.items place (λ item. GivesUpIf now place (stage self.old queue.old events.old [] 0) (stage self.new queue.new events.new [] 0) (is_due now self.old.partial_reliability item) result) }
+    {
+        if !self.is_to_be_given_up(place, now) {
+            return Ok(());
+        }
+        self.give_up(events, queue, now, place)
+    }
+
+    // Was the item at the place neither acknowledged nor given up?
+    fn is_awaited(&self, place: usize) -> bool
+        requires { place < length self.now.outstanding.items }
+        ensures { AtPlace self.now.outstanding.items place (λ item. result ≡ is_unacknowledged item.progress.state) }
+    {
+        let item = self.outstanding.item(place);
+        item.progress.state.is_unacknowledged()
+    }
+
+    /// Was the message of the first item given up?
+    pub fn is_first_abandoned(&self) -> bool
+        ensures { result ≡ is_first_abandoned self.now.outstanding.items }
+    {
+        if self.outstanding.len() == 0 {
+            return false;
+        }
+        let item = self.outstanding.item(0);
+        item.progress.state.is_abandoned()
+    }
+}
+
+// Was the item lost, and may it not be sent again?
+fn is_lost_for_good(item: &Item, now: SocketTime) -> bool
+    ensures { result ≡ is_due now true item.now }
+{
+    item.progress.state.is_marked()
+        && (is_used_up(
+            item.fragment.max_retransmissions,
+            item.progress.times_sent_again,
+        ) || is_over(item.fragment.expires_at, now))
+}
+
+// Was it sent again as often as it may be?
+fn is_used_up(limit: Option<u16>, times: u16) -> bool
+    ensures { result ≡ is_used_up limit times }
+{
+    match limit {
+        None => false,
+        Some(limit) => limit <= times,
+    }
+}
+
+// Is its lifetime over?
+fn is_over(moment: Option<SocketTime>, now: SocketTime) -> bool
+    ensures { result ≡ is_over moment now }
+{
+    match moment {
+        None => false,
+        Some(moment) => moment < now,
+    }
+}
+
+// Tells that the peer may have a message or not, where the message has a name.
+fn tell_maybe_expired(events: &mut Events, id: Option<LifecycleId>) -> Result<(), AllocError>
+    ensures ok { OnOk result (contents events.new ≡ contents events.old ++ maybe_expired id) }
+    ensures err { OnErr result (TellsFront (contents events.old) (maybe_expired id) (contents events.new)) }
+{
+    if let Some(id) = id {
+        events.add(SocketEvent::OnLifecycleMessageMaybeExpired(id))?;
+        events.add(SocketEvent::OnLifecycleEnd(id))?;
+    }
+    Ok(())
+}

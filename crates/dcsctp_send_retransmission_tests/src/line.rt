@@ -1,0 +1,344 @@
+//! A retransmission queue with the send queue in front of it, and the lines that they take.
+
+use crate::words::Words;
+use dcsctp_api::{Events, LifecycleId, Message, PpId, SendOptions, SocketTime, StreamId};
+use dcsctp_machine::Options;
+use dcsctp_send_queue::{DataToSend, SendQueue};
+use dcsctp_send_retransmission::{HandleSackResult, RetransmissionQueue};
+use dcsctp_wire::GapAckBlock;
+use std::alloc::Global;
+use std::fmt::Debug;
+use std::time::Duration;
+
+/// The two queues, what they told, the moment, how the next message is sent, and what the latest SACK did.
+pub struct Line {
+    alloc: Global,
+    queue: SendQueue,
+    sent: RetransmissionQueue,
+    events: Events,
+    now: u32,
+    how: SendOptions,
+    rtt: Option<Duration>,
+    is_new: bool,
+}
+
+// Written out: a derived one costs more to prove.
+impl Drop for Line {
+    fn drop(self) {
+        let Line {
+            alloc: _,
+            queue: _,
+            sent: _,
+            events: _,
+            now: _,
+            how: _,
+            rtt: _,
+            is_new: _,
+        } = self;
+    }
+}
+
+// The names of the numbers of the queue and of the latest SACK, in the order in which a line has them.
+static STATE: &[&str] = &[
+    "cwnd",
+    "rwnd",
+    "next-tsn",
+    "last-tsn",
+    "unacked",
+    "rtx-packets",
+    "rtx-bytes",
+    "can-send",
+    "has-fast",
+    "has-timer",
+    "expires",
+    "is-new",
+    "has-rtt",
+    "rtt",
+];
+
+// The names of the numbers of a chunk.
+static CHUNK: &[&str] = &["stream", "fsn", "size", "begins", "ends"];
+
+// The moment so many milliseconds after the first.
+fn at(millis: u32) -> SocketTime {
+    SocketTime::zero() + Duration::from_millis(millis as u64)
+}
+
+// The milliseconds of a moment. One between two of them has a number that no line has.
+fn millis(moment: SocketTime) -> u128 {
+    let nanos = moment.as_nanos();
+    if nanos % 1_000_000 == 0 {
+        nanos / 1_000_000
+    } else {
+        u128::MAX
+    }
+}
+
+// Options with packets of 1,000 bytes, four of them in flight at first, and 1 s as the timeout.
+fn options() -> Options {
+    let mut options = Options::default();
+    options.mtu = 1000;
+    options.cwnd_mtus_initial = 4;
+    options.cwnd_mtus_min = 4;
+    options.rto_initial = Duration::from_secs(1);
+    options
+}
+
+// The rest of a line is what `Debug` writes of this.
+fn is_shown(alloc: Global, words: &mut Words, found: &impl Debug) {
+    match format!(in alloc; "{found:?}") {
+        Err(_) => words.check_done(false),
+        Ok(shown) => words.check_rest(&shown),
+    }
+}
+
+// What a line expects of a chunk.
+fn shows(words: &mut Words, data: &DataToSend) {
+    words.check_all(
+        CHUNK,
+        &[
+            data.stream_id.0 as u128,
+            data.fsn as u128,
+            data.payload.len() as u128,
+            data.is_beginning as u128,
+            data.is_end as u128,
+        ],
+    );
+}
+
+impl Line {
+    /// Nothing waits, and the peer's window is this. What was negotiated: partial reliability, and
+    /// interleaving.
+    pub fn new(alloc: Global, first_tsn: u32, window: u32, negotiated: (bool, bool)) -> Line {
+        let options = options();
+        let (partial_reliability, interleaving) = negotiated;
+        let mut queue = SendQueue::new(alloc, &options);
+        queue.enable_message_interleaving(interleaving);
+        let sent = RetransmissionQueue::new(
+            alloc,
+            &options,
+            first_tsn,
+            window,
+            partial_reliability,
+            interleaving,
+        );
+        Line {
+            alloc,
+            queue,
+            sent,
+            events: Events::new(alloc),
+            now: 0,
+            how: SendOptions::default(),
+            rtt: None,
+            is_new: false,
+        }
+    }
+
+    // Begins anew.
+    fn begin(&mut self, words: &mut Words) {
+        let first_tsn = words.number();
+        let window = words.number();
+        let negotiated = (words.number() == 1, words.number() == 1);
+        *self = Line::new(self.alloc, first_tsn, window, negotiated);
+    }
+
+    // Adds a message of so many bytes, of one at least, in the way that was asked for.
+    fn add(&mut self, words: &mut Words, stream: StreamId, size: u32) {
+        let is_done = match vec![in self.alloc; 7u8; size as usize] {
+            Err(_) => false,
+            Ok(payload) => {
+                if payload.is_empty() {
+                    false
+                } else {
+                    let message = Message::new(stream, PpId(51), payload);
+                    self.queue.add(at(0), message, &self.how).is_ok()
+                }
+            }
+        };
+        words.check_done(is_done);
+        self.how = SendOptions::default();
+    }
+
+    // Adds so many messages of so many bytes to stream 1.
+    fn add_many(&mut self, words: &mut Words) {
+        let count = words.number();
+        let size = words.number();
+        for _ in 0..count {
+            self.add(words, StreamId(1), size);
+        }
+    }
+
+    // Which TSNs go into a packet of so many bytes.
+    fn send(&mut self, words: &mut Words) {
+        let bytes = words.number() as usize;
+        let moment = at(self.now);
+        match self
+            .sent
+            .get_chunks_to_send(&mut self.events, &mut self.queue, moment, bytes)
+        {
+            Err(_) => words.check_done(false),
+            Ok(tsns) => is_shown(self.alloc, words, &tsns),
+        }
+    }
+
+    // The same, as a fast retransmission.
+    fn send_fast(&mut self, words: &mut Words) {
+        let bytes = words.number() as usize;
+        match self
+            .sent
+            .get_chunks_for_fast_retransmit(at(self.now), bytes)
+        {
+            Err(_) => words.check_done(false),
+            Ok(tsns) => is_shown(self.alloc, words, &tsns),
+        }
+    }
+
+    // Is a SACK with this cumulative TSN and window valid? What it measured is kept.
+    fn sack(&mut self, words: &mut Words, blocks: &[GapAckBlock]) {
+        let cumulative = words.number();
+        let window = words.number();
+        let moment = at(self.now);
+        match self
+            .sent
+            .handle_sack(&mut self.events, moment, cumulative, window, blocks)
+        {
+            Err(_) => words.check_done(false),
+            Ok(HandleSackResult::Invalid) => words.check("valid", 0),
+            Ok(
+                HandleSackResult::Valid {
+                    rtt,
+                    reset_error_counter,
+                },
+            ) => {
+                self.rtt = rtt;
+                self.is_new = reset_error_counter;
+                words.check("valid", 1);
+            }
+        }
+    }
+
+    // Is a FORWARD-TSN due?
+    fn forward(&mut self, words: &mut Words) {
+        let moment = at(self.now);
+        match self
+            .sent
+            .should_send_forward_tsn(&mut self.events, &mut self.queue, moment)
+        {
+            Err(_) => words.check_done(false),
+            Ok(is_due) => words.check("due", is_due as u128),
+        }
+    }
+
+    // What a FORWARD-TSN says, as `Debug` writes it.
+    fn skip(&mut self, words: &mut Words) {
+        match self.sent.create_forward_tsn() {
+            Err(_) => words.check_done(false),
+            Ok(chunk) => is_shown(self.alloc, words, &chunk),
+        }
+    }
+
+    // How a FORWARD-TSN writes what it skips.
+    fn skip_bytes(&mut self, words: &mut Words) {
+        match self.sent.create_forward_tsn() {
+            Err(_) => words.check_done(false),
+            Ok(chunk) => match chunk.skipped_bytes(self.alloc) {
+                Err(_) => words.check_done(false),
+                Ok(bytes) => is_shown(self.alloc, words, &bytes),
+            },
+        }
+    }
+
+    // The next event, as `Debug` writes it, or nothing.
+    fn tells(&mut self, words: &mut Words) {
+        match self.events.next_event() {
+            None => words.check_rest(""),
+            Some(event) => is_shown(self.alloc, words, &event),
+        }
+    }
+
+    // What a line expects of the chunk of a TSN; its size is 0 where there is none.
+    fn chunk(&self, words: &mut Words) {
+        match self.sent.chunk(words.number()) {
+            None => words.check("size", 0),
+            Some(data) => shows(words, data),
+        }
+    }
+
+    // What a line expects of the queue and of the latest SACK.
+    fn state(&self, words: &mut Words) {
+        let deadline = self.sent.next_timeout();
+        words.check_all(
+            STATE,
+            &[
+                self.sent.cwnd() as u128,
+                self.sent.rwnd() as u128,
+                self.sent.next_tsn() as u128,
+                self.sent.last_assigned_tsn() as u128,
+                self.sent.unacked_items() as u128,
+                self.sent.rtx_packets_count() as u128,
+                self.sent.rtx_bytes_count() as u128,
+                self.sent.can_send_data() as u128,
+                self.sent.has_data_to_be_fast_retransmitted() as u128,
+                deadline.is_some() as u128,
+                millis(deadline.unwrap_or(SocketTime::zero())),
+                self.is_new as u128,
+                self.rtt.is_some() as u128,
+                self.rtt.unwrap_or(Duration::ZERO).as_nanos(),
+            ],
+        );
+    }
+
+    // Takes a line that begins with a number.
+    fn take_number(&mut self, words: &mut Words, keyword: &str) {
+        match keyword {
+            "now" => self.now = words.number(),
+            "name" => self.how.lifecycle_id = LifecycleId::new(words.number() as u64),
+            "lifetime" => self.how.lifetime = Some(Duration::from_millis(words.number() as u64)),
+            "times" => self.how.max_retransmissions = Some(words.short()),
+            "add" => {
+                let stream = StreamId(words.short());
+                let size = words.number();
+                self.add(words, stream, size);
+            }
+            "add-many" => self.add_many(words),
+            "sack-block" => {
+                let start = words.short();
+                let end = words.short();
+                self.sack(words, &[GapAckBlock { start, end }]);
+            }
+            "chunk" => self.chunk(words),
+            _ => words.check_done(false),
+        }
+    }
+
+    /// Takes a line.
+    pub fn take(&mut self, words: &mut Words) {
+        match words.next() {
+            "" => {}
+            "#" => words.name_test(),
+            "begin" => self.begin(words),
+            "send" => self.send(words),
+            "send-fast" => self.send_fast(words),
+            "sack" => self.sack(words, &[]),
+            "state" => self.state(words),
+            "tells" => self.tells(words),
+            keyword => self.take_forward(words, keyword),
+        }
+    }
+
+    // Takes a line on what is given up, or on the timer.
+    fn take_forward(&mut self, words: &mut Words, keyword: &str) {
+        match keyword {
+            "time-out" => {
+                let is_over = self.sent.handle_timeout(at(self.now));
+                words.check("is-over", is_over as u128);
+            }
+            "forward" => self.forward(words),
+            "skip" => self.skip(words),
+            "skip-bytes" => self.skip_bytes(words),
+            "begin-reset" => self.sent.begin_reset_streams(),
+            "unordered" => self.how.unordered = true,
+            _ => self.take_number(words, keyword),
+        }
+    }
+}

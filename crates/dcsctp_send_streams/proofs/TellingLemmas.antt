@@ -1,0 +1,19 @@
+-- Lemmas on a front part of what is told.
+use Rattle.std.proofs.Common.{◌≡◌, ◌∙◌, ℕ, List, ◌++◌, append_assoc, sym, ap}
+use Rattle.dcsctp_machine.specs.Event.{Event}
+use Rattle.dcsctp_send_streams.specs.Telling.{TellsFront}
+
+abbrev Events : Type 0
+Events = List (Event (List ℕ))
+
+-- Something was told before, and more was to follow.
+pub front_within : (before told events whole part later after : Events) → events ≡ before ++ told → whole ≡ told ++ (part ++ later) → TellsFront events part after → TellsFront before whole after
+front_within before told events whole part later after is parts tells =
+    record {
+      front = told ++ tells.front;
+      rest = tells.rest ++ later;
+      parts = parts
+          ∙ (ap (λ (es : Events). told ++ es) (ap (λ (es : Events). es ++ later) tells.parts ∙ append_assoc tells.front tells.rest later)
+          ∙ sym (append_assoc told tells.front (tells.rest ++ later)));
+      told = tells.told ∙ (ap (λ (es : Events). es ++ tells.front) is ∙ append_assoc before told tells.front);
+    }

@@ -1,0 +1,9 @@
+use Rattle.std.proofs.Common.{◌≡◌, ℕ, List, ◌++◌, drop}
+use Rattle.dcsctp_machine.specs.Event.{Event}
+use Rattle.dcsctp_send_streams.specs.Telling.{contents, expiries}
+use Rattle.dcsctp_send_streams.proofs.stream.OutgoingStream.tell_dropped.Given as goal
+
+abbrev pub invariant-loop-place : goal.invariant-loop-place
+invariant-loop-place l =
+    (told : List (Event (List ℕ))) × (contents l.events ≡ contents l.initial.events ++ told)
+    × (expiries (drop l.kept l.self-inside.messages.items) ≡ told ++ expiries (drop l.place l.self-inside.messages.items))

@@ -1,0 +1,13 @@
+use Rattle.std.proofs.Common.{◌<◌, length}
+use Rattle.dcsctp_send_streams.proofs.CountLemmas.{counted_same}
+use Rattle.dcsctp_send_streams.proofs.StreamLemmas.{ranked_read_same, counted-id, counted-turn, counted-pausing}
+use Rattle.dcsctp_send_streams.proofs.streams.Streams.count_begun.Goals as goal
+
+pub invariant_of-self : goal.invariant_of-self
+invariant_of-self c =
+    let lt : c.args.place < length c.self.inside.items.items = rw c.self.view_is c.requires in
+    record {
+      ranked = ranked_read_same _ _ _ c.args.place _ _ c.self.invariant.ranked lt c.index_mut-stream.ensures.value
+          (rw c.count_begun.ensures (counted-id _ _ _)) (rw c.count_begun.ensures (counted-turn _ _ _));
+      counted = counted_same _ _ c.args.place _ _ c.self.invariant.counted lt c.index_mut-stream.ensures.value (rw c.count_begun.ensures (counted-pausing _ _ _));
+    }

@@ -1,0 +1,41 @@
+-- The order in which streams are asked for a message: by priority, the greatest first, then by number, the
+-- least first.
+use Rattle.std.specs.Prelude.{◌≡◌, ℕ, ◌<◌, ◌≤◌, slice_index_or, ◌==◌, ◌&&◌, ◌||◌, nat_lt, Bool, true, false, Option, None, Some, List, [], ◌∷◌, length, if◌then◌else◌}
+use Rattle.dcsctp_send_streams.specs.declared.turns.Turn.{Turn}
+
+-- Is the first asked after the other?
+abbrev pub comes_after : Turn → Turn → Bool
+comes_after first other =
+    nat_lt first.priority other.priority || (first.priority == other.priority && nat_lt other.stream_id.0 first.stream_id.0)
+
+-- the turns with one more; the last is the first to be asked
+abbrev pub with_turn : Turn → List Turn → List Turn
+with_turn turn [] = turn ∷ []
+with_turn turn (first ∷ turns) = if comes_after first turn then first ∷ with_turn turn turns else turn ∷ first ∷ turns
+
+-- none of these is asked after this one
+abbrev pub NoneAfter : Turn → List Turn → Type 0
+NoneAfter turn [] = Unit {0}
+NoneAfter turn (other ∷ turns) = (comes_after other turn ≡ false) × NoneAfter turn turns
+
+-- The turns stand in order, the last to be asked first.
+abbrev pub IsOrdered : List Turn → Type 0
+IsOrdered [] = Unit {0}
+IsOrdered (turn ∷ turns) = NoneAfter turn turns × IsOrdered turns
+
+-- Below this place the turns are asked after this one, and from it on they are not.
+pub record IsPlace (turns : List Turn) (turn : Turn) (place : ℕ) : Type 0 where
+  pub bound : place ≤ length turns
+  pub below : (k : ℕ) → k < place → comes_after (slice_index_or turns k turn) turn ≡ true
+  pub above : (k : ℕ) → place ≤ k → k < length turns → comes_after (slice_index_or turns k turn) turn ≡ false
+
+abbrev pub with_turns : Option Turn → List Turn → List Turn
+with_turns None turns = turns
+with_turns (Some turn) turns = with_turn turn turns
+
+-- These are some turns in order with this one, and there is room for another beside them.
+pub record Holds (turns : List Turn) (turn : Option Turn) (room : ℕ) : Type 0 where
+  pub others : List Turn
+  pub are : turns ≡ with_turns turn others
+  pub ordered : IsOrdered others
+  pub has_room : length others < room

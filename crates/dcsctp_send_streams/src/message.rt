@@ -1,0 +1,261 @@
+//! A message that waits.
+
+ghost use Rattle.std.specs.Prelude.{◌≡◌, ◌≤◌, drop, vec_len};
+
+use crate::data::DataToSend;
+use dcsctp_api::{
+    Events, LifecycleId, Message, PpId, SendOptions, SocketEvent, SocketTime, StreamId,
+};
+use std::alloc::{AllocError, Global};
+use std::marker::Model;
+
+// The longest payload whose rest is moved to its front and not copied. It holds this many bytes at most for its
+// last fragment, until that is acknowledged.
+const LONGEST_MOVED: usize = 2048;
+
+/// How far the message under way has come. It was begun, and isn't fully sent.
+#[derive(Clone, Copy, Debug)]
+pub struct UnderWay {
+    pub stream_id: StreamId,
+    pub ssn: u16,
+    pub mid: u32,
+    pub next_fsn: u32,
+
+    /// How many of its bytes went out.
+    pub sent: usize,
+}
+
+/// A message that waits whole, or of which some fragments went out. Its payload isn't empty.
+///
+/// A contract sees its payload as the list of its bytes, and the moment in nanoseconds.
+#[derive(Debug, Drop)]
+pub struct QueuedMessage {
+    message_id: u64,
+    ppid: PpId,
+    is_unordered: bool,
+    payload: Vec<u8>,
+    max_retransmissions: Option<u16>,
+
+    // The last moment at which it may be begun; none: it never expires.
+    expires_at: Option<SocketTime>,
+
+    lifecycle_id: Option<LifecycleId>,
+}
+
+impl Model for QueuedMessage {
+    ghost use Rattle.std.specs.Prelude.{◌<◌, vec_len};
+    ghost use Rattle.std.specs.Option.{option_map};
+    ghost use Rattle.dcsctp_machine.specs.Ids.{lifecycle_number};
+    ghost use Rattle.dcsctp_send_streams.specs.Waiting.{Waiting};
+
+    ghost Value = { Waiting };
+
+    ghost view = { λ message. record {
+      message_id = message.message_id;
+      ppid = message.ppid.0;
+      is_unordered = message.is_unordered;
+      payload = message.payload.items;
+      max_retransmissions = message.max_retransmissions;
+      expires_at = message.expires_at;
+      lifecycle = option_map lifecycle_number message.lifecycle_id;
+    } };
+
+    ghost invariant = { λ message. 0 < vec_len message.payload };
+}
+
+impl QueuedMessage {
+    ghost use Rattle.std.specs.Prelude.{◌≡◌, ◌+◌, ◌-◌, ◌^◌, ◌<◌, ◌≤◌, ◌++◌, min, length, vec_len, IfOk, OnOk, OnErr};
+    ghost use Rattle.dcsctp_send_streams.specs.Telling.{contents, expiry_events, sent_events, TellsFront};
+    ghost use Rattle.std.specs.Duration.{as_nanos, max_nanos};
+    ghost use Rattle.std.specs.Option.{option_map};
+    ghost use Rattle.dcsctp_machine.specs.Ids.{lifecycle_number};
+    ghost use Rattle.dcsctp_send_streams.specs.Waiting.{is_expired};
+    ghost use Rattle.dcsctp_send_streams.specs.Fragment.{fragment_of, fragment, CopiesRest};
+
+    /// The message that is added at the moment `now`.
+    pub fn new(
+        message_id: u64,
+        now: SocketTime,
+        message: Message,
+        options: &SendOptions,
+    ) -> QueuedMessage
+        requires { 0 < vec_len message.payload }
+        ensures { result ≡ record {
+          message_id = message_id;
+          ppid = message.ppid.0;
+          is_unordered = options.now.unordered;
+          payload = message.payload.items;
+          max_retransmissions = options.now.max_retransmissions;
+          expires_at = option_map (λ lifetime. min (now + as_nanos lifetime) max_nanos) options.now.lifetime;
+          lifecycle = option_map lifecycle_number options.now.lifecycle_id;
+        } }
+    {
+        QueuedMessage {
+            message_id,
+            ppid: message.ppid,
+            is_unordered: options.unordered,
+            payload: message.payload,
+            max_retransmissions: options.max_retransmissions,
+            expires_at: options.lifetime.map(|lifetime| now + lifetime),
+            lifecycle_id: options.lifecycle_id,
+        }
+    }
+
+    /// The bytes of its payload, of which there is one at least.
+    pub fn size(&self) -> usize
+        ensures value { result ≡ length self.now.payload }
+        ensures some { 0 < result }
+    {
+        self.payload.len()
+    }
+
+    /// Is the message too old to be begun at the moment `now`?
+    pub fn is_expired(&self, now: SocketTime) -> bool
+        ensures { result ≡ is_expired now self.now }
+    {
+        match self.expires_at {
+            None => false,
+            Some(moment) => moment < now,
+        }
+    }
+
+    /// Its name.
+    pub fn message_id(&self) -> u64
+        ensures { result ≡ self.now.message_id }
+    {
+        self.message_id
+    }
+
+    /// May the peer be given it out of order?
+    pub fn is_unordered(&self) -> bool
+        ensures { result ≡ self.now.is_unordered }
+    {
+        self.is_unordered
+    }
+
+    /// The name under which events tell how it fares.
+    pub fn lifecycle_id(&self) -> Option<LifecycleId>
+        ensures { option_map lifecycle_number result ≡ self.now.lifecycle }
+    {
+        self.lifecycle_id
+    }
+
+    /// Tells that it was given up before it was fully sent, where it has a name.
+    pub fn tell_expired(&self, events: &mut Events) -> Result<(), AllocError>
+        ensures ok { OnOk result (contents events.new ≡ contents events.old ++ expiry_events self.now) }
+        ensures err { OnErr result (TellsFront (contents events.old) (expiry_events self.now) (contents events.new)) }
+    {
+        if let Some(id) = self.lifecycle_id {
+            events.add(SocketEvent::OnLifecycleMessageExpired(id))?;
+            events.add(SocketEvent::OnLifecycleEnd(id))?;
+        }
+        Ok(())
+    }
+
+    /// Tells that it was fully sent, where it has a name.
+    pub fn tell_fully_sent(&self, events: &mut Events) -> Result<(), AllocError>
+        ensures ok { OnOk result (contents events.new ≡ contents events.old ++ sent_events self.now) }
+        ensures err { OnErr result (TellsFront (contents events.old) (sent_events self.now) (contents events.new)) }
+    {
+        if let Some(id) = self.lifecycle_id {
+            events.add(SocketEvent::OnLifecycleMessageFullySent(id))?;
+        }
+        Ok(())
+    }
+
+    /// The next fragment, of so many bytes, which are copied. It isn't the last.
+    #[inline(always)]
+    pub fn part(
+        &self,
+        alloc: Global,
+        under_way: UnderWay,
+        size: usize,
+    ) -> Result<DataToSend, AllocError>
+        requires { under_way.sent + size < length self.now.payload }
+        ensures ok { IfOk result (λ part. fragment_of part ≡ fragment under_way self.now size) }
+        ensures fits { under_way.sent + size < 2 ^ 64 }
+    {
+        let rest = &self.payload[under_way.sent..];
+        let payload = Vec::from_slice(alloc, &rest[..size])?;
+        Ok(DataToSend {
+            message_id: self.message_id,
+            stream_id: under_way.stream_id,
+            ssn: under_way.ssn,
+            mid: under_way.mid,
+            fsn: under_way.next_fsn,
+            ppid: self.ppid,
+            is_unordered: self.is_unordered,
+            is_beginning: under_way.sent == 0,
+            is_end: false,
+            payload,
+            max_retransmissions: self.max_retransmissions,
+            expires_at: self.expires_at,
+            lifecycle_id: self.lifecycle_id,
+        })
+    }
+
+    /// What is left of its payload, copied. None where nothing went out, or the payload is short: then
+    /// `last_part` takes the rest from the payload itself.
+    #[inline(always)]
+    pub fn copied_rest(&self, alloc: Global, sent: usize) -> Result<Option<Vec<u8>>, AllocError>
+        requires { sent ≤ length self.now.payload }
+        ensures { IfOk result (λ rest. CopiesRest sent self.now.payload rest) }
+    {
+        if sent == 0 || self.payload.len() <= LONGEST_MOVED {
+            return Ok(None);
+        }
+        let rest = Vec::from_slice(alloc, &self.payload[sent..])?;
+        Ok(Some(rest))
+    }
+
+    /// Its last fragment, with what `copied_rest` answered.
+    #[inline(always)]
+    pub fn last_part(self, under_way: UnderWay, rest: Option<Vec<u8>>) -> DataToSend
+        requires rest { CopiesRest under_way.sent self.payload rest }
+        requires within { under_way.sent ≤ length self.payload }
+        ensures { fragment_of result ≡ fragment under_way self (length self.payload - under_way.sent) }
+    {
+        let QueuedMessage {
+            message_id,
+            ppid,
+            is_unordered,
+            payload,
+            max_retransmissions,
+            expires_at,
+            lifecycle_id,
+        } = self;
+        let payload = match rest {
+            Some(rest) => rest,
+            None => without_first(payload, under_way.sent),
+        };
+        DataToSend {
+            message_id,
+            stream_id: under_way.stream_id,
+            ssn: under_way.ssn,
+            mid: under_way.mid,
+            fsn: under_way.next_fsn,
+            ppid,
+            is_unordered,
+            is_beginning: under_way.sent == 0,
+            is_end: true,
+            payload,
+            max_retransmissions,
+            expires_at,
+            lifecycle_id,
+        }
+    }
+}
+
+// What is left of a payload without so many bytes at its front. It keeps its room.
+fn without_first(payload: Vec<u8>, sent: usize) -> Vec<u8>
+    requires { sent ≤ vec_len payload }
+    ensures { result.items ≡ drop sent payload.items }
+{
+    let mut payload = payload;
+    if sent > 0 {
+        let left = payload.len() - sent;
+        payload.copy_within(sent.., 0);
+        payload.truncate(left);
+    }
+    payload
+}

@@ -1,0 +1,319 @@
+//! What waits on one stream.
+
+use crate::message::QueuedMessage;
+use crate::turns::Turn;
+use dcsctp_api::{Events, StreamId};
+use std::alloc::{AllocError, Global};
+use std::collections::VecDeque;
+use std::marker::Model;
+
+// For how many messages a stream keeps room.
+const KEPT_ROOM: usize = 8;
+
+/// May a stream begin another message?
+#[derive(Clone, Copy, Debug, PartialEq, Eq)]
+pub enum Pause {
+    /// It may.
+    Open,
+
+    /// It is to be reset (RFC 6525, section 5.1.2), as soon as none of its messages is under way.
+    Pausing,
+
+    /// It was handed out to be reset, and waits for the outcome.
+    HandedOut,
+}
+
+/// A stream that messages leave by.
+#[derive(Debug, Drop)]
+pub struct OutgoingStream {
+    id: StreamId,
+    priority: u16,
+    threshold: usize,
+
+    // The payload bytes that were neither produced nor dropped.
+    amount: usize,
+
+    // The numbers of the messages that are begun next.
+    next_ssn: u16,
+    next_mid: u32,
+    next_unordered_mid: u32,
+
+    pause: Pause,
+
+    // The oldest first. The message that is under way stays at the front until it is fully sent.
+    messages: VecDeque<QueuedMessage>,
+}
+
+impl Model for OutgoingStream {
+    ghost use Rattle.dcsctp_send_streams.specs.Waiting.{Stream};
+
+    ghost Value = { Stream };
+
+    ghost view = { λ stream. record {
+      id = stream.id.0;
+      priority = stream.priority;
+      threshold = stream.threshold;
+      amount = stream.amount;
+      next_ssn = stream.next_ssn;
+      next_mid = stream.next_mid;
+      next_unordered_mid = stream.next_unordered_mid;
+      pause = stream.pause;
+      messages = stream.messages.items;
+    } };
+}
+
+impl OutgoingStream {
+    ghost use Rattle.std.specs.Prelude.{◌≡◌, ◌-◌, ◌^◌, ◌++◌, min, drop, OnOk, OnErr, if◌then◌else◌};
+    ghost use Rattle.dcsctp_send_streams.specs.Telling.{contents, TellsFront, expiries, size_of};
+    ghost use Rattle.std.specs.Option.{option_copied};
+    ghost use Rattle.dcsctp_send_streams.specs.Waiting.{unused, is_pausing, front_of, with_message, without_front, paused, resumed, handed_out, begun_anew, raised, next_numbers, counted, committed, rolled_back};
+    ghost use Rattle.dcsctp_send_streams.specs.Ranking.{turn_of};
+
+    /// A stream that was never used. It takes no memory.
+    pub fn new(alloc: Global, id: StreamId, priority: u16, threshold: usize) -> OutgoingStream
+        ensures { result ≡ unused id.0 priority threshold }
+    {
+        OutgoingStream {
+            id,
+            priority,
+            threshold,
+            amount: 0,
+            next_ssn: 0,
+            next_mid: 0,
+            next_unordered_mid: 0,
+            pause: Pause::Open,
+            messages: VecDeque::new(alloc),
+        }
+    }
+
+    /// Its number.
+    pub fn id(&self) -> StreamId
+        ensures { result.0 ≡ self.now.id }
+    {
+        self.id
+    }
+
+    /// Its priority.
+    pub fn priority(&self) -> u16
+        ensures { result ≡ self.now.priority }
+    {
+        self.priority
+    }
+
+    /// Its threshold in bytes.
+    pub fn threshold(&self) -> usize
+        ensures { result ≡ self.now.threshold }
+    {
+        self.threshold
+    }
+
+    /// The payload bytes that were neither produced nor dropped.
+    pub fn amount(&self) -> usize
+        ensures { result ≡ self.now.amount }
+    {
+        self.amount
+    }
+
+    /// May it begin another message?
+    pub fn pause_state(&self) -> Pause
+        ensures { result ≡ self.now.pause }
+    {
+        self.pause
+    }
+
+    /// One where it is to be reset and wasn't handed out yet, else none.
+    pub fn count_pausing(&self) -> usize
+        ensures { result ≡ if is_pausing self.now.pause then 1 else 0 }
+    {
+        match self.pause {
+            Pause::Pausing => 1,
+            Pause::Open | Pause::HandedOut => 0,
+        }
+    }
+
+    /// The stream's turn; none where it is paused or has no message.
+    pub fn turn(&self) -> Option<Turn>
+        ensures { result ≡ turn_of self.now }
+    {
+        match self.pause {
+            Pause::Open => {
+                if self.messages.is_empty() {
+                    return None;
+                }
+                Some(Turn {
+                    priority: self.priority,
+                    stream_id: self.id,
+                })
+            }
+            Pause::Pausing | Pause::HandedOut => None,
+        }
+    }
+
+    /// Its oldest message; none where it has none.
+    pub fn front(&self) -> Option<&QueuedMessage>
+        ensures { option_copied result ≡ front_of self.now.messages }
+    {
+        self.messages.front()
+    }
+
+    /// The payload bytes of its messages but for so many of the oldest; at most the greatest `usize`.
+    pub fn size_from(&self, kept: usize) -> usize
+        ensures { result ≡ min (size_of (drop kept self.now.messages)) (2 ^ 64 - 1) }
+    {
+        let mut size = 0usize;
+        for place in kept..self.messages.len() {
+            let message = &self.messages[place];
+            size = size.saturating_add(message.size());
+        }
+        size
+    }
+
+    /// Tells that its messages, but for so many of the oldest, are given up.
+    pub fn tell_dropped(&self, events: &mut Events, kept: usize) -> Result<(), AllocError>
+        ensures ok { OnOk result (contents events.new ≡ contents events.old ++ expiries (drop kept self.now.messages)) }
+        ensures err { OnErr result (TellsFront (contents events.old) (expiries (drop kept self.now.messages)) (contents events.new)) }
+    {
+        for place in kept..self.messages.len() {
+            let message = &self.messages[place];
+            message.tell_expired(events)?;
+        }
+        Ok(())
+    }
+
+    /// Adds a message behind the others. If there is no memory for it, nothing changes.
+    pub fn push(&mut self, message: QueuedMessage) -> Result<(), AllocError>
+        ensures ok { OnOk result (self.new ≡ with_message message self.old) }
+        ensures err { OnErr result (self.new ≡ self.old) }
+    {
+        let size = message.size();
+        self.messages.push_back(message)?;
+        self.amount = self.amount.saturating_add(size);
+        Ok(())
+    }
+
+    /// Takes its oldest message.
+    #[inline(always)]
+    pub fn pop(&mut self) -> Option<QueuedMessage>
+        ensures left { self.new ≡ without_front self.old }
+        ensures result { result ≡ front_of self.old.messages }
+    {
+        let message = self.messages.pop_front();
+        self.give_room_back();
+        message
+    }
+
+    // Gives half of the room for messages back where less than a quarter of it is in use.
+    fn give_room_back(&mut self)
+        ensures { self.new ≡ self.old }
+    {
+        let room = self.messages.capacity();
+        if KEPT_ROOM < room && self.messages.len() < room / 4 {
+            self.messages.shrink_to(room / 2);
+        }
+    }
+
+    /// Keeps only so many of its messages, the oldest, and pauses it.
+    pub fn pause(&mut self, kept: usize)
+        ensures { self.new ≡ paused kept self.old }
+    {
+        self.messages.truncate(kept);
+        self.pause = Pause::Pausing;
+    }
+
+    /// Ends its pause.
+    pub fn resume(&mut self)
+        ensures { self.new ≡ resumed self.old }
+    {
+        self.pause = Pause::Open;
+    }
+
+    /// It was reset, if it was handed out: its pause ends, and its messages are counted from 0 again.
+    pub fn commit(&mut self)
+        ensures { self.new ≡ committed self.old }
+    {
+        match self.pause {
+            Pause::Open | Pause::Pausing => {}
+            Pause::HandedOut => self.begin_anew(),
+        }
+    }
+
+    /// It was not reset, if it was handed out: its pause ends.
+    pub fn roll_back(&mut self)
+        ensures { self.new ≡ rolled_back self.old }
+    {
+        match self.pause {
+            Pause::Open | Pause::Pausing => {}
+            Pause::HandedOut => self.resume(),
+        }
+    }
+
+    /// Hands it out to be reset.
+    pub fn hand_out(&mut self)
+        ensures { self.new ≡ handed_out self.old }
+    {
+        self.pause = Pause::HandedOut;
+    }
+
+    /// Ends its pause, and counts its messages from 0 again.
+    pub fn begin_anew(&mut self)
+        ensures { self.new ≡ begun_anew self.old }
+    {
+        self.next_ssn = 0;
+        self.next_mid = 0;
+        self.next_unordered_mid = 0;
+        self.pause = Pause::Open;
+    }
+
+    /// Gives it a priority.
+    pub fn set_priority(&mut self, priority: u16)
+        ensures { self.new ≡ record self.old { priority = priority } }
+    {
+        self.priority = priority;
+    }
+
+    /// Gives it a threshold.
+    pub fn set_threshold(&mut self, threshold: usize)
+        ensures { self.new ≡ record self.old { threshold = threshold } }
+    {
+        self.threshold = threshold;
+    }
+
+    /// Takes so much away from its amount.
+    pub fn reduce(&mut self, size: usize)
+        ensures { self.new ≡ record self.old { amount = self.old.amount - size } }
+    {
+        self.amount = self.amount.saturating_sub(size);
+    }
+
+    /// Adds so much to its amount, which stops at the greatest `usize`.
+    pub fn raise(&mut self, size: usize)
+        ensures { self.new ≡ raised size self.old }
+    {
+        self.amount = self.amount.saturating_add(size);
+    }
+
+    /// The numbers that an ordered or unordered message has that is begun next: SSN and MID. One of the two
+    /// is sent, by whether messages are interleaved.
+    pub fn next_numbers(&self, is_unordered: bool) -> (u16, u32)
+        ensures { result ≡ next_numbers is_unordered self.now }
+    {
+        if is_unordered {
+            (0, self.next_unordered_mid)
+        } else {
+            (self.next_ssn, self.next_mid)
+        }
+    }
+
+    /// Counts a message that is begun: with interleaving its MID, else its SSN, which an unordered message
+    /// doesn't have (RFC 8260, section 2.1).
+    pub fn count_begun(&mut self, is_interleaved: bool, is_unordered: bool)
+        ensures { self.new ≡ counted is_interleaved is_unordered self.old }
+    {
+        match (is_interleaved, is_unordered) {
+            (false, false) => self.next_ssn = self.next_ssn.wrapping_add(1),
+            (false, true) => {}
+            (true, false) => self.next_mid = self.next_mid.wrapping_add(1),
+            (true, true) => self.next_unordered_mid = self.next_unordered_mid.wrapping_add(1),
+        }
+    }
+}

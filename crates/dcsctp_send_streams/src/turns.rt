@@ -1,0 +1,87 @@
+//! The order in which streams are asked for a message: by priority, the greatest first, then by number,
+//! the least first.
+
+ghost use Rattle.std.specs.Prelude.{◌≡◌, ◌+◌, ◌<◌, List, Some, vec_len, vec_capacity};
+ghost use Rattle.dcsctp_send_streams.specs.declared.turns.Turn.{Turn};
+ghost use Rattle.dcsctp_send_streams.specs.Turns.{comes_after, with_turn, IsOrdered, IsPlace, with_turns, Holds};
+
+use dcsctp_api::StreamId;
+
+/// The place of a stream in the order.
+#[derive(Clone, Copy, Debug, PartialEq, Eq)]
+pub struct Turn {
+    pub priority: u16,
+    pub stream_id: StreamId,
+}
+
+impl Turn {
+    /// Is this stream asked after the other?
+    pub fn comes_after(self, other: Turn) -> bool
+        ensures { result ≡ comes_after self other }
+    {
+        self.priority < other.priority
+            || (self.priority == other.priority && other.stream_id.0 < self.stream_id.0)
+    }
+}
+
+// How many of the turns, which stand in order, come after the given one.
+fn place_of(turns: &[Turn], turn: Turn) -> usize
+    requires { IsOrdered turns.now }
+    ensures { IsPlace turns.now turn result }
+{
+    let mut low = 0;
+    let mut high = turns.len();
+    'halving: while low < high {
+        let middle = low + (high - low) / 2;
+        if turns[middle].comes_after(turn) {
+            low = middle + 1;
+        } else {
+            high = middle;
+        }
+    }
+    low
+}
+
+// Adds a turn, for which there is room.
+fn add_turn(turns: &mut Vec<Turn>, turn: Turn)
+    requires ordered { IsOrdered turns.old.items }
+    requires room { vec_len turns.old < vec_capacity turns.old }
+    ensures turns { turns.new.items ≡ with_turn turn turns.old.items }
+    ensures capacity { vec_capacity turns.new ≡ vec_capacity turns.old }
+{
+    let place = place_of(turns, turn);
+    turns.insert(place, turn).unwrap();
+}
+
+// Takes a turn out.
+fn remove_turn(turns: &mut Vec<Turn>, turn: Turn)
+    requires { Holds turns.old.items (Some turn) (vec_capacity turns.old) }
+    ensures turns { (others : List Turn) → turns.old.items ≡ with_turn turn others → turns.new.items ≡ others }
+    ensures capacity { vec_capacity turns.new ≡ vec_capacity turns.old }
+{
+    let place = place_of(turns, turn);
+    turns.remove(place);
+}
+
+/// Puts one turn in the place of another, where there are any.
+pub fn move_turn(turns: &mut Vec<Turn>, before: Option<Turn>, after: Option<Turn>)
+    requires { Holds turns.old.items before (vec_capacity turns.old) }
+    ensures turns { (others : List Turn) → turns.old.items ≡ with_turns before others → turns.new.items ≡ with_turns after others }
+    ensures capacity { vec_capacity turns.new ≡ vec_capacity turns.old }
+{
+    match before {
+        None => match after {
+            None => {}
+            Some(new) => add_turn(turns, new),
+        },
+        Some(old) => match after {
+            None => remove_turn(turns, old),
+            Some(new) => {
+                if old != new {
+                    remove_turn(turns, old);
+                    add_turn(turns, new);
+                }
+            }
+        },
+    }
+}

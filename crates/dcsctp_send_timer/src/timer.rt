@@ -1,0 +1,208 @@
+//! A timer that is started, stopped, asked for its deadline and told that a moment has come. It doesn't
+//! read a clock: the caller hands in the moment.
+
+ghost use Rattle.std.specs.Prelude.{◌≡◌};
+ghost use Rattle.std.specs.Duration.{as_nanos};
+ghost use Rattle.std.specs.Option.{option_map};
+ghost use Rattle.dcsctp_machine.specs.Endpoint.{goes_on, next_wait, bounded};
+
+use dcsctp_machine::{BackoffAlgorithm, SocketTime};
+use std::marker::Model;
+use std::time::Duration;
+
+// May a timer go on that has expired so often?
+fn goes_on(max_restarts: Option<u32>, expiries: u64) -> bool
+    ensures { result ≡ goes_on max_restarts expiries }
+{
+    match max_restarts {
+        None => true,
+        Some(restarts) => expiries <= u64::from(restarts),
+    }
+}
+
+// How long a timer runs after it has expired, as if there were no bound.
+fn next_wait(backoff: BackoffAlgorithm, wait: Duration) -> Duration
+    ensures { as_nanos result ≡ next_wait backoff (as_nanos wait) }
+{
+    match backoff {
+        BackoffAlgorithm::Fixed => wait,
+        BackoffAlgorithm::Exponential => wait.saturating_mul(2),
+    }
+}
+
+// No longer than the bound, where there is one.
+fn bounded(max_backoff: Option<Duration>, wait: Duration) -> Duration
+    ensures { as_nanos result ≡ bounded (option_map as_nanos max_backoff) (as_nanos wait) }
+{
+    match max_backoff {
+        Some(bound) if bound < wait => bound,
+        Some(_) | None => wait,
+    }
+}
+
+// A timer that runs.
+#[derive(Clone, Copy, Debug)]
+struct Running {
+    deadline: SocketTime,
+
+    // How long it runs this time, as if there were no bound.
+    wait: Duration,
+
+    expiries: u64,
+}
+
+/// A timer. It takes no memory.
+///
+/// A contract sees it with its durations and its deadline in nanoseconds.
+#[derive(Debug, Drop)]
+pub struct Timer {
+    running: Option<Running>,
+    duration: Duration,
+    backoff: BackoffAlgorithm,
+    max_restarts: Option<u32>,
+    max_backoff: Option<Duration>,
+}
+
+impl Model for Timer {
+    ghost use Rattle.std.specs.Duration.{as_nanos};
+    ghost use Rattle.std.specs.Option.{option_map};
+    ghost use Rattle.dcsctp_send_timer.specs.Timer.{TimerModel};
+
+    ghost Value = { TimerModel };
+
+    ghost view = { λ timer. record {
+      running = option_map (λ running. record {
+        deadline = running.deadline;
+        wait = as_nanos running.wait;
+        expiries = running.expiries;
+        terms = record {
+          backoff = timer.backoff;
+          max_restarts = timer.max_restarts;
+          max_backoff = option_map as_nanos timer.max_backoff;
+        };
+      }) timer.running;
+      settings = record {
+        duration = as_nanos timer.duration;
+        terms = record {
+          backoff = timer.backoff;
+          max_restarts = timer.max_restarts;
+          max_backoff = option_map as_nanos timer.max_backoff;
+        };
+      };
+    } };
+}
+
+impl Timer {
+    ghost use Rattle.std.specs.Prelude.{◌≡◌, ◌↔◌, IsTrue, IsSome};
+    ghost use Rattle.std.specs.Duration.{as_nanos};
+    ghost use Rattle.std.specs.Option.{option_map};
+    ghost use Rattle.dcsctp_machine.specs.Endpoint.{started};
+    ghost use Rattle.dcsctp_send_timer.specs.Timer.{running_deadline, expires_at, running_after};
+
+    /// A timer that doesn't run. Once started it runs for `duration`.
+    ///
+    /// After it has expired it goes on for as long as `backoff` says, at most `max_backoff`, and no more
+    /// than `max_restarts` times; `None` is no bound.
+    pub fn new(
+        duration: Duration,
+        backoff: BackoffAlgorithm,
+        max_restarts: Option<u32>,
+        max_backoff: Option<Duration>,
+    ) -> Timer
+        ensures { result ≡ record {
+          running = None;
+          settings = record {
+            duration = as_nanos duration;
+            terms = record {
+              backoff = backoff;
+              max_restarts = max_restarts;
+              max_backoff = option_map as_nanos max_backoff;
+            };
+          };
+        } }
+    {
+        Timer {
+            running: None,
+            duration,
+            backoff,
+            max_restarts,
+            max_backoff,
+        }
+    }
+
+    /// Starts the timer at the moment `now`, whether it runs or not. It expires a duration later, or at
+    /// the last moment if that is earlier, and has not expired yet.
+    pub fn start(&mut self, now: SocketTime)
+        ensures { self.new ≡ record self.old { running = started now self.old.settings } }
+    {
+        self.running = Some(Running {
+            deadline: now + self.duration,
+            wait: self.duration,
+            expiries: 0,
+        });
+    }
+
+    /// How long the timer runs once it is started next. One that runs backs off from the duration that it
+    /// was started with.
+    pub fn set_duration(&mut self, duration: Duration)
+        ensures { self.new ≡ record self.old {
+          settings = record self.old.settings {
+            duration = as_nanos duration;
+          };
+        } }
+    {
+        self.duration = duration;
+    }
+
+    /// Tells the timer that the moment `now` has come, and answers whether it expires. Before its deadline
+    /// it doesn't, and nothing changes.
+    ///
+    /// A timer that expires goes on from `now`, as its backoff says; where its restarts are used up, it
+    /// stops.
+    pub fn expire(&mut self, now: SocketTime) -> bool
+        ensures answer { result ≡ expires_at now self.old.running }
+        ensures left { self.new ≡ record self.old { running = running_after now self.old.running } }
+    {
+        match self.running {
+            None => false,
+            Some(running) => {
+                if now < running.deadline {
+                    return false;
+                }
+                let expiries = running.expiries.saturating_add(1);
+                self.running = if goes_on(self.max_restarts, expiries) {
+                    let wait = next_wait(self.backoff, running.wait);
+                    Some(Running {
+                        deadline: now + bounded(self.max_backoff, wait),
+                        wait,
+                        expiries,
+                    })
+                } else {
+                    None
+                };
+                true
+            }
+        }
+    }
+
+    /// Stops the timer, if it runs.
+    pub fn stop(&mut self)
+        ensures { self.new ≡ record self.old { running = None } }
+    {
+        self.running = None;
+    }
+
+    /// Was the timer started, and not stopped since?
+    pub fn is_running(&self) -> bool
+        ensures { IsTrue result ↔ IsSome self.now.running }
+    {
+        self.running.is_some()
+    }
+
+    /// When the timer expires next; none where it doesn't run.
+    pub fn next_expiry(&self) -> Option<SocketTime>
+        ensures { result ≡ running_deadline self.now.running }
+    {
+        self.running.map(|running| running.deadline)
+    }
+}

@@ -1,0 +1,46 @@
+-- The turn of a call that is one act.
+use Rattle.std.proofs.Common.{◌≡◌, ℕ, List, [], ◌∷◌, map, take, drop, refl, sym, ap, subst, ◌∙◌}
+use Rattle.std.proofs.lemmas.List.{append-nil, take-append-drop}
+use Rattle.rand_core.specs.Stream.{Stream}
+use Rattle.dcsctp_machine.specs.Settings.{ports_of}
+use Rattle.dcsctp_machine.specs.Event.{Event}
+use Rattle.dcsctp_machine.specs.Packet.{Emission}
+use Rattle.dcsctp_machine.specs.Outcome.{Outcome}
+use Rattle.dcsctp_machine.specs.Turn.{ActTurn, act_input}
+use Rattle.dcsctp_machine.specs.control.Acts.{Act}
+use Rattle.dcsctp_machine.specs.CallTurns.{Turned, turned}
+use Rattle.dcsctp_api.specs.Calls.{user_event}
+use Rattle.dcsctp_core.specs.View.{View, call_start, Moves, CutTurn}
+use Rattle.dcsctp_core.proofs.Moving.{moves_one}
+use Rattle.dcsctp_socket_calls.specs.Parts.{CallMoved, CallCut, ActTurns}
+
+pub act_done : {R : Type 0} (stream : R → Stream) (act : Act) (turn : View R → Outcome) (old start new : View R) → start ≡ call_start old
+    → ((view : View R) → ActTurn view.endpoint act (turn view)) → Moves stream start (turn start) new → CallMoved stream (ActTurns act) old new
+act_done {R = R} stream act turn old start new begins is moves =
+    let one : Turned = turned (act_input act) (turn (call_start old)) in
+    record {
+      turns = one ∷ [];
+      are = (record { is = refl; comes = is (call_start old) }, tt);
+      moves = moves_one stream (call_start old) new one (subst (λ (v : View R). Moves stream v (turn v) new) begins moves);
+    }
+
+cut_at : {R : Type 0} (act : Act) (turn : View R → Outcome) (old : View R) (events : List (Event (List ℕ)))
+    → ((view : View R) → ActTurn view.endpoint act (turn view)) → CutTurn (call_start old) (turn (call_start old)) events → CallCut (ActTurns act) old events
+cut_at act turn old events is cut =
+    let o : Outcome = turn (call_start old) in
+    let all : List (Event (List ℕ)) = map (user_event (ports_of old.endpoint.options)) o.events in
+    record {
+      turns = turned (act_input act) o ∷ [];
+      are = (record { is = refl; comes = is (call_start old) }, tt);
+      adds = record {
+        added = take cut.count all;
+        rest = drop cut.count all;
+        behind = cut.added;
+        front = take-append-drop cut.count all ∙ ap (λ (es : List (Event Emission)). map (user_event (ports_of old.endpoint.options)) es) (sym (append-nil o.events));
+      };
+    }
+
+pub act_cut : {R : Type 0} (act : Act) (turn : View R → Outcome) (old start : View R) (events : List (Event (List ℕ))) → start ≡ call_start old
+    → ((view : View R) → ActTurn view.endpoint act (turn view)) → CutTurn start (turn start) events → CallCut (ActTurns act) old events
+act_cut {R = R} act turn old start events begins is cut =
+    cut_at act turn old events is (subst (λ (v : View R). CutTurn v (turn v) events) begins cut)

@@ -1,0 +1,256 @@
+-- The turns of a call from those of its parts.
+use Rattle.std.proofs.Common.{◌≡◌, ℕ, Bool, true, false, List, [], ◌∷◌, ◌++◌, map, take, drop, refl, sym, ap, subst, ◌∙◌, append_assoc, inr}
+use Rattle.std.proofs.lemmas.List.{append-nil, map-append, take-append-drop}
+use Rattle.rand_core.specs.Stream.{Stream}
+use Rattle.dcsctp_wire.specs.Content.{PacketContent}
+use Rattle.dcsctp_wire.specs.Format.{IsPacket}
+use Rattle.dcsctp_machine.specs.Settings.{Ports, ports_of, wire_options}
+use Rattle.dcsctp_machine.specs.Event.{Event}
+use Rattle.dcsctp_machine.specs.Packet.{packet_in, Emission}
+use Rattle.dcsctp_machine.specs.Admission.{Admission, shutdown_acks_alone, refused, admits}
+use Rattle.dcsctp_machine.specs.Endpoint.{Endpoint, Core}
+use Rattle.dcsctp_machine.specs.Outcome.{Outcome}
+use Rattle.dcsctp_machine.specs.Turn.{arrival, refusal, packet_ends, EndTurn, arrival_outcome, refusal_outcome, unreadable_text}
+use Rattle.dcsctp_machine.specs.CallTurns.{Turned, turned, IsTurn, after_all, AdmittedTurns, HandleInput, unreadable, readable, FirstAdmitted, CutInput, unread, read, events_of}
+use Rattle.dcsctp_api.specs.Calls.{AddsFront, user_event}
+use Rattle.dcsctp_machine.proofs.TurnLemmas.{events_of-append}
+use Rattle.dcsctp_core.specs.View.{View, call_start, Moves, MovesAll, CutTurn}
+use Rattle.dcsctp_wire.specs.declared.packet.WireOptions.{WireOptions}
+use Rattle.dcsctp_socket_calls.specs.Parts.{MoveToEnd, ChunksMove, ChunksCut, AcksMove, PacketMoves, InputMoves, AcksCut, PacketCut, InputCut}
+use Rattle.dcsctp_core.specs.Handling.{TakesIn, CutIn}
+use Rattle.dcsctp_core.proofs.Moving.{moves_one, moves_then}
+
+-- the turn of a packet that is handed in, and of one that is refused
+abbrev arrived : Endpoint → Turned
+arrived e = turned arrival (arrival_outcome e)
+
+abbrev reported : Endpoint → List ℕ → Turned
+reported e text = turned (refusal text) (refusal_outcome e text)
+
+-- A packet that isn't admitted has one turn.
+pub refused_packet : {R : Type 0} (stream : R → Stream) (a b : View R) (packet : PacketContent) (text : List ℕ)
+    → admits a.endpoint.core (packet_in packet) ≡ refused text → Moves stream a (refusal_outcome a.endpoint text) b
+    → PacketMoves stream packet a b
+refused_packet stream a b packet text is moves =
+    record {
+      turns = reported a.endpoint text ∷ [];
+      are = subst (λ (x : Admission). AdmittedTurns a.endpoint (packet_in packet) x (reported a.endpoint text ∷ [])) (sym is) (record { is = refl; comes = refl }, tt);
+      moves = moves_one stream a b (reported a.endpoint text) moves;
+    }
+
+-- A packet whose SHUTDOWN ACK chunks alone are worked has their turns.
+pub acks_worked : {R : Type 0} (stream : R → Stream) (a b : View R) (packet : PacketContent) → admits a.endpoint.core (packet_in packet) ≡ shutdown_acks_alone → AcksMove stream packet a b
+    → PacketMoves stream packet a b
+acks_worked stream a b packet is worked =
+    record {
+      turns = worked.turns;
+      are = subst (λ (x : Admission). AdmittedTurns a.endpoint (packet_in packet) x worked.turns) (sym is) worked.are;
+      moves = worked.moves;
+    }
+
+pub acks_cut : {R : Type 0} (a : View R) (packet : PacketContent) (events : List (Event (List ℕ))) → admits a.endpoint.core (packet_in packet) ≡ shutdown_acks_alone → AcksCut packet a events
+    → PacketCut packet a events
+acks_cut a packet events is cut =
+    record {
+      turns = cut.turns;
+      are = subst (λ (x : Admission). FirstAdmitted a.endpoint (packet_in packet) x cut.turns) (sym is) cut.are;
+      adds = cut.adds;
+    }
+
+-- After the packet was counted, the rest of the call follows.
+counted_then : {R : Type 0} (stream : R → Stream) (a b c : View R) (turns : List Turned)
+    → Moves stream a (arrival_outcome a.endpoint) b → MovesAll stream b turns c → MovesAll stream a (arrived a.endpoint ∷ turns) c
+counted_then stream a b c turns counted moves =
+    moves_then stream a b c (arrived a.endpoint ∷ []) turns refl (moves_one stream a b (arrived a.endpoint) counted) moves
+
+-- a call with bytes that are no packet
+pub unreadable_call : {R : Type 0} (stream : R → Stream) (a b c : View R) (bytes : List ℕ)
+    → ((packet : PacketContent) → IsPacket (wire_options a.endpoint.options) packet bytes → ⊥)
+    → Moves stream a (arrival_outcome a.endpoint) b → Moves stream b (refusal_outcome b.endpoint unreadable_text) c
+    → (turns : List Turned) × HandleInput a.endpoint bytes turns × MovesAll stream a turns c
+unreadable_call stream a b c bytes none counted moves =
+    let rest : Turned = reported b.endpoint unreadable_text in
+    let turn : rest.outcome ≡ refusal_outcome (arrival_outcome a.endpoint).after unreadable_text = ap (λ (e : Endpoint). refusal_outcome e unreadable_text) counted.endpoint in (
+      arrived a.endpoint ∷ rest ∷ [],
+      unreadable (arrived a.endpoint ∷ rest ∷ []) none (record { is = refl; comes = refl }, (record { is = refl; comes = turn }, tt)),
+      counted_then stream a b c (rest ∷ []) counted (moves_one stream b c rest moves),
+    )
+
+-- a call with a packet
+pub readable_call : {R : Type 0} (stream : R → Stream) (a b c : View R) (bytes : List ℕ) (packet : PacketContent) (turns : List Turned)
+    → IsPacket (wire_options a.endpoint.options) packet bytes
+    → Moves stream a (arrival_outcome a.endpoint) b
+    → AdmittedTurns b.endpoint (packet_in packet) (admits a.endpoint.core (packet_in packet)) turns
+    → MovesAll stream b turns c
+    → (all : List Turned) × HandleInput a.endpoint bytes all × MovesAll stream a all c
+readable_call stream a b c bytes packet turns found counted are moves = (
+  arrived a.endpoint ∷ turns,
+  readable packet (arrived a.endpoint) turns found (record { is = refl; comes = refl })
+      (subst (λ (e : Endpoint). AdmittedTurns e (packet_in packet) (admits a.endpoint.core (packet_in packet)) turns) counted.endpoint are),
+  counted_then stream a b c turns counted moves,
+)
+
+-- ---- from what the code has in hand
+
+-- the turns of a whole call from one view to another
+abbrev Called : {R : Type 0} → (R → Stream) → List ℕ → View R → View R → Type 0
+Called stream bytes a c = (turns : List Turned) × HandleInput a.endpoint bytes turns × MovesAll stream a turns c
+
+called_input : {R : Type 0} (stream : R → Stream) (bytes : List ℕ) (old new : View R) → Called stream bytes (call_start old) new → InputMoves stream bytes old new
+called_input stream bytes old new called = record { turns = called.0; are = called.1; moves = called.2 }
+
+-- the reader's options are those of the endpoint that counted the packet
+options_of : {R : Type 0} (stream : R → Stream) (a b : View R) (options : WireOptions) → Moves stream a (arrival_outcome a.endpoint) b → options ≡ wire_options b.endpoint.options → options ≡ wire_options a.endpoint.options
+options_of stream a b options counted is = is ∙ ap (λ (e : Endpoint). wire_options e.options) counted.endpoint
+
+pub readable_input : {R : Type 0} (stream : R → Stream) (old a b c : View R) (bytes : List ℕ) (packet : PacketContent) (options : WireOptions)
+    → a ≡ call_start old → Moves stream a (arrival_outcome a.endpoint) b → options ≡ wire_options b.endpoint.options
+    → IsPacket options packet bytes
+    → b.endpoint.core ≡ a.endpoint.core
+    → PacketMoves stream packet b c
+    → InputMoves stream bytes old c
+readable_input {R = R} stream old a b c bytes packet options begins counted is found same worked =
+    let here : IsPacket (wire_options a.endpoint.options) packet bytes = subst (λ (o : WireOptions). IsPacket o packet bytes) (options_of stream a b options counted is) found in
+    let are : AdmittedTurns b.endpoint (packet_in packet) (admits a.endpoint.core (packet_in packet)) worked.turns =
+    subst (λ (core : Core). AdmittedTurns b.endpoint (packet_in packet) (admits core (packet_in packet)) worked.turns) same worked.are in
+    called_input stream bytes old c (subst (λ (v : View R). Called stream bytes v c) begins (readable_call stream a b c bytes packet worked.turns here counted are worked.moves))
+
+pub unreadable_input : {R : Type 0} (stream : R → Stream) (old a b c : View R) (bytes : List ℕ) (options : WireOptions) (text : List ℕ)
+    → a ≡ call_start old → Moves stream a (arrival_outcome a.endpoint) b → options ≡ wire_options b.endpoint.options
+    → ((packet : PacketContent) → IsPacket options packet bytes → ⊥)
+    → text ≡ unreadable_text → Moves stream b (refusal_outcome b.endpoint text) c
+    → InputMoves stream bytes old c
+unreadable_input {R = R} stream old a b c bytes options text begins counted is none says moves =
+    let here : (packet : PacketContent) → IsPacket (wire_options a.endpoint.options) packet bytes → ⊥ = λ packet found. none packet (subst (λ (o : WireOptions). IsPacket o packet bytes) (sym (options_of stream a b options counted is)) found) in
+    called_input stream bytes old c (subst (λ (v : View R). Called stream bytes v c) begins (unreadable_call stream a b c bytes here counted (subst (λ (t : List ℕ). Moves stream b (refusal_outcome b.endpoint t) c) says moves)))
+
+-- ---- where a growth was refused
+
+-- no turn was finished
+pub adds_none : (ports : Ports) (events : List (Event (List ℕ))) → AddsFront ports [] events events
+adds_none ports events = record { added = []; rest = []; behind = sym (append-nil events); front = refl }
+
+-- These turns were finished, and no event was added behind theirs.
+pub adds_whole : {R : Type 0} (stream : R → Stream) (a b : View R) (turns : List Turned) (events : List (Event (List ℕ))) → MovesAll stream a turns b → events ≡ b.events
+    → AddsFront (ports_of a.endpoint.options) turns a.events events
+adds_whole stream a b turns events moves same =
+    record {
+      added = map (user_event (ports_of a.endpoint.options)) (events_of turns);
+      rest = [];
+      behind = same ∙ moves.events;
+      front = append-nil (map (user_event (ports_of a.endpoint.options)) (events_of turns));
+    }
+
+-- The turns so far were finished, and the one after them was cut.
+pub adds_cut : {R : Type 0} (stream : R → Stream) (a b : View R) (turns : List Turned) (turn : Turned) (events : List (Event (List ℕ)))
+    → ports_of b.endpoint.options ≡ ports_of a.endpoint.options
+    → MovesAll stream a turns b → CutTurn b turn.outcome events → AddsFront (ports_of a.endpoint.options) (turns ++ turn ∷ []) a.events events
+adds_cut stream a b turns turn events same moves cut =
+    let outcome : Outcome = turn.outcome in
+    let ports = ports_of a.endpoint.options in
+    let before : List (Event (List ℕ)) = map (user_event ports) (events_of turns) in
+    let last : List (Event (List ℕ)) = map (user_event ports) outcome.events in
+    record {
+      added = before ++ take cut.count last;
+      rest = drop cut.count last;
+      behind = cut.added
+          ∙ ap (λ (p : Ports). b.events ++ take cut.count (map (user_event p) outcome.events)) same
+          ∙ ap (λ (es : List (Event (List ℕ))). es ++ take cut.count last) moves.events
+          ∙ append_assoc a.events before (take cut.count last);
+      front = append_assoc before (take cut.count last) (drop cut.count last)
+          ∙ ap (λ (es : List (Event (List ℕ))). before ++ es) (take-append-drop cut.count last)
+          ∙ sym (map-append (user_event ports) (events_of turns) outcome.events)
+          ∙ ap (λ (es : List (Event Emission)). map (user_event ports) (events_of turns ++ es)) (sym (append-nil outcome.events))
+          ∙ ap (λ (es : List (Event Emission)). map (user_event ports) es) (sym (events_of-append turns (turn ∷ [])));
+    }
+
+-- a turn in front that adds no event
+pub adds_begun : (ports : Ports) (first : Turned) (turns : List Turned) (old new : List (Event (List ℕ))) → first.outcome.events ≡ [] → AddsFront ports turns old new → AddsFront ports (first ∷ turns) old new
+adds_begun ports first turns old new quiet adds =
+    record {
+      added = adds.added;
+      rest = adds.rest;
+      behind = adds.behind;
+      front = adds.front ∙ ap (λ (es : List (Event Emission)). map (user_event ports) (es ++ events_of turns)) (sym quiet);
+    }
+
+pub unread_cut : {R : Type 0} (view : View R) (bytes : List ℕ) (events : List (Event (List ℕ))) → events ≡ view.events → InputCut bytes view events
+unread_cut view bytes events same =
+    record { turns = []; are = unread; adds = subst (λ (es : List (Event (List ℕ))). AddsFront (ports_of view.endpoint.options) [] view.events es) (sym same) (adds_none (ports_of view.endpoint.options) view.events) }
+
+-- Counting a packet adds no event.
+pub counted_events : {R : Type 0} (stream : R → Stream) (old a b : View R) → a ≡ call_start old → Moves stream a (arrival_outcome a.endpoint) b → b.events ≡ old.events
+counted_events {R = R} stream old a b begins counted = counted.events ∙ append-nil a.events ∙ ap (λ (v : View R). v.events) begins
+
+-- a call that was cut, with the turns that it had
+abbrev Cut : {R : Type 0} → List ℕ → View R → List (Event (List ℕ)) → Type 0
+Cut bytes view events =
+    (turns : List Turned) × CutInput view.endpoint bytes turns × AddsFront (ports_of view.endpoint.options) turns view.events events
+
+input_cut : {R : Type 0} (bytes : List ℕ) (old : View R) (events : List (Event (List ℕ))) → Cut bytes (call_start old) events → InputCut bytes old events
+input_cut bytes old events cut = record { turns = cut.0; are = cut.1; adds = cut.2 }
+
+-- the packet was counted before, which adds no event
+counted_cut : {R : Type 0} (stream : R → Stream) (a b : View R) (bytes : List ℕ) (packet : PacketContent) (events : List (Event (List ℕ)))
+    → IsPacket (wire_options a.endpoint.options) packet bytes → Moves stream a (arrival_outcome a.endpoint) b
+    → b.endpoint.core ≡ a.endpoint.core → PacketCut packet b events → Cut bytes a events
+counted_cut stream a b bytes packet events found counted same cut =
+    let here : FirstAdmitted b.endpoint (packet_in packet) (admits a.endpoint.core (packet_in packet)) cut.turns =
+    subst (λ (core : Core). FirstAdmitted b.endpoint (packet_in packet) (admits core (packet_in packet)) cut.turns) same cut.are in
+    let ports : ports_of b.endpoint.options ≡ ports_of a.endpoint.options = ap (λ (e : Endpoint). ports_of e.options) counted.endpoint in
+    let waiting : b.events ≡ a.events = counted.events ∙ append-nil a.events in (
+      arrived a.endpoint ∷ cut.turns,
+      read packet (arrived a.endpoint) cut.turns found (record { is = refl; comes = refl })
+          (subst (λ (e : Endpoint). FirstAdmitted e (packet_in packet) (admits a.endpoint.core (packet_in packet)) cut.turns) counted.endpoint here),
+      record {
+        added = cut.adds.added;
+        rest = cut.adds.rest;
+        behind = cut.adds.behind ∙ ap (λ (es : List (Event (List ℕ))). es ++ cut.adds.added) waiting;
+        front = cut.adds.front ∙ ap (λ (p : Ports). map (user_event p) (events_of cut.turns)) ports;
+      },
+    )
+
+pub packet_cut : {R : Type 0} (stream : R → Stream) (old a b : View R) (bytes : List ℕ) (packet : PacketContent) (options : WireOptions) (events : List (Event (List ℕ)))
+    → a ≡ call_start old → Moves stream a (arrival_outcome a.endpoint) b → options ≡ wire_options b.endpoint.options
+    → IsPacket options packet bytes
+    → b.endpoint.core ≡ a.endpoint.core
+    → PacketCut packet b events
+    → InputCut bytes old events
+packet_cut {R = R} stream old a b bytes packet options events begins counted is found same cut =
+    let here : IsPacket (wire_options a.endpoint.options) packet bytes = subst (λ (o : WireOptions). IsPacket o packet bytes) (options_of stream a b options counted is) found in
+    input_cut bytes old events (subst (λ (v : View R). Cut bytes v events) begins (counted_cut stream a b bytes packet events here counted same cut))
+
+-- ---- the end of a packet
+
+-- the turn of a packet's end
+abbrev end_turned : Outcome → Turned
+end_turned o = turned packet_ends o
+
+end_is : (e now : Endpoint) (o : Outcome) → now ≡ e → EndTurn now o → IsTurn e packet_ends (end_turned o)
+end_is e now o here turn = record { is = refl; comes = subst (λ (x : Endpoint). EndTurn x o) here turn }
+
+-- The chunks had their turns, and then the packet ended.
+pub ended : {R : Type 0} (stream : R → Stream) (a b c : View R) (packet : PacketContent) → MoveToEnd stream packet a true b → TakesIn stream (λ v o. EndTurn v.endpoint o) b c → ChunksMove stream packet a c
+ended stream a b c packet first end =
+    let last : Turned = end_turned end.outcome in
+    record {
+      turns = first.turns ++ last ∷ [];
+      are = first.are last (end_is (after_all a.endpoint first.turns) b.endpoint end.outcome first.moves.endpoint end.turn);
+      moves = moves_then stream a b c first.turns (last ∷ []) first.ports first.moves (moves_one stream b c last end.moves);
+    }
+
+-- The end was cut.
+pub ended_cut : {R : Type 0} (stream : R → Stream) (a b : View R) (packet : PacketContent) (events : List (Event (List ℕ))) → MoveToEnd stream packet a true b → CutIn (λ v o. EndTurn v.endpoint o) b events
+    → ChunksCut packet a events
+ended_cut stream a b packet events first end =
+    let last : Turned = end_turned end.outcome in
+    record {
+      turns = first.turns ++ last ∷ [];
+      are = inr (first.are last (end_is (after_all a.endpoint first.turns) b.endpoint end.outcome first.moves.endpoint end.turn));
+      adds = adds_cut stream a b first.turns last events (ap (λ (x : Endpoint). ports_of x.options) first.moves.endpoint ∙ first.ports) first.moves end.cut;
+    }
+
+-- The end was dropped.
+pub dropped : {R : Type 0} (stream : R → Stream) (a b : View R) (packet : PacketContent) (ends : Bool) → ends ≡ false → MoveToEnd stream packet a ends b → ChunksMove stream packet a b
+dropped stream a b packet true is worked = absurd (cc)
+dropped stream a b packet false is worked = record { turns = worked.turns; are = worked.are; moves = worked.moves }

@@ -1,0 +1,216 @@
+-- Turns of chunks that break the protocol, of those of a shutdown, heartbeats, an ERROR and of those that aren't known.
+use Rattle.std.proofs.Common.{◌≡◌, ◌==◌, ℕ, Bool, true, false, cond, Option, None, Some, List, [], ◌∷◌, refl, sym, ap, subst, ◌∙◌}
+use Rattle.std.proofs.lemmas.List.{append-nil}
+use Rattle.rand_core.specs.Stream.{Stream}
+use Rattle.dcsctp_wire.specs.declared.chunk.Chunk.{Chunk}
+use Rattle.dcsctp_wire.specs.declared.chunk.Chunk.TheVariants as kinds
+use Rattle.dcsctp_wire.specs.Content.{chunk_content, error_chunk}
+use Rattle.dcsctp_machine.specs.declared.ends.Violation.{Violation}
+use Rattle.dcsctp_machine.specs.declared.ends.AbortReason.TheVariants as reasons
+use Rattle.dcsctp_machine.specs.Cause.{Cause}
+use Rattle.dcsctp_machine.specs.Event.{Event}
+use Rattle.dcsctp_machine.specs.Packet.{Plain, Content, content_in, init, init_ack, cookie_echo, cookie_ack, re_config, abort, shutdown, shutdown_ack, shutdown_complete, plain, unknown, heartbeat, heartbeat_ack, unworked, Emission}
+use Rattle.dcsctp_wire.specs.Content.{ParameterContent}
+use Rattle.dcsctp_machine.specs.turns.HeartbeatOutcomes.{heartbeat_outcome, heartbeat_ack_outcome, answered}
+use Rattle.dcsctp_core_heartbeat.specs.Heartbeats.{heartbeat_turn, heartbeat_ack_turn}
+use Rattle.dcsctp_machine.specs.Endpoint.{Endpoint, Core, closed, cookie_wait, cookie_echoed, open_in, OpenPhase, established, shutdown_pending, shutdown_sent, shutdown_received, shutdown_ack_sent}
+use Rattle.dcsctp_machine.specs.Outcome.{Outcome, still, quiet, sends, fits, to_peer}
+use Rattle.dcsctp_machine.specs.Following.{next_chunk, dropped_rest}
+use Rattle.dcsctp_machine.specs.Turn.{ContentTurn}
+use Rattle.dcsctp_machine.specs.CallTurns.{Turned, ChunkTurns}
+use Rattle.dcsctp_machine.specs.declared.association.Pair.{Pair}
+use Rattle.dcsctp_machine.specs.declared.association.Held.{Held}
+use Rattle.dcsctp_machine.specs.turns.EndOutcomes.{aborting_outcome, reflected_outcome}
+use Rattle.dcsctp_machine.specs.turns.ShutdownOutcomes.{is_all_acknowledged, step_by, phase_at, shutdown_outcome, shutdown_ack_outcome}
+use Rattle.dcsctp_machine.specs.turns.PlainOutcomes.{violation_at, PlainTurnBy, PlainTurn, error_outcome}
+use Rattle.dcsctp_core.specs.declared.context.Context.{Context}
+use Rattle.dcsctp_core.specs.declared.following.Following.TheVariants.{NextChunk, DroppedRest}
+use Rattle.dcsctp_core.specs.View.{View, core_of, endpoint_of, view_of, Moves, MovesAll, CutTurn}
+use Rattle.dcsctp_core.specs.Handling.{TakesIn, CutIn}
+use Rattle.dcsctp_core.proofs.Moving.{moves_one, moves_still}
+use Rattle.dcsctp_core_ends.specs.Ends.{violation_in, aborting_turn, error_turn}
+use Rattle.dcsctp_core_shutdown.specs.Shutdown.{is_open, reflected_turn, shutdown_turn}
+use Rattle.dcsctp_socket_calls.specs.Parts.{ChunkMoves, ChunkCut, AckMoves}
+use Rattle.dcsctp_socket_calls.specs.Unknown.{unknown_turn}
+use Rattle.dcsctp_socket_calls.proofs.AckLoop.{no_ack}
+use Rattle.dcsctp_socket_calls.proofs.ChunkLoop.{worked_as}
+
+-- A chunk that breaks nothing has the turn of its kind.
+pub plain_at : (e : Endpoint) (chunk : Plain) (o : Outcome) → violation_at e.core chunk ≡ None → PlainTurnBy e chunk None o → PlainTurn e chunk o
+plain_at e chunk o none turn = subst (λ (v : Option Violation). PlainTurnBy e chunk v o) (sym none) turn
+
+-- ---- a violation
+
+aborting_drops : (e : Endpoint) (core : Core) (chunk : Plain) (violation : Violation) → violation_at core chunk ≡ Some violation
+    → (aborting_outcome e core (reasons.Violation violation)).following ≡ dropped_rest
+aborting_drops e closed chunk violation is = absurd (cc)
+aborting_drops e (cookie_wait my) chunk violation is = absurd (cc)
+aborting_drops e (cookie_echoed my held cookie) chunk violation is = refl
+aborting_drops e (open_in phase my held) chunk violation is = refl
+
+-- Only a chunk that speaks of no association breaks the protocol.
+violates : (e : Endpoint) (tag : ℕ) (content : Content) (violation : Violation) → violation_in e.core content ≡ Some violation
+    → ContentTurn e tag content (aborting_outcome e e.core (reasons.Violation violation)) × ((aborting_outcome e e.core (reasons.Violation violation)).following ≡ dropped_rest)
+violates e tag (init theirs) violation is = absurd (cc)
+violates e tag (init_ack theirs cookie) violation is = absurd (cc)
+violates e tag (cookie_echo cookie) violation is = absurd (cc)
+violates e tag cookie_ack violation is = absurd (cc)
+violates e tag (re_config parameters) violation is = absurd (cc)
+violates e tag (abort reflected causes) violation is = absurd (cc)
+violates e tag (shutdown tsn) violation is = absurd (cc)
+violates e tag shutdown_ack violation is = absurd (cc)
+violates e tag (shutdown_complete reflected) violation is = absurd (cc)
+violates e tag (plain chunk) violation is = (
+  subst (λ (v : Option Violation). PlainTurnBy e chunk v (aborting_outcome e e.core (reasons.Violation violation))) (sym is) refl,
+  aborting_drops e e.core chunk violation is,
+)
+
+-- what is known of a chunk in memory, once its kind is
+pub none_for : (core : Core) (x y : Chunk) → x ≡ y → violation_in core (content_in (chunk_content x)) ≡ None → violation_in core (content_in (chunk_content y)) ≡ None
+none_for core x y is none = subst (λ (c : Chunk). violation_in core (content_in (chunk_content c)) ≡ None) is none
+
+pub violation_worked : {R : Type 0} (stream : R → Stream) (old new : View R) (tag : ℕ) (content : Content) (violation : Violation) → violation_in old.endpoint.core content ≡ Some violation
+    → Moves stream old (aborting_turn (reasons.Violation violation) old) new → ChunkMoves stream tag content old DroppedRest new
+violation_worked stream old new tag content violation is moves =
+    let turn = violates old.endpoint tag content violation is in
+    record { outcome = aborting_turn (reasons.Violation violation) old; turn = turn.0; following = turn.1; moves = moves }
+
+pub violation_cut : {R : Type 0} (old : View R) (tag : ℕ) (content : Content) (violation : Violation) (events : List (Event (List ℕ))) → violation_in old.endpoint.core content ≡ Some violation
+    → CutTurn old (aborting_turn (reasons.Violation violation) old) events → ChunkCut tag content old events
+violation_cut old tag content violation events is cut =
+    record { outcome = aborting_turn (reasons.Violation violation) old; turn = (violates old.endpoint tag content violation is).0; cut = cut }
+
+-- ---- the chunks of a shutdown
+
+-- What follows a SHUTDOWN is the next chunk.
+step_follows : (b : Bool) (e : Endpoint) (phase : OpenPhase) (my : Pair) (held : Held) → (step_by b e phase my held).following ≡ next_chunk
+step_follows false e phase my held = refl
+step_follows true e established my held = refl
+step_follows true e shutdown_pending my held = refl
+step_follows true e shutdown_sent my held = refl
+step_follows true e shutdown_received my held = refl
+step_follows true e shutdown_ack_sent my held = refl
+
+shutdown_follows : (e : Endpoint) (core : Core) → (shutdown_outcome e core).following ≡ next_chunk
+shutdown_follows e closed = refl
+shutdown_follows e (cookie_wait my) = refl
+shutdown_follows e (cookie_echoed my held cookie) = refl
+shutdown_follows e (open_in established my held) = step_follows (is_all_acknowledged e.below.transfer) (phase_at e shutdown_received my held) shutdown_received my held
+shutdown_follows e (open_in shutdown_pending my held) = step_follows (is_all_acknowledged e.below.transfer) (phase_at e shutdown_received my held) shutdown_received my held
+shutdown_follows e (open_in shutdown_sent my held) = refl
+shutdown_follows e (open_in shutdown_received my held) = refl
+shutdown_follows e (open_in shutdown_ack_sent my held) = refl
+
+pub shutdown_worked : {R : Type 0} (stream : R → Stream) (old new : View R) (tag tsn : ℕ) → Moves stream old (shutdown_turn old) new → ChunkMoves stream tag (shutdown tsn) old NextChunk new
+shutdown_worked stream old new tag tsn moves =
+    record { outcome = shutdown_turn old; turn = refl; following = shutdown_follows old.endpoint old.endpoint.core; moves = moves }
+
+pub shutdown_cut : {R : Type 0} (old : View R) (tag tsn : ℕ) (events : List (Event (List ℕ))) → CutTurn old (shutdown_turn old) events → ChunkCut tag (shutdown tsn) old events
+shutdown_cut old tag tsn events cut = record { outcome = shutdown_turn old; turn = refl; cut = cut }
+
+-- No association that is set up awaits a SHUTDOWN ACK.
+reflects : (e : Endpoint) (core : Core) (tag : ℕ) → is_open core ≡ false → reflected_outcome e tag ≡ shutdown_ack_outcome e core tag
+reflects e closed tag shut = refl
+reflects e (cookie_wait my) tag shut = refl
+reflects e (cookie_echoed my held cookie) tag shut = refl
+reflects e (open_in phase my held) tag shut = absurd (cc)
+
+pub moves_none : {R : Type 0} (stream : R → Stream) (view : View R) → MovesAll stream view [] view
+moves_none stream view = record { endpoint = refl; events = sym (append-nil view.events); words = sym (append-nil view.words); pairs = sym (append-nil view.pairs); drawn = refl }
+
+-- as a packet's one
+pub ack_done : {R : Type 0} (stream : R → Stream) (old new : View R) (tag : ℕ) (chunk : Chunk) → is_open old.endpoint.core ≡ false → chunk ≡ kinds.ShutdownAck
+    → Moves stream old (reflected_turn tag old) new → AckMoves stream tag (content_in (chunk_content chunk)) old new
+ack_done stream old new tag chunk shut is moves =
+    let turn : Turned = worked_as tag shutdown_ack (reflected_turn tag old) in
+    subst (λ (c : Chunk). AckMoves stream tag (content_in (chunk_content c)) old new) (sym is)
+    (record {
+      turns = turn ∷ [];
+      goes_on = (refl, tt);
+      are = (record { is = refl; comes = reflects old.endpoint old.endpoint.core tag shut }, tt);
+      moves = moves_one stream old new turn moves;
+      core = ap (λ (e : Endpoint). e.core) moves.endpoint;
+    })
+
+pub not_ack : {R : Type 0} (stream : R → Stream) (view : View R) (tag : ℕ) (chunk : Chunk) → (chunk ≡ kinds.ShutdownAck → ⊥) → AckMoves stream tag (content_in (chunk_content chunk)) view view
+not_ack stream view tag chunk other =
+    record {
+      turns = [];
+      goes_on = tt;
+      are = subst (λ (contents : List Content). ChunkTurns view.endpoint tag contents [] []) (sym (no_ack chunk other)) tt;
+      moves = moves_none stream view;
+      core = refl;
+    }
+
+-- ---- one that isn't known
+
+pub unknown_is : {R : Type 0} (context : Context R) (tag type flags : ℕ) (value : List ℕ) → violation_at (core_of context.state) (unknown type flags value) ≡ None
+    → ContentTurn (endpoint_of context) tag (plain (unknown type flags value)) (unknown_turn type flags value (view_of context))
+unknown_is context tag type flags value none = plain_at (endpoint_of context) (unknown type flags value) (unknown_turn type flags value (view_of context)) none refl
+
+-- ---- heartbeats
+
+-- What a handler says without naming what follows: the next chunk does.
+pub tries_worked : {R : Type 0} (stream : R → Stream) (old new : Context R) (tag : ℕ) (content : Content) (outcome : Outcome) → ContentTurn (endpoint_of old) tag content outcome
+    → outcome.following ≡ next_chunk → Moves stream (view_of old) outcome (view_of new) → ChunkMoves stream tag content (view_of old) NextChunk (view_of new)
+tries_worked stream old new tag content outcome turn follows moves = record { outcome = outcome; turn = turn; following = follows; moves = moves }
+
+pub tries_cut : {R : Type 0} (old : Context R) (new : View R) (tag : ℕ) (content : Content) (outcome : Outcome) → ContentTurn (endpoint_of old) tag content outcome → new ≡ view_of old
+    → ChunkCut tag content (view_of old) new.events
+tries_cut {R = R} old new tag content outcome turn same =
+    record {
+      outcome = outcome;
+      turn = turn;
+      cut = record { count = 0; added = ap (λ (v : View R). v.events) same ∙ sym (append-nil (view_of old).events) };
+    }
+
+sent_follows : (b : Bool) (e : Endpoint) (emission : Emission) → (cond b (sends e [] [] emission) (quiet e [] [])).following ≡ next_chunk
+sent_follows true e emission = refl
+sent_follows false e emission = refl
+
+pub heartbeat_follows : (e : Endpoint) (core : Core) (parameters : List ParameterContent) → (heartbeat_outcome e core parameters).following ≡ next_chunk
+heartbeat_follows e closed parameters = refl
+heartbeat_follows e (cookie_wait my) parameters = refl
+heartbeat_follows e (cookie_echoed my held cookie) parameters = sent_follows (fits e (to_peer held (plain (heartbeat_ack parameters)))) e (to_peer held (plain (heartbeat_ack parameters)))
+heartbeat_follows e (open_in phase my held) parameters = sent_follows (fits e (to_peer held (plain (heartbeat_ack parameters)))) e (to_peer held (plain (heartbeat_ack parameters)))
+
+counted_follows : (b : Bool) (e : Endpoint) → (cond b (still (answered e)) (still e)).following ≡ next_chunk
+counted_follows true e = refl
+counted_follows false e = refl
+
+pub heartbeat_ack_follows : (e : Endpoint) (counter : Option ℕ) → (heartbeat_ack_outcome e counter).following ≡ next_chunk
+heartbeat_ack_follows e None = refl
+heartbeat_ack_follows e (Some counter) = counted_follows (counter == e.heartbeat_counter) e
+
+pub heartbeat_is : {R : Type 0} (context : Context R) (tag : ℕ) (parameters : List ParameterContent) → violation_at (core_of context.state) (heartbeat parameters) ≡ None
+    → ContentTurn (endpoint_of context) tag (plain (heartbeat parameters)) (heartbeat_turn parameters (view_of context))
+heartbeat_is context tag parameters none = plain_at (endpoint_of context) (heartbeat parameters) (heartbeat_turn parameters (view_of context)) none refl
+
+pub heartbeat_ack_is : {R : Type 0} (context : Context R) (tag : ℕ) (parameters : List ParameterContent) → violation_at (core_of context.state) (heartbeat_ack parameters) ≡ None
+    → ContentTurn (endpoint_of context) tag (plain (heartbeat_ack parameters)) (heartbeat_ack_turn parameters (view_of context))
+heartbeat_ack_is context tag parameters none = plain_at (endpoint_of context) (heartbeat_ack parameters) (heartbeat_ack_turn parameters (view_of context)) none refl
+
+-- ---- an ERROR
+
+pub error_follows : (e : Endpoint) (core : Core) (causes : List Cause) → (error_outcome e core causes).following ≡ next_chunk
+error_follows e closed causes = refl
+error_follows e (cookie_wait my) causes = refl
+error_follows e (cookie_echoed my held cookie) causes = refl
+error_follows e (open_in phase my held) causes = refl
+
+pub error_is : {R : Type 0} (context : Context R) (tag : ℕ) (causes : List Cause) → violation_at (core_of context.state) (unworked (error_chunk causes)) ≡ None
+    → ContentTurn (endpoint_of context) tag (plain (unworked (error_chunk causes))) (error_turn causes (view_of context))
+error_is context tag causes none = plain_at (endpoint_of context) (unworked (error_chunk causes)) (error_turn causes (view_of context)) none refl
+
+-- ---- turns that may turn out in more than one way
+
+-- What a handler says without naming what follows: the next chunk does.
+pub takes_worked : {R : Type 0} (stream : R → Stream) (old new : View R) (tag : ℕ) (content : Content) (Took : View R → Outcome → Type 0)
+    → ((o : Outcome) → Took old o → ContentTurn old.endpoint tag content o) → ((o : Outcome) → Took old o → o.following ≡ next_chunk) → TakesIn stream Took old new
+    → ChunkMoves stream tag content old NextChunk new
+takes_worked stream old new tag content Took is follows took =
+    record { outcome = took.outcome; turn = is took.outcome took.turn; following = follows took.outcome took.turn; moves = took.moves }
+
+pub takes_cut : {R : Type 0} (old : View R) (tag : ℕ) (content : Content) (Took : View R → Outcome → Type 0) (events : List (Event (List ℕ)))
+    → ((o : Outcome) → Took old o → ContentTurn old.endpoint tag content o) → CutIn Took old events → ChunkCut tag content old events
+takes_cut old tag content Took events is cut = record { outcome = cut.outcome; turn = is cut.outcome cut.turn; cut = cut.cut }

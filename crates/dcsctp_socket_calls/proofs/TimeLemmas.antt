@@ -1,0 +1,84 @@
+-- The turns of a socket that is told the time, from what the handlers of its timers say.
+use Rattle.std.proofs.Common.{◌≡◌, ◌≤◌, ◌<◌, ℕ, Bool, true, List, [], ◌∷◌, refl, sym, subst, arith}
+use Rattle.std.proofs.lemmas.List.{append-nil}
+use Rattle.std.specs.Prelude.{nat_le}
+use Rattle.rand_core.specs.Stream.{Stream}
+use Rattle.dcsctp_machine.specs.Settings.{ports_of}
+use Rattle.dcsctp_machine.specs.Event.{Event}
+use Rattle.dcsctp_machine.specs.Endpoint.{Endpoint, Core, closed, cookie_wait, cookie_echoed, open_in}
+use Rattle.dcsctp_machine.specs.Outcome.{still}
+use Rattle.dcsctp_machine.specs.Turn.{time_passes, clock_at}
+use Rattle.dcsctp_machine.specs.CallTurns.{Turned, turned}
+use Rattle.dcsctp_machine.specs.TimeTurns.{t1_timer, timers_in, timers_told, deadlines_of, next_of, DueTurns, TimeTurns, AdvanceTurns, AwaitsNoCookieAck, NoneIsDue, Waits}
+use Rattle.dcsctp_machine.proofs.TimerLemmas.{none_is_due}
+use Rattle.dcsctp_core.specs.declared.context.Context.{Context}
+use Rattle.dcsctp_core.specs.View.{View, view_of, endpoint_of, core_of, call_start, MovesAll}
+use Rattle.dcsctp_core.proofs.Moving.{moves_then}
+use Rattle.dcsctp_socket_calls.specs.TimeParts.{TurnsMove, TurnsCut, TimeMoves, TimeCut}
+use Rattle.dcsctp_socket_calls.proofs.CallLemmas.{adds_begun}
+
+-- ---- the call
+
+-- the turns of a moment that isn't earlier
+abbrev moment_turns : Endpoint → ℕ → List Turned → List Turned
+moment_turns e moment due = turned (time_passes moment) (still (clock_at moment e)) ∷ due
+
+moment_are : (e : Endpoint) (moment : ℕ) (due : List Turned) → e.moment ≤ moment → DueTurns (clock_at moment e) due → AdvanceTurns e moment (moment_turns e moment due)
+moment_are e moment due later are =
+    subst (λ (b : Bool). TimeTurns b e moment (moment_turns e moment due)) (let is : true ≡ nat_le e.moment moment = grind arith in is)
+    (record { is = refl; comes = refl }, are)
+
+clock_moves : {R : Type 0} (stream : R → Stream) (a : View R) (moment : ℕ) → MovesAll stream a (turned (time_passes moment) (still (clock_at moment a.endpoint)) ∷ []) (record a { endpoint = clock_at moment a.endpoint })
+clock_moves stream a moment =
+    record { endpoint = refl; events = sym (append-nil a.events); words = sym (append-nil a.words); pairs = sym (append-nil a.pairs); drawn = refl }
+
+-- the view as a call begins, with its clock moved
+abbrev view_at : {R : Type 0} → ℕ → View R → View R
+view_at moment view = record view { endpoint = clock_at moment view.endpoint }
+
+-- The clock was moved, and what was due had its turns.
+pub time_moves : {R : Type 0} (stream : R → Stream) (old start new : Context R) (moment : ℕ) → view_of start ≡ call_start (view_of old) → start.moment ≤ moment
+    → TurnsMove stream DueTurns (view_of (record start { moment = moment })) (view_of new)
+    → TimeMoves stream moment (view_of old) (view_of new)
+time_moves {R = R} stream old start new moment begins later m =
+    let a : View R = call_start (view_of old) in
+    let here : View R = view_at moment a in
+    let moved : TurnsMove stream DueTurns here (view_of new) = subst (λ (v : View R). TurnsMove stream DueTurns (view_at moment v) (view_of new)) begins m in
+    record {
+      turns = moment_turns a.endpoint moment moved.turns;
+      are = moment_are a.endpoint moment moved.turns (subst (λ (v : View R). v.endpoint.moment ≤ moment) begins later) moved.are;
+      moves = moves_then stream a here (view_of new) (turned (time_passes moment) (still (clock_at moment a.endpoint)) ∷ []) moved.turns refl (clock_moves stream a moment) moved.moves;
+    }
+
+-- A growth was refused in what was due.
+pub time_cut : {R : Type 0} (old start : Context R) (moment : ℕ) (es : List (Event (List ℕ))) → view_of start ≡ call_start (view_of old) → start.moment ≤ moment
+    → TurnsCut DueTurns (view_of (record start { moment = moment })) es
+    → TimeCut moment (view_of old) es
+time_cut {R = R} old start moment es begins later cut =
+    let a : View R = call_start (view_of old) in
+    let here : View R = view_at moment a in
+    let moved : TurnsCut DueTurns here es = subst (λ (v : View R). TurnsCut DueTurns (view_at moment v) es) begins cut in
+    record {
+      turns = moment_turns a.endpoint moment moved.turns;
+      are = moment_are a.endpoint moment moved.turns (subst (λ (v : View R). v.endpoint.moment ≤ moment) begins later) moved.are;
+      adds = adds_begun (ports_of a.endpoint.options) (turned (time_passes moment) (still (clock_at moment a.endpoint))) moved.turns a.events es refl moved.adds;
+    }
+
+-- ---- where nothing is due
+
+-- What waits in a phase has no deadline but those that are told.
+none_due_in : (e : Endpoint) (moment : ℕ) (core : Core) → AwaitsNoCookieAck core → e.moment ≤ moment → moment < next_of e.moment (deadlines_of e (timers_told core)) → NoneIsDue (clock_at moment e) (timers_in core)
+none_due_in e moment closed phase present next = none_is_due moment e [] present next
+none_due_in e moment (cookie_wait my) phase present next = none_is_due moment e (t1_timer ∷ []) present next
+none_due_in e moment (cookie_echoed my held cookie) phase present next = absurd phase
+none_due_in e moment (open_in phase my held) told present next = none_is_due moment e (timers_in (open_in phase my held)) present next
+
+none_in : (e : Endpoint) (moment : ℕ) → Waits e moment → NoneIsDue (clock_at moment e) (timers_in e.core)
+none_in e moment waits = none_due_in e moment e.core waits.phase waits.present waits.next
+
+-- A socket that waits has nothing to do.
+pub waits_rest : {R : Type 0} (old start : Context R) (moment : ℕ) → view_of start ≡ call_start (view_of old) → Waits (endpoint_of old) moment
+    → NoneIsDue (endpoint_of (record start { moment = moment })) (timers_in (core_of start.state))
+waits_rest {R = R} old start moment begins waits =
+    subst (λ (v : View R). NoneIsDue (clock_at moment v.endpoint) (timers_in v.endpoint.core)) (sym begins)
+    (none_in (endpoint_of old) moment waits)

@@ -1,0 +1,112 @@
+-- A packet that is worked whole: the turn that stands before its chunks, they, and its end.
+use Rattle.std.proofs.Common.{◌≡◌, ℕ, Bool, true, false, List, [], ◌∷◌, ◌++◌, refl, sym, ap, subst, ◌∙◌, inl, inr, Result, Ok, Err}
+use Rattle.rand_core.specs.Stream.{Stream}
+use Rattle.dcsctp_wire.specs.Content.{PacketContent}
+use Rattle.dcsctp_machine.specs.declared.association.Pair.{Pair}
+use Rattle.dcsctp_machine.specs.declared.association.Held.{Held}
+use Rattle.dcsctp_machine.specs.Settings.{ports_of}
+use Rattle.dcsctp_machine.specs.Event.{Event}
+use Rattle.dcsctp_machine.specs.Packet.{packet_in}
+use Rattle.dcsctp_machine.specs.Endpoint.{Endpoint, Core, closed, cookie_wait, cookie_echoed, open_in, OpenPhase, established, shutdown_pending, shutdown_sent, shutdown_received, shutdown_ack_sent}
+use Rattle.dcsctp_machine.specs.Outcome.{Outcome, still}
+use Rattle.dcsctp_machine.specs.Turn.{packet_begins, has_data, BeginTurn}
+use Rattle.dcsctp_machine.specs.CallTurns.{Turned, turned, IsTurn, FirstTurns}
+use Rattle.dcsctp_api.specs.Calls.{AddsFront}
+use Rattle.dcsctp_core.specs.declared.context.Context.{Context}
+use Rattle.dcsctp_core.specs.View.{View, Moves, view_of}
+use Rattle.dcsctp_core.proofs.Moving.{moves_one, moves_then}
+use Rattle.dcsctp_core_shutdown.specs.Shutdown.{where_open, repeated_in}
+use Rattle.dcsctp_socket_calls.specs.Parts.{begun_by, begin_turn, ChunksToEnd, ChunksMove, WholeMoves, ChunksCut, WholeCut, WorksChunks, WorksWhole}
+use Rattle.dcsctp_socket_calls.proofs.CallLemmas.{adds_none}
+use Rattle.dcsctp_socket_calls.proofs.ExpiryLemmas.{adds_behind}
+
+-- ---- what stands before the chunks
+
+begins_open : (e : Endpoint) (phase : OpenPhase) (my : Pair) (held : Held) → BeginTurn e (open_in phase my held) true (repeated_in e phase my held)
+begins_open e established my held = refl
+begins_open e shutdown_pending my held = refl
+begins_open e shutdown_sent my held = refl
+begins_open e shutdown_received my held = refl
+begins_open e shutdown_ack_sent my held = refl
+
+begins_with : (e : Endpoint) (core : Core) → BeginTurn e core true (where_open repeated_in e core)
+begins_with e closed = refl
+begins_with e (cookie_wait my) = refl
+begins_with e (cookie_echoed my held cookie) = refl
+begins_with e (open_in phase my held) = begins_open e phase my held
+
+begins_without : (e : Endpoint) (core : Core) → BeginTurn e core false (still e)
+begins_without e closed = refl
+begins_without e (cookie_wait my) = refl
+begins_without e (cookie_echoed my held cookie) = refl
+begins_without e (open_in established my held) = refl
+begins_without e (open_in shutdown_pending my held) = refl
+begins_without e (open_in shutdown_sent my held) = refl
+begins_without e (open_in shutdown_received my held) = refl
+begins_without e (open_in shutdown_ack_sent my held) = refl
+
+begins : {R : Type 0} (view : View R) (has : Bool) → BeginTurn view.endpoint view.endpoint.core has (begun_by has view)
+begins view true = begins_with view.endpoint view.endpoint.core
+begins view false = begins_without view.endpoint view.endpoint.core
+
+abbrev begun : {R : Type 0} → PacketContent → View R → Turned
+begun packet view = turned (packet_begins (packet_in packet).contents) (begin_turn packet view)
+
+begun_is : {R : Type 0} (packet : PacketContent) (view : View R) → IsTurn view.endpoint (packet_begins (packet_in packet).contents) (begun packet view)
+begun_is packet view = record { is = refl; comes = begins view (has_data (packet_in packet).contents) }
+
+repeated_keeps : (e : Endpoint) (phase : OpenPhase) (my : Pair) (held : Held) → (repeated_in e phase my held).after.options ≡ e.options
+repeated_keeps e established my held = refl
+repeated_keeps e shutdown_pending my held = refl
+repeated_keeps e shutdown_sent my held = refl
+repeated_keeps e shutdown_received my held = refl
+repeated_keeps e shutdown_ack_sent my held = refl
+
+answer_keeps : (e : Endpoint) (core : Core) → (where_open repeated_in e core).after.options ≡ e.options
+answer_keeps e closed = refl
+answer_keeps e (cookie_wait my) = refl
+answer_keeps e (cookie_echoed my held cookie) = refl
+answer_keeps e (open_in phase my held) = repeated_keeps e phase my held
+
+begun_keeps : {R : Type 0} (view : View R) (has : Bool) → (begun_by has view).after.options ≡ view.endpoint.options
+begun_keeps view true = answer_keeps view.endpoint view.endpoint.core
+begun_keeps view false = refl
+
+begun_ports : {R : Type 0} (packet : PacketContent) (view : View R) → ports_of (begin_turn packet view).after.options ≡ ports_of view.endpoint.options
+begun_ports packet view = ap ports_of (begun_keeps view (has_data (packet_in packet).contents))
+
+pub worked_whole : {R : Type 0} (stream : R → Stream) (a b c : View R) (packet : PacketContent) → Moves stream a (begin_turn packet a) b → ChunksMove stream packet b c → WholeMoves stream packet a c
+worked_whole stream a b c packet first rest =
+    record {
+      turns = begun packet a ∷ rest.turns;
+      are = (begun_is packet a, subst (λ (e : Endpoint). ChunksToEnd e (packet_in packet) rest.turns) first.endpoint rest.are);
+      moves = moves_then stream a b c (begun packet a ∷ []) rest.turns (begun_ports packet a) (moves_one stream a b (begun packet a) first) rest.moves;
+    }
+
+-- Nothing was added in front of the chunks.
+pub whole_cut_first : {R : Type 0} (packet : PacketContent) (a : View R) (events : List (Event (List ℕ))) → events ≡ a.events → WholeCut packet a events
+whole_cut_first packet a events same =
+    record { turns = []; are = tt; adds = subst (λ (es : List (Event (List ℕ))). AddsFront (ports_of a.endpoint.options) [] a.events es) (sym same) (adds_none (ports_of a.endpoint.options) a.events) }
+
+-- Some of the chunks had their turns behind it.
+pub whole_cut_rest : {R : Type 0} (stream : R → Stream) (a b : View R) (packet : PacketContent) (events : List (Event (List ℕ))) → Moves stream a (begin_turn packet a) b → ChunksCut packet b events
+    → WholeCut packet a events
+whole_cut_rest stream a b packet events first cut =
+    record {
+      turns = begun packet a ∷ cut.turns;
+      are = (
+        begun_is packet a,
+        elim cut.are [
+          | inl some ↦ inl (subst (λ (e : Endpoint). FirstTurns e packet.verification_tag (packet_in packet).contents cut.turns) first.endpoint some)
+          | inr all ↦ inr (subst (λ (e : Endpoint). ChunksToEnd e (packet_in packet) cut.turns) first.endpoint all)
+        ],
+      );
+      adds = adds_behind stream a b (begun packet a ∷ []) cut.turns events (ap (λ (e : Endpoint). ports_of e.options) first.endpoint ∙ begun_ports packet a) (moves_one stream a b (begun packet a) first)
+          cut.adds;
+    }
+
+-- by what its chunks and its end answer
+pub whole_by : {R E : Type 0} (stream : R → Stream) (old mid : Context R) (packet : PacketContent) (result : Result (Unit {0}) E) (new : Context R)
+    → Moves stream (view_of old) (begin_turn packet (view_of old)) (view_of mid) → WorksChunks stream packet mid result new → WorksWhole stream packet old result new
+whole_by stream old mid packet (Ok done) new first rest = worked_whole stream (view_of old) (view_of mid) (view_of new) packet first rest
+whole_by stream old mid packet (Err error) new first cut = whole_cut_rest stream (view_of old) (view_of mid) packet (view_of new).events first cut

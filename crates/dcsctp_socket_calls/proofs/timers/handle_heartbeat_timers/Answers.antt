@@ -1,0 +1,25 @@
+use Rattle.std.proofs.Common.{[], ◌∷◌}
+use Rattle.std.proofs.lemmas.Result.{err_from_is_err_and}
+use Rattle.std.specs.declared.alloc.AllocError.{AllocError}
+use Rattle.dcsctp_machine.specs.TimeTurns.{own_timer, t2_timer}
+use Rattle.dcsctp_machine.specs.turns.OwnTimers.{heartbeat_interval, heartbeat_timeout, reconfiguration}
+use Rattle.dcsctp_core.specs.View.{view_of}
+use Rattle.dcsctp_socket_calls.proofs.ExpiryLemmas.{any_then, any_else, expiry_cut, told_then}
+use Rattle.dcsctp_socket_calls.proofs.timers.handle_heartbeat_timers.Goals as goal
+use Rattle.dcsctp_socket_calls.proofs.timers.handle_heartbeat_timers.Goals.{then-expired, else-expired}
+
+pub returns-in_err-expired-clause-turns : goal.returns-in_err-expired-clause-turns
+returns-in_err-expired-clause-turns g c =
+    rw (err_from_is_err_and c.from_residual.result c.from_residual.ensures.1).1
+    (expiry_cut g.R.Rng.stream (view_of c.args.context.now) (own_timer heartbeat_interval) (own_timer heartbeat_timeout ∷ own_timer reconfiguration ∷ t2_timer ∷ []) c.args.has_expired (view_of c.handle_heartbeat_interval.new.context).events
+    c.in_err-expired.ensures.0 c.in_err-expired.ensures.1)
+
+pub returns-clause-turns : goal.returns-clause-turns
+returns-clause-turns g c =
+    told_then AllocError g.R.Rng.stream c.args.context.now c.handle_heartbeat_interval.new.context c.handle_answer_timers.new.context (own_timer heartbeat_interval) (own_timer heartbeat_timeout ∷ own_timer reconfiguration ∷ t2_timer ∷ [])
+    c.args.has_expired c.in_ok-expired.expired c.if-expired.handle_answer_timers c.handle_answer_timers.result
+    (elim c.if-expired.branch [
+      | then-expired w ↦ any_then c.in_ok-expired.expired c.args.has_expired c.if-expired.handle_answer_timers w.if-expired.true w.handle_answer_timers-is
+      | else-expired w ↦ any_else c.in_ok-expired.expired c.args.has_expired c.if-expired.handle_answer_timers w.if-expired.false w.handle_answer_timers-is
+    ])
+    c.in_ok-expired.ensures c.handle_answer_timers.ensures.turns

@@ -1,0 +1,225 @@
+//! The calls of a socket, over its parts: each is a list of turns.
+
+ghost use Rattle.std.specs.Prelude.{◌≡◌, ◌<◌, true, false, IsOk, map};
+ghost use Rattle.dcsctp_wire.specs.Content.{chunk_content, packet_content};
+ghost use Rattle.dcsctp_machine.specs.Packet.{content_in};
+ghost use Rattle.dcsctp_machine.specs.control.Acts.{abort_with, shut_down};
+ghost use Rattle.dcsctp_machine.specs.Settings.{wire_options};
+ghost use Rattle.dcsctp_machine.specs.TimeTurns.{Waits};
+ghost use Rattle.dcsctp_machine.specs.Turn.{has_data};
+ghost use Rattle.dcsctp_api.specs.Calls.{is_closed, takes_shutdown};
+ghost use Rattle.dcsctp_core.specs.View.{core_of, endpoint_of};
+ghost use Rattle.dcsctp_core.specs.Handling.{Tries};
+ghost use Rattle.dcsctp_core_shutdown.specs.Shutdown.{is_open};
+ghost use Rattle.dcsctp_socket_calls.specs.Parts.{begin_turn, WorksToEnd, WorksChunks, WorksWhole, WorksAck, WorksAcks, WorksPacket, WorksInput, WorksCall, ActTurns, WorksConnect};
+ghost use Rattle.dcsctp_socket_calls.specs.TimeParts.{WorksTime};
+
+use crate::dispatch::handle_chunk;
+use crate::texts::UNREADABLE;
+use crate::timers::handle_timers;
+use dcsctp_api::{ErrorKind, Options, SocketTime};
+use dcsctp_core::{Context, Following};
+use dcsctp_core_data::end_packet;
+use dcsctp_core_decisions::{Admission, admit};
+use dcsctp_core_ends::abort_association;
+use dcsctp_core_handshake::do_connect;
+use dcsctp_core_shutdown::{answer_data, do_shutdown, reflect_shutdown_ack};
+use dcsctp_machine::AbortReason;
+use dcsctp_wire::{Chunk, PacketError, SctpPacket, WireOptions};
+use rand_core::Rng;
+use std::alloc::AllocError;
+
+// Works the chunks of an admitted packet one after another, until one says that the others aren't worked, and
+// answers whether the end of the packet follows.
+fn work_chunks<R: Rng>(
+    context: &mut Context<R>,
+    packet: &SctpPacket<'_>,
+) -> Result<bool, AllocError>
+    ensures { WorksToEnd R.stream (packet_content packet.now) context.old result context.new }
+{
+    let header_tag = packet.common_header.verification_tag;
+    for chunk in &packet.chunks {
+        match handle_chunk(context, header_tag, chunk)? {
+            Following::NextChunk => {}
+            Following::PacketEnd => return Ok(true),
+            Following::DroppedRest => return Ok(false),
+        }
+    }
+    Ok(true)
+}
+
+// Works the chunks of an admitted packet, and then its end, unless a chunk said that the rest is dropped.
+fn handle_chunks<R: Rng>(
+    context: &mut Context<R>,
+    packet: &SctpPacket<'_>,
+) -> Result<(), AllocError>
+    ensures { WorksChunks R.stream (packet_content packet.now) context.old result context.new }
+{
+    if work_chunks(context, packet)? {
+        end_packet(context)?;
+    }
+    Ok(())
+}
+
+// Is there a DATA chunk among these?
+fn has_data(chunks: &[Chunk<'_>]) -> bool
+    ensures { result ≡ has_data (map content_in (map chunk_content chunks.now)) }
+{
+    for chunk in chunks {
+        if let Chunk::Data(_) = chunk {
+            return true;
+        }
+    }
+    false
+}
+
+// What stands before the chunks of a packet: data that comes while a SHUTDOWN waits for its answer is answered by another.
+// The one error is that a growth was refused. Nothing has changed then.
+fn begin_packet<R: Rng>(context: &mut Context<R>, packet: &SctpPacket<'_>) -> Result<(), AllocError>
+    ensures { Tries R.stream (begin_turn (packet_content packet.now)) context.old result context.new }
+{
+    if has_data(&packet.chunks) {
+        answer_data(context)?;
+    }
+    Ok(())
+}
+
+// Works a packet that is admitted whole. The one error is that a growth was refused.
+fn handle_whole<R: Rng>(context: &mut Context<R>, packet: &SctpPacket<'_>) -> Result<(), AllocError>
+    ensures { WorksWhole R.stream (packet_content packet.now) context.old result context.new }
+{
+    begin_packet(context, packet)?;
+    handle_chunks(context, packet)
+}
+
+// Answers a chunk, where it is a SHUTDOWN ACK: no association that is set up awaits one.
+fn work_shutdown_ack<R: Rng>(
+    context: &mut Context<R>,
+    header_tag: u32,
+    chunk: &Chunk<'_>,
+) -> Result<(), AllocError>
+    requires { is_open (core_of context.old.state) ≡ false }
+    ensures { WorksAck R.stream header_tag (content_in (chunk_content chunk.now)) context.old result
+        context.new }
+{
+    if let Chunk::ShutdownAck = chunk {
+        reflect_shutdown_ack(context, header_tag)?;
+        return Ok(());
+    }
+    Ok(())
+}
+
+// Works the SHUTDOWN ACK chunks of a packet, and nothing else of it.
+fn handle_shutdown_acks<R: Rng>(
+    context: &mut Context<R>,
+    packet: &SctpPacket<'_>,
+) -> Result<(), AllocError>
+    requires { is_open (core_of context.old.state) ≡ false }
+    ensures { WorksAcks R.stream (packet_content packet.now) context.old result context.new }
+{
+    let header_tag = packet.common_header.verification_tag;
+    for chunk in &packet.chunks {
+        work_shutdown_ack(context, header_tag, chunk)?;
+    }
+    Ok(())
+}
+
+// Works a packet that was read: as admission says.
+fn handle_packet<R: Rng>(
+    context: &mut Context<R>,
+    packet: &SctpPacket<'_>,
+) -> Result<(), AllocError>
+    ensures { WorksPacket R.stream (packet_content packet.now) context.old result context.new }
+{
+    match admit(&context.state, packet) {
+        Admission::AllChunks => handle_whole(context, packet)?,
+        Admission::ShutdownAcksAlone => handle_shutdown_acks(context, packet)?,
+        Admission::Refused(refusal) => {
+            let text = refusal.text(context.alloc)?;
+            context.report(ErrorKind::ParseFailed, text)?;
+        }
+    }
+    Ok(())
+}
+
+/// Works a packet (RFC 9260, section 8.5): it is counted, read, admitted or refused, and each chunk
+/// has its turn. The one error is that a growth was refused.
+pub fn handle_input<R: Rng>(context: &mut Context<R>, packet: &[u8]) -> Result<(), AllocError>
+    ensures { WorksInput R.stream packet.now context.old result context.new }
+{
+    context.begin_call();
+    context.count_packet();
+    let options = wire_options(&context.options);
+    match SctpPacket::from_bytes(context.alloc, packet, &options) {
+        Ok(packet) => handle_packet(context, &packet)?,
+        Err(PacketError::Malformed) => {
+            let text = String::from_str(context.alloc, UNREADABLE)?;
+            context.report(ErrorKind::ParseFailed, text)?;
+        }
+        Err(PacketError::OutOfMemory) => return Err(AllocError),
+    }
+    Ok(())
+}
+
+/// Begins an association where there is none (RFC 9260, section 5.1). The one error is that a growth was
+/// refused; no event is added then.
+pub fn connect<R: Rng>(context: &mut Context<R>) -> Result<(), AllocError>
+    ensures turn { WorksConnect R.stream context.old result context.new }
+    ensures open { is_closed (core_of context.old.state) ≡ false → IsOk result }
+{
+    context.begin_call();
+    do_connect(context)?;
+    Ok(())
+}
+
+/// Ends the association at once (RFC 9260, section 9.1). The one error is that a growth was refused; the
+/// first events of the call may stand then.
+pub fn close<R: Rng>(context: &mut Context<R>) -> Result<(), AllocError>
+    ensures turn { WorksCall R.stream (ActTurns (abort_with AbortReason.CloseCalled)) context.old result
+        context.new }
+    ensures closed { is_closed (core_of context.old.state) ≡ true → IsOk result }
+{
+    context.begin_call();
+    abort_association(context, AbortReason::CloseCalled)?;
+    Ok(())
+}
+
+/// Shuts the association down (RFC 9260, section 9.2). The one error is that a growth was refused; the first events of
+/// the call may stand then.
+pub fn shutdown<R: Rng>(context: &mut Context<R>) -> Result<(), AllocError>
+    ensures turn { WorksCall R.stream (ActTurns shut_down) context.old result context.new }
+    ensures idle { takes_shutdown (core_of context.old.state) ≡ false → IsOk result }
+{
+    context.begin_call();
+    do_shutdown(context)?;
+    Ok(())
+}
+
+/// Tells the time: the clock is moved, and the timers that are due have their turns (RFC 9260, sections 5.1
+/// and 8.3). An earlier moment changes nothing. The one error is that a growth was refused.
+pub fn advance_time<R: Rng>(context: &mut Context<R>, now: SocketTime) -> Result<(), AllocError>
+    ensures turn { WorksTime R.stream now context.old result context.new }
+    ensures earlier { now < context.old.moment → IsOk result }
+    ensures waits { Waits (endpoint_of context.old) now → IsOk result }
+{
+    context.begin_call();
+    if now < context.moment {
+        return Ok(());
+    }
+    context.moment = now;
+    handle_timers(context)?;
+    Ok(())
+}
+
+// What the reader of packets needs of the options.
+fn wire_options(options: &Options) -> WireOptions
+    ensures { result ≡ wire_options options.now }
+{
+    WireOptions {
+        local_port: options.local_port,
+        disable_checksum_verification: options.disable_checksum_verification,
+        zero_checksum_alternate_error_detection_method: options
+            .zero_checksum_alternate_error_detection_method
+            .0,
+    }
+}

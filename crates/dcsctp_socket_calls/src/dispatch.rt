@@ -1,0 +1,110 @@
+//! Which handler works a chunk.
+
+ghost use Rattle.std.specs.Prelude.{◌≡◌, None};
+ghost use Rattle.dcsctp_wire.specs.Content.{chunk_content};
+ghost use Rattle.dcsctp_machine.specs.Packet.{content_in};
+ghost use Rattle.dcsctp_core.specs.View.{core_of};
+ghost use Rattle.dcsctp_core_ends.specs.Ends.{violation_in};
+ghost use Rattle.dcsctp_socket_calls.specs.Parts.{WorksChunk};
+
+use crate::unknown::handle_unknown;
+use dcsctp_core::{Context, Following};
+use dcsctp_core_data::{
+    handle_data, handle_forward_tsn, handle_i_data, handle_i_forward_tsn, handle_sack,
+};
+use dcsctp_core_ends::{abort_association, handle_abort, handle_error, violation_of};
+use dcsctp_core_handshake::{handle_cookie_ack, handle_cookie_echo, handle_init, handle_init_ack};
+use dcsctp_core_heartbeat::{handle_heartbeat_ack, handle_heartbeat_request};
+use dcsctp_core_resets::handle_re_config;
+use dcsctp_core_shutdown::{handle_shutdown, handle_shutdown_ack, handle_shutdown_complete};
+use dcsctp_machine::AbortReason;
+use dcsctp_wire::Chunk;
+use rand_core::Rng;
+use std::alloc::AllocError;
+
+/// Works a chunk of an admitted packet with this header tag, and says what follows it. One that breaks the
+/// protocol which was negotiated aborts the association. The one error is that a growth was refused.
+pub(crate) fn handle_chunk<R: Rng>(
+    context: &mut Context<R>,
+    header_tag: u32,
+    chunk: &Chunk<'_>,
+) -> Result<Following, AllocError>
+    ensures { WorksChunk R.stream header_tag (content_in (chunk_content chunk.now)) context.old
+        result context.new }
+{
+    match violation_of(&context.state, chunk) {
+        Some(violation) => {
+            abort_association(context, AbortReason::Violation(violation))?;
+            Ok(Following::DroppedRest)
+        }
+        None => work_chunk(context, header_tag, chunk),
+    }
+}
+
+// Works a chunk that breaks nothing.
+fn work_chunk<R: Rng>(
+    context: &mut Context<R>,
+    header_tag: u32,
+    chunk: &Chunk<'_>,
+) -> Result<Following, AllocError>
+    requires { violation_in (core_of context.old.state) (content_in (chunk_content chunk.now)) ≡ None }
+    ensures { WorksChunk R.stream header_tag (content_in (chunk_content chunk.now)) context.old
+        result context.new }
+{
+    match chunk {
+        Chunk::Init(init) => {
+            handle_init(context, init)?;
+            Ok(Following::NextChunk)
+        }
+        Chunk::InitAck(init_ack) => handle_init_ack(context, init_ack),
+        Chunk::Abort(abort) => handle_abort(context, abort),
+        Chunk::CookieEcho(echo) => handle_cookie_echo(context, header_tag, echo),
+        Chunk::CookieAck => {
+            handle_cookie_ack(context)?;
+            Ok(Following::NextChunk)
+        }
+        Chunk::ShutdownAck => handle_shutdown_ack(context, header_tag),
+        Chunk::HeartbeatRequest(request) => {
+            handle_heartbeat_request(context, request)?;
+            Ok(Following::NextChunk)
+        }
+        Chunk::HeartbeatAck(ack) => {
+            handle_heartbeat_ack(context, ack)?;
+            Ok(Following::NextChunk)
+        }
+        Chunk::Error(error) => {
+            handle_error(context, error)?;
+            Ok(Following::NextChunk)
+        }
+        Chunk::Unknown(unknown) => handle_unknown(context, unknown),
+        Chunk::ShutdownComplete(_) => handle_shutdown_complete(context),
+        Chunk::Data(data) => {
+            handle_data(context, data)?;
+            Ok(Following::NextChunk)
+        }
+        Chunk::IData(data) => {
+            handle_i_data(context, data)?;
+            Ok(Following::NextChunk)
+        }
+        Chunk::Sack(sack) => {
+            handle_sack(context, sack)?;
+            Ok(Following::NextChunk)
+        }
+        Chunk::ForwardTsn(forward_tsn) => {
+            handle_forward_tsn(context, forward_tsn)?;
+            Ok(Following::NextChunk)
+        }
+        Chunk::IForwardTsn(forward_tsn) => {
+            handle_i_forward_tsn(context, forward_tsn)?;
+            Ok(Following::NextChunk)
+        }
+        Chunk::ReConfig(re_config) => {
+            handle_re_config(context, re_config)?;
+            Ok(Following::NextChunk)
+        }
+        Chunk::Shutdown(_) => {
+            handle_shutdown(context)?;
+            Ok(Following::NextChunk)
+        }
+    }
+}

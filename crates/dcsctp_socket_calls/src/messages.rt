@@ -1,0 +1,58 @@
+//! Messages that a user sends and takes, and streams that a user resets, over the parts of a socket.
+
+ghost use Rattle.std.specs.Prelude.{map};
+ghost use Rattle.dcsctp_machine.specs.Ids.{stream_numbers};
+ghost use Rattle.dcsctp_machine.specs.Transfer.{message_content};
+ghost use Rattle.dcsctp_core.specs.View.{view_of};
+ghost use Rattle.dcsctp_socket_calls.specs.MessageParts.{WorksSend, WorksSendMany, WorksTake};
+ghost use Rattle.dcsctp_socket_calls.specs.ResetParts.{WorksReset};
+
+use dcsctp_api::{BatchSendError, Message, ResetStreamsError, SendError, SendOptions, StreamId};
+use dcsctp_core::Context;
+use dcsctp_core_messages::{do_reset_streams, do_send, do_send_many};
+use rand_core::Rng;
+use std::alloc::AllocError;
+
+/// Sends a message. The one error is that a growth was refused. The first events of the turn may stand then.
+pub fn send<R: Rng>(
+    context: &mut Context<R>,
+    message: Message,
+    options: &SendOptions,
+) -> Result<Result<(), SendError>, AllocError>
+    ensures { WorksSend R.stream (message_content message) options.now context.old result context.new }
+{
+    context.begin_call();
+    do_send(context, message, options)
+}
+
+/// Sends several messages, as `send` does.
+pub fn send_many<R: Rng>(
+    context: &mut Context<R>,
+    messages: Vec<Message>,
+    options: &SendOptions,
+) -> Result<Result<(), BatchSendError>, AllocError>
+    ensures { WorksSendMany R.stream (map message_content messages.items) options.now context.old result
+        context.new }
+{
+    context.begin_call();
+    do_send_many(context, messages, options)
+}
+
+/// Resets own streams. The one error is that a growth was refused. The first events of the turn may stand then.
+pub fn reset_streams<R: Rng>(
+    context: &mut Context<R>,
+    stream_ids: &[StreamId],
+) -> Result<Result<(), ResetStreamsError>, AllocError>
+    ensures { WorksReset R.stream (stream_numbers stream_ids.now) context.old result context.new }
+{
+    context.begin_call();
+    do_reset_streams(context, stream_ids)
+}
+
+/// Takes the message that became ready first, where one is ready. It takes no memory.
+pub fn get_next_message<R: Rng>(context: &mut Context<R>) -> Option<Message>
+    ensures { WorksTake (view_of context.old) result (view_of context.new) }
+{
+    context.begin_call();
+    dcsctp_core_messages::get_next_message(context)
+}

@@ -1,0 +1,48 @@
+//! What the user sets of a socket, over its parts: no packet tells the peer.
+
+ghost use Rattle.std.specs.Prelude.{◌≡◌};
+ghost use Rattle.dcsctp_machine.specs.turns.SettingOutcomes.{stream_priority, stream_low_threshold, longest_message};
+ghost use Rattle.dcsctp_core.specs.View.{view_of};
+ghost use Rattle.dcsctp_socket_calls.specs.Parts.{WorksSetting, set_view};
+
+use dcsctp_api::StreamId;
+use dcsctp_core::Context;
+use rand_core::Rng;
+use std::alloc::AllocError;
+
+/// Gives a stream a priority. The one error is that a growth was refused; nothing has changed then.
+pub fn set_stream_priority<R: Rng>(
+    context: &mut Context<R>,
+    stream_id: StreamId,
+    priority: u16,
+) -> Result<(), AllocError>
+    ensures { WorksSetting (stream_priority stream_id.0 priority) context.old result context.new }
+{
+    context.begin_call();
+    context.send_queue.set_priority(stream_id, priority)?;
+    Ok(())
+}
+
+/// Gives a stream the amount at which it is told that its buffered amount is low. The one error is that a
+/// growth was refused; nothing has changed then.
+pub fn set_buffered_amount_low_threshold<R: Rng>(
+    context: &mut Context<R>,
+    stream_id: StreamId,
+    bytes: usize,
+) -> Result<(), AllocError>
+    ensures { WorksSetting (stream_low_threshold stream_id.0 bytes) context.old result context.new }
+{
+    context.begin_call();
+    context
+        .send_queue
+        .set_buffered_amount_low_threshold(stream_id, bytes)?;
+    Ok(())
+}
+
+/// Says how many bytes a message may have.
+pub fn set_max_message_size<R: Rng>(context: &mut Context<R>, max_message_size: usize)
+    ensures { view_of context.new ≡ set_view (longest_message max_message_size) (view_of context.old) }
+{
+    context.begin_call();
+    context.options.max_message_size = max_message_size;
+}

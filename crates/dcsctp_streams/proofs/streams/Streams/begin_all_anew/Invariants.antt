@@ -1,7 +1,0 @@
-use Rattle.std.proofs.Common.{◌≡◌}
-use Rattle.dcsctp_streams.specs.Waiting.{begun_anew}
-use Rattle.dcsctp_streams.proofs.Mapped.{mapped_to}
-use Rattle.dcsctp_streams.proofs.streams.Streams.begin_all_anew.Given as goal
-
-abbrev pub invariant-loop-place : goal.invariant-loop-place
-invariant-loop-place l = l.self ≡ mapped_to l.place begun_anew l.initial.self

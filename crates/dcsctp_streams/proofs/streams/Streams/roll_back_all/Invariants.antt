@@ -1,7 +1,0 @@
-use Rattle.std.proofs.Common.{◌≡◌}
-use Rattle.dcsctp_streams.specs.Waiting.{rolled_back}
-use Rattle.dcsctp_streams.proofs.Mapped.{mapped_to}
-use Rattle.dcsctp_streams.proofs.streams.Streams.roll_back_all.Given as goal
-
-abbrev pub invariant-loop-place : goal.invariant-loop-place
-invariant-loop-place l = l.self ≡ mapped_to l.place rolled_back l.initial.self
