@@ -1,1 +1,4 @@
+pub mod BlockLemmas
+pub mod NeighborLemmas
+pub mod RangeEntryLemmas
 pub mod ReceivedLemmas

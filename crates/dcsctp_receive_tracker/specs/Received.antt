@@ -1,6 +1,15 @@
 -- Which TSNs came in (RFC 9260, section 6.2). TSNs are numbered without wrap: the number of a TSN modulo 2^32 is the TSN.
-use Rattle.std.specs.Prelude.{◌≡◌, ◌==◌, ℕ, ◌+◌, ◌<◌, ◌≤◌, nat_le, Bool, false, not, ◌&&◌, ◌||◌, List, [], ◌∷◌}
+use Rattle.std.specs.Prelude.{◌≡◌, ◌==◌, ℕ, ◌+◌, ◌<◌, ◌≤◌, nat_le, Bool, false, not, ◌&&◌, ◌||◌, List, [], ◌∷◌, ◌++◌, map, take, drop, suc, slice_get, Option, None, Some}
+use Rattle.std.specs.BTreeMap.{BTreeMap}
 use Rattle.dcsctp_receive_tracker.specs.declared.received.TsnRange.{TsnRange}
+
+-- A map holds the ranges. The key of an entry is the first number of a range, and the value is its last.
+abbrev pub range_of : ℕ × ℕ → TsnRange
+range_of entry = record { first = entry.0; last = entry.1 }
+
+-- the ranges of a map, in order
+abbrev pub ranges_of : BTreeMap ℕ ℕ → List TsnRange
+ranges_of ranges = map range_of ranges.entries
 
 -- Do the ranges ascend, with a number missing between each two, and one between this number and the first of them?
 abbrev pub IsBeyond : ℕ → List TsnRange → Type 0
@@ -12,16 +21,6 @@ abbrev pub IsSpaced : List TsnRange → Type 0
 IsSpaced [] = Unit {0}
 IsSpaced (range ∷ ranges) = (range.first ≤ range.last) × IsBeyond range.last ranges
 
--- the last number of the last range, or this one where there is none
-abbrev pub end_of : ℕ → List TsnRange → ℕ
-end_of number [] = number
-end_of number (range ∷ ranges) = end_of range.last ranges
-
--- Does the first range hold the number or a later one, or touch the number?
-abbrev pub StartsFrom : ℕ → List TsnRange → Type 0
-StartsFrom number [] = Unit {0}
-StartsFrom number (range ∷ ranges) = number ≤ range.last + 1
-
 -- Is the number in one of the ranges?
 abbrev pub is_in : ℕ → List TsnRange → Bool
 is_in number [] = false
@@ -30,6 +29,15 @@ is_in number (range ∷ ranges) = (nat_le range.first number && nat_le number ra
 -- Are all up to this number received, or is it in one of the ranges?
 abbrev pub is_received : ℕ → ℕ → List TsnRange → Bool
 is_received cumulative number ranges = nat_le number cumulative || is_in number ranges
+
+-- The entry with this key is taken out.
+abbrev pub Removes : ℕ → List (ℕ × ℕ) → List (ℕ × ℕ) → Type 0
+Removes key old new = (i last : ℕ) → slice_get old i ≡ Some (key, last) → new ≡ take i old ++ drop (suc i) old
+
+-- A range is written that ends at the number. If another one begins right behind the number, the two become one.
+abbrev pub Joins : (ℕ → List (ℕ × ℕ)) → ℕ → Option TsnRange → List (ℕ × ℕ) → Type 0
+Joins written number None new = new ≡ written number
+Joins written number (Some next) new = Removes next.first (written next.last) new
 
 -- The number is added to the ranges beyond a cumulative one, and nothing else.
 pub record Adds (cumulative number : ℕ) (old new : List TsnRange) : Type 0 where

@@ -5,7 +5,7 @@ ghost use Rattle.std.specs.Prelude.{◌≡◌, ◌<◌, ◌-◌, ◌^◌, ◌≤
 ghost use Rattle.std.specs.List.{flat_map};
 ghost use Rattle.std.specs.Duration.{as_nanos};
 ghost use Rattle.std.specs.Int.{w32, to_be_bytes};
-ghost use Rattle.dcsctp_receive_tracker.specs.Received.{IsBeyond};
+ghost use Rattle.dcsctp_receive_tracker.specs.Received.{ranges_of, IsBeyond};
 ghost use Rattle.dcsctp_receive_tracker.specs.Acknowledging.{
   number_of,
   block_bytes,
@@ -20,7 +20,7 @@ use dcsctp_machine::{BackoffAlgorithm, Options, SocketTime};
 use dcsctp_send_timer::Timer;
 use dcsctp_wire::SackChunk;
 use std::alloc::{AllocError, Global};
-use std::collections::VecDeque;
+use std::collections::BTreeMap;
 use std::marker::Model;
 use std::time::Duration;
 
@@ -100,16 +100,15 @@ fn acknowledgement_delay(rto: Duration, longest: Duration) -> Duration
 
 // The gap ack blocks of a SACK, four bytes each: the first ranges, as distances from the cumulative TSN.
 fn gap_ack_blocks(alloc: Global, received: &Received) -> Result<Vec<u8>, AllocError>
-    requires beyond { IsBeyond received.now.cumulative received.now.ranges.items }
-    requires near { IsWithinReach received.now.cumulative received.now.ranges.items }
-    ensures { IfOk result (λ blocks. blocks.items ≡ flat_map (block_bytes received.now.cumulative) (take 20 received.now.ranges.items)) }
+    requires beyond { IsBeyond received.now.cumulative (ranges_of received.now.ranges) }
+    requires near { IsWithinReach received.now.cumulative (ranges_of received.now.ranges) }
+    ensures { IfOk result (λ blocks. blocks.items ≡ flat_map (block_bytes received.now.cumulative) (take 20 (ranges_of received.now.ranges))) }
 {
     let count = received.ranges.len().min(MAX_GAP_ACK_BLOCKS);
     let mut blocks = Vec::with_capacity(alloc, 4 * count)?;
-    for index in 0..count {
-        let range = received.ranges[index];
-        let start = (range.first - received.cumulative) as u16;
-        let end = (range.last - received.cumulative) as u16;
+    for (first, last) in received.ranges.iter().take(MAX_GAP_ACK_BLOCKS) {
+        let start = (*first - received.cumulative) as u16;
+        let end = (*last - received.cumulative) as u16;
         blocks.extend_from_slice(&start.to_be_bytes())?;
         blocks.extend_from_slice(&end.to_be_bytes())?;
     }
@@ -183,6 +182,7 @@ pub struct DataTracker {
 
 impl Model for DataTracker {
     ghost use Rattle.std.specs.Duration.{as_nanos};
+    ghost use Rattle.dcsctp_receive_tracker.specs.Received.{ranges_of};
     ghost use Rattle.dcsctp_receive_tracker.specs.Acknowledging.{TrackerModel};
 
     ghost Value = { TrackerModel };
@@ -191,7 +191,7 @@ impl Model for DataTracker {
 
     ghost view = { λ tracker. record {
       cumulative = tracker.received.cumulative;
-      ranges = tracker.received.ranges.items;
+      ranges = ranges_of tracker.received.ranges;
       duplicates = tracker.duplicates.items;
       has_seen_data = tracker.has_seen_data;
       acknowledgement = tracker.acknowledgement;
@@ -232,7 +232,7 @@ impl DataTracker {
             alloc,
             received: Received {
                 cumulative: u64::from(peer_initial_tsn.wrapping_sub(1)),
-                ranges: VecDeque::new(alloc),
+                ranges: BTreeMap::new(alloc),
             },
             duplicates: Vec::new(alloc),
             has_seen_data: false,

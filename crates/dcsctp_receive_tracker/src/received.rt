@@ -4,31 +4,33 @@ ghost use Rattle.std.specs.Prelude.{
   ◌≡◌,
   ◌+◌,
   ◌<◌,
-  ◌≤◌,
-  ℕ,
+  ◌^◌,
   false,
-  take,
-  drop,
   not,
-  slice_index_or,
   IfOk,
+  OnOk,
   OnErr,
 };
-ghost use Rattle.std.specs.VecDeque.{deque_len};
+ghost use Rattle.std.specs.Option.{option_map};
+ghost use Rattle.std.specs.Map.{set_value};
+ghost use Rattle.std.specs.Map.Iter.{deref_pair};
+ghost use Rattle.std.specs.Ordering.{nat_cmp};
+ghost use Rattle.std.specs.BTreeMap.{IsOrdered, get, insert_entry, is_at};
+ghost use Rattle.dcsctp_receive_entries.specs.Entries.{count_up_to, entry_before};
 ghost use Rattle.dcsctp_receive_tracker.specs.Received.{
+  range_of,
+  ranges_of,
   IsBeyond,
   IsSpaced,
-  end_of,
-  StartsFrom,
+  Joins,
   is_in,
   Adds,
   Advances,
   Receives,
 };
-ghost use Rattle.dcsctp_receive_tracker.specs.declared.received.TsnRange.{TsnRange};
 
 use std::alloc::AllocError;
-use std::collections::VecDeque;
+use std::collections::BTreeMap;
 
 /// TSNs in a row, by number: all from the first to the last.
 #[derive(Clone, Copy, Debug, Drop)]
@@ -37,111 +39,127 @@ pub struct TsnRange {
     pub last: u64,
 }
 
-// Where in the ranges the number belongs: how many of them end before it and don't touch it. What comes
-// in beyond all others is found at once.
-fn place(ranges: &VecDeque<TsnRange>, cumulative: u64, number: u64) -> usize
-    requires { cumulative + 1 < number }
-    ensures within { result ≤ deque_len ranges.now }
-    ensures before { end_of cumulative (take result ranges.now.items) + 1 < number }
-    ensures after { StartsFrom number (drop result ranges.now.items) }
-{
-    let mut low = 0;
-    let mut high = ranges.len();
-    if high > 0 && ranges[high - 1].last < number - 1 {
-        low = high;
-    }
-    while low < high {
-        let middle = low + (high - low) / 2;
-        if ranges[middle].last < number - 1 {
-            low = middle + 1;
-        } else {
-            high = middle;
-        }
-    }
-    low
+// The ranges around a number.
+#[derive(Clone, Copy, Drop)]
+struct Neighbors {
+    // The last range that begins at the number or before it.
+    before: Option<TsnRange>,
+
+    // The range that begins right behind the number.
+    behind: Option<TsnRange>,
 }
 
-// Makes the range at this place end at `number`, which follows it, or later where the next range touches
-// it then.
-fn extend(ranges: &mut VecDeque<TsnRange>, at: usize, number: u64)
-    requires within { at < deque_len ranges.old }
-    requires touched { (d : TsnRange) → (slice_index_or ranges.old.items at d).last + 1 ≡ number }
-    ensures { (cumulative : ℕ) → IsBeyond cumulative ranges.old.items → Adds cumulative number ranges.old.items ranges.new.items }
+// The range of an entry that was found.
+fn range_of(found: Option<(&u64, &u64)>) -> Option<TsnRange>
+    ensures { result ≡ option_map (λ entry. range_of (deref_pair entry)) found.entry }
 {
-    let range = ranges[at];
-    let behind = at + 1;
-    if behind < ranges.len() {
-        let next = ranges[behind];
-        if next.first.saturating_sub(number) == 1 {
-            ranges[at] = TsnRange {
-                first: range.first,
-                last: next.last,
-            };
-            let _ = ranges.remove(behind);
-            return;
-        }
+    match found {
+        Some((first, last)) => Some(TsnRange {
+            first: *first,
+            last: *last,
+        }),
+        None => None,
     }
-    ranges[at] = TsnRange {
-        first: range.first,
-        last: number,
-    };
 }
 
-/// Adds a number to the ranges, which all lie beyond `cumulative` and don't touch it, and answers whether
-/// it is new to them. If there is no memory for it, the ranges stay.
-pub fn add(
-    ranges: &mut VecDeque<TsnRange>,
-    cumulative: u64,
+// The ranges around a number, by one search.
+fn search_neighbors(ranges: &BTreeMap<u64, u64>, number: u64) -> Neighbors
+    requires { number + 1 < 2 ^ 64 }
+    ensures before { result.before ≡ option_map range_of (entry_before (count_up_to number ranges.now.entries) ranges.now.entries) }
+    ensures behind { result.behind ≡ option_map (λ last. range_of (number + 1, last)) (get nat_cmp ranges.now (number + 1)) }
+    ensures ordered { IsOrdered nat_cmp ranges.now }
+{
+    let mut up_to = ranges.range(..=number + 1);
+    let nearest = range_of(up_to.next_back());
+    match nearest {
+        Some(range) if range.first > number => Neighbors {
+            before: range_of(up_to.next_back()),
+            behind: nearest,
+        },
+        _ => Neighbors {
+            before: nearest,
+            behind: None,
+        },
+    }
+}
+
+// The ranges around a number. Those of a number beyond all others are found at once.
+fn find_neighbors(ranges: &BTreeMap<u64, u64>, number: u64) -> Neighbors
+    ensures before { result.before ≡ option_map range_of (entry_before (count_up_to number ranges.now.entries) ranges.now.entries) }
+    ensures behind { result.behind ≡ option_map (λ last. range_of (number + 1, last)) (get nat_cmp ranges.now (number + 1)) }
+    ensures ordered { IsOrdered nat_cmp ranges.now }
+{
+    if ranges.len() == 0 {
+        return Neighbors {
+            before: None,
+            behind: None,
+        };
+    }
+    let last = range_of(ranges.last_key_value());
+    match last {
+        Some(range) if range.first > number => search_neighbors(ranges, number),
+        _ => Neighbors {
+            before: last,
+            behind: None,
+        },
+    }
+}
+
+// Puts a number that touches no range before it. If a range begins right behind it, the two become one. All
+// memory is taken first.
+fn put(
+    ranges: &mut BTreeMap<u64, u64>,
     number: u64,
-) -> Result<bool, AllocError>
-    requires beyond { cumulative + 1 < number }
-    requires ordered { IsBeyond cumulative ranges.old.items }
-    ensures added { IfOk result (λ _. Adds cumulative number ranges.old.items ranges.new.items) }
-    ensures answer { IfOk result (λ is_new. is_new ≡ not (is_in number ranges.old.items)) }
-    ensures known { IfOk result (λ is_new. is_new ≡ false → ranges.new.items ≡ ranges.old.items) }
-    ensures err { OnErr result (ranges.new.items ≡ ranges.old.items) }
+    behind: Option<TsnRange>,
+) -> Result<(), AllocError>
+    ensures ok { OnOk result (Joins (insert_entry nat_cmp ranges.old.entries number) number behind ranges.new.entries) }
+    ensures err { OnErr result (ranges.new.entries ≡ ranges.old.entries) }
 {
-    let at = place(ranges, cumulative, number);
-    let single = TsnRange {
-        first: number,
-        last: number,
+    let Some(next) = behind else {
+        let _ = ranges.insert(number, number)?;
+        return Ok(());
     };
-    if at == ranges.len() {
-        ranges.push_back(single)?;
-        return Ok(true);
+    let _ = ranges.insert(number, next.last)?;
+    let _ = ranges.remove(&next.first);
+    Ok(())
+}
+
+// The range that begins at `first` ends at `last` from now on.
+fn set_last(ranges: &mut BTreeMap<u64, u64>, first: u64, last: u64)
+    ensures entries { ranges.new.entries ≡ set_value (is_at (nat_cmp first)) ranges.old.entries last }
+    ensures ordered { IsOrdered nat_cmp ranges.new }
+{
+    if let Some(end) = ranges.get_mut(&first) {
+        *end = last;
     }
-    let range = ranges[at];
-    if number < range.first {
-        if range.first - number > 1 {
-            ranges.insert(at, single)?;
-        } else {
-            ranges[at] = TsnRange {
-                first: number,
-                last: range.last,
-            };
-        }
-        return Ok(true);
-    }
-    if number <= range.last {
-        return Ok(false);
-    }
-    extend(ranges, at, number);
-    Ok(true)
+}
+
+// The range that begins at `first` goes on to the number. If another one begins right behind the number,
+// the two become one.
+fn extend(ranges: &mut BTreeMap<u64, u64>, first: u64, number: u64, behind: Option<TsnRange>)
+    ensures { Joins (set_value (is_at (nat_cmp first)) ranges.old.entries) number behind ranges.new.entries }
+{
+    let Some(next) = behind else {
+        set_last(ranges, first, number);
+        return;
+    };
+    set_last(ranges, first, next.last);
+    let _ = ranges.remove(&next.first);
 }
 
 /// All up to `number` count as received: answers the last number before the first that is missing, and
 /// leaves the ranges beyond that.
-pub fn advance(ranges: &mut VecDeque<TsnRange>, number: u64) -> u64
-    requires { IsSpaced ranges.old.items }
-    ensures { Advances number ranges.old.items result ranges.new.items }
+pub fn advance(ranges: &mut BTreeMap<u64, u64>, number: u64) -> u64
+    requires { IsSpaced (ranges_of ranges.old) }
+    ensures { Advances number (ranges_of ranges.old) result (ranges_of ranges.new) }
 {
     let mut reached = number;
-    while let Some(range) = ranges.front() {
-        if range.first.saturating_sub(reached) > 1 {
+    while let Some((first, last)) = ranges.first_key_value() {
+        if first.saturating_sub(reached) > 1 {
             break;
         }
-        reached = reached.max(range.last);
-        let _ = ranges.pop_front();
+        reached = reached.max(*last);
+        let _ = ranges.pop_first();
     }
     reached
 }
@@ -150,15 +168,42 @@ pub fn advance(ranges: &mut VecDeque<TsnRange>, number: u64) -> u64
 #[derive(Debug, Drop)]
 pub struct Received {
     pub cumulative: u64,
-    pub ranges: VecDeque<TsnRange>,
+
+    /// The ranges: from the first number of each to its last.
+    pub ranges: BTreeMap<u64, u64>,
 }
 
 impl Received {
+    // Adds a number that leaves a gap behind the cumulative one, and answers whether it is new. If there is
+    // no memory for it, nothing changes.
+    fn add(&mut self, number: u64) -> Result<bool, AllocError>
+        requires beyond { self.old.cumulative + 1 < number }
+        requires ordered { IsBeyond self.old.cumulative (ranges_of self.old.ranges) }
+        ensures added { IfOk result (λ _. Adds self.old.cumulative number (ranges_of self.old.ranges) (ranges_of self.new.ranges)) }
+        ensures answer { IfOk result (λ is_new. is_new ≡ not (is_in number (ranges_of self.old.ranges))) }
+        ensures known { IfOk result (λ is_new. is_new ≡ false → ranges_of self.new.ranges ≡ ranges_of self.old.ranges) }
+        ensures kept { self.new.cumulative ≡ self.old.cumulative }
+        ensures err { OnErr result (ranges_of self.new.ranges ≡ ranges_of self.old.ranges) }
+    {
+        let around = find_neighbors(&self.ranges, number);
+        if let Some(range) = around.before {
+            if number <= range.last {
+                return Ok(false);
+            }
+            if number - range.last == 1 {
+                extend(&mut self.ranges, range.first, number, around.behind);
+                return Ok(true);
+            }
+        }
+        put(&mut self.ranges, number, around.behind)?;
+        Ok(true)
+    }
+
     /// Takes a number in, and answers whether it is new. If there is no memory for it, nothing changes.
     pub fn receive(&mut self, number: u64) -> Result<bool, AllocError>
-        requires { IsBeyond self.old.cumulative self.old.ranges.items }
-        ensures ok { IfOk result (λ is_new. Receives number self.old.cumulative self.old.ranges.items is_new self.new.cumulative self.new.ranges.items) }
-        ensures err { OnErr result ((self.new.cumulative ≡ self.old.cumulative) × (self.new.ranges.items ≡ self.old.ranges.items)) }
+        requires { IsBeyond self.old.cumulative (ranges_of self.old.ranges) }
+        ensures ok { IfOk result (λ is_new. Receives number self.old.cumulative (ranges_of self.old.ranges) is_new self.new.cumulative (ranges_of self.new.ranges)) }
+        ensures err { OnErr result ((self.new.cumulative ≡ self.old.cumulative) × (ranges_of self.new.ranges ≡ ranges_of self.old.ranges)) }
     {
         if number <= self.cumulative {
             return Ok(false);
@@ -167,6 +212,6 @@ impl Received {
             self.cumulative = advance(&mut self.ranges, number);
             return Ok(true);
         }
-        add(&mut self.ranges, self.cumulative, number)
+        self.add(number)
     }
 }

@@ -1,15 +1,14 @@
-use Rattle.std.proofs.Common.{◌≡◌, ◌≤◌, ℕ}
-use Rattle.std.specs.VecDeque.{deque_len}
-use Rattle.dcsctp_receive_tracker.specs.Received.{IsSpaced, is_received}
+use Rattle.std.proofs.Common.{◌≡◌, ◌≤◌, ℕ, length}
+use Rattle.dcsctp_receive_tracker.specs.Received.{IsSpaced, is_received, ranges_of}
 use Rattle.dcsctp_receive_tracker.proofs.received.advance.Given as goal
 
-abbrev pub invariant-loop-range : goal.invariant-loop-range
-invariant-loop-range l =
+abbrev pub invariant-loop-first : goal.invariant-loop-first
+invariant-loop-first l =
     record {
       forward : l.number ≤ l.reached;
-      spaced : IsSpaced l.ranges.items;
-      members : (other : ℕ) → is_received l.reached other l.ranges.items ≡ is_received l.number other l.initial.ranges.items;
+      spaced : IsSpaced (ranges_of l.ranges);
+      members : (other : ℕ) → is_received l.reached other (ranges_of l.ranges) ≡ is_received l.number other (ranges_of l.initial.ranges);
     }
 
-abbrev pub decreases-loop-range : goal.decreases-loop-range
-decreases-loop-range l = deque_len l.ranges
+abbrev pub decreases-loop-first : goal.decreases-loop-first
+decreases-loop-first l = length l.ranges.entries
