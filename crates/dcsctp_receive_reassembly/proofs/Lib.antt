@@ -1,12 +1,14 @@
 pub mod NamedLemmas
+pub mod NamedTableLemmas
 pub mod PartBytes
 pub mod ReassemblyLemmas
 pub mod ResultFacts
 pub mod RunDropLemmas
+pub mod RunMapLemmas
 pub mod RunsLemmas
 pub mod SkippingLemmas
 pub mod StreamBytes
 pub mod StreamSums
-pub mod StreamsLemmas
+pub mod WaitingLemmas
 pub mod WorkLemmas
 pub mod WrittenLemmas

@@ -3,6 +3,7 @@ use Rattle.std.proofs.Common.{◌≡◌, ℕ, zero, suc, ◌+◌, ◌-◌, Bool,
 use Rattle.std.specs.Prelude.{slice_get, is_some}
 use Rattle.std.proofs.lemmas.List.Sums.{sum_by-append, sum_by-cons, sum_by-take-drop}
 use Rattle.std.proofs.lemmas.List.Concat.{length-flat_map}
+use Rattle.dcsctp_receive_entries.specs.Entries.{entry_before}
 use Rattle.dcsctp_receive_reassembly.specs.declared.runs.Assembled.{Assembled}
 use Rattle.dcsctp_receive_reassembly.specs.declared.runs.Assembled.TheVariants.{Dropped, Kept, Whole as WholeMessage}
 use Rattle.dcsctp_receive_reassembly.specs.Runs.{RunModel, PartModel, AddsPart, AddsAt, merged, run_before, run_behind, following, preceding, follows, precedes, front_end, back_start, chosen, with_part, without_runs}
@@ -76,12 +77,6 @@ chosen_following (Some run) part = go (follows run part)
     go true = refl
     go false = refl
 
-chosen_before : (at : ℕ) (runs : List RunModel) (part : PartModel) → chosen (is_some (run_before at runs part)) (slice_get runs (at - 1)) ≡ run_before at runs part
-chosen_before zero runs part = refl
-chosen_before (suc at) runs part =
-    let less : suc at - 1 ≡ at = omega arith in
-    ap (λ place. chosen (is_some (following (slice_get runs at) part)) (slice_get runs place)) less ∙ chosen_following (slice_get runs at) part
-
 chosen_preceding : (o : Option RunModel) (part : PartModel) → chosen (is_some (preceding part o)) o ≡ preceding part o
 chosen_preceding None part = refl
 chosen_preceding (Some run) part = go (precedes part run)
@@ -92,9 +87,9 @@ chosen_preceding (Some run) part = go (precedes part run)
 
 bytes_with_part : (at : ℕ) (runs : List RunModel) (part : PartModel) → runs_bytes (with_part (is_some (run_before at runs part)) (is_some (run_behind part at runs)) at part runs) ≡ runs_bytes runs + length part.payload
 bytes_with_part at runs part =
-    let run : RunModel = merged (chosen (is_some (run_before at runs part)) (slice_get runs (at - 1))) part (chosen (is_some (run_behind part at runs)) (slice_get runs at)) in
-    let same : run_bytes (merged (chosen (is_some (run_before at runs part)) (slice_get runs (at - 1))) part (chosen (is_some (run_behind part at runs)) (slice_get runs at))) ≡ run_bytes (merged (run_before at runs part) part (run_behind part at runs)) =
-    ap (λ front. run_bytes (merged front part (chosen (is_some (run_behind part at runs)) (slice_get runs at)))) (chosen_before at runs part) ∙ ap (λ back. run_bytes (merged (run_before at runs part) part back)) (chosen_preceding (slice_get runs at) part) in
+    let run : RunModel = merged (chosen (is_some (run_before at runs part)) (entry_before at runs)) part (chosen (is_some (run_behind part at runs)) (slice_get runs at)) in
+    let same : run_bytes (merged (chosen (is_some (run_before at runs part)) (entry_before at runs)) part (chosen (is_some (run_behind part at runs)) (slice_get runs at))) ≡ run_bytes (merged (run_before at runs part) part (run_behind part at runs)) =
+    ap (λ front. run_bytes (merged front part (chosen (is_some (run_behind part at runs)) (slice_get runs at)))) (chosen_following (entry_before at runs) part) ∙ ap (λ back. run_bytes (merged (run_before at runs part) part back)) (chosen_preceding (slice_get runs at) part) in
     omega (
       arith,
       same,

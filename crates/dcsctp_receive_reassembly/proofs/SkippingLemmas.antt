@@ -1,5 +1,5 @@
 -- Lemmas on messages that are skipped and streams that are reset.
-use Rattle.std.proofs.Common.{◌≡◌, ◌==◌, ℕ, suc, ◌+◌, ◌≤◌, Bool, true, false, List, [], ◌∷◌, ◌++◌, length, if◌then◌else◌, arith, refl, sym, ◌∙◌, ap, subst}
+use Rattle.std.proofs.Common.{◌≡◌, ◌==◌, ◌||◌, ℕ, suc, ◌+◌, ◌≤◌, Bool, true, false, List, [], ◌∷◌, ◌++◌, length, if◌then◌else◌, arith, refl, sym, ◌∙◌, ap, subst}
 use Rattle.std.specs.Prelude.{IsSome, nat_le}
 use Rattle.std.specs.BTreeMap.{BTreeMap, get}
 use Rattle.std.specs.Ordering.{nat_cmp}
@@ -8,11 +8,12 @@ use Rattle.dcsctp_receive_reassembly.specs.declared.arrivals.SkippedTo.{SkippedT
 use Rattle.dcsctp_receive_reassembly.specs.declared.arrivals.SkippedTo.TheVariants.{Ssn, Mid}
 use Rattle.dcsctp_receive_reassembly.specs.declared.incoming.Incoming.{Incoming}
 use Rattle.dcsctp_receive_reassembly.specs.declared.stream.Stream.{Stream}
+use Rattle.dcsctp_receive_reassembly.specs.NamedStreams.{is_named}
 use Rattle.dcsctp_receive_reassembly.specs.Numbers.{number_near, short_number_near}
 use Rattle.dcsctp_receive_reassembly.specs.Runs.{WholeModel}
-use Rattle.dcsctp_receive_reassembly.specs.Streams.{StreamModel, delivered_as, due, not_due, next_after, next_past, deliveries_from, skipped, skipped_stream, skip_deliveries}
+use Rattle.dcsctp_receive_reassembly.specs.Streams.{StreamModel, new_stream, delivered_as, due, not_due, next_after, next_past, deliveries_from, skipped, skipped_stream, skip_deliveries}
 use Rattle.dcsctp_receive_reassembly.specs.Reassembly.{IncomingModel, Balances, stream_on}
-use Rattle.dcsctp_receive_reassembly.specs.Skipping.{AllMade, room_for, skipped_on, skipped_by, deliveries_by, SkipsOne, SkipsAll, reset_by, parts_left, ResetsOne, ResetsEach}
+use Rattle.dcsctp_receive_reassembly.specs.Skipping.{AllMade, room_for, skipped_on, skipped_by, deliveries_by, SkipsOne, SkipsAll}
 
 -- ---- streams that are there
 
@@ -94,16 +95,14 @@ SkipsAll-none incoming =
 pub Balances-both : (old between new : Incoming) → Balances old between → Balances between new → Balances old new
 Balances-both old between new first second = λ within. omega (arith, first within, second (omega (arith, first within)))
 
--- ---- streams that are reset
+-- ---- streams that begin anew
 
-pub ResetsEach-step : (reset : ℕ) (resets : List ℕ) (old between new : IncomingModel) → ResetsOne reset old between → ResetsEach resets between new → ResetsEach (reset ∷ resets) old new
-ResetsEach-step reset resets old between new one rest =
-    record {
-      streams = λ id. rest.streams id ∙ ap (λ stream. reset_by resets id stream) (one.streams id);
-      unordered = rest.unordered ∙ ap (λ runs. parts_left resets runs) one.unordered;
-      kept = record { ready = rest.kept.ready ∙ one.kept.ready; received = rest.kept.received ∙ one.kept.received; last = rest.kept.last ∙ one.kept.last };
-    }
-
-pub ResetsEach-none : (incoming : IncomingModel) → ResetsEach [] incoming incoming
-ResetsEach-none incoming =
-    record { streams = λ id. refl; unordered = refl; kept = record { ready = refl; received = refl; last = refl } }
+-- one of the streams that are named is forgotten, and then the others
+pub forgotten_step : (first : ℕ) (rest : List ℕ) (id : ℕ) (before after : StreamModel) → after ≡ (if first == id then new_stream id else before) → (if is_named rest id then new_stream id else after) ≡ (if is_named (first ∷ rest) id then new_stream id else before)
+forgotten_step first rest id before after is = ap (λ stream. if is_named rest id then new_stream id else stream) is ∙ go (first == id) (is_named rest id)
+  where
+    go : (is_first later : Bool) → (if later then new_stream id else (if is_first then new_stream id else before)) ≡ (if is_first || later then new_stream id else before)
+    go true true = refl
+    go true false = refl
+    go false true = refl
+    go false false = refl

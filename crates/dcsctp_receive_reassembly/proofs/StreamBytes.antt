@@ -15,8 +15,8 @@ use Rattle.dcsctp_receive_reassembly.specs.declared.stream.Taken.{Taken}
 use Rattle.dcsctp_receive_reassembly.specs.Numbers.{number_near, short_number_near}
 use Rattle.dcsctp_receive_reassembly.specs.Held.{run_bytes, runs_bytes, wholes_bytes}
 use Rattle.dcsctp_receive_reassembly.specs.QueuedBytes.{stream_bytes, ready_bytes}
-use Rattle.dcsctp_receive_reassembly.specs.Runs.{RunModel, PartModel, WholeModel, is_within, up_to_place, behind_place, whole_of}
-use Rattle.dcsctp_receive_reassembly.specs.Streams.{StreamModel, ChunkModel, delivered_as, due, not_due, next_after, next_past, deliveries_from, ready_with, TakesWhole, WaitsAmong, OrderedOutcome, TakesOrdered, UnorderedOutcome, TakesUnordered, TakesInOrder, TakesOutOfOrder, TakesApart, TakesNumbered, TakesOnStream, skipped, skip_deliveries, skip_bytes}
+use Rattle.dcsctp_receive_reassembly.specs.Runs.{RunModel, PartModel, WholeModel, up_to_place, behind_place, whole_of}
+use Rattle.dcsctp_receive_reassembly.specs.Streams.{StreamModel, ChunkModel, delivered_as, due, not_due, next_after, next_past, deliveries_from, ready_with, TakesWhole, WaitsAmong, OrderedOutcome, TakesOrdered, TakesAhead, is_waiting, UnorderedOutcome, TakesUnordered, TakesInOrder, TakesOutOfOrder, TakesApart, TakesNumbered, TakesOnStream, skipped, skip_deliveries, skip_bytes}
 use Rattle.dcsctp_receive_reassembly.proofs.PartBytes.{PartCounted, part_counted}
 
 abbrev size_of_message : MessageContent → ℕ
@@ -91,6 +91,16 @@ unordered_counted part id old before taken new after takes = go takes.outcome (p
       omega (arith, counted, does.1, ap ready_bytes does.0, sum_by-append size_of_message before (delivered_as id (whole_of whole) ∷ []), sum_by-cons size_of_message (delivered_as id (whole_of whole)) []),
     )
 
+ahead_counted : (part : PartModel) (old : StreamModel) (before : List MessageContent) (taken : Taken) (new : StreamModel) (after : List MessageContent) → TakesAhead part old before taken new after → Counted (length part.payload) old before taken new after
+ahead_counted part old before taken new after takes = go (is_waiting part.number old.waiting) refl
+  where
+    go : (waits : Bool) → is_waiting part.number old.waiting ≡ waits → Counted (length part.payload) old before taken new after
+    go true waits =
+        let does = takes.repeated waits in
+        let counted = unordered_counted part old.id old.ordered before taken new.ordered after does.ordered in
+        record { kept = counted.0; bytes = omega (arith, counted.1, ap wholes_bytes does.others.2, ap runs_bytes does.others.3) }
+    go false fresh = ordered_counted part old before taken new after (takes.fresh fresh)
+
 nat_lt-true : (m n : ℕ) → nat_lt m n ≡ true → m < n
 nat_lt-true m n is = grind (arith, nat_tests)
 
@@ -104,7 +114,7 @@ in_order_counted part old before taken new after takes = go (nat_lt part.number 
     go true past =
         let does = takes.past (nat_lt-true part.number old.next past) in
         record { kept = omega (arith, does.0.0); bytes = omega (arith, does.0.0, ap stream_bytes does.1, ap ready_bytes does.2) }
-    go false ahead = ordered_counted part old before taken new after (takes.ahead (nat_lt-false part.number old.next ahead))
+    go false ahead = ahead_counted part old before taken new after (takes.ahead (nat_lt-false part.number old.next ahead))
 
 out_of_order_counted : (part : PartModel) (old : StreamModel) (before : List MessageContent) (taken : Taken) (new : StreamModel) (after : List MessageContent) → TakesOutOfOrder part old before taken new after → Counted (length part.payload) old before taken new after
 out_of_order_counted part old before taken new after takes =
@@ -117,7 +127,7 @@ apart_counted part old before taken new after takes =
     record { kept = counted.0; bytes = omega (arith, counted.1, ap wholes_bytes takes.others.2, ap runs_bytes takes.others.3) }
 
 numbered_counted : (tsn : ℕ) (chunk : ChunkModel) (numbering : Numbering) (old : StreamModel) (before : List MessageContent) (taken : Taken) (new : StreamModel) (after : List MessageContent) → TakesNumbered tsn chunk numbering old before taken new after → Counted (length chunk.payload) old before taken new after
-numbered_counted tsn chunk (Ordered ssn) old before taken new after takes = ordered_counted _ old before taken new after takes
+numbered_counted tsn chunk (Ordered ssn) old before taken new after takes = ahead_counted _ old before taken new after takes
 numbered_counted tsn chunk Unordered old before taken new after takes = apart_counted _ old before taken new after takes
 numbered_counted tsn chunk (InterleavedOrdered mid fsn) old before taken new after takes = in_order_counted _ old before taken new after takes
 numbered_counted tsn chunk (InterleavedUnordered mid fsn) old before taken new after takes = out_of_order_counted _ old before taken new after takes
@@ -137,11 +147,11 @@ parted_bytes drops (run ∷ runs) = go (drops run) (parted_bytes drops runs)
 
 pub skipped_bytes : (entry : SkippedTo) (stream : StreamModel) → stream_bytes (skipped entry stream) + ready_bytes (skip_deliveries entry stream) + skip_bytes entry stream ≡ stream_bytes stream
 skipped_bytes (Ssn id ssn) stream =
-    omega (arith, parted_bytes (λ run. is_within 0 (short_number_near stream.next ssn) run.number) stream.ordered, deliveries_bytes (next_past (short_number_near stream.next ssn) stream.next) stream)
+    omega (arith, parted_bytes (λ run. nat_le run.number (short_number_near stream.next ssn)) stream.ordered, deliveries_bytes (next_past (short_number_near stream.next ssn) stream.next) stream)
 skipped_bytes (Mid id false mid) stream =
-    omega (arith, parted_bytes (λ run. is_within 0 (number_near stream.next mid) run.number) stream.ordered, deliveries_bytes (next_past (number_near stream.next mid) stream.next) stream)
+    omega (arith, parted_bytes (λ run. nat_le run.number (number_near stream.next mid)) stream.ordered, deliveries_bytes (next_past (number_near stream.next mid) stream.next) stream)
 skipped_bytes (Mid id true mid) stream =
-    omega (arith, parted_bytes (λ run. is_within 0 (number_near stream.last_unordered mid) run.number) stream.unordered)
+    omega (arith, parted_bytes (λ run. nat_le run.number (number_near stream.last_unordered mid)) stream.unordered)
 
 -- the runs in front that are dropped, and those behind them
 pub placed_bytes : (place : ℕ) (runs : List RunModel) → runs_bytes (up_to_place place runs) + runs_bytes (behind_place place runs) ≡ runs_bytes runs

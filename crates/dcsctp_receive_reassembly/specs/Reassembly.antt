@@ -37,7 +37,7 @@ incoming_of incoming =
       messages_received = incoming.messages_received;
       ready = map message_content incoming.ready.items;
       streams = map entry_of incoming.streams.entries;
-      unordered = map run_of incoming.unordered.items;
+      unordered = map run_of incoming.unordered.entries;
       last_tsn_number = incoming.last_tsn_number;
     }
 

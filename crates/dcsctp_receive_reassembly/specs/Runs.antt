@@ -1,8 +1,12 @@
 -- Messages that aren't whole yet: parts that follow on one another (RFC 9260, section 6.9; RFC 8260, section 2.1). Parts of one
 -- message have places in a row.
-use Rattle.std.specs.Prelude.{◌≡◌, ◌==◌, ℕ, zero, suc, ◌-◌, ◌<◌, ◌≤◌, nat_lt, nat_le, Bool, true, false, not, ◌&&◌, if◌then◌else◌, Option, None, Some, List, [], ◌∷◌, ◌++◌, length, map, slice_get, take, drop, is_some}
+use Rattle.std.specs.Prelude.{◌≡◌, ◌==◌, ℕ, suc, ◌+◌, ◌-◌, ◌<◌, ◌≤◌, nat_lt, nat_le, Bool, true, false, not, ◌&&◌, if◌then◌else◌, Option, None, Some, List, [], ◌∷◌, ◌++◌, length, map, slice_get, take, drop, is_some}
 use Rattle.std.specs.List.{flat_map}
 use denote.Ref.{Bor}
+use Rattle.std.specs.VecDeque.{deque_capacity}
+use Rattle.std.specs.BTreeMap.{BTreeMap, get}
+use Rattle.std.specs.Ordering.{nat_cmp}
+use Rattle.dcsctp_receive_entries.specs.Entries.{entry_before}
 use Rattle.dcsctp_receive_reassembly.specs.declared.runs.Run.{Run}
 use Rattle.dcsctp_receive_reassembly.specs.declared.runs.Part.{Part}
 use Rattle.dcsctp_receive_reassembly.specs.declared.runs.Whole.{Whole}
@@ -36,15 +40,16 @@ pub record WholeModel : Type 0 where
   pub ppid : ℕ
   pub payload : List ℕ
 
-abbrev pub run_of : Run → RunModel
-run_of run =
+-- a run, by the place of its first part
+abbrev pub run_of : ℕ × Run → RunModel
+run_of entry =
     record {
-      first = run.first;
-      number = run.number;
-      ppid = run.ppid.0;
-      has_beginning = run.has_beginning;
-      has_end = run.has_end;
-      payloads = map (λ payload. payload.items) run.payloads.items;
+      first = entry.0;
+      number = entry.1.number;
+      ppid = entry.1.ppid.0;
+      has_beginning = entry.1.has_beginning;
+      has_end = entry.1.has_end;
+      payloads = entry.1.payload.items ∷ map (λ payload. payload.items) entry.1.others.items;
     }
 
 abbrev pub part_of : Part → PartModel
@@ -73,8 +78,26 @@ StartsBehind place (Some run) = place < run.first
 
 -- Where a place belongs among the runs: the run before begins at it or before it, the next one behind it.
 pub record IsPlace (at place : ℕ) (runs : List RunModel) : Type 0 where
-  pub before : 0 < at → StartsUpTo place (slice_get runs (at - 1))
+  pub within : at ≤ length runs
+  pub before : StartsUpTo place (entry_before at runs)
   pub behind : StartsBehind place (slice_get runs at)
+
+-- Is there such a run, and does it begin at this place?
+abbrev pub BeginsAt : ℕ → Option RunModel → Type 0
+BeginsAt first None = ⊥
+BeginsAt first (Some run) = run.first ≡ first
+
+abbrev pub BeginsIf : Option ℕ → Option RunModel → Type 0
+BeginsIf None run = Unit {0}
+BeginsIf (Some first) run = BeginsAt first run
+
+-- Is there room for so many more parts in the run that begins at this place?
+abbrev pub RoomIn : ℕ → Option Run → Type 0
+RoomIn count None = ⊥
+RoomIn count (Some run) = length run.others.items + count ≤ deque_capacity run.others
+
+abbrev pub HasRoom : ℕ → ℕ → BTreeMap ℕ Run → Type 0
+HasRoom first count runs = RoomIn count (get nat_cmp runs first)
 
 -- Does the run before a place among the runs hold this place of a part?
 abbrev pub holds_some : Option RunModel → ℕ → Bool
@@ -82,12 +105,12 @@ holds_some None place = false
 holds_some (Some run) place = holds run place
 
 abbrev pub is_held_before : ℕ → List RunModel → ℕ → Bool
-is_held_before zero runs place = false
-is_held_before (suc at) runs place = holds_some (slice_get runs at) place
+is_held_before at runs place = holds_some (entry_before at runs) place
 
--- Is the number from one to another?
-abbrev pub is_within : ℕ → ℕ → ℕ → Bool
-is_within from to number = nat_le from number && nat_le number to
+-- Is there a first run, and does it begin at the place or before it?
+abbrev pub begins_up_to : ℕ → List RunModel → Bool
+begins_up_to place [] = false
+begins_up_to place (run ∷ runs) = nat_le run.first place
 
 -- the runs in front that begin at a place or before it, and those behind them
 abbrev pub up_to_place : ℕ → List RunModel → List RunModel
@@ -127,9 +150,10 @@ merged (Some front) part (Some back) = chained front (chained (single_run part) 
 abbrev pub whole_run : RunModel → WholeModel
 whole_run run = record { number = run.number; ppid = run.ppid; payload = joined_bytes run.payloads }
 
-abbrev pub lent_run : Option (Bor Run) → Option RunModel
+-- a run that is lent, with the place where it begins
+abbrev pub lent_run : Option (ℕ × Bor Run) → Option RunModel
 lent_run None = None
-lent_run (Some run) = Some (run_of run.now)
+lent_run (Some entry) = Some (run_of (entry.0, entry.1.now))
 
 -- Is the message of the run whole?
 abbrev pub is_whole : RunModel → Bool
@@ -145,8 +169,7 @@ preceding part (Some run) = if precedes part run then Some run else None
 
 -- the run before a place among the runs, where the part follows on it
 abbrev pub run_before : ℕ → List RunModel → PartModel → Option RunModel
-run_before zero runs part = None
-run_before (suc at) runs part = following (slice_get runs at) part
+run_before at runs part = following (entry_before at runs) part
 
 -- the run at a place among the runs, where it follows on the part
 abbrev pub run_behind : PartModel → ℕ → List RunModel → Option RunModel
@@ -178,7 +201,7 @@ with_run joins_before joins_behind at run runs =
 -- the runs with a part in one with those that join it
 abbrev pub with_part : Bool → Bool → ℕ → PartModel → List RunModel → List RunModel
 with_part joins_before joins_behind at part runs =
-    with_run joins_before joins_behind at (merged (chosen joins_before (slice_get runs (at - 1))) part (chosen joins_behind (slice_get runs at))) runs
+    with_run joins_before joins_behind at (merged (chosen joins_before (entry_before at runs)) part (chosen joins_behind (slice_get runs at))) runs
 
 -- the runs without those that a message was joined from
 abbrev pub without_runs : Bool → Bool → ℕ → List RunModel → List RunModel

@@ -6,8 +6,9 @@ use Rattle.std.specs.Ordering.{nat_cmp}
 use Rattle.dcsctp_machine.specs.Transfer.{MessageContent}
 use Rattle.dcsctp_receive_reassembly.specs.declared.arrivals.SkippedTo.{SkippedTo}
 use Rattle.dcsctp_receive_reassembly.specs.declared.stream.Stream.{Stream}
+use Rattle.dcsctp_receive_reassembly.specs.NamedStreams.{is_named}
 use Rattle.dcsctp_receive_reassembly.specs.Numbers.{number_near}
-use Rattle.dcsctp_receive_reassembly.specs.Runs.{RunModel, is_within, behind_place}
+use Rattle.dcsctp_receive_reassembly.specs.Runs.{RunModel, behind_place}
 use Rattle.dcsctp_receive_reassembly.specs.Streams.{StreamModel, new_stream, skipped_stream, skipped, skip_deliveries}
 use Rattle.dcsctp_receive_reassembly.specs.Reassembly.{IncomingModel, stream_on, received_more}
 
@@ -65,21 +66,9 @@ MovesOn tsn entries old new = MovesTo (number_near old.last_tsn_number tsn) entr
 
 -- ---- streams that begin anew; messages that are ready stay
 
--- a stream once one stream, or each of these, is reset
-abbrev pub reset_on : ℕ → ℕ → StreamModel → StreamModel
-reset_on reset id stream = if reset == id then new_stream id else stream
-
-abbrev pub reset_by : List ℕ → ℕ → StreamModel → StreamModel
-reset_by [] id stream = stream
-reset_by (reset ∷ resets) id stream = reset_by resets id (reset_on reset id stream)
-
--- the parts of unordered messages of DATA then
-abbrev pub parts_of_others : ℕ → List RunModel → List RunModel
-parts_of_others reset runs = filter (λ run. not (is_within reset reset run.number)) runs
-
+-- the parts of unordered messages of DATA whose stream isn't named
 abbrev pub parts_left : List ℕ → List RunModel → List RunModel
-parts_left [] runs = runs
-parts_left (reset ∷ resets) runs = parts_left resets (parts_of_others reset runs)
+parts_left resets runs = filter (λ run. not (is_named resets run.number)) runs
 
 -- What is ready stays, and what is counted of it.
 pub record KeepsReady (old new : IncomingModel) : Type 0 where
@@ -87,13 +76,8 @@ pub record KeepsReady (old new : IncomingModel) : Type 0 where
   pub received : new.messages_received ≡ old.messages_received
   pub last : new.last_tsn_number ≡ old.last_tsn_number
 
-pub record ResetsOne (reset : ℕ) (old new : IncomingModel) : Type 0 where
-  pub streams : (id : ℕ) → stream_on id new.streams ≡ reset_on reset id (stream_on id old.streams)
-  pub unordered : new.unordered ≡ parts_of_others reset old.unordered
-  pub kept : KeepsReady old new
-
 pub record ResetsEach (resets : List ℕ) (old new : IncomingModel) : Type 0 where
-  pub streams : (id : ℕ) → stream_on id new.streams ≡ reset_by resets id (stream_on id old.streams)
+  pub streams : (id : ℕ) → stream_on id new.streams ≡ (if is_named resets id then new_stream id else stream_on id old.streams)
   pub unordered : new.unordered ≡ parts_left resets old.unordered
   pub kept : KeepsReady old new
 

@@ -1,7 +1,7 @@
 -- Incoming streams: whole ordered messages that wait for their turn, and parts (RFC 9260, sections 6.5 and 6.6; RFC 3758,
 -- section 3.6). Messages are numbered without wrap.
 use Rattle.std.specs.List.{filter}
-use Rattle.std.specs.Prelude.{◌≡◌, ◌==◌, ℕ, ◌+◌, ◌-◌, ◌^◌, ◌<◌, ◌≤◌, MatchBool, min, max, nat_le, take, drop, slice_get, if◌then◌else◌, not, Bool, true, false, Option, None, Some, List, [], ◌∷◌, ◌++◌, length, map}
+use Rattle.std.specs.Prelude.{◌≡◌, ◌==◌, ℕ, ◌+◌, ◌-◌, ◌^◌, ◌<◌, ◌≤◌, MatchBool, min, max, nat_le, take, drop, slice_get, if◌then◌else◌, not, ◌||◌, Bool, true, false, Option, None, Some, List, [], ◌∷◌, ◌++◌, length, map}
 use Rattle.dcsctp_machine.specs.Transfer.{MessageContent}
 use Rattle.dcsctp_receive_reassembly.specs.declared.arrivals.Data.{Data}
 use Rattle.dcsctp_receive_reassembly.specs.declared.arrivals.SkippedTo.{SkippedTo}
@@ -11,9 +11,14 @@ use Rattle.dcsctp_receive_reassembly.specs.declared.arrivals.Numbering.TheVarian
 use Rattle.dcsctp_receive_reassembly.specs.Numbers.{number_near, short_number_near, short_number_from, fragment_place}
 use Rattle.dcsctp_receive_reassembly.specs.declared.stream.Stream.{Stream}
 use Rattle.dcsctp_receive_reassembly.specs.declared.stream.Taken.{Taken}
+use Rattle.dcsctp_receive_reassembly.specs.declared.stream.Waiting.{Waiting}
+use Rattle.std.specs.BTreeMap.{is_at}
+use Rattle.std.specs.Map.{lookup}
+use Rattle.std.specs.Ordering.{nat_cmp}
+use Rattle.dcsctp_receive_entries.specs.Entries.{Ascends, count_up_to}
 use Rattle.dcsctp_receive_reassembly.specs.declared.runs.Assembled.{Assembled}
 use Rattle.dcsctp_receive_reassembly.specs.declared.runs.Assembled.TheVariants.{Dropped, Kept, Whole as WholeMessage}
-use Rattle.dcsctp_receive_reassembly.specs.Runs.{RunModel, PartModel, WholeModel, AddsPart, is_within, run_of, whole_of}
+use Rattle.dcsctp_receive_reassembly.specs.Runs.{RunModel, PartModel, WholeModel, AddsPart, run_of, whole_of}
 use Rattle.dcsctp_receive_reassembly.specs.Held.{runs_bytes}
 
 pub record StreamModel : Type 0 where
@@ -28,15 +33,19 @@ pub record StreamModel : Type 0 where
   pub ordered : List RunModel
   pub unordered : List RunModel
 
+-- a message that waits, by its number
+abbrev pub waits_as : ℕ × Waiting → WholeModel
+waits_as entry = record { number = entry.0; ppid = entry.1.ppid.0; payload = entry.1.payload.items }
+
 abbrev pub stream_of : Stream → StreamModel
 stream_of stream =
     record {
       id = stream.id.0;
       next = stream.next;
       last_unordered = stream.last_unordered;
-      waiting = map whole_of stream.waiting.items;
-      ordered = map run_of stream.ordered.items;
-      unordered = map run_of stream.unordered.items;
+      waiting = map waits_as stream.waiting.entries;
+      ordered = map run_of stream.ordered.entries;
+      unordered = map run_of stream.unordered.entries;
     }
 
 -- a stream on which nothing came in
@@ -90,6 +99,24 @@ KeptOnly part taken = (taken.kept_bytes ≡ length part.payload) × (taken.ready
 abbrev pub ready_with : StreamModel → WholeModel → List MessageContent
 ready_with stream whole = delivered_as stream.id whole ∷ deliveries_from (next_after stream.next whole) stream
 
+-- Does a message of this number wait?
+abbrev pub is_waiting : ℕ → List WholeModel → Bool
+is_waiting number [] = false
+is_waiting number (whole ∷ waiting) = (whole.number == number) || is_waiting number waiting
+
+-- Does a message wait, and is the first of them numbered up to this number?
+abbrev pub is_due : ℕ → List WholeModel → Bool
+is_due next [] = false
+is_due next (whole ∷ waiting) = nat_le whole.number next
+
+-- An entry without content was put at this number, at its place in the order of numbers.
+pub record HoldsPlace (number : ℕ) (old new : List (ℕ × Waiting)) : Type 0 where
+  pub empty : Waiting
+  pub ascends : Ascends old
+  pub ascends' : Ascends new
+  pub absent : lookup (is_at (nat_cmp number)) old ≡ None
+  pub put : new ≡ take (count_up_to number old) old ++ (number, empty) ∷ drop (count_up_to number old) old
+
 -- Is the message, if there is one, numbered below the number, or not?
 abbrev pub NumberedBelow : ℕ → Option WholeModel → Type 0
 NumberedBelow number None = Unit {0}
@@ -126,7 +153,7 @@ OrderedOutcome part old before Kept taken new after =
 OrderedOutcome part old before (WholeMessage whole) taken new after =
     TakesWhole (whole_of whole) old before (length part.payload) taken new after
 
--- A part of an ordered message, or a whole one, that isn't before the next.
+-- A part of an ordered message, or a whole one, that isn't before the next, and whose message doesn't wait.
 pub record TakesOrdered (part : PartModel) (old : StreamModel) (before : List MessageContent) (taken : Taken) (new : StreamModel) (after : List MessageContent) : Type 0 where
   pub outcome : Assembled
   pub parts : AddsPart part old.ordered outcome new.ordered
@@ -146,6 +173,18 @@ pub record TakesUnordered (part : PartModel) (shown : WholeModel → MessageCont
   pub outcome : Assembled
   pub parts : AddsPart part old outcome new
   pub does : UnorderedOutcome part shown before outcome taken after
+
+-- A part of an ordered message of a number that a message has which waits, or a whole one: no order says which of the two comes
+-- first, so this one becomes ready once it is whole.
+pub record TakesRepeated (part : PartModel) (old : StreamModel) (before : List MessageContent) (taken : Taken) (new : StreamModel) (after : List MessageContent) : Type 0 where
+  pub ordered : TakesUnordered part (delivered_as old.id) old.ordered before taken new.ordered after
+  pub others : (new.id ≡ old.id) × (new.next ≡ old.next) × (new.waiting ≡ old.waiting) × (new.unordered ≡ old.unordered)
+  pub last : new.last_unordered ≡ old.last_unordered
+
+-- A part of an ordered message, or a whole one, that isn't before the next: does a message of its number wait already?
+pub record TakesAhead (part : PartModel) (old : StreamModel) (before : List MessageContent) (taken : Taken) (new : StreamModel) (after : List MessageContent) : Type 0 where
+  pub repeated : is_waiting part.number old.waiting ≡ true → TakesRepeated part old before taken new after
+  pub fresh : is_waiting part.number old.waiting ≡ false → TakesOrdered part old before taken new after
 
 -- ---- chunks of data
 
@@ -170,7 +209,7 @@ data_part chunk place number =
 -- A part of an ordered I-DATA message, or a whole one: it is dropped where its message is before the next.
 pub record TakesInOrder (part : PartModel) (old : StreamModel) (before : List MessageContent) (taken : Taken) (new : StreamModel) (after : List MessageContent) : Type 0 where
   pub past : part.number < old.next → NothingTaken taken × (new ≡ old) × (after ≡ before)
-  pub ahead : old.next ≤ part.number → TakesOrdered part old before taken new after
+  pub ahead : old.next ≤ part.number → TakesAhead part old before taken new after
 
 -- the same of an unordered I-DATA message
 pub record TakesOutOfOrder (part : PartModel) (old : StreamModel) (before : List MessageContent) (taken : Taken) (new : StreamModel) (after : List MessageContent) : Type 0 where
@@ -192,7 +231,7 @@ pub record TakesApart (part : PartModel) (old : StreamModel) (before : List Mess
 -- and a part of a message that was skipped may come late, since parts of I-DATA messages need not have TSNs in a row.
 abbrev pub TakesNumbered : ℕ → ChunkModel → Numbering → StreamModel → List MessageContent → Taken → StreamModel → List MessageContent → Type 0
 TakesNumbered tsn chunk (Ordered ssn) old before taken new after =
-    TakesOrdered (data_part chunk tsn (short_number_from old.next ssn)) old before taken new after
+    TakesAhead (data_part chunk tsn (short_number_from old.next ssn)) old before taken new after
 TakesNumbered tsn chunk Unordered old before taken new after = TakesApart (data_part chunk tsn 0) old before taken new after
 TakesNumbered tsn chunk (InterleavedOrdered mid fsn) old before taken new after =
     TakesInOrder (data_part chunk (fragment_place (number_near old.next mid) fsn) (number_near old.next mid)) old before taken new after
@@ -206,10 +245,10 @@ TakesOnStream tsn chunk old before taken new after = TakesNumbered tsn chunk chu
 
 -- the runs of the messages up to a number, and the others
 abbrev pub runs_up_to : ℕ → List RunModel → List RunModel
-runs_up_to number runs = filter (λ run. is_within 0 number run.number) runs
+runs_up_to number runs = filter (λ run. nat_le run.number number) runs
 
 abbrev pub runs_behind : ℕ → List RunModel → List RunModel
-runs_behind number runs = filter (λ run. not (is_within 0 number run.number)) runs
+runs_behind number runs = filter (λ run. not (nat_le run.number number)) runs
 
 -- The ordered messages up to a number are skipped: what isn't whole of them is dropped, whole ones and those that follow in a row
 -- become ready.

@@ -46,7 +46,7 @@ pub struct Incoming {
     pub streams: BTreeMap<u16, Stream>,
 
     /// Parts of unordered messages of DATA, by their TSNs. The number of a message is its stream.
-    pub unordered: VecDeque<Run>,
+    pub unordered: BTreeMap<u128, Run>,
 
     /// The number of the TSN that was worked last.
     pub last_tsn_number: u64,
@@ -141,7 +141,7 @@ impl Incoming {
             messages_received: 0,
             ready: VecDeque::new(alloc),
             streams: BTreeMap::new(alloc),
-            unordered: VecDeque::new(alloc),
+            unordered: BTreeMap::new(alloc),
             last_tsn_number: FIRST_NUMBER,
         }
     }

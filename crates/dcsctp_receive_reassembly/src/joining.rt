@@ -3,6 +3,8 @@
 
 ghost use Rattle.std.specs.Prelude.{
   ◌≡◌,
+  ℕ,
+  is_some,
   ◌+◌,
   ◌<◌,
   ◌≤◌,
@@ -11,15 +13,21 @@ ghost use Rattle.std.specs.Prelude.{
   OnOk,
   OnErr,
   IsSome,
+  length,
   map,
+  slice_get,
   true,
   false,
   None,
   Some,
 };
-ghost use Rattle.std.specs.List.{remove};
-ghost use Rattle.std.specs.VecDeque.{deque_len, deque_capacity};
+ghost use Rattle.std.specs.Option.{option_map};
+ghost use Rattle.std.specs.VecDeque.{deque_capacity};
+ghost use Rattle.std.specs.BTreeMap.{IsOrdered, get, is_at};
+ghost use Rattle.std.specs.Ordering.{nat_cmp};
+ghost use Rattle.dcsctp_receive_entries.specs.Entries.{count_up_to, entry_before};
 ghost use Rattle.dcsctp_receive_reassembly.specs.Runs.{
+  PartModel,
   run_of,
   part_of,
   whole_of,
@@ -27,7 +35,7 @@ ghost use Rattle.dcsctp_receive_reassembly.specs.Runs.{
   lent_run,
   follows,
   precedes,
-  run_before,
+  following,
   run_behind,
   single_run,
   merged,
@@ -35,30 +43,35 @@ ghost use Rattle.dcsctp_receive_reassembly.specs.Runs.{
   joined_bytes,
   with_part,
   without_runs,
+  holds_some,
   is_held_before,
+  BeginsAt,
+  BeginsIf,
+  HasRoom,
   IsOfMessage,
   AddsPart,
 };
 
-use crate::runs::{Assembled, Part, Run, Whole, holds, runs_up_to, size_of_run};
+use crate::runs::{Assembled, Part, Run, Whole, holds, run_up_to, size_of_run};
+use dcsctp_receive_entries::{entry_behind, put_entry};
 use std::alloc::{AllocError, Global};
-use std::collections::VecDeque;
+use std::collections::{BTreeMap, VecDeque};
 
-// Does the part follow on this run?
-fn follows(run: &Run, part: &Part) -> bool
-    ensures { result ≡ follows (run_of run.now) (part_of part.now) }
+// Does the part follow on this run, which begins at `first`?
+fn follows(first: u128, run: &Run, part: &Part) -> bool
+    ensures { result ≡ follows (run_of (first, run.now)) (part_of part.now) }
 {
-    part.place.saturating_sub(run.first) == run.payloads.len() as u128
+    part.place.saturating_sub(first) == run.others.len() as u128 + 1
         && run.number == part.number
         && !run.has_end
         && !part.is_beginning
 }
 
-// Does this run follow on the part?
-fn precedes(part: &Part, run: &Run) -> bool
-    ensures { result ≡ precedes (part_of part.now) (run_of run.now) }
+// Does this run, which begins at `first`, follow on the part?
+fn precedes(part: &Part, first: u128, run: &Run) -> bool
+    ensures { result ≡ precedes (part_of part.now) (run_of (first, run.now)) }
 {
-    run.first.saturating_sub(part.place) == 1
+    first.saturating_sub(part.place) == 1
         && run.number == part.number
         && !part.is_end
         && !run.has_beginning
@@ -74,28 +87,34 @@ fn copy_payloads(joined: &mut Vec<u8>, payloads: &VecDeque<Vec<u8>>) -> Result<(
     Ok(())
 }
 
-// A run of this part alone.
-fn single(alloc: Global, part: Part) -> Result<Run, AllocError>
-    ensures { IfOk result (λ run. run_of run ≡ single_run (part_of part)) }
+// Adds a copy of the payloads of a run.
+fn copy_run(joined: &mut Vec<u8>, run: &Run) -> Result<(), AllocError>
+    ensures { OnOk result (joined.new.items ≡ joined.old.items ++ joined_bytes (run_of (0, run.now)).payloads) }
 {
-    let mut payloads = VecDeque::with_capacity(alloc, 1)?;
-    payloads.push_back(part.payload)?;
-    Ok(Run {
-        first: part.place,
+    joined.extend_from_slice(run.payload.as_slice())?;
+    copy_payloads(joined, &run.others)
+}
+
+// A run of this part alone. It takes no memory.
+fn single(alloc: Global, part: Part) -> Run
+    ensures { run_of (part.place, result) ≡ single_run (part_of part) }
+{
+    Run {
         number: part.number,
         ppid: part.ppid,
         has_beginning: part.is_beginning,
         has_end: part.is_end,
-        payloads,
-    })
+        payload: part.payload,
+        others: VecDeque::new(alloc),
+    }
 }
 
 // The message of a part with the run that it follows on, and the run that follows on it.
 fn joined(
     alloc: Global,
-    before: Option<&Run>,
+    before: Option<(u128, &Run)>,
     part: Part,
-    behind: Option<&Run>,
+    behind: Option<(u128, &Run)>,
 ) -> Result<Whole, AllocError>
     ensures { IfOk result (λ whole. whole_of whole ≡ whole_run (merged (lent_run before.entry) (part_of part) (lent_run behind.entry))) }
 {
@@ -106,22 +125,22 @@ fn joined(
             payload: part.payload,
         });
     }
-    let front = before.map_or(0, |run| size_of_run(run));
-    let back = behind.map_or(0, |run| size_of_run(run));
+    let front = before.map_or(0, |(_, run)| size_of_run(run));
+    let back = behind.map_or(0, |(_, run)| size_of_run(run));
     let size = front
         .saturating_add(part.payload.len())
         .saturating_add(back);
     let mut payload = Vec::with_capacity(alloc, size)?;
     let mut number = part.number;
     let mut ppid = part.ppid;
-    if let Some(run) = before {
+    if let Some((_, run)) = before {
         number = run.number;
         ppid = run.ppid;
-        copy_payloads(&mut payload, &run.payloads)?;
+        copy_run(&mut payload, run)?;
     }
     payload.extend_from_slice(part.payload.as_slice())?;
-    if let Some(run) = behind {
-        copy_payloads(&mut payload, &run.payloads)?;
+    if let Some((_, run)) = behind {
+        copy_run(&mut payload, run)?;
     }
     Ok(Whole {
         number,
@@ -131,218 +150,257 @@ fn joined(
 }
 
 // The part goes between two runs of its message, which become one, the first. There is room in it.
-fn link(run: &mut Run, part: Part, mut behind: Run)
-    requires { deque_len run.old.payloads + 1 + deque_len behind.payloads ≤ deque_capacity run.old.payloads }
-    ensures { run_of run.new ≡ merged (Some (run_of run.old)) (part_of part) (Some (run_of behind)) }
+fn link(run: &mut Run, payload: Vec<u8>, behind: Run)
+    requires { length run.old.others.items + 2 + length behind.others.items ≤ deque_capacity run.old.others }
+    ensures { (first next : ℕ) (part : PartModel) → part.payload ≡ payload.items → run_of (first, run.new) ≡ merged (Some (run_of (first, run.old))) part (Some (run_of (next, behind))) }
 {
-    run.payloads.push_back_reserved(part.payload);
-    run.payloads.append(&mut behind.payloads).unwrap();
-    run.has_end = behind.has_end;
+    let Run {
+        payload: next,
+        mut others,
+        has_end,
+        ..
+    } = behind;
+    run.others.push_back_reserved(payload);
+    run.others.push_back_reserved(next);
+    run.others.append(&mut others).unwrap();
+    run.has_end = has_end;
 }
 
 // The part follows on the last part of a run.
 fn append(run: &mut Run, part: Part) -> Result<(), AllocError>
-    ensures ok { OnOk result (run_of run.new ≡ merged (Some (run_of run.old)) (part_of part) None) }
-    ensures err { OnErr result (run_of run.new ≡ run_of run.old) }
+    ensures ok { OnOk result ((first : ℕ) → run_of (first, run.new) ≡ merged (Some (run_of (first, run.old))) (part_of part) None) }
+    ensures err { OnErr result ((first : ℕ) → run_of (first, run.new) ≡ run_of (first, run.old)) }
 {
-    run.payloads.push_back(part.payload)?;
+    run.others.push_back(part.payload)?;
     run.has_end = part.is_end;
     Ok(())
 }
 
-// The part comes before the first part of a run.
-fn prepend(run: &mut Run, part: Part) -> Result<(), AllocError>
-    ensures ok { OnOk result (run_of run.new ≡ merged None (part_of part) (Some (run_of run.old))) }
-    ensures err { OnErr result (run_of run.new ≡ run_of run.old) }
+// The parts of another run follow on those of a run of one part. There is room for one more in front.
+fn take_over(run: &mut Run, behind: Run)
+    requires { length behind.others.items < deque_capacity behind.others }
+    ensures { (next : ℕ) (part : PartModel) → run_of (part.place, run.old) ≡ single_run part → run_of (part.place, run.new) ≡ merged None part (Some (run_of (next, behind))) }
 {
-    run.payloads.push_front(part.payload)?;
-    run.first = part.place;
-    run.number = part.number;
-    run.has_beginning = part.is_beginning;
-    run.ppid = part.ppid;
-    Ok(())
+    let Run {
+        payload,
+        mut others,
+        has_end,
+        ..
+    } = behind;
+    others.push_front(payload).unwrap();
+    run.others = others;
+    run.has_end = has_end;
 }
 
-// The run before this place, where the part follows on it.
-fn run_before<'x>(runs: &'x VecDeque<Run>, at: usize, part: &Part) -> Option<&'x Run>
-    requires { at ≤ deque_len runs.now }
-    ensures within { IsSome result → 0 < at }
-    ensures run { lent_run result ≡ run_before at (map run_of runs.now.items) (part_of part.now) }
+// The run before the part, where the part follows on it.
+fn run_before<'x>(nearest: Option<(u128, &'x Run)>, part: &Part) -> Option<(u128, &'x Run)>
+    ensures { lent_run result ≡ following (lent_run nearest.entry) (part_of part.now) }
 {
-    if at == 0 {
+    let (first, run) = nearest?;
+    if follows(first, run, part) {
+        Some((first, run))
+    } else {
+        None
+    }
+}
+
+// The run that follows on the part. Nothing follows on an end.
+fn run_behind<'x>(part: &Part, runs: &'x BTreeMap<u128, Run>) -> Option<(u128, &'x Run)>
+    ensures { lent_run result ≡ run_behind (part_of part.now) (count_up_to part.now.place runs.now.entries) (map run_of runs.now.entries) }
+{
+    if part.is_end {
         return None;
     }
-    let run = &runs[at - 1];
-    if follows(run, part) { Some(run) } else { None }
-}
-
-// The run at this place, where it follows on the part.
-fn run_behind<'x>(part: &Part, runs: &'x VecDeque<Run>, at: usize) -> Option<&'x Run>
-    ensures within { IsSome result → at < deque_len runs.now }
-    ensures run { lent_run result ≡ run_behind (part_of part.now) at (map run_of runs.now.items) }
-{
-    let run = runs.get(at)?;
-    if precedes(part, run) { Some(run) } else { None }
+    let (first, run) = entry_behind(runs, part.place)?;
+    if precedes(part, *first, run) {
+        Some((*first, run))
+    } else {
+        None
+    }
 }
 
 // Is the message of the part whole with the runs on both sides?
-fn is_whole(before: Option<&Run>, part: &Part, behind: Option<&Run>) -> bool
+fn is_whole(before: Option<(u128, &Run)>, part: &Part, behind: Option<(u128, &Run)>) -> bool
     ensures { result ≡ is_whole (merged (lent_run before.entry) (part_of part.now) (lent_run behind.entry)) }
 {
     let has_beginning = match before {
-        Some(run) => run.has_beginning,
+        Some((_, run)) => run.has_beginning,
         None => part.is_beginning,
     };
     let has_end = match behind {
-        Some(run) => run.has_end,
+        Some((_, run)) => run.has_end,
         None => part.is_end,
     };
     has_beginning && has_end
 }
 
 // The part goes alone among the runs.
-fn keep_alone(
-    alloc: Global,
-    runs: &mut VecDeque<Run>,
-    at: usize,
-    part: Part,
-) -> Result<(), AllocError>
-    requires { at ≤ deque_len runs.old }
-    ensures ok { OnOk result (map run_of runs.new.items ≡ with_part false false at (part_of part) (map run_of runs.old.items)) }
-    ensures err { OnErr result (map run_of runs.new.items ≡ map run_of runs.old.items) }
+fn keep_alone(alloc: Global, runs: &mut BTreeMap<u128, Run>, part: Part) -> Result<(), AllocError>
+    requires absent { is_held_before (count_up_to part.place runs.old.entries) (map run_of runs.old.entries) part.place ≡ false }
+    requires ordered { IsOrdered nat_cmp runs.old }
+    ensures ok { OnOk result (map run_of runs.new.entries ≡ with_part false false (count_up_to part.place runs.old.entries) (part_of part) (map run_of runs.old.entries)) }
+    ensures err { OnErr result (runs.new.entries ≡ runs.old.entries) }
+    ensures others { OnOk result ((other : ℕ) → is_at (nat_cmp part.place) other ≡ false → get nat_cmp runs.new other ≡ get nat_cmp runs.old other) }
+    ensures ordered { IsOrdered nat_cmp runs.new }
 {
-    let run = single(alloc, part)?;
-    runs.insert(at, run)?;
-    Ok(())
+    put_entry(runs, part.place, single(alloc, part))
 }
 
-// The part goes to the run before it.
-fn keep_before(runs: &mut VecDeque<Run>, at: usize, part: Part) -> Result<(), AllocError>
-    requires { (0 < at) × (at ≤ deque_len runs.old) }
-    ensures ok { OnOk result (map run_of runs.new.items ≡ with_part true false at (part_of part) (map run_of runs.old.items)) }
-    ensures err { OnErr result (map run_of runs.new.items ≡ map run_of runs.old.items) }
+// The part goes to the run before it, which begins at `first`.
+fn keep_before(runs: &mut BTreeMap<u128, Run>, first: u128, part: Part) -> Result<(), AllocError>
+    requires before { BeginsAt first (entry_before (count_up_to part.place runs.old.entries) (map run_of runs.old.entries)) }
+    ensures ok { OnOk result (map run_of runs.new.entries ≡ with_part true false (count_up_to part.place runs.old.entries) (part_of part) (map run_of runs.old.entries)) }
+    ensures err { OnErr result (map run_of runs.new.entries ≡ map run_of runs.old.entries) }
 {
-    let run = &mut runs[at - 1];
-    append(run, part)?;
-    Ok(())
-}
-
-// The part goes to the run behind it.
-fn keep_behind(runs: &mut VecDeque<Run>, at: usize, part: Part) -> Result<(), AllocError>
-    requires { at < deque_len runs.old }
-    ensures ok { OnOk result (map run_of runs.new.items ≡ with_part false true at (part_of part) (map run_of runs.old.items)) }
-    ensures err { OnErr result (map run_of runs.new.items ≡ map run_of runs.old.items) }
-{
-    let run = &mut runs[at];
-    prepend(run, part)?;
-    Ok(())
+    append(runs.get_mut(&first).unwrap(), part)
 }
 
 // Makes room in a run for so many more parts.
-fn reserve(run: &mut Run, count: usize) -> Result<(), AllocError>
-    ensures same { run_of run.new ≡ run_of run.old }
-    ensures ok { OnOk result (deque_len run.new.payloads + count ≤ deque_capacity run.new.payloads) }
+fn reserve_in(run: &mut Run, count: usize) -> Result<(), AllocError>
+    ensures kept { (first : ℕ) → run_of (first, run.new) ≡ run_of (first, run.old) }
+    ensures room { OnOk result (length run.new.others.items + count ≤ deque_capacity run.new.others) }
 {
-    run.payloads.try_reserve(count)?;
+    run.others.try_reserve(count)?;
+    Ok(())
+}
+
+// Makes room in the run that begins at this place for so many more parts.
+fn reserve(runs: &mut BTreeMap<u128, Run>, first: u128, count: usize) -> Result<(), AllocError>
+    requires there { IsSome (get nat_cmp runs.old first) }
+    ensures kept { map run_of runs.new.entries ≡ map run_of runs.old.entries }
+    ensures room { OnOk result (HasRoom first count runs.new) }
+    ensures ordered { IsOrdered nat_cmp runs.new }
+{
+    reserve_in(runs.get_mut(&first).unwrap(), count)
+}
+
+// The part goes to the run behind it, which begins at `next` and there from now on. All memory is taken
+// first.
+fn keep_behind(
+    alloc: Global,
+    runs: &mut BTreeMap<u128, Run>,
+    part: Part,
+    next: u128,
+) -> Result<(), AllocError>
+    requires absent { is_held_before (count_up_to part.place runs.old.entries) (map run_of runs.old.entries) part.place ≡ false }
+    requires behind { BeginsAt next (slice_get (map run_of runs.old.entries) (count_up_to part.place runs.old.entries)) }
+    requires ordered { IsOrdered nat_cmp runs.old }
+    ensures ok { OnOk result (map run_of runs.new.entries ≡ with_part false true (count_up_to part.place runs.old.entries) (part_of part) (map run_of runs.old.entries)) }
+    ensures err { OnErr result (map run_of runs.new.entries ≡ map run_of runs.old.entries) }
+{
+    let place = part.place;
+    reserve(runs, next, 1)?;
+    keep_alone(alloc, runs, part)?;
+    let behind = runs.remove(&next).unwrap();
+    take_over(runs.get_mut(&place).unwrap(), behind);
     Ok(())
 }
 
 // The part goes between two runs, which become one.
-fn keep_between(runs: &mut VecDeque<Run>, at: usize, part: Part) -> Result<(), AllocError>
-    requires { (0 < at) × (at < deque_len runs.old) }
-    ensures ok { OnOk result (map run_of runs.new.items ≡ with_part true true at (part_of part) (map run_of runs.old.items)) }
-    ensures err { OnErr result (map run_of runs.new.items ≡ map run_of runs.old.items) }
+fn keep_between(
+    runs: &mut BTreeMap<u128, Run>,
+    first: u128,
+    part: Part,
+    next: u128,
+) -> Result<(), AllocError>
+    requires before { BeginsAt first (entry_before (count_up_to part.place runs.old.entries) (map run_of runs.old.entries)) }
+    requires behind { BeginsAt next (slice_get (map run_of runs.old.entries) (count_up_to part.place runs.old.entries)) }
+    requires ordered { IsOrdered nat_cmp runs.old }
+    ensures ok { OnOk result (map run_of runs.new.entries ≡ with_part true true (count_up_to part.place runs.old.entries) (part_of part) (map run_of runs.old.entries)) }
+    ensures err { OnErr result (map run_of runs.new.entries ≡ map run_of runs.old.entries) }
 {
-    let count = runs[at].payloads.len();
-    let run = &mut runs[at - 1];
-    reserve(run, count + 1)?;
-    let behind = runs.remove(at).unwrap();
-    let run = &mut runs[at - 1];
-    link(run, part, behind);
+    let count = runs.get(&next).unwrap().others.len();
+    reserve(runs, first, count + 2)?;
+    let behind = runs.remove(&next).unwrap();
+    link(runs.get_mut(&first).unwrap(), part.payload, behind);
     Ok(())
 }
 
-// Keeps the part, whose message isn't whole yet.
+// Keeps the part, whose message isn't whole yet, with the runs that join it: they begin at these places.
 fn keep(
     alloc: Global,
-    runs: &mut VecDeque<Run>,
-    at: usize,
-    joins_before: bool,
-    joins_behind: bool,
+    runs: &mut BTreeMap<u128, Run>,
+    first: Option<u128>,
     part: Part,
+    next: Option<u128>,
 ) -> Result<(), AllocError>
-    requires within { at ≤ deque_len runs.old }
-    requires before { joins_before ≡ true → 0 < at }
-    requires behind { joins_behind ≡ true → at < deque_len runs.old }
-    ensures ok { OnOk result (map run_of runs.new.items ≡ with_part joins_before joins_behind at (part_of part) (map run_of runs.old.items)) }
-    ensures err { OnErr result (map run_of runs.new.items ≡ map run_of runs.old.items) }
+    requires absent { is_held_before (count_up_to part.place runs.old.entries) (map run_of runs.old.entries) part.place ≡ false }
+    requires before { BeginsIf first (entry_before (count_up_to part.place runs.old.entries) (map run_of runs.old.entries)) }
+    requires behind { BeginsIf next (slice_get (map run_of runs.old.entries) (count_up_to part.place runs.old.entries)) }
+    requires ordered { IsOrdered nat_cmp runs.old }
+    ensures ok { OnOk result (map run_of runs.new.entries ≡ with_part (is_some first) (is_some next) (count_up_to part.place runs.old.entries) (part_of part) (map run_of runs.old.entries)) }
+    ensures err { OnErr result (map run_of runs.new.entries ≡ map run_of runs.old.entries) }
 {
-    match (joins_before, joins_behind) {
-        (true, true) => keep_between(runs, at, part),
-        (true, false) => keep_before(runs, at, part),
-        (false, true) => keep_behind(runs, at, part),
-        (false, false) => keep_alone(alloc, runs, at, part),
+    match (first, next) {
+        (Some(first), Some(next)) => keep_between(runs, first, part, next),
+        (Some(first), None) => keep_before(runs, first, part),
+        (None, Some(next)) => keep_behind(alloc, runs, part, next),
+        (None, None) => keep_alone(alloc, runs, part),
     }
 }
 
-// Takes one run out.
-fn remove_run(runs: &mut VecDeque<Run>, at: usize)
-    requires { at < deque_len runs.old }
-    ensures items { runs.new.items ≡ remove runs.old.items at }
-    ensures len { deque_len runs.new + 1 ≡ deque_len runs.old }
+// Takes the runs out that a message was joined from: they begin at these places.
+fn take_out(runs: &mut BTreeMap<u128, Run>, first: Option<u128>, next: Option<u128>)
+    requires ordered { IsOrdered nat_cmp runs.old }
+    ensures { (at : ℕ) → BeginsIf first (entry_before at (map run_of runs.old.entries)) → BeginsIf next (slice_get (map run_of runs.old.entries) at) → map run_of runs.new.entries ≡ without_runs (is_some first) (is_some next) at (map run_of runs.old.entries) }
 {
-    let _ = runs.remove(at);
-}
-
-// Takes the runs out that a message was joined from.
-fn take_out(runs: &mut VecDeque<Run>, at: usize, joins_before: bool, joins_behind: bool)
-    requires before { joins_before ≡ true → (0 < at) × (at ≤ deque_len runs.old) }
-    requires behind { joins_behind ≡ true → at < deque_len runs.old }
-    ensures { map run_of runs.new.items ≡ without_runs joins_before joins_behind at (map run_of runs.old.items) }
-{
-    match (joins_before, joins_behind) {
-        (true, true) => {
-            remove_run(runs, at);
-            remove_run(runs, at - 1);
+    match (first, next) {
+        (Some(first), Some(next)) => {
+            let _ = runs.remove(&next);
+            let _ = runs.remove(&first);
         }
-        (true, false) => remove_run(runs, at - 1),
-        (false, true) => remove_run(runs, at),
-        (false, false) => {}
+        (Some(first), None) => {
+            let _ = runs.remove(&first);
+        }
+        (None, Some(next)) => {
+            let _ = runs.remove(&next);
+        }
+        (None, None) => {}
     }
 }
 
-// Does the run before this place among the runs hold the place of a part?
-fn is_held_before(runs: &VecDeque<Run>, at: usize, place: u128) -> bool
-    requires { at ≤ deque_len runs.now }
-    ensures { result ≡ is_held_before at (map run_of runs.now.items) place }
+// Is the place held by the nearest run that begins at it or before it?
+fn is_held_by(nearest: Option<(u128, &Run)>, place: u128) -> bool
+    ensures { result ≡ holds_some (lent_run nearest.entry) place }
 {
-    at > 0 && holds(&runs[at - 1], place)
+    match nearest {
+        Some((first, run)) => holds(first, run, place),
+        None => false,
+    }
+}
+
+// Where a run begins.
+fn first_of(run: Option<(u128, &Run)>) -> Option<u128>
+    ensures { result ≡ option_map (λ run. run.first) (lent_run run.entry) }
+{
+    let (first, _) = run?;
+    Some(first)
 }
 
 /// Takes a part in, and answers with its message where that is whole now. One that is there already is
 /// dropped. If there is no memory for it, the runs stay.
 pub fn add_part(
     alloc: Global,
-    runs: &mut VecDeque<Run>,
+    runs: &mut BTreeMap<u128, Run>,
     part: Part,
 ) -> Result<Assembled, AllocError>
-    ensures ok { IfOk result (λ outcome. AddsPart (part_of part) (map run_of runs.old.items) outcome (map run_of runs.new.items)) }
+    ensures ok { IfOk result (λ outcome. AddsPart (part_of part) (map run_of runs.old.entries) outcome (map run_of runs.new.entries)) }
     ensures number { IfOk result (λ outcome. IsOfMessage part.number outcome) }
-    ensures err { OnErr result (map run_of runs.new.items ≡ map run_of runs.old.items) }
+    ensures err { OnErr result (map run_of runs.new.entries ≡ map run_of runs.old.entries) }
 {
-    let at = runs_up_to(runs, part.place);
-    if is_held_before(runs, at, part.place) {
+    let nearest = run_up_to(runs, part.place);
+    if is_held_by(nearest, part.place) {
         return Ok(Assembled::Dropped);
     }
-    let before = run_before(runs, at, &part);
-    let behind = run_behind(&part, runs, at);
-    let joins_before = before.is_some();
-    let joins_behind = behind.is_some();
+    let before = run_before(nearest, &part);
+    let behind = run_behind(&part, runs);
+    let first = first_of(before);
+    let next = first_of(behind);
     if is_whole(before, &part, behind) {
         let whole = joined(alloc, before, part, behind)?;
-        take_out(runs, at, joins_before, joins_behind);
+        take_out(runs, first, next);
         return Ok(Assembled::Whole(whole));
     }
-    keep(alloc, runs, at, joins_before, joins_behind, part)?;
+    keep(alloc, runs, first, part, next)?;
     Ok(Assembled::Kept)
 }

@@ -6,6 +6,7 @@ mod arrivals;
 mod incoming;
 mod joining;
 mod named;
+mod named_table;
 mod numbers;
 mod reassembly_queue;
 mod runs;

@@ -1,14 +1,17 @@
 //! Parts of messages that aren't whole yet, in runs: parts that follow on one another (RFC 9260, section
 //! 6.9).
 
-ghost use Rattle.std.specs.Prelude.{◌≡◌, ◌<◌, ◌≤◌, map, nat_lt, not};
+ghost use Rattle.std.specs.Prelude.{◌≡◌, ℕ, Bool, map, nat_le, not};
 ghost use Rattle.std.specs.List.{filter};
-ghost use Rattle.std.specs.VecDeque.{deque_len};
-ghost use Rattle.dcsctp_receive_reassembly.specs.Runs.{run_of, whole_of, holds, IsPlace, is_within, up_to_place, behind_place};
-ghost use Rattle.dcsctp_receive_reassembly.specs.Held.{capped, payloads_bytes, runs_bytes, wholes_bytes};
+ghost use Rattle.std.specs.BTreeMap.{IsOrdered};
+ghost use Rattle.std.specs.Ordering.{nat_cmp};
+ghost use Rattle.dcsctp_receive_entries.specs.Entries.{count_up_to, entry_before};
+ghost use Rattle.dcsctp_receive_reassembly.specs.Runs.{run_of, holds, lent_run, begins_up_to, up_to_place, behind_place};
+ghost use Rattle.dcsctp_receive_reassembly.specs.Held.{capped, payloads_bytes, runs_bytes};
 
 use dcsctp_api::PpId;
-use std::collections::VecDeque;
+use dcsctp_receive_entries::entry_up_to;
+use std::collections::{BTreeMap, VecDeque};
 
 /// A part of a message, where it stands among the parts of its stream.
 #[derive(Drop)]
@@ -25,15 +28,19 @@ pub struct Part {
     pub is_end: bool,
 }
 
-/// Parts of one message in a row.
+/// Parts of one message in a row, one at least. The place of the first is its key among the runs.
 #[derive(Drop)]
 pub struct Run {
-    pub first: u128,
     pub number: u64,
     pub ppid: PpId,
     pub has_beginning: bool,
     pub has_end: bool,
-    pub payloads: VecDeque<Vec<u8>>,
+
+    /// The payload of the first part.
+    pub payload: Vec<u8>,
+
+    /// The payloads of the other parts.
+    pub others: VecDeque<Vec<u8>>,
 }
 
 /// A message that is whole.
@@ -57,32 +64,20 @@ pub enum Assembled {
     Whole(Whole),
 }
 
-/// Does the run hold the place?
-pub fn holds(run: &Run, place: u128) -> bool
-    ensures { result ≡ holds (run_of run.now) place }
+/// Does the run that begins at `first` hold the place?
+pub fn holds(first: u128, run: &Run, place: u128) -> bool
+    ensures { result ≡ holds (run_of (first, run.now)) place }
 {
-    run.first <= place && place - run.first < run.payloads.len() as u128
+    first <= place && place - first <= run.others.len() as u128
 }
 
-/// How many runs begin at this place or before it. The last place of all is found at once.
-pub fn runs_up_to(runs: &VecDeque<Run>, place: u128) -> usize
-    ensures within { result ≤ deque_len runs.now }
-    ensures place { IsPlace result place (map run_of runs.now.items) }
+/// The last run that begins at this place or before it, and where. The last of all is found at once.
+pub fn run_up_to<'x>(runs: &'x BTreeMap<u128, Run>, place: u128) -> Option<(u128, &'x Run)>
+    ensures run { lent_run result ≡ entry_before (count_up_to place runs.now.entries) (map run_of runs.now.entries) }
+    ensures ordered { IsOrdered nat_cmp runs.now }
 {
-    let mut low = 0;
-    let mut high = runs.len();
-    if high > 0 && runs[high - 1].first <= place {
-        low = high;
-    }
-    while low < high {
-        let middle = low + (high - low) / 2;
-        if runs[middle].first <= place {
-            low = middle + 1;
-        } else {
-            high = middle;
-        }
-    }
-    low
+    let (first, run) = entry_up_to(runs, place)?;
+    Some((*first, run))
 }
 
 // How many bytes the payloads have together, and no more than a usize counts.
@@ -98,68 +93,85 @@ fn size_of(payloads: &VecDeque<Vec<u8>>) -> usize
 
 /// How many bytes a run has, and no more than a usize counts.
 pub fn size_of_run(run: &Run) -> usize
-    ensures { result ≡ capped (payloads_bytes (run_of run.now).payloads) }
+    ensures { result ≡ capped (payloads_bytes (run_of (0, run.now)).payloads) }
 {
-    size_of(&run.payloads)
+    run.payload.len().saturating_add(size_of(&run.others))
 }
 
 /// How many bytes the runs have, and no more than a usize counts.
-pub fn size_of_runs(runs: &VecDeque<Run>) -> usize
-    ensures { result ≡ capped (runs_bytes (map run_of runs.now.items)) }
+pub fn size_of_runs(runs: &BTreeMap<u128, Run>) -> usize
+    ensures { result ≡ capped (runs_bytes (map run_of runs.now.entries)) }
 {
     let mut size: usize = 0;
-    for index in 0..runs.len() {
-        size = size.saturating_add(size_of_run(&runs[index]));
+    for (_, run) in runs {
+        size = size.saturating_add(size_of_run(run));
     }
     size
 }
 
-/// How many bytes the messages have, and no more than a usize counts.
-pub fn size_of_wholes(wholes: &VecDeque<Whole>) -> usize
-    ensures { result ≡ capped (wholes_bytes (map whole_of wholes.now.items)) }
+/// Some numbers of messages.
+pub trait Numbers {
+    ghost has: { Self → ℕ → Bool };
+
+    /// Is the number one of them?
+    fn has(&self, number: u64) -> bool
+        ensures { result ≡ has self.now number };
+}
+
+/// All numbers up to this one.
+#[derive(Drop)]
+pub struct UpTo(pub u64);
+
+impl Numbers for UpTo {
+    ghost has = { λ numbers. λ number. nat_le number numbers.0 };
+
+    fn has(&self, number: u64) -> bool {
+        number <= self.0
+    }
+}
+
+// How many bytes the runs of the messages with these numbers have, and no more than a usize counts.
+fn size_of_messages<N: Numbers>(runs: &BTreeMap<u128, Run>, numbers: &N) -> usize
+    ensures { result ≡ capped (runs_bytes (filter (λ run. N.has numbers.now run.number) (map run_of runs.now.entries))) }
 {
     let mut size: usize = 0;
-    for index in 0..wholes.len() {
-        size = size.saturating_add(wholes[index].payload.len());
-    }
-    size
-}
-
-// Is the number from one to another?
-fn is_within(from: u64, to: u64, number: u64) -> bool
-    ensures { result ≡ is_within from to number }
-{
-    from <= number && number <= to
-}
-
-/// Drops the runs of the messages from one number to another, and answers how many bytes they had.
-pub fn drop_messages(runs: &mut VecDeque<Run>, from: u64, to: u64) -> usize
-    ensures kept { map run_of runs.new.items ≡ filter (λ run. not (is_within from to run.number)) (map run_of runs.old.items) }
-    ensures size { result ≡ capped (runs_bytes (filter (λ run. is_within from to run.number) (map run_of runs.old.items))) }
-{
-    let mut dropped: usize = 0;
-    let mut left = runs.len();
-    while left > 0 {
-        left -= 1;
-        let run = runs.pop_front().unwrap();
-        if is_within(from, to, run.number) {
-            dropped = dropped.saturating_add(size_of_run(&run));
-        } else {
-            runs.push_back_reserved(run);
+    for (_, run) in runs {
+        if numbers.has(run.number) {
+            size = size.saturating_add(size_of_run(run));
         }
     }
+    size
+}
+
+/// Drops the runs of the messages with these numbers, and answers how many bytes they had.
+pub fn drop_messages<N: Numbers>(runs: &mut BTreeMap<u128, Run>, numbers: &N) -> usize
+    ensures kept { map run_of runs.new.entries ≡ filter (λ run. not (N.has numbers.now run.number)) (map run_of runs.old.entries) }
+    ensures size { result ≡ capped (runs_bytes (filter (λ run. N.has numbers.now run.number) (map run_of runs.old.entries))) }
+{
+    let dropped = size_of_messages(runs, numbers);
+    runs.retain(|_, run| !numbers.has(run.number));
     dropped
 }
 
+// Does the first run begin at this place or before it?
+fn first_begins_up_to(runs: &BTreeMap<u128, Run>, place: u128) -> bool
+    ensures { result ≡ begins_up_to place (map run_of runs.now.entries) }
+{
+    match runs.first_key_value() {
+        Some((first, _)) => *first <= place,
+        None => false,
+    }
+}
+
 /// Drops the runs in front that begin at this place or before it, and answers how many bytes they had.
-pub fn drop_places(runs: &mut VecDeque<Run>, place: u128) -> usize
-    ensures kept { map run_of runs.new.items ≡ behind_place place (map run_of runs.old.items) }
-    ensures size { result ≡ capped (runs_bytes (up_to_place place (map run_of runs.old.items))) }
+pub fn drop_places(runs: &mut BTreeMap<u128, Run>, place: u128) -> usize
+    ensures kept { map run_of runs.new.entries ≡ behind_place place (map run_of runs.old.entries) }
+    ensures size { result ≡ capped (runs_bytes (up_to_place place (map run_of runs.old.entries))) }
 {
     let mut dropped: usize = 0;
-    while !runs.is_empty() && runs[0].first <= place {
-        dropped = dropped.saturating_add(size_of_run(&runs[0]));
-        let _ = runs.pop_front();
+    while first_begins_up_to(runs, place) {
+        let (_, run) = runs.pop_first().unwrap();
+        dropped = dropped.saturating_add(size_of_run(&run));
     }
     dropped
 }

@@ -1,12 +1,13 @@
 //! Messages that are skipped (RFC 3758, section 3.6; RFC 8260, section 2.3.1), and streams that begin anew
 //! (RFC 6525, section 5.2.2).
 
-ghost use Rattle.std.specs.Prelude.{◌≡◌, ◌==◌, ℕ, ◌+◌, ◌<◌, ◌≤◌, ◌++◌, map, length, OnOk, OnErr, IsSome, if◌then◌else◌};
+ghost use Rattle.std.specs.Prelude.{◌≡◌, ◌==◌, ℕ, ◌+◌, ◌-◌, ◌<◌, ◌≤◌, ◌++◌, map, length, OnOk, OnErr, IsSome, if◌then◌else◌};
 ghost use Rattle.std.specs.VecDeque.{deque_len, deque_capacity};
 ghost use Rattle.std.specs.BTreeMap.{get};
 ghost use Rattle.std.specs.Ordering.{nat_cmp};
 ghost use Rattle.dcsctp_machine.specs.Ids.{stream_numbers};
 ghost use Rattle.dcsctp_receive_reassembly.specs.Held.{capped};
+ghost use Rattle.dcsctp_receive_reassembly.specs.NamedStreams.{is_named};
 ghost use Rattle.dcsctp_receive_reassembly.specs.QueuedBytes.{ready_bytes, stream_bytes, streams_bytes};
 ghost use Rattle.dcsctp_receive_reassembly.specs.Runs.{behind_place};
 ghost use Rattle.dcsctp_machine.specs.Transfer.{message_content};
@@ -27,7 +28,6 @@ ghost use Rattle.dcsctp_receive_reassembly.specs.Skipping.{
   SkipsAll,
   MovesTo,
   MovesOn,
-  ResetsOne,
   ResetsAll,
   ResetsEach,
   ResetsStreams,
@@ -35,6 +35,7 @@ ghost use Rattle.dcsctp_receive_reassembly.specs.Skipping.{
 
 use crate::arrivals::SkippedTo;
 use crate::incoming::{Incoming, make_stream};
+use crate::named_table::NamedTable;
 use crate::numbers::number_near;
 use crate::runs::{drop_messages, drop_places, size_of_runs};
 use crate::stream::Stream;
@@ -121,6 +122,19 @@ fn forget_stream(streams: &mut BTreeMap<u16, Stream>, id: StreamId) -> usize
     }
 }
 
+// Forgets these streams, and answers how many bytes they had, and no more than a usize counts.
+fn forget_each_stream(streams: &mut BTreeMap<u16, Stream>, ids: &[StreamId]) -> usize
+    ensures streams { (other : ℕ) → stream_on other (map entry_of streams.new.entries) ≡ (if is_named (stream_numbers ids.now) other then new_stream other else stream_on other (map entry_of streams.old.entries)) }
+    ensures bytes { streams_bytes (map entry_of streams.new.entries) ≤ streams_bytes (map entry_of streams.old.entries) }
+    ensures size { result ≡ capped (streams_bytes (map entry_of streams.old.entries) - streams_bytes (map entry_of streams.new.entries)) }
+{
+    let mut size: usize = 0;
+    for id in ids {
+        size = size.saturating_add(forget_stream(streams, *id));
+    }
+    size
+}
+
 // Forgets all streams, and answers how many bytes they had, and no more than a usize counts.
 fn forget_streams(streams: &mut BTreeMap<u16, Stream>) -> usize
     ensures streams { (other : ℕ) → stream_on other (map entry_of streams.new.entries) ≡ new_stream other }
@@ -203,19 +217,6 @@ impl Incoming {
         Ok(())
     }
 
-    // Forgets the stream, so that it begins anew.
-    fn reset_stream(&mut self, id: StreamId)
-        ensures resets { ResetsOne id.0 (incoming_of self.old) (incoming_of self.new) }
-        ensures bytes { Balances self.old self.new }
-    {
-        let dropped = drop_messages(&mut self.unordered, u64::from(id.0), u64::from(id.0));
-        let forgotten = forget_stream(&mut self.streams, id);
-        self.queued_bytes = self
-            .queued_bytes
-            .saturating_sub(dropped)
-            .saturating_sub(forgotten);
-    }
-
     // Forgets all streams.
     fn reset_all_streams(&mut self)
         ensures resets { ResetsAll (incoming_of self.old) (incoming_of self.new) }
@@ -230,14 +231,17 @@ impl Incoming {
             .saturating_sub(forgotten);
     }
 
-    // Forgets these streams.
+    // Forgets these streams. However many they are, the parts of unordered messages are gone over once.
     fn reset_each_stream(&mut self, streams: &[StreamId])
         ensures resets { ResetsEach (stream_numbers streams.now) (incoming_of self.old) (incoming_of self.new) }
         ensures bytes { Balances self.old self.new }
     {
-        for id in streams {
-            self.reset_stream(*id);
-        }
+        let dropped = drop_messages(&mut self.unordered, &NamedTable::of(streams));
+        let forgotten = forget_each_stream(&mut self.streams, streams);
+        self.queued_bytes = self
+            .queued_bytes
+            .saturating_sub(dropped)
+            .saturating_sub(forgotten);
     }
 
     /// Forgets the streams that are named, so that they begin anew; an empty list names all.

@@ -1,21 +1,24 @@
 //! One incoming stream: parts of messages, and whole messages that wait for their turn (RFC 9260, sections
 //! 6.5 and 6.6).
 
-ghost use Rattle.std.specs.Prelude.{◌≡◌, ◌+◌, ◌<◌, ◌≤◌, ◌++◌, map, length, IfOk, OnErr, OnOk};
+ghost use Rattle.std.specs.Prelude.{◌≡◌, ℕ, ◌+◌, ◌<◌, ◌≤◌, ◌++◌, false, map, length, List, None, IfOk, OnErr, OnOk, IsSome};
 ghost use Rattle.std.specs.VecDeque.{deque_len, deque_capacity};
+ghost use Rattle.std.specs.BTreeMap.{btree_map_len, get};
+ghost use Rattle.std.specs.Ordering.{nat_cmp};
 ghost use Rattle.dcsctp_receive_reassembly.specs.Runs.{run_of, part_of, whole_of};
-ghost use Rattle.dcsctp_receive_reassembly.specs.Held.{capped, runs_bytes};
+ghost use Rattle.dcsctp_receive_reassembly.specs.Held.{capped, runs_bytes, wholes_bytes};
 ghost use Rattle.dcsctp_receive_reassembly.specs.QueuedBytes.{stream_bytes};
-ghost use Rattle.dcsctp_machine.specs.Transfer.{message_content};
-ghost use Rattle.dcsctp_receive_reassembly.specs.Streams.{stream_of, delivered_from, deliveries_from, delivered_as, next_after, ready_with, NothingTaken, IsTurn, WaitsAmong, TakesOrdered, TakesUnordered, next_past, runs_up_to, skipped, skipped_in_order, skipped_out_of_order, skip_deliveries, skip_bytes, chunk_of, data_part, TakesOnStream, new_stream};
+ghost use Rattle.dcsctp_machine.specs.Transfer.{MessageContent, message_content};
+ghost use Rattle.dcsctp_receive_reassembly.specs.declared.stream.Waiting.{Waiting};
+ghost use Rattle.dcsctp_receive_reassembly.specs.Streams.{stream_of, waits_as, is_waiting, is_due, HoldsPlace, delivered_from, deliveries_from, delivered_as, next_after, ready_with, NothingTaken, WaitsAmong, TakesOrdered, TakesAhead, TakesUnordered, next_past, runs_up_to, skipped, skipped_in_order, skipped_out_of_order, skip_deliveries, skip_bytes, chunk_of, data_part, TakesOnStream, new_stream};
 
 use crate::arrivals::{Data, Numbering, SkippedTo};
 use crate::joining::add_part;
 use crate::numbers::{fragment_place, number_near, short_number_from, short_number_near};
-use crate::runs::{Assembled, Part, Run, Whole, drop_messages, size_of_runs, size_of_wholes};
-use dcsctp_api::{Message, StreamId};
+use crate::runs::{Assembled, Part, Run, UpTo, Whole, drop_messages, size_of_runs};
+use dcsctp_api::{Message, PpId, StreamId};
 use std::alloc::{AllocError, Global};
-use std::collections::VecDeque;
+use std::collections::{BTreeMap, VecDeque};
 
 /// An incoming stream. Its messages are numbered without wrap, the first as 2^32.
 #[derive(Drop)]
@@ -28,14 +31,21 @@ pub struct Stream {
     /// The number of the unordered message of which a part came in last.
     pub last_unordered: u64,
 
-    /// Whole ordered messages, ascending by their numbers. An earlier one is missing.
-    pub waiting: VecDeque<Whole>,
+    /// Whole ordered messages by their numbers. An earlier one is missing.
+    pub waiting: BTreeMap<u64, Waiting>,
 
     /// Parts of ordered messages.
-    pub ordered: VecDeque<Run>,
+    pub ordered: BTreeMap<u128, Run>,
 
     /// Parts of unordered messages.
-    pub unordered: VecDeque<Run>,
+    pub unordered: BTreeMap<u128, Run>,
+}
+
+/// A whole ordered message that waits for an earlier one.
+#[derive(Drop)]
+pub struct Waiting {
+    pub ppid: PpId,
+    pub payload: Vec<u8>,
 }
 
 /// What became of data that came in.
@@ -47,6 +57,12 @@ pub struct Taken {
     /// How many messages became ready.
     pub ready: usize,
 }
+
+// Nothing was taken.
+const NOTHING: Taken = Taken {
+    kept_bytes: 0,
+    ready: 0,
+};
 
 /// The number of the first message of a stream, so that there are numbers before it.
 pub const FIRST_NUMBER: u64 = 0x1_0000_0000;
@@ -71,12 +87,12 @@ pub fn part_of_data(chunk: Data, place: u128, number: u64) -> Part
 pub fn take_unordered(
     alloc: Global,
     id: StreamId,
-    runs: &mut VecDeque<Run>,
+    runs: &mut BTreeMap<u128, Run>,
     part: Part,
     ready: &mut VecDeque<Message>,
 ) -> Result<Taken, AllocError>
-    ensures ok { IfOk result (λ taken. TakesUnordered (part_of part) (delivered_as id.0) (map run_of runs.old.items) (map message_content ready.old.items) taken (map run_of runs.new.items) (map message_content ready.new.items)) }
-    ensures err { OnErr result ((map run_of runs.new.items ≡ map run_of runs.old.items) × (map message_content ready.new.items ≡ map message_content ready.old.items)) }
+    ensures ok { IfOk result (λ taken. TakesUnordered (part_of part) (delivered_as id.0) (map run_of runs.old.entries) (map message_content ready.old.items) taken (map run_of runs.new.entries) (map message_content ready.new.items)) }
+    ensures err { OnErr result ((map run_of runs.new.entries ≡ map run_of runs.old.entries) × (map message_content ready.new.items ≡ map message_content ready.old.items)) }
 {
     let size = part.payload.len();
     ready.try_reserve(1)?;
@@ -99,6 +115,72 @@ pub fn take_unordered(
     }
 }
 
+// Does the first message that waits have this number or a smaller one?
+#[inline(always)]
+fn first_is_due(waiting: &BTreeMap<u64, Waiting>, next: u64) -> bool
+    ensures { result ≡ is_due next (map waits_as waiting.now.entries) }
+{
+    match waiting.first_key_value() {
+        Some((number, _)) => *number <= next,
+        None => false,
+    }
+}
+
+// Does a message of this number wait?
+#[inline(always)]
+fn waits(waiting: &BTreeMap<u64, Waiting>, number: u64) -> bool
+    ensures waits { result ≡ is_waiting number (map waits_as waiting.now.entries) }
+    ensures absent { result ≡ false → get nat_cmp waiting.now number ≡ None }
+{
+    waiting.contains_key(&number)
+}
+
+// How many bytes the messages have, and no more than a usize counts.
+fn size_of_waiting(waiting: &BTreeMap<u64, Waiting>) -> usize
+    ensures { result ≡ capped (wholes_bytes (map waits_as waiting.now.entries)) }
+{
+    let mut size: usize = 0;
+    for (_, message) in waiting {
+        size = size.saturating_add(message.payload.len());
+    }
+    size
+}
+
+// Takes a place for a message of this number, of which there is none.
+fn hold_place(
+    alloc: Global,
+    waiting: &mut BTreeMap<u64, Waiting>,
+    number: u64,
+) -> Result<(), AllocError>
+    requires absent { get nat_cmp waiting.old number ≡ None }
+    ensures ok { OnOk result (HoldsPlace number waiting.old.entries waiting.new.entries) }
+    ensures err { OnErr result (waiting.new.entries ≡ waiting.old.entries) }
+{
+    let empty = Waiting {
+        ppid: PpId(0),
+        payload: Vec::new(alloc),
+    };
+    let _ = waiting.insert(number, empty)?;
+    Ok(())
+}
+
+// The message waits at the place that was taken for it.
+fn fill_place(waiting: &mut BTreeMap<u64, Waiting>, whole: Whole)
+    requires there { IsSome (get nat_cmp waiting.old whole.number) }
+    ensures { (before : List (ℕ × Waiting)) → HoldsPlace whole.number before waiting.old.entries → WaitsAmong (whole_of whole) (map waits_as before) (map waits_as waiting.new.entries) }
+{
+    let message = waiting.get_mut(&whole.number).unwrap();
+    message.ppid = whole.ppid;
+    message.payload = whole.payload;
+}
+
+// Gives the place up that was taken for a message of this number.
+fn leave_place(waiting: &mut BTreeMap<u64, Waiting>, number: u64)
+    ensures { (before : List (ℕ × Waiting)) → HoldsPlace number before waiting.old.entries → waiting.new.entries ≡ before }
+{
+    let _ = waiting.remove(&number);
+}
+
 impl Stream {
     /// A stream on which nothing came in. It takes no memory.
     pub fn new(alloc: Global, id: StreamId) -> Stream
@@ -108,60 +190,29 @@ impl Stream {
             id,
             next: FIRST_NUMBER,
             last_unordered: FIRST_NUMBER,
-            waiting: VecDeque::new(alloc),
-            ordered: VecDeque::new(alloc),
-            unordered: VecDeque::new(alloc),
+            waiting: BTreeMap::new(alloc),
+            ordered: BTreeMap::new(alloc),
+            unordered: BTreeMap::new(alloc),
         }
-    }
-
-    // Where a message of this number belongs among those that wait. The last place of all is found at once.
-    fn place(&self, number: u64) -> usize
-        ensures within { result ≤ deque_len self.now.waiting }
-        ensures turn { IsTurn result number (map whole_of self.now.waiting.items) }
-    {
-        let mut low = 0;
-        let mut high = self.waiting.len();
-        if high > 0 && self.waiting[high - 1].number < number {
-            low = high;
-        }
-        while low < high {
-            let middle = low + (high - low) / 2;
-            if self.waiting[middle].number < number {
-                low = middle + 1;
-            } else {
-                high = middle;
-            }
-        }
-        low
-    }
-
-    // A whole ordered message waits for its turn; it is not the next one. There is room for it.
-    fn wait(&mut self, whole: Whole)
-        requires { deque_len self.old.waiting < deque_capacity self.old.waiting }
-        ensures waits { WaitsAmong (whole_of whole) (map whole_of self.old.waiting.items) (map whole_of self.new.waiting.items) }
-        ensures kept { (self.new.id ≡ self.old.id) × (self.new.next ≡ self.old.next) × (self.new.last_unordered ≡ self.old.last_unordered) × (self.new.ordered ≡ self.old.ordered) × (self.new.unordered ≡ self.old.unordered) }
-    {
-        let at = self.place(whole.number);
-        self.waiting.insert(at, whole).unwrap();
     }
 
     /// The messages that wait and are numbered below the next one become ready, and those that follow in a
     /// row from that on; the next one is then the first that is missing. Answers how many they are. There
     /// is room for all that wait.
     pub fn deliver(&mut self, ready: &mut VecDeque<Message>) -> usize
-        requires { deque_len ready.old + deque_len self.old.waiting ≤ deque_capacity ready.old }
+        requires { deque_len ready.old + btree_map_len self.old.waiting ≤ deque_capacity ready.old }
         ensures stream { stream_of self.new ≡ delivered_from self.old.next (stream_of self.old) }
         ensures ready { map message_content ready.new.items ≡ map message_content ready.old.items ++ deliveries_from self.old.next (stream_of self.old) }
         ensures count { result ≡ length (deliveries_from self.old.next (stream_of self.old)) }
         ensures room { deque_capacity ready.new ≡ deque_capacity ready.old }
     {
         let mut count = 0;
-        while !self.waiting.is_empty() && self.waiting[0].number <= self.next {
-            let whole = self.waiting.pop_front().unwrap();
-            if whole.number == self.next {
+        while first_is_due(&self.waiting, self.next) {
+            let (number, message) = self.waiting.pop_first().unwrap();
+            if number == self.next {
                 self.next = self.next.saturating_add(1);
             }
-            ready.push_back_reserved(Message::new(self.id, whole.ppid, whole.payload));
+            ready.push_back_reserved(Message::new(self.id, message.ppid, message.payload));
             count += 1;
         }
         count
@@ -169,7 +220,7 @@ impl Stream {
 
     // The next message is whole: it becomes ready, with those that waited for it. There is room for them.
     fn deliver_next(&mut self, whole: Whole, ready: &mut VecDeque<Message>) -> usize
-        requires room { deque_len ready.old + deque_len self.old.waiting < deque_capacity ready.old }
+        requires room { deque_len ready.old + btree_map_len self.old.waiting < deque_capacity ready.old }
         requires next { whole.number ≡ self.old.next }
         ensures stream { stream_of self.new ≡ delivered_from (next_after self.old.next (whole_of whole)) (stream_of self.old) }
         ensures ready { map message_content ready.new.items ≡ map message_content ready.old.items ++ ready_with (stream_of self.old) (whole_of whole) }
@@ -180,23 +231,75 @@ impl Stream {
         self.deliver(ready) + 1
     }
 
-    // Makes room for an ordered message of this number, so that taking it in can't fail later: one that is
-    // next becomes ready with all that wait, another waits.
-    fn make_room(&mut self, number: u64, ready: &mut VecDeque<Message>) -> Result<(), AllocError>
-        ensures stream { (self.new.id ≡ self.old.id) × (self.new.next ≡ self.old.next) × (self.new.last_unordered ≡ self.old.last_unordered) × (self.new.waiting.items ≡ self.old.waiting.items) × (self.new.ordered ≡ self.old.ordered) × (self.new.unordered ≡ self.old.unordered) }
-        ensures ready { ready.new.items ≡ ready.old.items }
-        ensures room { OnOk result (deque_len ready.new + deque_len self.new.waiting < deque_capacity ready.new) }
-        ensures wait { OnOk result (self.old.next < number → deque_len self.new.waiting < deque_capacity self.new.waiting) }
+    // A part of the next message came in, or all of it: a whole one becomes ready with those that waited for
+    // it.
+    #[inline(always)]
+    fn take_next(
+        &mut self,
+        alloc: Global,
+        part: Part,
+        ready: &mut VecDeque<Message>,
+    ) -> Result<Taken, AllocError>
+        requires next { part.number ≡ self.old.next }
+        ensures ok { IfOk result (λ taken. TakesOrdered (part_of part) (stream_of self.old) (map message_content ready.old.items) taken (stream_of self.new) (map message_content ready.new.items)) }
+        ensures err { OnErr result ((stream_of self.new ≡ stream_of self.old) × (map message_content ready.new.items ≡ map message_content ready.old.items)) }
     {
+        let size = part.payload.len();
         ready.try_reserve(self.waiting.len() + 1)?;
-        if number > self.next {
-            self.waiting.try_reserve(1)?;
+        match add_part(alloc, &mut self.ordered, part)? {
+            Assembled::Dropped => Ok(NOTHING),
+            Assembled::Kept => Ok(Taken {
+                kept_bytes: size,
+                ready: 0,
+            }),
+            Assembled::Whole(whole) => Ok(Taken {
+                kept_bytes: size,
+                ready: self.deliver_next(whole, ready),
+            }),
         }
-        Ok(())
     }
 
-    /// A part of an ordered message came in, or a whole one. One of a message before the next is dropped. If
-    /// there is no memory for it, nothing that callers see changes.
+    // A part of a message behind the next came in, or all of it: a whole one waits. A place for it is taken
+    // first, so that nothing fails once its parts are joined.
+    #[inline(never)]
+    fn take_ahead(&mut self, alloc: Global, part: Part) -> Result<Taken, AllocError>
+        requires ahead { self.old.next < part.number }
+        requires fresh { get nat_cmp self.old.waiting part.number ≡ None }
+        ensures ok { (ready : List MessageContent) → IfOk result (λ taken. TakesOrdered (part_of part) (stream_of self.old) ready taken (stream_of self.new) ready) }
+        ensures err { OnErr result (stream_of self.new ≡ stream_of self.old) }
+    {
+        let size = part.payload.len();
+        let number = part.number;
+        hold_place(alloc, &mut self.waiting, number)?;
+        match add_part(alloc, &mut self.ordered, part) {
+            Ok(Assembled::Whole(whole)) => {
+                fill_place(&mut self.waiting, whole);
+                Ok(Taken {
+                    kept_bytes: size,
+                    ready: 0,
+                })
+            }
+            Ok(Assembled::Kept) => {
+                leave_place(&mut self.waiting, number);
+                Ok(Taken {
+                    kept_bytes: size,
+                    ready: 0,
+                })
+            }
+            Ok(Assembled::Dropped) => {
+                leave_place(&mut self.waiting, number);
+                Ok(NOTHING)
+            }
+            Err(error) => {
+                leave_place(&mut self.waiting, number);
+                Err(error)
+            }
+        }
+    }
+
+    /// A part of an ordered message came in, or a whole one. One of a message before the next is dropped. Where
+    /// a message of the same number waits already, this one becomes ready once it is whole. If there is no
+    /// memory for it, nothing that callers see changes.
     #[inline(always)]
     pub fn take_ordered(
         &mut self,
@@ -205,39 +308,19 @@ impl Stream {
         ready: &mut VecDeque<Message>,
     ) -> Result<Taken, AllocError>
         ensures past { part.number < self.old.next → IfOk result (λ taken. NothingTaken taken × (stream_of self.new ≡ stream_of self.old) × (map message_content ready.new.items ≡ map message_content ready.old.items)) }
-        ensures ok { self.old.next ≤ part.number → IfOk result (λ taken. TakesOrdered (part_of part) (stream_of self.old) (map message_content ready.old.items) taken (stream_of self.new) (map message_content ready.new.items)) }
+        ensures ok { self.old.next ≤ part.number → IfOk result (λ taken. TakesAhead (part_of part) (stream_of self.old) (map message_content ready.old.items) taken (stream_of self.new) (map message_content ready.new.items)) }
         ensures err { OnErr result ((stream_of self.new ≡ stream_of self.old) × (map message_content ready.new.items ≡ map message_content ready.old.items)) }
     {
-        let size = part.payload.len();
         if part.number < self.next {
-            return Ok(Taken {
-                kept_bytes: 0,
-                ready: 0,
-            });
+            return Ok(NOTHING);
         }
-        self.make_room(part.number, ready)?;
-        match add_part(alloc, &mut self.ordered, part)? {
-            Assembled::Dropped => Ok(Taken {
-                kept_bytes: 0,
-                ready: 0,
-            }),
-            Assembled::Kept => Ok(Taken {
-                kept_bytes: size,
-                ready: 0,
-            }),
-            Assembled::Whole(whole) => {
-                if whole.number == self.next {
-                    return Ok(Taken {
-                        kept_bytes: size,
-                        ready: self.deliver_next(whole, ready),
-                    });
-                }
-                self.wait(whole);
-                Ok(Taken {
-                    kept_bytes: size,
-                    ready: 0,
-                })
-            }
+        if waits(&self.waiting, part.number) {
+            return take_unordered(alloc, self.id, &mut self.ordered, part, ready);
+        }
+        if part.number == self.next {
+            self.take_next(alloc, part, ready)
+        } else {
+            self.take_ahead(alloc, part)
         }
     }
 
@@ -249,8 +332,8 @@ impl Stream {
         part: Part,
         ready: &mut VecDeque<Message>,
     ) -> Result<Taken, AllocError>
-        ensures ok { IfOk result (λ taken. TakesUnordered (part_of part) (delivered_as self.old.id.0) (map run_of self.old.unordered.items) (map message_content ready.old.items) taken (map run_of self.new.unordered.items) (map message_content ready.new.items)) }
-        ensures ordered { (self.new.id ≡ self.old.id) × (self.new.next ≡ self.old.next) × (self.new.last_unordered ≡ self.old.last_unordered) × (self.new.waiting.items ≡ self.old.waiting.items) × (self.new.ordered.items ≡ self.old.ordered.items) }
+        ensures ok { IfOk result (λ taken. TakesUnordered (part_of part) (delivered_as self.old.id.0) (map run_of self.old.unordered.entries) (map message_content ready.old.items) taken (map run_of self.new.unordered.entries) (map message_content ready.new.items)) }
+        ensures ordered { (self.new.id ≡ self.old.id) × (self.new.next ≡ self.old.next) × (self.new.last_unordered ≡ self.old.last_unordered) × (self.new.waiting.entries ≡ self.old.waiting.entries) × (self.new.ordered.entries ≡ self.old.ordered.entries) }
         ensures err { OnErr result ((stream_of self.new ≡ stream_of self.old) × (map message_content ready.new.items ≡ map message_content ready.old.items)) }
     {
         take_unordered(alloc, self.id, &mut self.unordered, part, ready)
@@ -296,7 +379,7 @@ impl Stream {
     /// Messages of this stream are skipped. Answers how many bytes are dropped. There is room for all that
     /// wait.
     pub fn skip(&mut self, entry: &SkippedTo, ready: &mut VecDeque<Message>) -> usize
-        requires { deque_len ready.old + deque_len self.old.waiting ≤ deque_capacity ready.old }
+        requires { deque_len ready.old + btree_map_len self.old.waiting ≤ deque_capacity ready.old }
         ensures stream { stream_of self.new ≡ skipped entry.now (stream_of self.old) }
         ensures ready { map message_content ready.new.items ≡ map message_content ready.old.items ++ skip_deliveries entry.now (stream_of self.old) }
         ensures size { result ≡ capped (skip_bytes entry.now (stream_of self.old)) }
@@ -330,13 +413,13 @@ impl Stream {
     // whole ones become ready with those that follow (RFC 3758, section 3.6). There is room for all that
     // wait.
     fn skip_ordered(&mut self, number: u64, ready: &mut VecDeque<Message>) -> usize
-        requires { deque_len ready.old + deque_len self.old.waiting ≤ deque_capacity ready.old }
+        requires { deque_len ready.old + btree_map_len self.old.waiting ≤ deque_capacity ready.old }
         ensures stream { stream_of self.new ≡ skipped_in_order number (stream_of self.old) }
         ensures ready { map message_content ready.new.items ≡ map message_content ready.old.items ++ deliveries_from (next_past number self.old.next) (stream_of self.old) }
-        ensures size { result ≡ capped (runs_bytes (runs_up_to number (map run_of self.old.ordered.items))) }
+        ensures size { result ≡ capped (runs_bytes (runs_up_to number (map run_of self.old.ordered.entries))) }
         ensures room { deque_capacity ready.new ≡ deque_capacity ready.old }
     {
-        let dropped_bytes = drop_messages(&mut self.ordered, 0, number);
+        let dropped_bytes = drop_messages(&mut self.ordered, &UpTo(number));
         self.next = self.next.max(number.saturating_add(1));
         let _ = self.deliver(ready);
         dropped_bytes
@@ -346,17 +429,17 @@ impl Stream {
     // section 2.3.1).
     fn skip_unordered(&mut self, number: u64) -> usize
         ensures stream { stream_of self.new ≡ skipped_out_of_order number (stream_of self.old) }
-        ensures size { result ≡ capped (runs_bytes (runs_up_to number (map run_of self.old.unordered.items))) }
+        ensures size { result ≡ capped (runs_bytes (runs_up_to number (map run_of self.old.unordered.entries))) }
     {
         self.last_unordered = number;
-        drop_messages(&mut self.unordered, 0, number)
+        drop_messages(&mut self.unordered, &UpTo(number))
     }
 
     /// How many bytes of the stream are kept, and no more than a usize counts.
     pub fn size(&self) -> usize
         ensures { result ≡ capped (stream_bytes (stream_of self.now)) }
     {
-        size_of_wholes(&self.waiting)
+        size_of_waiting(&self.waiting)
             .saturating_add(size_of_runs(&self.ordered))
             .saturating_add(size_of_runs(&self.unordered))
     }

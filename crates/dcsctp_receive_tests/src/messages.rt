@@ -300,20 +300,47 @@ fn messages_far_ahead_wait(rt: HostRuntime) {
 
 #[test]
 fn a_number_that_comes_twice_loses_nothing(rt: HostRuntime) {
+    // No order says which of the two comes first, so the second doesn't wait.
     static STEPS: &[(&str, Step)] = &[
-        ("a", Begins(100)),
-        ("a", Add(2, 7, Ordered { ssn: 1 }, Whole, "aaa")),
+        ("waits", Begins(100)),
+        ("waits", Add(2, 7, Ordered { ssn: 1 }, Whole, "waits")),
         (
             "the same number",
-            Add(3, 7, Ordered { ssn: 1 }, Whole, "bbb"),
+            Add(3, 7, Ordered { ssn: 1 }, Whole, "same"),
         ),
-        ("both wait", Rests(100 - 6)),
+        ("the same number", Gives("same")),
+        ("in two parts", Add(4, 7, Ordered { ssn: 1 }, First, "pa")),
+        ("its beginning is kept", Rests(100 - 5 - 2)),
+        ("in two parts", Add(5, 7, Ordered { ssn: 1 }, Last, "rts")),
+        ("in two parts", Gives("parts")),
+        ("one waits", Rests(100 - 5)),
         ("the first", Add(1, 7, Ordered { ssn: 0 }, Whole, "c")),
         ("the first", Gives("c")),
-        ("the same number", Gives("bbb")),
-        ("a", Gives("aaa")),
+        ("waits", Gives("waits")),
         ("all is taken", Rests(100)),
-        ("messages", Counts(3)),
+        ("messages", Counts(4)),
+    ];
+    run(&rt, STEPS);
+}
+
+#[test]
+fn parts_join_in_any_order(rt: HostRuntime) {
+    // A part goes between two runs, behind one, before one, and alone; the last makes the message whole.
+    static STEPS: &[(&str, Step)] = &[
+        ("second", Begins(100)),
+        ("second", Add(2, 7, Ordered { ssn: 0 }, Middle, "b")),
+        ("fourth", Add(4, 7, Ordered { ssn: 0 }, Middle, "d")),
+        ("between", Add(3, 7, Ordered { ssn: 0 }, Middle, "c")),
+        ("again", Add(3, 7, Ordered { ssn: 0 }, Middle, "x")),
+        ("behind", Add(5, 7, Ordered { ssn: 0 }, Middle, "e")),
+        ("of another", Add(7, 7, Ordered { ssn: 1 }, First, "one")),
+        ("before", Add(1, 7, Ordered { ssn: 0 }, First, "a")),
+        ("held", Rests(100 - 8)),
+        ("the end", Add(6, 7, Ordered { ssn: 0 }, Last, "f")),
+        ("in order", Gives("abcdef")),
+        ("of another", Add(8, 7, Ordered { ssn: 1 }, Last, "two")),
+        ("of another", Gives("onetwo")),
+        ("all is taken", Rests(100)),
     ];
     run(&rt, STEPS);
 }

@@ -1,6 +1,6 @@
 //! Streams that begin anew, what waits for that, and the receive window.
 
-use crate::arrivals::Part::{First, Whole};
+use crate::arrivals::Part::{First, Last, Whole};
 use crate::arrivals::Step::{
     Add, Begins, Counts, Defers, Fills, Gives, Remains, Resets, Rests, Skips,
 };
@@ -98,6 +98,36 @@ fn a_reset_of_all_streams_leaves_what_is_ready(rt: HostRuntime) {
         ("was ready", Gives("ready")),
         ("begins anew", Gives("anew")),
         ("all is taken", Rests(100)),
+    ];
+    run(&rt, STEPS);
+}
+
+#[test]
+fn a_reset_of_some_streams_leaves_the_others(rt: HostRuntime) {
+    static STEPS: &[(&str, Step)] = &[
+        ("stream 7", Begins(100)),
+        ("stream 7", Add(1, 7, Unordered, First, "seven")),
+        ("stream 8", Add(3, 8, Unordered, First, "eight")),
+        ("stream 9", Add(5, 9, Unordered, First, "nine")),
+        ("stream 63", Add(7, 63, Unordered, First, "63")),
+        ("stream 65535", Add(9, 65535, Unordered, First, "last")),
+        ("in order", Add(11, 8, Ordered { ssn: 1 }, Whole, "waits")),
+        ("held", Remains(100 - 25)),
+        (
+            "reset",
+            Resets(&[StreamId(7), StreamId(9), StreamId(65535), StreamId(7)]),
+        ),
+        ("reset", Remains(100 - 12)),
+        ("stream 8", Add(4, 8, Unordered, Last, "h")),
+        ("stream 8", Gives("eighth")),
+        ("stream 63", Add(8, 63, Unordered, Last, "rd")),
+        ("stream 63", Gives("63rd")),
+        ("stream 7", Add(2, 7, Unordered, Last, "th")),
+        ("its beginning is gone", Rests(100 - 5 - 2)),
+        ("in order", Add(12, 8, Ordered { ssn: 0 }, Whole, "next")),
+        ("in order", Gives("next")),
+        ("in order", Gives("waits")),
+        ("the rest", Rests(100 - 2)),
     ];
     run(&rt, STEPS);
 }

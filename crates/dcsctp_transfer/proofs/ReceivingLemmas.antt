@@ -17,7 +17,7 @@ use Rattle.dcsctp_receive_reassembly.specs.declared.runs.Assembled.{Assembled}
 use Rattle.dcsctp_receive_reassembly.specs.declared.runs.Assembled.TheVariants.{Dropped, Kept, Whole as WholeMessage}
 use Rattle.dcsctp_receive_reassembly.specs.declared.stream.Taken.{Taken}
 use Rattle.dcsctp_receive_reassembly.specs.Runs.{RunModel, PartModel, WholeModel, whole_of}
-use Rattle.dcsctp_receive_reassembly.specs.Streams.{StreamModel, ChunkModel, ready_with, OrderedOutcome, UnorderedOutcome, TakesOrdered, TakesUnordered, TakesInOrder, TakesNumbered}
+use Rattle.dcsctp_receive_reassembly.specs.Streams.{StreamModel, ChunkModel, ready_with, OrderedOutcome, UnorderedOutcome, is_waiting, TakesOrdered, TakesAhead, TakesUnordered, TakesInOrder, TakesNumbered}
 use Rattle.dcsctp_receive_reassembly.specs.Reassembly.{IncomingModel, TakesChunk, TakesData}
 use Rattle.dcsctp_receive_reassembly.specs.Skipping.{ResetsStreams as Resets}
 use Rattle.dcsctp_receive_reassembly.specs.Queue.{QueueModel, WaitingModel, arrived, queued_bytes, reassembly_state, can_count, is_deferred, with_deferred, with_waiting, skipping, is_forward_deferred, Takes, Forwards, Works, WorksAll, actions_of, Leaves, StaysDeferred}
@@ -105,6 +105,14 @@ taken_in_order : (part : PartModel) (old : StreamModel) (before : List MessageCo
     → TakesOrdered part old before taken new after → StartsWith before after
 taken_in_order part old before taken new after takes = ordered_behind part old before takes.outcome taken new after takes.does
 
+ahead_behind : (part : PartModel) (old : StreamModel) (before : List MessageContent) (taken : Taken) (new : StreamModel) (after : List MessageContent)
+    → TakesAhead part old before taken new after → StartsWith before after
+ahead_behind part old before taken new after takes = by_number (is_waiting part.number old.waiting) refl
+  where
+    by_number : (b : Bool) → is_waiting part.number old.waiting ≡ b → StartsWith before after
+    by_number true waits = apart_behind part _ old.ordered before taken new.ordered after (takes.repeated waits).ordered
+    by_number false fresh = taken_in_order part old before taken new after (takes.fresh fresh)
+
 in_order_behind : (part : PartModel) (old : StreamModel) (before : List MessageContent) (taken : Taken) (new : StreamModel) (after : List MessageContent)
     → TakesInOrder part old before taken new after → StartsWith before after
 in_order_behind part old before taken new after takes = by_side (nat_lt part.number old.next) refl
@@ -113,11 +121,11 @@ in_order_behind part old before taken new after takes = by_side (nat_lt part.num
     by_side true less = let past : part.number < old.next = grind (arith, nat_tests) in stays_in_front before after (takes.past past).2
     by_side false more =
         let ahead : old.next ≤ part.number = grind (arith, nat_tests) in
-        taken_in_order part old before taken new after (takes.ahead ahead)
+        ahead_behind part old before taken new after (takes.ahead ahead)
 
 numbered_behind : (tsn : ℕ) (chunk : ChunkModel) (numbering : Numbering) (old : StreamModel) (before : List MessageContent) (taken : Taken) (new : StreamModel) (after : List MessageContent)
     → TakesNumbered tsn chunk numbering old before taken new after → StartsWith before after
-numbered_behind tsn chunk (Ordered ssn) old before taken new after takes = taken_in_order _ old before taken new after takes
+numbered_behind tsn chunk (Ordered ssn) old before taken new after takes = ahead_behind _ old before taken new after takes
 numbered_behind tsn chunk Unordered old before taken new after takes = apart_behind _ _ old.unordered before taken new.unordered after takes.unordered
 numbered_behind tsn chunk (InterleavedOrdered mid fsn) old before taken new after takes = in_order_behind _ old before taken new after takes
 numbered_behind tsn chunk (InterleavedUnordered mid fsn) old before taken new after takes = apart_behind _ _ old.unordered before taken new.unordered after takes.unordered

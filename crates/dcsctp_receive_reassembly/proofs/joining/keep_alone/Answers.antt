@@ -1,11 +1,17 @@
--- The run of the part alone stands at its place.
-use Rattle.std.proofs.Common.{List, map, ap, ◌∙◌}
-use Rattle.dcsctp_receive_reassembly.specs.declared.runs.Run.{Run}
-use Rattle.dcsctp_receive_reassembly.specs.Runs.{run_of, part_of}
-use Rattle.dcsctp_receive_reassembly.proofs.RunsLemmas.{kept_alone}
+-- No run begins at the place, and the run of the part alone stands there then.
+use Rattle.std.proofs.Common.{◌++◌, ◌∷◌, map, take, drop, ap, ◌∙◌}
+use Rattle.dcsctp_receive_entries.specs.Entries.{count_up_to}
+use Rattle.dcsctp_receive_reassembly.specs.Runs.{RunModel, run_of}
+use Rattle.dcsctp_receive_reassembly.proofs.ResultFacts.{ok_then}
+use Rattle.dcsctp_receive_reassembly.proofs.RunMapLemmas.{absent, put_run}
 use Rattle.dcsctp_receive_reassembly.proofs.joining.keep_alone.Goals as goal
+
+pub put_entry-requires : goal.put_entry-requires
+put_entry-requires c =
+    record { absent = absent c.args.part.place c.args.runs.now.entries c.requires.ordered c.requires.absent }
 
 pub returns-clause-ok : goal.returns-clause-ok
 returns-clause-ok c =
-    ap (λ (all : List Run). map run_of all) c.in_ok-insert.ensures.items
-    ∙ kept_alone c.args.at c.args.runs.now.items (part_of c.args.part) c.in_ok-run.run' c.in_ok-run.ensures
+    ok_then c.put_entry.result c.put_entry.ensures.ok (λ put.
+    put_run (count_up_to c.args.part.place c.args.runs.now.entries) c.args.part.place c.single.result c.args.runs.now.entries c.put_entry.new.entries.entries put
+    ∙ ap (λ (run : RunModel). take (count_up_to c.args.part.place c.args.runs.now.entries) (map run_of c.args.runs.now.entries) ++ run ∷ drop (count_up_to c.args.part.place c.args.runs.now.entries) (map run_of c.args.runs.now.entries)) c.single.ensures)

@@ -1,14 +1,24 @@
 -- The run before the part has it, and the others stay.
-use Rattle.std.proofs.Common.{◌-◌, arith}
+use Rattle.std.proofs.Common.{ap, sym, ◌∙◌}
+use Rattle.std.specs.Option.{option_copied_mut}
+use Rattle.dcsctp_receive_entries.specs.Entries.{count_up_to}
 use Rattle.dcsctp_receive_reassembly.specs.Runs.{part_of}
-use Rattle.dcsctp_receive_reassembly.proofs.ResultFacts.{on_err}
-use Rattle.dcsctp_receive_reassembly.proofs.RunsLemmas.{kept_before, kept_same}
+use Rattle.dcsctp_receive_reassembly.proofs.ResultFacts.{ok_then, err_then}
+use Rattle.dcsctp_receive_reassembly.proofs.RunMapLemmas.{before_some, written_before, written_same}
 use Rattle.dcsctp_receive_reassembly.proofs.joining.keep_before.Goals as goal
+
+pub unwrap-requires : goal.unwrap-requires
+unwrap-requires c =
+    before_some (count_up_to c.args.part.place c.args.runs.now.entries) c.args.first c.args.runs.now c.get_mut.result c.get_mut.ensures.ordered c.requires.before c.get_mut.ensures.value
 
 pub returns-clause-ok : goal.returns-clause-ok
 returns-clause-ok c =
-    kept_before c.args.at c.args.runs.now.items (part_of c.args.part) c.index_mut-run.result.now c.append.new.run c.requires.0 (omega arith) c.index_mut-run.ensures.value c.in_ok-append.ensures.ok
+    ok_then c.append.result c.append.ensures.ok (λ appended.
+    written_before (count_up_to c.args.part.place c.args.runs.now.entries) c.args.first (part_of c.args.part) c.args.runs.now (c.get_mut.follows.lender c.append.new.run) c.unwrap.result.now c.append.new.run
+    c.get_mut.ensures.ordered c.requires.before (sym c.get_mut.ensures.value ∙ ap (λ o. option_copied_mut o) c.unwrap.ensures) (c.get_mut.follows.holds c.append.new.run) (appended c.args.first))
 
-pub returns-in_err-append-clause-err : goal.returns-in_err-append-clause-err
-returns-in_err-append-clause-err c =
-    on_err c.from_residual.result (kept_same (c.args.at - 1) c.args.runs.now.items c.index_mut-run.result.now c.append.new.run (omega arith) c.index_mut-run.ensures.value c.in_err-append.ensures.err)
+pub returns-clause-err : goal.returns-clause-err
+returns-clause-err c =
+    err_then c.append.result c.append.ensures.err (λ same.
+    written_same c.args.first c.args.runs.now (c.get_mut.follows.lender c.append.new.run) c.unwrap.result.now c.append.new.run
+    c.get_mut.ensures.ordered (sym c.get_mut.ensures.value ∙ ap (λ o. option_copied_mut o) c.unwrap.ensures) (c.get_mut.follows.holds c.append.new.run) (same c.args.first))

@@ -1,24 +1,39 @@
 -- The two runs and the part between them are one, and the others stay.
-use Rattle.std.proofs.Common.{◌≡◌, ◌-◌, List, map, set, get_or, arith, ap, subst, ◌∙◌}
-use Rattle.std.specs.Prelude.{OnSome, IfSome}
-use Rattle.std.specs.List.{remove}
-use Rattle.dcsctp_receive_reassembly.specs.declared.runs.Run.{Run}
-use Rattle.dcsctp_receive_reassembly.specs.Runs.{run_of, part_of}
-use Rattle.dcsctp_receive_reassembly.proofs.ResultFacts.{on_err}
-use Rattle.dcsctp_receive_reassembly.proofs.RunsLemmas.{kept_between, kept_same}
+use Rattle.std.proofs.Common.{◌+◌, ◌∙◌, map, arith, refl, ap, subst, sym}
+use Rattle.std.specs.Prelude.{slice_get, IsSome}
+use Rattle.std.specs.Option.{option_copied, option_copied_mut}
+use Rattle.dcsctp_receive_entries.specs.Entries.{count_up_to}
+use Rattle.dcsctp_receive_reassembly.specs.Runs.{run_of, part_of, BeginsAt}
+use Rattle.dcsctp_receive_reassembly.proofs.RunMapLemmas.{NextTaken, looked_up, before_looked_up, lent_some, first_looked_up, as_long, kept_between, room_after, shared_some, sides_apart}
 use Rattle.dcsctp_receive_reassembly.proofs.joining.keep_between.Goals as goal
 
-pub returns-in_err-reserve-clause-err : goal.returns-in_err-reserve-clause-err
-returns-in_err-reserve-clause-err c =
-    on_err c.from_residual.result (kept_same (c.args.at - 1) c.args.runs.now.items c.index_mut-run.result.now c.reserve.new.run (omega arith) c.index_mut-run.ensures.value c.reserve.ensures.same)
+pub unwrap-requires : goal.unwrap-requires
+unwrap-requires c =
+    shared_some c.get.result (subst (λ o. IsSome o) (sym c.get.ensures.value) (looked_up c.args.next (count_up_to c.args.part.place c.args.runs.now.entries) c.args.runs.now.entries c.requires.ordered c.requires.behind))
+
+pub reserve-requires : goal.reserve-requires
+reserve-requires c =
+    record { there = before_looked_up (count_up_to c.args.part.place c.args.runs.now.entries) c.args.first c.args.runs.now.entries c.requires.ordered c.requires.before }
+
+pub unwrap-behind-requires : goal.unwrap-behind-requires
+unwrap-behind-requires c =
+    subst (λ o. IsSome o) (sym c.remove.ensures.value) (looked_up c.args.next (count_up_to c.args.part.place c.args.runs.now.entries) c.reserve.new.runs.entries c.reserve.ensures.ordered (subst (λ all. BeginsAt c.args.next (slice_get all (count_up_to c.args.part.place c.args.runs.now.entries))) (sym c.reserve.ensures.kept) c.requires.behind))
+
+pub unwrap-requires-2 : goal.unwrap-requires-2
+unwrap-requires-2 c =
+    let taken : NextTaken (count_up_to c.args.part.place c.args.runs.now.entries) c.args.first c.args.next (map run_of c.args.runs.now.entries) c.reserve.new.runs.entries c.remove.new.self.entries = record { before = c.requires.before; behind = c.requires.behind; shows = c.reserve.ensures.kept; ascends = c.reserve.ensures.ordered; left = c.remove.ensures.entries; ascends' = c.remove.ensures.ordered } in
+    lent_some c.get_mut.result (subst (λ o. IsSome o) (sym c.get_mut.ensures.value) (first_looked_up (count_up_to c.args.part.place c.args.runs.now.entries) c.args.first c.args.next (map run_of c.args.runs.now.entries) c.reserve.new.runs.entries c.remove.new.self.entries taken))
+
+pub link-requires : goal.link-requires
+link-requires c =
+    let counted = as_long c.args.next (count_up_to c.args.part.place c.args.runs.now.entries) c.unwrap.result.now c.unwrap-behind.result c.args.runs.now.entries c.reserve.new.runs.entries c.requires.ordered c.reserve.ensures.ordered c.reserve.ensures.kept c.requires.behind (sym c.get.ensures.value ∙ ap (λ o. option_copied o) c.unwrap.ensures) (sym c.remove.ensures.value ∙ c.unwrap-behind.ensures) in
+    let less = sides_apart c.args.part.place (count_up_to c.args.part.place c.args.runs.now.entries) c.args.first c.args.next c.args.runs.now.entries c.requires.ordered refl c.requires.before c.requires.behind in
+    let room = room_after (c.len-count.result + 2) c.args.first c.args.next c.reserve.new.runs c.remove.new.self c.unwrap-2.result.now less c.in_ok-reserve.ensures.room c.remove.ensures.updates (sym c.get_mut.ensures.value ∙ ap (λ o. option_copied_mut o) c.unwrap-2.ensures) in
+    omega (arith, counted, room, c.len-count.ensures)
 
 pub returns-clause-ok : goal.returns-clause-ok
 returns-clause-ok c =
-    let left : c.remove.new.self.items ≡ remove (set c.args.runs.now.items (c.args.at - 1) c.reserve.new.run) c.args.at =
-    subst (λ o. OnSome o (c.remove.new.self.items ≡ remove (set c.args.runs.now.items (c.args.at - 1) c.reserve.new.run) c.args.at)) c.unwrap-behind.ensures c.remove.ensures.items in
-    let behind : c.unwrap-behind.result ≡ get_or (set c.args.runs.now.items (c.args.at - 1) c.reserve.new.run) c.args.at c.unwrap-behind.result =
-    subst (λ o. IfSome o (λ run. run ≡ get_or (set c.args.runs.now.items (c.args.at - 1) c.reserve.new.run) c.args.at run)) c.unwrap-behind.ensures c.remove.ensures.value in
-    ap (λ (all : List Run). map run_of (set all (c.args.at - 1) c.link.new.run)) left
-    ∙ kept_between c.args.at c.args.runs.now.items (part_of c.args.part) c.index_mut-run.result.now c.reserve.new.run c.unwrap-behind.result c.index_mut-run-2.result.now c.link.new.run c.requires.0 (omega arith) c.index_mut-run.ensures.value c.reserve.ensures.same behind
-    (subst (λ (all : List Run). c.index_mut-run-2.result.now ≡ get_or all (c.args.at - 1) c.index_mut-run-2.result.now) left c.index_mut-run-2.ensures.value)
-    c.link.ensures
+    let taken : NextTaken (count_up_to c.args.part.place c.args.runs.now.entries) c.args.first c.args.next (map run_of c.args.runs.now.entries) c.reserve.new.runs.entries c.remove.new.self.entries = record { before = c.requires.before; behind = c.requires.behind; shows = c.reserve.ensures.kept; ascends = c.reserve.ensures.ordered; left = c.remove.ensures.entries; ascends' = c.remove.ensures.ordered } in
+    kept_between (count_up_to c.args.part.place c.args.runs.now.entries) c.args.first c.args.next (part_of c.args.part) c.unwrap-2.result.now c.unwrap-behind.result c.link.new.run (map run_of c.args.runs.now.entries) c.reserve.new.runs.entries c.remove.new.self (c.get_mut.follows.lender c.link.new.run)
+    taken (sym c.remove.ensures.value ∙ c.unwrap-behind.ensures) (sym c.get_mut.ensures.value ∙ ap (λ o. option_copied_mut o) c.unwrap-2.ensures) (c.get_mut.follows.holds c.link.new.run)
+    (c.link.ensures c.args.first c.args.next (part_of c.args.part) refl)

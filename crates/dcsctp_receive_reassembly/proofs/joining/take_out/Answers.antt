@@ -1,26 +1,22 @@
 -- Each run that is taken out leaves the others.
-use Rattle.std.proofs.Common.{◌-◌, ◌<◌, List, map, ap, ◌∙◌, arith, length}
-use Rattle.std.specs.List.{remove}
-use Rattle.dcsctp_receive_reassembly.specs.declared.runs.Run.{Run}
+use Rattle.std.proofs.Common.{map, refl}
 use Rattle.dcsctp_receive_reassembly.specs.Runs.{run_of}
-use Rattle.dcsctp_receive_reassembly.proofs.RunsLemmas.{mapped-remove, mapped-remove_before, mapped-remove_both}
+use Rattle.dcsctp_receive_reassembly.proofs.RunMapLemmas.{taken_both, taken_first, taken_next}
 use Rattle.dcsctp_receive_reassembly.proofs.joining.take_out.Goals as goal
 
-pub returns-in-true-true : goal.returns-in-true-true
-returns-in-true-true c =
-    let above : 0 < c.args.at = (c.requires.before c.in-true-true.is-0).0 in
-    let within : c.args.at < length c.args.runs.now.items = omega (arith, c.requires.behind c.in-true-true.is-1) in
-    rw (c.in-true-true.is-0, c.in-true-true.is-1)
-    (ap (λ (all : List Run). map run_of all) (c.remove_run-in-true-true.ensures.items ∙ ap (λ (all : List Run). remove all (c.args.at - 1)) c.remove_run.ensures.items)
-    ∙ mapped-remove_both c.args.at c.args.runs.now.items above within)
+pub returns-in-Some-Some : goal.returns-in-Some-Some
+returns-in-Some-Some c =
+    rw (c.in-Some-Some.is-0, c.in-Some-Some.is-1) (λ at before behind.
+    taken_both at c.in-Some-Some.first c.in-Some-Some.next (map run_of c.args.runs.now.entries) c.args.runs.now.entries c.remove.new.self.entries c.remove-in-Some-Some.new.self.entries
+    (record { before = before; behind = behind; shows = refl; ascends = c.requires.ordered; left = c.remove.ensures.entries; ascends' = c.remove.ensures.ordered })
+    c.remove-in-Some-Some.ensures.entries)
 
-pub returns-in-true-false : goal.returns-in-true-false
-returns-in-true-false c =
-    let above : 0 < c.args.at = (c.requires.before c.in-true-false.is-0).0 in
-    rw (c.in-true-false.is-0, c.in-true-false.is-1)
-    (ap (λ (all : List Run). map run_of all) c.remove_run-in-true-false.ensures.items ∙ mapped-remove_before c.args.at c.args.runs.now.items above)
+pub returns-in-Some-None : goal.returns-in-Some-None
+returns-in-Some-None c =
+    rw (c.in-Some-None.is-0, c.in-Some-None.is-1) (λ at before behind.
+    taken_first at c.in-Some-None.first c.args.runs.now.entries c.remove-in-Some-None.new.self.entries c.requires.ordered before c.remove-in-Some-None.ensures.entries)
 
-pub returns-in-false-true : goal.returns-in-false-true
-returns-in-false-true c =
-    rw (c.in-false-true.is-0, c.in-false-true.is-1)
-    (ap (λ (all : List Run). map run_of all) c.remove_run-in-false-true.ensures.items ∙ mapped-remove c.args.at c.args.runs.now.items)
+pub returns-in-None-Some : goal.returns-in-None-Some
+returns-in-None-Some c =
+    rw (c.in-None-Some.is-0, c.in-None-Some.is-1) (λ at before behind.
+    taken_next at c.in-None-Some.next c.args.runs.now.entries c.remove-in-None-Some.new.self.entries c.requires.ordered behind c.remove-in-None-Some.ensures.entries)

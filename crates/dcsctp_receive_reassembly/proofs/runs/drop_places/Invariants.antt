@@ -1,5 +1,5 @@
 use Rattle.std.proofs.Common.{◌≡◌, ◌+◌, map}
-use Rattle.std.specs.VecDeque.{deque_len}
+use Rattle.std.specs.BTreeMap.{btree_map_len}
 use Rattle.dcsctp_receive_reassembly.specs.Runs.{run_of, up_to_place, behind_place}
 use Rattle.dcsctp_receive_reassembly.specs.Held.{capped, runs_bytes}
 use Rattle.dcsctp_receive_reassembly.proofs.runs.drop_places.Given as goal
@@ -8,10 +8,10 @@ use Rattle.dcsctp_receive_reassembly.proofs.runs.drop_places.Given as goal
 abbrev pub invariant-loop-runs : goal.invariant-loop-runs
 invariant-loop-runs l =
     record {
-      kept : behind_place l.place (map run_of l.runs.items) ≡ behind_place l.place (map run_of l.initial.runs.items);
-      size : capped (l.dropped + runs_bytes (up_to_place l.place (map run_of l.runs.items))) ≡ capped (runs_bytes (up_to_place l.place (map run_of l.initial.runs.items)));
+      kept : behind_place l.place (map run_of l.runs.entries) ≡ behind_place l.place (map run_of l.initial.runs.entries);
+      size : capped (l.dropped + runs_bytes (up_to_place l.place (map run_of l.runs.entries))) ≡ capped (runs_bytes (up_to_place l.place (map run_of l.initial.runs.entries)));
       bound : l.dropped ≡ capped l.dropped;
     }
 
 abbrev pub decreases-loop-runs : goal.decreases-loop-runs
-decreases-loop-runs l = deque_len l.runs
+decreases-loop-runs l = btree_map_len l.runs

@@ -8,8 +8,7 @@ use Rattle.std.proofs.lemmas.List.Sums.{sum_by-append}
 use Rattle.dcsctp_machine.specs.Transfer.{MessageContent, message_content}
 use Rattle.dcsctp_receive_reassembly.specs.Held.{capped}
 use Rattle.dcsctp_receive_reassembly.specs.QueuedBytes.{stream_bytes, ready_bytes}
-use Rattle.dcsctp_receive_reassembly.specs.Runs.{whole_of}
-use Rattle.dcsctp_receive_reassembly.specs.Streams.{StreamModel, stream_of, skipped_stream, skip_deliveries, skip_bytes}
+use Rattle.dcsctp_receive_reassembly.specs.Streams.{StreamModel, waits_as, stream_of, skipped_stream, skip_deliveries, skip_bytes}
 use Rattle.dcsctp_receive_reassembly.proofs.ReassemblyLemmas.{stream_on-get}
 use Rattle.dcsctp_receive_reassembly.proofs.StreamBytes.{skipped_bytes}
 use Rattle.dcsctp_receive_reassembly.proofs.StreamSums.{Written, stream_written}
@@ -19,7 +18,7 @@ use Rattle.dcsctp_receive_reassembly.proofs.skipping.skip_on.Goals as goal
 pub skip-requires : goal.skip-requires
 skip-requires c =
     let found : get nat_cmp c.args.streams.now (skipped_stream c.args.entry.now) ≡ Some c.unwrap-stream.result.now = ap (λ (id : ℕ). get nat_cmp c.args.streams.now id) (sym c.stream_of.ensures) ∙ sym (subst (λ o. option_copied_mut o ≡ get nat_cmp c.args.streams.now c.stream_of.result.0) c.unwrap-stream.ensures c.get_mut.ensures.value) in
-    omega (arith, c.requires.room, length-map c.unwrap-stream.result.now.waiting.items whole_of, ap (λ (stream : StreamModel). length stream.waiting) (stream_on-get (skipped_stream c.args.entry.now) c.args.streams.now (Some c.unwrap-stream.result.now) found))
+    omega (arith, c.requires.room, length-map c.unwrap-stream.result.now.waiting.entries waits_as, ap (λ (stream : StreamModel). length stream.waiting) (stream_on-get (skipped_stream c.args.entry.now) c.args.streams.now (Some c.unwrap-stream.result.now) found))
 
 pub returns-clause-streams : goal.returns-clause-streams
 returns-clause-streams c =

@@ -7,4 +7,4 @@ use Rattle.dcsctp_receive_reassembly.proofs.incoming.Incoming.drop_unordered.Goa
 
 pub returns-clause-bytes : goal.returns-clause-bytes
 returns-clause-bytes c =
-    λ within. omega (arith, within, c.saturating_sub-self.ensures, c.drop_places-dropped.ensures.size, ap runs_bytes c.drop_places-dropped.ensures.kept, placed_bytes c.from.result (map run_of c.args.self.now.unordered.items))
+    λ within. omega (arith, within, c.saturating_sub-self.ensures, c.drop_places-dropped.ensures.size, ap runs_bytes c.drop_places-dropped.ensures.kept, placed_bytes c.from.result (map run_of c.args.self.now.unordered.entries))

@@ -11,7 +11,7 @@ use Rattle.dcsctp_receive_reassembly.proofs.incoming.Incoming.take_unordered.Goa
 pub returns-clause-bytes : goal.returns-clause-bytes
 returns-clause-bytes c =
     λ within.
-    let counted = unordered_counted (part_of c.part_of_data-part.result) c.args.chunk.stream_id.0 (map run_of c.args.self.now.unordered.items) (map message_content c.args.self.now.ready.items) c.in_ok-taken.taken (map run_of c.take_unordered.new.runs.items) (map message_content c.take_unordered.new.ready.items) c.in_ok-taken.ensures.ok in
+    let counted = unordered_counted (part_of c.part_of_data-part.result) c.args.chunk.stream_id.0 (map run_of c.args.self.now.unordered.entries) (map message_content c.args.self.now.ready.items) c.in_ok-taken.taken (map run_of c.take_unordered.new.runs.entries) (map message_content c.take_unordered.new.ready.items) c.in_ok-taken.ensures.ok in
     omega (
       arith,
       counted.0,

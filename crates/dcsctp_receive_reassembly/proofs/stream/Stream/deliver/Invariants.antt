@@ -1,6 +1,7 @@
 use Rattle.dcsctp_machine.specs.Transfer.{message_content}
 use Rattle.std.proofs.Common.{◌≡◌, ◌+◌, ◌≤◌, ◌++◌, map, length}
 use Rattle.std.specs.VecDeque.{deque_len, deque_capacity}
+use Rattle.std.specs.BTreeMap.{btree_map_len}
 use Rattle.dcsctp_receive_reassembly.specs.Streams.{stream_of, delivered_from, deliveries_from}
 use Rattle.dcsctp_receive_reassembly.proofs.stream.Stream.deliver.Given as goal
 
@@ -8,13 +9,13 @@ use Rattle.dcsctp_receive_reassembly.proofs.stream.Stream.deliver.Given as goal
 abbrev pub invariant-loop-self : goal.invariant-loop-self
 invariant-loop-self l =
     record {
-      room : deque_len l.ready + deque_len l.self.waiting ≤ deque_capacity l.ready;
+      room : deque_len l.ready + btree_map_len l.self.waiting ≤ deque_capacity l.ready;
       capacity : deque_capacity l.ready ≡ deque_capacity l.initial.ready;
-      bound : l.count + deque_len l.self.waiting ≤ deque_len l.initial.self.waiting;
+      bound : l.count + btree_map_len l.self.waiting ≤ btree_map_len l.initial.self.waiting;
       stream : delivered_from l.self.next (stream_of l.self) ≡ delivered_from l.initial.self.next (stream_of l.initial.self);
       ready : map message_content l.ready.items ++ deliveries_from l.self.next (stream_of l.self) ≡ map message_content l.initial.ready.items ++ deliveries_from l.initial.self.next (stream_of l.initial.self);
       count : l.count + length (deliveries_from l.self.next (stream_of l.self)) ≡ length (deliveries_from l.initial.self.next (stream_of l.initial.self));
     }
 
 abbrev pub decreases-loop-self : goal.decreases-loop-self
-decreases-loop-self l = deque_len l.self.waiting
+decreases-loop-self l = btree_map_len l.self.waiting

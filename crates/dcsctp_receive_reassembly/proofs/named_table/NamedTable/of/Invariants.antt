@@ -1,0 +1,9 @@
+use Rattle.std.proofs.Common.{◌≡◌, ◌||◌, ℕ, drop}
+use Rattle.dcsctp_machine.specs.Ids.{stream_numbers}
+use Rattle.dcsctp_receive_reassembly.specs.NamedStreams.{is_named, marks}
+use Rattle.dcsctp_receive_reassembly.proofs.named_table.NamedTable.of.Given as goal
+
+-- What is marked, with what is left to mark, is all.
+abbrev pub invariant-loop-id : goal.invariant-loop-id
+invariant-loop-id l =
+    (number : ℕ) → (marks l.table number || is_named (stream_numbers (drop l.id-index l.streams)) number) ≡ is_named (stream_numbers l.streams) number

@@ -1,0 +1,17 @@
+use Rattle.std.proofs.Common.{◌≡◌, ◌-◌, ◌≤◌, ℕ, map, drop, if◌then◌else◌}
+use Rattle.dcsctp_machine.specs.Ids.{stream_numbers}
+use Rattle.dcsctp_receive_reassembly.specs.Held.{capped}
+use Rattle.dcsctp_receive_reassembly.specs.NamedStreams.{is_named}
+use Rattle.dcsctp_receive_reassembly.specs.QueuedBytes.{streams_bytes}
+use Rattle.dcsctp_receive_reassembly.specs.Reassembly.{entry_of, stream_on}
+use Rattle.dcsctp_receive_reassembly.specs.Streams.{new_stream}
+use Rattle.dcsctp_receive_reassembly.proofs.skipping.forget_each_stream.Given as goal
+
+-- What the other streams lead to from here, all lead to from the beginning.
+abbrev pub invariant-loop-id : goal.invariant-loop-id
+invariant-loop-id l =
+    record {
+      streams : (other : ℕ) → (if is_named (stream_numbers (drop l.id-index l.ids)) other then new_stream other else stream_on other (map entry_of l.streams.entries)) ≡ (if is_named (stream_numbers l.ids) other then new_stream other else stream_on other (map entry_of l.initial.streams.entries));
+      less : streams_bytes (map entry_of l.streams.entries) ≤ streams_bytes (map entry_of l.initial.streams.entries);
+      size : l.size ≡ capped (streams_bytes (map entry_of l.initial.streams.entries) - streams_bytes (map entry_of l.streams.entries));
+    }

@@ -1,0 +1,31 @@
+-- A message that is whole waits at the place that was taken for it.
+use Rattle.std.proofs.Common.{◌≡◌, ℕ, length, arith, refl, sym, subst}
+use Rattle.std.specs.Prelude.{IsSome}
+use Rattle.std.specs.BTreeMap.{get}
+use Rattle.std.specs.Ordering.{nat_cmp}
+use Rattle.dcsctp_receive_reassembly.specs.declared.runs.Assembled.{Assembled}
+use Rattle.dcsctp_receive_reassembly.specs.Runs.{IsOfMessage, whole_of}
+use Rattle.dcsctp_receive_reassembly.specs.Streams.{stream_of, HoldsPlace}
+use Rattle.dcsctp_receive_reassembly.proofs.WaitingLemmas.{place_there, takes_waiting}
+use Rattle.dcsctp_receive_reassembly.proofs.stream.Stream.take_ahead.Goals as goal
+
+pub fill_place-requires : goal.fill_place-requires
+fill_place-requires c =
+    let number : c.in-Ok-Whole.whole.number ≡ c.args.part.number = subst (λ (outcome : Assembled). IsOfMessage c.args.part.number outcome) c.in-Ok-Whole.field-0-is c.in-Ok-Whole.ensures.number in
+    record { there = subst (λ (n : ℕ). IsSome (get nat_cmp c.hold_place.new.waiting n)) (sym number) (place_there c.args.part.number c.args.self.now.waiting.entries c.hold_place.new.waiting.entries c.in_ok-hold_place.ensures.ok) }
+
+pub returns-in-Ok-Whole-clause-ok : goal.returns-in-Ok-Whole-clause-ok
+returns-in-Ok-Whole-clause-ok c =
+    let number : c.in-Ok-Whole.whole.number ≡ c.args.part.number = subst (λ (outcome : Assembled). IsOfMessage c.args.part.number outcome) c.in-Ok-Whole.field-0-is c.in-Ok-Whole.ensures.number in
+    λ ready.
+    record {
+      outcome = c.in-Ok-Whole.field-0;
+      parts = c.in-Ok-Whole.ensures.ok;
+      does =
+          rw c.in-Ok-Whole.field-0-is
+          (takes_waiting (whole_of c.in-Ok-Whole.whole) (stream_of c.args.self.now) (stream_of (record c.args.self.now { waiting = c.fill_place.new.waiting; ordered = c.add_part.new.runs })) ready (length c.args.part.payload.items) (record { kept_bytes = c.len-size.result; ready = 0 }) c.args.part.number number c.requires.ahead
+          (c.fill_place.ensures c.args.self.now.waiting.entries (subst (λ (n : ℕ). HoldsPlace n c.args.self.now.waiting.entries c.hold_place.new.waiting.entries) (sym number) c.in_ok-hold_place.ensures.ok))
+          refl (omega (arith, c.len-size.ensures)) refl);
+      id = refl;
+      unordered = (refl, refl);
+    }
