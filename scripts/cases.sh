@@ -1,7 +1,8 @@
 #!/usr/bin/env bash
 # Runs each case in crates/dcsctp_run/cases by the program that `rt ci` has proved and built, or by PROGRAM:
 # a script, the status that it has to end with, and all that it has to print; and so each script in examples/,
-# which has its output beside it and ends with 0. Prints each that fails. A file of cases has these lines:
+# which has its output beside it and ends with 0. Prints each that fails: its place and name, and the first line
+# that differs. A file of cases has these lines:
 #
 #     = NAME          lines that `{NAME}` stands for, up to an empty one
 #     == NAME         a case; behind it its script
@@ -15,8 +16,10 @@ program=${PROGRAM:-$PWD/crates/dcsctp_run/out/dcsctp_run}
 [ -x "$program" ] || { echo "cases: $program isn't built: run rt ci, or name another build by PROGRAM" >&2; exit 2; }
 folder=$(mktemp -d)
 trap 'rm -rf "$folder"' EXIT
+count=0
+failed=0
 
-# each case as three files: its name with the status, its script, what it prints
+# each case as three files: its status, place and name; its script; what it prints
 for file in crates/dcsctp_run/cases/*.cases; do
     awk -v at="$folder/$(basename "$file" .cases)" '
         function zeros(bytes,    half) {
@@ -33,42 +36,76 @@ for file in crates/dcsctp_run/cases/*.cases; do
         function put(line, to) {
             if (line !~ /^\{[a-z-]+\}$/) { say(line, to); return }
             line = substr(line, 2, length(line) - 2)
-            if (!(line in blocks)) { print "cases: no block " line > "/dev/stderr"; exit 1 }
+            if (!(line in blocks)) wrong("no such block")
             printf "%s", blocks[line] > to
         }
         function path(ending) { return sprintf("%s.%03d.%s", at, count, ending) }
+        function wrong(why) { printf "cases: %s:%d: %s: %s\n", FILENAME, FNR, why, $0; part = "wrong"; exit 1 }
         /^#/ { next }
+        /^==? / && part == "script" { wrong("the case before it has no line -- STATUS") }
         /^= / { part = "block"; block = substr($0, 3); blocks[block] = ""; next }
-        /^== / { part = "script"; count++; name = substr($0, 4); printf "" > path("script"); printf "" > path("wanted"); next }
+        /^== / { part = "script"; count++; name = FILENAME ":" FNR " " substr($0, 4); printf "" > path("script"); printf "" > path("wanted"); next }
         part == "script" && /^-- [0-3]$/ { part = "wanted"; print $2, name > path("name"); next }
         part == "script" { put($0, path("script")); next }
         $0 == "" { part = ""; next }
         part == "block" { blocks[block] = blocks[block] $0 "\n"; next }
         part == "wanted" { put($0, path("wanted")); next }
-        { print "cases: what is this line for? " $0 > "/dev/stderr"; exit 1 }
-        END { if (part == "script" || count == 0) { print "cases: no whole case in " at > "/dev/stderr"; exit 1 } }
-    ' crates/dcsctp_run/cases/blocks "$file"
+        { wrong("what is this line for?") }
+        END { if (part == "script" || count == 0) wrong("no whole case") }
+    ' crates/dcsctp_run/cases/blocks "$file" || { count=$((count + 1)) failed=$((failed + 1)); }
 done
 
 for script in examples/*.script; do
     name=$(basename "$script" .script)
-    echo "0 the example $name" > "$folder/example.$name.name"
+    echo "0 $script the example $name" > "$folder/example.$name.name"
     cp "$script" "$folder/example.$name.script"
     cp "$script.stdout" "$folder/example.$name.wanted"
 done
 
-count=0
-failed=0
+# differs WANTED PRINTED: the first line that differs; of a long one the part round the difference.
+differs() {
+    awk '
+        function part(line) { return substr(line, from, 120) (length(line) < from + 120 ? "" : "..") }
+        function tell(wanted, printed,    at) {
+            told = 1
+            while (++at <= length(wanted) && substr(wanted, at, 1) == substr(printed, at, 1));
+            from = at > 100 ? at - 40 : 1
+            print "    line " row (from == 1 ? "" : ", from column " from) " differs"
+            print "        wanted:  " part(wanted)
+            print "        printed: " part(printed)
+            exit
+        }
+        FILENAME == ARGV[1] { wanted[++rows] = $0; next }
+        { row = FNR }
+        row > rows { tell("(nothing more)", $0) }
+        $0 "" != wanted[row] "" { tell(wanted[row], $0) }
+        END {
+            if (!told && row++ < rows) tell(wanted[row], "(nothing more)")
+            if (!told) print "    the newline at the end differs"
+        }
+    ' "$1" "$2"
+}
+
+# A program gets ten seconds; `timeout` ends with 124 for one that hangs, and with 128 and the signal for a crash.
 for name in "$folder"/*.name; do
     case=${name%.name}
-    read -r status said < "$name"
+    read -r status place said < "$name"
     ended=0
-    "$program" < "$case.script" > "$case.printed" || ended=$?
+    timeout 10 "$program" < "$case.script" > "$case.printed" || ended=$?
     count=$((count + 1))
-    if [ "$ended" != "$status" ] || ! cmp -s "$case.wanted" "$case.printed"; then
+    same=yes
+    cmp -s "$case.wanted" "$case.printed" || same=no
+    if [ "$ended$same" != "${status}yes" ]; then
         failed=$((failed + 1))
-        echo "cases: $(basename "$case"), $said: status $ended in place of $status, or other lines:"
-        diff "$case.wanted" "$case.printed" || true
+        echo "cases: $place: $said"
+        if [ "$ended" = 124 ]; then
+            echo "    hangs: not done after 10 seconds"
+        elif [ "$ended" -gt 128 ]; then
+            echo "    crashes: ended by signal $((ended - 128))"
+        elif [ "$ended" != "$status" ]; then
+            echo "    ends with status $ended in place of $status"
+        fi
+        [ "$same" = yes ] || differs "$case.wanted" "$case.printed"
     fi
 done
 echo "cases: $((count - failed)) passed, $failed failed"
