@@ -4,6 +4,7 @@ use crate::checks::same;
 use dcsctp_machine::{Options, SocketTime};
 use dcsctp_send_timer::BackoffAlgorithm::{self, Exponential, Fixed};
 use dcsctp_send_timer::{RetransmissionTimeout, Timer};
+use dcsctp_testing::{Row, Takes, run_steps};
 use std::process::Abort;
 use std::time::Duration;
 
@@ -48,27 +49,29 @@ fn begun(millis: u64, backoff: BackoffAlgorithm, most: Option<u32>, longest: Opt
 }
 
 /// Asserts when the timer expires next, and whether it runs.
-fn expires_next(rt: &impl Abort, name: &str, timer: &Timer, expected: Option<u128>) {
+fn expires_next(row: &mut Row, timer: &Timer, expected: Option<u128>) {
     let next = match timer.next_expiry() {
         Some(moment) => Some(moment.as_nanos()),
         None => None,
     };
     let found = (next, timer.is_running());
-    same(rt, name, found, (expected, expected.is_some()));
+    row.same(found, (expected, expected.is_some()));
 }
 
 // One match for all: each arm is one call.
-fn take_step(rt: &impl Abort, name: &str, timer: &mut Timer, step: Step) {
-    match step {
-        Step::Begins(millis, backoff, most, longest) => {
-            *timer = begun(millis, backoff, most, longest)
+impl Takes<Step> for Timer {
+    fn take(&mut self, row: &mut Row, step: Step) {
+        match step {
+            Step::Begins(millis, backoff, most, longest) => {
+                *self = begun(millis, backoff, most, longest)
+            }
+            Step::Starts(millis) => self.start(at(millis)),
+            Step::StartsLast => self.start(SocketTime::infinite_future()),
+            Step::Lasts(millis) => self.set_duration(Duration::from_millis(millis)),
+            Step::Stops => self.stop(),
+            Step::Expires(millis, expires) => row.same(self.expire(at(millis)), expires),
+            Step::Next(nanos) => expires_next(row, self, nanos),
         }
-        Step::Starts(millis) => timer.start(at(millis)),
-        Step::StartsLast => timer.start(SocketTime::infinite_future()),
-        Step::Lasts(millis) => timer.set_duration(Duration::from_millis(millis)),
-        Step::Stops => timer.stop(),
-        Step::Expires(millis, expires) => same(rt, name, timer.expire(at(millis)), expires),
-        Step::Next(nanos) => expires_next(rt, name, timer, nanos),
     }
 }
 
@@ -128,8 +131,8 @@ static STEPS: [(&str, Step); 40] = [
 #[test]
 fn timers_run_back_off_and_stop(rt: HostRuntime) {
     let mut timer = Timer::new(Duration::ZERO, Fixed, None, None);
-    for (name, step) in &STEPS {
-        take_step(&rt, name, &mut timer, *step);
+    if let Err(fault) = run_steps(rt.alloc(), &mut timer, &STEPS) {
+        rt.panic(fault);
     }
 }
 

@@ -1,9 +1,9 @@
 //! What a test does to the reassembly queue and what it expects of it, as a table of steps.
 
-use crate::checks::Place;
 use crate::receiver::Receiver;
 use dcsctp_api::StreamId;
 use dcsctp_receive_reassembly::Numbering;
+use dcsctp_testing::{Row, Takes, run_steps};
 use std::alloc::AllocGlobal;
 use std::process::Abort;
 
@@ -60,32 +60,33 @@ pub enum Step {
     Fills(bool, bool),
 }
 
-/// Takes the steps one after the other.
+/// Takes the steps one after the other. The test ends at the first that fails.
 pub fn run<R: Abort + AllocGlobal>(rt: &R, steps: &[(&'static str, Step)]) {
     let mut receiver = Receiver::new(rt.alloc(), 0);
-    for index in 0..steps.len() {
-        let (name, step) = steps[index];
-        take_step(rt, Place { name, index }, &mut receiver, step);
+    if let Err(fault) = run_steps(rt.alloc(), &mut receiver, steps) {
+        rt.panic(fault);
     }
 }
 
 // One match for all: each arm is one call.
-fn take_step(rt: &impl Abort, place: Place, receiver: &mut Receiver, step: Step) {
-    match step {
-        Step::Begins(window) => receiver.begin(window),
-        Step::Add(tsn, stream, numbering, part, bytes) => {
-            receiver.add(rt, tsn, (stream, numbering), part, bytes)
+impl Takes<Step> for Receiver {
+    fn take(&mut self, row: &mut Row, step: Step) {
+        match step {
+            Step::Begins(window) => self.begin(window),
+            Step::Add(tsn, stream, numbering, part, bytes) => {
+                self.add(row, tsn, (stream, numbering), part, bytes)
+            }
+            Step::Skips(tsn, ssn) => self.skip(row, tsn, ssn),
+            Step::SkipsMessages(tsn, is_unordered, mid) => {
+                self.skip_messages(row, tsn, is_unordered, mid)
+            }
+            Step::Defers(tsn, streams) => self.defer(row, tsn, streams),
+            Step::Resets(streams) => self.reset(row, streams),
+            Step::Gives(bytes) => self.gives(row, bytes),
+            Step::Rests(remaining) => self.rests(row, remaining),
+            Step::Remains(remaining) => self.remains(row, remaining),
+            Step::Counts(messages) => self.counts(row, messages),
+            Step::Fills(is_full, is_above) => self.fills(row, is_full, is_above),
         }
-        Step::Skips(tsn, ssn) => receiver.skip(rt, tsn, ssn),
-        Step::SkipsMessages(tsn, is_unordered, mid) => {
-            receiver.skip_messages(rt, tsn, is_unordered, mid)
-        }
-        Step::Defers(tsn, streams) => receiver.defer(rt, tsn, streams),
-        Step::Resets(streams) => receiver.reset(rt, streams),
-        Step::Gives(bytes) => receiver.gives(rt, place, bytes),
-        Step::Rests(remaining) => receiver.rests(rt, place, remaining),
-        Step::Remains(remaining) => receiver.remains(rt, place, remaining),
-        Step::Counts(messages) => receiver.counts(rt, place, messages),
-        Step::Fills(is_full, is_above) => receiver.fills(rt, place, is_full, is_above),
     }
 }

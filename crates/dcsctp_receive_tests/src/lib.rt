@@ -5,8 +5,6 @@
 #[cfg(test)]
 mod arrivals;
 #[cfg(test)]
-mod checks;
-#[cfg(test)]
 mod messages;
 #[cfg(test)]
 mod packets;

@@ -1,7 +1,7 @@
 //! What a test does to the data tracker and what it expects of it, as a table of steps.
 
-use crate::checks::Place;
 use crate::tracker::Tracker;
+use dcsctp_testing::{Row, Takes, run_steps};
 use std::alloc::AllocGlobal;
 use std::process::Abort;
 
@@ -54,35 +54,36 @@ pub enum Step {
     TimesOut(u64, bool),
 }
 
-/// Takes the steps one after the other.
+/// Takes the steps one after the other. The test ends at the first that fails.
 pub fn run<R: Abort + AllocGlobal>(rt: &R, steps: &[(&'static str, Step)]) {
     let mut tracker = Tracker::new(rt.alloc(), 0);
-    for index in 0..steps.len() {
-        let (name, step) = steps[index];
-        take_step(rt, Place { name, index }, &mut tracker, step);
+    if let Err(fault) = run_steps(rt.alloc(), &mut tracker, steps) {
+        rt.panic(fault);
     }
 }
 
 // One match for all: each arm is one call.
-fn take_step(rt: &impl Abort, place: Place, tracker: &mut Tracker, step: Step) {
-    match step {
-        Step::Begins(first) => tracker.begin(first),
-        Step::HasTimeout(millis) => tracker.has_timeout(millis),
-        Step::Receives(tsns, is_new) => tracker.receives(rt, place, tsns, is_new),
-        Step::Observes(tsn, immediate_ack) => tracker.observe(rt, tsn, immediate_ack),
-        Step::Skips(tsn, moves) => tracker.skips(rt, place, tsn, moves),
-        Step::IsValid(tsn, is_valid) => tracker.is_valid(rt, place, tsn, is_valid),
-        Step::IsCumulative(tsn) => tracker.is_cumulative(rt, place, tsn),
-        Step::Acknowledges(cumulative, blocks, duplicates) => {
-            tracker.acknowledges(rt, place, cumulative, blocks, duplicates)
+impl Takes<Step> for Tracker {
+    fn take(&mut self, row: &mut Row, step: Step) {
+        match step {
+            Step::Begins(first) => self.begin(first),
+            Step::HasTimeout(millis) => self.has_timeout(millis),
+            Step::Receives(tsns, is_new) => self.receives(row, tsns, is_new),
+            Step::Observes(tsn, immediate_ack) => self.observe(row, tsn, immediate_ack),
+            Step::Skips(tsn, moves) => self.skips(row, tsn, moves),
+            Step::IsValid(tsn, is_valid) => self.is_valid(row, tsn, is_valid),
+            Step::IsCumulative(tsn) => self.is_cumulative(row, tsn),
+            Step::Acknowledges(cumulative, blocks, duplicates) => {
+                self.acknowledges(row, cumulative, blocks, duplicates)
+            }
+            Step::HasSizes(cumulative, blocks, duplicates, byte) => {
+                self.has_sizes(row, cumulative, (blocks, duplicates, byte))
+            }
+            Step::IsDue(is_due) => self.is_due(row, false, is_due),
+            Step::GoesAlong(is_due) => self.is_due(row, true, is_due),
+            Step::Expires(nanos) => self.expires(row, nanos),
+            Step::HasNoTimer => self.has_no_timer(row),
+            Step::TimesOut(nanos, is_over) => self.times_out(row, nanos, is_over),
         }
-        Step::HasSizes(cumulative, blocks, duplicates, byte) => {
-            tracker.has_sizes(rt, place, cumulative, (blocks, duplicates, byte))
-        }
-        Step::IsDue(is_due) => tracker.is_due(rt, place, false, is_due),
-        Step::GoesAlong(is_due) => tracker.is_due(rt, place, true, is_due),
-        Step::Expires(nanos) => tracker.expires(rt, place, nanos),
-        Step::HasNoTimer => tracker.has_no_timer(rt, place),
-        Step::TimesOut(nanos, is_over) => tracker.times_out(rt, place, nanos, is_over),
     }
 }

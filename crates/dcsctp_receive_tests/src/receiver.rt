@@ -1,11 +1,10 @@
-//! A reassembly queue, as the tests of this crate use it. Each check ends its test where it fails.
+//! A reassembly queue, as the tests of this crate use it. Each check notes in the row what fails.
 
 use crate::arrivals::Part;
-use crate::checks::{Place, same};
 use dcsctp_api::{Message, PpId, StreamId};
 use dcsctp_receive_reassembly::{Data, Numbering, ReassemblyQueue, SkippedTo};
-use std::alloc::Global;
-use std::process::Abort;
+use dcsctp_testing::Row;
+use std::alloc::{AllocError, Global};
 
 /// A queue.
 pub struct Receiver {
@@ -55,100 +54,94 @@ impl Receiver {
     // A chunk with these bytes.
     fn chunk(
         &self,
-        rt: &impl Abort,
         (stream, numbering): (u16, Numbering),
         part: Part,
         bytes: &str,
-    ) -> Data {
-        let payload = Vec::from_slice(self.alloc, bytes.as_bytes()).expect(rt, "memory");
+    ) -> Result<Data, AllocError> {
+        let payload = Vec::from_slice(self.alloc, bytes.as_bytes())?;
         let (is_beginning, is_end) = flags(part);
-        Data {
+        Ok(Data {
             stream_id: StreamId(stream),
             numbering,
             ppid: PpId(51),
             payload,
             is_beginning,
             is_end,
-        }
+        })
     }
 
     /// A chunk comes in.
     pub fn add(
         &mut self,
-        rt: &impl Abort,
+        row: &mut Row,
         tsn: u32,
         message: (u16, Numbering),
         part: Part,
         bytes: &str,
     ) {
-        let chunk = self.chunk(rt, message, part, bytes);
-        self.queue
-            .add(tsn, chunk)
-            .expect(rt, "memory for the chunk");
+        match self.chunk(message, part, bytes) {
+            Err(_) => row.done(false),
+            Ok(chunk) => row.done(self.queue.add(tsn, chunk).is_ok()),
+        }
     }
 
     // Messages of a stream are skipped up to a number.
-    fn skip_to(&mut self, rt: &impl Abort, tsn: u32, entry: SkippedTo) {
-        self.queue
-            .handle_forward_tsn(tsn, &[entry])
-            .expect(rt, "memory for what is skipped");
+    fn skip_to(&mut self, row: &mut Row, tsn: u32, entry: SkippedTo) {
+        row.done(self.queue.handle_forward_tsn(tsn, &[entry]).is_ok());
     }
 
     /// Ordered messages of stream 7 are skipped up to this number.
-    pub fn skip(&mut self, rt: &impl Abort, tsn: u32, ssn: u16) {
+    pub fn skip(&mut self, row: &mut Row, tsn: u32, ssn: u16) {
         let stream_id = StreamId(7);
-        self.skip_to(rt, tsn, SkippedTo::Ssn { stream_id, ssn });
+        self.skip_to(row, tsn, SkippedTo::Ssn { stream_id, ssn });
     }
 
     /// Messages of stream 7 are skipped up to this identifier.
-    pub fn skip_messages(&mut self, rt: &impl Abort, tsn: u32, is_unordered: bool, mid: u32) {
+    pub fn skip_messages(&mut self, row: &mut Row, tsn: u32, is_unordered: bool, mid: u32) {
         let entry = SkippedTo::Mid {
             stream_id: StreamId(7),
             is_unordered,
             mid,
         };
-        self.skip_to(rt, tsn, entry);
+        self.skip_to(row, tsn, entry);
     }
 
     /// The reset of the streams waits for the data up to this TSN; none named: all.
-    pub fn defer(&mut self, rt: &impl Abort, tsn: u32, streams: &[StreamId]) {
-        self.queue
-            .enter_deferred_reset(tsn, streams)
-            .expect(rt, "memory");
+    pub fn defer(&mut self, row: &mut Row, tsn: u32, streams: &[StreamId]) {
+        row.done(self.queue.enter_deferred_reset(tsn, streams).is_ok());
     }
 
     /// The streams begin anew; none named: all.
-    pub fn reset(&mut self, rt: &impl Abort, streams: &[StreamId]) {
-        self.queue
-            .reset_streams_and_leave_deferred_reset(streams)
-            .expect(rt, "memory for what waited");
+    pub fn reset(&mut self, row: &mut Row, streams: &[StreamId]) {
+        let is_done = self.queue.reset_streams_and_leave_deferred_reset(streams);
+        row.done(is_done.is_ok());
     }
 
     /// The next message has these bytes.
-    pub fn gives(&mut self, rt: &impl Abort, place: Place, bytes: &str) {
+    pub fn gives(&mut self, row: &mut Row, bytes: &str) {
         let message = self.queue.get_next_message();
-        same(rt, place, bytes_of(&message), Some(bytes.as_bytes()));
+        row.same(bytes_of(&message), Some(bytes.as_bytes()));
     }
 
     /// No message is ready, and so much is left of the window.
-    pub fn rests(&self, rt: &impl Abort, place: Place, remaining: usize) {
-        same(rt, place, self.queue.messages_ready_count(), 0);
-        self.remains(rt, place, remaining);
+    pub fn rests(&self, row: &mut Row, remaining: usize) {
+        row.same(self.queue.messages_ready_count(), 0);
+        self.remains(row, remaining);
     }
 
     /// So much is left of the window.
-    pub fn remains(&self, rt: &impl Abort, place: Place, remaining: usize) {
-        same(rt, place, self.queue.remaining_bytes(), remaining);
+    pub fn remains(&self, row: &mut Row, remaining: usize) {
+        row.same(self.queue.remaining_bytes(), remaining);
     }
 
     /// So many messages became ready so far.
-    pub fn counts(&self, rt: &impl Abort, place: Place, messages: u64) {
-        same(rt, place, self.queue.rx_messages_count(), messages);
+    pub fn counts(&self, row: &mut Row, messages: u64) {
+        row.same(self.queue.rx_messages_count(), messages);
     }
 
     /// Is the window full, and are nine tenths of it in use?
-    pub fn fills(&self, rt: &impl Abort, place: Place, is_full: bool, is_above: bool) {
-        same(rt, place, self.queue.is_full(), is_full);
-        same(rt, place, self.queue.is_above_watermark(), is_above);
+    pub fn fills(&self, row: &mut Row, is_full: bool, is_above: bool) {
+        row.same(self.queue.is_full(), is_full);
+        row.same(self.queue.is_above_watermark(), is_above);
     }
 }

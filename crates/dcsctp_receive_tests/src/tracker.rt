@@ -1,10 +1,9 @@
-//! A data tracker, as the tests of this crate use it. Each check ends its test where it fails.
+//! A data tracker, as the tests of this crate use it. Each check notes in the row what fails.
 
-use crate::checks::{Place, same};
 use dcsctp_machine::{Options, SocketTime};
-use dcsctp_receive_tracker::{DataTracker, SelectiveAck};
+use dcsctp_receive_tracker::DataTracker;
+use dcsctp_testing::Row;
 use std::alloc::Global;
-use std::process::Abort;
 use std::time::Duration;
 
 /// A tracker.
@@ -48,102 +47,95 @@ impl Tracker {
     }
 
     // Data of this TSN comes in; answers whether it is new. A TSN that isn't valid is passed over.
-    fn takes(&mut self, rt: &impl Abort, tsn: u32, immediate_ack: bool) -> bool {
+    fn takes(&mut self, row: &mut Row, tsn: u32, immediate_ack: bool) -> bool {
         if !self.received.is_tsn_valid(tsn) {
             return false;
         }
-        self.received
-            .observe(tsn, immediate_ack)
-            .expect(rt, "memory")
+        let is_new = self.received.observe(tsn, immediate_ack);
+        row.done(is_new.is_ok());
+        is_new.unwrap_or(false)
     }
 
     /// Data of this TSN comes in, with the I flag or without it.
-    pub fn observe(&mut self, rt: &impl Abort, tsn: u32, immediate_ack: bool) {
-        let _ = self.takes(rt, tsn, immediate_ack);
+    pub fn observe(&mut self, row: &mut Row, tsn: u32, immediate_ack: bool) {
+        let _ = self.takes(row, tsn, immediate_ack);
     }
 
     /// Packets with data of these TSNs come in at the first moment; asserts whether each is new.
-    pub fn receives(&mut self, rt: &impl Abort, place: Place, tsns: &[u32], is_new: bool) {
+    pub fn receives(&mut self, row: &mut Row, tsns: &[u32], is_new: bool) {
         for tsn in tsns {
-            let found = self.takes(rt, *tsn, false);
+            let found = self.takes(row, *tsn, false);
             self.received.observe_packet_end(SocketTime::zero());
-            same(rt, place, (*tsn, found), (*tsn, is_new));
+            row.same((*tsn, found), (*tsn, is_new));
         }
     }
 
     /// Asserts whether a FORWARD-TSN moves the cumulative TSN.
-    pub fn skips(&mut self, rt: &impl Abort, place: Place, tsn: u32, moves: bool) {
-        same(rt, place, self.received.handle_forward_tsn(tsn), moves);
+    pub fn skips(&mut self, row: &mut Row, tsn: u32, moves: bool) {
+        row.same(self.received.handle_forward_tsn(tsn), moves);
     }
 
     /// Asserts whether data of this TSN is taken.
-    pub fn is_valid(&self, rt: &impl Abort, place: Place, tsn: u32, is_valid: bool) {
-        same(rt, place, self.received.is_tsn_valid(tsn), is_valid);
+    pub fn is_valid(&self, row: &mut Row, tsn: u32, is_valid: bool) {
+        row.same(self.received.is_tsn_valid(tsn), is_valid);
     }
 
     /// Asserts the last TSN before the first that is missing.
-    pub fn is_cumulative(&self, rt: &impl Abort, place: Place, tsn: u32) {
-        same(rt, place, self.received.last_cumulative_acked_tsn(), tsn);
-    }
-
-    // The next SACK.
-    fn sack(&mut self, rt: &impl Abort, window: u32) -> SelectiveAck {
-        self.received
-            .create_selective_ack(window)
-            .expect(rt, "memory")
+    pub fn is_cumulative(&self, row: &mut Row, tsn: u32) {
+        row.same(self.received.last_cumulative_acked_tsn(), tsn);
     }
 
     /// Asserts what the next SACK says: its cumulative TSN, its gap ack blocks, and how many duplicates.
     pub fn acknowledges(
         &mut self,
-        rt: &impl Abort,
-        place: Place,
+        row: &mut Row,
         cumulative: u32,
         blocks: &[u8],
         duplicates: usize,
     ) {
-        let sack = self.sack(rt, 1000);
-        let numbers = (sack.cumulative_tsn_ack, sack.a_rwnd);
-        same(rt, place, numbers, (cumulative, 1000));
-        same(rt, place, sack.gap_ack_blocks.as_slice(), blocks);
-        same(rt, place, sack.chunk().duplicate_tsn_count(), duplicates);
+        match self.received.create_selective_ack(1000) {
+            Err(_) => row.done(false),
+            Ok(sack) => {
+                row.same((sack.cumulative_tsn_ack, sack.a_rwnd), (cumulative, 1000));
+                row.same(sack.gap_ack_blocks.as_slice(), blocks);
+                row.same(sack.chunk().duplicate_tsn_count(), duplicates);
+            }
+        }
     }
 
     /// Asserts how long the next SACK is: of how many bytes its gap ack blocks and its duplicates are, and
     /// the last byte of the second duplicate.
-    pub fn has_sizes(
-        &mut self,
-        rt: &impl Abort,
-        place: Place,
-        cumulative: u32,
-        sizes: (usize, usize, Option<u8>),
-    ) {
-        let sack = self.sack(rt, 0);
-        let duplicates = sack.duplicate_tsns.as_slice();
-        let last_byte = duplicates.get(7).copied();
-        let found = (sack.gap_ack_blocks.len(), duplicates.len(), last_byte);
-        same(rt, place, sack.cumulative_tsn_ack, cumulative);
-        same(rt, place, found, sizes);
+    pub fn has_sizes(&mut self, row: &mut Row, cumulative: u32, sizes: (usize, usize, Option<u8>)) {
+        match self.received.create_selective_ack(0) {
+            Err(_) => row.done(false),
+            Ok(sack) => {
+                let duplicates = sack.duplicate_tsns.as_slice();
+                let last_byte = duplicates.get(7).copied();
+                row.same(sack.cumulative_tsn_ack, cumulative);
+                let found = (sack.gap_ack_blocks.len(), duplicates.len(), last_byte);
+                row.same(found, sizes);
+            }
+        }
     }
 
     /// Asserts whether a SACK is sent now.
-    pub fn is_due(&mut self, rt: &impl Abort, place: Place, also_if_delayed: bool, is_due: bool) {
+    pub fn is_due(&mut self, row: &mut Row, also_if_delayed: bool, is_due: bool) {
         let found = self.received.should_send_ack(also_if_delayed);
-        same(rt, place, found, is_due);
+        row.same(found, is_due);
     }
 
     /// Asserts when the delay of an acknowledgement is over.
-    pub fn expires(&self, rt: &impl Abort, place: Place, nanos: u64) {
-        same(rt, place, self.received.next_timeout(), Some(at(nanos)));
+    pub fn expires(&self, row: &mut Row, nanos: u64) {
+        row.same(self.received.next_timeout(), Some(at(nanos)));
     }
 
     /// Asserts that no acknowledgement is delayed.
-    pub fn has_no_timer(&self, rt: &impl Abort, place: Place) {
-        same(rt, place, self.received.next_timeout().is_none(), true);
+    pub fn has_no_timer(&self, row: &mut Row) {
+        row.same(self.received.next_timeout().is_none(), true);
     }
 
     /// Asserts whether the delay is over at this moment.
-    pub fn times_out(&mut self, rt: &impl Abort, place: Place, nanos: u64, is_over: bool) {
-        same(rt, place, self.received.handle_timeout(at(nanos)), is_over);
+    pub fn times_out(&mut self, row: &mut Row, nanos: u64, is_over: bool) {
+        row.same(self.received.handle_timeout(at(nanos)), is_over);
     }
 }

@@ -15,5 +15,3 @@ mod resets;
 mod script;
 #[cfg(test)]
 mod sender;
-#[cfg(test)]
-mod words;

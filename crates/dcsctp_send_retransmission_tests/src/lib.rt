@@ -17,5 +17,3 @@ mod script;
 mod timeouts;
 #[cfg(test)]
 mod windows;
-#[cfg(test)]
-mod words;

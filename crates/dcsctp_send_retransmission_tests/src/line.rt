@@ -1,13 +1,12 @@
 //! A retransmission queue with the send queue in front of it, and the lines that they take.
 
-use crate::words::Words;
 use dcsctp_api::{Events, LifecycleId, Message, PpId, SendOptions, SocketTime, StreamId};
 use dcsctp_machine::Options;
 use dcsctp_send_queue::{DataToSend, SendQueue};
 use dcsctp_send_retransmission::{HandleSackResult, RetransmissionQueue};
+use dcsctp_testing::{Row, Takes};
 use dcsctp_wire::GapAckBlock;
 use std::alloc::Global;
-use std::fmt::Debug;
 use std::time::Duration;
 
 /// The two queues, what they told, the moment, how the next message is sent, and what the latest SACK did.
@@ -84,17 +83,9 @@ fn options() -> Options {
     options
 }
 
-// The rest of a line is what `Debug` writes of this.
-fn is_shown(alloc: Global, words: &mut Words, found: &impl Debug) {
-    match format!(in alloc; "{found:?}") {
-        Err(_) => words.check_done(false),
-        Ok(shown) => words.check_rest(&shown),
-    }
-}
-
 // What a line expects of a chunk.
-fn shows(words: &mut Words, data: &DataToSend) {
-    words.check_all(
+fn shows(row: &mut Row, data: &DataToSend) {
+    row.check_all(
         CHUNK,
         &[
             data.stream_id.0 as u128,
@@ -135,15 +126,15 @@ impl Line {
     }
 
     // Begins anew.
-    fn begin(&mut self, words: &mut Words) {
-        let first_tsn = words.number();
-        let window = words.number();
-        let negotiated = (words.number() == 1, words.number() == 1);
+    fn begin(&mut self, row: &mut Row) {
+        let first_tsn = row.number();
+        let window = row.number();
+        let negotiated = (row.number::<u8>() == 1, row.number::<u8>() == 1);
         *self = Line::new(self.alloc, first_tsn, window, negotiated);
     }
 
     // Adds a message of so many bytes, of one at least, in the way that was asked for.
-    fn add(&mut self, words: &mut Words, stream: StreamId, size: u32) {
+    fn add(&mut self, row: &mut Row, stream: StreamId, size: u32) {
         let is_done = match vec![in self.alloc; 7u8; size as usize] {
             Err(_) => false,
             Ok(payload) => {
@@ -155,55 +146,55 @@ impl Line {
                 }
             }
         };
-        words.check_done(is_done);
+        row.done(is_done);
         self.how = SendOptions::default();
     }
 
     // Adds so many messages of so many bytes to stream 1.
-    fn add_many(&mut self, words: &mut Words) {
-        let count = words.number();
-        let size = words.number();
+    fn add_many(&mut self, row: &mut Row) {
+        let count = row.number();
+        let size = row.number();
         for _ in 0..count {
-            self.add(words, StreamId(1), size);
+            self.add(row, StreamId(1), size);
         }
     }
 
     // Which TSNs go into a packet of so many bytes.
-    fn send(&mut self, words: &mut Words) {
-        let bytes = words.number() as usize;
+    fn send(&mut self, row: &mut Row) {
+        let bytes = row.number();
         let moment = at(self.now);
         match self
             .sent
             .get_chunks_to_send(&mut self.events, &mut self.queue, moment, bytes)
         {
-            Err(_) => words.check_done(false),
-            Ok(tsns) => is_shown(self.alloc, words, &tsns),
+            Err(_) => row.done(false),
+            Ok(tsns) => row.shows(&tsns),
         }
     }
 
     // The same, as a fast retransmission.
-    fn send_fast(&mut self, words: &mut Words) {
-        let bytes = words.number() as usize;
+    fn send_fast(&mut self, row: &mut Row) {
+        let bytes = row.number();
         match self
             .sent
             .get_chunks_for_fast_retransmit(at(self.now), bytes)
         {
-            Err(_) => words.check_done(false),
-            Ok(tsns) => is_shown(self.alloc, words, &tsns),
+            Err(_) => row.done(false),
+            Ok(tsns) => row.shows(&tsns),
         }
     }
 
     // Is a SACK with this cumulative TSN and window valid? What it measured is kept.
-    fn sack(&mut self, words: &mut Words, blocks: &[GapAckBlock]) {
-        let cumulative = words.number();
-        let window = words.number();
+    fn sack(&mut self, row: &mut Row, blocks: &[GapAckBlock]) {
+        let cumulative = row.number();
+        let window = row.number();
         let moment = at(self.now);
         match self
             .sent
             .handle_sack(&mut self.events, moment, cumulative, window, blocks)
         {
-            Err(_) => words.check_done(false),
-            Ok(HandleSackResult::Invalid) => words.check("valid", 0),
+            Err(_) => row.done(false),
+            Ok(HandleSackResult::Invalid) => row.check("valid", 0),
             Ok(
                 HandleSackResult::Valid {
                     rtt,
@@ -212,62 +203,62 @@ impl Line {
             ) => {
                 self.rtt = rtt;
                 self.is_new = reset_error_counter;
-                words.check("valid", 1);
+                row.check("valid", 1);
             }
         }
     }
 
     // Is a FORWARD-TSN due?
-    fn forward(&mut self, words: &mut Words) {
+    fn forward(&mut self, row: &mut Row) {
         let moment = at(self.now);
         match self
             .sent
             .should_send_forward_tsn(&mut self.events, &mut self.queue, moment)
         {
-            Err(_) => words.check_done(false),
-            Ok(is_due) => words.check("due", is_due as u128),
+            Err(_) => row.done(false),
+            Ok(is_due) => row.check("due", is_due as u128),
         }
     }
 
     // What a FORWARD-TSN says, as `Debug` writes it.
-    fn skip(&mut self, words: &mut Words) {
+    fn skip(&mut self, row: &mut Row) {
         match self.sent.create_forward_tsn() {
-            Err(_) => words.check_done(false),
-            Ok(chunk) => is_shown(self.alloc, words, &chunk),
+            Err(_) => row.done(false),
+            Ok(chunk) => row.shows(&chunk),
         }
     }
 
     // How a FORWARD-TSN writes what it skips.
-    fn skip_bytes(&mut self, words: &mut Words) {
+    fn skip_bytes(&mut self, row: &mut Row) {
         match self.sent.create_forward_tsn() {
-            Err(_) => words.check_done(false),
+            Err(_) => row.done(false),
             Ok(chunk) => match chunk.skipped_bytes(self.alloc) {
-                Err(_) => words.check_done(false),
-                Ok(bytes) => is_shown(self.alloc, words, &bytes),
+                Err(_) => row.done(false),
+                Ok(bytes) => row.shows(&bytes),
             },
         }
     }
 
     // The next event, as `Debug` writes it, or nothing.
-    fn tells(&mut self, words: &mut Words) {
+    fn tells(&mut self, row: &mut Row) {
         match self.events.next_event() {
-            None => words.check_rest(""),
-            Some(event) => is_shown(self.alloc, words, &event),
+            None => row.check_rest(""),
+            Some(event) => row.shows(&event),
         }
     }
 
     // What a line expects of the chunk of a TSN; its size is 0 where there is none.
-    fn chunk(&self, words: &mut Words) {
-        match self.sent.chunk(words.number()) {
-            None => words.check("size", 0),
-            Some(data) => shows(words, data),
+    fn chunk(&self, row: &mut Row) {
+        match self.sent.chunk(row.number()) {
+            None => row.check("size", 0),
+            Some(data) => shows(row, data),
         }
     }
 
     // What a line expects of the queue and of the latest SACK.
-    fn state(&self, words: &mut Words) {
+    fn state(&self, row: &mut Row) {
         let deadline = self.sent.next_timeout();
-        words.check_all(
+        row.check_all(
             STATE,
             &[
                 self.sent.cwnd() as u128,
@@ -289,56 +280,55 @@ impl Line {
     }
 
     // Takes a line that begins with a number.
-    fn take_number(&mut self, words: &mut Words, keyword: &str) {
+    fn take_number(&mut self, row: &mut Row, keyword: &str) {
         match keyword {
-            "now" => self.now = words.number(),
-            "name" => self.how.lifecycle_id = LifecycleId::new(words.number() as u64),
-            "lifetime" => self.how.lifetime = Some(Duration::from_millis(words.number() as u64)),
-            "times" => self.how.max_retransmissions = Some(words.short()),
+            "now" => self.now = row.number(),
+            "name" => self.how.lifecycle_id = LifecycleId::new(row.number()),
+            "lifetime" => self.how.lifetime = Some(Duration::from_millis(row.number())),
+            "times" => self.how.max_retransmissions = Some(row.number()),
             "add" => {
-                let stream = StreamId(words.short());
-                let size = words.number();
-                self.add(words, stream, size);
+                let stream = StreamId(row.number());
+                let size = row.number();
+                self.add(row, stream, size);
             }
-            "add-many" => self.add_many(words),
+            "add-many" => self.add_many(row),
             "sack-block" => {
-                let start = words.short();
-                let end = words.short();
-                self.sack(words, &[GapAckBlock { start, end }]);
+                let start = row.number();
+                let end = row.number();
+                self.sack(row, &[GapAckBlock { start, end }]);
             }
-            "chunk" => self.chunk(words),
-            _ => words.check_done(false),
-        }
-    }
-
-    /// Takes a line.
-    pub fn take(&mut self, words: &mut Words) {
-        match words.next() {
-            "" => {}
-            "#" => words.name_test(),
-            "begin" => self.begin(words),
-            "send" => self.send(words),
-            "send-fast" => self.send_fast(words),
-            "sack" => self.sack(words, &[]),
-            "state" => self.state(words),
-            "tells" => self.tells(words),
-            keyword => self.take_forward(words, keyword),
+            "chunk" => self.chunk(row),
+            _ => row.done(false),
         }
     }
 
     // Takes a line on what is given up, or on the timer.
-    fn take_forward(&mut self, words: &mut Words, keyword: &str) {
+    fn take_forward(&mut self, row: &mut Row, keyword: &str) {
         match keyword {
             "time-out" => {
                 let is_over = self.sent.handle_timeout(at(self.now));
-                words.check("is-over", is_over as u128);
+                row.check("is-over", is_over as u128);
             }
-            "forward" => self.forward(words),
-            "skip" => self.skip(words),
-            "skip-bytes" => self.skip_bytes(words),
+            "forward" => self.forward(row),
+            "skip" => self.skip(row),
+            "skip-bytes" => self.skip_bytes(row),
             "begin-reset" => self.sent.begin_reset_streams(),
             "unordered" => self.how.unordered = true,
-            _ => self.take_number(words, keyword),
+            _ => self.take_number(row, keyword),
+        }
+    }
+}
+
+impl Takes<&'static str> for Line {
+    fn take(&mut self, row: &mut Row, keyword: &'static str) {
+        match keyword {
+            "begin" => self.begin(row),
+            "send" => self.send(row),
+            "send-fast" => self.send_fast(row),
+            "sack" => self.sack(row, &[]),
+            "state" => self.state(row),
+            "tells" => self.tells(row),
+            _ => self.take_forward(row, keyword),
         }
     }
 }

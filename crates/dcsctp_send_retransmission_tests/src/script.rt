@@ -26,38 +26,14 @@
 //! so, 0 for what isn't. `expires` is in milliseconds, and `rtt` in nanoseconds.
 
 use crate::line::Line;
-use crate::words::Words;
+use dcsctp_testing::run_text;
 use std::alloc::AllocGlobal;
 use std::process::Abort;
 
-/// Takes the lines of a text one after the other.
+/// Takes the lines of a text. Behind one that fails it goes on at the next `begin`, and at the end it fails.
 pub fn run<R: Abort + AllocGlobal>(rt: &R, text: &'static str) {
     let mut line = Line::new(rt.alloc(), 0, 0, (false, false));
-    let mut words = Words {
-        test: "",
-        line: "",
-        rest: "",
-        lines: text,
-        fault: "",
-    };
-    take_lines(rt, &mut line, &mut words);
-}
-
-// Takes all lines, of each of which nothing may be left over.
-fn take_lines(rt: &impl Abort, line: &mut Line, words: &mut Words) {
-    for _ in 0..words.lines.len() {
-        words.next_line();
-        line.take(words);
-        if !words.rest.is_empty() || !words.fault.is_empty() {
-            fail(rt, words);
-        }
-        if words.lines.is_empty() {
-            return;
-        }
+    if let Err(fault) = run_text(rt.alloc(), &mut line, text) {
+        rt.panic(fault);
     }
-}
-
-// Ends the test.
-fn fail(rt: &impl Abort, words: &Words) -> ! {
-    panic!(rt; "{}: {}: {}", words.test, words.line, words.fault)
 }
