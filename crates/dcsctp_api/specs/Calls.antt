@@ -19,8 +19,8 @@ use Rattle.dcsctp_api.specs.declared.state.SocketState.{SocketState}
 use Rattle.dcsctp_api.specs.declared.state.SocketState.TheVariants as states
 use Rattle.dcsctp_api.specs.Events.{event_content}
 
--- What a socket is to its user: the endpoint, the events that wait, the words that the present call
--- drew and the pairs that it made of them, and whether a growth was refused.
+-- What a socket is to its user: the endpoint and the events that wait. Also the words that the present call drew, the pairs that
+-- it made of them, and whether an allocation failed.
 pub record UserView : Type 0 where
   pub endpoint : Endpoint
   pub events : List (Event (List ℕ))
@@ -41,15 +41,14 @@ pub record Follows (old : UserView) (turns : List Turned) (new : UserView) : Typ
   pub words : new.words ≡ words_of turns
   pub pairs : new.pairs ≡ pairs_of turns
 
--- Events were added behind those that wait: the front part of what these turns add.
+-- Events were added after those that wait: the first part of what these turns add.
 pub record AddsFront (ports : Ports) (turns : List Turned) (old new : List (Event (List ℕ))) : Type 0 where
   pub added : List (Event (List ℕ))
   pub rest : List (Event (List ℕ))
   pub behind : new ≡ old ++ added
   pub front : added ++ rest ≡ map (user_event ports) (events_of turns)
 
--- A growth was refused, and the socket has failed. Events that were added before stay, in front, and
--- the call added no others than its first turns do.
+-- An allocation failed, and the socket has failed. Earlier events stay, and the call added only events of its first turns.
 pub record RanOut (old : UserView) (FirstTurns : List Turned → Type 0) (new : UserView) : Type 0 where
   pub runs : old.failed ≡ false
   pub fails : new.failed ≡ true
@@ -67,7 +66,7 @@ HandlesInput old packet (Ok done) new = (turns : List Turned) × HandleInput old
 HandlesInput old packet (Err OutOfMemory) new = RanOut old (CutInput old.endpoint packet) new
 HandlesInput old packet (Err Failed) new = StaysFailed old new
 
--- A growth was refused, and the socket has failed. Nothing else has changed but what words were drawn.
+-- An allocation failed, and the socket has failed. Nothing else has changed but the words that were drawn.
 pub record FailsWhole (old new : UserView) : Type 0 where
   pub runs : old.failed ≡ false
   pub only : new ≡ record old { words = new.words; pairs = new.pairs; failed = true }
@@ -82,7 +81,7 @@ Connects old (Ok done) new = Makes connect old new
 Connects old (Err OutOfMemory) new = FailsWhole old new
 Connects old (Err Failed) new = StaysFailed old new
 
--- The call is one turn; or a growth was refused, and the first of its events may stand.
+-- The call is one turn; or an allocation failed, and the first of its events may have been added.
 abbrev pub Closes : UserView → Result (Unit {0}) SocketFault → UserView → Type 0
 Closes old (Ok done) new = Makes (abort_with CloseCalled) old new
 Closes old (Err OutOfMemory) new = RanOut old (Turns old.endpoint (act_input (abort_with CloseCalled) ∷ [])) new
@@ -131,7 +130,7 @@ is_closed (cookie_wait my) = false
 is_closed (cookie_echoed my held cookie) = false
 is_closed (open_in phase my held) = false
 
--- the state that a user is told
+-- the state that the user sees
 abbrev pub open_state : OpenPhase → SocketState
 open_state established = states.Connected
 open_state shutdown_pending = states.ShuttingDown

@@ -16,16 +16,16 @@ use Rattle.dcsctp_api.specs.declared.errors.SocketFault.{SocketFault}
 use Rattle.dcsctp_api.specs.declared.errors.SocketFault.TheVariants.{OutOfMemory, Failed}
 use Rattle.dcsctp_api.specs.Calls.{UserView, Follows, RanOut, StaysFailed}
 
--- ---- what is answered
+-- ---- what is returned
 
--- the reason that an error tells
+-- the reason that an error gives
 abbrev pub refusal_of : SendError → MessageRefusal
 refusal_of EmptyPayload = empty_payload
 refusal_of (MessageTooLarge bytes limit) = message_too_large bytes limit
 refusal_of ResourceExhaustion = resource_exhaustion
 refusal_of ShuttingDown = shutting_down
 
--- why the message was refused, by what is answered
+-- why the message was refused, by the result
 abbrev pub refusal_in : Result (Unit {0}) SendError → Option MessageRefusal
 refusal_in (Ok done) = None
 refusal_in (Err error) = Some (refusal_of error)
@@ -34,7 +34,7 @@ refusal_in (Err error) = Some (refusal_of error)
 abbrev pub refused_in : List (ℕ × SendError) → List RefusedMessage
 refused_in errors = map (λ error. record { place = error.0; refusal = refusal_of error.1 }) errors
 
--- None is refused, or all that are refused are told.
+-- No message is refused, or the error names all that are.
 abbrev pub IsBatchAnswer : List RefusedMessage → Result (Unit {0}) BatchSendError → Type 0
 IsBatchAnswer refused (Ok done) = refused ≡ []
 IsBatchAnswer refused (Err error) = (refused_in error.0.items ≡ refused) × (refused ≡ [] → ⊥)
@@ -45,8 +45,8 @@ IsBatchAnswer refused (Err error) = (refused_in error.0.items ≡ refused) × (r
 abbrev pub IsTurnOf : Input → UserView → UserView → Type 0
 IsTurnOf input old new = (turns : List Turned) × Turns old.endpoint (input ∷ []) turns × Follows old turns new
 
--- The call is one turn, and answers whether the message was refused; or a growth was refused, and the first of its events may
--- stand.
+-- The call is one turn, and returns whether the message was refused. Or an allocation failed, and the first of its events may
+-- have been added.
 abbrev pub Sends : MessageContent → SendOptions → UserView → Result (Result (Unit {0}) SendError) SocketFault → UserView → Type 0
 Sends message options old (Ok answer) new =
     (refusal_in answer ≡ message_refusal old.endpoint message.stream (length message.payload))
@@ -54,7 +54,7 @@ Sends message options old (Ok answer) new =
 Sends message options old (Err OutOfMemory) new = RanOut old (Turns old.endpoint (user_sends (sending_of options message ∷ []) ∷ [])) new
 Sends message options old (Err Failed) new = StaysFailed old new
 
--- the same of several messages
+-- the same for several messages
 abbrev pub SendsMany : List MessageContent → SendOptions → UserView → Result (Result (Unit {0}) BatchSendError) SocketFault → UserView → Type 0
 SendsMany messages options old (Ok answer) new =
     IsBatchAnswer (refused_from 0 old.endpoint (map (sending_of options) messages)) answer
@@ -77,7 +77,7 @@ abbrev pub IsFirst : List MessageContent → Option Message → Type 0
 IsFirst ready None = ready ≡ []
 IsFirst ready (Some message) = (rest : List MessageContent) × (ready ≡ message_content message ∷ rest)
 
--- The first message that is ready is taken, and nothing is told; no word is drawn.
+-- The first message that is ready is taken. No event is added, and no word is drawn.
 pub record TakesNext (old : UserView) (result : Option Message) (new : UserView) : Type 0 where
   pub first : IsFirst (ready_messages old.endpoint) result
   pub outcome : Outcome

@@ -10,17 +10,18 @@ use Rattle.dcsctp_api.specs.declared.errors.SocketFault.TheVariants.{OutOfMemory
 use Rattle.dcsctp_api.specs.Calls.{UserView, RanOut, StaysFailed}
 use Rattle.dcsctp_api.specs.Messages.{IsTurnOf}
 
--- the reason that an error tells
+-- the reason that an error gives
 abbrev pub reset_refusal_of : ResetStreamsError → ResetRefusal
 reset_refusal_of NotConnected = not_connected
 reset_refusal_of NotSupported = not_supported
 
--- why the streams weren't reset, by what is answered
+-- why the streams weren't reset, by the result
 abbrev pub reset_refusal_in : Result (Unit {0}) ResetStreamsError → Option ResetRefusal
 reset_refusal_in (Ok done) = None
 reset_refusal_in (Err error) = Some (reset_refusal_of error)
 
--- The call is one turn, and answers whether it was refused; or a growth was refused, and the first of its events may stand.
+-- The call is one turn, and returns whether it was refused. Or an allocation failed, and the first of its events may have been
+-- added.
 abbrev pub ResetsOwn : List ℕ → UserView → Result (Result (Unit {0}) ResetStreamsError) SocketFault → UserView → Type 0
 ResetsOwn ids old (Ok answer) new = (reset_refusal_in answer ≡ reset_refusal old.endpoint) × IsTurnOf (user_resets ids) old new
 ResetsOwn ids old (Err OutOfMemory) new = RanOut old (Turns old.endpoint (user_resets ids ∷ [])) new

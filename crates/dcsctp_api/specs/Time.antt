@@ -1,4 +1,4 @@
--- What a socket does where it is told the time.
+-- What `advance_time` does to a socket.
 use Rattle.std.specs.Prelude.{◌≡◌, ℕ, Result, Ok, Err, IsOk, List, []}
 use Rattle.dcsctp_machine.specs.Turn.{clock_at}
 use Rattle.dcsctp_machine.specs.TimeTurns.{AdvanceTurns}
@@ -7,13 +7,13 @@ use Rattle.dcsctp_api.specs.declared.errors.SocketFault.{SocketFault}
 use Rattle.dcsctp_api.specs.declared.errors.SocketFault.TheVariants.{OutOfMemory, Failed}
 use Rattle.dcsctp_api.specs.Calls.{UserView, Follows, RanOut, StaysFailed}
 
--- The clock is moved, and what is due has its turns; an earlier moment has none.
+-- The clock is moved, and what is due is handled; an earlier moment changes nothing.
 abbrev pub Advances : UserView → ℕ → Result (Unit {0}) SocketFault → UserView → Type 0
 Advances old moment (Ok done) new = (turns : List Turned) × AdvanceTurns old.endpoint moment turns × Follows old turns new
 Advances old moment (Err OutOfMemory) new = RanOut old (AdvanceTurns old.endpoint moment) new
 Advances old moment (Err Failed) new = StaysFailed old new
 
--- The call succeeds, and moves the clock alone.
+-- The call succeeds, and only moves the clock.
 pub record OnlyMovesClock (old : UserView) (moment : ℕ) (result : Result (Unit {0}) SocketFault) (new : UserView) : Type 0 where
   pub succeeds : IsOk result
   pub only : new ≡ record old { endpoint = clock_at moment old.endpoint; words = []; pairs = [] }

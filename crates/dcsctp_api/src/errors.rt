@@ -6,17 +6,17 @@ use thiserror::Error;
 /// Why a socket could not do its work.
 #[derive(Clone, Copy, Debug, PartialEq, Eq, Error)]
 pub enum SocketFault {
-    /// Memory ran out in this call. The socket has failed from here on.
+    /// An allocation failed in this call. The socket has failed from now on.
     #[error("out of memory")]
     OutOfMemory,
 
-    /// Memory ran out in an earlier call.
+    /// An allocation failed in an earlier call.
     #[error("socket has failed")]
     Failed,
 }
 
-/// Why a socket takes no message. Of several reasons the first in the order of `EmptyPayload`,
-/// `MessageTooLarge`, `ShuttingDown` and `ResourceExhaustion` is told.
+/// Why a message is refused. If several reasons hold, the first in this order is given: `EmptyPayload`,
+/// `MessageTooLarge`, `ShuttingDown`, `ResourceExhaustion`.
 #[derive(Clone, Copy, Debug, PartialEq, Eq, Error)]
 pub enum SendError {
     /// The payload is empty.
@@ -27,7 +27,7 @@ pub enum SendError {
     #[error("message size ({len}) exceeds configured max_message_size ({limit})")]
     MessageTooLarge { len: usize, limit: usize },
 
-    /// As much waits to be sent as may wait: in all, or on the stream of the message.
+    /// The send buffer is full, in all or for the stream of the message.
     #[error("send queue is full")]
     ResourceExhaustion,
 
@@ -36,8 +36,8 @@ pub enum SendError {
     ShuttingDown,
 }
 
-/// Of messages that were sent together those that were refused, in ascending order: the place of each
-/// among them, from 0, and why. The others were taken. It names one at least.
+/// The refused ones of several messages that were sent together, in ascending order. Each has its place among
+/// them, from 0, and the reason. The others were accepted. There is at least one.
 #[derive(Debug, PartialEq, Eq, Drop, Error)]
 #[error("batch send failed with errors: {0:?}")]
 pub struct BatchSendError(pub Vec<(usize, SendError)>);
@@ -45,7 +45,7 @@ pub struct BatchSendError(pub Vec<(usize, SendError)>);
 /// Why no stream can be reset.
 #[derive(Clone, Copy, Debug, PartialEq, Eq, Error)]
 pub enum ResetStreamsError {
-    /// No association with a peer is held.
+    /// The peer isn't known: there is no association, or its INIT isn't answered yet.
     #[error("socket is not connected")]
     NotConnected,
 
@@ -54,7 +54,7 @@ pub enum ResetStreamsError {
     NotSupported,
 }
 
-/// A refused allocation is `OutOfMemory`.
+/// A failed allocation is `OutOfMemory`.
 impl From<AllocError> for SocketFault {
     ghost use Rattle.std.specs.Prelude.{◌≡◌};
     ghost use Rattle.dcsctp_api.specs.declared.errors.SocketFault.TheVariants.{OutOfMemory};
@@ -66,7 +66,7 @@ impl From<AllocError> for SocketFault {
     }
 }
 
-/// A refused allocation is `OutOfMemory`; the value that found no room is dropped.
+/// A failed allocation is `OutOfMemory`. The value that was to be stored is dropped.
 impl<T: Drop> From<AllocFailed<T>> for SocketFault {
     ghost use Rattle.std.specs.Prelude.{◌≡◌};
     ghost use Rattle.dcsctp_api.specs.declared.errors.SocketFault.TheVariants.{OutOfMemory};

@@ -1,16 +1,16 @@
-//! What a socket has to tell its user, and the queue in which that waits.
+//! The events of a socket, and the queue in which they wait for its user.
 
 use dcsctp_machine::{ErrorKind, LifecycleId, StreamId};
 use std::alloc::{AllocError, Global};
 use std::collections::VecDeque;
 use std::marker::Model;
 
-/// Something that a socket tells its user.
+/// An event that a socket reports to its user.
 ///
-/// A message that was sent with a `LifecycleId` is followed by the events with that identifier: first
-/// `OnLifecycleMessageFullySent` or `OnLifecycleMessageExpired`; after the former either
-/// `OnLifecycleMessageMaybeExpired` or `OnLifecycleMessageDelivered`; and last, in each case,
-/// `OnLifecycleEnd`.
+/// A message that was sent with a `LifecycleId` has events with that identifier. The first is
+/// `OnLifecycleMessageFullySent` or `OnLifecycleMessageExpired`. After the former comes
+/// `OnLifecycleMessageMaybeExpired` or `OnLifecycleMessageDelivered`. The last is `OnLifecycleEnd` in each
+/// case.
 #[derive(Debug, Drop)]
 pub enum SocketEvent {
     /// These bytes are to be sent to the peer as one packet.
@@ -44,23 +44,23 @@ pub enum SocketEvent {
     /// These outgoing streams were reset.
     OnStreamsResetPerformed(Vec<StreamId>),
 
-    /// The peer reset these streams, which come in here; an empty list stands for all of them.
+    /// The peer reset these incoming streams; an empty list stands for all of them.
     OnIncomingStreamReset(Vec<StreamId>),
 
     /// The last part of the message was sent for the first time.
     OnLifecycleMessageFullySent(LifecycleId),
 
-    /// The message was given up after it was fully sent, so that the peer may have it or not.
+    /// The message was abandoned after it was fully sent, so that the peer may have it or not.
     OnLifecycleMessageMaybeExpired(LifecycleId),
 
-    /// The message was given up before it was fully sent.
+    /// The message was abandoned before it was fully sent.
     OnLifecycleMessageExpired(LifecycleId),
 
     /// The peer has acknowledged the message, and all that was sent before it.
     OnLifecycleMessageDelivered(LifecycleId),
 
-    /// No further event names the message, however it fared. A message that was refused has this event
-    /// alone.
+    /// No further event names the message, whatever became of it. A message that was refused has only this
+    /// event.
     OnLifecycleEnd(LifecycleId),
 }
 
@@ -84,7 +84,7 @@ impl Model for Events {
 impl Events {
     ghost use Rattle.std.specs.Prelude.{◌≡◌, [], ◌∷◌, ◌++◌, OnOk, OnErr, IfSome, IfNone};
 
-    /// No events yet. It takes no memory before the first is added.
+    /// No events yet. Allocates nothing until the first is added.
     pub fn new(alloc: Global) -> Events
         ensures { result ≡ [] }
     {
@@ -93,8 +93,7 @@ impl Events {
         }
     }
 
-    /// Adds an event after all others. If there is no memory for it, the event is dropped and the
-    /// others stay.
+    /// Adds an event after all others. If an allocation fails, the event is dropped and the others are kept.
     pub fn add(&mut self, event: SocketEvent) -> Result<(), AllocError>
         ensures ok { OnOk result (self.new ≡ self.old ++ event ∷ []) }
         ensures err { OnErr result (self.new ≡ self.old) }
@@ -103,7 +102,7 @@ impl Events {
         Ok(())
     }
 
-    /// Takes the earliest event; none where no event is left.
+    /// Takes the earliest event; `None` if no event is left.
     pub fn next_event(&mut self) -> Option<SocketEvent>
         ensures some { IfSome result (λ event. self.old ≡ event ∷ self.new) }
         ensures none { IfNone result ((self.old ≡ []) × (self.new ≡ [])) }

@@ -14,8 +14,8 @@ ghost use Rattle.dcsctp_machine.specs.declared.message.SendOptions.{SendOptions}
 use dcsctp_machine::{LifecycleId, PpId, SendOptions, SocketTime, StreamId, cookie_reads_back};
 use std::hash::Hash;
 
-/// Moments are compared by their nanoseconds: `==` holds of equal ones alone, and `cmp`, `<` and the
-/// rest order them as numbers, which is a total order.
+/// Moments are compared by their nanoseconds: `==` holds only of equal ones. `cmp`, `<` and the rest order
+/// them as numbers, which is a total order.
 pub fn socket_time_order()
     ensures equality { (x y : ℕ) → IsTrue (⟦<SocketTime as PartialEq>⟧.eq x y) ↔ (x ≡ y) }
     ensures order { (x y : ℕ) → ⟦<SocketTime as Ord>⟧.cmp x y ≡ nat_cmp x y }
@@ -24,7 +24,7 @@ pub fn socket_time_order()
     ensures total { IsTotalOrder ⟦<SocketTime as Ord>⟧.cmp }
 {}
 
-/// The same of the identifiers of messages.
+/// The same for the identifiers of messages.
 pub fn lifecycle_id_order()
     ensures equality { (x y : LifecycleId)
         → IsTrue (⟦<LifecycleId as PartialEq>⟧.eq x y) ↔ (x ≡ y) }
@@ -36,7 +36,7 @@ pub fn lifecycle_id_order()
     ensures total { IsTotalOrder ⟦<LifecycleId as Ord>⟧.cmp }
 {}
 
-/// The same of the identifiers of streams.
+/// The same for the identifiers of streams.
 pub fn stream_id_order()
     ensures equality { (x y : StreamId) → IsTrue (⟦<StreamId as PartialEq>⟧.eq x y) ↔ (x ≡ y) }
     ensures order { (x y : StreamId) → ⟦<StreamId as Ord>⟧.cmp x y ≡ nat_cmp x.0 y.0 }
@@ -57,7 +57,7 @@ pub fn stream_id_hash()
         → ⟦<StreamId as Hash>⟧.hash_input x ≡ ⟦<StreamId as Hash>⟧.hash_input y }
 {}
 
-/// Identifiers of protocols that are equal hash alike, and `==` holds of equal ones alone.
+/// Identifiers of protocols that are equal hash alike, and `==` holds only of equal ones.
 pub fn pp_id_hash()
     ensures equality { (x y : PpId) → IsTrue (⟦<PpId as PartialEq>⟧.eq x y) ↔ (x ≡ y) }
     ensures hash { (x y : PpId) → IsTrue (⟦<PpId as PartialEq>⟧.eq x y)
@@ -75,8 +75,8 @@ pub fn send_options_default()
         } }
 {}
 
-/// What `StateCookie::serialize` wrote, `StateCookie::from_bytes` reads, and as the same cookie (RFC 9260,
-/// section 5.1.3), where no tag is 0.
+/// `StateCookie::from_bytes` reads what `StateCookie::serialize` wrote, as the same cookie (RFC 9260, section
+/// 5.1.3), if no tag is 0.
 pub fn state_cookie_reads_back()
     ensures { StateCookieReadsBack }
 {

@@ -6,8 +6,8 @@ pub enum SocketState {
     /// There is no association.
     Closed,
 
-    /// This end has begun an association, and the peer has not confirmed it yet. An association that
-    /// the peer begins skips this state, and so does one that is begun anew.
+    /// This end has begun an association, and the peer has not confirmed it yet. An association that the peer
+    /// begins skips this state, and so does one that is restarted.
     Connecting,
 
     /// There is an association, and both ends may send.

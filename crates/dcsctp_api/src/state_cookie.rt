@@ -19,8 +19,8 @@ const MAGIC_1: u32 = 0x6463_5343;
 /// `TPr0`.
 const MAGIC_2: u32 = 0x5450_7230;
 
-/// What the maker of an INIT ACK wants to find again in the COOKIE ECHO, so that it keeps nothing in
-/// between. All numbers are big-endian.
+/// What the maker of an INIT ACK needs again when the COOKIE ECHO comes, so that it keeps nothing in between.
+/// All numbers are big-endian.
 ///
 /// | Offset | Size | Field |
 /// |---|---|---|
@@ -43,7 +43,7 @@ pub struct StateCookie {
     /// The initiate tag of the INIT that the cookie answers.
     pub peer_tag: u32,
 
-    /// The initiate tag of the INIT ACK that bears the cookie.
+    /// The initiate tag of the INIT ACK that carries the cookie.
     pub my_tag: u32,
 
     /// The initial TSN of the INIT.
@@ -55,7 +55,7 @@ pub struct StateCookie {
     /// The receive window of the INIT, in bytes.
     pub a_rwnd: u32,
 
-    /// The tie tag of the association that the maker held, 0 where it held none.
+    /// The tie tag of the association of the cookie's maker, 0 if it had none.
     pub tie_tag: u64,
 
     /// What the INIT announced, before negotiation.
@@ -67,11 +67,11 @@ impl StateCookie {
     ghost use Rattle.dcsctp_machine.specs.Cookie.{cookie_bytes, cookie_at};
     ghost use Rattle.dcsctp_api.specs.Cookie.{cookie_of};
 
-    /// Reads a cookie. It takes no memory.
+    /// Reads a cookie. Allocates nothing.
     ///
-    /// The first that is wrong decides: `Invalid state cookie size` unless there are 48 bytes,
-    /// `Invalid state cookie magic` unless they begin with the magic, and
-    /// `Invalid verification tag in state cookie` where a tag is 0.
+    /// The first fault decides: `Invalid state cookie size` unless there are 48 bytes. Then
+    /// `Invalid state cookie magic` unless they begin with the magic. Then
+    /// `Invalid verification tag in state cookie` if a tag is 0.
     #[tactic(auto, unfolding(dcsctp_machine::specs::Cookie::cookie_at))]
     pub fn from_bytes(bytes: &[u8]) -> Result<StateCookie, &'static str>
         ensures { MatchResult result (λ cookie. cookie_at bytes.now ≡ Ok (cookie_of cookie))
@@ -97,7 +97,7 @@ impl StateCookie {
         })
     }
 
-    /// The 48 bytes of the cookie. The one error is that a growth was refused.
+    /// The 48 bytes of the cookie.
     #[tactic(auto, unfolding(dcsctp_machine::specs::Cookie::cookie_bytes))]
     pub fn serialize(&self, alloc: Global) -> Result<Vec<u8>, AllocError>
         ensures { IfOk result (λ bytes. bytes.items ≡ cookie_bytes (cookie_of self.now)) }

@@ -13,7 +13,7 @@ fn hash_of<T: Hash>(x: &T) -> u64 {
     state.finish()
 }
 
-// The greater of two values, as a caller that knows their order alone works it out.
+// The greater of two values, as found by a caller that knows only their order.
 pub fn greater<T: Ord + Copy>(x: T, y: T) -> T {
     if x.cmp(&y).is_lt() { y } else { x }
 }

@@ -1,5 +1,5 @@
-//! Tests of `dcsctp_api` and `dcsctp_send_timer` by their public calls: what a socket is made of. Their values come
-//! from outside, or were worked out by hand.
+//! Tests of `dcsctp_api` and `dcsctp_send_timer` by their public calls: what a socket is made of. Their
+//! values come from outside, or were computed by hand.
 #![tactic(auto)]
 
 #[cfg(test)]

@@ -11,17 +11,17 @@ use std::time::Duration;
 /// One step of a timer. Times are in milliseconds.
 #[derive(Clone, Copy)]
 enum Step {
-    /// A new timer takes the place of the old one: how long it runs, how it backs off, how often at most, and
-    /// its longest wait.
+    /// A new timer instead of the old one: how long it runs, and how it backs off. Then how often at most,
+    /// and its longest wait.
     Begins(u64, BackoffAlgorithm, Option<u32>, Option<u64>),
 
     /// It starts at this moment.
     Starts(u64),
 
-    /// It starts at the last moment that there is.
+    /// It starts at the last moment.
     StartsLast,
 
-    /// It runs so long from its next start on.
+    /// It runs for that long from its next start on.
     Lasts(u64),
 
     /// It stops.
@@ -30,11 +30,11 @@ enum Step {
     /// Does it expire at this moment?
     Expires(u64, bool),
 
-    /// When it expires next, in nanoseconds; where it doesn't run, never.
+    /// When it expires next, in nanoseconds; if it doesn't run, never.
     Next(Option<u128>),
 }
 
-// The moment so many milliseconds after the first.
+// The moment that many milliseconds after the first.
 fn at(millis: u64) -> SocketTime {
     SocketTime::zero() + Duration::from_millis(millis)
 }
@@ -119,7 +119,7 @@ static STEPS: [(&str, Step); 40] = [
     ("bounded, first", Step::Next(Some(1_700_000_000))),
     ("bounded, second", Step::Expires(1700, true)),
     ("bounded, second", Step::Next(Some(2_400_000_000))),
-    // A fixed wait stays as it is.
+    // A fixed wait is unchanged.
     ("fixed", Step::Begins(1000, Fixed, Some(1), None)),
     ("fixed", Step::Starts(0)),
     ("fixed, first", Step::Expires(1000, true)),
@@ -136,8 +136,8 @@ fn timers_run_back_off_and_stop(rt: HostRuntime) {
     }
 }
 
-/// A name, whether a new timeout takes the place of the old one, the next round trip, and the smoothed one and the
-/// timeout behind it, all in microseconds.
+/// A name, and whether a new timeout is used. Then the next round trip, and the smoothed one and the timeout
+/// after it, all in microseconds.
 type Measurement = (&'static str, bool, u64, u64, u64);
 
 /// Goes through the measurements with timeouts of these options.

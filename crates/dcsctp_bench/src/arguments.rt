@@ -5,7 +5,7 @@ use crate::strain::{HOLES, Holding, Strain};
 /// What the program is to do.
 #[derive(Clone, Copy)]
 pub enum Command {
-    /// Connects so many pairs of sockets, one after another.
+    /// Connects that many pairs of sockets, one after another.
     Handshakes(u32),
 
     /// Carries messages.
@@ -14,7 +14,7 @@ pub enum Command {
     /// Strains a receiver.
     Strain(Strain),
 
-    /// Keeps so many pairs of connected sockets, each, where the flag says so, after 1 MiB went each way.
+    /// Keeps that many pairs of connected sockets, each, if the flag says so, after 1 MiB was sent each way.
     Hold(u32, bool),
 }
 
@@ -45,13 +45,13 @@ pub struct Plan {
     /// How many milliseconds a packet and its answer take together.
     pub delay: u32,
 
-    /// Packets bear no checksum (RFC 9653).
+    /// Packets carry no checksum (RFC 9653).
     pub without_checksum: bool,
 
     /// The packets are told, too.
     pub shows_counts: bool,
 
-    /// The time that passed and the chunks of data are told, too.
+    /// The time that passed and the chunks of data are printed, too.
     pub shows_chunks: bool,
 }
 
@@ -65,7 +65,7 @@ const LONGEST: u32 = 262_144;
 const LONGEST_DELAY: u32 = 60_000;
 
 impl Plan {
-    /// So many messages of this many bytes, all in order on one stream, over a link that loses nothing.
+    /// That many messages of this many bytes, all in order on one stream, over a link that loses nothing.
     pub fn new(count: u32, size: usize) -> Plan {
         Plan {
             count,
@@ -82,7 +82,7 @@ impl Plan {
         }
     }
 
-    // Adds what a word says; none where it says nothing.
+    // Adds what a word says; none if it says nothing.
     fn add(&mut self, word: &str) -> Option<()> {
         match word.split_once('=') {
             None => match word {
@@ -114,7 +114,7 @@ fn number(text: &str, least: u32, most: u32) -> Option<u32> {
     Some(number)
 }
 
-// The plan of so many messages that these words say, of which the first is their size.
+// The plan of that many messages that these words say, of which the first is their size.
 fn parse_plan(count: u32, words: &[String]) -> Option<Plan> {
     let (first, rest) = words.split_first()?;
     let size = number(first.as_str(), 1, LONGEST)?;
@@ -125,7 +125,7 @@ fn parse_plan(count: u32, words: &[String]) -> Option<Plan> {
     Some(plan)
 }
 
-// What a word says of what a receiver comes to hold; none where it says nothing.
+// What a word says about what a receiver has to hold; `None` if it says nothing.
 fn parse_holding(word: &str) -> Option<Holding> {
     match word {
         "fragments" => Some(Holding::Fragments),
@@ -138,7 +138,7 @@ fn parse_holding(word: &str) -> Option<Holding> {
     }
 }
 
-// How the words say that a receiver is strained: what it holds, how much, and how many packets come then.
+// How a receiver is strained, by these words: what it holds, how much, and how many packets come then.
 fn parse_strain(words: &[String]) -> Option<Strain> {
     if words.len() != 3 {
         return None;
@@ -150,7 +150,7 @@ fn parse_strain(words: &[String]) -> Option<Strain> {
     })
 }
 
-/// The command that these words say, without the name of the program; none where they say no command.
+/// The command that these words say, without the name of the program; `None` if they say no command.
 pub fn parse_command(words: &[String]) -> Option<Command> {
     let (name, words) = words.split_first()?;
     if name.as_str() == "strain" {

@@ -18,7 +18,7 @@ pub struct Chunks {
     // The first TSN, once there was one.
     first: Option<u32>,
 
-    // By how far a TSN is behind the first.
+    // By how far a TSN is after the first.
     has_arrived: Vec<bool>,
 
     /// How many chunks were sent, those that were sent again included.
@@ -40,14 +40,14 @@ impl Chunks {
         }
     }
 
-    // How far a TSN is behind the first, which is this one where there was none.
+    // How far a TSN is after the first, which is this one if there was none.
     fn place(&mut self, tsn: u32) -> usize {
         let first = self.first.unwrap_or(tsn);
         self.first = Some(first);
         tsn.wrapping_sub(first) as usize
     }
 
-    // Notes a chunk that is sent: each TSN goes out behind the one before it.
+    // Notes a chunk that is sent: each TSN is sent after the one before it.
     fn note_sent_tsn(&mut self, tsn: u32) -> Result<(), AllocError> {
         self.sent = self.sent.saturating_add(1);
         if self.has_arrived.len() == self.place(tsn) {
@@ -84,7 +84,7 @@ impl Chunks {
     }
 }
 
-// The TSNs of the chunks of data in a packet; none where it is none.
+// The TSNs of the chunks of data in a packet; none if the bytes aren't a packet.
 fn tsns_of(alloc: Global, packet: &[u8]) -> Result<Vec<u32>, AllocError> {
     let mut tsns = Vec::new(alloc);
     match SctpPacket::from_bytes(alloc, packet, &READER) {

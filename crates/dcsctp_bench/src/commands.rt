@@ -10,7 +10,7 @@ use std::alloc::{AllocError, Global};
 use std::mem::{size_of, swap};
 use std::time::Duration;
 
-/// Obeys a command, and prints what was done. Where it fails, what was done up to there is printed.
+/// Obeys a command, and prints what was done. If it fails, what was done up to there is printed.
 pub fn obey(rt: &(impl Print + Alloc<A = Global>), command: Command) -> Result<(), Failure> {
     match command {
         Command::Handshakes(count) => shake_hands(rt, count),
@@ -30,7 +30,7 @@ fn carry_both_ways(alloc: Global, pair: &mut Pair) -> Result<(), Failure> {
     Ok(())
 }
 
-// Two connected sockets; where they are to be used, after 1 MiB went each way.
+// Two connected sockets; if they are to be used, after 1 MiB was sent each way.
 fn connected(alloc: Global, is_used: bool) -> Result<Pair, Failure> {
     let mut pair = Pair::new(alloc, false)?;
     pair.connect()?;
@@ -40,7 +40,7 @@ fn connected(alloc: Global, is_used: bool) -> Result<Pair, Failure> {
     Ok(pair)
 }
 
-// Connects two sockets and drops them, so many times, up to the first that fails.
+// Connects two sockets and drops them, that many times, up to the first that fails.
 fn shake_hands(rt: &(impl Print + Alloc<A = Global>), count: u32) -> Result<(), Failure> {
     let mut connections = 0u32;
     let mut outcome = Ok(());
@@ -72,8 +72,8 @@ fn run(alloc: Global, pair: &mut Pair, traffic: &mut Traffic, plan: &Plan) -> Re
     traffic.run(pair)
 }
 
-// Prints the time that has passed, where chunks were counted how many were sent, and how many of them the
-// peer had.
+// Prints the time that has passed. If chunks were counted, prints how many were sent, and how many of them
+// the peer had.
 fn print_chunks(rt: &impl Print, link: &Link) -> Result<(), Failure> {
     if let Some(chunks) = &link.chunks {
         let (sent, needless) = (chunks.sent, chunks.needless);
@@ -83,7 +83,7 @@ fn print_chunks(rt: &impl Print, link: &Link) -> Result<(), Failure> {
     Ok(())
 }
 
-// Prints what has arrived and, where asked, how many packets were sent, and how many of them were lost.
+// Prints what has arrived. If asked, prints how many packets were sent, and how many of them were lost.
 fn print_carried(
     rt: &impl Print,
     pair: &Pair,
@@ -108,7 +108,7 @@ fn carry(rt: &(impl Print + Alloc<A = Global>), plan: &Plan) -> Result<(), Failu
     outcome
 }
 
-// Makes pairs and keeps them. There is room for no other, so that each takes what it needs alone.
+// Makes pairs and keeps them. There is room for no other, so that each takes only what it needs.
 fn hold(rt: &(impl Print + Alloc<A = Global>), count: u32, is_used: bool) -> Result<(), Failure> {
     let room = usize::try_from(count).unwrap_or(0);
     let mut pairs = Vec::<(BenchSocket, BenchSocket)>::with_capacity(rt.alloc(), room)?;

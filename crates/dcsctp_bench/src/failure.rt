@@ -26,8 +26,8 @@ pub enum Failure {
     /// A socket took no message.
     Refused(SendError),
 
-    /// A message is not the one that was sent: its stream, its length, its bytes, its place among those
-    /// of its stream, or that it came before. It bears this number.
+    /// A message is not the one that was sent: its stream, length, bytes or place in its stream is another,
+    /// or it came before. It carries this number.
     Wrong(u32),
 
     /// No message came for a long time. So many came before.
@@ -61,7 +61,7 @@ impl<T: Drop> From<AllocFailed<T>> for Failure {
     }
 }
 
-// A socket fails for want of memory alone.
+// A socket only fails when an allocation failed.
 impl From<SocketFault> for Failure {
     fn from(_fault: SocketFault) -> Failure {
         Failure::OutOfMemory

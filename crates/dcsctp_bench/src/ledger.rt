@@ -5,7 +5,7 @@ use crate::failure::Failure;
 use dcsctp_socket::{Message, PpId, StreamId};
 use std::alloc::{AllocError, Global};
 
-/// Which messages of a plan have arrived. They are numbered from 0, and each bears its number as the
+/// Which messages of a plan have arrived. They are numbered from 0, and each carries its number as the
 /// protocol that it names.
 #[derive(Drop)]
 pub struct Ledger {
@@ -40,7 +40,7 @@ impl Ledger {
         })
     }
 
-    // The stream of a message, which take turns, and each byte of it.
+    // The stream of a message, since streams take turns, and each byte of it.
     fn contents(&self, number: u32) -> (StreamId, u8) {
         let turn = number.checked_rem(u32::from(self.plan.streams));
         let stream = u16::try_from(turn.unwrap_or(0)).unwrap_or(0);
@@ -70,8 +70,8 @@ impl Ledger {
         self.has_arrived.get(place).copied() == Some(true)
     }
 
-    // May the message of this number come now? Where messages are ordered, the one before it on its stream
-    // has come.
+    // May the message of this number come now? If messages are ordered, the one before it on its stream has
+    // come.
     fn is_in_place(&self, number: u32) -> bool {
         match number.checked_sub(u32::from(self.plan.streams)) {
             Some(before) if !self.plan.is_unordered => self.has(before),

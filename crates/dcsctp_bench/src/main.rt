@@ -9,16 +9,16 @@
 //! dcsctp_bench strain fragments|interleaved|gaps|waiting|streams|reset HELD MORE
 //! ```
 //!
-//! `handshakes` makes N pairs of sockets one after another, connects each and drops it. `messages` sends
-//! N messages of SIZE bytes from one socket to the other, on one ordered stream: `unordered`, or on K
-//! streams in turn; with so many of a thousand packets lost behind the handshake, by a seed; each under way
-//! for half of so many milliseconds of a time of its own; behind Q messages more that are sent before any
-//! packet is handed over; and without checksums, as over DTLS. `counts` prints the packets, too, and
-//! `chunks` the time that passed, the chunks of data that were sent, and those that the peer had when they
-//! arrived. `hold` makes N pairs and keeps them, `used` after 1 MiB went each way. `strain` has one socket
-//! hold HELD unfinished or waiting things that its peer sent, and then hands it MORE packets, 10 at most,
-//! whose contents belong among those. The exit status is 0 where all went well, 1 where not, which standard
-//! error says, and 2 at bad arguments.
+//! `handshakes` makes N pairs of sockets one after another, connects each and drops it. `messages` sends N
+//! messages of SIZE bytes from one socket to the other, without checksums, as over DTLS. They go on one
+//! ordered stream, `unordered`, or on K streams in turn. PERMILLE of a thousand packets are lost after the
+//! handshake, by SEED. Each is under way for half of MS milliseconds of simulated time. Q more messages are
+//! sent before any packet is handed over. `counts` prints the packets, too, and `chunks` the time that
+//! passed, the chunks of data that were sent, and those that the peer had when they arrived. `hold` makes N
+//! pairs and keeps them, `used` after 1 MiB was sent each way. `strain` has one socket hold HELD unfinished
+//! or waiting things that its peer sent. Then it hands it MORE packets, 10 at most, whose contents belong
+//! among those. The exit status is 0 if all went well and 2 at bad arguments. Else it is 1, and standard
+//! error says why.
 #![tactic(auto)]
 
 mod arguments;
@@ -42,7 +42,7 @@ const USAGE: &str = "usage: dcsctp_bench handshakes N
        dcsctp_bench hold N [used]
        dcsctp_bench strain fragments|interleaved|gaps|waiting|streams|reset HELD MORE";
 
-// The command that the arguments say; none where they say no command.
+// The command that the arguments say; none if they say no command.
 fn command(rt: &(impl Env + Alloc<A = Global>)) -> io::Result<Option<Command>> {
     let mut words = Vec::new(rt.alloc());
     for word in env::args(rt)?.skip(1) {

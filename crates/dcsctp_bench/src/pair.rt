@@ -50,7 +50,7 @@ pub struct Link {
     /// How long a packet is under way.
     pub delay: Duration,
 
-    /// The chunks of data, where they are counted.
+    /// The chunks of data, if they are counted.
     pub chunks: Option<Chunks>,
 
     /// So many of a thousand packets are lost.
@@ -82,7 +82,7 @@ impl Link {
         self.rng = Xoshiro256PlusPlus::seed_from_u64(seed);
     }
 
-    // Puts a copy of a packet behind all others, or loses it.
+    // Puts a copy of a packet after all others, or loses it.
     fn put(&mut self, to: Side, packet: &[u8]) -> Result<(), AllocError> {
         if let Some(chunks) = &mut self.chunks {
             chunks.note_sent(packet)?;
@@ -97,7 +97,7 @@ impl Link {
         Ok(())
     }
 
-    // When the packet that was sent first arrives; the last moment where none is under way.
+    // When the packet that was sent first arrives; the last moment if none is under way.
     fn next_arrival(&self) -> SocketTime {
         match self.flying.front() {
             None => SocketTime::infinite_future(),
@@ -105,7 +105,7 @@ impl Link {
         }
     }
 
-    // Takes the packet that was sent first, where it has arrived.
+    // Takes the packet that was sent first, if it has arrived.
     fn take(&mut self) -> Result<Option<Parcel>, AllocError> {
         if self.now < self.next_arrival() {
             return Ok(None);
@@ -166,7 +166,7 @@ impl End {
         Ok(())
     }
 
-    /// Takes all events. It stands behind each call of the socket.
+    /// Takes all events. It is called after each call of the socket.
     pub fn drain(&mut self, link: &mut Link) -> Result<(), Failure> {
         for _ in 0..u64::MAX {
             let Some(event) = self.socket.poll_event() else {
@@ -177,7 +177,7 @@ impl End {
         Ok(())
     }
 
-    // Takes a packet in.
+    // Handles a packet.
     fn take(&mut self, link: &mut Link, packet: &[u8]) -> Result<(), Failure> {
         self.socket.handle_input(packet)?;
         self.drain(link)
@@ -193,8 +193,8 @@ pub struct Pair {
 }
 
 impl Pair {
-    /// Two closed sockets with the default options, where asked with an offer to go without checksums
-    /// (RFC 9653), and a link that loses nothing.
+    /// Two closed sockets with the default options, and a link that loses nothing. If asked, they offer to go
+    /// without checksums (RFC 9653).
     pub fn new(alloc: Global, without_checksum: bool) -> Result<Pair, Failure> {
         let mut options = Options::default();
         if without_checksum {
@@ -204,8 +204,8 @@ impl Pair {
         Pair::with(alloc, &options)
     }
 
-    /// Two closed sockets without checksums that interleave messages (RFC 8260) where the flag says so, and
-    /// a link that loses nothing.
+    /// Two closed sockets without checksums that interleave messages (RFC 8260) if the flag says so, and a
+    /// link that loses nothing.
     pub fn strained(alloc: Global, is_interleaved: bool) -> Result<Pair, Failure> {
         let mut options = Options::default();
         options.zero_checksum_alternate_error_detection_method =
@@ -254,7 +254,7 @@ impl Pair {
         Ok(())
     }
 
-    /// Hands over the packet that was sent first, and says to whom; none where none has arrived.
+    /// Hands over the packet that was sent first, and returns to whom; `None` if none has arrived.
     pub fn deliver(&mut self) -> Result<Option<Side>, Failure> {
         let Some(parcel) = self.link.take()? else {
             return Ok(None);

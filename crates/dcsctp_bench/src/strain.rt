@@ -1,5 +1,5 @@
-//! Packets that strain a receiver: it comes to hold much, and then handles a few packets more. The cost of
-//! one at that size is what those few add, over their number.
+//! Packets that strain a receiver: it holds a lot, and then handles a few more packets. The cost of one
+//! packet is what those few add, divided by their number.
 
 use crate::failure::Failure;
 use crate::pair::Pair;
@@ -20,10 +20,10 @@ pub enum Holding {
     /// Beginnings of unordered messages in I-DATA chunks (RFC 8260), by their message identifiers.
     Interleaved,
 
-    /// Ranges of TSNs behind gaps.
+    /// Ranges of TSNs after gaps.
     Gaps,
 
-    /// Whole ordered messages behind one that is missing.
+    /// Whole ordered messages after one that is missing.
     Waiting,
 
     /// Streams on which a message came.
@@ -173,7 +173,7 @@ impl<'p> Sender<'p> {
         Ok(())
     }
 
-    // Asks for a reset of so many streams, which waits for the first TSN.
+    // Asks for a reset of that many streams, which waits for the first TSN.
     fn reset(&mut self, count: u32) -> Result<(), Failure> {
         let mut streams = Vec::new(self.alloc);
         for id in 0..count {

@@ -11,10 +11,10 @@ use crate::pair::{Pair, Side};
 use dcsctp_socket::{DcSctpSocket, SendOptions};
 use std::alloc::{AllocError, Global};
 
-// As many bytes may be between the two users, and one message more.
+// As many bytes may be between the two users, and one more message.
 const WINDOW: u64 = 1_048_576;
 
-// After so many such moments without a message it is said that none will come.
+// After that many such moments without a message the run fails: none will come.
 const PATIENCE: u32 = 120_000;
 
 /// Messages from the first socket of a pair to the second.
@@ -89,7 +89,7 @@ impl Traffic {
         Ok(())
     }
 
-    // Hands over the packets that have arrived, and answers whether there was one.
+    // Hands over the packets that have arrived, and returns whether there was one.
     fn deliver(&mut self, pair: &mut Pair) -> Result<bool, Failure> {
         let mut has_moved = false;
         for _ in 0..u64::MAX {

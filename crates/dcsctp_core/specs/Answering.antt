@@ -1,4 +1,4 @@
--- What becomes of the own request to reset streams where the peer answers it (RFC 6525, section 5.2.7).
+-- What becomes of our own request to reset streams if the peer answers it (RFC 6525, section 5.2.7).
 use Rattle.std.specs.Prelude.{◌≡◌, ℕ, true, None}
 use Rattle.std.specs.Option.{option_map}
 use Rattle.dcsctp_machine.specs.Endpoint.{started}

@@ -16,7 +16,7 @@ use Rattle.dcsctp_core.specs.declared.state.State.{State}
 use Rattle.dcsctp_core.specs.View.{View}
 use Rattle.dcsctp_core.specs.Flushing.{state_with}
 
--- What lies below the association that is held has changed so; without one nothing has changed.
+-- What lies below the association has changed in this way; without one nothing has changed.
 abbrev pub ChangesBelow : (Transfer → Transfer → Type 0) → Option Transfer → State → State → Type 0
 ChangesBelow Changes None old new = new ≡ old
 ChangesBelow Changes (Some transfer) old new = (after : Transfer) × (new ≡ state_with old after) × Changes transfer after
@@ -26,7 +26,7 @@ abbrev pub ChangesWhere : Bool → (Transfer → Transfer → Type 0) → Option
 ChangesWhere true Changes found old new = ChangesBelow Changes found old new
 ChangesWhere false Changes found old new = new ≡ old
 
--- The first of the messages that are ready is taken, where one is ready.
+-- The first of the messages that are ready is taken, if one is ready.
 abbrev pub TakesFirst : Option Message → Transfer → Transfer → Type 0
 TakesFirst None old new = (old.reassembly.messages ≡ []) × (new ≡ old)
 TakesFirst (Some message) old new = TakesMessage old new × (old.reassembly.messages ≡ message_content message ∷ new.reassembly.messages)
@@ -35,11 +35,11 @@ abbrev pub TakesReady : Option Transfer → State → Option Message → State �
 TakesReady None old result new = (result ≡ None) × (new ≡ old)
 TakesReady (Some transfer) old result new = (after : Transfer) × (new ≡ state_with old after) × TakesFirst result transfer after
 
--- Data with this I flag and TSN came in.
+-- Data with this I flag and TSN was received.
 abbrev pub Receives : Bool → ℕ → Transfer → Transfer → Type 0
 Receives immediate tsn old new = ReceivesData tsn old new × HeedsFlag immediate tsn old new
 
--- A packet was worked whole.
+-- All of a packet was handled.
 abbrev pub EndsBelow : Transfer → Transfer → Type 0
 EndsBelow old new = EndsPacket old.tracker new.tracker × (new ≡ record old { tracker = new.tracker })
 
@@ -47,7 +47,7 @@ EndsBelow old new = EndsPacket old.tracker new.tracker × (new ≡ record old { 
 abbrev pub EndsDelay : Transfer → Transfer → Type 0
 EndsDelay old new = new ≡ record old { tracker = delay_over old.tracker }
 
--- A SACK with this cumulative TSN ack was taken into account, where a peer is held.
+-- A SACK with this cumulative TSN ack was taken into account, if the peer is known.
 abbrev pub SacksBelow : ℕ → Option Transfer → State → List (Event (List ℕ)) → State → List (Event (List ℕ)) → Result HandledSack AllocError → Type 0
 SacksBelow tsn None old told new telling result = (new ≡ old) × (telling ≡ told)
 SacksBelow tsn (Some transfer) old told new telling result = (after : Transfer) × (new ≡ state_with old after) × HandlesSack tsn transfer told after telling result
@@ -57,12 +57,12 @@ abbrev pub FillsAtOnceBelow : Option Transfer → State → Building → State �
 FillsAtOnceBelow None old packet new filled = (new ≡ old) × (filled ≡ packet)
 FillsAtOnceBelow (Some transfer) old packet new filled = (after : Transfer) × (new ≡ state_with old after) × FillsAtOnce transfer packet after filled
 
--- does something wait that was lost, and is to go out at once?
+-- does something wait that was lost, and is to be sent at once?
 abbrev pub at_once_below : Option Transfer → Bool
 at_once_below None = false
 at_once_below (Some transfer) = transfer.retransmission.has_fast_retransmit
 
--- A packet of it goes out to the peer that is held.
+-- A packet of it is sent to the peer.
 abbrev pub GoesAtOnce : Endpoint → Option Held → Option Transfer → Outcome → Type 0
 GoesAtOnce e (Some held) (Some transfer) o = FastRetransmits transfer.retransmission.has_fast_retransmit e held transfer o
 GoesAtOnce e held transfer o = o ≡ still e
@@ -70,7 +70,7 @@ GoesAtOnce e held transfer o = o ≡ still e
 abbrev pub AtOnceAt : {R : Type 0} → View R → Outcome → Type 0
 AtOnceAt view o = GoesAtOnce view.endpoint (held_in view.endpoint.core) view.endpoint.below.transfer o
 
--- is an acknowledgement due to the peer that is held, where one is?
+-- is an acknowledgement due to the peer, if it is known?
 abbrev pub is_due_below : Option Transfer → Bool
 is_due_below None = false
 is_due_below (Some transfer) = transfer.tracker.is_acknowledgement_due

@@ -28,7 +28,7 @@ pub record DrawsNext {R : Type 0} (stream : R → Stream) (next : Stream → ℕ
   pub pairs : new.pairs ≡ old.pairs
   pub only : OnlyDraws old new
 
--- A word was drawn; or it found no room among those that are kept, and nothing has changed but the generator.
+-- A word was drawn; or an allocation failed, and nothing has changed but the generator.
 abbrev pub Draws : {R E : Type 0} → (R → Stream) → (Stream → ℕ × Stream) → (ℕ → Word) → Context R → Result ℕ E → Context R → Type 0
 Draws stream next kind old (Ok word) new = DrawsNext stream next kind old word new
 Draws stream next kind old (Err error) new = OnlyDraws old new × (new.words.items ≡ old.words.items) × (new.pairs ≡ old.pairs)
@@ -40,7 +40,7 @@ pub record KeepsLast {R : Type 0} (old : Context R) (pair : Pair) (new : Context
   pub generator : new.generator ≡ old.generator
   pub only : OnlyDraws old new
 
--- A pair was kept; or it found no room, and nothing has changed.
+-- A pair was kept; or an allocation failed, and nothing has changed.
 abbrev pub Keeps : {R E : Type 0} → Context R → Pair → Result (Unit {0}) E → Context R → Type 0
 Keeps old pair (Ok done) new = KeepsLast old pair new
 Keeps old pair (Err error) new =

@@ -1,4 +1,4 @@
--- What goes out in a flush.
+-- What is sent in a flush.
 use Rattle.std.specs.Prelude.{◌≡◌, ◌⊎◌, ◌≤◌, ◌<◌, ◌+◌, ℕ, length, Bool, true, false, not, Option, None, Some, Result, Ok, Err, List, [], ◌∷◌, ◌++◌, map}
 use Rattle.std.specs.List.{flat_map}
 use Rattle.rand_core.specs.Stream.{Stream}
@@ -37,32 +37,32 @@ packet_of options with_checksum tag contents =
 abbrev pub empty_packet : Options → Bool → ℕ → Building
 empty_packet options with_checksum tag = packet_of options with_checksum tag []
 
--- the same of what goes out
+-- the same for what is sent
 abbrev pub packet_for : Options → Emission → Building
 packet_for options draft = packet_of options draft.with_checksum draft.packet.tag draft.packet.contents
 
 -- ---- below an association
 
--- the state with this below its association, where a peer is held
+-- the state with this below its association, if the peer is known
 abbrev pub state_with : State → Transfer → State
 state_with Closed transfer = Closed
 state_with (CookieWait wait) transfer = CookieWait wait
 state_with (CookieEchoed echoed) transfer = CookieEchoed (record echoed { tcb = record echoed.tcb { transfer = transfer } })
 state_with (Open opened) transfer = Open (record opened { tcb = record opened.tcb { transfer = transfer } })
 
--- A packet was filled with data, where a peer is held; whether any went in is told.
+-- A packet was filled with data, if the peer is known; whether any went in is the result.
 abbrev pub FillsBelow : Option Transfer → SendQueueState → List (Event (List ℕ)) → Building → State → State → SendQueueState → List (Event (List ℕ)) → Building → Bool → Type 0
 FillsBelow None waiting events packet old new left telling filled any = (new ≡ old) × (left ≡ waiting) × (telling ≡ events) × (filled ≡ packet) × (any ≡ false)
 FillsBelow (Some transfer) waiting events packet old new left telling filled any =
     (after : Transfer) × (new ≡ state_with old after) × FillsPacket transfer waiting events packet after left telling filled any
 
--- What came in is acknowledged, where that is asked for.
+-- What was received is acknowledged, if that is asked for.
 abbrev pub AcknowledgesBelow : Option Transfer → Bool → State → Building → State → Building → Type 0
 AcknowledgesBelow None along old packet new filled = (new ≡ old) × (filled ≡ packet)
 AcknowledgesBelow (Some transfer) along old packet new filled =
     (after : Transfer) × (new ≡ state_with old after) × Acknowledges (is_sack_wanted along transfer) transfer packet after filled
 
--- Messages may have been given up, where a peer is held; where a FORWARD-TSN was made, it is told when the next one may be.
+-- Messages may have been abandoned, if the peer is known; if a FORWARD-TSN was made, the result says when the next one may be.
 abbrev pub ForwardsBelow : ℕ → Option Transfer → SendQueueState → List (Event (List ℕ)) → Building → State → State → SendQueueState → List (Event (List ℕ)) → Building → Option ℕ → Type 0
 ForwardsBelow now None waiting events packet old new left telling filled next =
     (new ≡ old) × (left ≡ waiting) × (telling ≡ events) × (filled ≡ packet) × (next ≡ None)
@@ -74,13 +74,13 @@ abbrev pub HasNoData : SendQueueState → Option Transfer → Type 0
 HasNoData queue None = Unit {0}
 HasNoData queue (Some transfer) = (has_data queue ≡ false) × (transfer.retransmission.outstanding_items ≡ 0)
 
--- No stream is ready to be reset, where a peer is held.
+-- No stream is ready to be reset, if the peer is known.
 abbrev pub HasNoReset : SendQueueState → Option Transfer → Type 0
 HasNoReset queue None = Unit {0}
 HasNoReset queue (Some transfer) = is_none_ready queue.ready_streams ≡ true
 
--- Nothing has to go into a packet to the peer that is held: neither what acknowledges nor data; and into the first none that
--- resets streams.
+-- Nothing has to go into a packet to the peer: neither an acknowledgement nor data. In the first one no request to reset streams
+-- has to go either.
 abbrev pub NeedsNone : Ask → SendQueueState → Option Transfer → Type 0
 NeedsNone ask queue None = Unit {0}
 NeedsNone ask queue (Some transfer) =
@@ -91,24 +91,24 @@ abbrev pub WantsNone : Option Transfer → Bool → Type 0
 WantsNone None along = Unit {0}
 WantsNone (Some transfer) along = is_sack_wanted along transfer ≡ false
 
--- may data be sent to the peer that is held, where one is?
+-- may data be sent to the peer, if it is known?
 abbrev pub can_send_below : Option Transfer → Bool
 can_send_below None = false
 can_send_below (Some transfer) = can_send transfer.retransmission
 
 -- ---- one packet of it
 
--- the heartbeat interval begins anew where data went in
+-- the heartbeat interval starts anew if data went in
 abbrev pub timers_where : Bool → Endpoint → Timers
 timers_where true e = heartbeats_begun e e.timers
 timers_where false e = e.timers
 
--- the moment before which no FORWARD-TSN goes out, by whether one was made
+-- the moment before which no FORWARD-TSN is sent, by whether one was made
 abbrev pub forward_where : Option ℕ → ℕ → ℕ
 forward_where None before = before
 forward_where (Some next) before = next
 
--- What gives messages up was put into a packet, no sooner than it may, and nothing else has moved.
+-- What abandons messages was put into a packet, no sooner than it may, and nothing else has moved.
 abbrev pub ForwardsAt : {R : Type 0} → Option Transfer → View R → Building → View R → Building → Type 0
 ForwardsAt None old packet new filled = (new ≡ old) × (filled ≡ packet)
 ForwardsAt (Some transfer) old packet new filled =
@@ -123,7 +123,7 @@ ForwardsAt (Some transfer) old packet new filled =
       events = new.events;
     })
 
--- A reset was begun where none is outstanding, one is ready and it fits; its request is in the packet, and nothing else has moved.
+-- A reset was begun if none is outstanding, one is ready and it fits. Its request is in the packet, and nothing else has changed.
 abbrev pub BeginsAt : {R : Type 0} → Option Transfer → View R → Building → View R → Building → Type 0
 BeginsAt None old packet new filled = (new ≡ old) × (filled ≡ packet)
 BeginsAt (Some transfer) old packet new filled =
@@ -176,7 +176,7 @@ FillsWith ask packet old (Ok done) new filled_packet =
 FillsWith ask packet old (Err error) new filled_packet =
     (draft : Emission) → packet ≡ packet_for old.options draft → AskCut ask (view_of old) draft (view_of new).events
 
--- Its turn took place; whether the packet went out is told.
+-- Its turn took place; the result says whether the packet was sent.
 pub record AsksFor {R : Type 0} (stream : R → Stream) (ask : Ask) (old : View R) (draft : Emission) (is_sent : Bool) (new : View R) : Type 0 where
   pub answer : Answer
   pub allowed : Answered ask old.endpoint draft answer
@@ -189,24 +189,24 @@ AsksWith stream ask packet old (Ok is_sent) new =
 AsksWith stream ask packet old (Err error) new =
     (draft : Emission) → packet ≡ packet_for old.options draft → AskCut ask (view_of old) draft (view_of new).events
 
--- What fills a packet with data does, by whether a growth was refused.
+-- What fills a packet with data does, by whether an allocation failed.
 abbrev pub TriesData : {R E : Type 0} → Building → Context R → Result (Unit {0}) E → Context R → Building → Type 0
 TriesData packet old (Ok done) new filled = FillsData (transfer_of old.state) (view_of old) packet (view_of new) filled
 TriesData packet old (Err error) new filled = TellsMore (view_of old).events (view_of new).events
 
--- What gives messages up, by whether a growth was refused.
+-- The FORWARD-TSN, by whether an allocation failed.
 abbrev pub TriesForward : {R E : Type 0} → Building → Context R → Result (Unit {0}) E → Context R → Building → Type 0
 TriesForward packet old (Ok done) new filled = ForwardsAt (transfer_of old.state) (view_of old) packet (view_of new) filled
 TriesForward packet old (Err error) new filled = TellsMore (view_of old).events (view_of new).events
 
--- What begins a reset, by whether a growth was refused.
+-- What begins a reset, by whether an allocation failed.
 abbrev pub TriesReset : {R E : Type 0} → Building → Context R → Result (Unit {0}) E → Context R → Building → Type 0
 TriesReset packet old (Ok done) new filled = BeginsAt (transfer_of old.state) (view_of old) packet (view_of new) filled
 TriesReset packet old (Err error) new filled = (view_of new).events ≡ (view_of old).events
 
 -- ---- as many as may be
 
--- A flush of so many packets at most took place, of which this is the first.
+-- A flush of at most that many packets took place, of which this is the first.
 pub record FlushesFor {R : Type 0} (stream : R → Stream) (ask : Ask) (count : ℕ) (old : View R) (draft : Emission) (new : View R) : Type 0 where
   pub answers : List Answer
   pub allowed : Answers ask count old.endpoint draft answers
@@ -221,23 +221,23 @@ pub record FlushCut {R : Type 0} (ask : Ask) (count : ℕ) (old : View R) (draft
   pub parts : (flush_of old.endpoint draft answers).events ≡ front ++ rest
   pub added : events ≡ old.events ++ map (user_event (ports_of old.endpoint.options)) front
 
--- by whether a growth was refused
+-- by whether an allocation failed
 abbrev pub FlushesBy : {R E : Type 0} → (R → Stream) → Ask → ℕ → Emission → View R → Result (Unit {0}) E → View R → Type 0
 FlushesBy stream ask count draft old (Ok done) new = FlushesFor stream ask count old draft new
 FlushesBy stream ask count draft old (Err error) new = FlushCut ask count old draft new.events
 
--- Later packets of it, to the peer that is held.
+-- Later packets of it, to the peer.
 abbrev pub FurtherAt : {R E : Type 0} → (R → Stream) → ℕ → Context R → Result (Unit {0}) E → Context R → Type 0
 FurtherAt stream count old result new =
     (held : Held) → held_in (core_of old.state) ≡ Some held → FlushesBy stream later_ask count (draft_to held) (view_of old) result (view_of new)
 
--- A flush to the peer that is held, whose first packet is this one, whatever the machine calls the chunks that it holds.
+-- A flush to the peer, whose first packet is this one, however the machine names the chunks that it holds.
 abbrev pub Flushes : {R E : Type 0} → (R → Stream) → Building → Context R → Result (Unit {0}) E → Context R → Type 0
 Flushes stream packet old result new =
     (draft : Emission) → packet ≡ packet_for old.options draft → (held : Held) → held_in (core_of old.state) ≡ Some held
     → FlushesBy stream first_ask (packets_allowed old.options.max_burst (endpoint_of old).core) draft (view_of old) result (view_of new)
 
--- Its bytes are one event more, and it is counted.
+-- Its bytes are one more event, and it is counted.
 abbrev pub sent_as_built : {R : Type 0} → Building → View R → View R
 sent_as_built packet view =
     record view {
@@ -254,7 +254,7 @@ sent_where false packet view = view
 abbrev pub KeepsSize : Building → Type 0
 KeepsSize packet = (packet.body ≡ []) ⊎ (12 + length packet.body ≤ packet.size)
 
--- A packet that isn't empty went out.
+-- A packet that isn't empty was sent.
 abbrev pub SendsUnlessEmpty : {R E : Type 0} → Building → Context R → Result Bool E → Context R → Type 0
 SendsUnlessEmpty packet old (Ok is_sent) new = (is_sent ≡ not (is_none packet.body)) × (view_of new ≡ sent_where is_sent packet (view_of old))
 SendsUnlessEmpty packet old (Err error) new = view_of new ≡ view_of old

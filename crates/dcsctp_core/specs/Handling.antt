@@ -20,28 +20,29 @@ use Rattle.dcsctp_core.specs.declared.following.Following.TheVariants.{NextChunk
 use Rattle.dcsctp_core.specs.declared.context.Context.{Context}
 use Rattle.dcsctp_core.specs.View.{View, view_of, Moves, CutTurn}
 
--- ---- a turn, or a growth that was refused
+-- ---- a turn, or an allocation that failed
 
 -- Words may have been drawn, with pairs made of them, and nothing else has changed.
 abbrev pub OnlyDrew : {R : Type 0} → View R → View R → Type 0
 OnlyDrew old new = new ≡ record old { words = new.words; pairs = new.pairs; generator = new.generator }
 
--- The turn took place; or a growth was refused, and nothing has changed.
+-- The turn took place; or an allocation failed, and nothing has changed.
 abbrev pub Tries : {R E : Type 0} → (R → Stream) → (View R → Outcome) → Context R → Result (Unit {0}) E → Context R → Type 0
 Tries stream turn old (Ok done) new = Moves stream (view_of old) (turn (view_of old)) (view_of new)
 Tries stream turn old (Err error) new = view_of new ≡ view_of old
 
--- The turn took place; or a growth was refused, and nothing has changed but what words were drawn.
+-- The turn took place; or an allocation failed, and nothing has changed but the words that were drawn.
 abbrev pub TriesDrawing : {R E : Type 0} → (R → Stream) → (View R → Outcome) → Context R → Result (Unit {0}) E → Context R → Type 0
 TriesDrawing stream turn old (Ok done) new = Moves stream (view_of old) (turn (view_of old)) (view_of new)
 TriesDrawing stream turn old (Err error) new = OnlyDrew (view_of old) (view_of new)
 
--- The turn took place; or a growth was refused, and the first of its events may stand.
+-- The turn took place; or an allocation failed, and the first of its events may have been added.
 abbrev pub Takes : {R E : Type 0} → (R → Stream) → (View R → Outcome) → Context R → Result (Unit {0}) E → Context R → Type 0
 Takes stream turn old (Ok done) new = Moves stream (view_of old) (turn (view_of old)) (view_of new)
 Takes stream turn old (Err error) new = CutTurn (view_of old) (turn (view_of old)) (view_of new).events
 
--- A turn that may turn out in more than one way took place; or a growth was refused, and the first of its events may stand.
+-- A turn with more than one possible outcome took place; or an allocation failed, and the first of its events may have been
+-- added.
 pub record TakesIn {R : Type 0} (stream : R → Stream) (Turn : View R → Outcome → Type 0) (old new : View R) : Type 0 where
   pub outcome : Outcome
   pub turn : Turn old outcome
@@ -68,17 +69,17 @@ pub record Handles {R : Type 0} (stream : R → Stream) (old : View R) (outcome 
   pub moves : Moves stream old outcome new
   pub following : outcome.following ≡ following_of next
 
--- The turn took place; or a growth was refused, and the first of its events may stand.
+-- The turn took place; or an allocation failed, and the first of its events may have been added.
 abbrev pub Works : {R E : Type 0} → (R → Stream) → (View R → Outcome) → Context R → Result Following E → Context R → Type 0
 Works stream turn old (Ok next) new = Handles stream (view_of old) (turn (view_of old)) next (view_of new)
 Works stream turn old (Err error) new = CutTurn (view_of old) (turn (view_of old)) (view_of new).events
 
--- The turn took place; or a growth was refused, and nothing has changed.
+-- The turn took place; or an allocation failed, and nothing has changed.
 abbrev pub WorksWhole : {R E : Type 0} → (R → Stream) → (View R → Outcome) → Context R → Result Following E → Context R → Type 0
 WorksWhole stream turn old (Ok next) new = Handles stream (view_of old) (turn (view_of old)) next (view_of new)
 WorksWhole stream turn old (Err error) new = view_of new ≡ view_of old
 
--- the same of a chunk's turn that may turn out in more than one way
+-- the same for a chunk's turn with more than one possible outcome
 pub record HandlesIn {R : Type 0} (stream : R → Stream) (Turn : View R → Outcome → Type 0) (old : View R) (next : Following) (new : View R) : Type 0 where
   pub outcome : Outcome
   pub turn : Turn old outcome
@@ -95,7 +96,7 @@ WorksOne stream Turn old (Err error) new = CutIn Turn (view_of old) (view_of new
 abbrev pub still_turn : {R : Type 0} → View R → Outcome
 still_turn view = still view.endpoint
 
--- What waits goes out.
+-- What waits is sent.
 abbrev pub FlushAt : {R : Type 0} → View R → Outcome → Type 0
 FlushAt view o = FlushTurn view.endpoint o
 
@@ -111,11 +112,11 @@ abbrev pub end_event : ErrorKind → List ℕ → Event Emission
 end_event NoError text = events.closed
 end_event kind text = aborted kind text
 
--- An association ends with this event; where there is none, nothing happens.
+-- An association ends with this event; if there is none, nothing happens.
 abbrev pub close_turn : {R : Type 0} → Event Emission → View R → Outcome
 close_turn event view = close_outcome view.endpoint view.endpoint.core event
 
--- Its bytes are one event more, and it is counted: what a chunk brings that fits in `mtu`.
+-- A chunk that fits `mtu` is sent: its bytes are one more event, and it is counted.
 abbrev pub emitted : {R : Type 0} → Bool → ℕ → ChunkContent → View R → View R
 emitted with_checksum tag chunk view =
     let options = view.endpoint.options in
@@ -126,7 +127,7 @@ emitted with_checksum tag chunk view =
     }
     else view
 
--- A packet of this chunk went out, where it fits; or a growth was refused, and nothing has changed.
+-- A packet of this chunk was sent, if it fits; or an allocation failed, and nothing has changed.
 abbrev pub Emits : {R E : Type 0} → Bool → ℕ → ChunkContent → Context R → Result (Unit {0}) E → Context R → Type 0
 Emits with_checksum tag chunk old (Ok done) new = view_of new ≡ emitted with_checksum tag chunk (view_of old)
 Emits with_checksum tag chunk old (Err error) new = view_of new ≡ view_of old

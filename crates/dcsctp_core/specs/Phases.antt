@@ -17,7 +17,7 @@ pending_from (CookieEchoed echoed) = Open (record { phase = ShutdownPending; tcb
 pending_from (Open opened) = Open (record opened { phase = ShutdownPending })
 pending_from state = state
 
--- the phase once T2 was told this moment
+-- the phase once T2 has come to this moment
 abbrev pub t2_told_in : ℕ → OpenPhase → OpenPhase
 t2_told_in moment (ShutdownSent sent) = ShutdownSent (record sent { t2_shutdown = timer_after moment sent.t2_shutdown })
 t2_told_in moment (ShutdownAckSent sent) = ShutdownAckSent (record sent { t2_shutdown = timer_after moment sent.t2_shutdown })

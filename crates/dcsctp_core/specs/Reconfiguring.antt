@@ -1,4 +1,4 @@
--- The own request to reset streams, where the timer expires by which it is sent again.
+-- Our own request to reset streams when the timer expires by which it is sent again.
 use Rattle.std.specs.Prelude.{ℕ, Bool, false, not, Option, None, Some}
 use Rattle.std.specs.Option.{option_map}
 use Rattle.dcsctp_machine.specs.Endpoint.{Endpoint, OutstandingRequest}
@@ -21,7 +21,7 @@ tried_again request = record request { waits_for_retry = false }
 abbrev pub without_retry : TransmissionControlBlock → TransmissionControlBlock
 without_retry tcb = record tcb { reset_request = option_map tried_again tcb.reset_request }
 
--- the request once its timer was told this moment
+-- the request once its timer has come to this moment
 abbrev pub request_told : ℕ → ResetRequest → ResetRequest
 request_told moment request = record request { timer = timer_after moment request.timer }
 
@@ -30,7 +30,7 @@ reconfiguration_told moment tcb = record tcb { reset_request = option_map (reque
 
 -- ---- of a state
 
--- the request that is outstanding
+-- the outstanding request
 abbrev pub request_in : State → Option ResetRequest
 request_in Closed = None
 request_in (CookieWait wait) = None
@@ -46,7 +46,7 @@ tcb_changed change (Open opened) = Open (record opened { tcb = change opened.tcb
 
 -- ---- of an endpoint
 
--- the endpoint once the timer has expired, before the request goes out again
+-- the endpoint once the timer has expired, before the request is sent again
 abbrev pub request_over : Endpoint → Option OutstandingRequest → Endpoint
 request_over e None = reconfiguration_expired e
 request_over e (Some request) = request_expired e request

@@ -1,4 +1,4 @@
--- An own reset of streams is begun (RFC 6525, section 5.1.2).
+-- Our own reset of streams is begun (RFC 6525, section 5.1.2).
 use Rattle.std.specs.Prelude.{◌≡◌, ◌≤◌, ◌<◌, ◌^◌, ℕ, true, false, Option, None, Some, List, ◌++◌, length, map}
 use Rattle.std.specs.List.{flat_map, AllByRecursion}
 use Rattle.dcsctp_wire.specs.Spelling.{chunk_bytes}
@@ -26,7 +26,7 @@ reset_of request = record { last_tsn = request.last_tsn; streams = stream_number
 
 -- ---- in a packet
 
--- Its chunk fits into the packet, where there is one.
+-- Its chunk fits into the packet, if there is one.
 abbrev pub HasRoom : Option ResetRequest → Building → Type 0
 HasRoom None packet = Unit {0}
 HasRoom (Some request) packet = length (chunk_bytes (chunk_out (reset_request request.number (reset_of request)))) ≤ bytes_remaining packet
@@ -40,7 +40,7 @@ AddsRequest (Some request) packet filled =
 
 -- ---- of an association
 
--- the own request that is outstanding, and its timer, once this was begun
+-- our outstanding request, and its timer, once this was begun
 abbrev pub request_begun : Option BegunReset → Option OutstandingRequest → Option OutstandingRequest
 request_begun None request = request
 request_begun (Some begun) request = Some (record { last_tsn = begun.reset.last_tsn; streams = begun.reset.streams; waits_for_retry = false })
@@ -95,7 +95,7 @@ pub record BeginsWhere (now : ℕ) (transfer : Transfer) (queue : SendQueueState
   pub packet_is : filled ≡ with_request begun packet
   pub hands_out : left ≡ queue_requesting (streams_within (bytes_remaining packet)) begun queue
 
--- Nothing happens where no peer is held.
+-- Nothing happens if the peer isn't known.
 abbrev pub BeginsBelow : ℕ → Option Transfer → SendQueueState → State → Building → SendQueueState → State → Building → Type 0
 BeginsBelow now None queue old packet left new filled = (new ≡ old) × (left ≡ queue) × (filled ≡ packet)
 BeginsBelow now (Some transfer) queue old packet left new filled = BeginsWhere now transfer queue old packet left new filled

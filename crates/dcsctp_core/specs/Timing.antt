@@ -1,4 +1,4 @@
--- What becomes of timers where a moment has come.
+-- What becomes of timers when a moment has come.
 use Rattle.std.specs.Prelude.{◌≡◌, ℕ, Bool, true, false, Option, None, Some, Result, Ok, Err}
 use Rattle.rand_core.specs.Stream.{Stream}
 use Rattle.dcsctp_machine.specs.Endpoint.{Endpoint, RunningTimer, is_due, is_restarted}
@@ -20,7 +20,7 @@ expiry_where true true = Again
 expiry_where true false = GaveUp
 expiry_where false restarts = NotDue
 
--- what is said of a timer, where it runs
+-- what is said of a timer, if it runs
 abbrev pub expiry_of : ℕ → Option RunningTimer → Expiry
 expiry_of moment None = NotDue
 expiry_of moment (Some timer) = expiry_where (is_due moment timer) (is_restarted timer)
@@ -29,14 +29,14 @@ expiry_of moment (Some timer) = expiry_where (is_due moment timer) (is_restarted
 abbrev pub timer_after : ℕ → TimerModel → TimerModel
 timer_after moment timer = record timer { running = running_after moment timer.running }
 
--- the state once T1 was told this moment
+-- the state once T1 has come to this moment
 abbrev pub t1_told : ℕ → State → State
 t1_told moment Closed = Closed
 t1_told moment (CookieWait wait) = CookieWait (record wait { t1_init = timer_after moment wait.t1_init })
 t1_told moment (CookieEchoed echoed) = CookieEchoed (record echoed { t1_cookie = timer_after moment echoed.t1_cookie })
 t1_told moment (Open opened) = Open opened
 
--- the view with this endpoint, where a timer has expired
+-- the view with this endpoint, if a timer has expired
 abbrev pub where_expired : {R : Type 0} → Bool → Endpoint → View R → View R
 where_expired true e view = record view { endpoint = e }
 where_expired false e view = view
@@ -51,13 +51,13 @@ is_timer_due e timer = has_come e.moment (deadline e timer)
 abbrev pub ExpiryTurn : {R : Type 0} → Timer → View R → Outcome → Type 0
 ExpiryTurn timer view o = Turn view.endpoint (expiry_input view.endpoint timer) o
 
--- The timer expired, and its turn took place; or it isn't due, and nothing has changed; or a growth was refused in its turn.
+-- The timer expired, and its turn took place; or it isn't due, and nothing has changed; or an allocation failed in its turn.
 abbrev pub Expires : {R E : Type 0} → (R → Stream) → Timer → Context R → Result Bool E → Context R → Type 0
 Expires stream timer old (Ok true) new = (is_timer_due (view_of old).endpoint timer ≡ true) × TakesIn stream (ExpiryTurn timer) (view_of old) (view_of new)
 Expires stream timer old (Ok false) new = (is_timer_due (view_of old).endpoint timer ≡ false) × (view_of new ≡ view_of old)
 Expires stream timer old (Err error) new = (is_timer_due (view_of old).endpoint timer ≡ true) × CutIn (ExpiryTurn timer) (view_of old) (view_of new).events
 
--- the same of a timer whose turn takes no memory
+-- the same for a timer whose turn allocates nothing
 abbrev pub ExpiresAlways : {R : Type 0} → (R → Stream) → Timer → Context R → Bool → Context R → Type 0
 ExpiresAlways stream timer old true new = (is_timer_due (view_of old).endpoint timer ≡ true) × TakesIn stream (ExpiryTurn timer) (view_of old) (view_of new)
 ExpiresAlways stream timer old false new = (is_timer_due (view_of old).endpoint timer ≡ false) × (view_of new ≡ view_of old)

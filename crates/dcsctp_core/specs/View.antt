@@ -27,8 +27,8 @@ use Rattle.dcsctp_core.specs.declared.transmission_control_block.ResetRequest.{R
 use Rattle.dcsctp_core.specs.declared.transmission_control_block.TransmissionControlBlock.{TransmissionControlBlock}
 use Rattle.dcsctp_core.specs.declared.context.Context.{Context}
 
--- what turns move: the endpoint, the events that wait, the words that the present call drew with the pairs that
--- it made of them, and the generator
+-- what turns change: the endpoint, the waiting events, and the generator. Also the words that the present call drew, with the
+-- pairs that it made of them.
 pub record View (R : Type 0) : Type 0 where
   pub endpoint : Endpoint
   pub events : List (Event (List ℕ))
@@ -36,7 +36,7 @@ pub record View (R : Type 0) : Type 0 where
   pub pairs : List Pair
   pub generator : R
 
--- the number of an own request to reset streams, and what it wants
+-- the number of our own request to reset streams, and what it wants
 abbrev pub number_of : Option ResetRequest → Option ℕ
 number_of None = None
 number_of (Some request) = Some request.number
@@ -84,7 +84,7 @@ core_of (CookieWait wait) = cookie_wait wait.my
 core_of (CookieEchoed echoed) = cookie_echoed echoed.tcb.my (held_of echoed.tcb) echoed.cookie.items
 core_of (Open opened) = open_in (phase_in opened.phase) opened.tcb.my (held_of opened.tcb)
 
--- the association with a peer, where one is held
+-- the association, once the peer is known
 abbrev pub tcb_of : State → Option TransmissionControlBlock
 tcb_of Closed = None
 tcb_of (CookieWait wait) = None
@@ -116,7 +116,7 @@ t2_of (CookieWait wait) = None
 t2_of (CookieEchoed echoed) = None
 t2_of (Open opened) = t2_in opened.phase
 
--- the own request that is outstanding, and the timer by which it is sent again
+-- our outstanding request, and the timer by which it is sent again
 abbrev pub outstanding_of : State → Option OutstandingRequest
 outstanding_of Closed = None
 outstanding_of (CookieWait wait) = None
@@ -144,7 +144,7 @@ transfer_of (CookieWait wait) = None
 transfer_of (CookieEchoed echoed) = Some echoed.tcb.transfer
 transfer_of (Open opened) = Some opened.tcb.transfer
 
--- What has no place in the parts is as in a socket that was just made.
+-- What isn't kept in the parts is as in a socket that was just made.
 abbrev pub endpoint_of : {R : Type 0} → Context R → Endpoint
 endpoint_of context =
     record (fresh_endpoint context.options) {
@@ -178,11 +178,11 @@ view_of context =
       generator = context.generator;
     }
 
--- the endpoint with its heartbeat interval begun anew
+-- the endpoint with its heartbeat interval restarted
 abbrev pub begun_heartbeats : Endpoint → Endpoint
 begun_heartbeats e = record e { timers = heartbeats_begun e e.timers }
 
--- the endpoint once one message more was queued
+-- the endpoint once one more message was queued
 abbrev pub message_counted : Endpoint → Endpoint
 message_counted e = record e { counts = record e.counts { messages_queued = count_up e.counts.messages_queued } }
 
@@ -223,7 +223,7 @@ call_start view = record view { words = []; pairs = [] }
 abbrev pub CallMoves : {R : Type 0} → (R → Stream) → View R → List Turned → View R → Type 0
 CallMoves stream old turns new = MovesAll stream (call_start old) turns new
 
--- The turn was cut by a growth that was refused, after it had added so many of its events.
+-- The turn was cut by an allocation that failed, after it had added that many of its events.
 pub record CutTurn {R : Type 0} (old : View R) (outcome : Outcome) (events : List (Event (List ℕ))) : Type 0 where
   pub count : ℕ
   pub added : events ≡ old.events ++ take count (map (user_event (ports_of old.endpoint.options)) outcome.events)

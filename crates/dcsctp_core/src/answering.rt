@@ -1,4 +1,4 @@
-//! The peer answers the own request to reset streams (RFC 6525, section 5.2.7).
+//! The peer answers our own request to reset streams (RFC 6525, section 5.2.7).
 
 ghost use Rattle.std.specs.Prelude.{◌≡◌};
 ghost use Rattle.dcsctp_core.specs.Answering.{Retries, RetriesIn, request_ended};
@@ -11,7 +11,7 @@ use crate::transmission_control_block::{ResetRequest, TransmissionControlBlock};
 use dcsctp_api::SocketTime;
 
 impl TransmissionControlBlock {
-    // The request that is outstanding is in progress: it waits to be sent again, and its timer starts anew.
+    // The outstanding request is in progress: it waits to be sent again, and its timer starts anew.
     fn retry_reset(&mut self, now: SocketTime)
         ensures { Retries now self.old self.new }
     {
@@ -25,7 +25,7 @@ impl TransmissionControlBlock {
         }
     }
 
-    // The request that is outstanding has ended, and its timer with it.
+    // The outstanding request has ended, and its timer with it.
     fn end_reset(&mut self) -> Option<ResetRequest>
         ensures answer { result ≡ self.old.reset_request }
         ensures left { self.new ≡ request_ended self.old }
@@ -35,7 +35,7 @@ impl TransmissionControlBlock {
 }
 
 impl State {
-    /// The number of the own request that is outstanding, where one is. It takes no memory.
+    /// The number of our outstanding request, if one is. Allocates nothing.
     pub fn outstanding_number(&self) -> Option<u32>
         ensures { result ≡ number_of (request_in self.now) }
     {
@@ -46,8 +46,8 @@ impl State {
         }
     }
 
-    /// The own request that is outstanding is in progress: it waits to be sent again, and its timer starts anew
-    /// (RFC 6525, section 5.2.7). It takes no memory.
+    /// Our outstanding request is in progress: it waits to be sent again, and its timer starts anew (RFC
+    /// 6525, section 5.2.7). Allocates nothing.
     pub fn retry_reset(&mut self, now: SocketTime)
         ensures { RetriesIn now self.old self.new }
     {
@@ -58,8 +58,8 @@ impl State {
         }
     }
 
-    /// The own request that is outstanding has ended, and its timer with it. It is answered, where there was one.
-    /// It takes no memory.
+    /// Our outstanding request has ended, and its timer with it. Returns the request, if there was one.
+    /// Allocates nothing.
     pub fn end_reset(&mut self) -> Option<ResetRequest>
         ensures answer { result ≡ request_in self.old }
         ensures left { self.new ≡ tcb_changed request_ended self.old }

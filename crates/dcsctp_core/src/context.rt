@@ -1,4 +1,4 @@
-//! The parts of a socket in one value, with one function for each thing that they show or draw.
+//! The parts of a socket in one value. One function shows or draws each thing that handlers need.
 
 ghost use Rattle.std.specs.Prelude.{◌≡◌};
 ghost use Rattle.dcsctp_machine.specs.Endpoint.{heartbeat_settings};
@@ -18,8 +18,8 @@ use dcsctp_wire_build::SctpPacketBuilder;
 use rand_core::Rng;
 use std::alloc::{AllocError, Global};
 
-/// What a socket is made of. Handlers change the state, the events, the queue and the peer's
-/// implementation in place, and all else by the functions below.
+/// What a socket is made of. Handlers change the state, the events, the queue and the peer's implementation
+/// in place, and the rest by the functions below.
 #[derive(Drop)]
 pub struct Context<R> {
     /// Where memory comes from.
@@ -52,7 +52,7 @@ pub struct Context<R> {
     // The pairs that it made of them, in order.
     pairs: Vec<Pair>,
 
-    // When a HEARTBEAT goes out (RFC 9260, section 8.3).
+    // When a HEARTBEAT is sent (RFC 9260, section 8.3).
     heartbeat_interval: Timer,
 
     // How long the answer to a HEARTBEAT is awaited (RFC 9260, section 8.3).
@@ -73,7 +73,7 @@ pub struct Context<R> {
     // How many messages the user has queued.
     tx_messages_count: usize,
 
-    // The moment before which no FORWARD-TSN goes out (RFC 3758, section 3.5).
+    // The moment before which no FORWARD-TSN is sent (RFC 3758, section 3.5).
     pub(crate) no_forward_tsn_before: SocketTime,
 
     ghost valid: { IsValid options },
@@ -138,8 +138,8 @@ impl<R: Rng> Context<R> {
         }
     }
 
-    /// Draws a word, and keeps it among those of the present call. The one error is want of memory: the
-    /// list of these words can't grow; then nothing has changed but the generator.
+    /// Draws a word, and keeps it among those of the present call. `Err`: an allocation failed, and nothing
+    /// has changed but the generator.
     pub fn draw_u32(&mut self) -> Result<u32, AllocError>
         ensures { Draws R.stream next_u32 U32 self.old result self.new }
     {
@@ -157,8 +157,8 @@ impl<R: Rng> Context<R> {
         Ok(word)
     }
 
-    /// Keeps a pair that was made of words among those of the present call. The one error is want of
-    /// memory: the list of these pairs can't grow; then nothing has changed.
+    /// Keeps a pair that was made of words among those of the present call. `Err`: an allocation failed, and
+    /// nothing has changed.
     pub fn keep_pair(&mut self, pair: Pair) -> Result<(), AllocError>
         ensures { Keeps self.old pair result self.new }
     {
@@ -166,15 +166,15 @@ impl<R: Rng> Context<R> {
         Ok(())
     }
 
-    /// The pairs of the present call, or of the last one. It takes no memory.
+    /// The pairs of the present call, or of the last one. Allocates nothing.
     pub fn drawn_pairs(&self) -> &[Pair]
         ensures { result.now ≡ (view_of self.now).pairs }
     {
         &self.pairs
     }
 
-    /// Emits a packet of one chunk, and counts it (up to the greatest number). Where it doesn't fit
-    /// `mtu`, nothing is emitted or counted.
+    /// Emits a packet of one chunk, and counts it (the count saturates). If it doesn't fit `mtu`, nothing is
+    /// emitted or counted.
     ///
     /// `Err`: an allocation failed, of the packet or of its place among the events. Nothing has changed
     /// then.
@@ -207,7 +207,7 @@ impl<R: Rng> Context<R> {
         Ok(())
     }
 
-    // Counts a packet that was emitted, up to the greatest number.
+    // Counts a packet that was emitted; the count saturates.
     pub(crate) fn count_emitted(&mut self)
         ensures { view_of self.new ≡ record (view_of self.old) {
           endpoint = counted
@@ -217,7 +217,7 @@ impl<R: Rng> Context<R> {
         self.tx_packets_count = self.tx_packets_count.saturating_add(1);
     }
 
-    /// Counts a message that the user has queued, up to the greatest number.
+    /// Counts a message that the user has queued; the count saturates.
     pub fn count_message(&mut self)
         ensures { view_of self.new ≡ record (view_of self.old) {
           endpoint = message_counted
@@ -239,7 +239,8 @@ impl<R: Rng> Context<R> {
         }
     }
 
-    /// Tells the heartbeat interval the present moment, and answers whether it expires. It goes on then.
+    /// Advances the heartbeat interval to the present moment, and returns whether it expires. It goes on
+    /// then.
     pub fn expire_heartbeat_interval(&mut self) -> bool
         ensures answer { result ≡ is_timer_due (endpoint_of self.old) (own_timer heartbeat_interval) }
         ensures left { view_of self.new ≡ where_expired result (interval_expired
@@ -248,8 +249,8 @@ impl<R: Rng> Context<R> {
         self.heartbeat_interval.expire(self.moment)
     }
 
-    /// Counts the next HEARTBEAT, whose answer is awaited from now on, and gives its counter, which goes up
-    /// by one, round 2^32.
+    /// Counts the next HEARTBEAT, whose answer is awaited from now on. Returns its counter, which goes up by
+    /// one, modulo 2^32.
     pub fn next_heartbeat(&mut self) -> u32
         ensures counter { result ≡ (beating (endpoint_of self.old)).heartbeat_counter }
         ensures view { view_of self.new ≡ record (view_of self.old) {
@@ -262,8 +263,8 @@ impl<R: Rng> Context<R> {
         self.heartbeat_counter
     }
 
-    /// Tells the timer of the answer to a HEARTBEAT the present moment, and answers whether it expires. It
-    /// stops then, and an error is counted.
+    /// Advances the timer of the answer to a HEARTBEAT to the present moment, and returns whether it expires.
+    /// It stops then, and an error is counted.
     pub fn expire_heartbeat_timeout(&mut self) -> bool
         ensures answer { result ≡ is_timer_due (endpoint_of self.old) (own_timer heartbeat_timeout) }
         ensures left { view_of self.new ≡ where_expired result (timeout_outcome
@@ -304,8 +305,8 @@ impl<R: Rng> Context<R> {
         self.tx_error_counter.reset();
     }
 
-    /// Tells the retransmission timer the present moment, and answers whether it expires: what is in flight is
-    /// lost then, and an error is counted (RFC 9260, sections 6.3.3 and 8.1). It takes no memory.
+    /// Advances the retransmission timer to the present moment, and returns whether it expires. What is in
+    /// flight is lost then, and an error is counted (RFC 9260, sections 6.3.3 and 8.1). Allocates nothing.
     pub fn expire_retransmission(&mut self) -> bool
         ensures { ExpiresAlways R.stream (own_timer retransmission) self.old result self.new }
     {
@@ -316,9 +317,9 @@ impl<R: Rng> Context<R> {
         false
     }
 
-    /// Tells the reconfiguration timer the present moment, and answers whether it expires. The own request that is
-    /// outstanding waits no longer then, and an error is counted, unless the peer had answered that it is in progress
-    /// (RFC 6525, section 5.1.1). It takes no memory.
+    /// Advances the reconfiguration timer to the present moment, and returns whether it expires. Our
+    /// outstanding request is then ready to be sent again. An error is counted, unless the peer had answered
+    /// that it is in progress (RFC 6525, section 5.1.1). Allocates nothing.
     pub fn expire_reconfiguration(&mut self) -> bool
         ensures answer { result ≡ is_timer_due (endpoint_of self.old) (own_timer reconfiguration) }
         ensures left { view_of self.new ≡ where_expired result (request_over (endpoint_of self.old)
@@ -341,25 +342,24 @@ impl<R: Rng> Context<R> {
         self.tx_error_counter.is_exhausted()
     }
 
-    /// When the heartbeat interval expires, where it runs.
+    /// When the heartbeat interval expires, if it runs.
     pub fn heartbeat_interval_deadline(&self) -> Option<SocketTime>
         ensures { result ≡ running_deadline (endpoint_of self.now).timers.heartbeat_interval }
     {
         self.heartbeat_interval.next_expiry()
     }
 
-    /// When the answer to a HEARTBEAT is awaited no longer, where one is.
+    /// When the answer to a HEARTBEAT is awaited no longer, if one is.
     pub fn heartbeat_timeout_deadline(&self) -> Option<SocketTime>
         ensures { result ≡ running_deadline (endpoint_of self.now).timers.heartbeat_timeout }
     {
         self.heartbeat_timeout.next_expiry()
     }
 
-    /// Ends the association: with OnClosed where the error is `NoError`, else with OnAborted and this
-    /// text. A closed socket stays as it is. The count of errors stays (docs/DECISIONS.md, The count of
-    /// errors).
+    /// Ends the association: with OnClosed if the error is `NoError`, else with OnAborted and this text. A
+    /// closed socket is unchanged. The count of errors stays (docs/DECISIONS.md, The count of errors).
     ///
-    /// The one error is that there is no memory for the event. Nothing has changed then.
+    /// `Err`: an allocation failed, and nothing has changed.
     pub fn internal_close(&mut self, error: ErrorKind, message: String) -> Result<(), AllocError>
         ensures { Tries R.stream (close_turn (end_event error (string_bytes message))) self.old
             result self.new }
@@ -382,15 +382,14 @@ impl<R: Rng> Context<R> {
         self.pairs.clear();
     }
 
-    /// Counts a packet that was handed in, up to the greatest number.
+    /// Counts a packet that was handed in; the count saturates.
     pub fn count_packet(&mut self)
         ensures { Moves R.stream (view_of self.old) (arrival_turn (view_of self.old)) (view_of self.new) }
     {
         self.rx_packets_count = self.rx_packets_count.saturating_add(1);
     }
 
-    /// Reports an error. The one error of this call is that a growth was refused. Nothing has changed
-    /// then.
+    /// Reports an error. `Err`: an allocation failed, and nothing has changed.
     pub fn report(&mut self, kind: ErrorKind, text: String) -> Result<(), AllocError>
         ensures { Tries R.stream (report_turn kind (string_bytes text)) self.old result self.new }
     {

@@ -8,7 +8,7 @@ ghost use Rattle.dcsctp_core.specs.Handling.{end_event};
 
 use dcsctp_api::{ErrorKind, SocketEvent};
 
-/// The event that ends an association, with this error: OnClosed where it is `NoError`.
+/// The event that ends an association, with this error: OnClosed if it is `NoError`.
 pub(crate) fn end_event(error: ErrorKind, message: String) -> SocketEvent
     ensures { (ports : Ports) → event_content result ≡ user_event ports
         (end_event error (string_bytes message)) }

@@ -1,4 +1,4 @@
-//! What a timer says once it was told the time.
+//! What happened to a timer when the clock moved.
 
 ghost use Rattle.std.specs.Prelude.{◌≡◌};
 ghost use Rattle.dcsctp_core.specs.Timing.{expiry_of, timer_after};
@@ -6,7 +6,7 @@ ghost use Rattle.dcsctp_core.specs.Timing.{expiry_of, timer_after};
 use dcsctp_api::SocketTime;
 use dcsctp_send_timer::Timer;
 
-/// What a timer says once it was told the time.
+/// What happened to a timer when the clock moved.
 #[derive(Clone, Copy, Debug, PartialEq, Eq)]
 pub enum Expiry {
     /// It doesn't run, or its deadline is still to come.
@@ -19,7 +19,7 @@ pub enum Expiry {
     GaveUp,
 }
 
-/// Tells the timer the time. It takes no memory.
+/// Advances the timer to `now`. Allocates nothing.
 pub(crate) fn expire(timer: &mut Timer, now: SocketTime) -> Expiry
     ensures answer { result ≡ expiry_of now timer.old.running }
     ensures left { timer.new ≡ timer_after now timer.old }

@@ -1,4 +1,4 @@
-//! A flush: what waits goes out, in as many packets as may be (RFC 9260, section 6.1).
+//! A flush: what waits is sent, in as many packets as are allowed (RFC 9260, section 6.1).
 
 ghost use Rattle.std.specs.Prelude.{◌≡◌, ◌||◌, IsOk};
 ghost use Rattle.dcsctp_machine.specs.Transfer.{has_data};
@@ -31,9 +31,9 @@ fn packets_allowed(options: &Options, state: &State) -> u32
 }
 
 impl<R: Rng> Context<R> {
-    /// A flush: what waits to be sent goes out under the peer's tag, where a peer is held.
+    /// A flush: what waits is sent under the peer's tag, if the peer is known.
     ///
-    /// The one error is that a growth was refused. The first events of the turn may stand then.
+    /// `Err`: an allocation failed; the first of its events may already have been added.
     pub fn send_buffered_packets(&mut self) -> Result<(), AllocError>
         ensures { TakesOne R.stream FlushAt self.old result self.new }
     {
@@ -51,10 +51,10 @@ impl<R: Rng> Context<R> {
         Ok(())
     }
 
-    /// A flush whose first packet is this one, with the chunks that it holds; what acknowledges goes behind
-    /// them. At most `max_burst` packets go out, and one at most while the COOKIE ECHO isn't answered.
+    /// A flush whose first packet is this one, with the chunks that it holds; acknowledgements go after them.
+    /// At most `max_burst` packets are sent, and at most one while the COOKIE ECHO isn't answered.
     ///
-    /// The one error is that a growth was refused. The first events of the turn may stand then.
+    /// `Err`: an allocation failed; the first of its events may already have been added.
     pub fn send_buffered_packets_with(
         &mut self,
         packet: SctpPacketBuilder,
@@ -71,10 +71,10 @@ impl<R: Rng> Context<R> {
         self.send_further(allowed - 1)
     }
 
-    /// One packet of what was lost goes out to the peer that is held, where it is to go out at once, whatever
-    /// the congestion window is (RFC 9260, section 7.2.4).
+    /// Sends one packet of lost data to the peer, if it is to be sent at once, whatever the congestion window
+    /// is (RFC 9260, section 7.2.4).
     ///
-    /// The one error is that a growth was refused. No event was added then.
+    /// `Err`: an allocation failed, and no event was added.
     pub fn send_at_once(&mut self) -> Result<(), AllocError>
         ensures { TakesOne R.stream AtOnceAt self.old result self.new }
     {
@@ -92,7 +92,7 @@ impl<R: Rng> Context<R> {
         Ok(())
     }
 
-    // Packets go out to the peer that is held, at most so many, until one is empty once it was filled.
+    // Sends at most that many packets to the peer, until one is still empty after it was filled.
     fn send_further(&mut self, allowed: u32) -> Result<(), AllocError>
         ensures { FurtherAt R.stream allowed self.old result self.new }
     {
@@ -113,8 +113,8 @@ impl<R: Rng> Context<R> {
         Ok(())
     }
 
-    // The first packet of a flush goes out, unless it is empty once it was filled, and whether it did is
-    // answered.
+    // Sends the first packet of a flush, unless it is still empty after it was filled. Returns whether it was
+    // sent.
     fn send_first(&mut self, packet: SctpPacketBuilder) -> Result<bool, AllocError>
         ensures { AsksWith R.stream first_ask packet self.old result self.new }
     {
@@ -123,7 +123,7 @@ impl<R: Rng> Context<R> {
         self.send_unless_empty(packet)
     }
 
-    // The same of a later one.
+    // The same for a later one.
     fn send_later(&mut self, packet: SctpPacketBuilder) -> Result<bool, AllocError>
         ensures { AsksWith R.stream later_ask packet self.old result self.new }
     {
@@ -132,7 +132,7 @@ impl<R: Rng> Context<R> {
         self.send_unless_empty(packet)
     }
 
-    // Puts into the first packet what acknowledges, what gives messages up, the request of a reset, and then data.
+    // Puts into the first packet a SACK, a FORWARD-TSN, the request of a reset, and then data.
     fn fill_first(&mut self, packet: &mut SctpPacketBuilder) -> Result<(), AllocError>
         ensures { FillsWith first_ask packet.old self.old result self.new packet.new }
     {
@@ -143,7 +143,7 @@ impl<R: Rng> Context<R> {
         self.fill_with_data(packet)
     }
 
-    // Begins a reset of streams, where one is ready for it and its request fits into the packet.
+    // Begins a reset of streams, if one is ready for it and its request fits into the packet.
     fn begin_reset(&mut self, packet: &mut SctpPacketBuilder) -> Result<(), AllocError>
         ensures turn { TriesReset packet.old self.old result self.new packet.new }
         ensures idle { HasNoReset self.old.send_queue (transfer_of self.old.state) → IsOk result }
@@ -152,8 +152,8 @@ impl<R: Rng> Context<R> {
             .begin_reset(self.alloc, self.moment, &mut self.send_queue, packet)
     }
 
-    // Puts a FORWARD-TSN into a packet where messages were given up, no sooner after the last one than it may be
-    // (RFC 3758, section 3.5).
+    // Puts a FORWARD-TSN into a packet if messages were abandoned, no sooner after the last one than it may
+    // be (RFC 3758, section 3.5).
     fn forward_tsn(&mut self, packet: &mut SctpPacketBuilder) -> Result<(), AllocError>
         ensures turn { TriesForward packet.old self.old result self.new packet.new }
         ensures idle { HasNoData self.old.send_queue (transfer_of self.old.state) → IsOk result }
@@ -171,7 +171,7 @@ impl<R: Rng> Context<R> {
         Ok(())
     }
 
-    // The next FORWARD-TSN goes out no sooner than at this moment, where there is one.
+    // The next FORWARD-TSN is sent no sooner than at this moment, if there is one.
     fn delay_forward_tsn(&mut self, next: Option<SocketTime>)
         ensures { view_of self.new ≡ record (view_of self.old) {
           endpoint = record (endpoint_of self.old) {
@@ -198,7 +198,7 @@ impl<R: Rng> Context<R> {
         self.fill_with_data(packet)
     }
 
-    // Puts data into a packet; with some the heartbeat interval begins anew (RFC 9260, section 8.3).
+    // Puts data into a packet; with some the heartbeat interval starts anew (RFC 9260, section 8.3).
     fn fill_with_data(&mut self, packet: &mut SctpPacketBuilder) -> Result<(), AllocError>
         ensures turn { TriesData packet.old self.old result self.new packet.new }
         ensures idle { HasNoData self.old.send_queue (transfer_of self.old.state) → IsOk result }
@@ -215,8 +215,8 @@ impl<R: Rng> Context<R> {
         Ok(())
     }
 
-    /// Sends a packet, unless it is empty, counts it, and answers whether it went out. `Err`: an allocation failed;
-    /// nothing has changed.
+    /// Sends a packet, unless it is empty, counts it, and returns whether it was sent. `Err`: an allocation
+    /// failed; nothing has changed.
     pub fn send_unless_empty(&mut self, packet: SctpPacketBuilder) -> Result<bool, AllocError>
         ensures sends { SendsUnlessEmpty packet self.old result self.new }
         ensures size { KeepsSize packet }

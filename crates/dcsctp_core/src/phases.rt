@@ -28,7 +28,7 @@ impl OpenPhase {
         }
     }
 
-    // Tells T2 this moment. In another phase nothing is due.
+    // Advances T2 to this moment. In another phase nothing is due.
     fn expire_t2(&mut self, now: SocketTime) -> Expiry
         ensures answer { result ≡ expiry_of now (t2_in self.old) }
         ensures left { self.new ≡ t2_told_in now self.old }
@@ -44,7 +44,7 @@ impl OpenPhase {
 }
 
 impl State {
-    /// The open association gets to this phase. Any other state stays. It takes no memory.
+    /// Moves the open association to this phase. Any other state is unchanged. Allocates nothing.
     pub fn set_phase(&mut self, phase: OpenPhase)
         ensures { self.new ≡ phase_set phase self.old }
     {
@@ -54,8 +54,8 @@ impl State {
         }
     }
 
-    /// The association is shut down by its user from now on, also where its COOKIE ACK is awaited, which stops T1.
-    /// Any other state stays. It takes no memory.
+    /// Marks the association as shut down by its user. If its COOKIE ACK is awaited, this stops T1. Any other
+    /// state is unchanged. Allocates nothing.
     pub fn pend_shutdown(&mut self)
         ensures { self.new ≡ pending_from self.old }
     {
@@ -73,7 +73,8 @@ impl State {
         };
     }
 
-    /// Was something sent that is neither acknowledged nor given up? Not without a peer. It takes no memory.
+    /// Was something sent that is neither acknowledged nor abandoned? False without a peer. Allocates
+    /// nothing.
     pub fn has_unacknowledged_items(&self) -> bool
         ensures { result ≡ not (is_all_acknowledged (transfer_of self.now)) }
     {
@@ -83,7 +84,7 @@ impl State {
         }
     }
 
-    /// The retransmission timeout; zero without a peer. It takes no memory.
+    /// The retransmission timeout; zero without a peer. Allocates nothing.
     pub fn rto(&self) -> Duration
         ensures { as_nanos result ≡ rto_of (transfer_of self.now) }
     {
@@ -93,7 +94,7 @@ impl State {
         }
     }
 
-    /// When T2 expires next, in `ShutdownSent` and `ShutdownAckSent`; none elsewhere. It takes no memory.
+    /// When T2 expires next, in `ShutdownSent` and `ShutdownAckSent`; none elsewhere. Allocates nothing.
     pub fn t2_deadline(&self) -> Option<SocketTime>
         ensures { result ≡ running_deadline (t2_of self.now) }
     {
@@ -103,8 +104,8 @@ impl State {
         }
     }
 
-    /// Tells T2 this moment, in `ShutdownSent` and `ShutdownAckSent` (RFC 9260, section 9.2). In another phase nothing
-    /// is due. It takes no memory.
+    /// Advances T2 to this moment, in `ShutdownSent` and `ShutdownAckSent` (RFC 9260, section 9.2). In
+    /// another phase nothing is due. Allocates nothing.
     pub fn expire_t2(&mut self, now: SocketTime) -> Expiry
         ensures answer { result ≡ expiry_of now (t2_of self.old) }
         ensures left { self.new ≡ t2_told now self.old }

@@ -1,4 +1,5 @@
-//! The reconfiguration timer, by which an own request to reset streams is sent again (RFC 6525, section 5.1.1).
+//! The reconfiguration timer, by which our own request to reset streams is sent again (RFC 6525, section
+//! 5.1.1).
 
 ghost use Rattle.std.specs.Prelude.{◌≡◌};
 ghost use Rattle.dcsctp_send_timer.specs.Timer.{running_deadline, expires_at};
@@ -10,7 +11,8 @@ use crate::transmission_control_block::TransmissionControlBlock;
 use dcsctp_api::SocketTime;
 
 impl TransmissionControlBlock {
-    // Tells the timer of the request that is outstanding this moment, and answers whether it expires. It goes on then.
+    // Advances the timer of the outstanding request to the present moment, and returns whether it expires. It
+    // goes on then.
     fn expire_reconfiguration(&mut self, now: SocketTime) -> bool
         ensures answer { result ≡ expires_at now (timer_of self.old.reset_request) }
         ensures left { self.new ≡ reconfiguration_told now self.old }
@@ -21,7 +23,7 @@ impl TransmissionControlBlock {
         }
     }
 
-    // When the request that is outstanding is sent again, where one is.
+    // When the outstanding request is sent again, if one is.
     fn reconfiguration_deadline(&self) -> Option<SocketTime>
         ensures { result ≡ running_deadline (timer_of self.now.reset_request) }
     {
@@ -31,8 +33,8 @@ impl TransmissionControlBlock {
         }
     }
 
-    // The request that is outstanding waits no longer to be sent again. Had it not waited, so that the peer didn't
-    // answer it?
+    // The outstanding request no longer waits to be sent again. Returns whether the peer hadn't answered it,
+    // so that it didn't wait.
     fn end_retry(&mut self) -> bool
         ensures answer { result ≡ is_unanswered self.old.reset_request }
         ensures left { self.new ≡ without_retry self.old }
@@ -45,7 +47,7 @@ impl TransmissionControlBlock {
 }
 
 impl State {
-    /// When the own request to reset streams is sent again, where one is outstanding. It takes no memory.
+    /// When our own request to reset streams is sent again, if one is outstanding. Allocates nothing.
     pub fn reconfiguration_deadline(&self) -> Option<SocketTime>
         ensures { result ≡ running_deadline (reconfiguration_of self.now) }
     {
@@ -56,8 +58,8 @@ impl State {
         }
     }
 
-    /// Tells the reconfiguration timer this moment, and answers whether it expires. It goes on then. It takes no
-    /// memory.
+    /// Advances the reconfiguration timer to the present moment, and returns whether it expires. It goes on
+    /// then. Allocates nothing.
     pub(crate) fn expire_reconfiguration(&mut self, now: SocketTime) -> bool
         ensures answer { result ≡ expires_at now (reconfiguration_of self.old) }
         ensures left { self.new ≡ tcb_changed (reconfiguration_told now) self.old }
@@ -69,8 +71,8 @@ impl State {
         }
     }
 
-    /// The own request that is outstanding waits no longer to be sent again. Had it not waited, so that the peer
-    /// didn't answer it? It takes no memory.
+    /// Our outstanding request no longer waits to be sent again. Returns whether the peer hadn't answered it,
+    /// so that it didn't wait. Allocates nothing.
     pub(crate) fn end_retry(&mut self) -> bool
         ensures answer { result ≡ is_unanswered (request_in self.old) }
         ensures left { self.new ≡ tcb_changed without_retry self.old }

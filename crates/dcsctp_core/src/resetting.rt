@@ -1,4 +1,4 @@
-//! An own reset of streams is begun (RFC 6525, section 5.1.2).
+//! Our own reset of streams is begun (RFC 6525, section 5.1.2).
 
 ghost use Rattle.std.specs.Prelude.{◌≡◌, ◌≤◌, ◌+◌, ◌-◌, ◌*◌, ◌/◌, ◌++◌, Some, true, length, map, IfOk, OnOk, OnErr, IsOk};
 ghost use Rattle.std.specs.List.{flat_map, AllByRecursion};
@@ -26,7 +26,7 @@ use dcsctp_wire_build::SctpPacketBuilder;
 use std::alloc::{AllocError, Global};
 use std::time::Duration;
 
-// How many streams a request may name where its chunk has so much room: it has 20 bytes and 2 for each stream,
+// How many streams a request may name if its chunk has that much room. It has 20 bytes and 2 for each stream,
 // padded to a multiple of 4 (RFC 6525, section 4.1).
 fn streams_within(room: usize) -> usize
     ensures { result ≡ streams_within room }
@@ -41,7 +41,7 @@ fn number_of(stream: StreamId) -> u16
     stream.0
 }
 
-/// The streams as they stand in a request, two bytes each. The one error is that there is no memory for them.
+/// The streams as they stand in a request, two bytes each.
 pub fn stream_bytes(alloc: Global, streams: &[StreamId]) -> Result<Vec<u8>, AllocError>
     ensures bytes { IfOk result (λ bytes. bytes.items ≡ flat_map (to_be_bytes w16) (stream_numbers streams.now)) }
     ensures fit { OnOk result (AllByRecursion IsStream (stream_numbers streams.now)) }
@@ -54,9 +54,9 @@ pub fn stream_bytes(alloc: Global, streams: &[StreamId]) -> Result<Vec<u8>, Allo
     Ok(bytes)
 }
 
-// Puts the request into the packet, where it fits: a RE-CONFIG with one Outgoing SSN Reset Request. It answers no
-// request of the peer, and bears its own number in that place. The one error is that a growth was refused; the
-// packet stays then.
+// Puts the request into the packet, if it fits: a RE-CONFIG with one Outgoing SSN Reset Request. It answers
+// no request of the peer, so its own number is in that field. `Err`: an allocation failed; the packet is
+// unchanged.
 fn put_request(
     alloc: Global,
     request: &ResetRequest,
@@ -80,8 +80,8 @@ fn put_request(
     Ok(())
 }
 
-// The timer by which a request is sent again, started now with this retransmission timeout: each wait is twice the
-// last one, without a bound, and it goes on for good (RFC 6525, section 5.1.1).
+// The timer by which a request is sent again, started now with this retransmission timeout. Each wait is
+// twice the last one, without a limit, and it never stops by itself (RFC 6525, section 5.1.1).
 pub(crate) fn reconfiguration_timer(rto: Duration, now: SocketTime) -> Timer
     ensures { result.running ≡ started now (reconfiguration_settings (as_nanos rto)) }
 {
@@ -91,8 +91,8 @@ pub(crate) fn reconfiguration_timer(rto: Duration, now: SocketTime) -> Timer
 }
 
 impl TransmissionControlBlock {
-    /// Adds the own request that is outstanding, where one is, to a packet with room for it: a RE-CONFIG with one
-    /// Outgoing SSN Reset Request (RFC 6525, section 4.1).
+    /// Adds our outstanding request, if there is one, to a packet with room for it. It is a RE-CONFIG with
+    /// one Outgoing SSN Reset Request (RFC 6525, section 4.1).
     ///
     /// `Err`: an allocation failed; the packet is unchanged.
     pub fn add_prepared_ssn_reset_request(
@@ -109,8 +109,8 @@ impl TransmissionControlBlock {
         }
     }
 
-    /// Begins a reset of these streams, which takes the next number and is outstanding from now on, and adds its
-    /// request to a packet with room for it (RFC 6525, section 5.1.2). At least one stream is named.
+    /// Begins a reset of these streams (RFC 6525, section 5.1.2). It takes the next number and is outstanding
+    /// from now on; its request is added to a packet with room for it. At least one stream is named.
     ///
     /// `Err`: an allocation failed; the packet is unchanged.
     pub fn start_ssn_reset_request(
@@ -137,9 +137,9 @@ impl TransmissionControlBlock {
         self.add_prepared_ssn_reset_request(alloc, packet)
     }
 
-    /// Begins a reset of streams that are ready for it, where no other is outstanding. Its request is added to the
-    /// packet, and names as many streams as fit there, the first of them; the others stay ready. Where none fits
-    /// nothing changes. `Err`: an allocation failed.
+    /// Begins a reset of streams that are ready for it, if no other is outstanding. Its request is added to
+    /// the packet, and names as many streams as fit there, the first of them; the others stay ready. If none
+    /// fits nothing changes. `Err`: an allocation failed.
     pub fn begin_reset(
         &mut self,
         alloc: Global,
@@ -163,8 +163,8 @@ impl TransmissionControlBlock {
 }
 
 impl State {
-    /// Begins a reset of streams to the peer that is held, where no other is outstanding, one is ready for it and
-    /// its request fits into the packet (RFC 6525, section 5.1.2). The one error is that a growth was refused.
+    /// Begins a reset of our streams, if no other is outstanding, one is ready for it and its request fits
+    /// into the packet (RFC 6525, section 5.1.2).
     pub(crate) fn begin_reset(
         &mut self,
         alloc: Global,

@@ -11,7 +11,7 @@ pub struct CookieWaitState {
     /// When the INIT is sent again. It runs.
     pub t1_init: Timer,
 
-    /// The own pair.
+    /// Our own pair.
     pub my: Pair,
 }
 
@@ -138,7 +138,7 @@ impl OpenPhase {
         }
     }
 
-    /// What a user is told of the state.
+    /// The state as a user sees it.
     fn socket_state(&self) -> SocketState
         ensures { result ≡ open_state (phase_in self.now) }
     {
@@ -162,7 +162,7 @@ impl State {
     ghost use Rattle.dcsctp_core.specs.View.{core_of, tcb_of, t1_of, established_from};
     ghost use Rattle.dcsctp_core.specs.Timing.{expiry_of, t1_told};
 
-    /// The association with a peer, where one is held. It takes no memory.
+    /// The association, once the peer is known; `None` before. Allocates nothing.
     pub fn tcb(&self) -> Option<&TransmissionControlBlock>
         ensures { option_map (λ tcb. tcb.now) result ≡ tcb_of self.now }
     {
@@ -173,7 +173,7 @@ impl State {
         }
     }
 
-    /// Establishes the association whose COOKIE ACK is awaited, which stops T1. Any other state stays.
+    /// Establishes the association whose COOKIE ACK is awaited, which stops T1. Any other state is unchanged.
     pub fn establish(&mut self)
         ensures { self.new ≡ established_from self.old }
     {
@@ -188,7 +188,7 @@ impl State {
         };
     }
 
-    /// Is there no association? It takes no memory.
+    /// Is there no association? Allocates nothing.
     pub fn is_closed(&self) -> bool
         ensures { result ≡ is_closed (core_of self.now) }
     {
@@ -198,7 +198,7 @@ impl State {
         }
     }
 
-    /// The own verification tag, 0 in `Closed`. It takes no memory.
+    /// Our own verification tag, 0 in `Closed`. Allocates nothing.
     pub fn verification_tag(&self) -> u32
         ensures { result ≡ own_tag (core_of self.now) }
     {
@@ -210,7 +210,7 @@ impl State {
         }
     }
 
-    /// The association, none in `Closed`. It takes no memory.
+    /// The association, none in `Closed`. Allocates nothing.
     pub fn association(&self) -> Option<Association>
         ensures { result ≡ association_of (core_of self.now) }
     {
@@ -226,7 +226,7 @@ impl State {
         }
     }
 
-    /// When T1 expires next, in `CookieWait` and `CookieEchoed`; none elsewhere. It takes no memory.
+    /// When T1 expires next, in `CookieWait` and `CookieEchoed`; none elsewhere. Allocates nothing.
     pub fn t1_deadline(&self) -> Option<SocketTime>
         ensures { result ≡ running_deadline (t1_of self.now) }
     {
@@ -237,8 +237,8 @@ impl State {
         }
     }
 
-    /// Tells T1 the time, in `CookieWait` and `CookieEchoed` (RFC 9260, section 5.1). In another state
-    /// nothing is due. It takes no memory.
+    /// Advances T1 to `now`, in `CookieWait` and `CookieEchoed` (RFC 9260, section 5.1). In another state
+    /// nothing is due. Allocates nothing.
     pub fn expire_t1(&mut self, now: SocketTime) -> Expiry
         ensures answer { result ≡ expiry_of now (t1_of self.old) }
         ensures left { self.new ≡ t1_told now self.old }
@@ -251,7 +251,7 @@ impl State {
         }
     }
 
-    /// Is the association being shut down (RFC 9260, section 9.2)? Then no message is taken.
+    /// Is the association being shut down (RFC 9260, section 9.2)? Then no message is accepted.
     pub fn is_shutting_down(&self) -> bool
         ensures { result ≡ is_shutting_down (core_of self.now) }
     {
@@ -262,7 +262,7 @@ impl State {
         }
     }
 
-    /// What a user is told of the state.
+    /// The state as a user sees it.
     pub fn socket_state(&self) -> SocketState
         ensures { result ≡ socket_state_of (core_of self.now) }
     {

@@ -1,4 +1,4 @@
-//! What lies below an association, where a peer is held.
+//! What lies below an association, if the peer is known.
 
 ghost use Rattle.std.specs.Prelude.{◌≡◌, false, Some, IfOk, OnOk, OnErr, IsOk, is_some, length};
 ghost use Rattle.dcsctp_machine.specs.turns.FlushOutcomes.{first_ask, later_ask};
@@ -19,8 +19,8 @@ use dcsctp_wire_build::SctpPacketBuilder;
 use std::alloc::AllocError;
 
 impl State {
-    /// Puts data into a packet to the peer that is held, and answers whether there was any. The one error is
-    /// that a growth was refused; a part of what the user is told may stand then.
+    /// Puts data into a packet to the peer, and returns whether there was any. `Err`: an allocation failed;
+    /// some of the events may already have been added.
     pub(crate) fn fill_packet(
         &mut self,
         events: &mut Events,
@@ -42,7 +42,7 @@ impl State {
         }
     }
 
-    /// May data go out to the peer that is held?
+    /// May data be sent to the peer?
     pub(crate) fn may_fill(&self, queue: &QueuedMessages) -> bool
         ensures { result ≡ false → NeedsNone later_ask queue.now (transfer_of self.now) }
     {
@@ -53,8 +53,8 @@ impl State {
         }
     }
 
-    /// May anything go into the first packet of a flush to the peer that is held: a SACK, a FORWARD-TSN, the
-    /// request of a reset, or data? A SACK that is delayed goes along where data may follow.
+    /// May anything go into the first packet of a flush to the peer: a SACK, a FORWARD-TSN, the request of a
+    /// reset, or data? A delayed SACK is sent along if data may follow.
     #[inline(always)]
     pub(crate) fn may_fill_first(&self, queue: &QueuedMessages) -> bool
         ensures { result ≡ false → NeedsNone first_ask queue.now (transfer_of self.now) }
@@ -66,8 +66,8 @@ impl State {
         }
     }
 
-    /// Puts a SACK into a packet to the peer that is held, where one is asked for and fits; one that is
-    /// delayed counts where `also_if_delayed`. The one error is that a growth was refused.
+    /// Puts a SACK into a packet to the peer, if one is asked for and fits. A delayed one counts if
+    /// `also_if_delayed`.
     pub fn acknowledge(
         &mut self,
         also_if_delayed: bool,
@@ -85,10 +85,10 @@ impl State {
         }
     }
 
-    /// Gives up messages to the peer that is held that may not be sent any more, and puts a FORWARD-TSN into the
-    /// packet where one is asked for and fits (RFC 3758, section 3.5). Where one was made, it answers the moment
-    /// before which the next one isn't to be. The one error is that a growth was refused; a part of what the
-    /// user is told may stand then.
+    /// Abandons messages to the peer that may not be sent any more (RFC 3758, section 3.5). Puts a
+    /// FORWARD-TSN into the packet if one is asked for and fits. If one was made, returns the moment before
+    /// which the next one may not be made. `Err`: an allocation failed; some of the events may already have
+    /// been added.
     pub(crate) fn forward_tsn(
         &mut self,
         events: &mut Events,
@@ -110,7 +110,7 @@ impl State {
         }
     }
 
-    /// May data be sent to the peer that is held (RFC 9260, section 6.1)?
+    /// May data be sent to the peer (RFC 9260, section 6.1)?
     pub(crate) fn can_send_data(&self) -> bool
         ensures { result ≡ can_send_below (transfer_of self.now) }
     {
@@ -121,7 +121,7 @@ impl State {
         }
     }
 
-    /// Is a peer held?
+    /// Is the peer known? It is while an association awaits its COOKIE ACK or is open.
     pub fn holds_peer(&self) -> bool
         ensures { result ≡ is_some (transfer_of self.now) }
     {
@@ -131,8 +131,7 @@ impl State {
         }
     }
 
-    /// Takes in data from the peer that is held (RFC 9260, section 6.2). The one error is that a growth was
-    /// refused.
+    /// Receives data from the peer (RFC 9260, section 6.2).
     pub fn receive_data(
         &mut self,
         tsn: u32,
@@ -150,8 +149,7 @@ impl State {
         }
     }
 
-    /// Skips what the peer that is held gave up (RFC 3758, section 3.6). The one error is that a growth was
-    /// refused.
+    /// Skips what the peer abandoned (RFC 3758, section 3.6).
     pub fn handle_forward_tsn(
         &mut self,
         new_cumulative_tsn: u32,
@@ -172,7 +170,7 @@ impl State {
         }
     }
 
-    /// Says that a packet was worked whole (RFC 9260, section 6.2). It takes no memory.
+    /// Call it once all of a packet was handled (RFC 9260, section 6.2). Allocates nothing.
     pub fn end_packet(&mut self, now: SocketTime)
         ensures { ChangesBelow EndsBelow (transfer_of self.old) self.old self.new }
     {
@@ -183,7 +181,7 @@ impl State {
         }
     }
 
-    /// Is an acknowledgement due to the peer that is held?
+    /// Is an acknowledgement due to the peer?
     pub fn is_acknowledgement_due(&self) -> bool
         ensures { result ≡ is_due_below (transfer_of self.now) }
     {
@@ -194,7 +192,7 @@ impl State {
         }
     }
 
-    /// When a delayed acknowledgement is due, where one is delayed.
+    /// When a delayed acknowledgement is due, if one is delayed.
     pub fn acknowledgement_deadline(&self) -> Option<SocketTime>
         ensures { result ≡ delay_deadline (transfer_of self.now) }
     {
@@ -205,7 +203,7 @@ impl State {
         }
     }
 
-    /// Tells the delay of an acknowledgement this moment, and answers whether it is over.
+    /// Advances the delay of an acknowledgement to the present moment, and returns whether it is over.
     pub fn expire_acknowledgement(&mut self, now: SocketTime) -> bool
         ensures answer { result ≡ has_come now (delay_deadline (transfer_of self.old)) }
         ensures left { ChangesWhere result EndsDelay (transfer_of self.old) self.old self.new }
@@ -228,8 +226,8 @@ impl State {
         }
     }
 
-    /// Tells the retransmission timer this moment, and answers whether it expires: what is in flight is lost
-    /// then (RFC 9260, section 6.3.3).
+    /// Advances the retransmission timer to the present moment, and returns whether it expires. What is in
+    /// flight is lost then (RFC 9260, section 6.3.3).
     pub fn expire_retransmission(&mut self, now: SocketTime) -> bool
         ensures answer { result ≡ has_come now (loss_deadline (transfer_of self.old)) }
         ensures left { ChangesWhere result LosesAll (transfer_of self.old) self.old self.new }
@@ -241,8 +239,8 @@ impl State {
         }
     }
 
-    /// Takes a SACK of the peer that is held into account (RFC 9260, section 6.2.1). The one error is that a
-    /// growth was refused; a part of what the user is told may stand then, and nothing else has changed.
+    /// Takes a SACK of the peer into account (RFC 9260, section 6.2.1). `Err`: an allocation failed; some of
+    /// the events may already have been added, and nothing else has changed.
     pub fn handle_sack(
         &mut self,
         events: &mut Events,
@@ -258,7 +256,7 @@ impl State {
         }
     }
 
-    /// Does something wait that was lost, and is to go out at once (RFC 9260, section 7.2.4)?
+    /// Does something wait that was lost, and is to be sent at once (RFC 9260, section 7.2.4)?
     pub(crate) fn has_data_at_once(&self) -> bool
         ensures { result ≡ at_once_below (transfer_of self.now) }
     {
@@ -269,7 +267,7 @@ impl State {
         }
     }
 
-    /// Puts what was lost into a packet to the peer that is held. The one error is that a growth was refused.
+    /// Puts what was lost into a packet to the peer.
     pub(crate) fn fill_at_once(
         &mut self,
         now: SocketTime,
@@ -284,7 +282,7 @@ impl State {
         }
     }
 
-    /// Takes the message that became ready first, where one is ready. It takes no memory.
+    /// Takes the message that became ready first, if one is ready. Allocates nothing.
     pub fn get_next_message(&mut self) -> Option<Message>
         ensures { TakesReady (transfer_of self.old) self.old result self.new }
     {
@@ -295,7 +293,7 @@ impl State {
         }
     }
 
-    /// How many messages are ready to be taken. It takes no memory.
+    /// How many messages are ready to be taken. Allocates nothing.
     pub fn messages_ready_count(&self) -> usize
         ensures { result ≡ length (ready_below (transfer_of self.now)) }
     {
@@ -307,7 +305,7 @@ impl State {
     }
 }
 
-// The same of what lies below an association.
+// The same for what lies below an association.
 #[inline(always)]
 fn may_fill_first(transfer: &Transfer, queue: &QueuedMessages) -> bool
     ensures { result ≡ false → NeedsNone first_ask queue.now (Some transfer.now) }

@@ -13,7 +13,7 @@ use dcsctp_transfer::Transfer;
 use dcsctp_wire_build::SctpPacketBuilder;
 use std::alloc::{AllocError, Global};
 
-/// What an INIT ACK or a cookie tells of the peer.
+/// What an INIT ACK or a cookie says about the peer.
 #[derive(Clone, Copy, Debug)]
 pub struct Peer {
     /// Its pair.
@@ -26,13 +26,13 @@ pub struct Peer {
     pub capabilities: Capabilities,
 }
 
-/// An own request to reset streams that isn't answered yet (RFC 6525, section 4.1).
+/// Our own request to reset streams that isn't answered yet (RFC 6525, section 4.1).
 #[derive(Drop)]
 pub struct ResetRequest {
     /// Its number.
     pub number: u32,
 
-    /// The last TSN that was given out before it.
+    /// The last TSN that was assigned before it.
     pub last_tsn: u32,
 
     /// The streams that it resets.
@@ -48,7 +48,7 @@ pub struct ResetRequest {
 /// An association, from the moment at which the peer is known.
 #[derive(Drop)]
 pub struct TransmissionControlBlock {
-    /// The own pair.
+    /// Our own pair.
     pub my: Pair,
 
     /// The peer's pair.
@@ -57,13 +57,13 @@ pub struct TransmissionControlBlock {
     /// What both ends support.
     pub capabilities: Capabilities,
 
-    /// Stands in the cookies that are made while the association is open (RFC 9260, section 5.2.2).
+    /// Is part of the cookies that are made while the association is open (RFC 9260, section 5.2.2).
     pub tie_tag: u64,
 
     /// What is in flight, and what was received.
     pub transfer: Transfer,
 
-    /// The number of the next own request to reset streams (RFC 6525, section 4.1).
+    /// The number of our next request to reset streams (RFC 6525, section 4.1).
     pub next_outgoing_reset_req_seq_nbr: u32,
 
     /// The one that is outstanding.
@@ -77,7 +77,7 @@ pub struct TransmissionControlBlock {
 }
 
 impl TransmissionControlBlock {
-    /// An association with this peer, with nothing sent and nothing received. It takes no memory.
+    /// An association with this peer, with nothing sent and nothing received. Allocates nothing.
     pub fn new(
         alloc: Global,
         options: &Options,
@@ -107,8 +107,8 @@ impl TransmissionControlBlock {
         }
     }
 
-    /// A packet to the peer with no chunks, with a checksum unless zero checksum was negotiated
-    /// (RFC 9653, section 5.2). The one error is that there is no memory for it.
+    /// A packet to the peer with no chunks, with a checksum unless zero checksum was negotiated (RFC 9653,
+    /// section 5.2).
     pub fn new_packet(
         &self,
         alloc: Global,
@@ -128,7 +128,7 @@ impl TransmissionControlBlock {
         Ok(builder.write_checksum(!self.capabilities.zero_checksum_enabled()))
     }
 
-    // The number of the own request that is outstanding, where one is.
+    // The number of our outstanding request, if one is.
     pub(crate) fn outstanding_number(&self) -> Option<u32>
         ensures { result ≡ number_of self.now.reset_request }
     {

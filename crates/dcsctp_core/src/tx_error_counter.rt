@@ -3,7 +3,7 @@
 use std::marker::Model;
 
 /// Counts the errors since the peer last answered, up to one beyond its limit; without a limit it counts
-/// none. The count outlasts an association. It takes no memory.
+/// none. The count outlasts an association. Allocates nothing.
 ///
 /// A contract sees its limit and its count.
 #[derive(Debug, Drop)]

@@ -13,11 +13,11 @@ use Rattle.dcsctp_core.specs.View.{View, transfer_of}
 use Rattle.dcsctp_core.specs.Handling.{TakesOne}
 use Rattle.dcsctp_core.specs.Below.{is_due_below}
 
--- Data with this I flag, TSN and payload came in.
+-- Data with this I flag, TSN and payload was received.
 abbrev pub DataAt : {R : Type 0} → Bool → ℕ → List ℕ → View R → Outcome → Type 0
 DataAt immediate tsn payload view o = DataTurn view.endpoint immediate tsn payload o
 
--- The peer is told that its data has no payload, where one is held.
+-- The peer is told that its data has no payload, if it is known.
 abbrev pub told_outcome : Endpoint → Core → ℕ → Outcome
 told_outcome e (cookie_echoed my held cookie) tsn = emits e [] (to_peer held (plain (error_of (no_user_data tsn ∷ []))))
 told_outcome e (open_in phase my held) tsn = emits e [] (to_peer held (plain (error_of (no_user_data tsn ∷ []))))
@@ -30,15 +30,15 @@ no_user_data_told tsn view = told_outcome view.endpoint view.endpoint.core tsn
 abbrev pub no_user_data_turn : {R : Type 0} → ℕ → View R → Outcome
 no_user_data_turn tsn view = no_user_data_outcome view.endpoint (held_in view.endpoint.core) tsn
 
--- A FORWARD-TSN or I-FORWARD-TSN with this new cumulative TSN came in.
+-- A FORWARD-TSN or I-FORWARD-TSN with this new cumulative TSN was received.
 abbrev pub ForwardAt : {R : Type 0} → ℕ → View R → Outcome → Type 0
 ForwardAt tsn view o = ForwardTurn view.endpoint view.endpoint.below.transfer tsn o
 
--- A packet was worked whole.
+-- All of a packet was handled.
 abbrev pub EndsAt : {R : Type 0} → View R → Outcome → Type 0
 EndsAt view o = EndsBy view.endpoint view.endpoint.below.transfer o
 
--- What came in is acknowledged at once, where a peer is held.
+-- What was received is acknowledged at once, if the peer is known.
 abbrev pub AnswersBelow : Endpoint → Option Held → Option Transfer → Outcome → Type 0
 AnswersBelow e (Some held) (Some transfer) o = AnswersPacket e held transfer transfer.tracker o
 AnswersBelow e held transfer o = o ≡ still e
@@ -46,6 +46,6 @@ AnswersBelow e held transfer o = o ≡ still e
 abbrev pub AnswersAt : {R : Type 0} → View R → Outcome → Type 0
 AnswersAt view o = AnswersBelow view.endpoint (held_in view.endpoint.core) view.endpoint.below.transfer o
 
--- That is so where an acknowledgement is due.
+-- That is so if an acknowledgement is due.
 abbrev pub AcknowledgesAt : {R E : Type 0} → (R → Stream) → Context R → Result (Unit {0}) E → Context R → Type 0
 AcknowledgesAt stream old result new = is_due_below (transfer_of old.state) ≡ true → TakesOne stream AnswersAt old result new

@@ -12,11 +12,11 @@ use Rattle.dcsctp_core.specs.declared.context.Context.{Context}
 use Rattle.dcsctp_core.specs.View.{View, transfer_of}
 use Rattle.dcsctp_core.specs.Handling.{TakesOne}
 
--- A SACK with this cumulative TSN ack came in.
+-- A SACK with this cumulative TSN ack was received.
 abbrev pub SackAt : {R : Type 0} → ℕ → View R → Outcome → Type 0
 SackAt tsn view o = SackTurn view.endpoint view.endpoint.below.transfer tsn o
 
--- What was lost goes out at once, where it is to, and then what waits.
+-- What was lost is sent at once, if it is to, and then what waits.
 pub record ResendsBy (e : Endpoint) (held : Held) (transfer : Transfer) (o : Outcome) : Type 0 where
   pub fast : Outcome
   pub resends : FastRetransmits transfer.retransmission.has_fast_retransmit e held transfer fast
@@ -44,7 +44,7 @@ Proceeds e held transfer o = o ≡ still e
 abbrev pub ProceedsAt : {R : Type 0} → View R → Outcome → Type 0
 ProceedsAt view o = Proceeds view.endpoint (held_in view.endpoint.core) view.endpoint.below.transfer o
 
--- That is so where a peer is held.
+-- That is so if the peer is known.
 abbrev pub ProceedsWhereHeld : {R E : Type 0} → (R → Stream) → Context R → Result (Unit {0}) E → Context R → Type 0
 ProceedsWhereHeld stream old result new = is_some (transfer_of old.state) ≡ true → TakesOne stream ProceedsAt old result new
 

@@ -1,4 +1,4 @@
-//! DATA (RFC 9260, section 3.3.1) and I-DATA (RFC 8260, section 2.1) that come in.
+//! DATA (RFC 9260, section 3.3.1) and I-DATA (RFC 8260, section 2.1) that are received.
 
 ghost use Rattle.dcsctp_core.specs.Handling.{TakesOne};
 ghost use Rattle.dcsctp_core_data.specs.Data.{DataAt};
@@ -11,7 +11,7 @@ use dcsctp_wire::{DataChunk, IDataChunk};
 use rand_core::Rng;
 use std::alloc::{AllocError, Global};
 
-// What a DATA chunk bears. The one error is that a growth was refused.
+// What a DATA chunk carries.
 fn data_of(alloc: Global, chunk: &DataChunk<'_>) -> Result<Data, AllocError> {
     let numbering = if chunk.flags.is_unordered {
         Numbering::Unordered
@@ -52,7 +52,7 @@ fn interleaved_ppid(chunk: &IDataChunk<'_>) -> u32 {
     }
 }
 
-// What an I-DATA chunk bears. The one error is that a growth was refused.
+// What an I-DATA chunk carries.
 fn interleaved_data_of(alloc: Global, chunk: &IDataChunk<'_>) -> Result<Data, AllocError> {
     let numbering = interleaved_numbering(chunk);
     let ppid = interleaved_ppid(chunk);
@@ -66,10 +66,10 @@ fn interleaved_data_of(alloc: Global, chunk: &IDataChunk<'_>) -> Result<Data, Al
     })
 }
 
-/// Works DATA: it is taken in, and acknowledged when the packet ends (RFC 9260, section 6.2). Data without a
+/// Handles DATA: it is stored, and acknowledged when the packet ends (RFC 9260, section 6.2). Data without a
 /// payload is reported to the user and to the peer, and data without an association to the user.
 ///
-/// The one error is that a growth was refused. The first events of the turn may stand then.
+/// `Err`: an allocation failed; the first of its events may already have been added.
 pub fn handle_data<R: Rng>(
     context: &mut Context<R>,
     chunk: &DataChunk<'_>,
@@ -90,9 +90,9 @@ pub fn handle_data<R: Rng>(
     Ok(())
 }
 
-/// Works I-DATA, as `handle_data` does DATA (RFC 8260, section 2.2.3).
+/// Handles I-DATA, as `handle_data` does DATA (RFC 8260, section 2.2.3).
 ///
-/// The one error is that a growth was refused. The first events of the turn may stand then.
+/// `Err`: an allocation failed; the first of its events may already have been added.
 pub fn handle_i_data<R: Rng>(
     context: &mut Context<R>,
     chunk: &IDataChunk<'_>,

@@ -1,4 +1,4 @@
-//! FORWARD-TSN (RFC 3758, section 3.6) and I-FORWARD-TSN (RFC 8260, section 2.3.1) that come in.
+//! FORWARD-TSN (RFC 3758, section 3.6) and I-FORWARD-TSN (RFC 8260, section 2.3.1) that are received.
 
 ghost use Rattle.dcsctp_core.specs.Handling.{TakesOne};
 ghost use Rattle.dcsctp_core_data.specs.Data.{ForwardAt};
@@ -10,7 +10,7 @@ use dcsctp_wire::{ForwardTsnChunk, IForwardTsnChunk};
 use rand_core::Rng;
 use std::alloc::{AllocError, Global};
 
-// What a FORWARD-TSN skips. The one error is that a growth was refused.
+// What a FORWARD-TSN skips.
 fn skipped_in(alloc: Global, chunk: &ForwardTsnChunk<'_>) -> Result<Vec<SkippedTo>, AllocError> {
     let mut skipped = Vec::new(alloc);
     for index in 0..chunk.skipped_stream_count() {
@@ -23,7 +23,7 @@ fn skipped_in(alloc: Global, chunk: &ForwardTsnChunk<'_>) -> Result<Vec<SkippedT
     Ok(skipped)
 }
 
-// What an I-FORWARD-TSN skips. The one error is that a growth was refused.
+// What an I-FORWARD-TSN skips.
 fn skipped_messages_in(
     alloc: Global,
     chunk: &IForwardTsnChunk<'_>,
@@ -40,10 +40,10 @@ fn skipped_messages_in(
     Ok(skipped)
 }
 
-/// Works a FORWARD-TSN: what the peer gave up is waited for no longer. Without an association it changes
+/// Handles a FORWARD-TSN: what the peer abandoned is waited for no longer. Without an association it changes
 /// nothing.
 ///
-/// The one error is that a growth was refused. No event stands then.
+/// `Err`: an allocation failed, and no event was added.
 pub fn handle_forward_tsn<R: Rng>(
     context: &mut Context<R>,
     chunk: &ForwardTsnChunk<'_>,
@@ -57,9 +57,9 @@ pub fn handle_forward_tsn<R: Rng>(
     Ok(())
 }
 
-/// Works an I-FORWARD-TSN, as `handle_forward_tsn` does a FORWARD-TSN.
+/// Handles an I-FORWARD-TSN, as `handle_forward_tsn` does a FORWARD-TSN.
 ///
-/// The one error is that a growth was refused. No event stands then.
+/// `Err`: an allocation failed, and no event was added.
 pub fn handle_i_forward_tsn<R: Rng>(
     context: &mut Context<R>,
     chunk: &IForwardTsnChunk<'_>,

@@ -7,9 +7,9 @@ use dcsctp_core::Context;
 use rand_core::Rng;
 use std::alloc::AllocError;
 
-// Sends a SACK to the peer, with what waits behind it.
+// Sends a SACK to the peer, with what waits after it.
 //
-// The one error is that a growth was refused. The first events of the turn may stand then.
+// `Err`: an allocation failed; the first of its events may already have been added.
 fn acknowledge<R: Rng>(context: &mut Context<R>) -> Result<(), AllocError>
     ensures { AcknowledgesAt R.stream context.old result context.new }
 {
@@ -24,10 +24,10 @@ fn acknowledge<R: Rng>(context: &mut Context<R>) -> Result<(), AllocError>
     Ok(())
 }
 
-/// Says that a packet was worked whole: what came with it is acknowledged at once, by a SACK with what waits
-/// behind it, or after a delay (RFC 9260, section 6.2).
+/// Call it once all of a packet was handled. Its data is acknowledged after a delay, or at once, by a SACK
+/// with what waits after it (RFC 9260, section 6.2).
 ///
-/// The one error is that a growth was refused. The first events of the turn may stand then.
+/// `Err`: an allocation failed; the first of its events may already have been added.
 pub fn end_packet<R: Rng>(context: &mut Context<R>) -> Result<(), AllocError>
     ensures { TakesOne R.stream EndsAt context.old result context.new }
 {

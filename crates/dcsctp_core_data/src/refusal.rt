@@ -16,7 +16,7 @@ const NO_USER_DATA: &str = "Received DATA chunk with no user data";
 
 const NOT_CONNECTED: &str = "Received unexpected commands on socket that is not connected";
 
-// Reports data without an association. The one error is that a growth was refused. Nothing has changed then.
+// Reports data without an association. `Err`: an allocation failed, and nothing has changed.
 pub(crate) fn report_not_connected<R: Rng>(context: &mut Context<R>) -> Result<(), AllocError>
     ensures { Tries R.stream (report_turn ErrorKind.NotConnected not_connected_text) context.old result
         context.new }
@@ -26,8 +26,7 @@ pub(crate) fn report_not_connected<R: Rng>(context: &mut Context<R>) -> Result<(
     Ok(())
 }
 
-// Reports data without a payload to the user. The one error is that a growth was refused. Nothing has changed
-// then.
+// Reports data without a payload to the user. `Err`: an allocation failed, and nothing has changed.
 fn report_no_user_data<R: Rng>(context: &mut Context<R>) -> Result<(), AllocError>
     ensures { Tries R.stream (report_turn ErrorKind.ProtocolViolation no_user_data_text) context.old
         result context.new }
@@ -37,9 +36,9 @@ fn report_no_user_data<R: Rng>(context: &mut Context<R>) -> Result<(), AllocErro
     Ok(())
 }
 
-// Sends an ERROR of the cause No User Data under this tag, where it fits `mtu`.
+// Sends an ERROR of the cause No User Data under this tag, if it fits `mtu`.
 //
-// The one error is that a growth was refused. Nothing has changed then.
+// `Err`: an allocation failed, and nothing has changed.
 fn emit_no_user_data<R: Rng>(
     context: &mut Context<R>,
     tag: u32,
@@ -55,8 +54,8 @@ fn emit_no_user_data<R: Rng>(
     Ok(())
 }
 
-// Tells the peer, where one is held, that its data has no payload. The one error is that a growth was refused.
-// Nothing has changed then.
+// Tells the peer, if it is known, that its data has no payload. `Err`: an allocation failed, and nothing has
+// changed.
 fn tell_no_user_data<R: Rng>(context: &mut Context<R>, tsn: u32) -> Result<(), AllocError>
     ensures { Tries R.stream (no_user_data_told tsn) context.old result context.new }
 {
@@ -71,8 +70,8 @@ fn tell_no_user_data<R: Rng>(context: &mut Context<R>, tsn: u32) -> Result<(), A
     Ok(())
 }
 
-// Refuses data without a payload, whose TSN is this (RFC 9260, section 3.3.10.9). The one error is that a
-// growth was refused. The first events of the turn may stand then.
+// Refuses data without a payload, whose TSN is this (RFC 9260, section 3.3.10.9). `Err`: an allocation
+// failed; the first of its events may already have been added.
 pub(crate) fn refuse_empty<R: Rng>(context: &mut Context<R>, tsn: u32) -> Result<(), AllocError>
     ensures { Takes R.stream (no_user_data_turn tsn) context.old result context.new }
 {

@@ -1,4 +1,4 @@
-//! SACK (RFC 9260, sections 3.3.4 and 6.2.1) that comes in.
+//! SACK (RFC 9260, sections 3.3.4 and 6.2.1) that is received.
 
 ghost use Rattle.std.specs.Prelude.{◌≡◌, if◌then◌else◌};
 ghost use Rattle.dcsctp_machine.specs.turns.DataOutcomes.{no_tcb_text};
@@ -16,7 +16,7 @@ use std::alloc::AllocError;
 
 const NO_TCB: &str = "No TCB";
 
-// Reports a SACK without an association. The one error is that a growth was refused. Nothing has changed then.
+// Reports a SACK without an association. `Err`: an allocation failed, and nothing has changed.
 fn report_no_tcb<R: Rng>(context: &mut Context<R>) -> Result<(), AllocError>
     ensures { Tries R.stream (report_turn ErrorKind.NotConnected no_tcb_text) context.old result context.new }
 {
@@ -25,7 +25,7 @@ fn report_no_tcb<R: Rng>(context: &mut Context<R>) -> Result<(), AllocError>
     Ok(())
 }
 
-// No error counts where the peer has acknowledged something that it hadn't before (RFC 9260, section 8.1).
+// No error counts if the peer has acknowledged something that it hadn't before (RFC 9260, section 8.1).
 fn heed_answer<R: Rng>(context: &mut Context<R>, acknowledges: bool)
     ensures { view_of context.new ≡ record (view_of context.old) {
       endpoint = record
@@ -39,8 +39,8 @@ fn heed_answer<R: Rng>(context: &mut Context<R>, acknowledges: bool)
     }
 }
 
-// What was lost goes out at once, where it is to, and then what waits. The one error is that a growth was
-// refused. The first events of the turn may stand then.
+// Sends lost data at once, if it is to be, and then what waits. `Err`: an allocation failed; the first of its
+// events may already have been added.
 fn resend<R: Rng>(context: &mut Context<R>) -> Result<(), AllocError>
     ensures { ResendsWhereHeld R.stream context.old result context.new }
 {
@@ -49,8 +49,8 @@ fn resend<R: Rng>(context: &mut Context<R>) -> Result<(), AllocError>
     Ok(())
 }
 
-// A shutdown that waited for the acknowledgement goes on; then what was lost goes out, and what waits. The one error is
-// that a growth was refused. The first events of the turn may stand then.
+// A shutdown that waited for the acknowledgement goes on; then what was lost is sent, and what waits. `Err`:
+// an allocation failed; the first of its events may already have been added.
 fn proceed<R: Rng>(context: &mut Context<R>) -> Result<(), AllocError>
     ensures { ProceedsWhereHeld R.stream context.old result context.new }
 {
@@ -59,12 +59,12 @@ fn proceed<R: Rng>(context: &mut Context<R>) -> Result<(), AllocError>
     Ok(())
 }
 
-/// Works a SACK: what it acknowledges is in flight no longer, and shows that the peer is there; what was lost
-/// goes out again, at once or in the flush behind it (RFC 9260, sections 6.2.1, 7.2.4 and 8.1). A shutdown that waits for
-/// the last acknowledgement goes on before that (section 9.2). One that is
-/// behind, or of a TSN that was never sent, changes nothing; without an association it is reported.
+/// Handles a SACK (RFC 9260, sections 6.2.1, 7.2.4 and 8.1). What it acknowledges is no longer in flight, and
+/// shows that the peer is there. What was lost is sent again, at once or in the flush after it. Before that,
+/// a shutdown goes on that waits for the last acknowledgement (section 9.2). An old SACK, or one of a TSN
+/// that was never sent, changes nothing. Without an association it is reported.
 ///
-/// The one error is that a growth was refused. The first events of the turn may stand then.
+/// `Err`: an allocation failed; the first of its events may already have been added.
 pub fn handle_sack<R: Rng>(
     context: &mut Context<R>,
     chunk: &SackChunk<'_>,

@@ -1,5 +1,5 @@
 //! The delay of an acknowledgement (RFC 9260, section 6.2) and the retransmission timer (RFC 9260, section
-//! 6.3). Called where the time is told.
+//! 6.3). Called by `advance_time`.
 
 ghost use Rattle.dcsctp_machine.specs.TimeTurns.{own_timer};
 ghost use Rattle.dcsctp_machine.specs.turns.OwnTimers.{acknowledgement_delay, retransmission};
@@ -8,16 +8,16 @@ ghost use Rattle.dcsctp_core.specs.Timing.{ExpiresAlways};
 use dcsctp_core::Context;
 use rand_core::Rng;
 
-/// Tells the delay of an acknowledgement the present moment, and answers whether it is over: it is due then.
-/// It takes no memory.
+/// Advances the delay of an acknowledgement to the present moment, and returns whether it is over. The
+/// acknowledgement is due then. Allocates nothing.
 pub fn handle_acknowledgement_delay<R: Rng>(context: &mut Context<R>) -> bool
     ensures { ExpiresAlways R.stream (own_timer acknowledgement_delay) context.old result context.new }
 {
     context.state.expire_acknowledgement(context.moment)
 }
 
-/// Tells the retransmission timer the present moment, and answers whether it expires: what is in flight is
-/// lost then, and an error is counted. It takes no memory.
+/// Advances the retransmission timer to the present moment, and returns whether it expires. What is in flight
+/// is lost then, and an error is counted. Allocates nothing.
 pub fn handle_retransmission<R: Rng>(context: &mut Context<R>) -> bool
     ensures { ExpiresAlways R.stream (own_timer retransmission) context.old result context.new }
 {

@@ -1,4 +1,4 @@
--- When a socket wants to be told the time, by its parts.
+-- The next deadline of a socket, by its parts.
 use Rattle.std.specs.Prelude.{ℕ, min, max, Option, None, Some}
 use Rattle.std.specs.Duration.{max_nanos}
 

@@ -1,4 +1,4 @@
-//! Which packets are worked, by their verification tag (RFC 9260, sections 8.4 and 8.5).
+//! Which packets are handled, by their verification tag (RFC 9260, sections 8.4 and 8.5).
 
 ghost use Rattle.std.specs.Prelude.{◌≡◌, ◌==◌, false, None, map, string_bytes, IfOk};
 ghost use Rattle.dcsctp_wire.specs.Content.{chunk_content, packet_content};
@@ -18,7 +18,7 @@ use std::alloc::{AllocError, Global};
 /// What is done with a packet.
 #[derive(Clone, Copy, Debug)]
 pub enum Admission {
-    /// All chunks are worked.
+    /// All chunks are handled.
     AllChunks,
 
     /// Its SHUTDOWN ACK chunks are, and nothing else of it.
@@ -28,7 +28,7 @@ pub enum Admission {
     Refused(Refusal),
 }
 
-/// Why a packet isn't worked.
+/// Why a packet isn't handled.
 #[derive(Clone, Copy, Debug)]
 pub enum Refusal {
     /// It has an ABORT, and another tag than the ABORT's T bit asks for.
@@ -37,17 +37,17 @@ pub enum Refusal {
     /// It has a SHUTDOWN COMPLETE, and another tag than the T bit of that asks for.
     WrongShutdownCompleteTag,
 
-    /// It has a SHUTDOWN ACK, an association is open, and its tag isn't the own one.
+    /// It has a SHUTDOWN ACK, an association is open, and its tag isn't our own.
     WrongShutdownAckTag,
 
     /// Its tag is 0, and it isn't one INIT.
     NotASingleInit,
 
-    /// Its tag isn't the own one.
+    /// Its tag isn't our own.
     WrongTag { header: u32, expected: u32 },
 }
 
-// The T bit of the first ABORT, where there is one.
+// The T bit of the first ABORT, if there is one.
 fn first_abort(chunks: &[Chunk<'_>]) -> Option<bool>
     ensures { result ≡ first_abort (map content_in (map chunk_content chunks.now)) }
 {
@@ -59,7 +59,7 @@ fn first_abort(chunks: &[Chunk<'_>]) -> Option<bool>
     None
 }
 
-// The T bit of the first SHUTDOWN COMPLETE, where there is one.
+// The T bit of the first SHUTDOWN COMPLETE, if there is one.
 fn first_shutdown_complete(chunks: &[Chunk<'_>]) -> Option<bool>
     ensures { result ≡ first_shutdown_complete (map content_in (map chunk_content chunks.now)) }
 {
@@ -103,8 +103,8 @@ fn is_single_init(chunks: &[Chunk<'_>]) -> bool
     }
 }
 
-// Does the packet bear the tag that the T bit asks for (RFC 9260, section 8.5.1, B)? With the bit that is
-// the peer's, where a peer is held, else the own one.
+// Does the packet carry the tag that the T bit asks for (RFC 9260, section 8.5.1, B)? With the bit that is
+// the peer's, if the peer is known, else our own.
 fn bears_tag(state: &State, header: u32, tag_reflected: bool) -> bool
     ensures { result ≡ bears_tag (core_of state.now) header tag_reflected }
 {
@@ -117,7 +117,7 @@ fn bears_tag(state: &State, header: u32, tag_reflected: bool) -> bool
     }
 }
 
-// All chunks where this holds, else none, for this reason.
+// All chunks if this holds, else none, for this reason.
 fn admit_where(admitted: bool, refusal: Refusal) -> Admission
     ensures { admission_of result ≡ admitted_where admitted (refusal_text refusal) }
 {
@@ -127,8 +127,8 @@ fn admit_where(admitted: bool, refusal: Refusal) -> Admission
     Admission::Refused(refusal)
 }
 
-// Decides for a packet with a SHUTDOWN ACK. Before an association is open that may be of one that is over:
-// it is worked under any tag, and the rest of its packet under the own one alone.
+// Decides for a packet with a SHUTDOWN ACK. Before an association is open, that may belong to an earlier one.
+// So it is handled under any tag, and the rest of its packet only under our own.
 fn admit_shutdown_ack(state: &State, header: u32) -> Admission
     ensures { admission_of result ≡ admits_shutdown_ack (core_of state.now) header }
 {
@@ -162,9 +162,9 @@ fn admit_other(state: &State, packet: &SctpPacket<'_>) -> Admission
     admit_where(header == expected, Refusal::WrongTag { header, expected })
 }
 
-/// Decides by the header tag (RFC 9260, section 8.5.1): a packet with an ABORT or a SHUTDOWN COMPLETE by the T
-/// bit of that; one with a SHUTDOWN ACK by the state; a COOKIE ECHO in front is let in; 0 is for an INIT
-/// alone, and any other packet bears the own tag.
+/// Decides by the header tag (RFC 9260, section 8.5.1). A packet with an ABORT or a SHUTDOWN COMPLETE is
+/// judged by that chunk's T bit, one with a SHUTDOWN ACK by the state. A COOKIE ECHO in front is let in. Tag
+/// 0 is for an INIT alone, and any other packet carries our own tag.
 pub fn admit(state: &State, packet: &SctpPacket<'_>) -> Admission
     ensures { admission_of result ≡ admits (core_of state.now) (packet_in
         (packet_content packet.now)) }
@@ -187,7 +187,7 @@ pub fn admit(state: &State, packet: &SctpPacket<'_>) -> Admission
 }
 
 impl Refusal {
-    /// The text of the error. The one error is that a growth was refused.
+    /// The text of the error.
     pub fn text(&self, alloc: Global) -> Result<String, AllocError>
         ensures { IfOk result (λ text. string_bytes text ≡ refusal_text self.now) }
     {
@@ -203,7 +203,7 @@ impl Refusal {
     }
 }
 
-// The text for a tag that isn't the own one.
+// The text for a tag that isn't our own.
 fn wrong_tag(alloc: Global, header: u32, expected: u32) -> Result<String, AllocError>
     ensures { IfOk result (λ text. string_bytes text ≡ wrong_tag_text header expected) }
 {

@@ -13,7 +13,7 @@ use dcsctp_core::{Peer, State};
 /// What a COOKIE ECHO is, by the table of RFC 9260, section 5.2.4.
 #[derive(Clone, Copy, Debug, PartialEq, Eq)]
 pub enum CookieResolution {
-    /// No peer is held, and the association is made.
+    /// The peer isn't known, and the association is made.
     EstablishNew,
 
     /// The peer began anew.
@@ -25,7 +25,7 @@ pub enum CookieResolution {
     /// The cookie is of an attempt that is over.
     Discard,
 
-    /// The association is the one that is held.
+    /// The association is the existing one.
     MaintainExisting,
 
     /// The tags are those of no association.
@@ -56,7 +56,7 @@ pub fn resolve(state: &State, header_tag: u32, cookie: &StateCookie) -> CookieRe
     }
 }
 
-/// The peer that a cookie shows. Its window is no more than may wait to be sent.
+/// The peer that a cookie shows. Its window is no larger than our send buffer.
 pub fn peer_by_cookie(options: &Options, cookie: &StateCookie) -> Peer
     requires { IsValid options.now }
     ensures { result ≡ peer_by_cookie options.now (cookie_of cookie.now) }

@@ -1,6 +1,6 @@
-//! What a socket decides, apart from what it does then: which packets are worked, which case a COOKIE ECHO is
-//! and which peer it shows, and when time has to be told. Nothing here changes a socket; the handlers and
-//! calls above act on the answers.
+//! What a socket decides before it acts. Which packets are handled? Which case is a COOKIE ECHO, and which
+//! peer does it show? When is the next deadline? Nothing here changes a socket; the handlers and calls above
+//! act on the answers.
 #![tactic(auto)]
 
 mod admission;

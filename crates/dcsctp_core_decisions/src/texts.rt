@@ -1,4 +1,4 @@
-//! Why a packet isn't worked, as its user is told.
+//! Why a packet isn't handled, as the user sees it.
 
 /// A packet has an ABORT, and the tag is wrong.
 pub(crate) const WRONG_ABORT_TAG: &str = "ABORT chunk verification tag was wrong";
@@ -14,7 +14,7 @@ pub(crate) const WRONG_SHUTDOWN_ACK_TAG: &str = "SHUTDOWN_ACK chunk verification
 pub(crate) const NOT_A_SINGLE_INIT: &str =
     "Only a single INIT chunk can be present in packets sent on verification_tag = 0";
 
-/// A packet has another tag than the own one: this text, the tag, [`EXPECTED`], and the own tag.
+/// A packet has another tag than our own: this text, the tag, [`EXPECTED`], and our own tag.
 pub(crate) const WRONG_TAG: &str = "Packet has invalid verification tag: ";
 
 /// Between the two tags.

@@ -1,4 +1,4 @@
-//! When time has to be told to a socket next.
+//! The next deadline of a socket.
 
 ghost use Rattle.std.specs.Prelude.{◌≡◌};
 ghost use Rattle.dcsctp_machine.specs.TimeTurns.{own_timer, t2_timer, next_moment};
@@ -11,7 +11,7 @@ use dcsctp_api::SocketTime;
 use dcsctp_core::{Context, State};
 use rand_core::Rng;
 
-// When a delayed acknowledgement is due, where one is delayed.
+// When a delayed acknowledgement is due, if one is delayed.
 fn acknowledgement_deadline<R: Rng>(context: &Context<R>) -> Option<SocketTime>
     ensures { result ≡ deadline (endpoint_of context.now) (own_timer acknowledgement_delay) }
 {
@@ -25,14 +25,14 @@ fn retransmission_deadline<R: Rng>(context: &Context<R>) -> Option<SocketTime>
     context.state.retransmission_deadline()
 }
 
-// When the own request to reset streams is sent again, where one is outstanding.
+// When our own request to reset streams is sent again, if one is outstanding.
 fn reconfiguration_deadline<R: Rng>(context: &Context<R>) -> Option<SocketTime>
     ensures { result ≡ deadline (endpoint_of context.now) (own_timer reconfiguration) }
 {
     context.state.reconfiguration_deadline()
 }
 
-// When a SHUTDOWN or SHUTDOWN ACK that isn't answered is sent again, where one is.
+// When a SHUTDOWN or SHUTDOWN ACK that isn't answered is sent again, if one is.
 fn t2_deadline<R: Rng>(context: &Context<R>) -> Option<SocketTime>
     ensures { result ≡ deadline (endpoint_of context.now) t2_timer }
 {
@@ -56,7 +56,7 @@ fn earlier(first: Option<SocketTime>, second: Option<SocketTime>) -> Option<Sock
     }
 }
 
-// A deadline, but not before the present moment; the last moment where there is none.
+// A deadline, but not before the present moment; the last moment if there is none.
 fn not_before(moment: SocketTime, deadline: Option<SocketTime>) -> SocketTime
     ensures { result ≡ next_by moment deadline }
 {
@@ -67,9 +67,8 @@ fn not_before(moment: SocketTime, deadline: Option<SocketTime>) -> SocketTime
     }
 }
 
-/// The moment at which time has to be told next, never before the present one; the last one where none
-/// is waited for. That is T1's deadline while the association is set up, and the first of its own timers'
-/// where it is open.
+/// The next deadline, never before the present moment; the last moment if there is none. During the handshake
+/// it is T1's, and on an open association the first of its own timers'.
 pub fn poll_timeout<R: Rng>(context: &Context<R>) -> SocketTime
     ensures { result ≡ next_moment (endpoint_of context.now) }
 {

@@ -18,7 +18,7 @@ abort_turn causes view = abort_outcome view.endpoint causes view.endpoint.core
 abbrev pub error_turn : {R : Type 0} → List Cause → View R → Outcome
 error_turn causes view = error_outcome view.endpoint view.endpoint.core causes
 
--- ABORT goes out, where a peer is held.
+-- ABORT is sent, if the peer is known.
 abbrev pub abort_sent_turn : {R : Type 0} → AbortReason → View R → Outcome
 abort_sent_turn reason view = abort_sent view.endpoint view.endpoint.core reason
 

@@ -11,10 +11,10 @@ use dcsctp_wire::{AbortChunk, causes_text};
 use rand_core::Rng;
 use std::alloc::AllocError;
 
-/// Works an ABORT: it ends an association with a peer, and the rest of its packet is dropped. Where no
-/// peer is held, nothing happens.
+/// Handles an ABORT: it ends an association with a peer, and the rest of its packet is dropped. If the peer
+/// isn't known, nothing happens.
 ///
-/// The one error is that a growth was refused. Nothing has changed then.
+/// `Err`: an allocation failed, and nothing has changed.
 pub fn handle_abort<R: Rng>(
     context: &mut Context<R>,
     abort: &AbortChunk<'_>,

@@ -1,4 +1,4 @@
-//! The own abort (RFC 9260, section 9.1).
+//! Our own abort (RFC 9260, section 9.1).
 
 ghost use Rattle.std.specs.Prelude.{◌≡◌, true, false, IsOk, [], ◌∷◌};
 ghost use Rattle.dcsctp_wire.specs.Content.{cause_content, abort_chunk};
@@ -47,9 +47,9 @@ fn cause_of(reason: AbortReason) -> ErrorCause<'static>
     }
 }
 
-// Sends an ABORT for this reason under this tag, where it fits `mtu`.
+// Sends an ABORT for this reason under this tag, if it fits `mtu`.
 //
-// The one error is that a growth was refused. Nothing has changed then.
+// `Err`: an allocation failed, and nothing has changed.
 fn emit_abort<R: Rng>(
     context: &mut Context<R>,
     tag: u32,
@@ -69,9 +69,9 @@ fn emit_abort<R: Rng>(
     Ok(())
 }
 
-// Sends an ABORT for this reason to the peer, where one is held and it fits `mtu`.
+// Sends an ABORT for this reason to the peer, if it is known and it fits `mtu`.
 //
-// The one error is that a growth was refused. Nothing has changed then.
+// `Err`: an allocation failed, and nothing has changed.
 fn send_abort<R: Rng>(context: &mut Context<R>, reason: AbortReason) -> Result<(), AllocError>
     ensures { Tries R.stream (abort_sent_turn reason) context.old result context.new }
 {
@@ -86,9 +86,9 @@ fn send_abort<R: Rng>(context: &mut Context<R>, reason: AbortReason) -> Result<(
     Ok(())
 }
 
-// Ends the association with the event for this reason. A closed socket stays as it is.
+// Ends the association with the event for this reason. A closed socket is unchanged.
 //
-// The one error is that a growth was refused. Nothing has changed then.
+// `Err`: an allocation failed, and nothing has changed.
 fn end<R: Rng>(context: &mut Context<R>, reason: AbortReason) -> Result<(), AllocError>
     ensures { Tries R.stream (close_turn (end_of reason)) context.old result context.new }
 {
@@ -109,11 +109,11 @@ fn end<R: Rng>(context: &mut Context<R>, reason: AbortReason) -> Result<(), Allo
     Ok(())
 }
 
-/// Aborts the association for this reason (RFC 9260, section 9.1): an ABORT goes out where a peer is held
-/// and it fits `mtu`, and the association ends, with OnClosed where its user closed it, else with
-/// OnAborted. A closed socket stays as it is, and want of memory is never the answer.
+/// Aborts the association for this reason (RFC 9260, section 9.1): an ABORT is sent if the peer is known and
+/// it fits `mtu`. The association ends, with OnClosed if its user closed it, else with OnAborted. A closed
+/// socket is unchanged, and no allocation can fail.
 ///
-/// The one error is that a growth was refused. The first events of the turn may stand then.
+/// `Err`: an allocation failed; the first of its events may already have been added.
 pub fn abort_association<R: Rng>(
     context: &mut Context<R>,
     reason: AbortReason,

@@ -11,9 +11,9 @@ use dcsctp_wire::{ErrorChunk, causes_text};
 use rand_core::Rng;
 use std::alloc::AllocError;
 
-/// Works an ERROR: the user is told the texts of its causes, where a peer is held. Else nothing happens.
+/// Handles an ERROR: the user is told the texts of its causes, if the peer is known. Else nothing happens.
 ///
-/// The one error is that a growth was refused. Nothing has changed then.
+/// `Err`: an allocation failed, and nothing has changed.
 pub fn handle_error<R: Rng>(
     context: &mut Context<R>,
     error: &ErrorChunk<'_>,

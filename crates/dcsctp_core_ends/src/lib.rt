@@ -1,7 +1,6 @@
-//! How an association ends (RFC 9260, section 9.1): the handler of ABORT, and the own abort, for a reason
-//! of its user or of the socket; what breaks the protocol that was negotiated; and the handler of ERROR, which
-//! ends nothing. They work on the parts that
-//! `dcsctp_core` shares.
+//! How an association ends (RFC 9260, section 9.1): the handler of ABORT, and our own abort, for a reason of
+//! the user or of the socket. Also what breaks the negotiated protocol, and the handler of ERROR, which ends
+//! nothing. They work on the parts that `dcsctp_core` shares.
 #![tactic(auto)]
 
 mod abort;

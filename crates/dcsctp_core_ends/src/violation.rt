@@ -1,4 +1,4 @@
-//! What breaks the protocol that was negotiated (RFC 8260, section 2.2.1; RFC 3758, section 3.3.1).
+//! What breaks the negotiated protocol (RFC 8260, section 2.2.1; RFC 3758, section 3.3.1).
 
 ghost use Rattle.std.specs.Prelude.{◌≡◌};
 ghost use Rattle.dcsctp_wire.specs.Content.{chunk_content};
@@ -59,9 +59,9 @@ fn i_forward_tsn_violation(capabilities: &Capabilities) -> Option<Violation>
     Some(Violation::ForwardTsnWithout)
 }
 
-/// How a chunk breaks what was negotiated, where a peer is held: data, and what skips it, has the form of
-/// RFC 8260 exactly where message interleaving is negotiated, and nothing is skipped without partial
-/// reliability. It takes no memory.
+/// How a chunk breaks what was negotiated, if the peer is known. Data, and what skips it, has the form of RFC
+/// 8260 if and only if message interleaving is negotiated. Without partial reliability nothing is skipped.
+/// Allocates nothing.
 pub fn violation_of(state: &State, chunk: &Chunk<'_>) -> Option<Violation>
     ensures { result ≡ violation_in (core_of state.now) (content_in (chunk_content chunk.now)) }
 {

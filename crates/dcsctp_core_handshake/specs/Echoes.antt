@@ -26,7 +26,7 @@ cookie_ack_to held =
 abbrev pub acknowledges_by : FlushKind → Endpoint → Held → List (Event Emission) → Outcome
 acknowledges_by flush e held events = flush e [] events (held.capabilities.zero_checksum_method.0 == 0) held.peer.tag (cookie_ack ∷ [])
 
--- to the peer that is held, where one is
+-- to the peer, if it is known
 abbrev pub acknowledged_by : FlushKind → Endpoint → Option Held → Outcome
 acknowledged_by flush e None = still e
 acknowledged_by flush e (Some held) = acknowledges_by flush e held []
@@ -53,11 +53,11 @@ AssociationAt stream cookie queue events view o =
     (answers : List Answer) × EstablishAnswers view.endpoint cookie queue tie answers
     × (o ≡ establish_by (flush_answered answers) view.endpoint cookie queue tie events)
 
--- What waits to be sent stays.
+-- What waits to be sent is kept.
 abbrev pub EstablishAt : {R : Type 0} → (R → Stream) → Cookie → View R → Outcome → Type 0
 EstablishAt stream cookie view o = AssociationAt stream cookie (queue_kept view.endpoint cookie) (connected ∷ []) view o
 
--- in place of the one that is held
+-- instead of the existing one
 abbrev pub ReplaceAt : {R : Type 0} → (R → Stream) → Cookie → View R → Outcome → Type 0
 ReplaceAt stream cookie view o = AssociationAt stream cookie (queue_begun view.endpoint cookie) (connected ∷ []) view o
 
@@ -67,7 +67,7 @@ RestartAt stream cookie view o = AssociationAt stream cookie (queue_begun view.e
 
 -- ---- the others
 
--- a cookie whose association is held: the peer is its addressee
+-- a cookie of the existing association: the answer goes to the peer
 abbrev pub maintained_by : FlushKind → Endpoint → Core → Outcome
 maintained_by flush e closed = still e
 maintained_by flush e (cookie_wait mine) = still e
@@ -97,7 +97,7 @@ RestartWhereAt stream cookie view o =
     (answers : List Answer) × RestartAnswers view.endpoint cookie tie view.endpoint.core answers
     × (o ≡ restart_by_where (flush_answered answers) view.endpoint cookie tie view.endpoint.core)
 
--- to the peer that is held, where one is
+-- to the peer, if it is known
 abbrev pub refused_restart_to : Endpoint → Option Held → Outcome
 refused_restart_to e None = still e
 refused_restart_to e (Some held) = refused_restart_outcome e held

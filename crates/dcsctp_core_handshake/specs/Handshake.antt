@@ -27,14 +27,14 @@ pub record MakesPair {R : Type 0} (stream : R → Stream) (old : Context R) (pai
   pub goes_on : stream (view_of new).generator ≡ left
   pub only : OnlyDraws old new
 
--- The tag is made of the next word; or a growth was refused.
+-- The tag is made of the next word; or an allocation failed.
 abbrev pub DrawsTag : {R E : Type 0} → (R → Stream) → ℕ → Context R → Result Pair E → Context R → Type 0
 DrawsTag stream first_tsn old (Ok pair) new =
     let next = stream (view_of old).generator in
     (pair ≡ record { tag = tag_from (first_word next); first_tsn = first_tsn }) × MakesPair stream old pair (first_word next ∷ []) (next_u32 next).1 new
 DrawsTag stream first_tsn old (Err error) new = OnlyDraws old new
 
--- The pair is made of the next two words, its first TSN and then its tag; or a growth was refused.
+-- The pair is made of the next two words, its first TSN and then its tag; or an allocation failed.
 abbrev pub DrawsPair : {R E : Type 0} → (R → Stream) → Context R → Result Pair E → Context R → Type 0
 DrawsPair stream old (Ok pair) new =
     let next = stream (view_of old).generator in
@@ -56,7 +56,7 @@ renewed_where e (Some held) theirs word = renewed_outcome e theirs word
 abbrev pub init_turn : {R : Type 0} → (R → Stream) → Introduction → View R → Outcome
 init_turn stream theirs view = init_outcome view.endpoint theirs view.endpoint.core (first_word (stream view.generator)) (second_word (stream view.generator))
 
--- where an association is open, with the word that the generator gives next
+-- while an association is open, with the word that the generator gives next
 abbrev pub renewed_turn : {R : Type 0} → (R → Stream) → Introduction → View R → Outcome
 renewed_turn stream theirs view = renewed_where view.endpoint (held_in view.endpoint.core) theirs (first_word (stream view.generator))
 
@@ -65,7 +65,7 @@ renewed_turn stream theirs view = renewed_where view.endpoint (held_in view.endp
 abbrev pub send_init_turn : {R : Type 0} → Pair → View R → Outcome
 send_init_turn mine view = emits view.endpoint [] (init_emission view.endpoint mine)
 
--- the endpoint that awaits an INIT ACK, with nothing held of a peer
+-- the endpoint that awaits an INIT ACK, with nothing known of a peer
 abbrev pub awaiting : Endpoint → Pair → Endpoint
 awaiting e mine =
     let after : Endpoint = awaits_init_ack e mine in
@@ -76,7 +76,7 @@ connect_turn stream view = connect_outcome view.endpoint view.endpoint.core (fir
 
 -- ---- INIT ACK
 
--- ABORT goes out under this tag, where it fits.
+-- ABORT is sent under this tag, if it fits.
 abbrev pub missing_cookie_turn : {R : Type 0} → ℕ → View R → Outcome
 missing_cookie_turn tag view = emits view.endpoint [] (abort_emission tag)
 
@@ -84,7 +84,7 @@ missing_cookie_turn tag view = emits view.endpoint [] (abort_emission tag)
 abbrev pub refusal_turn : {R : Type 0} → ℕ → View R → Outcome
 refusal_turn tag view = refused_init_ack_outcome view.endpoint tag
 
--- The cookie that is echoed, where one is, goes out in front of a flush.
+-- The cookie that is echoed, if one is, is sent in front of a flush.
 abbrev pub echo_by : FlushKind → Endpoint → Core → Outcome
 echo_by flush e closed = still e
 echo_by flush e (cookie_wait mine) = still e
@@ -115,6 +115,6 @@ InitAckAt theirs cookie view o = InitAckTurn view.endpoint theirs cookie o
 abbrev pub CookieAckAt : {R : Type 0} → View R → Outcome → Type 0
 CookieAckAt view o = CookieAckTurn view.endpoint o
 
--- A COOKIE ECHO of these bytes came in a packet with this header tag.
+-- A COOKIE ECHO of these bytes was received in a packet with this header tag.
 abbrev pub CookieEchoAt : {R : Type 0} → ℕ → List ℕ → View R → Outcome → Type 0
 CookieEchoAt header bytes view o = CookieEchoTurn view.endpoint header bytes o

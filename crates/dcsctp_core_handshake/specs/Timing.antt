@@ -8,12 +8,12 @@ use Rattle.dcsctp_machine.specs.turns.FlushOutcomes.{Answer, flush_answered}
 use Rattle.dcsctp_machine.specs.turns.TimerOutcomes.{again_by, AgainAnswers, t1_gives_up_outcome}
 use Rattle.dcsctp_core.specs.View.{View}
 
--- The packet that isn't answered goes out again.
+-- The packet that isn't answered is sent again.
 abbrev pub AgainAt : {R : Type 0} → View R → Outcome → Type 0
 AgainAt view o =
     (answers : List Answer) × AgainAnswers view.endpoint view.endpoint.core answers × (o ≡ again_by (flush_answered answers) view.endpoint view.endpoint.core)
 
--- The association ends for want of an answer, with this text.
+-- The association ends since no answer came, with this text.
 abbrev pub abandon_turn : {R : Type 0} → List ℕ → View R → Outcome
 abandon_turn text view = close_outcome view.endpoint view.endpoint.core (aborted TooManyRetries text)
 

@@ -43,9 +43,9 @@ fn started_t1(options: &Options, now: SocketTime, duration: Duration) -> Timer
     timer
 }
 
-/// Sends an INIT with this pair, under tag 0, where it fits `mtu`.
+/// Sends an INIT with this pair, under tag 0, if it fits `mtu`.
 ///
-/// The one error is that a growth was refused. Nothing has changed then.
+/// `Err`: an allocation failed, and nothing has changed.
 pub(crate) fn send_init<R: Rng>(context: &mut Context<R>, my: Pair) -> Result<(), AllocError>
     ensures { Tries R.stream (send_init_turn my) context.old result context.new }
 {
@@ -56,7 +56,7 @@ pub(crate) fn send_init<R: Rng>(context: &mut Context<R>, my: Pair) -> Result<()
     Ok(())
 }
 
-/// Awaits the INIT ACK to an INIT with this pair, with T1-init from now on. Nothing is held of a peer then.
+/// Awaits the INIT ACK to an INIT with this pair, with T1-init from now on. Nothing is known of a peer then.
 fn await_init_ack<R: Rng>(context: &mut Context<R>, my: Pair)
     ensures { view_of context.new ≡ record (view_of context.old) {
       endpoint = awaiting
@@ -69,10 +69,10 @@ fn await_init_ack<R: Rng>(context: &mut Context<R>, my: Pair)
     context.state = State::CookieWait(CookieWaitState { t1_init, my });
 }
 
-/// Begins an association where there is none: draws a pair, sends an INIT and starts T1-init. A socket
-/// that isn't closed stays as it is, and want of memory is never the answer.
+/// Begins an association if there is none: draws a pair, sends an INIT and starts T1-init. A socket that
+/// isn't closed is unchanged, and no allocation can fail.
 ///
-/// The one error is that a growth was refused. Nothing has changed then but what words were drawn.
+/// `Err`: an allocation failed, and nothing has changed but the random words that were drawn.
 pub fn do_connect<R: Rng>(context: &mut Context<R>) -> Result<(), AllocError>
     ensures turn { TriesDrawing R.stream (connect_turn R.stream) context.old result context.new }
     ensures open { is_closed (core_of context.old.state) ≡ false → IsOk result }
@@ -92,7 +92,7 @@ pub fn do_connect<R: Rng>(context: &mut Context<R>) -> Result<(), AllocError>
 
 /// Sends an ABORT under this tag, since the INIT ACK under it has no cookie.
 ///
-/// The one error is that a growth was refused. Nothing has changed then.
+/// `Err`: an allocation failed, and nothing has changed.
 fn send_missing_cookie<R: Rng>(context: &mut Context<R>, tag: u32) -> Result<(), AllocError>
     ensures { Tries R.stream (missing_cookie_turn tag) context.old result context.new }
 {
@@ -107,9 +107,9 @@ fn send_missing_cookie<R: Rng>(context: &mut Context<R>, tag: u32) -> Result<(),
     Ok(())
 }
 
-/// Ends the association, since an INIT ACK of this tag has no cookie: ABORT goes out under that tag.
+/// Ends the association, since an INIT ACK of this tag has no cookie. An ABORT is sent under that tag.
 ///
-/// The one error is that a growth was refused. The first events of the turn may stand then.
+/// `Err`: an allocation failed; the first of its events may already have been added.
 fn refuse_init_ack<R: Rng>(context: &mut Context<R>, tag: u32) -> Result<(), AllocError>
     requires { is_closed (core_of context.old.state) ≡ false }
     ensures { Takes R.stream (refusal_turn tag) context.old result context.new }
@@ -137,10 +137,9 @@ fn implementation_of(cookie: &[u8]) -> SctpImplementation
     }
 }
 
-/// Sends the cookie that is echoed, where it fits `mtu`: it is in front of a flush. In another state
-/// nothing is sent.
+/// Sends the COOKIE ECHO, if it fits `mtu`, at the front of a flush. In another state nothing is sent.
 ///
-/// The one error is that a growth was refused. The first events of the turn may stand then.
+/// `Err`: an allocation failed; the first of its events may already have been added.
 pub(crate) fn send_cookie_echo<R: Rng>(context: &mut Context<R>) -> Result<(), AllocError>
     ensures { TakesOne R.stream EchoAt context.old result context.new }
 {
@@ -179,9 +178,9 @@ fn peer_by_init_ack(options: &Options, init_ack: &InitChunk<'_>) -> Peer
     }
 }
 
-/// Holds the association that an INIT ACK with this cookie shows, and echoes the cookie.
+/// Makes the association that an INIT ACK with this cookie shows, and echoes the cookie.
 ///
-/// The one error is that a growth was refused. The first events of the turn may stand then.
+/// `Err`: an allocation failed; the first of its events may already have been added.
 fn echo_cookie<R: Rng>(
     context: &mut Context<R>,
     my: Pair,
@@ -210,11 +209,11 @@ fn echo_cookie<R: Rng>(
     Ok(())
 }
 
-/// Works an INIT ACK, which counts in CookieWait alone (RFC 9260, section 5.2.3). One without a cookie
-/// ends the association, and the rest of its packet is dropped; one with a cookie shows the peer, and
-/// the cookie is echoed.
+/// Handles an INIT ACK, which counts only in CookieWait (RFC 9260, section 5.2.3). One without a cookie ends
+/// the association, and the rest of its packet is dropped. One with a cookie makes the peer known, and the
+/// cookie is echoed.
 ///
-/// The one error is that a growth was refused. The first events of the turn may stand then.
+/// `Err`: an allocation failed; the first of its events may already have been added.
 pub fn handle_init_ack<R: Rng>(
     context: &mut Context<R>,
     init_ack: &InitChunk<'_>,
@@ -240,10 +239,10 @@ pub fn handle_init_ack<R: Rng>(
     }
 }
 
-/// Works a COOKIE ACK, which counts in CookieEchoed alone (RFC 9260, section 5.2.5): the association
-/// is established, and a flush follows.
+/// Handles a COOKIE ACK, which counts only in CookieEchoed (RFC 9260, section 5.2.5): the association is
+/// established, and a flush follows.
 ///
-/// The one error is that a growth was refused. The first events of the turn may stand then.
+/// `Err`: an allocation failed; the first of its events may already have been added.
 pub fn handle_cookie_ack<R: Rng>(context: &mut Context<R>) -> Result<(), AllocError>
     ensures { TakesOne R.stream CookieAckAt context.old result context.new }
 {

@@ -16,9 +16,9 @@ use dcsctp_wire::{Chunk, CookieEchoChunk, ErrorCause, ErrorChunk};
 use rand_core::Rng;
 use std::alloc::{AllocError, Global};
 
-/// Sends COOKIE ACK to the peer that is held: it is in front of a flush.
+/// Sends COOKIE ACK to the peer, at the front of a flush.
 ///
-/// The one error is that a growth was refused. The first events of the turn may stand then.
+/// `Err`: an allocation failed; the first of its events may already have been added.
 fn send_cookie_ack<R: Rng>(context: &mut Context<R>) -> Result<(), AllocError>
     ensures { TakesOne R.stream AcknowledgementAt context.old result context.new }
 {
@@ -31,7 +31,7 @@ fn send_cookie_ack<R: Rng>(context: &mut Context<R>) -> Result<(), AllocError>
     Ok(())
 }
 
-// Makes the association that a cookie shows. What waits to be sent stays.
+// Makes the association that a cookie shows. What waits to be sent is kept.
 fn begin_association<R: Rng>(context: &mut Context<R>, cookie: &StateCookie, tie_tag: u64)
     ensures { view_of context.new ≡ record (view_of context.old) {
       endpoint = established_with
@@ -55,9 +55,9 @@ fn begin_association<R: Rng>(context: &mut Context<R>, cookie: &StateCookie, tie
     context.start_heartbeat_interval();
 }
 
-/// Makes the association that a cookie shows, and acknowledges it. What waits to be sent stays.
+/// Makes the association that a cookie shows, and acknowledges it. What waits to be sent is kept.
 ///
-/// The one error is that a growth was refused. The first events of the turn may stand then.
+/// `Err`: an allocation failed; the first of its events may already have been added.
 fn establish<R: Rng>(context: &mut Context<R>, cookie: &StateCookie) -> Result<(), AllocError>
     ensures { TakesOne R.stream (EstablishAt R.stream (cookie_of cookie.now)) context.old result
         context.new }
@@ -69,10 +69,9 @@ fn establish<R: Rng>(context: &mut Context<R>, cookie: &StateCookie) -> Result<(
     Ok(())
 }
 
-/// Makes the association that a cookie shows in place of the one that is held. What waits to be sent
-/// begins anew.
+/// Makes the association that a cookie shows instead of the existing one. What waits to be sent starts anew.
 ///
-/// The one error is that a growth was refused. The first events of the turn may stand then.
+/// `Err`: an allocation failed; the first of its events may already have been added.
 fn replace<R: Rng>(context: &mut Context<R>, cookie: &StateCookie) -> Result<(), AllocError>
     ensures { TakesOne R.stream (ReplaceAt R.stream (cookie_of cookie.now)) context.old result
         context.new }
@@ -84,7 +83,7 @@ fn replace<R: Rng>(context: &mut Context<R>, cookie: &StateCookie) -> Result<(),
 
 /// Makes the association anew, since the peer began it anew.
 ///
-/// The one error is that a growth was refused. The first events of the turn may stand then.
+/// `Err`: an allocation failed; the first of its events may already have been added.
 fn restart<R: Rng>(context: &mut Context<R>, cookie: &StateCookie) -> Result<(), AllocError>
     ensures { TakesOne R.stream (RestartAt R.stream (cookie_of cookie.now)) context.old result
         context.new }
@@ -104,11 +103,11 @@ fn shutting_down_error(alloc: Global) -> Result<ErrorChunk<'static>, AllocError>
     Ok(ErrorChunk { error_causes })
 }
 
-// Refuses a restart, since a SHUTDOWN ACK waits for its answer: SHUTDOWN ACK goes out again, with an ERROR of the cause
-// Cookie Received While Shutting Down, and the error is reported (RFC 9260, section 5.2.4, A). Without a peer nothing
-// happens.
+// Refuses a restart, since a SHUTDOWN ACK waits for its answer. SHUTDOWN ACK is sent again, with an ERROR of
+// the cause Cookie Received While Shutting Down. The error is reported (RFC 9260, section 5.2.4, A). Without
+// a peer nothing happens.
 //
-// The one error is that a growth was refused. The first events of the turn may stand then.
+// `Err`: an allocation failed; the first of its events may already have been added.
 fn refuse_restart<R: Rng>(context: &mut Context<R>) -> Result<Following, AllocError>
     ensures { Works R.stream refused_restart_turn context.old result context.new }
 {
@@ -141,7 +140,7 @@ fn awaits_complete(state: &State) -> bool
 
 // Makes the association anew, unless a SHUTDOWN ACK waits for its answer.
 //
-// The one error is that a growth was refused. The first events of the turn may stand then.
+// `Err`: an allocation failed; the first of its events may already have been added.
 fn restart_where_open<R: Rng>(
     context: &mut Context<R>,
     cookie: &StateCookie,
@@ -156,9 +155,9 @@ fn restart_where_open<R: Rng>(
     Ok(Following::NextChunk)
 }
 
-/// Acknowledges the association that is held; where its COOKIE ACK is awaited, it is established.
+/// Acknowledges the existing association, and establishes it if its COOKIE ACK is awaited.
 ///
-/// The one error is that a growth was refused. The first events of the turn may stand then.
+/// `Err`: an allocation failed; the first of its events may already have been added.
 fn maintain<R: Rng>(context: &mut Context<R>) -> Result<(), AllocError>
     ensures { TakesOne R.stream MaintainAt context.old result context.new }
 {
@@ -176,10 +175,10 @@ fn maintain<R: Rng>(context: &mut Context<R>) -> Result<(), AllocError>
     Ok(())
 }
 
-/// Works a COOKIE ECHO in a packet with this header tag. After one that is refused or discarded the rest
-/// of the packet is dropped.
+/// Handles a COOKIE ECHO in a packet with this header tag. After one that is refused or discarded the rest of
+/// the packet is dropped.
 ///
-/// The one error is that a growth was refused. The first events of the turn may stand then.
+/// `Err`: an allocation failed; the first of its events may already have been added.
 pub fn handle_cookie_echo<R: Rng>(
     context: &mut Context<R>,
     header_tag: u32,
@@ -211,7 +210,7 @@ pub fn handle_cookie_echo<R: Rng>(
 
 /// Reports that a COOKIE ECHO was refused, and why.
 ///
-/// The one error is that a growth was refused. Nothing has changed then.
+/// `Err`: an allocation failed, and nothing has changed.
 fn refuse<R: Rng>(context: &mut Context<R>, text: &str) -> Result<(), AllocError>
     ensures { Tries R.stream (refuse_turn text.now) context.old result context.new }
 {

@@ -16,8 +16,7 @@ use std::alloc::AllocError;
 /// How far a new first TSN is from those in use.
 const TSN_GAP: u32 = 1_000_000;
 
-/// Draws a tag, which is never 0, to go with this first TSN. The pair is kept. The one error is that a
-/// growth was refused.
+/// Draws a tag, which is never 0, to go with this first TSN. The pair is kept.
 fn draw_tag<R: Rng>(context: &mut Context<R>, first_tsn: u32) -> Result<Pair, AllocError>
     ensures { DrawsTag R.stream first_tsn context.old result context.new }
 {
@@ -27,8 +26,7 @@ fn draw_tag<R: Rng>(context: &mut Context<R>, first_tsn: u32) -> Result<Pair, Al
     Ok(pair)
 }
 
-/// Draws a first TSN, and then the tag that goes with it. The pair is kept. The one error is that a
-/// growth was refused.
+/// Draws a first TSN, and then the tag that goes with it. The pair is kept.
 pub(crate) fn draw_pair<R: Rng>(context: &mut Context<R>) -> Result<Pair, AllocError>
     ensures { DrawsPair R.stream context.old result context.new }
 {
@@ -37,10 +35,10 @@ pub(crate) fn draw_pair<R: Rng>(context: &mut Context<R>) -> Result<Pair, AllocE
     Ok(pair)
 }
 
-/// Answers an INIT with this pair: an INIT ACK with a state cookie under the INIT's initiate tag,
-/// without a checksum where zero checksum is negotiated (RFC 9653, section 5.2).
+/// Answers an INIT with this pair: sends an INIT ACK with a state cookie under the INIT's initiate tag. It
+/// has no checksum if zero checksum is negotiated (RFC 9653, section 5.2).
 ///
-/// The one error is that a growth was refused. Nothing has changed then.
+/// `Err`: an allocation failed, and nothing has changed.
 fn send_init_ack<R: Rng>(
     context: &mut Context<R>,
     init: &InitChunk<'_>,
@@ -73,10 +71,10 @@ fn send_init_ack<R: Rng>(
     Ok(())
 }
 
-// Answers an INIT while an association is open: with a tag that is drawn for it, a first TSN far from those in use, and
-// the tie tag (RFC 9260, section 5.2.2). Without a peer nothing happens.
+// Answers an INIT while an association is open. The answer has a tag that is drawn for it, a first TSN far
+// from those in use, and the tie tag (RFC 9260, section 5.2.2). Without a peer nothing happens.
 //
-// The one error is that a growth was refused. Nothing has changed then but what words were drawn.
+// `Err`: an allocation failed, and nothing has changed but the random words that were drawn.
 fn answer_anew<R: Rng>(context: &mut Context<R>, init: &InitChunk<'_>) -> Result<(), AllocError>
     ensures { TriesDrawing R.stream (renewed_turn R.stream (introduction_in (init_content init.now)))
         context.old result context.new }
@@ -93,12 +91,12 @@ fn answer_anew<R: Rng>(context: &mut Context<R>, init: &InitChunk<'_>) -> Result
     Ok(())
 }
 
-/// Works an INIT, which leaves the association as it is: while a handshake is under way the answer bears
-/// the own pair (RFC 9260, section 5.2.1), else one that is drawn for it, and the tie tag
-/// where an association is open (RFC 9260, section 5.2.2). Where a SHUTDOWN ACK waits for its answer, it goes out again
-/// in place of an answer, and T2 runs on (RFC 9260, section 9.2).
+/// Handles an INIT, which doesn't change the association. During a handshake the answer carries our own pair
+/// (RFC 9260, section 5.2.1), else one that is drawn for it. While an association is open it also carries the
+/// tie tag (RFC 9260, section 5.2.2). While a SHUTDOWN ACK waits for its answer, that is sent again instead,
+/// and T2 runs on (RFC 9260, section 9.2).
 ///
-/// The one error is that a growth was refused. Nothing has changed then but what words were drawn.
+/// `Err`: an allocation failed, and nothing has changed but the random words that were drawn.
 pub fn handle_init<R: Rng>(context: &mut Context<R>, init: &InitChunk<'_>) -> Result<(), AllocError>
     ensures { TriesDrawing R.stream (init_turn R.stream (introduction_in (init_content init.now)))
         context.old result context.new }

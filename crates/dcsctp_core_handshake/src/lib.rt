@@ -1,5 +1,5 @@
-//! The handshake (RFC 9260, section 5): connect, the handlers of INIT, INIT ACK, COOKIE ECHO and COOKIE
-//! ACK, and T1. They work on the parts that `dcsctp_core` shares; the calls of a socket are their callers.
+//! The handshake (RFC 9260, section 5): connect, the handlers of INIT, INIT ACK, COOKIE ECHO and COOKIE ACK,
+//! and T1. They work on the parts that `dcsctp_core` shares, and the calls of a socket call them.
 #![tactic(auto)]
 
 mod connect;

@@ -34,8 +34,7 @@ fn extensions(options: &Options) -> &'static [u8]
     }
 }
 
-/// What is offered, with this method, and the cookie where there is one. The one error is that a growth
-/// was refused.
+/// What is offered, with this method, and the cookie if there is one.
 fn parameters<'a>(
     alloc: Global,
     options: &Options,
@@ -62,7 +61,7 @@ fn parameters<'a>(
 }
 
 /// What a socket with these options and this pair says in an INIT, or in an INIT ACK with a cookie. The
-/// method is the one that is announced. The one error is that a growth was refused.
+/// method is the one that is announced.
 pub(crate) fn introduction<'a>(
     alloc: Global,
     options: &Options,

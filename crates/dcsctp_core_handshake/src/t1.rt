@@ -1,5 +1,5 @@
-//! T1-init and T1-cookie (RFC 9260, section 5.1): a packet that isn't answered is sent again, and after
-//! its last restart the association is given up. Called where the time is told.
+//! T1-init and T1-cookie (RFC 9260, section 5.1): a packet that isn't answered is sent again. After its last
+//! restart the association ends. Called by `advance_time`.
 
 ghost use Rattle.std.specs.Prelude.{string_bytes};
 ghost use Rattle.dcsctp_machine.specs.TimeTurns.{t1_timer};
@@ -14,8 +14,8 @@ use dcsctp_core::{Context, Expiry, State};
 use rand_core::Rng;
 use std::alloc::AllocError;
 
-// Sends the packet again that isn't answered yet, where it fits `mtu`: INIT, or COOKIE ECHO in front of a
-// flush. The one error is that a growth was refused. The first events of the turn may stand then.
+// Sends the packet again that isn't answered yet, if it fits `mtu`: INIT, or COOKIE ECHO in front of a flush.
+// `Err`: an allocation failed; the first of its events may already have been added.
 fn send_again<R: Rng>(context: &mut Context<R>) -> Result<(), AllocError>
     ensures { TakesOne R.stream AgainAt context.old result context.new }
 {
@@ -31,8 +31,8 @@ fn send_again<R: Rng>(context: &mut Context<R>) -> Result<(), AllocError>
     Ok(())
 }
 
-// Ends the association for want of an answer, with this text. The one error is that a growth was refused.
-// Nothing has changed then.
+// Ends the association since no answer came, with this text. `Err`: an allocation failed, and nothing has
+// changed.
 fn abandon<R: Rng>(context: &mut Context<R>, text: &str) -> Result<(), AllocError>
     ensures { Tries R.stream (abandon_turn text.now) context.old result context.new }
 {
@@ -41,8 +41,7 @@ fn abandon<R: Rng>(context: &mut Context<R>, text: &str) -> Result<(), AllocErro
     Ok(())
 }
 
-// Gives the association up whose packet was never answered. The one error is that a growth was refused.
-// Nothing has changed then.
+// Ends the association whose packet was never answered. `Err`: an allocation failed, and nothing has changed.
 fn give_up<R: Rng>(context: &mut Context<R>) -> Result<(), AllocError>
     ensures { Tries R.stream give_up_turn context.old result context.new }
 {
@@ -55,11 +54,11 @@ fn give_up<R: Rng>(context: &mut Context<R>) -> Result<(), AllocError>
     Ok(())
 }
 
-/// Tells T1 the present moment, and answers whether it expires (RFC 9260, section 5.1): its packet is sent
-/// again and it backs off, or, with no restart left, the association ends with OnAborted. Where it isn't due,
-/// or doesn't run, nothing happens, and want of memory is never the answer.
+/// Advances T1 to the present moment, and returns whether it expires (RFC 9260, section 5.1). Then its packet
+/// is sent again and it backs off; with no restart left, the association ends with OnAborted. If it isn't
+/// due, or doesn't run, nothing happens, and no allocation can fail.
 ///
-/// The one error is that a growth was refused. The first events of the turn may stand then.
+/// `Err`: an allocation failed; the first of its events may already have been added.
 pub fn handle_t1<R: Rng>(context: &mut Context<R>) -> Result<bool, AllocError>
     ensures { Expires R.stream t1_timer context.old result context.new }
 {

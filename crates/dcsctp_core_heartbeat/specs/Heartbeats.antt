@@ -14,7 +14,7 @@ heartbeat_turn parameters view = heartbeat_outcome view.endpoint view.endpoint.c
 abbrev pub heartbeat_ack_turn : {R : Type 0} → List ParameterContent → View R → Outcome
 heartbeat_ack_turn parameters view = heartbeat_ack_outcome view.endpoint (counter_of (info_in parameters))
 
--- The next HEARTBEAT goes out, where a peer is held.
+-- The next HEARTBEAT is sent, if the peer is known.
 abbrev pub beat_outcome : Endpoint → Core → Outcome
 beat_outcome e (cookie_echoed my held cookie) = beat e held
 beat_outcome e (open_in phase my held) = beat e held

@@ -15,7 +15,7 @@ use std::alloc::AllocError;
 
 const INVALID_INFO: &str = "Failed to parse HEARTBEAT-ACK; Invalid info parameter";
 
-// What the HEARTBEAT bore: the first Heartbeat Info counts.
+// What the HEARTBEAT carried: the first Heartbeat Info counts.
 fn heartbeat_info<'a>(parameters: &[Parameter<'a>]) -> Option<&'a [u8]>
     ensures { option_map (λ bytes. bytes.now) result ≡ info_in (map parameter_content parameters.now) }
 {
@@ -27,7 +27,7 @@ fn heartbeat_info<'a>(parameters: &[Parameter<'a>]) -> Option<&'a [u8]>
     None
 }
 
-// The counter that the HEARTBEAT bore, in four bytes.
+// The counter that the HEARTBEAT carried, in four bytes.
 fn counter_in(parameters: &[Parameter<'_>]) -> Option<u32>
     ensures { result ≡ counter_of (info_in (map parameter_content parameters.now)) }
 {
@@ -37,7 +37,7 @@ fn counter_in(parameters: &[Parameter<'_>]) -> Option<u32>
     }
 }
 
-// Reports an answer without a counter. The one error is that a growth was refused. Nothing has changed then.
+// Reports an answer without a counter. `Err`: an allocation failed, and nothing has changed.
 fn report_invalid_info<R: Rng>(context: &mut Context<R>) -> Result<(), AllocError>
     ensures { Tries R.stream (report_turn ErrorKind.ParseFailed invalid_info_text) context.old result
         context.new }
@@ -47,10 +47,10 @@ fn report_invalid_info<R: Rng>(context: &mut Context<R>) -> Result<(), AllocErro
     Ok(())
 }
 
-/// Works a HEARTBEAT ACK. One with the counter of the last HEARTBEAT shows that the peer is there: no answer
-/// is awaited, and no error counts. One without a counter of four bytes is reported.
+/// Handles a HEARTBEAT ACK. One with the counter of the last HEARTBEAT shows that the peer is there: no
+/// answer is awaited, and no error counts. One without a counter of four bytes is reported.
 ///
-/// The one error is that a growth was refused. Nothing has changed then.
+/// `Err`: an allocation failed, and nothing has changed.
 pub fn handle_heartbeat_ack<R: Rng>(
     context: &mut Context<R>,
     chunk: &HeartbeatAckChunk<'_>,

@@ -10,9 +10,9 @@ use dcsctp_wire::{Chunk, HeartbeatAckChunk, HeartbeatRequestChunk, Parameter};
 use rand_core::Rng;
 use std::alloc::AllocError;
 
-// Sends a HEARTBEAT ACK with these parameters under this tag, where it fits `mtu`.
+// Sends a HEARTBEAT ACK with these parameters under this tag, if it fits `mtu`.
 //
-// The one error is that a growth was refused. Nothing has changed then.
+// `Err`: an allocation failed, and nothing has changed.
 fn emit_ack<R: Rng>(
     context: &mut Context<R>,
     tag: u32,
@@ -28,10 +28,10 @@ fn emit_ack<R: Rng>(
     Ok(())
 }
 
-/// Answers a HEARTBEAT of the peer, where one is held: a HEARTBEAT ACK goes out with the same parameters,
-/// where it fits `mtu`.
+/// Answers a HEARTBEAT of the peer, if it is known: a HEARTBEAT ACK is sent with the same parameters, if it
+/// fits `mtu`.
 ///
-/// The one error is that a growth was refused. Nothing has changed then.
+/// `Err`: an allocation failed, and nothing has changed.
 pub fn handle_heartbeat_request<R: Rng>(
     context: &mut Context<R>,
     chunk: &HeartbeatRequestChunk<'_>,

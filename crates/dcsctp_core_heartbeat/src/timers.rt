@@ -1,4 +1,4 @@
-//! The heartbeat interval, and the timer of its answer (RFC 9260, section 8.3). Called where the time is told.
+//! The heartbeat interval, and the timer of its answer (RFC 9260, section 8.3). Called by `advance_time`.
 
 ghost use Rattle.std.specs.Prelude.{[], ◌∷◌};
 ghost use Rattle.std.specs.Int.{w32, to_be_bytes};
@@ -14,9 +14,9 @@ use dcsctp_wire::{Chunk, HeartbeatRequestChunk, Parameter};
 use rand_core::Rng;
 use std::alloc::AllocError;
 
-// Sends a HEARTBEAT with this counter under this tag, where it fits `mtu`.
+// Sends a HEARTBEAT with this counter under this tag, if it fits `mtu`.
 //
-// The one error is that a growth was refused. Nothing has changed then.
+// `Err`: an allocation failed, and nothing has changed.
 fn emit_heartbeat<R: Rng>(
     context: &mut Context<R>,
     tag: u32,
@@ -34,8 +34,8 @@ fn emit_heartbeat<R: Rng>(
     Ok(())
 }
 
-// Sends the next HEARTBEAT to the peer, where one is held. The one error is that a growth was refused. The
-// first events of the turn may stand then.
+// Sends the next HEARTBEAT to the peer, if it is known. `Err`: an allocation failed; the first of its events
+// may already have been added.
 fn send_heartbeat<R: Rng>(context: &mut Context<R>) -> Result<(), AllocError>
     ensures { Takes R.stream beat_turn context.old result context.new }
 {
@@ -51,10 +51,10 @@ fn send_heartbeat<R: Rng>(context: &mut Context<R>) -> Result<(), AllocError>
     Ok(())
 }
 
-/// Tells the heartbeat interval the present moment, and answers whether it expires: it goes on, and a
-/// HEARTBEAT goes out to the peer, where one is held.
+/// Advances the heartbeat interval to the present moment, and returns whether it expires. If so, it goes on,
+/// and a HEARTBEAT is sent to the peer, if it is known.
 ///
-/// The one error is that a growth was refused. The first events of the turn may stand then.
+/// `Err`: an allocation failed; the first of its events may already have been added.
 pub fn handle_heartbeat_interval<R: Rng>(context: &mut Context<R>) -> Result<bool, AllocError>
     ensures { Expires R.stream (own_timer heartbeat_interval) context.old result context.new }
 {
@@ -65,8 +65,8 @@ pub fn handle_heartbeat_interval<R: Rng>(context: &mut Context<R>) -> Result<boo
     Ok(true)
 }
 
-/// Tells the timer of the answer to a HEARTBEAT the present moment, and answers whether it expires: the
-/// answer didn't come, and an error is counted. It takes no memory.
+/// Advances the timer of the answer to a HEARTBEAT to the present moment, and returns whether it expires. If
+/// so, the answer didn't come, and an error is counted. Allocates nothing.
 pub fn handle_heartbeat_timeout<R: Rng>(context: &mut Context<R>) -> bool
     ensures { ExpiresAlways R.stream (own_timer heartbeat_timeout) context.old result context.new }
 {

@@ -1,4 +1,4 @@
--- What a reset of own streams does, as turns of a socket's view.
+-- What a reset of our own streams does, as turns of a socket's view.
 use Rattle.std.specs.Prelude.{◌≡◌, ℕ, Result, Ok, Err, List, [], map}
 use Rattle.rand_core.specs.Stream.{Stream}
 use Rattle.dcsctp_machine.specs.Transfer.{SendQueueState}
@@ -19,7 +19,7 @@ pub record PreparesOne (id : ℕ) (e : Endpoint) (o : Outcome) : Type 0 where
   pub prepares : Prepares id e.below.queue told queue
   pub is : o ≡ quiet (with_queue e queue) [] (map told_event told)
 
--- the same of several
+-- the same for several
 pub record PreparesSome (ids : List ℕ) (e : Endpoint) (o : Outcome) : Type 0 where
   pub queue : SendQueueState
   pub told : List Told
@@ -35,7 +35,8 @@ SomeAt ids view o = PreparesSome ids view.endpoint o
 abbrev pub ResetsAt : {R : Type 0} → List ℕ → View R → Outcome → Type 0
 ResetsAt ids view o = OwnResetsTurn view.endpoint ids o
 
--- The turn took place, and whether it was refused is answered; or a growth was refused, and the first of its events may stand.
+-- The turn took place, and the result says whether it was refused. Or an allocation failed, and the first of its events may have
+-- been added.
 abbrev pub ResetsAll : {R E : Type 0} → (R → Stream) → List ℕ → Context R → Result (Result (Unit {0}) ResetStreamsError) E → Context R → Type 0
 ResetsAll stream ids old (Ok answer) new =
     (reset_refusal_in answer ≡ reset_refusal (view_of old).endpoint) × TakesIn stream (ResetsAt ids) (view_of old) (view_of new)

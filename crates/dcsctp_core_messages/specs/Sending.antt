@@ -18,7 +18,7 @@ use Rattle.dcsctp_core_messages.specs.declared.queueing.QueuedAll.{QueuedAll}
 
 -- ---- a message that is refused
 
--- what is told of the message of this name, where it has one
+-- the events about the message of this name, if it has one
 abbrev pub end_events : Option LifecycleId → List (Event Emission)
 end_events None = []
 end_events (Some id) = lifecycle_end (lifecycle_number id) ∷ []
@@ -26,11 +26,11 @@ end_events (Some id) = lifecycle_end (lifecycle_number id) ∷ []
 abbrev pub end_turn : {R : Type 0} → Option LifecycleId → View R → Outcome
 end_turn id view = quiet view.endpoint [] (end_events id)
 
--- The end of a message of this name is told, where it has one; or a growth was refused, and nothing has changed.
+-- The end of a message of this name is reported, if it has one; or an allocation failed, and nothing has changed.
 abbrev pub EndTold : {R E : Type 0} → (R → Stream) → Option LifecycleId → Context R → Result (Unit {0}) E → Context R → Type 0
 EndTold stream id old result new = Tries stream (end_turn id) old result new
 
--- Why a message is refused is told; or a growth was refused, and nothing has changed.
+-- The reason why a message is refused is reported; or an allocation failed, and nothing has changed.
 abbrev pub ErrorTold : {R E : Type 0} → (R → Stream) → MessageRefusal → Context R → Result (Unit {0}) E → Context R → Type 0
 ErrorTold stream refusal old result new =
     Tries stream (λ view. reports view.endpoint (refusal_kind refusal) (refusal_text refusal)) old result new
@@ -43,7 +43,7 @@ refusal_turn refusal id view = quiet view.endpoint [] (refusal_events refusal (o
 abbrev pub queued_turn : {R : Type 0} → Sending → View R → Outcome
 queued_turn message view = still (message_queued view.endpoint message)
 
--- The message was taken or refused; or a growth was refused, and the first of its events may stand.
+-- The message was taken or refused; or an allocation failed, and the first of its events may have been added.
 abbrev pub Queues : {R E : Type 0} → (R → Stream) → Sending → Context R → Result (Option SendError) E → Context R → Type 0
 Queues stream message old (Ok refused) new =
     (option_map refusal_of refused ≡ message_refusal (view_of old).endpoint message.stream message.bytes)
@@ -57,8 +57,8 @@ NotedAt place (Some refusal) old new =
     (refused_in new.refused.items ≡ refused_in old.refused.items ++ record { place = place; refusal = refusal } ∷ [])
     × (new.has_taken ≡ old.has_taken)
 
--- The message of this place was taken or refused, and that was noted; or a growth was refused, and the first of its events may
--- stand.
+-- The message of this place was taken or refused, and that was noted. Or an allocation failed, and the first of its events may
+-- have been added.
 abbrev pub QueuesAt : {R E : Type 0} → (R → Stream) → ℕ → Sending → QueuedAll → Context R → Result (Unit {0}) E → QueuedAll → Context R → Type 0
 QueuesAt stream place message queued old (Ok done) queued_then new =
     NotedAt place (message_refusal (view_of old).endpoint message.stream message.bytes) queued queued_then
@@ -80,21 +80,21 @@ QueuesAll stream messages old (Err error) new = CutTurn (view_of old) (queue_all
 abbrev pub SendAt : {R : Type 0} → List Sending → View R → Outcome → Type 0
 SendAt messages view o = SendTurn view.endpoint messages o
 
--- The message was sent or refused; or a growth was refused, and the first of the turn's events may stand.
+-- The message was sent or refused; or an allocation failed, and the first of its events may have been added.
 abbrev pub SendsOne : {R E : Type 0} → (R → Stream) → Sending → Context R → Result (Result (Unit {0}) SendError) E → Context R → Type 0
 SendsOne stream message old (Ok answer) new =
     (refusal_in answer ≡ message_refusal (view_of old).endpoint message.stream message.bytes)
     × TakesIn stream (SendAt (message ∷ [])) (view_of old) (view_of new)
 SendsOne stream message old (Err error) new = CutIn (SendAt (message ∷ [])) (view_of old) (view_of new).events
 
--- the same of several
+-- the same for several
 abbrev pub SendsAll : {R E : Type 0} → (R → Stream) → List Sending → Context R → Result (Result (Unit {0}) BatchSendError) E → Context R → Type 0
 SendsAll stream messages old (Ok answer) new =
     IsBatchAnswer (refused_from 0 (view_of old).endpoint messages) answer
     × TakesIn stream (SendAt messages) (view_of old) (view_of new)
 SendsAll stream messages old (Err error) new = CutIn (SendAt messages) (view_of old) (view_of new).events
 
--- What waits went out, where it was to; else nothing has changed.
+-- What waits was sent, if it was to; else nothing has changed.
 abbrev pub FlushesWhere : {R E : Type 0} → (R → Stream) → Bool → Context R → Result (Unit {0}) E → Context R → Type 0
 FlushesWhere stream true old result new = TakesOne stream FlushAt old result new
 FlushesWhere stream false old (Ok done) new = view_of new ≡ view_of old

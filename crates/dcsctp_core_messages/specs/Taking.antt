@@ -6,7 +6,7 @@ use Rattle.dcsctp_machine.specs.turns.DataOutcomes.{TakeTurn}
 use Rattle.dcsctp_api.specs.Messages.{IsFirst, ready_messages}
 use Rattle.dcsctp_core.specs.View.{View}
 
--- The first message that is ready is taken, where one is, and nothing is told.
+-- The first message that is ready is taken, if one is, and no event is added.
 pub record TakesNextOf {R : Type 0} (old : View R) (result : Option Message) (new : View R) : Type 0 where
   pub first : IsFirst (ready_messages old.endpoint) result
   pub outcome : Outcome

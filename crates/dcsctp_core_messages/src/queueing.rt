@@ -22,8 +22,7 @@ pub(crate) struct QueuedAll {
     pub has_taken: bool,
 }
 
-// Takes a message that isn't refused into the queue. The one error is that a growth was refused. Nothing has
-// changed then.
+// Adds an accepted message to the queue. `Err`: an allocation failed, and nothing has changed.
 fn add_message<R: Rng>(
     context: &mut Context<R>,
     message: Message,
@@ -38,9 +37,9 @@ fn add_message<R: Rng>(
     Ok(())
 }
 
-/// Takes a message into the queue, or refuses it and tells so; why it is refused is answered.
+/// Adds a message to the queue, or refuses it and reports that. Returns why it is refused.
 ///
-/// The one error is that a growth was refused. The first of the events may stand then.
+/// `Err`: an allocation failed; the first of its events may already have been added.
 pub(crate) fn queue_message<R: Rng>(
     context: &mut Context<R>,
     message: Message,
@@ -63,7 +62,7 @@ pub(crate) fn queue_message<R: Rng>(
 
 // Takes the message of this place or refuses it, and notes which.
 //
-// The one error is that a growth was refused. The first of the events may stand then.
+// `Err`: an allocation failed; the first of its events may already have been added.
 fn queue_at<R: Rng>(
     context: &mut Context<R>,
     place: usize,
@@ -83,7 +82,7 @@ fn queue_at<R: Rng>(
 
 /// Takes several messages or refuses them, one after another.
 ///
-/// The one error is that a growth was refused. The first of the events may stand then.
+/// `Err`: an allocation failed; the first of its events may already have been added.
 pub(crate) fn queue_messages<R: Rng>(
     context: &mut Context<R>,
     messages: Vec<Message>,

@@ -13,8 +13,8 @@ use dcsctp_core::Context;
 use rand_core::Rng;
 use std::alloc::AllocError;
 
-/// Why a message of so many bytes is refused on this stream: the first reason that there is. It takes no
-/// memory.
+/// Why a message of that many bytes is refused on this stream: the first reason that holds. Allocates
+/// nothing.
 pub(crate) fn refusal<R: Rng>(
     context: &Context<R>,
     stream_id: StreamId,
@@ -38,7 +38,7 @@ pub(crate) fn refusal<R: Rng>(
     None
 }
 
-// Does as much wait as may wait, in all or on this stream?
+// Is the send buffer full, in all or for this stream?
 fn has_no_room<R: Rng>(context: &Context<R>, stream_id: StreamId) -> bool
     ensures { result ≡ is_full (endpoint_of context.now).options (endpoint_of context.now).below.queue stream_id.0 }
 {
@@ -47,8 +47,8 @@ fn has_no_room<R: Rng>(context: &Context<R>, stream_id: StreamId) -> bool
             <= context.send_queue.buffered_amount(stream_id)
 }
 
-// Tells that the message of this name has come to its end, where it has one. The one error is that a growth
-// was refused. Nothing has changed then.
+// Reports the end of the message of this name, if it has one. `Err`: an allocation failed, and nothing has
+// changed.
 fn tell_end<R: Rng>(
     context: &mut Context<R>,
     lifecycle_id: Option<LifecycleId>,
@@ -61,7 +61,7 @@ fn tell_end<R: Rng>(
     Ok(())
 }
 
-// What kind of error it is that a message is refused so.
+// The kind of the error of this refusal.
 fn kind_of(error: SendError) -> ErrorKind
     ensures { result ≡ refusal_kind (refusal_of error) }
 {
@@ -73,7 +73,7 @@ fn kind_of(error: SendError) -> ErrorKind
     }
 }
 
-// What is told of it.
+// Its text.
 fn text_of(error: SendError) -> &'static str
     ensures { result.now ≡ refusal_text (refusal_of error) }
 {
@@ -85,7 +85,7 @@ fn text_of(error: SendError) -> &'static str
     }
 }
 
-// Reports why a message is refused. The one error is that a growth was refused. Nothing has changed then.
+// Reports why a message is refused. `Err`: an allocation failed, and nothing has changed.
 fn report_refusal<R: Rng>(context: &mut Context<R>, error: SendError) -> Result<(), AllocError>
     ensures { ErrorTold R.stream (refusal_of error) context.old result context.new }
 {
@@ -94,9 +94,9 @@ fn report_refusal<R: Rng>(context: &mut Context<R>, error: SendError) -> Result<
     Ok(())
 }
 
-/// Tells the user that a message of this name is refused: its end, where it has a name, and then why.
+/// Tells the user that a message of this name is refused: its end, if it has a name, and then why.
 ///
-/// The one error is that a growth was refused. The first of these events may stand then.
+/// `Err`: an allocation failed; the first of its events may already have been added.
 pub(crate) fn tell_refusal<R: Rng>(
     context: &mut Context<R>,
     error: SendError,

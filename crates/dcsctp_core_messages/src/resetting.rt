@@ -14,10 +14,10 @@ use dcsctp_core::Context;
 use rand_core::Rng;
 use std::alloc::AllocError;
 
-/// Resets own streams: each is prepared in turn, and then what waits goes out. Where no peer is held, or resets
-/// weren't negotiated, that is refused, and nothing changes.
+/// Resets our own streams: each is prepared in turn, and then what waits is sent. If the peer isn't known, or
+/// resets weren't negotiated, this is refused, and nothing changes.
 ///
-/// The one error is that a growth was refused. The first events of the turn may stand then.
+/// `Err`: an allocation failed; the first of its events may already have been added.
 pub fn do_reset_streams<R: Rng>(
     context: &mut Context<R>,
     stream_ids: &[StreamId],
@@ -34,7 +34,7 @@ pub fn do_reset_streams<R: Rng>(
     }
 }
 
-// Why no stream can be reset. It takes no memory.
+// Why no stream can be reset. Allocates nothing.
 fn refusal<R: Rng>(context: &Context<R>) -> Option<ResetStreamsError>
     ensures { option_map reset_refusal_of result ≡ reset_refusal (endpoint_of context.now) }
 {
@@ -49,8 +49,8 @@ fn refusal<R: Rng>(context: &Context<R>) -> Option<ResetStreamsError>
     }
 }
 
-// Prepares a stream for its reset. The one error is that a growth was refused. The first of its events may
-// stand then.
+// Prepares a stream for its reset. `Err`: an allocation failed; the first of its events may already have been
+// added.
 fn prepare_stream<R: Rng>(context: &mut Context<R>, stream_id: StreamId) -> Result<(), AllocError>
     ensures { TakesOne R.stream (OneAt stream_id.0) context.old result context.new }
 {
@@ -59,8 +59,8 @@ fn prepare_stream<R: Rng>(context: &mut Context<R>, stream_id: StreamId) -> Resu
         .prepare_reset_stream(&mut context.events, stream_id)
 }
 
-// Prepares one stream after another. The one error is that a growth was refused. The first of the events may
-// stand then.
+// Prepares one stream after another. `Err`: an allocation failed; the first of its events may already have
+// been added.
 fn prepare_streams<R: Rng>(
     context: &mut Context<R>,
     stream_ids: &[StreamId],

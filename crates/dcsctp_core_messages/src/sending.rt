@@ -12,10 +12,10 @@ use dcsctp_core::Context;
 use rand_core::Rng;
 use std::alloc::AllocError;
 
-/// Sends a message: it waits behind the others of its stream, and what waits goes out where a peer is held. One
-/// that is refused is told, and nothing else changes.
+/// Sends a message: it waits after the others of its stream, and what waits is sent if the peer is known. A
+/// refused message is reported, and nothing else changes.
 ///
-/// The one error is that a growth was refused. The first events of the turn may stand then.
+/// `Err`: an allocation failed; the first of its events may already have been added.
 pub fn do_send<R: Rng>(
     context: &mut Context<R>,
     message: Message,
@@ -33,10 +33,10 @@ pub fn do_send<R: Rng>(
     }
 }
 
-/// Sends several messages, as `do_send` does one after another; but what waits goes out behind the last, where
-/// one of them was taken.
+/// Sends several messages, as `do_send` does one after another. But what waits is sent once, after the last,
+/// if one of them was accepted.
 ///
-/// The one error is that a growth was refused. The first events of the turn may stand then.
+/// `Err`: an allocation failed; the first of its events may already have been added.
 pub fn do_send_many<R: Rng>(
     context: &mut Context<R>,
     messages: Vec<Message>,
@@ -51,8 +51,8 @@ pub fn do_send_many<R: Rng>(
     Ok(batch_answer(refused))
 }
 
-// What waits goes out, where a message was taken. The one error is that a growth was refused. The first events
-// of the flush may stand then.
+// What waits is sent, if a message was taken. `Err`: an allocation failed; the first of its events may
+// already have been added.
 fn flush_where<R: Rng>(context: &mut Context<R>, has_taken: bool) -> Result<(), AllocError>
     ensures { FlushesWhere R.stream has_taken context.old result context.new }
 {
@@ -62,7 +62,7 @@ fn flush_where<R: Rng>(context: &mut Context<R>, has_taken: bool) -> Result<(), 
     Ok(())
 }
 
-// What is answered where these messages were refused.
+// The result if these messages were refused.
 fn batch_answer(refused: Vec<(usize, SendError)>) -> Result<(), BatchSendError>
     ensures { IsBatchAnswer (refused_in refused.items) result }
 {

@@ -7,8 +7,8 @@ use dcsctp_api::Message;
 use dcsctp_core::Context;
 use rand_core::Rng;
 
-/// Takes the message that became ready first, where one is ready, and gives its bytes back to the receive
-/// window (RFC 9260, section 6.2). It takes no memory.
+/// Takes the message that became ready first, if one is ready, and gives its bytes back to the receive window
+/// (RFC 9260, section 6.2). Allocates nothing.
 pub fn get_next_message<R: Rng>(context: &mut Context<R>) -> Option<Message>
     ensures { TakesNextOf (view_of context.old) result (view_of context.new) }
 {

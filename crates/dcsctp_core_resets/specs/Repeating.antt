@@ -14,7 +14,7 @@ abbrev pub request_chunk : OutgoingSsnResetRequestParameter → ChunkContent
 request_chunk request =
     re_config_chunk (outgoing_ssn_reset_request request.request_seq_nbr request.response_seq_nbr request.sender_last_assigned_tsn request.streams.now ∷ [])
 
--- The request that is outstanding goes out to the peer that is held.
+-- The outstanding request is sent to the peer.
 abbrev pub again_outcome : Endpoint → Option Held → Option OutstandingRequest → Outcome
 again_outcome e (Some held) (Some request) = request_emitted e held held.own_outstanding (reset_again (Some request))
 again_outcome e held request = still e
@@ -22,7 +22,7 @@ again_outcome e held request = still e
 abbrev pub again_turn : {R : Type 0} → View R → Outcome
 again_turn view = again_outcome view.endpoint (held_in view.endpoint.core) view.endpoint.outstanding
 
--- That is so, unless the peer is given up.
+-- That is so, unless the association is to be aborted.
 abbrev pub unless_outcome : Bool → Endpoint → Outcome
 unless_outcome true e = still e
 unless_outcome false e = again_outcome e (held_in e.core) e.outstanding

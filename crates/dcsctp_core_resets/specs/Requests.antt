@@ -56,7 +56,7 @@ is_performed Performed = true
 is_performed Deferred = false
 is_performed Nothing = false
 
--- what the user is told, where the peer wants these streams reset
+-- the events for the user, if the peer wants these streams reset
 abbrev pub treated_events : Treatment → List ℕ → List (Event Emission)
 treated_events Performed theirs = incoming_stream_reset theirs ∷ []
 treated_events Deferred theirs = []
@@ -74,16 +74,16 @@ pub record AnswersAs (base : Held) (a : AnsweredRequest) (b : Answered) : Type 0
   pub result : b.result ≡ a.result
   pub treats : Treats a.treatment b.effects
 
--- ---- the own request
+-- ---- our own request
 
--- what the user is told, where it resets these streams
+-- the events for the user, if it resets these streams
 abbrev pub own_events : OwnAnswer → List ℕ → List (Event Emission)
 own_events own.Unanswered streams = []
 own_events own.InProgress streams = []
 own_events own.Performed streams = streams_reset_performed streams ∷ []
 own_events own.Failed streams = streams_reset_failed streams ∷ []
 
--- the number of the request that is outstanding still
+-- the number of the request that is still outstanding
 abbrev pub left_out : outcomes.OwnAnswer → Option ℕ → Option ℕ
 left_out outcomes.unanswered outstanding = outstanding
 left_out outcomes.retried outstanding = outstanding
@@ -96,7 +96,7 @@ own_kind own.InProgress = outcomes.retried
 own_kind own.Performed = outcomes.over
 own_kind own.Failed = outcomes.over
 
--- What was made of parameters, once it has ended so. What it tells comes first where no outgoing request was worked so far.
+-- What was made of parameters, once it has ended so. What it tells comes first if no outgoing request was handled so far.
 abbrev pub own_ended : OwnAnswer → WorkedRequests → WorkedRequests
 own_ended answer worked = record worked { outstanding = None; own = answer; is_own_first = not worked.has_worked }
 
@@ -145,7 +145,7 @@ AreResponses responses = map reset_parameter_content (reset_parameters responses
 abbrev pub held_now : Held → WorkedRequests → Held
 held_now base worked = held_out worked.outstanding (held_with base worked.last)
 
--- what the user is told of both, in their order
+-- the events about both, in their order
 abbrev pub told_so : Bool → OwnAnswer → Treatment → List ℕ → List ℕ → List (Event Emission)
 told_so true answer treatment theirs streams = own_events answer streams ++ treated_events treatment theirs
 told_so false answer treatment theirs streams = treated_events treatment theirs ++ own_events answer streams
@@ -156,7 +156,7 @@ pub record TreatsBoth (worked : WorkedRequests) (effects : List Effect) : Type 0
   pub told : (theirs streams : List ℕ) → reset_events theirs streams effects ≡ told_so worked.is_own_first worked.own worked.treatment theirs streams
   pub drawn : drawn_in effects ≡ []
 
--- What a parameter brings: nothing, what becomes of a request of the peer, or what becomes of the own one.
+-- What a parameter brings: nothing, what becomes of a request of the peer, or what becomes of our own.
 pub data Brings (parameter : ResetParameter) (old new : WorkedRequests) (effects : Pair → Held → List Effect) : Type 0 where
   brings_nothing : new.treatment ≡ old.treatment → new.has_worked ≡ old.has_worked → SameOwn old new → ((my : Pair) (base : Held) → Treats Nothing (effects my base))
       → in_progress_among old.outstanding (parameter ∷ []) ≡ false → Brings parameter old new effects
@@ -165,7 +165,7 @@ pub data Brings (parameter : ResetParameter) (old new : WorkedRequests) (effects
   brings_answer : (number : ℕ) (result : ReconfigurationResponseResult) → parameter ≡ reconfiguration_response number result → old.outstanding ≡ Some number → new ≡ with_result result old
       → ((my : Pair) (base : Held) → effects my base ≡ (informed_by my (held_now base old) number result).effects) → Brings parameter old new effects
 
--- A parameter was worked: whatever stands behind it, the machine goes on from what the code keeps.
+-- A parameter was handled: whatever comes after it, the machine goes on from what the code keeps.
 pub record WorksOne (reached : Bool) (parameter : ResetParameter) (old new : WorkedRequests) : Type 0 where
   pub effects : Pair → Held → List Effect
   pub responses : List Parameter
@@ -178,7 +178,7 @@ pub record WorksOne (reached : Bool) (parameter : ResetParameter) (old new : Wor
       → work_parameters my reached old.has_worked (held_now base old) (parameter ∷ rest)
       ≡ behind_these (effects my base) (reset_parameters responses) (work_parameters my reached new.has_worked (held_now base new) rest)
 
--- All were worked.
+-- All were handled.
 pub record WorksChunk (reached : Bool) (last : LastRequest) (outstanding : Option ℕ) (parameters : List ResetParameter) (worked : WorkedRequests) : Type 0 where
   pub effects : Pair → Held → List Effect
   pub are : AreResponses worked.responses.items

@@ -26,7 +26,7 @@ use Rattle.dcsctp_core_resets.specs.declared.requests.OwnAnswer.TheVariants as o
 use Rattle.dcsctp_core_resets.specs.declared.requests.OwnAnswer as requests
 use Rattle.dcsctp_core_resets.specs.Requests.{held_with, held_out, own_kind, reset_parameters, AreResponses}
 
--- A RE-CONFIG with these parameters came in.
+-- A RE-CONFIG with these parameters was received.
 abbrev pub ReConfigAt : {R : Type 0} → List ResetParameter → View R → Outcome → Type 0
 ReConfigAt parameters view o = ResetTurn view.endpoint view.endpoint.core parameters o
 
@@ -36,7 +36,7 @@ wanted_by request = record { last_tsn = request.sender_last_assigned_tsn; stream
 
 -- ---- the last request
 
--- that of the peer that is held
+-- that of the peer
 abbrev pub last_in : State → LastRequest
 last_in Closed = record { number = 0; result = SuccessNothingToDo }
 last_in (CookieWait wait) = record { number = 0; result = SuccessNothingToDo }
@@ -54,17 +54,17 @@ asked_at last view = record view { endpoint = record view.endpoint { core = core
 
 -- ---- the streams
 
--- the view with this below its association, and these events behind the others
+-- the view with this below its association, and these events after the others
 abbrev pub left_at : {R : Type 0} → View R → Option Transfer → List (Event (List ℕ)) → View R
 left_at view left events = record view { endpoint = record view.endpoint { below = record view.endpoint.below { transfer = left } }; events = view.events ++ events }
 
--- The streams were reset, and the user is told; or a growth was refused, and no event was added.
+-- The streams were reset, and the user is told; or an allocation failed, and no event was added.
 abbrev pub Performs : {R E : Type 0} → RequestedReset → Context R → Result (Unit {0}) E → Context R → Type 0
 Performs reset old (Ok done) new =
     (left : Option Transfer) × ResetsBelow true (transfer_of old.state) left × (view_of new ≡ left_at (view_of old) left (incoming_stream_reset reset.streams ∷ []))
 Performs reset old (Err error) new = (view_of new).events ≡ (view_of old).events
 
--- are they, where a request wants it?
+-- are they, if a request wants it?
 abbrev pub is_performed_for : Treatment → Option RequestedReset → Bool
 is_performed_for Performed (Some reset) = true
 is_performed_for treatment reset = false
@@ -78,7 +78,7 @@ Treats treatment reset old (Ok done) new =
     (left : Option Transfer) × ResetsBelow (is_performed_for treatment reset) (transfer_of old.state) left × (view_of new ≡ left_at (view_of old) left (told_for treatment reset))
 Treats treatment reset old (Err error) new = (view_of new).events ≡ (view_of old).events
 
--- ---- the own request
+-- ---- our own request
 
 -- Its number is outstanding no longer, once it has ended.
 abbrev pub core_ended : Core → Core
@@ -97,7 +97,7 @@ settled_at answer view =
     let moved : Endpoint = own_moved answer view.endpoint in
     record view { endpoint = record moved { core = core_settled answer view.endpoint.core } }
 
--- what the user is told of it, where it resets these streams
+-- the events about it, if it resets these streams
 abbrev pub own_told : requests.OwnAnswer → List ℕ → List (Event (List ℕ))
 own_told own.Unanswered streams = []
 own_told own.InProgress streams = []
@@ -108,7 +108,7 @@ abbrev pub event_told : Option SocketEvent → List (Event (List ℕ))
 event_told None = []
 event_told (Some event) = event_content event ∷ []
 
--- It was answered so, where one is outstanding, and this is to be told.
+-- It was answered so, if one is outstanding, and this is to be told.
 abbrev pub Settles : {R : Type 0} → requests.OwnAnswer → Context R → Option SocketEvent → Context R → Type 0
 Settles answer old told new =
     (outstanding_of old.state ≡ None → answer ≡ own.Unanswered)
@@ -119,7 +119,7 @@ abbrev pub Tells : {R E : Type 0} → Option SocketEvent → Context R → Resul
 Tells event old (Ok done) new = view_of new ≡ record (view_of old) { events = (view_of old).events ++ event_told event }
 Tells event old (Err error) new = (view_of new).events ≡ (view_of old).events
 
--- what the user is told of both, in their order
+-- the events about both, in their order
 abbrev pub told_both : Bool → requests.OwnAnswer → Treatment → Option RequestedReset → List ℕ → List (Event (List ℕ))
 told_both true answer treatment reset streams = own_told answer streams ++ told_for treatment reset
 told_both false answer treatment reset streams = told_for treatment reset ++ own_told answer streams
@@ -127,7 +127,7 @@ told_both false answer treatment reset streams = told_for treatment reset ++ own
 abbrev pub told_where : {R : Type 0} → WorkedRequests → Option RequestedReset → Context R → List (Event (List ℕ))
 told_where worked reset old = told_both worked.is_own_first worked.own worked.treatment reset (own_streams (outstanding_of old.state))
 
--- What was decided of both was done; or a growth was refused, and a front part of what is told was added.
+-- What was decided of both was done; or an allocation failed, and the first of the events were added.
 abbrev pub Carried : {R E : Type 0} → WorkedRequests → Option RequestedReset → Context R → Result (Unit {0}) E → Context R → Type 0
 Carried worked reset old (Ok done) new =
     (left : Option Transfer) × ResetsBelow (is_performed_for worked.treatment reset) (transfer_of old.state) left
@@ -139,7 +139,7 @@ CarriesOut worked reset old result new = (outstanding_of old.state ≡ None → 
 
 -- ---- the answers
 
--- They go out to the peer that is held.
+-- They are sent to the peer.
 abbrev pub responses_to : Endpoint → Option Held → List ResetParameter → Outcome
 responses_to e None responses = still e
 responses_to e (Some held) responses = responses_outcome e held responses
@@ -147,12 +147,12 @@ responses_to e (Some held) responses = responses_outcome e held responses
 abbrev pub responses_turn : {R : Type 0} → List ResetParameter → View R → Outcome
 responses_turn responses view = responses_to view.endpoint (held_in view.endpoint.core) responses
 
--- The answers go out, and a flush behind them; or an error is told.
+-- The answers are sent, and a flush after them; or an error is reported.
 abbrev pub FinishAt : {R : Type 0} → Held → Bool → List ResetParameter → List ResetParameter → View R → Outcome → Type 0
 FinishAt held refused parameters responses view o =
     (answers : List Answer) × ResponseAnswers refused view.endpoint held responses answers × (o ≡ responses_by refused view.endpoint [] held parameters responses answers)
 
--- That is so where a peer is held.
+-- That is so if the peer is known.
 abbrev pub Finishes : {R E : Type 0} → (R → Stream) → List ResetParameter → WorkedRequests → Context R → Result (Unit {0}) E → Context R → Type 0
 Finishes stream parameters worked old result new =
     AreResponses worked.responses.items → (held : Held) → held_in (core_of old.state) ≡ Some held

@@ -1,4 +1,4 @@
-//! RE-CONFIG (RFC 6525, sections 3.1 and 5.2) that comes in.
+//! RE-CONFIG (RFC 6525, sections 3.1 and 5.2) that is received.
 
 ghost use Rattle.std.specs.Prelude.{◌≡◌, OnOk, OnErr, IfOk};
 ghost use Rattle.std.specs.Option.{option_map};
@@ -28,7 +28,7 @@ const SECOND_REQUEST: &str =
 
 // ---- what is decided
 
-// The last request of the peer that is held.
+// The last request of the peer.
 fn last_request(state: &State) -> LastRequest
     ensures { result ≡ last_in state.now }
 {
@@ -44,7 +44,7 @@ fn last_request(state: &State) -> LastRequest
     }
 }
 
-// Has all come from the peer that is held that it had sent before this request (RFC 6525, section 5.2.2, E2)?
+// Was everything received that the peer had sent before this request (RFC 6525, section 5.2.2, E2)?
 fn is_reached(state: &State, request: Option<OutgoingSsnResetRequestParameter<'_>>) -> bool
     ensures { result ≡ is_reached (transfer_of state.now) (option_map wanted_by request.entry) }
 {
@@ -64,7 +64,7 @@ fn is_reached(state: &State, request: Option<OutgoingSsnResetRequestParameter<'_
     }
 }
 
-// What becomes of these parameters. The one error is that a growth was refused.
+// What becomes of these parameters.
 fn work(
     alloc: Global,
     state: &State,
@@ -82,7 +82,7 @@ fn work(
 
 // ---- the streams
 
-// Keeps the last request of the peer, where one is held.
+// Keeps the last request of the peer, if it is known.
 fn keep_last<R: Rng>(context: &mut Context<R>, last: LastRequest)
     ensures { view_of context.new ≡ asked_at last (view_of context.old) }
 {
@@ -99,7 +99,7 @@ fn keep_last<R: Rng>(context: &mut Context<R>, last: LastRequest)
     }
 }
 
-// Resets streams of the peer that is held. The one error is that a growth was refused.
+// Resets streams of the peer.
 fn reset_streams(state: &mut State, streams: &[StreamId]) -> Result<(), AllocError>
     ensures { ChangesBelow ResetsStreams (transfer_of state.old) state.old state.new }
 {
@@ -110,8 +110,7 @@ fn reset_streams(state: &mut State, streams: &[StreamId]) -> Result<(), AllocErr
     }
 }
 
-// Lets what comes beyond this TSN on these streams wait until they are reset. The one error is that a growth
-// was refused.
+// Lets what comes beyond this TSN on these streams wait until they are reset.
 fn defer_reset(state: &mut State, last_tsn: u32, streams: &[StreamId]) -> Result<(), AllocError>
     ensures { state.new ≡ state.old }
 {
@@ -122,8 +121,8 @@ fn defer_reset(state: &mut State, last_tsn: u32, streams: &[StreamId]) -> Result
     }
 }
 
-// Resets the streams that a request names, and tells the user. The one error is that a growth was refused. No
-// event was added then.
+// Resets the streams that a request names, and tells the user. `Err`: an allocation failed, and no event was
+// added.
 fn perform<R: Rng>(
     context: &mut Context<R>,
     request: &OutgoingSsnResetRequestParameter<'_>,
@@ -138,7 +137,7 @@ fn perform<R: Rng>(
     Ok(())
 }
 
-// Lets the reset that a request wants wait. The one error is that a growth was refused.
+// Lets the reset that a request wants wait.
 fn defer<R: Rng>(
     context: &mut Context<R>,
     request: &OutgoingSsnResetRequestParameter<'_>,
@@ -153,8 +152,8 @@ fn defer<R: Rng>(
     )
 }
 
-// Does with the streams that the peer wants reset what was decided. The one error is that a growth was refused.
-// No event was added then.
+// Carries out what was decided for the streams that the peer wants reset. `Err`: an allocation failed, and no
+// event was added.
 fn treat<R: Rng>(
     context: &mut Context<R>,
     request: Option<OutgoingSsnResetRequestParameter<'_>>,
@@ -172,11 +171,11 @@ fn treat<R: Rng>(
     }
 }
 
-// ---- the own request
+// ---- our own request
 
-// The peer has answered the own request so (RFC 6525, section 5.2.7). One that is in progress is sent again
-// later; one that has ended gives its streams back to the send queue, and what the user is told of it is
-// answered. It takes no memory.
+// The peer has given this answer to our own request (RFC 6525, section 5.2.7). A request that is in progress
+// is sent again later. One that has ended gives its streams back to the send queue; returns the event for it.
+// Allocates nothing.
 fn settle<R: Rng>(context: &mut Context<R>, own: OwnAnswer) -> Option<SocketEvent>
     ensures { Settles own context.old result context.new }
 {
@@ -203,8 +202,7 @@ fn settle<R: Rng>(context: &mut Context<R>, own: OwnAnswer) -> Option<SocketEven
     }
 }
 
-// Tells the user of it, where there is something to tell. The one error is that a growth was refused. Nothing
-// has changed then.
+// Tells the user of it, if there is something to tell. `Err`: an allocation failed, and nothing has changed.
 fn tell<R: Rng>(context: &mut Context<R>, event: Option<SocketEvent>) -> Result<(), AllocError>
     ensures { Tells event context.old result context.new }
 {
@@ -217,9 +215,9 @@ fn tell<R: Rng>(context: &mut Context<R>, event: Option<SocketEvent>) -> Result<
     }
 }
 
-// Does with the own request, and with the streams that the peer wants reset, what was decided, and tells the
-// user of both in the order in which it was decided. The one error is that a growth was refused. The first of
-// the two events may stand then.
+// Carries out what was decided for our own request and for the streams that the peer wants reset. The user is
+// told of both in the order in which it was decided. `Err`: an allocation failed; the first of its events may
+// already have been added.
 fn carry_out<R: Rng>(
     context: &mut Context<R>,
     request: Option<OutgoingSsnResetRequestParameter<'_>>,
@@ -249,8 +247,7 @@ fn refusal_text(parameters: &[Parameter<'_>]) -> &'static str
     }
 }
 
-// Reports a chunk that is an error. The one error of this call is that a growth was refused. Nothing has changed
-// then.
+// Reports a chunk that is an error. `Err`: an allocation failed, and nothing has changed.
 fn refuse<R: Rng>(context: &mut Context<R>, parameters: &[Parameter<'_>]) -> Result<(), AllocError>
     ensures { Tries R.stream
         (report_turn ErrorKind.ProtocolViolation (reset_refusal_text (reset_parameters parameters.now)))
@@ -261,8 +258,8 @@ fn refuse<R: Rng>(context: &mut Context<R>, parameters: &[Parameter<'_>]) -> Res
     Ok(())
 }
 
-// Sends these answers under this tag, where they fit `mtu`. The one error is that a growth was refused. Nothing
-// has changed then.
+// Sends these answers under this tag, if they fit `mtu`. `Err`: an allocation failed, and nothing has
+// changed.
 fn emit_responses<R: Rng>(
     context: &mut Context<R>,
     tag: u32,
@@ -280,8 +277,8 @@ fn emit_responses<R: Rng>(
     Ok(())
 }
 
-// Sends these answers to the peer that is held, where there are some and they fit `mtu`. The one error is that
-// a growth was refused. Nothing has changed then.
+// Sends these answers to the peer, if there are some and they fit `mtu`. `Err`: an allocation failed, and
+// nothing has changed.
 fn respond<R: Rng>(
     context: &mut Context<R>,
     responses: Vec<Parameter<'static>>,
@@ -303,8 +300,8 @@ fn respond<R: Rng>(
     }
 }
 
-// Answers the peer that is held, and lets out what waits behind that; a chunk that is an error is reported in
-// place of both. The one error is that a growth was refused. The first events of the turn may stand then.
+// Answers the peer, and then sends what waits. A chunk that is an error is reported instead. `Err`: an
+// allocation failed; the first of its events may already have been added.
 fn finish<R: Rng>(
     context: &mut Context<R>,
     parameters: &[Parameter<'_>],
@@ -319,8 +316,8 @@ fn finish<R: Rng>(
     context.send_buffered_packets()
 }
 
-// Works these parameters of a RE-CONFIG. The one error is that a growth was refused. The first events of the
-// turn may stand then.
+// Handles these parameters of a RE-CONFIG. `Err`: an allocation failed; the first of its events may already
+// have been added.
 fn handle_parameters<R: Rng>(
     context: &mut Context<R>,
     parameters: &[Parameter<'_>],
@@ -337,18 +334,18 @@ fn handle_parameters<R: Rng>(
     finish(context, parameters, worked)
 }
 
-/// Works a RE-CONFIG (RFC 6525, section 5.2): each request of the peer is answered, in one packet, and a flush
-/// follows. An Outgoing SSN Reset Request with the next number resets the streams that it names once all has
-/// come that was sent before it, of which the user is told; until then it is in progress, and is worked again
-/// where it comes again. For an Incoming SSN Reset Request nothing is reset.
+/// Handles a RE-CONFIG (RFC 6525, section 5.2). Each request of the peer is answered, in one packet, and a
+/// flush follows. An Outgoing SSN Reset Request with the next number resets its streams once everything that
+/// was sent before it is received. The user is told of that. Until then it is in progress, and is handled
+/// again when it comes again. For an Incoming SSN Reset Request nothing is reset.
 ///
-/// An answer to the own request that is outstanding ends it (section 5.2.7): its streams are reset, or aren't,
-/// of which the user is told, and both take messages again. One that is in progress is sent again later.
+/// An answer to our outstanding request ends it (section 5.2.7). Its streams are reset, or aren't, of which
+/// the user is told, and both take messages again. A request that is in progress is sent again later.
 ///
-/// A chunk without parameters, or with a second Outgoing SSN Reset Request, is reported, and no answer goes
-/// out; what stood before the second request was worked. Without a peer nothing happens.
+/// A chunk without parameters, or with a second Outgoing SSN Reset Request, is reported, and no answer is
+/// sent. What came before the second request was handled. Without a peer nothing happens.
 ///
-/// The one error is that a growth was refused. The first events of the turn may stand then.
+/// `Err`: an allocation failed; the first of its events may already have been added.
 pub fn handle_re_config<R: Rng>(
     context: &mut Context<R>,
     chunk: &ReConfigChunk<'_>,

@@ -12,7 +12,7 @@ use dcsctp_api::StreamId;
 use dcsctp_wire::{OutgoingSsnResetRequestParameter, Parameter};
 use std::alloc::{AllocError, Global};
 
-/// The first Outgoing SSN Reset Request, where there is one: no other of its chunk is worked.
+/// The first Outgoing SSN Reset Request, if there is one: no other of its chunk is handled.
 pub(crate) fn requested<'a>(
     parameters: &[Parameter<'a>],
 ) -> Option<OutgoingSsnResetRequestParameter<'a>>
@@ -26,7 +26,7 @@ pub(crate) fn requested<'a>(
     None
 }
 
-/// The streams that a request names. The one error is that a growth was refused.
+/// The streams that a request names.
 pub(crate) fn streams_of(
     alloc: Global,
     request: &OutgoingSsnResetRequestParameter<'_>,

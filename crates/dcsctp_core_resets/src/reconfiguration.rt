@@ -1,4 +1,4 @@
-//! An own request to reset streams is sent again (RFC 6525, section 5.1.1). Called where the time is told.
+//! Our own request to reset streams is sent again (RFC 6525, section 5.1.1). Called by `advance_time`.
 
 ghost use Rattle.std.specs.Prelude.{◌≡◌};
 ghost use Rattle.dcsctp_machine.specs.TimeTurns.{own_timer};
@@ -19,8 +19,7 @@ fn last_tsn_of(request: &ResetRequest) -> u32
     request.last_tsn
 }
 
-// Sends this request under this tag, where it fits `mtu`. The one error is that a growth was refused. Nothing has
-// changed then.
+// Sends this request under this tag, if it fits `mtu`. `Err`: an allocation failed, and nothing has changed.
 fn emit_request<R: Rng>(
     context: &mut Context<R>,
     tag: u32,
@@ -39,8 +38,8 @@ fn emit_request<R: Rng>(
     Ok(())
 }
 
-// Sends the own request again that is outstanding, where one is and it fits `mtu`. The one error is that a growth
-// was refused. Nothing has changed then.
+// Sends our outstanding request again, if there is one and it fits `mtu`. `Err`: an allocation failed, and
+// nothing has changed.
 fn send_request<R: Rng>(context: &mut Context<R>) -> Result<(), AllocError>
     ensures { Tries R.stream again_turn context.old result context.new }
 {
@@ -66,8 +65,7 @@ fn send_request<R: Rng>(context: &mut Context<R>) -> Result<(), AllocError>
     }
 }
 
-// Sends it, unless the peer is to be given up. The one error is that a growth was refused. Nothing has changed
-// then.
+// Sends it, unless the association is to be aborted. `Err`: an allocation failed, and nothing has changed.
 fn send_unless_exhausted<R: Rng>(context: &mut Context<R>) -> Result<(), AllocError>
     ensures { Tries R.stream unless_turn context.old result context.new }
 {
@@ -77,10 +75,10 @@ fn send_unless_exhausted<R: Rng>(context: &mut Context<R>) -> Result<(), AllocEr
     send_request(context)
 }
 
-/// Tells the reconfiguration timer the present moment, and answers whether it expires: the own request that is
-/// outstanding is sent again, where the count of errors allows (RFC 6525, section 5.1.1).
+/// Advances the reconfiguration timer to the present moment, and returns whether it expires. Then our
+/// outstanding request is sent again, if the count of errors allows (RFC 6525, section 5.1.1).
 ///
-/// The one error is that a growth was refused. The first events of the turn may stand then.
+/// `Err`: an allocation failed; the first of its events may already have been added.
 pub fn handle_reconfiguration<R: Rng>(context: &mut Context<R>) -> Result<bool, AllocError>
     ensures { Expires R.stream (own_timer reconfiguration) context.old result context.new }
 {

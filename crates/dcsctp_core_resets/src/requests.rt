@@ -1,5 +1,5 @@
-//! What the parameters of a RE-CONFIG make of the peer's requests, how these are answered, and what becomes of the
-//! own one (RFC 6525, section 5.2). It is a decision, and changes nothing of a socket.
+//! What the parameters of a RE-CONFIG do to the peer's requests, how these are answered, and what becomes of
+//! our own (RFC 6525, section 5.2). This only decides, and changes nothing of a socket.
 
 ghost use Rattle.std.specs.Prelude.{◌≡◌, ◌&&◌, false, OnOk, IfOk};
 ghost use Rattle.dcsctp_machine.specs.declared.association.Held.{Held};
@@ -33,7 +33,7 @@ pub enum Treatment {
     Performed,
 }
 
-/// What becomes of the own request to reset streams.
+/// What becomes of our own request to reset streams.
 #[derive(Clone, Copy, Debug, PartialEq, Eq)]
 pub enum OwnAnswer {
     /// Nothing: it isn't answered, or there is none.
@@ -87,13 +87,13 @@ pub struct WorkedRequests {
     /// Was an Outgoing SSN Reset Request among them?
     pub has_worked: bool,
 
-    /// The number of the own request that is outstanding from here on.
+    /// The number of our outstanding request from here on.
     pub outstanding: Option<u32>,
 
-    /// What becomes of the own request.
+    /// What becomes of our own request.
     pub own: OwnAnswer,
 
-    /// Did it end before an Outgoing SSN Reset Request was worked?
+    /// Did it end before an Outgoing SSN Reset Request was handled?
     pub is_own_first: bool,
 
     /// Are they an error: none at all, or a second Outgoing SSN Reset Request?
@@ -116,8 +116,8 @@ fn place_of(last: u32, number: u32) -> Place
     }
 }
 
-// A request of this number is worked: performed where all has come that was sent before it, else in progress
-// (RFC 6525, section 5.2.2).
+// A request of this number is handled: performed if everything was received that was sent before it, else in
+// progress (RFC 6525, section 5.2.2).
 fn worked(number: u32, is_reached: bool) -> AnsweredRequest
     ensures { (base : Held) → AnswersAs base result (changes.worked base number is_reached) }
 {
@@ -138,7 +138,7 @@ fn worked(number: u32, is_reached: bool) -> AnsweredRequest
     }
 }
 
-// The last request again is answered as before; one in progress is worked again.
+// The last request again is answered as before; one in progress is handled again.
 fn repeated(last: LastRequest, is_reached: bool) -> AnsweredRequest
     ensures { (base : Held) → AnswersAs base result (changes.repeated (held_with base last) last.result is_reached) }
 {
@@ -216,7 +216,7 @@ fn is_outgoing(parameter: &Parameter<'_>) -> bool
 }
 
 impl WorkedRequests {
-    // Answers a request of this number. The one error is that a growth was refused.
+    // Answers a request of this number.
     fn respond(
         &mut self,
         number: u32,
@@ -234,7 +234,7 @@ impl WorkedRequests {
         Ok(())
     }
 
-    // The own request has ended so. What the user is told of it comes first where no request of the peer was worked.
+    // Our own request has ended so. The events about it come first if no request of the peer was handled.
     fn end_own(&mut self, answer: OwnAnswer)
         ensures { self.new ≡ own_ended answer self.old }
     {
@@ -243,8 +243,8 @@ impl WorkedRequests {
         self.is_own_first = !self.has_worked;
     }
 
-    // Takes an answer to a request of this number: where it is the own one that is outstanding, that was performed,
-    // has failed, or is in progress (RFC 6525, section 5.2.7).
+    // Handles an answer to a request of this number. If that is our outstanding one, it was performed, has
+    // failed, or is in progress (RFC 6525, section 5.2.7).
     fn take_response(&mut self, number: u32, answer: ReconfigurationResponseResult)
         ensures { self.new ≡ with_response (is_outstanding number self.old.outstanding) answer self.old }
     {
@@ -266,7 +266,7 @@ impl WorkedRequests {
         }
     }
 
-    // Works a parameter. The one error is that a growth was refused.
+    // Handles a parameter.
     fn work(&mut self, is_reached: bool, parameter: &Parameter<'_>) -> Result<(), AllocError>
         requires { (self.old.has_worked && is_outgoing (said_by parameter.now)) ≡ false }
         ensures { OnOk result (WorksOne is_reached (said_by parameter.now) self.old self.new) }
@@ -302,11 +302,9 @@ impl WorkedRequests {
     }
 }
 
-/// Works the parameters of a RE-CONFIG, up to a second Outgoing SSN Reset Request: a chunk with two is an
-/// error, as is one without any parameter. `is_reached` says whether all has come that was sent before the
-/// first such request, and `outstanding` is the number of the own request, where one is outstanding.
-///
-/// The one error is that a growth was refused.
+/// Handles the parameters of a RE-CONFIG, up to a second Outgoing SSN Reset Request. A chunk with two is an
+/// error, as is one without any parameter. `is_reached` says whether everything was received that was sent
+/// before the first such request. `outstanding` is the number of our outstanding request, if there is one.
 pub(crate) fn work_requests(
     alloc: Global,
     last: LastRequest,

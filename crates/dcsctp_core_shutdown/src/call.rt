@@ -21,11 +21,11 @@ fn begin_shutdown<R: Rng>(context: &mut Context<R>) -> Result<(), AllocError>
     step_shutdown(context)
 }
 
-/// Shuts the association down: SHUTDOWN goes out once all that was sent is acknowledged. Where an INIT ACK is awaited
-/// the association ends at once, with OnClosed; one whose COOKIE ACK is awaited never connects then. A closed socket,
-/// and one that is shutting down, stay as they are, and no memory is taken.
+/// Shuts the association down: SHUTDOWN is sent once all that was sent is acknowledged. If an INIT ACK is
+/// awaited the association ends at once, with OnClosed; one whose COOKIE ACK is awaited will never connect. A
+/// closed socket, and one that is shutting down, are unchanged, and nothing is allocated.
 ///
-/// `Err`: an allocation failed; the first events of the turn may stand.
+/// `Err`: an allocation failed; the first of its events may already have been added.
 pub fn do_shutdown<R: Rng>(context: &mut Context<R>) -> Result<(), AllocError>
     ensures turn { Takes R.stream shut_down_turn context.old result context.new }
     ensures closed { is_closed (core_of context.old.state) ≡ true → IsOk result }

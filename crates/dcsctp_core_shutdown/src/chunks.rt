@@ -13,7 +13,7 @@ use dcsctp_core::{Context, Following, OpenPhase, State};
 use rand_core::Rng;
 use std::alloc::AllocError;
 
-// The peer shuts the association down: SHUTDOWN ACK goes out once all that was sent is acknowledged.
+// The peer shuts the association down: SHUTDOWN ACK is sent once all that was sent is acknowledged.
 fn receive_shutdown<R: Rng>(context: &mut Context<R>) -> Result<(), AllocError>
     ensures { Takes R.stream received_turn context.old result context.new }
 {
@@ -21,11 +21,11 @@ fn receive_shutdown<R: Rng>(context: &mut Context<R>) -> Result<(), AllocError>
     step_shutdown(context)
 }
 
-/// Handles a SHUTDOWN. It counts where an association is open: SHUTDOWN ACK answers it, at once where a SHUTDOWN or a
-/// SHUTDOWN ACK was sent, else once all that was sent is acknowledged. Unlike RFC 9260, section 9.2, its cumulative
-/// TSN ack is not used (docs/DECISIONS.md, Shutdown).
+/// Handles a SHUTDOWN. It counts while an association is open, and is answered by SHUTDOWN ACK. That is sent
+/// at once if a SHUTDOWN or a SHUTDOWN ACK was sent, else once all that was sent is acknowledged. Unlike RFC
+/// 9260, section 9.2, its cumulative TSN ack is not used (docs/DECISIONS.md, Shutdown).
 ///
-/// `Err`: an allocation failed; the first events of the turn may stand.
+/// `Err`: an allocation failed; the first of its events may already have been added.
 pub fn handle_shutdown<R: Rng>(context: &mut Context<R>) -> Result<(), AllocError>
     ensures { Takes R.stream shutdown_turn context.old result context.new }
 {
@@ -50,7 +50,7 @@ fn end_shutdown<R: Rng>(context: &mut Context<R>) -> Result<(), AllocError>
     Ok(())
 }
 
-// The SHUTDOWN ACK was awaited: SHUTDOWN COMPLETE goes out, and the association ends.
+// The SHUTDOWN ACK was awaited: SHUTDOWN COMPLETE is sent, and the association ends.
 fn complete_shutdown<R: Rng>(context: &mut Context<R>) -> Result<Following, AllocError>
     requires { is_open (core_of context.old.state) ≡ true }
     ensures { Works R.stream completed_turn context.old result context.new }
@@ -81,11 +81,11 @@ fn reflect<R: Rng>(context: &mut Context<R>, header_tag: u32) -> Result<Followin
     Ok(Following::NextChunk)
 }
 
-/// Handles a SHUTDOWN ACK of a packet with this header tag. One that is awaited ends the association, with OnClosed,
-/// and is answered by SHUTDOWN COMPLETE; the rest of its packet is dropped. Any other is answered under its own tag,
-/// with the T bit.
+/// Handles a SHUTDOWN ACK of a packet with this header tag. One that is awaited ends the association, with
+/// OnClosed, and is answered by SHUTDOWN COMPLETE. The rest of its packet is dropped. Any other is answered
+/// under its own tag, with the T bit.
 ///
-/// `Err`: an allocation failed; the first events of the turn may stand.
+/// `Err`: an allocation failed; the first of its events may already have been added.
 pub fn handle_shutdown_ack<R: Rng>(
     context: &mut Context<R>,
     header_tag: u32,
@@ -106,8 +106,8 @@ pub fn handle_shutdown_ack<R: Rng>(
     }
 }
 
-/// Handles a SHUTDOWN COMPLETE, which counts where a SHUTDOWN ACK waits for it: the association ends, with OnClosed,
-/// and the rest of its packet is dropped.
+/// Handles a SHUTDOWN COMPLETE, which counts while a SHUTDOWN ACK waits for it. The association ends, with
+/// OnClosed, and the rest of the packet is dropped.
 ///
 /// `Err`: an allocation failed; nothing has changed.
 pub fn handle_shutdown_complete<R: Rng>(context: &mut Context<R>) -> Result<Following, AllocError>

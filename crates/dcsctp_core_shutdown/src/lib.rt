@@ -1,6 +1,7 @@
-//! How an association is shut down, from either end (RFC 9260, section 9.2): the user's call, the steps that wait for
-//! what was sent to be acknowledged, the handlers of SHUTDOWN, SHUTDOWN ACK and SHUTDOWN COMPLETE, and T2. They work on
-//! the parts that `dcsctp_core` shares; the calls and the handlers of SACK, INIT and COOKIE ECHO call them.
+//! How an association is shut down, from either end (RFC 9260, section 9.2): the user's call, the handlers of
+//! SHUTDOWN, SHUTDOWN ACK and SHUTDOWN COMPLETE, and T2. Each step waits until what was sent is acknowledged.
+//! They work on the parts that `dcsctp_core` shares; the calls and the handlers of SACK, INIT and COOKIE ECHO
+//! call them.
 #![tactic(auto)]
 
 mod call;

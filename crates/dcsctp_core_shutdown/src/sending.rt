@@ -58,7 +58,8 @@ pub(crate) fn emit_shutdown_complete<R: Rng>(
     Ok(())
 }
 
-/// Sends a SHUTDOWN to the peer, with the cumulative TSN of what came in. Without a peer nothing is sent.
+/// Sends a SHUTDOWN to the peer, with the cumulative TSN of what was received. Without a peer nothing is
+/// sent.
 ///
 /// `Err`: an allocation failed; nothing has changed.
 pub(crate) fn send_shutdown<R: Rng>(context: &mut Context<R>) -> Result<(), AllocError>

@@ -16,9 +16,9 @@ use rand_core::Rng;
 use std::alloc::AllocError;
 use std::time::Duration;
 
-// T2-shutdown, started now with this retransmission timeout: each wait is twice the last one, without a bound, and
-// the options say how often a packet is sent again. Unlike RFC 9260, section 9.2, `t2_shutdown_timeout` is not used
-// (docs/DECISIONS.md, Shutdown).
+// T2-shutdown, started now with this retransmission timeout. Each wait is twice the last one, without a
+// limit; the options say how often a packet is sent again. Unlike RFC 9260, section 9.2,
+// `t2_shutdown_timeout` is not used (docs/DECISIONS.md, Shutdown).
 fn started_t2(options: &Options, rto: Duration, now: SocketTime) -> ShutdownState
     ensures { result.t2_shutdown.running ≡ started now (t2_settings options.now (as_nanos rto)) }
 {
@@ -58,8 +58,8 @@ pub(crate) fn enter_shutdown_ack_sent<R: Rng>(context: &mut Context<R>) -> Resul
     Ok(())
 }
 
-/// A shutdown that is under way goes on, where all that was sent is acknowledged or given up: SHUTDOWN goes out where
-/// the user asked for it, SHUTDOWN ACK where the peer did. What waits in the queue isn't looked at
+/// Continues a shutdown that is under way, if all that was sent is acknowledged or abandoned. SHUTDOWN is
+/// sent if the user asked for it, SHUTDOWN ACK if the peer did. What waits in the queue isn't looked at
 /// (docs/DECISIONS.md, Shutdown).
 ///
 /// `Err`: an allocation failed; nothing has changed.

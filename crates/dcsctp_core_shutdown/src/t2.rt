@@ -1,5 +1,5 @@
-//! T2-shutdown (RFC 9260, section 9.2): a SHUTDOWN or a SHUTDOWN ACK that isn't answered is sent again. Called where the
-//! time is told; and data that comes while a SHUTDOWN waits for its answer.
+//! T2-shutdown (RFC 9260, section 9.2): a SHUTDOWN or a SHUTDOWN ACK that isn't answered is sent again.
+//! Called by `advance_time`. Also the answer to data that comes while a SHUTDOWN waits for its own.
 
 ghost use Rattle.dcsctp_machine.specs.TimeTurns.{t2_timer};
 ghost use Rattle.dcsctp_core.specs.Handling.{Tries};
@@ -29,10 +29,10 @@ fn send_again<R: Rng>(context: &mut Context<R>) -> Result<(), AllocError>
     }
 }
 
-/// Tells T2 the present moment, and answers whether it expires: its packet is sent again and it backs off, which
-/// counts no error; or, with no restart left, the association is aborted, with OnAborted.
+/// Advances T2 to the present moment, and returns whether it expires. Then its packet is sent again and it
+/// backs off, which counts no error. With no restart left, the association is aborted, with OnAborted.
 ///
-/// `Err`: an allocation failed; the first events of the turn may stand.
+/// `Err`: an allocation failed; the first of its events may already have been added.
 pub fn handle_t2<R: Rng>(context: &mut Context<R>) -> Result<bool, AllocError>
     ensures { Expires R.stream t2_timer context.old result context.new }
 {
@@ -50,8 +50,8 @@ pub fn handle_t2<R: Rng>(context: &mut Context<R>) -> Result<bool, AllocError>
     }
 }
 
-/// Answers a packet with data that comes while a SHUTDOWN waits for its answer: another SHUTDOWN goes out, and T2
-/// starts anew. In any other phase nothing happens.
+/// Answers a packet with data that comes while a SHUTDOWN waits for its answer: another SHUTDOWN is sent, and
+/// T2 starts anew. In any other phase nothing happens.
 ///
 /// `Err`: an allocation failed; nothing has changed.
 pub fn answer_data<R: Rng>(context: &mut Context<R>) -> Result<(), AllocError>

@@ -24,8 +24,8 @@ pub struct Told {
     pub events: Vec<SocketEvent>,
 }
 
-/// One round of the loop: hands in the time, and a packet of the peer where one came, and takes what is ready.
-/// Answers when the next round is due if no packet comes before. The errors are those of the calls.
+/// One round of the loop: hands in the time, and a packet of the peer if one came, and takes what is ready.
+/// Returns when the next round is due if no packet comes before. The errors are those of the calls.
 pub fn serve<S: DcSctpSocket>(
     socket: &mut S,
     now: SocketTime,
@@ -48,7 +48,7 @@ pub fn serve<S: DcSctpSocket>(
     Ok(socket.poll_timeout())
 }
 
-/// Takes all events that wait. `Err`: there is no memory to keep one.
+/// Takes all events that wait. `Err`: an allocation failed.
 pub fn drain<S: DcSctpSocket>(socket: &mut S, told: &mut Told) -> Result<(), AllocError>
     ensures { OnOk result ((S.user_view socket.new).events ≡ []) }
 {
@@ -61,8 +61,8 @@ pub fn drain<S: DcSctpSocket>(socket: &mut S, told: &mut Told) -> Result<(), All
     Ok(())
 }
 
-/// Sends a text on stream 1, in order and until it is acknowledged. 51 is the payload protocol identifier of a
-/// text (RFC 8831, section 8). The answer is that of `DcSctpSocket::send`.
+/// Sends a text on stream 1, in order and until it is acknowledged. 51 is the payload protocol identifier of
+/// a text (RFC 8831, section 8). The result is that of `DcSctpSocket::send`.
 pub fn say<S: DcSctpSocket>(
     socket: &mut S,
     alloc: Global,
@@ -90,8 +90,8 @@ pub fn drive<S: DcSctpSocket>(
     Ok(())
 }
 
-/// What a socket with the default options gives that connects and is handed these packets. The errors are those
-/// of the calls.
+/// What a socket with the default options returns when it connects and is handed these packets. The errors
+/// are those of the calls.
 pub fn client<R: Rng + Drop>(
     alloc: Global,
     generator: R,

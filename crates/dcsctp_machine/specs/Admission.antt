@@ -1,13 +1,13 @@
--- Which packets are worked, by their verification tag (RFC 9260, sections 8.4, 8.5 and 8.5.1).
+-- Which packets are handled, by their verification tag (RFC 9260, sections 8.4, 8.5 and 8.5.1).
 use Rattle.std.specs.Prelude.{◌==◌, ℕ, ◌-◌, ◌^◌, Bool, true, false, not, ◌&&◌, Option, None, Some, List, [], ◌∷◌, ◌++◌, codes}
 use Rattle.std.specs.Fmt.{digits, padded_integral, format_spec}
 use Rattle.dcsctp_machine.specs.Endpoint.{Core, closed, cookie_wait, cookie_echoed, open_in, own_tag}
 use Rattle.dcsctp_machine.specs.Packet.{Content, init, init_ack, cookie_echo, cookie_ack, re_config, abort, shutdown, shutdown_ack, shutdown_complete, plain, Packet}
 
 pub data Admission : Type 0 where
-  -- all chunks are worked
+  -- all chunks are handled
   all_chunks : Admission
-  -- its SHUTDOWN ACK chunks are, and nothing else of it
+  -- only its SHUTDOWN ACK chunks are handled
   shutdown_acks_alone : Admission
   -- none is, and this is the text of the error
   refused : List ℕ → Admission
@@ -61,12 +61,12 @@ is_single_init [] = false
 is_single_init (content ∷ []) = is_init content
 is_single_init (content ∷ next ∷ contents) = false
 
--- ---- which tag its header bears
+-- ---- which tag its header carries
 
 abbrev pub is_own_tag : Core → ℕ → Bool
 is_own_tag core header = header == own_tag core
 
--- Is a peer held, and is it its tag?
+-- Is the peer known, and is it its tag?
 abbrev pub is_peer_tag : Core → ℕ → Bool
 is_peer_tag closed header = false
 is_peer_tag (cookie_wait my) header = false
@@ -79,7 +79,7 @@ abbrev pub bears_tag : Core → ℕ → Bool → Bool
 bears_tag core header false = is_own_tag core header
 bears_tag core header true = is_peer_tag core header
 
--- the own tag, and not the 0 of Closed
+-- its own tag, and not the 0 of Closed
 abbrev pub is_own_nonzero_tag : Core → ℕ → Bool
 is_own_nonzero_tag core header = is_own_tag core header && not (header == 0)
 
@@ -106,26 +106,26 @@ wrong_tag_text header expected = codes "Packet has invalid verification tag: " +
 
 -- ---- the table
 
--- all chunks where the test holds, else none, for this reason
+-- all chunks if the test holds, else none, for this reason
 abbrev pub admitted_where : Bool → List ℕ → Admission
 admitted_where true text = all_chunks
 admitted_where false text = refused text
 
--- all chunks where the test holds, else the SHUTDOWN ACK chunks
+-- all chunks if the test holds, else the SHUTDOWN ACK chunks
 abbrev pub uncut_where : Bool → Admission
 uncut_where true = all_chunks
 uncut_where false = shutdown_acks_alone
 
--- Before the association is open a SHUTDOWN ACK is worked under any tag, as it may be of an association that is
--- over; under another tag than the own, nothing else of its packet is (RFC 9260, sections 8.4 and 8.5.1, E).
+-- Before the association is open a SHUTDOWN ACK is handled under any tag, as it may belong to an earlier one. Under another tag
+-- than its own, nothing else of its packet is handled (RFC 9260, sections 8.4 and 8.5.1, E).
 abbrev pub admits_shutdown_ack : Core → ℕ → Admission
 admits_shutdown_ack closed header = uncut_where (is_own_nonzero_tag closed header)
 admits_shutdown_ack (cookie_wait my) header = uncut_where (is_own_nonzero_tag (cookie_wait my) header)
 admits_shutdown_ack (cookie_echoed my held cookie) header = uncut_where (is_own_nonzero_tag (cookie_echoed my held cookie) header)
 admits_shutdown_ack (open_in phase my held) header = admitted_where (is_own_tag (open_in phase my held) header) shutdown_ack_text
 
--- The table, by five answers: the T bit of the first ABORT, that of the first SHUTDOWN COMPLETE, is there a
--- SHUTDOWN ACK, is a COOKIE ECHO in front, and is the tag 0?
+-- The table, by five answers: the T bit of the first ABORT, and that of the first SHUTDOWN COMPLETE. Is there a SHUTDOWN ACK, is
+-- a COOKIE ECHO in front, and is the tag 0?
 abbrev pub admits_by : Core → Packet → Option Bool → Option Bool → Bool → Bool → Bool → Admission
 -- ABORT (RFC 9260, section 8.5.1, B)
 admits_by core packet (Some reflected) completes acks echo zero = admitted_where (bears_tag core packet.tag reflected) abort_text

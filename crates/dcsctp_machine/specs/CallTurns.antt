@@ -1,4 +1,4 @@
--- A call is a list of turns, each from where the one before it left the endpoint.
+-- A call is a list of turns. Each starts at the endpoint that the one before it left.
 use Rattle.std.specs.Prelude.{◌≡◌, ℕ, List, [], ◌∷◌, ◌++◌, ◌⊎◌, take}
 use Rattle.dcsctp_machine.specs.declared.association.Pair.{Pair}
 use Rattle.dcsctp_machine.specs.declared.word.Word.{Word}
@@ -68,7 +68,7 @@ AfterChunk next_chunk others end nothing = others
 AfterChunk packet_end others end nothing = end
 AfterChunk dropped_rest others end nothing = nothing
 
--- The chunks of a packet have their turns one after another, as far as the outcomes say; then come these inputs, unless the rest
+-- The chunks of a packet have their turns one after another, as far as the outcomes say. Then come these inputs, unless the rest
 -- was dropped.
 abbrev pub ChunkTurns : Endpoint → ℕ → List Content → List Input → List Turned → Type 0
 ChunkTurns e tag [] ends turns = Turns e ends turns
@@ -77,13 +77,13 @@ ChunkTurns e tag (content ∷ contents) ends (turn ∷ turns) =
     IsTurn e (chunk_input tag content) turn
     × AfterChunk turn.outcome.following (ChunkTurns turn.outcome.after tag contents ends turns) (Turns turn.outcome.after ends turns) (turns ≡ [])
 
--- A packet whose chunks are worked: what stands before them, its chunks, and its end.
+-- A packet whose chunks are handled: what precedes them, its chunks, and its end.
 abbrev pub WholeTurns : Endpoint → Packet → List Turned → Type 0
 WholeTurns e packet [] = ⊥
 WholeTurns e packet (begun ∷ turns) =
     IsTurn e (packet_begins packet.contents) begun × ChunkTurns begun.outcome.after packet.tag packet.contents (packet_ends ∷ []) turns
 
--- A packet that was read and counted. Where its SHUTDOWN ACK chunks alone are worked, nothing else of it is.
+-- A packet that was read and counted. If its SHUTDOWN ACK chunks alone are handled, nothing else of it is.
 abbrev pub AdmittedTurns : Endpoint → Packet → Admission → List Turned → Type 0
 AdmittedTurns e packet all_chunks turns = WholeTurns e packet turns
 AdmittedTurns e packet shutdown_acks_alone turns = ChunkTurns e packet.tag (shutdown_acks_in packet.contents) [] turns
@@ -101,14 +101,14 @@ pub data HandleInput (e : Endpoint) (bytes : List ℕ) : List Turned → Type 0 
       → AdmittedTurns counted.outcome.after (packet_in packet) (admits e.core (packet_in packet)) turns
       → HandleInput e bytes (counted ∷ turns)
 
--- ---- handle_input where a growth is refused
+-- ---- handle_input when an allocation fails
 
--- so many chunks of a packet had their turns, from the first on
+-- that many chunks of a packet had their turns, from the first on
 abbrev pub FirstTurns : Endpoint → ℕ → List Content → List Turned → Type 0
 FirstTurns e tag contents turns = (count : ℕ) × ChunkTurns e tag (take count contents) [] turns
 
--- The first turns of a packet whose chunks are worked: what stands before them, and so many of them; or all, and its end, in
--- which the growth was refused.
+-- The first turns of a packet whose chunks are handled: what precedes them, and that many of them. Or all of them, and its end,
+-- in which an allocation failed.
 abbrev pub FirstOfWhole : Endpoint → Packet → List Turned → Type 0
 FirstOfWhole e packet [] = Unit {0}
 FirstOfWhole e packet (begun ∷ turns) =

@@ -1,7 +1,7 @@
--- How a turn of an endpoint is one of its association: the association moves as the change says, its effects are the
--- change's, and the user sees its packets, its connections and ends and its resets in the change's order.
--- Not said here: timers, counts, what lies below, the words drawn, whether packets have a checksum, the texts, streams and
--- kinds of events, and the events that are no sign.
+-- How a turn of an endpoint is one of its association. The association changes as the change says, and the effects are the
+-- change's. The user sees its packets, connections, ends and resets in the change's order. Not said here: timers, counts, what
+-- lies below, the words drawn, and whether packets have a checksum. Nor are the texts, streams and kinds of events, and events
+-- that don't count here.
 use Rattle.std.specs.Prelude.{◌≡◌, ℕ, List, [], ◌∷◌}
 use Rattle.dcsctp_machine.specs.Settings.{SameOptions}
 use Rattle.dcsctp_machine.specs.Packet.{Content, Packet, Emission}

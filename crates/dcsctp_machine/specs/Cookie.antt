@@ -1,4 +1,4 @@
--- The state cookie: what its maker wants to find again in a COOKIE ECHO (RFC 9260, section 5.1.3).
+-- The state cookie: what its maker needs again when the COOKIE ECHO comes (RFC 9260, section 5.1.3).
 use Rattle.std.specs.Prelude.{◌==◌, ℕ, Bool, true, false, not, ◌&&◌, ◌||◌, List, [], ◌∷◌, ◌++◌, length, take, drop, Result, Ok, Err, slice_index, codes, if◌then◌else◌}
 use Rattle.std.specs.Int.{w16, w32, w64, to_be_bytes, from_be_bytes}
 use Rattle.dcsctp_wire.specs.Fields.{u16_at, u32_at}
@@ -12,7 +12,7 @@ pub record Cookie : Type 0 where
   pub addressee : Pair
   pub offer : Offer
   pub window : ℕ
-  -- the tie tag of the association that was open, 0 where none was (RFC 9260, section 5.2.2)
+  -- the tie tag of the association that was open, 0 if none was (RFC 9260, section 5.2.2)
   pub tie : ℕ
 
 -- "dcSC" and "TPr0"
@@ -23,7 +23,7 @@ abbrev pub flag_byte : Bool → ℕ
 flag_byte true = 1
 flag_byte false = 0
 
--- The 48 bytes of a cookie. The addressee's outbound streams come in, its inbound streams go out.
+-- The 48 bytes of a cookie. The outbound streams of the INIT's sender are incoming ones here, its inbound streams outgoing ones.
 unfoldable pub cookie_bytes : Cookie → List ℕ
 cookie_bytes cookie =
     magic

@@ -6,7 +6,7 @@ abbrev pub IsRunning : Option RunningTimer → Type 0
 IsRunning None = ⊥
 IsRunning (Some timer) = Unit {0}
 
--- T1 runs where its packet isn't answered yet (RFC 9260, section 5.1).
+-- T1 runs if its packet isn't answered yet (RFC 9260, section 5.1).
 abbrev pub T1Runs : Core → Option RunningTimer → Type 0
 T1Runs closed t1 = Unit {0}
 T1Runs (cookie_wait mine) t1 = IsRunning t1

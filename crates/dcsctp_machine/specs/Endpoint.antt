@@ -43,14 +43,14 @@ association_of (cookie_wait my) = Some (record { phase = phases.CookieWait; my =
 association_of (cookie_echoed my held cookie) = Some (record { phase = phases.CookieEchoed; my = my; held = Some held })
 association_of (open_in phase my held) = Some (record { phase = phase_of phase; my = my; held = Some held })
 
--- the own verification tag, 0 where there is none
+-- its own verification tag, 0 if there is none
 abbrev pub own_tag : Core → ℕ
 own_tag closed = 0
 own_tag (cookie_wait my) = my.tag
 own_tag (cookie_echoed my held cookie) = my.tag
 own_tag (open_in phase my held) = my.tag
 
--- what is held of a peer
+-- what is known of a peer
 abbrev pub held_in : Core → Option Held
 held_in closed = None
 held_in (cookie_wait my) = None
@@ -62,7 +62,7 @@ pub record BackoffTerms : Type 0 where
   pub backoff : BackoffAlgorithm
   -- how often it goes on after it has expired; None: no limit
   pub max_restarts : Option ℕ
-  -- the longest that it runs after it has expired; None: no bound
+  -- the longest that it runs after it has expired; None: no limit
   pub max_backoff : Option ℕ
 
 -- How a timer runs, once it is started.
@@ -75,7 +75,7 @@ pub record TimerSettings : Type 0 where
 pub record RunningTimer : Type 0 where
   -- the moment at which it expires next, in nanoseconds
   pub deadline : ℕ
-  -- how long it runs this time, as if there were no bound
+  -- how long it runs this time, before the limit is applied
   pub wait : ℕ
   pub expiries : ℕ
   pub terms : BackoffTerms
@@ -91,7 +91,7 @@ pub record Timers : Type 0 where
 abbrev pub stopped_timers : Timers
 stopped_timers = record { t1 = None; t2 = None; reconfiguration = None; heartbeat_interval = None; heartbeat_timeout = None }
 
--- the moment that comes so much later, or the last one that there is
+-- the moment that comes that much later, or the last one that there is
 abbrev pub moment_after : ℕ → ℕ → ℕ
 moment_after moment duration = min (moment + duration) max_nanos
 
@@ -100,17 +100,17 @@ abbrev pub started : ℕ → TimerSettings → Option RunningTimer
 started moment settings =
     Some (record { deadline = moment_after moment settings.duration; wait = settings.duration; expiries = 0; terms = settings.terms })
 
--- how long a timer runs after it has expired, as if there were no bound: as long as before, or twice as long
+-- how long a timer runs after it has expired, before the limit is applied: as long as before, or twice as long
 abbrev pub next_wait : BackoffAlgorithm → ℕ → ℕ
 next_wait Fixed wait = wait
 next_wait Exponential wait = min (wait * 2) max_nanos
 
--- no longer than the bound, where there is one
+-- no longer than the bound, if there is one
 abbrev pub bounded : Option ℕ → ℕ → ℕ
 bounded None wait = wait
 bounded (Some bound) wait = min wait bound
 
--- May a timer go on that has expired so often?
+-- May a timer go on that has expired that often?
 abbrev pub goes_on : Option ℕ → ℕ → Bool
 goes_on None expiries = true
 goes_on (Some restarts) expiries = nat_le expiries restarts
@@ -133,12 +133,12 @@ is_due moment timer = nat_le timer.deadline moment
 abbrev pub is_restarted : RunningTimer → Bool
 is_restarted timer = goes_on timer.terms.max_restarts (next_expiries timer.expiries)
 
--- What is left of a timer that expires at this moment: it goes on, or, where its restarts are used up, it stops.
+-- What is left of a timer that expires at this moment: it goes on, or, if its restarts are used up, it stops.
 abbrev pub expired : ℕ → RunningTimer → Option RunningTimer
 expired moment timer = if is_restarted timer then Some (going_on moment timer) else None
 
--- T1-init and T1-cookie: each wait is twice the last one, without a bound, and the options say how often a packet is sent
--- again (RFC 9260, section 5.1).
+-- T1-init and T1-cookie: each wait is twice the last one, without a limit. The options say how often a packet is sent again (RFC
+-- 9260, section 5.1).
 abbrev pub t1_settings : Options → ℕ → TimerSettings
 t1_settings options duration =
     record { duration = duration; terms = record { backoff = Exponential; max_restarts = options.max_init_retransmits; max_backoff = None } }
@@ -148,7 +148,7 @@ abbrev pub heartbeat_settings : Options → TimerSettings
 heartbeat_settings options =
     record { duration = as_nanos options.heartbeat_interval; terms = record { backoff = Fixed; max_restarts = None; max_backoff = None } }
 
--- the own request to reset streams that is under way (RFC 6525, section 4.1)
+-- its own request to reset streams that is under way (RFC 6525, section 4.1)
 pub record OutstandingRequest : Type 0 where
   pub last_tsn : ℕ
   pub streams : List ℕ
@@ -166,20 +166,20 @@ pub record Endpoint : Type 0 where
   pub moment : ℕ
   pub options : Options
   pub core : Core
-  -- the association's tie tag (RFC 9260, section 5.2.2), 0 where no peer is held
+  -- the association's tie tag (RFC 9260, section 5.2.2), 0 if the peer isn't known
   pub tie : ℕ
   pub outstanding : Option OutstandingRequest
   -- RFC 9260, section 8.1
   pub error_count : ℕ
   pub heartbeat_counter : ℕ
   pub timers : Timers
-  -- No FORWARD-TSN goes out before.
+  -- No FORWARD-TSN is sent before.
   pub no_forward_tsn_before : ℕ
   pub counts : Counts
   pub peer_implementation : SctpImplementation
   pub below : Below
 
--- The heartbeat interval begins anew. One of zero switches heartbeats off.
+-- The heartbeat interval starts anew. One of zero switches heartbeats off.
 abbrev pub heartbeats_begun : Endpoint → Timers → Timers
 heartbeats_begun e timers =
     if as_nanos e.options.heartbeat_interval == 0 then timers

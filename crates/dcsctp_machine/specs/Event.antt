@@ -1,4 +1,4 @@
--- What a socket tells its user, over what stands for a packet: a packet in the machine, its bytes outside.
+-- What a socket tells its user, with a parameter for packets: in the machine their contents, outside their bytes.
 use Rattle.std.specs.Prelude.{ℕ, List, [], ◌∷◌}
 use Rattle.dcsctp_machine.specs.declared.kinds.ErrorKind.{ErrorKind}
 

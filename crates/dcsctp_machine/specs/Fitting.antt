@@ -1,5 +1,4 @@
--- What a socket sends: numbers that fit their fields, and chunks that are read as themselves; and the timer that sends
--- again.
+-- What a socket sends: numbers that fit their fields, and chunks that read back as themselves. Also the timer that sends again.
 use Rattle.std.specs.Prelude.{◌≡◌, ◌<◌, ◌^◌, ℕ, Option, None, Some, List, [], ◌∷◌}
 use Rattle.std.specs.List.{AllByRecursion}
 use Rattle.dcsctp_wire.specs.ReadsBack.{FitsEcho, FitsChunk}
@@ -41,7 +40,7 @@ abbrev pub AllSent : (Emission → Type 0) → List (Event Emission) → Type 0
 AllSent Good [] = Unit {0}
 AllSent Good (event ∷ events) = OfSent Good event × AllSent Good events
 
--- a number of a request, where there is one
+-- a number of a request, if there is one
 abbrev pub FitsNumber : Option ℕ → Type 0
 FitsNumber None = Unit {0}
 FitsNumber (Some number) = number < 2 ^ 32
@@ -53,7 +52,7 @@ pub record FitsHeld (held : Held) : Type 0 where
   pub own_outstanding : FitsNumber held.own_outstanding
   pub peer_last : held.peer_last < 2 ^ 32
 
--- All that an association holds fits its fields: whatever of it is sent, now or again, can be read.
+-- All that an association holds fits its fields: whatever of it is sent, for the first time or again, can be read.
 abbrev pub FitsCore : Core → Type 0
 FitsCore closed = Unit {0}
 FitsCore (cookie_wait my) = FitsPair my

@@ -29,7 +29,7 @@ use Rattle.dcsctp_machine.specs.turns.HandshakeOutcomes.{InitTurn}
 use Rattle.dcsctp_machine.specs.turns.OwnTimers.{OwnTimer, timer_act}
 use Rattle.dcsctp_machine.specs.turns.FlushOutcomes.{Answer, FlushAnswers, flush_of, IsWithin, KeepsLimits}
 
--- Two ends hold the same: the features are equal, and what comes in at one goes out at the other.
+-- Two ends agree: the features are equal, and the incoming streams of one are the outgoing ones of the other.
 pub record IsMirrored (mine theirs : Capabilities) : Type 0 where
   pub partial_reliability : mine.partial_reliability ≡ theirs.partial_reliability
   pub message_interleaving : mine.message_interleaving ≡ theirs.message_interleaving
@@ -41,7 +41,7 @@ pub record IsMirrored (mine theirs : Capabilities) : Type 0 where
 abbrev pub NegotiationIsMutual : Type 0
 NegotiationIsMutual = (a b : Offer) → IsMirrored (negotiated a b) (negotiated b a)
 
--- An answer that leaves out a method which isn't common changes nothing of what is agreed.
+-- An answer may leave out a method that isn't common: what is agreed is the same.
 abbrev pub AnswerKeepsAgreement : Type 0
 AnswerKeepsAgreement = (mine theirs : Offer) → negotiated mine (answering_offer mine theirs) ≡ negotiated mine theirs
 
@@ -83,12 +83,12 @@ pub data AtMostOnePacket : List (Event Emission) → Type 0 where
   no_packet : AtMostOnePacket []
   one_packet : (emission : Emission) → AtMostOnePacket (sent emission ∷ [])
 
--- An INIT brings at most one event, a packet, and moves nothing but the count of packets sent, in every
--- phase (RFC 9260, sections 5.1 and 5.2).
+-- An INIT brings at most one event, a packet, and changes nothing but the count of packets sent, in every phase (RFC 9260,
+-- sections 5.1 and 5.2).
 abbrev pub InitBringsOnePacket : Type 0
 InitBringsOnePacket = (e : Endpoint) (theirs : Introduction) (o : Outcome) → InitTurn e theirs o → CountsSentOnly e o.after × AtMostOnePacket o.events
 
--- What a socket announces in an INIT or INIT ACK is read from it again, with a cookie behind it or none.
+-- What a socket announces in an INIT or INIT ACK is read back from it, with a cookie after it or without.
 abbrev pub OfferReadsBack : Type 0
 OfferReadsBack = (options : Options) (method : ℕ) (cookie : Option (List ℕ)) →
     let offer = record (offer_of options) { zero_checksum_method = method } in
@@ -114,9 +114,8 @@ pub record RefusedPacketAddsOneError : Type 0 where
       → IsPacket (wire_options e.options) packet bytes → admits e.core (packet_in packet) ≡ refused text
       → IsRefused e text turns
 
--- Whatever admission lets in may be worked in the machine that agreement runs on: a whole packet, or its SHUTDOWN
--- ACK chunks alone. Each of these is answered, and the association stays as it is (RFC 9260, sections 8.4 and
--- 8.5.1).
+-- Whatever admission lets in is let in by `World`, too: a whole packet, or only its SHUTDOWN ACK chunks. Each of these is
+-- answered, and the association is unchanged (RFC 9260, sections 8.4 and 8.5.1).
 pub record AdmittedPacketsMayBeWorked : Type 0 where
   pub whole : (core : Core) (packet : Packet) → admits core packet ≡ all_chunks → MayBeWorked core packet
   pub cut : (core : Core) (packet : Packet) → admits core packet ≡ shutdown_acks_alone
@@ -126,15 +125,15 @@ pub record AdmittedPacketsMayBeWorked : Type 0 where
 
 -- ---- the turns of an endpoint as turns of its association
 
--- the own pair, where there is one, has numbers within their fields
+-- its own pair, if there is one, has numbers within their fields
 abbrev pub FitsOwn : Core → Type 0
 FitsOwn closed = Unit {0}
 FitsOwn (cookie_wait my) = FitsPair my
 FitsOwn (cookie_echoed my held cookie) = FitsPair my
 FitsOwn (open_in phase my held) = Unit {0}
 
--- the pairs and the offer of an INIT and of the cookie that answers it fit their fields, as those of a chunk that
--- was read and of a socket's memory do
+-- the pairs and the offer of an INIT and of the cookie that answers it fit their fields. Those of a chunk that was read, and of a
+-- socket's memory, do
 pub record FitsAnswer (e : Endpoint) (theirs : Introduction) : Type 0 where
   pub options : IsValid e.options
   pub own : FitsOwn e.core
@@ -154,7 +153,8 @@ ChunksAreControlled =
 abbrev pub ActsAreControlled : Type 0
 ActsAreControlled = (e : Endpoint) (act : Act) (o : Outcome) → ActTurn e act o → ControlledAct e act o
 
--- The timers of an open association send packets that speak of none, as a flush does, or the request that is outstanding again.
+-- The timers of an open association send packets that don't concern the association, as a flush does, or the outstanding request
+-- again.
 abbrev pub TimersAreControlled : Type 0
 TimersAreControlled = (e : Endpoint) (timer : OwnTimer) (o : Outcome) → Turn e (timer_expires timer) o → ControlledAct e (timer_act e timer) o
 
@@ -176,7 +176,7 @@ pub data IsRest (e : Endpoint) (ends : List Input) (turns : List Turned) : Type 
   dropped : turns ≡ [] → IsRest e ends turns
   ended : Turns e ends turns → IsRest e ends turns
 
--- The turns of a packet's chunks are chunks worked by the association; behind them stands the end of the packet, or nothing.
+-- The turns of a packet's chunks are chunks that the association handles. After them comes the end of the packet, or nothing.
 pub record AreChunks (e : Endpoint) (tag : ℕ) (contents : List Content) (ends : List Input) (turns : List Turned) : Type 0 where
   pub chunks : List Turned
   pub rest : List Turned
@@ -191,26 +191,27 @@ PacketsAreControlled =
     (e : Endpoint) (tag : ℕ) (contents : List Content) (ends : List Input) (turns : List Turned) → ChunkTurns e tag contents ends turns
     → FitsTurns e contents turns → AreChunks e tag contents ends turns
 
--- What stands before a packet's chunks: nothing, or the answer to data where a SHUTDOWN waits for its own.
+-- What precedes a packet's chunks: nothing, or the answer to data while a SHUTDOWN waits for its own.
 pub record StandsBefore (e : Endpoint) (o : Outcome) : Type 0 where
   pub change : Change
   pub is : (change ≡ unchanged e.core) ⊎ ((choices : Choices) × (change ≡ act_change e.options e.core shutdown_repeats choices))
   pub controlled : IsControlled e o change
   pub keeps : change.core ≡ e.core
 
--- A packet's turns: what stands before its chunks; these, as they may be worked; and its end.
+-- A packet's turns: what precedes its chunks; these, as they may be handled; and its end.
 pub record IsDelivery (e : Endpoint) (packet : Packet) (begun : Turned) (turns : List Turned) : Type 0 where
   pub before : StandsBefore e begun.outcome
   pub worked : AreChunks begun.outcome.after packet.tag packet.contents (packet_ends ∷ []) turns
   pub may : MayBeWorked begun.outcome.after.core packet
 
--- What comes of a packet that was counted: a delivery to the association, of all its chunks or its SHUTDOWN ACK chunks; or one error.
+-- The outcome of a packet that was counted: a delivery to the association, of all its chunks or its SHUTDOWN ACK chunks; or one
+-- error.
 pub data Delivered (e : Endpoint) (packet : Packet) : List Turned → Type 0 where
   whole : (begun : Turned) (turns : List Turned) → IsDelivery e packet begun turns → Delivered e packet (begun ∷ turns)
   acks : (turns : List Turned) → AreChunks e packet.tag (shutdown_acks_in packet.contents) [] turns → Delivered e packet turns
   reported : (text : List ℕ) (turn : Turned) → turn.outcome ≡ refusal_outcome e text → Delivered e packet (turn ∷ [])
 
--- where the chunks of a packet fit at their turns, behind the one that stands before them
+-- where the chunks of a packet fit at their turns, after the one that stands before them
 abbrev pub FitsBehind : List Content → List Turned → Type 0
 FitsBehind contents [] = Unit {0}
 FitsBehind contents (begun ∷ turns) = FitsTurns begun.outcome.after contents turns
@@ -222,9 +223,8 @@ DeliveriesAreControlled =
 
 -- ---- a flush
 
--- Whatever answers a flush gets, it sends at most as many packets as `max_burst` allows, one at most while the COOKIE ECHO
--- isn't answered, none of them longer than `mtu`, and tells nothing else but what becomes of amounts and messages (RFC 9260,
--- section 6.1).
+-- Whatever answers a flush gets, it sends at most as many packets as `max_burst` allows (RFC 9260, section 6.1). While the COOKIE
+-- ECHO isn't answered it sends at most one. None is longer than `mtu`. Its other events are only of amounts and messages.
 abbrev pub FlushKeepsLimits : Type 0
 FlushKeepsLimits =
     (e : Endpoint) (draft : Emission) (answers : List Answer) → FlushAnswers e draft answers → IsWithin e draft
@@ -232,8 +232,8 @@ FlushKeepsLimits =
 
 -- ---- two sockets
 
--- The options of a socket stay for good, but for the longest message that it takes, whatever the user calls and whatever is
--- delivered.
+-- The options of a socket never change, except for the longest message that it takes. That holds whatever the user calls and
+-- whatever is delivered.
 pub record SocketsKeepOptions : Type 0 where
   pub act : (e : Endpoint) (packets : List (List ℕ)) (act : ActContent) (turns : List Turned) → TurnsOfAct e packets act turns
       → SameOptions e.options (after_all e turns).options

@@ -46,8 +46,8 @@ no_capabilities =
       negotiated_maximum_outgoing_streams = 0;
     }
 
--- What two ends agree on, as the first sees it: what both offer, and no more streams one way than the
--- one sends and the other receives.
+-- What two ends agree on, as the first sees it: what both offer. In each direction there are no more streams than the one sends
+-- and the other receives.
 abbrev pub negotiated : Offer → Offer → Capabilities
 negotiated mine theirs =
     record {
@@ -59,12 +59,11 @@ negotiated mine theirs =
       negotiated_maximum_outgoing_streams = min mine.outbound_streams theirs.inbound_streams;
     }
 
--- What an end announces in an INIT ACK to an INIT with this offer: its own offer, with the method only
--- where both have it.
+-- What an end announces in an INIT ACK to an INIT with this offer: its own offer, with the method only if both have it.
 abbrev pub answering_offer : Offer → Offer → Offer
 answering_offer theirs mine = record mine { zero_checksum_method = agreed_method mine theirs }
 
--- a peer's offer as capabilities: what it sends on comes in
+-- a peer's offer as capabilities: the streams that it sends on are incoming ones
 abbrev pub capabilities_offered : Offer → Capabilities
 capabilities_offered offer =
     record {

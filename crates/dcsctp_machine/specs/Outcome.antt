@@ -16,8 +16,8 @@ use Rattle.dcsctp_wire.specs.Spelling.{chunk_bytes}
 
 pub record Outcome : Type 0 where
   pub words : List Word
-  -- what happened to the association, in order, but for its packets, which stand among the events: pairs that were drawn,
-  -- what is held from here on, connections, ends, and the numbers of requests that were begun, ended, accepted and performed
+  -- what happened to the association, in order: pairs that were drawn, the association from here on, connections and ends. Also
+  -- the numbers of requests that were begun, ended, accepted and performed. Its packets are among the events.
   pub effects : List Effect
   pub after : Endpoint
   pub events : List (Event Emission)
@@ -55,7 +55,7 @@ fits e emission = nat_le (12 + contents_len emission.packet.contents) (packet_si
 abbrev pub counted : Endpoint → Endpoint
 counted e = record e { counts = record e.counts { packets_sent = count_up e.counts.packets_sent } }
 
--- these words and events, and no packet behind them
+-- these words and events, and no packet after them
 abbrev pub quiet : Endpoint → List Word → List (Event Emission) → Outcome
 quiet e words events = record { words = words; effects = []; after = e; events = events; following = next_chunk }
 
@@ -63,12 +63,11 @@ quiet e words events = record { words = words; effects = []; after = e; events =
 abbrev pub sends : Endpoint → List Word → List (Event Emission) → Emission → Outcome
 sends e words events emission = record { words = words; effects = []; after = counted e; events = events ++ sent emission ∷ []; following = next_chunk }
 
--- The words that were drawn, and then a packet, where it fits: one that doesn't is neither emitted nor
--- counted.
+-- The words that were drawn, and then a packet, if it fits: one that doesn't is neither emitted nor counted.
 abbrev pub emits : Endpoint → List Word → Emission → Outcome
 emits e words emission = if fits e emission then sends e words [] emission else quiet e words []
 
--- this outcome, behind these words and events
+-- this outcome, after these words and events
 abbrev pub behind : List Word → List (Event Emission) → Outcome → Outcome
 behind words events o = record o { words = words ++ o.words; events = events ++ o.events }
 
@@ -83,10 +82,10 @@ then_outcome first second =
       following = second.following;
     }
 
--- this outcome, behind these effects
+-- this outcome, after these effects
 abbrev pub noting : List Effect → Outcome → Outcome
 noting effects o = record o { effects = effects ++ o.effects }
 
--- what comes of a turn that draws this pair
+-- the outcome of a turn that draws this pair
 abbrev pub drawing : Pair → Outcome → Outcome
 drawing pair o = noting (draws pair ∷ []) o

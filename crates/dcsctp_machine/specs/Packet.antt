@@ -16,15 +16,15 @@ pub record Introduction : Type 0 where
   -- its receive window
   pub window : ℕ
 
--- A chunk that speaks of no association: data, acknowledgements, heartbeats, errors, and what is unknown. What other
--- chapters ask of kinds stands beside them, and names them alone.
+-- A chunk that doesn't concern the association: data, acknowledgements, heartbeats, errors, and what is unknown. Other files say
+-- what their kinds mean.
 pub data Plain : Type 0 where
   -- a chunk of a type that isn't known (RFC 9260, section 3.2): type, flags, value
   unknown : ℕ → ℕ → List ℕ → Plain
   -- HEARTBEAT and HEARTBEAT ACK (RFC 9260, sections 3.3.5 and 3.3.6): their parameters
   heartbeat : List ParameterContent → Plain
   heartbeat_ack : List ParameterContent → Plain
-  -- any other kind, as it stands in its packet: those of data, SACK and ERROR are told apart by it, and the others aren't worked
+  -- any other kind, as it is in its packet: data, SACK and ERROR are told apart by it, and the others aren't handled
   unworked : ChunkContent → Plain
 
 -- is it a DATA chunk?
@@ -41,7 +41,7 @@ error_of causes = unworked (error_chunk causes)
 
 pub data Content : Type 0 where
   init : Introduction → Content
-  -- with the bytes of the state cookie, where there is one
+  -- with the bytes of the state cookie, if there is one
   init_ack : Introduction → Option (List ℕ) → Content
   -- COOKIE ECHO (RFC 9260, section 3.3.11): the bytes of the state cookie
   cookie_echo : List ℕ → Content

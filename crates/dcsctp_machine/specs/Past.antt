@@ -1,4 +1,4 @@
--- What one side has done so far, newest first, and where in it each effect may stand.
+-- What one side has done so far, newest first, and where in it each effect may be.
 use Rattle.std.specs.Prelude.{◌≡◌, ◌≢◌, ℕ, ◌+◌, ◌%◌, ◌^◌, Option, None, Some, List, [], ◌∷◌, ◌⊎◌}
 use Rattle.dcsctp_machine.specs.declared.association.Pair.{Pair}
 use Rattle.dcsctp_machine.specs.control.Effect.{Link, Effect, draws, sends, holds, connects, ends, begins, completes, fails, accepts, performs}
@@ -9,7 +9,7 @@ abbrev pub Has : Effect → List Effect → Type 0
 Has effect [] = ⊥
 Has effect (newest ∷ earlier) = (effect ≡ newest) ⊎ Has effect earlier
 
--- Each effect stands as the rule wants it, by what came before it.
+-- Each effect is as the rule wants it, by what came before it.
 abbrev pub Each : (Effect → List Effect → Type 0) → List Effect → Type 0
 Each Rule [] = Unit {0}
 Each Rule (newest ∷ earlier) = Rule newest earlier × Each Rule earlier
@@ -35,7 +35,7 @@ HasFreshTags past = Each FreshDraw past
 
 -- ---- what the past leaves
 
--- the association that is held
+-- the existing association
 abbrev pub current : List Effect → Option Link
 current [] = None
 current (holds link ∷ earlier) = Some link
@@ -49,7 +49,7 @@ current (fails number ∷ earlier) = current earlier
 current (accepts number ∷ earlier) = current earlier
 current (performs peer number ∷ earlier) = current earlier
 
--- the association that is held and hasn't connected
+-- the existing association and hasn't connected
 abbrev pub unconnected : List Effect → Option Link
 unconnected [] = None
 unconnected (holds link ∷ earlier) = Some link
@@ -63,7 +63,7 @@ unconnected (fails number ∷ earlier) = unconnected earlier
 unconnected (accepts number ∷ earlier) = unconnected earlier
 unconnected (performs peer number ∷ earlier) = unconnected earlier
 
--- the number that an own request has to bear: the own first TSN, and then one more each time
+-- the number that its own request has to carry: its own first TSN, and then one more each time
 abbrev pub number_to_begin : List Effect → Option ℕ
 number_to_begin [] = None
 number_to_begin (holds link ∷ earlier) = Some link.my.first_tsn
@@ -77,7 +77,7 @@ number_to_begin (fails number ∷ earlier) = number_to_begin earlier
 number_to_begin (accepts number ∷ earlier) = number_to_begin earlier
 number_to_begin (performs peer number ∷ earlier) = number_to_begin earlier
 
--- the number of the own request that has not ended
+-- the number of its own request that has not ended
 abbrev pub outstanding : List Effect → Option ℕ
 outstanding [] = None
 outstanding (holds link ∷ earlier) = None
@@ -91,7 +91,7 @@ outstanding (connects link ∷ earlier) = outstanding earlier
 outstanding (accepts number ∷ earlier) = outstanding earlier
 outstanding (performs peer number ∷ earlier) = outstanding earlier
 
--- how many own requests were begun in the association that is held
+-- how many of its own requests were begun in the existing association
 abbrev pub requests_begun : List Effect → ℕ
 requests_begun [] = 0
 requests_begun (holds link ∷ earlier) = 0
@@ -105,7 +105,7 @@ requests_begun (fails number ∷ earlier) = requests_begun earlier
 requests_begun (accepts number ∷ earlier) = requests_begun earlier
 requests_begun (performs peer number ∷ earlier) = requests_begun earlier
 
--- the number that a request of the peer has to bear to be accepted: its first TSN, and then one more each time
+-- the number that a request of the peer has to carry to be accepted: its first TSN, and then one more each time
 abbrev pub number_to_accept : List Effect → Option ℕ
 number_to_accept [] = None
 number_to_accept (holds link ∷ earlier) = Some (link.peer.first_tsn % 2 ^ 32)
@@ -133,7 +133,7 @@ number_to_perform (begins number ∷ earlier) = number_to_perform earlier
 number_to_perform (completes my number ∷ earlier) = number_to_perform earlier
 number_to_perform (fails number ∷ earlier) = number_to_perform earlier
 
--- the own pair of an association, where there is one, and its peer's
+-- its own pair of an association, if there is one, and its peer's
 abbrev pub my_of : Option Link → Option Pair
 my_of None = None
 my_of (Some link) = Some link.my
@@ -144,10 +144,9 @@ peer_of (Some link) = Some link.peer
 
 -- ---- the rules of one side
 
--- One holding connects at most once, and as it is held.
--- Own requests go up by one from the own first TSN, one at a time; each has at most one end, under the own pair.
--- The peer's accepted requests go up by one from its first TSN; each is performed at most once, under its
--- pair, and none that wasn't accepted.
+-- In one lifetime an association connects at most once, and as it is then. Its own requests go up by one from its own first TSN,
+-- one at a time. Each has at most one end, under its own pair. The peer's accepted requests go up by one from its first TSN. Each
+-- is performed at most once, under its pair, and none that wasn't accepted.
 abbrev pub InPlace : Effect → List Effect → Type 0
 InPlace (connects link) earlier = unconnected earlier ≡ Some link
 InPlace (begins number) earlier = (number_to_begin earlier ≡ Some number) × (outstanding earlier ≡ None)

@@ -6,8 +6,8 @@ use Rattle.dcsctp_wire.specs.declared.reconfiguration.ReconfigurationResponseRes
 use Rattle.dcsctp_wire.specs.Content.{ParameterContent, outgoing_ssn_reset_request, incoming_ssn_reset_request}
 use Rattle.dcsctp_wire.specs.Content as wire
 
--- what the sender of an Outgoing SSN Reset Request wants: the streams that it resets, all where there are
--- none, once what it sent up to the last TSN is there
+-- what the sender of an Outgoing SSN Reset Request wants: these streams are reset, or all if there are none. That is done once
+-- everything that it sent up to the last TSN was received
 pub record RequestedReset : Type 0 where
   pub last_tsn : ℕ
   pub streams : List ℕ

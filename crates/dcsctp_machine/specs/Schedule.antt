@@ -1,4 +1,4 @@
--- What is done to two sockets, by what it says: two acts that say the same are one, wherever they stand in memory.
+-- What is done to two sockets, by what it says: two acts with the same contents are one, wherever they lie in memory.
 use Rattle.std.specs.Prelude.{ℕ, List, map}
 use Rattle.std.specs.List.{AllByRecursion}
 use Rattle.dcsctp_machine.specs.declared.message.SendOptions.{SendOptions}

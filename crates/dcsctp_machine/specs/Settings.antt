@@ -4,7 +4,7 @@ use Rattle.std.specs.Duration.{as_nanos}
 use Rattle.dcsctp_machine.specs.declared.options.Options.{Options}
 use Rattle.dcsctp_wire.specs.declared.packet.WireOptions.{WireOptions}
 
--- the size of a packet out: `mtu`, rounded down to a multiple of 4
+-- the size of a packet that is sent: `mtu`, rounded down to a multiple of 4
 abbrev pub packet_size_limit : Options → ℕ
 packet_size_limit options = options.mtu - options.mtu % 4
 
@@ -14,7 +14,7 @@ pub record IsValid (options : Options) : Type 0 where
   pub receive_window : options.max_receiver_window_buffer_size < 2 ^ 32
   pub send_buffer : options.max_send_buffer_size < 2 ^ 32
 
--- The numbers that stand in packets fit their fields, as those of options in memory do.
+-- The numbers that are put into packets fit their fields, as those of options in memory do.
 pub record FitsOptions (options : Options) : Type 0 where
   pub local_port : options.local_port < 2 ^ 16
   pub remote_port : options.remote_port < 2 ^ 16
@@ -43,7 +43,7 @@ wire_options options =
 abbrev pub milliseconds : ℕ → ℕ
 milliseconds n = n * 1_000_000
 
--- The same but for `max_message_size`, which the user may set later.
+-- The same except for `max_message_size`, which the user may set later.
 abbrev pub SameOptions : Options → Options → Type 0
 SameOptions old new = new ≡ record old { max_message_size = new.max_message_size }
 

@@ -1,4 +1,5 @@
--- Two sockets and every list of acts: what comes of each call, each delivery and each act from outside, and what a side shows.
+-- Two sockets and every list of acts. What is the outcome of each call, each delivery and each act from outside? What does a side
+-- show?
 use Rattle.std.specs.Prelude.{◌≡◌, ℕ, zero, suc, Option, None, Some, List, [], ◌∷◌, ◌++◌, map}
 use Rattle.std.specs.List.{slice_get}
 use Rattle.dcsctp_machine.specs.declared.association.Association.{Association}
@@ -38,12 +39,12 @@ abbrev pub numbered : ℕ → List (List ℕ) → Option (List ℕ)
 numbered zero packets = None
 numbered (suc before) packets = slice_get packets before
 
--- what comes of bytes that are handed in, where there are any
+-- the outcome of bytes that are handed in, if there are any
 abbrev pub DeliveryTurns : Endpoint → Option (List ℕ) → List Turned → Type 0
 DeliveryTurns e None turns = turns ≡ []
 DeliveryTurns e (Some bytes) turns = HandleInput e bytes turns
 
--- what comes of a user's call
+-- the outcome of a user's call
 abbrev pub UserTurns : Endpoint → CallContent → List Turned → Type 0
 UserTurns e connect_call turns = Turns e (act_input connect ∷ []) turns
 UserTurns e close_call turns = Turns e (act_input (abort_with CloseCalled) ∷ []) turns
@@ -59,7 +60,7 @@ abbrev pub side_of : StepContent → Side
 side_of (call_step side call) = side
 side_of (delivery_step side number) = side
 
--- what comes of a step at its side, where the other has emitted these packets
+-- the outcome of a step at its side, where the other has emitted these packets
 abbrev pub StepTurns : Endpoint → List (List ℕ) → StepContent → List Turned → Type 0
 StepTurns e packets (call_step side call) turns = UserTurns e call turns
 StepTurns e packets (delivery_step side number) turns = DeliveryTurns e (numbered number packets) turns
@@ -69,7 +70,7 @@ StepTurns e packets (delivery_step side number) turns = DeliveryTurns e (numbere
 abbrev pub side_of_outside : OutsideContent → Side
 side_of_outside (input_outside side bytes) = side
 
--- what comes of it at its side: whatever the bytes say
+-- its outcome at its side: whatever the bytes say
 abbrev pub OutsideTurns : Endpoint → OutsideContent → List Turned → Type 0
 OutsideTurns e (input_outside side bytes) turns = HandleInput e bytes turns
 
@@ -80,7 +81,7 @@ abbrev pub side_of_act : ActContent → Side
 side_of_act (step_act step) = side_of step
 side_of_act (outside_act outside) = side_of_outside outside
 
--- what comes of it at its side, where the other has emitted these packets
+-- its outcome at its side, where the other has emitted these packets
 abbrev pub TurnsOfAct : Endpoint → List (List ℕ) → ActContent → List Turned → Type 0
 TurnsOfAct e packets (step_act step) turns = StepTurns e packets step turns
 TurnsOfAct e packets (outside_act outside) turns = OutsideTurns e outside turns
@@ -105,24 +106,24 @@ abbrev pub of_other : {T : Type 0} → Side → Both T → T
 of_other sides.A both = both.b
 of_other sides.B both = both.a
 
--- these turns behind those of one side
+-- these turns after those of one side
 abbrev pub with_turns : Side → List Turned → Both (List Turned) → Both (List Turned)
 with_turns sides.A more turns = record turns { a = turns.a ++ more }
 with_turns sides.B more turns = record turns { b = turns.b ++ more }
 
--- all turns of each side after these steps, which stand newest first
+-- all turns of each side after these steps, newest first
 abbrev pub turns_after : List Worked → Both (List Turned)
 turns_after [] = record { a = []; b = [] }
 turns_after (worked ∷ earlier) = with_turns (side_of_act worked.act) worked.turns (turns_after earlier)
 
--- what comes of an act after these turns
+-- the outcome of an act after these turns
 abbrev pub NextTurns : Both Options → Both (List Turned) → ActContent → List Turned → Type 0
 NextTurns options turns act more =
     TurnsOfAct (endpoint_after (of_side (side_of_act act) options) (of_side (side_of_act act) turns))
     (packets_shown (of_other (side_of_act act) options) (of_other (side_of_act act) turns)) act more
 
--- Two sockets run: each of these acts, newest first, comes of what the acts before it left. Whatever a step
--- delivers was emitted by the other socket before, byte for byte; what an act from outside hands in may be any bytes.
+-- A run of two sockets: each of these acts, newest first, follows from what the acts before it left. Whatever a step delivers was
+-- emitted by the other socket before, byte for byte; what an act from outside hands in may be any bytes.
 abbrev pub SocketRun : Both Options → List Worked → Type 0
 SocketRun options [] = Unit {0}
 SocketRun options (worked ∷ earlier) = NextTurns options (turns_after earlier) worked.act worked.turns × SocketRun options earlier

@@ -1,4 +1,4 @@
--- Time: the deadlines that a socket waits for, and what comes of a moment that it is told.
+-- Time: the deadlines that a socket waits for, and what `advance_time` does.
 use Rattle.std.specs.Prelude.{◌≡◌, ◌≤◌, ◌<◌, ℕ, min, max, Bool, true, false, nat_le, if◌then◌else◌, Option, None, Some, List, [], ◌∷◌}
 use Rattle.std.specs.Duration.{max_nanos}
 use Rattle.dcsctp_machine.specs.Endpoint.{Endpoint, Core, closed, cookie_wait, cookie_echoed, open_in, RunningTimer, is_restarted}
@@ -18,7 +18,7 @@ pub data Timer : Type 0 where
   own_timer : OwnTimer → Timer
   t2_timer : Timer
 
--- Those that are worked in a phase, in their order.
+-- Those that are handled in a phase, in their order.
 abbrev pub timers_in : Core → List Timer
 timers_in closed = []
 timers_in (cookie_wait mine) = t1_timer ∷ []
@@ -34,7 +34,7 @@ timers_told (cookie_wait mine) = t1_timer ∷ []
 timers_told (cookie_echoed mine held cookie) = t1_timer ∷ []
 timers_told (open_in phase mine held) = timers_in (open_in phase mine held)
 
--- when a timer expires next, where it runs
+-- when a timer expires next, if it runs
 abbrev pub deadline_of : Option RunningTimer → Option ℕ
 deadline_of None = None
 deadline_of (Some timer) = Some timer.deadline
@@ -57,7 +57,7 @@ deadline e (own_timer heartbeat_timeout) = deadline_of e.timers.heartbeat_timeou
 deadline e (own_timer reconfiguration) = deadline_of e.timers.reconfiguration
 deadline e t2_timer = deadline_of e.timers.t2
 
--- these, and one more, where there is one
+-- these, and one more, if there is one
 abbrev pub with_deadline : Option ℕ → List ℕ → List ℕ
 with_deadline None others = others
 with_deadline (Some deadline) others = deadline ∷ others
@@ -75,16 +75,16 @@ abbrev pub earliest : ℕ → List ℕ → ℕ
 earliest first [] = first
 earliest first (deadline ∷ others) = earliest (min first deadline) others
 
--- never, where there is none; else the earliest, but not before the present moment
+-- never, if there is none; else the earliest, but not before the present moment
 abbrev pub next_of : ℕ → List ℕ → ℕ
 next_of moment [] = max_nanos
 next_of moment (deadline ∷ others) = max (earliest deadline others) moment
 
--- The moment at which a socket wants to be told the time. The last moment stands for one that never comes.
+-- The next deadline of a socket. The last moment stands for one that never comes.
 abbrev pub next_moment : Endpoint → ℕ
 next_moment e = next_of e.moment (deadlines e)
 
--- ---- what comes of a moment
+-- ---- the outcome of a moment
 
 -- Has this deadline come?
 abbrev pub has_come : ℕ → Option ℕ → Bool
@@ -96,7 +96,7 @@ abbrev pub has_restart : Option RunningTimer → Bool
 has_restart None = false
 has_restart (Some timer) = is_restarted timer
 
--- T2 sends what it waits for again; without a restart the peer is given up, as after too many errors.
+-- T2 sends its packet again. With no restart left the association is aborted, as after too many errors.
 abbrev pub t2_input : Bool → Input
 t2_input true = act_input shutdown_repeats
 t2_input false = act_input (abort_with TooManyErrors)
@@ -107,12 +107,12 @@ expiry_input e t1_timer = act_input (t1_expires (has_restart e.timers.t1))
 expiry_input e (own_timer timer) = timer_expires timer
 expiry_input e t2_timer = t2_input (has_restart e.timers.t2)
 
--- an own abort, where too many errors were counted (RFC 9260, section 8.1); else these
+-- its own abort, if too many errors were counted (RFC 9260, section 8.1); else these
 abbrev pub unless_exhausted : Endpoint → List Input → List Input
 unless_exhausted e inputs = if is_exhausted e.options.max_retransmissions e.error_count then act_input (abort_with TooManyErrors) ∷ [] else inputs
 
--- What follows the timers where one has expired: a peer that is held, and that doesn't answer, is given up. Else what
--- waits goes out, but in CookieEchoed.
+-- What follows the timers if one has expired: an association whose peer doesn't answer is aborted. Else what waits is sent,
+-- except in CookieEchoed.
 abbrev pub inputs_behind : Endpoint → Core → List Input
 inputs_behind e closed = []
 inputs_behind e (cookie_wait mine) = []
@@ -133,8 +133,8 @@ abbrev pub ExpiryThen : Bool → (Bool → Endpoint → List Turned → Type 0) 
 ExpiryThen true Rest e has_expired timer turns = FirstThen (Rest true) e (expiry_input e timer) turns
 ExpiryThen false Rest e has_expired timer turns = Rest has_expired e turns
 
--- The turns of the timers that are due, each as it stands when its turn comes, and what follows them; whether one has
--- expired before them is told.
+-- The turns of the timers that are due, each in the state that it is in at its turn, and what follows them. A flag says whether
+-- one has expired before.
 abbrev pub ExpiryTurns : List Timer → Bool → Endpoint → List Turned → Type 0
 ExpiryTurns [] has_expired e turns = Turns e (after_expiries e has_expired) turns
 ExpiryTurns (timer ∷ timers) has_expired e turns =
@@ -144,23 +144,23 @@ ExpiryTurns (timer ∷ timers) has_expired e turns =
 abbrev pub DueTurns : Endpoint → List Turned → Type 0
 DueTurns e turns = ExpiryTurns (timers_in e.core) false e turns
 
--- The clock is moved, and what is due then has its turns.
+-- The clock is moved, and then the timers that are due have their turns.
 abbrev pub MomentTurns : Endpoint → ℕ → List Turned → Type 0
 MomentTurns e moment [] = ⊥
 MomentTurns e moment (moved ∷ turns) = IsTurn e (time_passes moment) moved × DueTurns moved.outcome.after turns
 
--- A moment that isn't earlier than the present one moves the clock; one that is changes nothing.
+-- A moment that isn't earlier than the present one moves the clock; an earlier one changes nothing.
 abbrev pub TimeTurns : Bool → Endpoint → ℕ → List Turned → Type 0
 TimeTurns true e moment turns = MomentTurns e moment turns
 TimeTurns false e moment turns = turns ≡ []
 
--- A socket is told the time.
+-- `advance_time` is called.
 abbrev pub AdvanceTurns : Endpoint → ℕ → List Turned → Type 0
 AdvanceTurns e moment turns = TimeTurns (nat_le e.moment moment) e moment turns
 
--- ---- where nothing is due
+-- ---- if nothing is due
 
--- No COOKIE ACK is awaited: where one is, what acknowledges data has a deadline that isn't told.
+-- No COOKIE ACK is awaited: if one is, an acknowledgement may have a deadline that `poll_timeout` doesn't give.
 abbrev pub AwaitsNoCookieAck : Core → Type 0
 AwaitsNoCookieAck closed = Unit {0}
 AwaitsNoCookieAck (cookie_wait mine) = Unit {0}
@@ -172,7 +172,7 @@ abbrev pub NoneIsDue : Endpoint → List Timer → Type 0
 NoneIsDue e [] = Unit {0}
 NoneIsDue e (timer ∷ timers) = (has_come e.moment (deadline e timer) ≡ false) × NoneIsDue e timers
 
--- The moment isn't before the present one, and it is before the next one at which the socket wants to be told the time.
+-- The moment isn't before the present one, and is before the socket's next deadline.
 pub record Waits (e : Endpoint) (moment : ℕ) : Type 0 where
   pub phase : AwaitsNoCookieAck e.core
   pub present : e.moment ≤ moment
@@ -185,6 +185,6 @@ pub record MoveClock (e : Endpoint) (moment : ℕ) (turns : List Turned) : Type 
   pub words : words_of turns ≡ []
   pub effects : effects_of turns ≡ []
 
--- Time that passes before the next moment moves the clock alone.
+-- Time that passes before the next moment only moves the clock.
 abbrev pub TimePassesQuietly : Type 0
 TimePassesQuietly = (e : Endpoint) (moment : ℕ) (turns : List Turned) → AdvanceTurns e moment turns → Waits e moment → MoveClock e moment turns

@@ -27,12 +27,12 @@ pub record QueuedStream : Type 0 where
   pub stream : ℕ
   -- the payload bytes that wait to be sent
   pub buffered_amount : ℕ
-  -- The user is told where the amount falls to this.
+  -- The user is told when the amount falls to this.
   pub low_threshold : ℕ
   pub priority : ℕ
   -- how many messages wait, with the one that is under way
   pub messages : ℕ
-  -- Is it to be reset (RFC 6525, section 5.1.2)? Then none of its messages is begun.
+  -- Is it to be reset (RFC 6525, section 5.1.2)? Then none of its messages is started.
   pub is_paused : Bool
   -- Is its reset requested? It stays paused until it is known what became of that.
   pub is_handed_out : Bool
@@ -42,14 +42,14 @@ pub record SendQueueState : Type 0 where
   -- Are messages numbered as for interleaving (RFC 8260, section 2.1)?
   pub is_interleaved : Bool
   pub total_buffered_amount : ℕ
-  -- The user is told where the total falls to this.
+  -- The user is told when the total falls to this.
   pub total_low_threshold : ℕ
   -- what a stream begins with
   pub default_threshold : ℕ
   pub default_priority : ℕ
   -- the streams that were used, ascending
   pub streams : List QueuedStream
-  -- the message that is under way: its stream, and how many of its bytes went out
+  -- the message that is under way: its stream, and how many of its bytes were sent
   pub under_way : Option StreamNumber
   -- the streams that are ready to be reset, ascending
   pub ready_streams : List ℕ
@@ -114,7 +114,7 @@ begun_again queue (Some message) =
 abbrev pub resumed : QueuedStream → QueuedStream
 resumed stream = record stream { is_paused = false; is_handed_out = false }
 
--- It is known what became of the reset of those that are handed out: their messages may be begun again.
+-- It is known what became of the reset of those that are handed out: their messages may be started again.
 abbrev pub handed_back : QueuedStream → QueuedStream
 handed_back stream = if stream.is_handed_out then resumed stream else stream
 
@@ -125,23 +125,23 @@ queue_handed_back queue = record queue { streams = map handed_back queue.streams
 abbrev pub is_among : ℕ → List ℕ → Bool
 is_among number numbers = list_any (λ other. other == number) numbers
 
--- the stream, whose reset is requested where its number is among these
+-- the stream, whose reset is requested if its number is among these
 abbrev pub handing : List ℕ → QueuedStream → QueuedStream
 handing ids stream = if is_among stream.stream ids then record stream { is_handed_out = true } else stream
 
--- So many of the streams that are ready, the first of them, are handed out: they stay paused, and are ready no longer.
+-- That many of the streams that are ready, the first ones, are handed out. They stay paused, and are no longer ready.
 abbrev pub queue_handing_out : ℕ → SendQueueState → SendQueueState
 queue_handing_out count queue =
     record queue { streams = map (handing (take count queue.ready_streams)) queue.streams; ready_streams = drop count queue.ready_streams }
 
--- The message under way begins again, and no stream waits for a reset.
+-- The message under way starts again, and no stream waits for a reset.
 abbrev pub queue_after_reset : SendQueueState → SendQueueState
 queue_after_reset queue =
     record (begun_again queue queue.under_way) { streams = map resumed (begun_again queue queue.under_way).streams; ready_streams = [] }
 
 -- ---- messages of it
 
--- the stream with one more message, of so many bytes
+-- the stream with one more message, of that many bytes
 abbrev pub with_message : ℕ → QueuedStream → QueuedStream
 with_message bytes stream = record (with_more bytes stream) { messages = stream.messages + 1 }
 
@@ -154,7 +154,7 @@ queue_added id bytes queue =
 abbrev pub may_begin : QueuedStream → Bool
 may_begin stream = if stream.is_paused then false else nat_lt 0 stream.messages
 
--- Is there data to send: a message under way, or one that may be begun?
+-- Is there data to send: a message under way, or one that may be started?
 abbrev pub has_data : SendQueueState → Bool
 has_data queue = if is_some queue.under_way then true else list_any may_begin queue.streams
 
@@ -162,9 +162,9 @@ has_data queue = if is_some queue.under_way then true else list_any may_begin qu
 
 -- What is in flight.
 pub record RetransmissionState : Type 0 where
-  -- May messages be given up (RFC 3758)?
+  -- May messages be abandoned (RFC 3758)?
   pub partial_reliability : Bool
-  -- Do they go out as I-DATA (RFC 8260)?
+  -- Are they sent as I-DATA (RFC 8260)?
   pub message_interleaving : Bool
   pub next_tsn : ℕ
   -- sent, and the cumulative TSN ack hasn't passed them
@@ -177,9 +177,9 @@ pub record RetransmissionState : Type 0 where
   pub marked_items : ℕ
   -- chunk headers and padding included
   pub bytes_in_flight : ℕ
-  -- Do lost items wait that are to go out at once (RFC 9260, section 7.2.4)?
+  -- Do lost items wait that are to be sent at once (RFC 9260, section 7.2.4)?
   pub has_fast_retransmit : Bool
-  -- when the retransmission timer expires, where it runs
+  -- when the retransmission timer expires, if it runs
   pub deadline : Option ℕ
   -- the congestion window and the peer's receive window, in bytes
   pub cwnd : ℕ
@@ -207,8 +207,8 @@ new_retransmission options partial_reliability message_interleaving first_tsn wi
       bytes_retransmitted = 0;
     }
 
--- May data be sent? So it may where less than the congestion window is in flight and something is left of the peer's window,
--- or where nothing is in flight (RFC 9260, section 6.1).
+-- May data be sent? Yes if nothing is in flight. Yes if less than the congestion window is in flight and something is left of the
+-- peer's window (RFC 9260, section 6.1).
 abbrev pub can_send : RetransmissionState → Bool
 can_send state = state.bytes_in_flight == 0 || (nat_lt state.bytes_in_flight state.cwnd && nat_lt 0 state.rwnd)
 
@@ -234,11 +234,11 @@ pub record TrackerState : Type 0 where
   pub cumulative_tsn : ℕ
   -- An association takes 2^64 - 2^32 TSNs at most.
   pub has_numbers_left : Bool
-  -- when a delayed acknowledgement is due, where one is
+  -- when a delayed acknowledgement is due, if one is
   pub delayed_acknowledgement : Option ℕ
   -- Is a SACK due at once?
   pub is_acknowledgement_due : Bool
-  -- Did data come in that isn't acknowledged yet? Then a SACK may go along with other chunks (RFC 9260, section 6.1).
+  -- Was data received that isn't acknowledged yet? Then a SACK may go along with other chunks (RFC 9260, section 6.1).
   pub owes_acknowledgement : Bool
 
 -- nothing was received yet
@@ -275,7 +275,7 @@ pub record Transfer : Type 0 where
   pub tracker : TrackerState
   pub reassembly : ReassemblyState
 
--- that of a new association: what was negotiated, the own first TSN, the peer's, and its window
+-- that of a new association: what was negotiated, its own first TSN, the peer's, and its window
 abbrev pub new_transfer : Options → Capabilities → ℕ → ℕ → ℕ → Transfer
 new_transfer options capabilities first_tsn peer_first_tsn window =
     record {
@@ -285,7 +285,7 @@ new_transfer options capabilities first_tsn peer_first_tsn window =
       reassembly = new_reassembly options;
     }
 
--- the TSN that goes out next, where there is an association
+-- the TSN that is sent next, if there is an association
 abbrev pub next_tsn_of : Option Transfer → ℕ
 next_tsn_of None = 0
 next_tsn_of (Some transfer) = transfer.retransmission.next_tsn
@@ -294,11 +294,11 @@ next_tsn_of (Some transfer) = transfer.retransmission.next_tsn
 
 pub record Below : Type 0 where
   pub queue : SendQueueState
-  -- None: no peer is held
+  -- None: the peer isn't known
   pub transfer : Option Transfer
 
--- Does data have to go into a packet that has so many bytes of room? Not where the windows don't allow, where a chunk that is
--- sent again is too long for it, or where nothing waits that may go out.
+-- Does data have to go into a packet that has that many bytes of room? Not if the windows don't allow, if a chunk that is sent
+-- again is too long for it, or if nothing waits that may be sent.
 abbrev pub must_give : ℕ → SendQueueState → RetransmissionState → Bool
 must_give room queue state =
     can_send state && state.marked_items == 0 && nat_le (least_chunk state.message_interleaving) room && has_free_tsn state && has_data queue

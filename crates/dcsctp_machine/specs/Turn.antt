@@ -1,4 +1,4 @@
--- One turn of an endpoint: an input, and what comes of it.
+-- One turn of an endpoint: an input, and its outcome.
 use Rattle.std.specs.Prelude.{◌≡◌, ℕ, Bool, true, false, List, [], ◌∷◌, codes, if◌then◌else◌}
 use Rattle.dcsctp_machine.specs.declared.kinds.ErrorKind.TheVariants.{ParseFailed}
 use Rattle.dcsctp_machine.specs.Packet.{Content, init, init_ack, cookie_echo, cookie_ack, re_config, abort, shutdown, shutdown_ack, shutdown_complete, plain, is_data}
@@ -24,11 +24,11 @@ pub data Input : Type 0 where
   arrival : Input
   -- it can't be read or isn't admitted, for the reason that the text gives
   refusal : List ℕ → Input
-  -- The chunks of an admitted packet, these, are about to be worked.
+  -- The chunks of an admitted packet, these, are about to be handled.
   packet_begins : List Content → Input
-  -- a chunk of an admitted packet with this verification tag is worked
+  -- a chunk of an admitted packet with this verification tag is handled
   chunk_input : ℕ → Content → Input
-  -- No other chunk of the packet is worked, and its rest wasn't dropped.
+  -- No other chunk of the packet is handled, and its rest wasn't dropped.
   packet_ends : Input
   -- what the user or a timer brings
   act_input : Act → Input
@@ -38,7 +38,7 @@ pub data Input : Type 0 where
   user_sends : List Sending → Input
   -- The user resets the streams of these numbers.
   user_resets : List ℕ → Input
-  -- The user takes a message that came in.
+  -- The user takes a message that was received.
   user_takes : Input
   -- A timer of an association expires.
   timer_expires : OwnTimer → Input
@@ -61,7 +61,7 @@ has_data [] = false
 has_data (plain chunk ∷ contents) = if is_data chunk then true else has_data contents
 has_data (content ∷ contents) = has_data contents
 
--- Data that comes where a SHUTDOWN waits for its answer is answered by another, before the chunks (RFC 9260, section 9.2).
+-- Data that comes while a SHUTDOWN waits for its answer is answered by another, before the chunks (RFC 9260, section 9.2).
 abbrev pub BeginTurn : Endpoint → Core → Bool → Outcome → Type 0
 BeginTurn e (open_in shutdown_sent my held) true o = o ≡ shutdown_repeated e held
 BeginTurn e core has o = o ≡ still e
@@ -96,7 +96,7 @@ ActTurn e hands_over o = ControlledAct e hands_over o
 ActTurn e flushes o = FlushTurn e o
 ActTurn e (request_again reset) o = ControlledAct e (request_again reset) o
 
--- The clock stands at this moment, and nothing else happens.
+-- The clock is set to this moment, and nothing else happens.
 abbrev pub clock_at : ℕ → Endpoint → Endpoint
 clock_at moment e = record e { moment = moment }
 

@@ -65,25 +65,24 @@ abbrev pub HasEnding : List Content → Type 0
 HasEnding [] = ⊥
 HasEnding (content ∷ contents) = IsEnding content ⊎ HasEnding contents
 
--- The packets whose chunks may be worked (RFC 9260, sections 8.4 and 8.5): under the own tag, with a COOKIE
--- ECHO in front, an INIT alone, and any with an ending chunk. Admission lets in fewer: an INIT under tag 0 alone,
--- and ending chunks by their own rules.
+-- The packets whose chunks may be handled (RFC 9260, sections 8.4 and 8.5): under its own tag, with a COOKIE ECHO in front, one
+-- INIT, and any with an ending chunk. Admission lets in fewer: an INIT only under tag 0, and ending chunks by their own rules.
 pub data MayBeWorked (core : Core) (packet : Packet) : Type 0 where
   own_tag_borne : packet.tag ≡ own_tag core → MayBeWorked core packet
   echo_in_front : (cookie : List ℕ) (behind : List Content) → packet.contents ≡ cookie_echo cookie ∷ behind → MayBeWorked core packet
   init_alone : (theirs : Introduction) → packet.contents ≡ init theirs ∷ [] → MayBeWorked core packet
   ending_in : HasEnding packet.contents → MayBeWorked core packet
 
--- The chunks of a packet one after another, as far as they are worked: the rest may be dropped after each,
--- whatever follows it. A socket drops it after an unknown chunk, an end or a refused COOKIE ECHO alone.
+-- The chunks of a packet one after another, as far as they are handled. The rest may be dropped after each, whatever follows it.
+-- A socket drops it only after an unknown chunk, an end or a refused COOKIE ECHO.
 abbrev pub ChunkChanges : Options → Core → ℕ → List Content → List Change → Type 0
 ChunkChanges options core header contents [] = Unit {0}
 ChunkChanges options core header [] (change ∷ changes) = ⊥
 ChunkChanges options core header (content ∷ contents) (change ∷ changes) =
     ChunkChange options core header content change × ChunkChanges options change.core header contents changes
 
--- What comes of a packet: its chunks are worked where they may be, or its SHUTDOWN ACK chunks alone, whatever
--- its tag (RFC 9260, section 8.5.1).
+-- The outcome of a packet: its chunks are handled if they may be, or its SHUTDOWN ACK chunks alone, whatever its tag (RFC 9260,
+-- section 8.5.1).
 pub data PacketChanges (options : Options) (core : Core) (packet : Packet) (changes : List Change) : Type 0 where
   worked_whole : MayBeWorked core packet → ChunkChanges options core packet.tag packet.contents changes → PacketChanges options core packet changes
   worked_acks : ChunkChanges options core packet.tag (shutdown_acks_in packet.contents) changes → PacketChanges options core packet changes
@@ -96,8 +95,8 @@ pub data Move : Type 0 where
   -- A packet is delivered.
   receives : Packet → Move
 
--- What comes of a move of one side. Whatever is delivered was emitted by the other side before, once or often,
--- lately or long ago.
+-- The outcome of a move of one side. Whatever is delivered was emitted by the other side before, once or more often, recently or
+-- long ago.
 abbrev pub MoveChanges : SideState → List Effect → Move → List Change → Type 0
 MoveChanges side sent (does act) changes = (choices : Choices) × (changes ≡ act_change side.options side.core act choices ∷ [])
 MoveChanges side sent (receives packet) changes = Has (sends packet) sent × PacketChanges side.options side.core packet changes
@@ -107,8 +106,8 @@ pub record Moved : Type 0 where
   pub move : Move
   pub changes : List Change
 
--- What one call of a socket is to its side: any number of moves, one after another. The answer to data before a packet's
--- chunks, these chunks, the packet's end, each expired timer, an abort and a flush are moves of their own.
+-- What one call of a socket is to its side: any number of moves, one after another. Separate moves are: the answer to data before
+-- a packet's chunks, these chunks, the packet's end, each expired timer, an abort and a flush.
 abbrev pub MovesMade : SideState → List Effect → List Moved → Type 0
 MovesMade side sent [] = Unit {0}
 MovesMade side sent (moved ∷ moves) = MoveChanges side sent moved.move moved.changes × MovesMade (after_changes side moved.changes) sent moves
@@ -125,7 +124,7 @@ pub data Which : Type 0 where
   at_a : Which
   at_b : Which
 
--- who moves, how, and what comes of it
+-- who moves, how, and its outcome
 pub record Step : Type 0 where
   pub side : Which
   pub move : Move
@@ -161,7 +160,7 @@ abbrev pub steps_of : Which → List Step → List (List Change)
 steps_of which [] = []
 steps_of which (step ∷ earlier) = steps_with which step.side step.changes (steps_of which earlier)
 
--- the steps of a run, newest first, with these moves of one side behind them
+-- the steps of a run, newest first, with these moves of one side after them
 abbrev pub with_moves : Which → List Moved → List Step → List Step
 with_moves which [] steps = steps
 with_moves which (moved ∷ moves) steps = with_moves which moves (record { side = which; move = moved.move; changes = moved.changes } ∷ steps)

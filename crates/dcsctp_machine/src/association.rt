@@ -31,7 +31,7 @@ pub enum Phase {
     /// A SHUTDOWN was sent.
     ShutdownSent,
 
-    /// A SHUTDOWN came, and data that was sent is not acknowledged yet.
+    /// A SHUTDOWN was received, and data that was sent is not acknowledged yet.
     ShutdownReceived,
 
     /// A SHUTDOWN ACK was sent.
@@ -47,10 +47,10 @@ pub struct Held {
     /// What both ends support.
     pub capabilities: Capabilities,
 
-    /// The number of the next own request to reset streams (RFC 6525, section 4.1).
+    /// The number of its next request to reset streams (RFC 6525, section 4.1).
     pub own_next: u32,
 
-    /// The number of the own request that has no final answer yet.
+    /// The number of its own request that has no final answer yet.
     pub own_outstanding: Option<u32>,
 
     /// The number of the last request of the peer that was accepted; before any, its first TSN less 1.
@@ -66,7 +66,7 @@ pub struct Association {
     /// Its state.
     pub phase: Phase,
 
-    /// The own pair.
+    /// Its own pair.
     pub my: Pair,
 
     /// The rest, once a peer is known: in every phase but CookieWait.

@@ -26,10 +26,10 @@ pub struct Capabilities {
     /// The alternate error detection method (RFC 9653); 0 for none.
     pub zero_checksum_method: ZeroChecksumAlternateErrorDetectionMethod,
 
-    /// How many streams come in.
+    /// The number of incoming streams.
     pub negotiated_maximum_incoming_streams: u16,
 
-    /// How many streams go out.
+    /// The number of outgoing streams.
     pub negotiated_maximum_outgoing_streams: u16,
 }
 
@@ -56,8 +56,9 @@ impl Capabilities {
     ghost use Rattle.std.specs.Prelude.{◌≢◌, ◌↔◌, IsTrue};
     ghost use Rattle.dcsctp_machine.specs.Offer.{offer_of, offer_in, negotiated, capabilities_offered, offer_announced};
 
-    /// What a peer announces by the stream counts and parameters of its INIT or INIT ACK. What it sends
-    /// on comes in. The first Supported Extensions and the first Zero Checksum Acceptable count.
+    /// What a peer announces by the stream counts and parameters of its INIT or INIT ACK. The streams that it
+    /// sends on are incoming ones. The first Supported Extensions and the first Zero Checksum Acceptable
+    /// count.
     pub fn from_parameters(
         nbr_outbound_streams: u16,
         nbr_inbound_streams: u16,
@@ -78,8 +79,8 @@ impl Capabilities {
         }
     }
 
-    /// What an end with these options and a peer that announced `self` both support: what both offer,
-    /// the method where it is the same, and the smaller count of streams each way.
+    /// What an end with these options and a peer that announced `self` both support. That is what both offer,
+    /// the method if it is the same, and the smaller count of streams each way.
     pub fn negotiate(&self, options: &Options) -> Capabilities
         ensures { result ≡ negotiated (offer_of options.now) (offer_in self.now) }
     {

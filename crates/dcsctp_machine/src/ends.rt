@@ -3,13 +3,13 @@
 /// How a chunk breaks what was negotiated.
 #[derive(Clone, Copy, Debug, PartialEq, Eq)]
 pub enum Violation {
-    /// DATA or FORWARD-TSN came, and message interleaving is negotiated (RFC 8260, section 2.2.1).
+    /// DATA or FORWARD-TSN was received, and message interleaving is negotiated (RFC 8260, section 2.2.1).
     DataWithInterleaving,
 
-    /// I-DATA or I-FORWARD-TSN came, and message interleaving isn't negotiated.
+    /// I-DATA or I-FORWARD-TSN was received, and message interleaving isn't negotiated.
     InterleavedDataWithout,
 
-    /// FORWARD-TSN or I-FORWARD-TSN came, and partial reliability isn't negotiated (RFC 3758, section
+    /// FORWARD-TSN or I-FORWARD-TSN was received, and partial reliability isn't negotiated (RFC 3758, section
     /// 3.3.1).
     ForwardTsnWithout,
 }
@@ -23,6 +23,6 @@ pub enum AbortReason {
     /// The peer broke what was negotiated.
     Violation(Violation),
 
-    /// The peer answered too seldom (RFC 9260, section 8.1).
+    /// The peer didn't answer often enough (RFC 9260, section 8.1).
     TooManyErrors,
 }

@@ -18,7 +18,7 @@ pub enum SctpImplementation {
     /// Nothing is known of it.
     Unknown,
 
-    /// This one, or dcSCTP in Rust, after whose form it is made.
+    /// This one, or dcSCTP in Rust, on which it is modelled.
     DcsctpRs,
 
     /// dcSCTP in C++.
@@ -46,7 +46,7 @@ pub enum ErrorKind {
     /// A packet, or a part of one, could not be read or was not meant for this association.
     ParseFailed,
 
-    /// A chunk or command came in a state in which it cannot be served.
+    /// A chunk or command came in a state in which it cannot be handled.
     WrongSequence,
 
     /// The peer reported an error, whose causes the text names.

@@ -8,19 +8,18 @@ ghost use Rattle.dcsctp_machine.specs.TimeTurns.{TimePassesQuietly};
 use crate::options::Options;
 use dcsctp_wire::one_reading;
 
-/// Negotiation is mutual (RFC 9260, section 5.1): what two ends make of their offers has equal features,
-/// and what comes in at one end goes out at the other.
+/// Negotiation is mutual (RFC 9260, section 5.1): two ends agree on equal features, and the incoming streams
+/// of one are the outgoing ones of the other.
 pub fn negotiation_is_mutual()
     ensures { NegotiationIsMutual }
 {}
 
-/// An answer that leaves out a method which isn't common changes nothing of what is agreed (RFC 9653,
-/// section 5.1).
+/// An answer may leave out a method that isn't common: what is agreed is the same (RFC 9653, section 5.1).
 pub fn answer_keeps_agreement()
     ensures { AnswerKeepsAgreement }
 {}
 
-/// A cookie reads back as what was written (RFC 9260, section 5.1.3), where no tag is 0.
+/// A cookie reads back as what was written (RFC 9260, section 5.1.3), if no tag is 0.
 pub fn cookie_reads_back()
     ensures { CookieReadsBack }
 {}
@@ -30,14 +29,14 @@ pub fn init_leaves_association()
     ensures { InitLeavesAssociation }
 {}
 
-/// An INIT brings at most one event, a packet, and moves nothing but the count of packets sent, in every
+/// An INIT brings at most one event, a packet, and changes nothing but the count of packets sent, in every
 /// phase (RFC 9260, sections 5.1 and 5.2).
 pub fn init_brings_one_packet()
     ensures { InitBringsOnePacket }
 {}
 
-/// What a socket announces is read from its INIT or INIT ACK again (RFC 9260, section 5.1), and an
-/// offer is found again in the capabilities that a cookie holds.
+/// What a socket announces is read back from its INIT or INIT ACK (RFC 9260, section 5.1). An offer is read
+/// back from the capabilities in a cookie.
 pub fn offer_reads_back()
     ensures announced { OfferReadsBack }
     ensures held { CapabilitiesHoldOffer }
@@ -72,13 +71,13 @@ pub fn refused_packet_adds_one_error()
     one_reading();
 }
 
-/// The machine that agreement runs on lets in at least what admission lets in (RFC 9260, sections 8.4 and
-/// 8.5.1): whole packets, and SHUTDOWN ACK chunks alone, which leave the association as it is.
+/// Whatever admission lets in is let in by `World`, too (RFC 9260, sections 8.4 and 8.5.1): whole packets, or
+/// only SHUTDOWN ACK chunks. The latter leave the association unchanged.
 pub fn admitted_packets_may_be_worked()
     ensures { AdmittedPacketsMayBeWorked }
 {}
 
-/// Each turn of a chunk is a turn of the association (RFC 9260, section 5): so what holds of every run of
+/// Each turn of a chunk is a turn of the association (RFC 9260, section 5). So what holds of every run of
 /// associations holds of every run of endpoints.
 pub fn chunks_are_controlled()
     ensures { ChunksAreControlled }
@@ -89,8 +88,8 @@ pub fn acts_are_controlled()
     ensures { ActsAreControlled }
 {}
 
-/// Each turn of a timer of an open association is a turn of the association: a flush (RFC 9260, section 8.3), or the
-/// request that is outstanding again (RFC 6525, section 5.1.1).
+/// Each turn of a timer of an open association is a turn of the association: a flush (RFC 9260, section 8.3),
+/// or the outstanding request again (RFC 6525, section 5.1.1).
 pub fn timers_are_controlled()
     ensures { TimersAreControlled }
 {}
@@ -102,7 +101,7 @@ pub fn packets_are_controlled()
     chunks_are_controlled();
 }
 
-/// What comes of a packet that was counted is a delivery to the association, or one error (RFC 9260,
+/// The outcome of a packet that was counted is a delivery to the association, or one error (RFC 9260,
 /// sections 8.4 and 8.5).
 pub fn deliveries_are_controlled()
     ensures { DeliveriesAreControlled }
@@ -111,19 +110,19 @@ pub fn deliveries_are_controlled()
     admitted_packets_may_be_worked();
 }
 
-/// Whatever a flush is answered, it sends as many packets as `max_burst` allows at most, none longer than
-/// `mtu`, and tells nothing else but what becomes of amounts and messages (RFC 9260, section 6.1).
+/// Whatever answers a flush gets, it sends at most as many packets as `max_burst` allows, none longer than
+/// `mtu` (RFC 9260, section 6.1). Its other events are only of amounts and messages.
 pub fn flush_keeps_limits()
     ensures { FlushKeepsLimits }
 {}
 
-/// The options of two sockets stay for good, but for the longest message that each takes.
+/// The options of two sockets never change, except for the longest message that each takes.
 pub fn sockets_keep_options()
     ensures { SocketsKeepOptions }
 {}
 
-/// Time that passes before the next moment at which a socket wants to be told it moves the clock alone,
-/// but for a socket that awaits a COOKIE ACK.
+/// Time that passes before a socket's next deadline only moves the clock, except for a socket that awaits a
+/// COOKIE ACK.
 pub fn time_passes_quietly()
     ensures { TimePassesQuietly }
 {}

@@ -1,5 +1,5 @@
-//! The machine that a socket is a realisation of: the small types that code and definitions both speak
-//! of. What an endpoint is, and what each input does to it, is defined in `specs/`.
+//! The machine that a socket implements: the small types that code and definitions share. What an endpoint
+//! is, and what each input does to it, is defined in `specs/`.
 #![tactic(auto)]
 
 mod association;

@@ -14,15 +14,15 @@ pub struct SendOptions {
     /// The peer may be given the message out of order.
     pub unordered: bool,
 
-    /// A message that isn't acknowledged after this time is given up. It needs partial reliability
-    /// (RFC 3758) at both ends.
+    /// A message that isn't acknowledged after this time is abandoned. It needs partial reliability (RFC
+    /// 3758) at both ends.
     pub lifetime: Option<Duration>,
 
-    /// A message that would be sent again more often than this is given up. It needs partial
-    /// reliability (RFC 3758) at both ends.
+    /// A message that would be sent again more often than this is abandoned. It needs partial reliability
+    /// (RFC 3758) at both ends.
     pub max_retransmissions: Option<u16>,
 
-    /// The name under which events tell how the message fares; none: there are no such events.
+    /// The name under which events report what becomes of the message. `None`: there are no such events.
     pub lifecycle_id: Option<LifecycleId>,
 }
 
@@ -40,7 +40,7 @@ pub struct Message {
 }
 
 impl Message {
-    /// A message that says the same. The one error is want of memory.
+    /// A message that says the same.
     pub fn copied(&self) -> Result<Message, AllocError>
         ensures { IfOk result (λ copy. message_content copy ≡ message_content self.now) }
     {
@@ -61,7 +61,7 @@ impl Message {
     }
 }
 
-/// Messages that say the same. The one error is want of memory.
+/// Messages that say the same.
 pub fn copied_messages(messages: &Vec<Message>) -> Result<Vec<Message>, AllocError>
     ensures { IfOk result (λ copies. map message_content copies.items ≡ map message_content
         messages.now.items) }

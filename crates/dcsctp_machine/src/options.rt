@@ -10,7 +10,7 @@ use std::time::Duration;
 /// What a user can set. Sizes are bytes, windows too.
 #[derive(Clone, Copy)]
 pub struct Options {
-    /// The port that packets have to be sent to, and that packets out come from.
+    /// The port that packets have to be sent to, and from which packets are sent.
     pub local_port: u16,
 
     /// The port that packets out are sent to.
@@ -22,7 +22,7 @@ pub struct Options {
     /// How many outgoing streams are announced.
     pub announced_maximum_outgoing_streams: u16,
 
-    /// No packet out is longer. Headers of lower layers don't count.
+    /// No packet that is sent is longer. Headers of lower layers don't count.
     pub mtu: usize,
 
     /// A message with a longer payload is refused.
@@ -67,16 +67,16 @@ pub struct Options {
     /// Has no effect: T2 takes the present retransmission timeout.
     pub t2_shutdown_timeout: Duration,
 
-    /// The bound on the backoff of the retransmission timer.
+    /// The limit on the backoff of the retransmission timer.
     pub max_timer_backoff_duration: Option<Duration>,
 
-    /// How often a HEARTBEAT goes out, counted from OnConnected; zero switches it off.
+    /// How often a HEARTBEAT is sent, counted from OnConnected; zero switches it off.
     pub heartbeat_interval: Duration,
 
     /// The longest that an acknowledgement is delayed.
     pub delayed_ack_max_timeout: Duration,
 
-    /// The least that counts for four variances of the round trip.
+    /// The least value that is used for four variances of the round trip.
     pub min_rtt_variance: Duration,
 
     /// The congestion window at first, in MTUs (RFC 9260, section 7.2.1).
@@ -94,10 +94,10 @@ pub struct Options {
     /// The most packets that one flush sends; none at 0 or below.
     pub max_burst: i32,
 
-    /// How often data and SHUTDOWN are sent again, and the limit of the error counter; none: no limit.
+    /// How often data and SHUTDOWN are sent again, and the limit of the error counter; `None`: no limit.
     pub max_retransmissions: Option<u32>,
 
-    /// How often INIT and COOKIE ECHO are sent again; none: no limit.
+    /// How often INIT and COOKIE ECHO are sent again; `None`: no limit.
     pub max_init_retransmits: Option<u32>,
 
     /// Offers partial reliability (RFC 3758).
@@ -112,7 +112,7 @@ pub struct Options {
     /// The alternate error detection method that is offered (RFC 9653).
     pub zero_checksum_alternate_error_detection_method: ZeroChecksumAlternateErrorDetectionMethod,
 
-    /// Takes packets with every checksum. For tests alone.
+    /// Accepts packets with every checksum. Only for tests.
     pub disable_checksum_verification: bool,
 
     /// Allows a handover while data is outstanding.
@@ -169,7 +169,7 @@ impl Default for Options {
 impl Options {
     ghost use Rattle.dcsctp_machine.specs.Settings.{IsValid};
 
-    /// Can a socket be made with these options? That is so where `mtu` is 32 to 65,535, and
+    /// Can a socket be made with these options? That is so if `mtu` is 32 to 65,535, and
     /// `max_receiver_window_buffer_size` and `max_send_buffer_size` are at most 2^32 - 1.
     pub fn is_valid(&self) -> bool
         ensures valid { IsTrue result ↔ IsValid self.now }

@@ -37,7 +37,7 @@ pub enum Call {
     /// It gives a stream a priority.
     SetStreamPriority(StreamId, u16),
 
-    /// It gives a stream the buffered amount, in bytes, at which it is to be told that the amount is low.
+    /// It sets the low threshold of a stream's buffered amount, in bytes.
     SetBufferedAmountLowThreshold(StreamId, usize),
 
     /// It says how many bytes a message may have.
@@ -56,7 +56,7 @@ pub enum Call {
     GetNextMessage,
 }
 
-// The same numbers. The one error is want of memory.
+// The same numbers.
 fn copied_streams(ids: &Vec<StreamId>) -> Result<Vec<StreamId>, AllocError>
     ensures { IfOk result (λ copies. stream_numbers copies.items ≡ stream_numbers ids.now.items) }
 {
@@ -79,7 +79,7 @@ pub enum Step {
 }
 
 impl Call {
-    /// A call that says the same. The one error is want of memory.
+    /// A call that says the same.
     pub fn copied(&self) -> Result<Call, AllocError>
         ensures { IfOk result (λ copy. call_content copy ≡ call_content self.now) }
     {
@@ -104,7 +104,7 @@ impl Call {
 }
 
 impl Step {
-    /// A step that says the same. The one error is want of memory.
+    /// A step that says the same.
     pub fn copied(&self) -> Result<Step, AllocError>
         ensures { IfOk result (λ copy. step_content copy ≡ step_content self.now) }
     {

@@ -7,8 +7,8 @@ use std::marker::Model;
 use std::ops::{Add, Sub};
 use std::time::Duration;
 
-/// A moment, as the time that has passed since the socket was made. It is exact to the nanosecond,
-/// and the last moment is the greatest `Duration` after the first.
+/// A moment, as the time that has passed since the socket was made. It is exact to the nanosecond. The last
+/// moment is the greatest `Duration` after the first.
 ///
 /// A contract sees the number of nanoseconds.
 #[derive(Clone, Copy, Debug, PartialEq, Eq, PartialOrd, Ord)]

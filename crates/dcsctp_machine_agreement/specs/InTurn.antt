@@ -22,7 +22,7 @@ pub record Handshake : Type 0 where
 abbrev pub choices_for : Handshake → Pair → Choices
 choices_for handshake drawn = record (idle_choices drawn) { cookie = handshake.cookie; tie = handshake.tie }
 
--- The cookie reads as one that the second side makes for the INIT of the first.
+-- The cookie reads back as one that the second side makes for the INIT of the first.
 abbrev pub CookieReads : Options → Handshake → Type 0
 CookieReads options_a handshake = IsCookieOf (introduction_of options_a handshake.a) handshake.b handshake.cookie
 
@@ -32,7 +32,7 @@ sent_first [] = record { tag = 0; contents = [] }
 sent_first (sends packet ∷ effects) = packet
 sent_first (effect ∷ effects) = sent_first effects
 
--- its first chunk is worked
+-- its first chunk is handled
 abbrev pub works_first : Options → Core → ℕ → List Content → Choices → Change
 works_first options core header [] choices = unchanged core
 works_first options core header (content ∷ contents) choices = chunk_change options core header content choices

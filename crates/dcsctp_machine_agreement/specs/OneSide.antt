@@ -15,7 +15,7 @@ use Rattle.dcsctp_machine.specs.control.Acts.{Act, act_change, chunk_change}
 use Rattle.dcsctp_machine.specs.Past.{Has, Each, current, number_to_begin, outstanding, number_to_accept, InPlace}
 use Rattle.dcsctp_machine.specs.World.{ControlTurn, SideRun, side_after}
 
--- Each effect of each run stands in its place.
+-- Each effect of each run is in its order.
 abbrev pub EffectsInPlace : Type 0
 EffectsInPlace = (options : Options) (steps : List (List Change)) → SideRun options steps → Each InPlace (side_after options steps).past
 
@@ -41,7 +41,7 @@ pub record IsEstablished (core : Core) (link : Link) : Type 0 where
   pub phase : core ≡ open_in established link.my held
   pub linked : link_of link.my held ≡ link
 
--- the number of the own request that has no final answer
+-- the number of its own request that has no final answer
 abbrev pub outstanding_in : Core → Option ℕ
 outstanding_in closed = None
 outstanding_in (cookie_wait my) = None
@@ -56,17 +56,17 @@ MayDraw (cookie_echoed my held cookie) = ⊥
 MayDraw (open_in phase my held) = Unit {0}
 
 pub record Means (core : Core) (change : Change) : Type 0 where
-  -- What is shown as held is held then, and what is newly held is shown.
+  -- A shown association exists then, and a new one is shown.
   pub held : (link : Link) → Has (holds link) change.effects → link_in change.core ≡ Some link
   pub newly_held : (link : Link) → link_in change.core ≡ Some link → (link_in core ≡ Some link) ⊎ Has (holds link) change.effects
   -- OnConnected finds Established.
   pub connected : (link : Link) → Has (connects link) change.effects → IsEstablished change.core link
   pub ended : Has ends change.effects → change.core ≡ closed
-  -- A pair is drawn by a closed side, and in answer to an INIT where an association is open.
+  -- A pair is drawn by a closed side, and in answer to an INIT while an association is open.
   pub drawn : (pair : Pair) → Has (draws pair) change.effects → MayDraw core
-  -- An own request that was begun is outstanding.
+  -- Its own request that was begun is outstanding.
   pub begun : (number : ℕ) → Has (begins number) change.effects → outstanding_in change.core ≡ Some number
-  -- Resets are performed and completed in the association that is held.
+  -- Resets are performed and completed in the existing association.
   pub completed : (my : Pair) (number : ℕ) → Has (completes my number) change.effects
       → (link : Link) × (link_in change.core ≡ Some link) × (link.my ≡ my)
   pub performed : (peer : Pair) (number : ℕ) → Has (performs peer number) change.effects → (link : Link) × (link_in change.core ≡ Some link)
@@ -89,12 +89,12 @@ Leaves past (cookie_wait my) = current past ≡ None
 Leaves past (cookie_echoed my held cookie) = LeavesHeld past my held
 Leaves past (open_in phase my held) = LeavesHeld past my held
 
--- So what the effects say is held is held, and no other.
+-- So the association is the one that the effects say, and no other.
 abbrev pub PastIsState : Type 0
 PastIsState = (options : Options) (steps : List (List Change)) → SideRun options steps
     → Leaves (side_after options steps).past (side_after options steps).core
 
--- ---- own requests end by answers
+-- ---- its own requests end by answers
 
 -- 'performed' and 'nothing to do'
 abbrev pub IsSuccess : ReconfigurationResponseResult → Type 0
@@ -121,8 +121,8 @@ abbrev pub parameters_in : Content → List ResetParameter
 parameters_in (re_config parameters) = parameters
 parameters_in content = []
 
--- An own request ends in a turn that handles an answer with its number and a result other than 'in progress'
--- (RFC 6525, section 5.2.7), and in no other.
+-- A request ends only in a turn that handles an answer with its number and a result other than 'in progress' (RFC 6525, section
+-- 5.2.7).
 pub record AnswersEndRequests : Type 0 where
   pub completed : (options : Options) (core : Core) (header : ℕ) (content : Content) (choices : Choices) (my : Pair) (number : ℕ)
       → Has (completes my number) (chunk_change options core header content choices).effects → HasResponse IsSuccess number (parameters_in content)

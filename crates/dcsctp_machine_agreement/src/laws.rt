@@ -6,7 +6,7 @@ ghost use Rattle.dcsctp_machine_agreement.specs.OneSide.{AnswersEndRequests, Eff
 
 use dcsctp_machine::answer_keeps_agreement;
 
-/// Each effect of a side stands in its place, whatever packets it is handed.
+/// Each effect of a side is in its order, whatever packets it is handed.
 pub fn effects_in_place()
     ensures { EffectsInPlace }
 {}
@@ -26,7 +26,7 @@ pub fn past_is_state()
     ensures { PastIsState }
 {}
 
-/// An own request to reset streams ends by an answer with its number (RFC 6525, section 5.2.7).
+/// A side's request to reset streams ends by an answer with its number (RFC 6525, section 5.2.7).
 pub fn answers_end_requests()
     ensures { AnswersEndRequests }
 {}

@@ -1,5 +1,5 @@
-//! What holds of the machine over every run, each the contract of a function without a body: of one side
-//! whatever it is handed, and of two sides over every schedule.
+//! What holds of the machine over every run: of one side whatever it is handed, and of two sides over every
+//! schedule. Each law is the contract of a function without a body.
 #![tactic(auto)]
 
 mod laws;

@@ -1,4 +1,4 @@
--- What two sockets agree on, over every schedule that loses, repeats, delays and reorders their packets: as long as no act comes
+-- What two sockets agree on, over every schedule that loses, repeats, delays and reorders their packets, as long as no act comes
 -- from outside.
 use Rattle.std.specs.Prelude.{◌≡◌, ◌≢◌, Some, List, [], ◌∷◌, ◌⊎◌}
 use Rattle.std.specs.List.{AllByRecursion}
@@ -22,13 +22,13 @@ abbrev pub HasDistinctTags : List Pair → Type 0
 HasDistinctTags [] = Unit {0}
 HasDistinctTags (pair ∷ pairs) = AllByRecursion (λ later. pair.tag ≢ later.tag) pairs × HasDistinctTags pairs
 
--- After one of these turns the association was held.
+-- After one of these turns the association existed.
 abbrev pub WasHeld : Link → List Turned → Type 0
 WasHeld link [] = ⊥
 WasHeld link (turn ∷ turns) = (link_in turn.outcome.after.core ≡ Some link) ⊎ WasHeld link turns
 
--- Among these turns of the other side there is one after which it held the crossed association, and each of the
--- two has what the two offers have in common.
+-- Among these turns of the other side there is one after which it had the matching association. Each of the two has what the two
+-- offers have in common.
 pub record FindsHeld (mine theirs : Options) (turns : List Turned) (link : Link) : Type 0 where
   pub other : Link
   pub held : WasHeld other turns
@@ -42,7 +42,7 @@ HasConnected [] = ⊥
 HasConnected (connected ∷ events) = Unit {0}
 HasConnected (event ∷ events) = HasConnected events
 
--- The association that is held after a turn is of this kind.
+-- The association after a turn is of this kind.
 pub record Holds (Kind : Link → Type 0) (turn : Turned) : Type 0 where
   pub link : Link
   pub held : link_in turn.outcome.after.core ≡ Some link
@@ -57,8 +57,9 @@ EachConnected Kind (turn ∷ turns) = (HasConnected turn.outcome.events → Hold
 abbrev pub noted_past : List Turned → List Effect
 noted_past turns = after_effects (effects_of turns) []
 
--- Each OnConnected of either side finds the other so. Each own request that was performed, among the first 2^32 - 1 of its
--- holding, finds that the other performed a request of that number in an association whose peer pair is the own pair.
+-- Each OnConnected of either side finds the other so. Each of its performed requests finds that the other performed a request of
+-- that number. It did so in an association whose peer pair is its own pair. That holds for the first 2^32 - 1 requests in one
+-- lifetime of the association.
 pub record Agree (options : Both Options) (turns : Both (List Turned)) : Type 0 where
   pub a : EachConnected (FindsHeld options.a options.b turns.b) turns.a
   pub b : EachConnected (FindsHeld options.b options.a turns.a) turns.b
@@ -78,9 +79,8 @@ pub record AreFresh (turns : Both (List Turned)) : Type 0 where
   pub a : HasDistinctTags (pairs_of turns.a)
   pub b : HasDistinctTags (pairs_of turns.b)
 
--- They agree at the end of each part of the run, from its beginning on, that is honest: so each OnConnected, when it is
--- told, finds what the other side has done so far. What came before the first act from outside is promised whatever
--- comes behind it.
+-- They agree at the end of each first part of the run that is honest. So each OnConnected, when it is reported, finds what the
+-- other side has done so far. What came before the first act from outside is promised whatever comes after it.
 abbrev pub AgreeThroughout : Both Options → List Worked → Type 0
 AgreeThroughout options [] = Agree options (turns_after [])
 AgreeThroughout options (worked ∷ earlier) =

@@ -7,11 +7,11 @@ use Rattle.dcsctp_machine.specs.Endpoint.{Endpoint}
 use Rattle.dcsctp_machine.specs.Sockets.{Worked, Both, of_side, turns_after, endpoint_after, SocketRun}
 use Rattle.dcsctp_machine_refinement.specs.Agreement.{AreUsable}
 
--- Where the socket awaits an INIT ACK or a COOKIE ACK, T1 runs.
+-- If the socket awaits an INIT ACK or a COOKIE ACK, T1 runs.
 pub record RunsT1 (e : Endpoint) : Type 0 where
   pub runs : T1Runs e.core e.timers.t1
 
--- Whatever is lost, a socket that connects wants to be told the time again (RFC 9260, section 5.1).
+-- Whatever is lost, a socket that connects has a next deadline (RFC 9260, section 5.1).
 abbrev pub SocketsRunT1 : Type 0
 SocketsRunT1 =
     (options : Both Options) (run : List Worked) → AreUsable options → SocketRun options run → (side : Side)

@@ -31,7 +31,7 @@ handshake side =
 abbrev pub handshake_acts : Side → List ActContent
 handshake_acts side = map step_act (handshake side)
 
--- Options with which a handshake's packets go out and are taken. The longest is an INIT ACK of 104 bytes.
+-- Options with which a handshake's packets are sent and are taken. The longest is an INIT ACK of 104 bytes.
 pub record AllowHandshake (options : Options) : Type 0 where
   pub mtu : 104 ≤ options.mtu
   pub burst : allows_packet options.max_burst ≡ true
@@ -64,8 +64,8 @@ pub record AreConnected (options : Both Options) (turns : Both (List Turned)) : 
   pub a : IsConnected options.a options.b turns.a a_pair b_pair
   pub b : IsConnected options.b options.a turns.b b_pair a_pair
 
--- At the end of each part of the run, from its beginning on, whose acts are those of the handshake, both are connected:
--- so they were connected after the first five acts, whatever came later.
+-- At the end of each first part of the run whose acts are those of the handshake, both are connected. So they were connected
+-- after the first five acts, whatever came later.
 abbrev pub ConnectThroughout : Both Options → Side → List Worked → Type 0
 ConnectThroughout options side [] = Unit {0}
 ConnectThroughout options side (worked ∷ earlier) =

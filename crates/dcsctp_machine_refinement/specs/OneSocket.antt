@@ -1,5 +1,5 @@
--- What holds of one socket of a run, whatever bytes it is handed, by what its turns noted: the numbers of requests, by what they
--- end, and how its ends are told.
+-- What holds of one socket of a run, whatever bytes it is handed, by what its turns noted. It is about the numbers of requests,
+-- by what they end, and how its ends are reported.
 use Rattle.std.specs.Prelude.{◌≡◌, ◌≢◌, ℕ, suc, List, [], ◌∷◌}
 use Rattle.std.specs.List.{AllByRecursion}
 use Rattle.dcsctp_wire.specs.declared.reconfiguration.ReconfigurationResponseResult.{ReconfigurationResponseResult}
@@ -18,8 +18,8 @@ use Rattle.dcsctp_machine.specs.Sockets.{Worked, Both, of_side, turns_after, Soc
 use Rattle.dcsctp_machine_agreement.specs.OneSide.{IsSuccess, IsRefusal, HasResponse, parameters_in}
 use Rattle.dcsctp_machine_refinement.specs.Agreement.{AreUsable, noted_past}
 
--- Each effect of a socket's turns stands in its place: one holding connects at most once, own requests go up by one and one at a
--- time, the peer's accepted ones too, and each of these is performed at most once (RFC 6525, section 4.1).
+-- Each effect of a socket's turns is in its order (RFC 6525, section 4.1). In one lifetime an association connects at most once,
+-- and its own requests go up by one, one at a time. So do the peer's accepted ones, and each of these is performed at most once.
 abbrev pub SocketEffectsInPlace : Type 0
 SocketEffectsInPlace =
     (options : Both Options) (run : List Worked) → AreUsable options → SocketRun options run → (side : Side)
@@ -30,7 +30,7 @@ abbrev pub BearsAnswer : (ReconfigurationResponseResult → Type 0) → ℕ → 
 BearsAnswer Kind number (chunk_input tag content) = HasResponse Kind number (parameters_in content)
 BearsAnswer Kind number input = ⊥
 
--- An own request ends in a turn of such a chunk, and in no other (RFC 6525, section 5.2.7).
+-- Its own request ends in a turn of such a chunk, and in no other (RFC 6525, section 5.2.7).
 pub record EndsByAnswer (turn : Turned) : Type 0 where
   pub completed : (my : Pair) (number : ℕ) → Has (completes my number) turn.outcome.effects → BearsAnswer IsSuccess number turn.input
   pub failed : (number : ℕ) → Has (fails number) turn.outcome.effects → BearsAnswer IsRefusal number turn.input
@@ -49,8 +49,8 @@ ends_told (closed ∷ events) = suc (ends_told events)
 ends_told (aborted kind text ∷ events) = suc (ends_told events)
 ends_told (event ∷ events) = ends_told events
 
--- A turn that leads to Closed from another phase adds OnClosed or OnAborted once, and a turn that doesn't adds neither
--- (RFC 9260, section 9).
+-- A turn that leads to Closed from another phase adds OnClosed or OnAborted once, and any other turn adds neither (RFC 9260,
+-- section 9).
 pub data TellsEnd (e : Endpoint) (turn : Turned) : Type 0 where
   it_ends : e.core ≢ machine.closed → turn.outcome.after.core ≡ machine.closed → ends_told turn.outcome.events ≡ 1 → TellsEnd e turn
   it_stays : (turn.outcome.after.core ≡ machine.closed → e.core ≡ machine.closed) → ends_told turn.outcome.events ≡ 0 → TellsEnd e turn

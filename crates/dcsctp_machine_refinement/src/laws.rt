@@ -16,9 +16,9 @@ use dcsctp_machine_agreement::{
 use dcsctp_wire_laws::{built_packet_reads_as_itself, built_packet_reads_back};
 
 /// Two sockets agree, over every schedule that loses, repeats, delays and reorders their packets, as long as
-/// no act comes from outside: each OnConnected finds that the other holds, or held, the crossed association
-/// with what the two have in common; each own request to reset streams that was performed finds that the
-/// other performed it.
+/// no act comes from outside. When one reports OnConnected, its peer has, or had, the matching association
+/// with what the two have in common. When a request of one to reset streams was performed, the other
+/// performed it.
 pub fn sockets_agree()
     ensures { SocketsAgree }
 {
@@ -31,8 +31,8 @@ pub fn sockets_agree()
     built_packet_reads_as_itself();
 }
 
-/// The four packets of the handshake, delivered in turn, connect two fresh sockets that fit each other
-/// (RFC 9260, section 5.1): each has connected once, and the two are Established and crossed.
+/// The four packets of the handshake, delivered in turn, connect two fresh sockets that fit each other (RFC
+/// 9260, section 5.1). Each has connected once, and the two are Established and match.
 pub fn fitting_sockets_connect()
     ensures { FittingSocketsConnect }
 {
@@ -43,9 +43,9 @@ pub fn fitting_sockets_connect()
     cookie_reads_back();
 }
 
-/// What each socket of a run noted stands in its place, whatever bytes it was handed: one holding connects at
-/// most once, the numbers of requests go up by one, and each accepted request is performed at most once (RFC
-/// 6525, section 4.1).
+/// What each socket of a run noted is in its order, whatever bytes it was handed (RFC 6525, section 4.1). In
+/// one lifetime an association connects at most once, and the numbers of requests go up by one. Each accepted
+/// request is performed at most once.
 pub fn socket_effects_in_place()
     ensures { SocketEffectsInPlace }
 {
@@ -54,8 +54,8 @@ pub fn socket_effects_in_place()
     acts_are_controlled();
 }
 
-/// An own request of a socket ends in the turn of an answer with its number, and in no other (RFC 6525,
-/// section 5.2.7).
+/// A socket's own request ends in the turn of an answer with its number, and in no other (RFC 6525, section
+/// 5.2.7).
 pub fn socket_requests_end_by_answers()
     ensures { SocketRequestsEndByAnswers }
 {
@@ -63,8 +63,8 @@ pub fn socket_requests_end_by_answers()
     acts_are_controlled();
 }
 
-/// A turn of a socket that leads to the closed state from another adds one event that says so, OnClosed or
-/// OnAborted, and no other turn adds one (RFC 9260, section 9).
+/// A turn of a socket that leads to the closed state from another adds one event, OnClosed or OnAborted. No
+/// other turn adds one (RFC 9260, section 9).
 pub fn sockets_tell_ends()
     ensures { SocketsTellEnds }
 {
@@ -72,8 +72,8 @@ pub fn sockets_tell_ends()
     acts_are_controlled();
 }
 
-/// At each socket of a run that awaits an INIT ACK or a COOKIE ACK, T1 runs (RFC 9260, section 5.1): so
-/// whatever is lost and whatever bytes it was handed, it wants to be told the time again.
+/// At each socket of a run that awaits an INIT ACK or a COOKIE ACK, T1 runs (RFC 9260, section 5.1). So it
+/// has a next deadline, whatever is lost and whatever bytes it was handed.
 pub fn sockets_run_t1()
     ensures { SocketsRunT1 }
 {}

@@ -1,5 +1,6 @@
-//! What holds of two sockets over every list of acts, from the bytes of their packets on, each the contract
-//! of a function without a body: agreement of honest acts alone, all else whatever bytes are handed in.
+//! What holds of two sockets over every list of acts, from the bytes of their packets on. Agreement holds of
+//! honest acts alone, and all else whatever bytes are handed in. Each law is the contract of a function
+//! without a body.
 #![tactic(auto)]
 
 mod laws;

@@ -8,7 +8,7 @@ use Rattle.std.specs.Ordering.{nat_cmp}
 abbrev pub Ascends : {X : Type 0} → List (ℕ × X) → Type 0
 Ascends es = IsStrictlySortedBy nat_cmp (keys_of es)
 
--- how many keys are no greater than k, where the keys ascend
+-- how many keys are no greater than k, if the keys ascend
 abbrev pub count_up_to : {X : Type 0} → ℕ → List (ℕ × X) → ℕ
 count_up_to k [] = 0
 count_up_to k (e ∷ es) = if nat_le e.0 k then suc (count_up_to k es) else 0

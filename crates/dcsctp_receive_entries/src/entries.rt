@@ -11,7 +11,7 @@ use std::alloc::AllocError;
 use std::collections::BTreeMap;
 use std::ops::Bound;
 
-/// The last entry whose key is this one or less. The last of all is found at once.
+/// The last entry whose key is this one or less. The last of all is found without a search by key.
 pub fn entry_up_to<'x, V>(entries: &'x BTreeMap<u128, V>, key: u128) -> Option<(&'x u128, &'x V)>
     ensures entry { option_map deref_pair result ≡ entry_before (count_up_to key entries.now.entries) entries.now.entries }
     ensures ordered { IsOrdered nat_cmp entries.now }
@@ -37,7 +37,7 @@ pub fn entry_behind<'x, V>(entries: &'x BTreeMap<u128, V>, key: u128) -> Option<
         .next()
 }
 
-/// Puts an entry at a key where there is none. If there is no memory for it, the entries stay.
+/// Puts an entry at a key if there is none. If an allocation fails, the entries are unchanged.
 pub fn put_entry<V: Drop>(
     entries: &mut BTreeMap<u128, V>,
     key: u128,

@@ -1,6 +1,6 @@
-//! Maps from places to what begins there, and how their operations move the list of entries: at which position
-//! an entry is found, put or taken. The numbers of TSNs and messages are counted without wrap, so that the order of
-//! keys is the order in which the peer sent.
+//! Maps from places to what begins there, and how their operations change the list of entries. An entry is
+//! found, put or taken at a position. The numbers of TSNs and messages are counted without wrap, so that the
+//! order of keys is the order in which the peer sent.
 #![tactic(auto)]
 
 mod entries;

@@ -1,4 +1,4 @@
--- Streams that are named: their numbers in ascending order, so that one is found by halves, or as bits of a table.
+-- Streams that are named: their numbers in ascending order, for a binary search, or as bits of a table.
 use Rattle.std.specs.Prelude.{◌==◌, ℕ, ◌/◌, ◌%◌, Bool, List, get_or}
 use Rattle.std.specs.List.{list_any}
 use Rattle.std.specs.Int.{bit_at}

@@ -1,5 +1,5 @@
--- The reassembly queue as callers see it: what came in, the receive window, and a reset of streams that waits for data that was
--- sent before it (RFC 6525, section 5.2.2).
+-- The reassembly queue as callers see it: what was received, and the receive window. Also a reset of streams that waits for data
+-- that was sent before it (RFC 6525, section 5.2.2).
 use Rattle.std.specs.Prelude.{◌≡◌, ◌==◌, ℕ, ◌+◌, ◌-◌, ◌^◌, nat_lt, Bool, true, false, ◌&&◌, Option, None, Some, List, [], ◌∷◌, ◌++◌, length, map}
 use Rattle.std.specs.List.{list_any, sum_by}
 use Rattle.dcsctp_machine.specs.Transfer.{ReassemblyState}
@@ -49,11 +49,11 @@ abbrev pub deferred_bytes : Option DeferralModel → ℕ
 deferred_bytes None = 0
 deferred_bytes (Some deferral) = sum_by waiting_bytes deferral.waiting
 
--- how many bytes are held: of messages and parts that came in, and of what waits for the end of a deferred reset
+-- how many bytes are held: of messages and parts that were received, and of what waits for the end of a deferred reset
 abbrev pub queued_bytes : QueueModel → ℕ
 queued_bytes queue = held_bytes queue.incoming + deferred_bytes queue.deferral
 
--- Can the bytes be counted with so many more?
+-- Can the bytes be counted with that many more?
 abbrev pub can_count : ℕ → QueueModel → Bool
 can_count size queue = nat_lt (queued_bytes queue + size) (2 ^ 64)
 
@@ -67,7 +67,7 @@ reassembly_state queue =
       remaining_bytes = queue.max_size - queued_bytes queue;
     }
 
--- nothing came in yet
+-- nothing was received yet
 abbrev pub new_queue : ℕ → QueueModel
 new_queue max_size = record { incoming = nothing; max_size = max_size; deferral = None }
 
@@ -94,32 +94,32 @@ with_waiting last (Some deferral) = Some (record deferral { waiting = deferral.w
 abbrev pub with_deferred : ℕ → ChunkModel → QueueModel → QueueModel
 with_deferred tsn chunk queue = record queue { deferral = with_waiting (arrived tsn chunk) queue.deferral }
 
--- Data was worked.
+-- Data was handled.
 pub record Takes (tsn : ℕ) (chunk : ChunkModel) (old new : QueueModel) : Type 0 where
   pub incoming : TakesData tsn chunk old.incoming new.incoming
   pub window : new.max_size ≡ old.max_size
   pub deferral : new.deferral ≡ old.deferral
 
--- A FORWARD TSN or I-FORWARD-TSN was worked.
+-- A FORWARD TSN or I-FORWARD-TSN was handled.
 pub record Forwards (tsn : ℕ) (entries : List SkippedTo) (old new : QueueModel) : Type 0 where
   pub incoming : MovesOn tsn entries old.incoming new.incoming
   pub window : new.max_size ≡ old.max_size
   pub deferral : new.deferral ≡ old.deferral
 
--- All stays.
+-- Nothing changes.
 pub record SameQueue (old new : QueueModel) : Type 0 where
   pub incoming : SameIncoming old.incoming new.incoming
   pub window : new.max_size ≡ old.max_size
   pub deferral : new.deferral ≡ old.deferral
 
--- the deferral that begins, where none stands
+-- the deferral that begins, if there is none
 abbrev pub entered : ℕ → List ℕ → Option DeferralModel → Option DeferralModel
 entered last_tsn streams None = Some (record { last_tsn = last_tsn; streams = streams; waiting = [] })
 entered last_tsn streams (Some deferral) = Some deferral
 
 -- ---- the end of a deferred reset
 
--- What waited is worked, one or all of it in turn.
+-- What waited is handled, one or all of it in turn.
 abbrev pub Works : WaitingModel → IncomingModel → IncomingModel → Type 0
 Works (arrived tsn chunk) old new = TakesData tsn chunk old new
 Works (skipping tsn entries) old new = MovesOn tsn entries old new
@@ -128,7 +128,7 @@ abbrev pub WorksAll : List WaitingModel → IncomingModel → IncomingModel → 
 WorksAll [] old new = new ≡ old
 WorksAll (action ∷ actions) old new = (between : IncomingModel) × Works action old between × WorksAll actions between new
 
--- Some of it is worked, and the rest waits on.
+-- Some of it is handled, and the rest waits on.
 pub record WorksFront (actions : List WaitingModel) (old new : IncomingModel) (left : List WaitingModel) : Type 0 where
   pub done : List WaitingModel
   pub between : IncomingModel
@@ -140,7 +140,7 @@ abbrev pub actions_of : Option DeferralModel → List WaitingModel
 actions_of None = []
 actions_of (Some deferral) = deferral.waiting
 
--- The streams are reset, and then all is worked that waited for this.
+-- The streams are reset, and then all is handled that waited for this.
 pub record Leaves (streams : List ℕ) (old new : QueueModel) : Type 0 where
   pub between : IncomingModel
   pub resets : ResetsStreams streams old.incoming between
@@ -153,7 +153,7 @@ abbrev pub with_left : List WaitingModel → Option DeferralModel → Option Def
 with_left left None = None
 with_left left (Some deferral) = Some (record deferral { waiting = left })
 
--- The streams are reset, and some of it is worked.
+-- The streams are reset, and some of it is handled.
 pub record StaysDeferred (streams : List ℕ) (old new : QueueModel) : Type 0 where
   pub between : IncomingModel
   pub left : List WaitingModel

@@ -1,5 +1,5 @@
--- What came in and was not taken by the user yet (RFC 9260, sections 6.5, 6.6 and 6.9; RFC 8260; RFC 3758, section 3.6;
--- RFC 6525, section 5.2.2).
+-- What was received and was not taken by the user yet (RFC 9260, sections 6.5, 6.6 and 6.9; RFC 8260; RFC 3758, section 3.6; RFC
+-- 6525, section 5.2.2).
 use Rattle.std.specs.Prelude.{◌≡◌, ℕ, ◌+◌, ◌-◌, ◌^◌, ◌≤◌, min, Option, None, Some, List, [], map}
 use Rattle.std.specs.BTreeMap.{is_at}
 use Rattle.std.specs.Ordering.{nat_cmp}
@@ -16,7 +16,7 @@ use Rattle.dcsctp_receive_reassembly.specs.Held.{runs_bytes}
 use Rattle.dcsctp_receive_reassembly.specs.QueuedBytes.{ready_bytes, streams_bytes}
 use Rattle.dcsctp_receive_reassembly.specs.Streams.{StreamModel, ChunkModel, stream_of, new_stream, data_part, delivered_as, TakesUnordered, TakesOnStream}
 
--- all that is kept of what came in
+-- all that is kept of what was received
 pub record IncomingModel : Type 0 where
   -- how many messages became ready
   pub messages_received : ℕ
@@ -25,7 +25,7 @@ pub record IncomingModel : Type 0 where
   pub streams : List (ℕ × StreamModel)
   -- parts of unordered messages of DATA
   pub unordered : List RunModel
-  -- the number of the TSN that was worked last
+  -- the number of the TSN that was handled last
   pub last_tsn_number : ℕ
 
 abbrev pub entry_of : ℕ × Stream → ℕ × StreamModel
@@ -41,7 +41,7 @@ incoming_of incoming =
       last_tsn_number = incoming.last_tsn_number;
     }
 
--- nothing came in yet
+-- nothing was received yet
 abbrev pub nothing : IncomingModel
 nothing = record { messages_received = 0; ready = []; streams = []; unordered = []; last_tsn_number = 2 ^ 32 }
 
@@ -49,7 +49,7 @@ nothing = record { messages_received = 0; ready = []; streams = []; unordered = 
 abbrev pub held_bytes : IncomingModel → ℕ
 held_bytes incoming = ready_bytes incoming.ready + streams_bytes incoming.streams + runs_bytes incoming.unordered
 
--- What is counted of the bytes changes as what is held.
+-- The count of bytes changes as the bytes do.
 abbrev pub Balances : Incoming → Incoming → Type 0
 Balances old new =
     held_bytes (incoming_of old) ≤ old.queued_bytes → new.queued_bytes + held_bytes (incoming_of old) ≡ old.queued_bytes + held_bytes (incoming_of new)
@@ -58,15 +58,15 @@ abbrev pub stream_or_new : ℕ → Option StreamModel → StreamModel
 stream_or_new id None = new_stream id
 stream_or_new id (Some stream) = stream
 
--- The stream of this identifier. One that isn't there is as one on which nothing came in.
+-- The stream of this identifier. A missing one is like one on which nothing was received.
 abbrev pub stream_on : ℕ → List (ℕ × StreamModel) → StreamModel
 stream_on id streams = stream_or_new id (lookup (is_at (nat_cmp id)) streams)
 
--- Each stream stays.
+-- Each stream is unchanged.
 abbrev pub KeepsStreams : List (ℕ × StreamModel) → List (ℕ × StreamModel) → Type 0
 KeepsStreams old new = (id : ℕ) → stream_on id new ≡ stream_on id old
 
--- All stays. A stream on which nothing came in may be there or not.
+-- Nothing changes. A stream on which nothing was received may be present or not.
 pub record SameIncoming (old new : IncomingModel) : Type 0 where
   pub ready : new.ready ≡ old.ready
   pub received : new.messages_received ≡ old.messages_received
@@ -78,14 +78,14 @@ pub record SameIncoming (old new : IncomingModel) : Type 0 where
 abbrev pub received_more : ℕ → ℕ → ℕ
 received_more ready received = min (received + ready) (2 ^ 64 - 1)
 
--- A chunk of an unordered message of DATA came in: parts go by their TSNs.
+-- A chunk of an unordered message of DATA was received: parts go by their TSNs.
 pub record TakesUnorderedData (tsn_number : ℕ) (chunk : ChunkModel) (old new : IncomingModel) : Type 0 where
   pub taken : Taken
   pub does : TakesUnordered (data_part chunk tsn_number chunk.stream) (delivered_as chunk.stream) old.unordered old.ready taken new.unordered new.ready
   pub received : new.messages_received ≡ received_more taken.ready old.messages_received
   pub streams : new.streams ≡ old.streams
 
--- Another chunk came in, on its stream.
+-- Another chunk was received, on its stream.
 pub record TakesStreamData (tsn_number : ℕ) (chunk : ChunkModel) (old new : IncomingModel) : Type 0 where
   pub taken : Taken
   pub does : TakesOnStream tsn_number chunk (stream_on chunk.stream old.streams) old.ready taken (stream_on chunk.stream new.streams) new.ready
@@ -99,7 +99,7 @@ TakesChunk tsn_number Unordered chunk old new = TakesUnorderedData tsn_number ch
 TakesChunk tsn_number (InterleavedOrdered mid fsn) chunk old new = TakesStreamData tsn_number chunk old new
 TakesChunk tsn_number (InterleavedUnordered mid fsn) chunk old new = TakesStreamData tsn_number chunk old new
 
--- A chunk with this TSN came in.
+-- A chunk with this TSN was received.
 pub record TakesData (tsn : ℕ) (chunk : ChunkModel) (old new : IncomingModel) : Type 0 where
   pub takes : TakesChunk (number_near old.last_tsn_number tsn) chunk.numbering chunk old new
   pub last : new.last_tsn_number ≡ number_near old.last_tsn_number tsn

@@ -25,7 +25,7 @@ pub record RunModel : Type 0 where
   pub has_end : Bool
   pub payloads : List (List ℕ)
 
--- a part that comes in
+-- a part that is received
 pub record PartModel : Type 0 where
   pub place : ℕ
   pub number : ℕ
@@ -67,7 +67,7 @@ joined_bytes payloads = flat_map (λ payload. payload) payloads
 abbrev pub holds : RunModel → ℕ → Bool
 holds run place = nat_le run.first place && nat_lt (place - run.first) (length run.payloads)
 
--- Does the run, if there is one, begin at the place or before it, or behind it?
+-- Does the run, if there is one, begin at the place or before it, or after it?
 abbrev pub StartsUpTo : ℕ → Option RunModel → Type 0
 StartsUpTo place None = Unit {0}
 StartsUpTo place (Some run) = run.first ≤ place
@@ -76,7 +76,7 @@ abbrev pub StartsBehind : ℕ → Option RunModel → Type 0
 StartsBehind place None = Unit {0}
 StartsBehind place (Some run) = place < run.first
 
--- Where a place belongs among the runs: the run before begins at it or before it, the next one behind it.
+-- Where a place belongs among the runs: the run before begins at it or before it, the next one after it.
 pub record IsPlace (at place : ℕ) (runs : List RunModel) : Type 0 where
   pub within : at ≤ length runs
   pub before : StartsUpTo place (entry_before at runs)
@@ -91,7 +91,7 @@ abbrev pub BeginsIf : Option ℕ → Option RunModel → Type 0
 BeginsIf None run = Unit {0}
 BeginsIf (Some first) run = BeginsAt first run
 
--- Is there room for so many more parts in the run that begins at this place?
+-- Is there room for that many more parts in the run that begins at this place?
 abbrev pub RoomIn : ℕ → Option Run → Type 0
 RoomIn count None = ⊥
 RoomIn count (Some run) = length run.others.items + count ≤ deque_capacity run.others
@@ -112,7 +112,7 @@ abbrev pub begins_up_to : ℕ → List RunModel → Bool
 begins_up_to place [] = false
 begins_up_to place (run ∷ runs) = nat_le run.first place
 
--- the runs in front that begin at a place or before it, and those behind them
+-- the runs in front that begin at a place or before it, and those after them
 abbrev pub up_to_place : ℕ → List RunModel → List RunModel
 up_to_place place [] = []
 up_to_place place (run ∷ runs) = if nat_le run.first place then run ∷ up_to_place place runs else []
@@ -134,12 +134,12 @@ abbrev pub single_run : PartModel → RunModel
 single_run part =
     record { first = part.place; number = part.number; ppid = part.ppid; has_beginning = part.is_beginning; has_end = part.is_end; payloads = part.payload ∷ [] }
 
--- two runs of one message, the second behind the first
+-- two runs of one message, the second after the first
 abbrev pub chained : RunModel → RunModel → RunModel
 chained front back =
     record front { has_end = back.has_end; payloads = front.payloads ++ back.payloads }
 
--- a part with the run that it follows on, and the run that follows on it, where there are such
+-- a part with the run that it follows on, and the run that follows on it, if there are such
 abbrev pub merged : Option RunModel → PartModel → Option RunModel → RunModel
 merged None part None = single_run part
 merged (Some front) part None = chained front (single_run part)
@@ -167,11 +167,11 @@ abbrev pub preceding : PartModel → Option RunModel → Option RunModel
 preceding part None = None
 preceding part (Some run) = if precedes part run then Some run else None
 
--- the run before a place among the runs, where the part follows on it
+-- the run before a place among the runs, if the part follows on it
 abbrev pub run_before : ℕ → List RunModel → PartModel → Option RunModel
 run_before at runs part = following (entry_before at runs) part
 
--- the run at a place among the runs, where it follows on the part
+-- the run at a place among the runs, if it follows on the part
 abbrev pub run_behind : PartModel → ℕ → List RunModel → Option RunModel
 run_behind part at runs = preceding part (slice_get runs at)
 
@@ -179,12 +179,12 @@ run_behind part at runs = preceding part (slice_get runs at)
 abbrev pub merged_at : ℕ → List RunModel → PartModel → RunModel
 merged_at at runs part = merged (run_before at runs part) part (run_behind part at runs)
 
--- a run of the message, where it joins
+-- a run of the message, if it joins
 abbrev pub chosen : Bool → Option RunModel → Option RunModel
 chosen true run = run
 chosen false run = None
 
--- where the runs end that stay before a place, and where those begin that stay behind it
+-- where the runs end that stay before a place, and where those begin that stay after it
 abbrev pub front_end : Bool → ℕ → ℕ
 front_end true at = at - 1
 front_end false at = at
@@ -208,8 +208,8 @@ abbrev pub without_runs : Bool → Bool → ℕ → List RunModel → List RunMo
 without_runs joins_before joins_behind at runs =
     take (front_end joins_before at) runs ++ drop (back_start joins_behind at) runs
 
--- What becomes of a part that belongs at this place among the runs. One that is held already is dropped. One that makes its
--- message whole gives its bytes, those of all parts in a row from the beginning to the end.
+-- What becomes of a part that belongs at this place among the runs. One that was received before is dropped. One that makes its
+-- message whole gives the message's bytes: those of all parts, from the beginning to the end.
 abbrev pub AddsAt : ℕ → PartModel → List RunModel → Assembled → List RunModel → Type 0
 AddsAt at part old Dropped new = (is_held_before at old part.place ≡ true) × (new ≡ old)
 AddsAt at part old Kept new =
@@ -234,7 +234,7 @@ PassesAlone part old Dropped new = new ≡ old
 PassesAlone part old Kept new = ⊥
 PassesAlone part old (WholeMessage whole) new = (new ≡ old) × (whole_of whole ≡ whole_run (single_run part))
 
--- A part came in.
+-- A part was received.
 pub record AddsPart (part : PartModel) (old : List RunModel) (outcome : Assembled) (new : List RunModel) : Type 0 where
   pub at : ℕ
   pub place : IsPlace at part.place old

@@ -1,4 +1,5 @@
--- Messages that are skipped, and streams that begin anew (RFC 3758, section 3.6; RFC 8260, section 2.3.1; RFC 6525, section 5.2.2).
+-- Messages that are skipped, and streams that start anew (RFC 3758, section 3.6; RFC 8260, section 2.3.1; RFC 6525, section
+-- 5.2.2).
 use Rattle.std.specs.Prelude.{◌≡◌, ◌==◌, ℕ, ◌+◌, not, if◌then◌else◌, List, [], ◌∷◌, ◌++◌, length, IsSome}
 use Rattle.std.specs.List.{filter}
 use Rattle.std.specs.BTreeMap.{BTreeMap, get}
@@ -22,7 +23,7 @@ abbrev pub room_for : List SkippedTo → (ℕ → StreamModel) → ℕ
 room_for [] streams = 0
 room_for (entry ∷ entries) streams = length (streams (skipped_stream entry)).waiting + room_for entries streams
 
--- a stream once an entry, or all of them in turn, are worked
+-- a stream once an entry, or all of them in turn, are handled
 abbrev pub skipped_on : SkippedTo → ℕ → StreamModel → StreamModel
 skipped_on entry id stream = if skipped_stream entry == id then skipped entry stream else stream
 
@@ -52,8 +53,8 @@ pub record SkipsAll (entries : List SkippedTo) (old new : IncomingModel) : Type 
   pub unordered : new.unordered ≡ old.unordered
   pub last : new.last_tsn_number ≡ old.last_tsn_number
 
--- A FORWARD TSN or I-FORWARD-TSN is worked whose TSN has this number: beside the messages that it names, the parts of unordered
--- messages of DATA that begin at it or before it are dropped.
+-- A FORWARD TSN or I-FORWARD-TSN whose TSN has this number is handled. The messages that it names are skipped. Parts of unordered
+-- messages of DATA that begin at the number or before it are dropped.
 pub record MovesTo (tsn_number : ℕ) (entries : List SkippedTo) (old new : IncomingModel) : Type 0 where
   pub streams : (id : ℕ) → stream_on id new.streams ≡ skipped_by entries id (stream_on id old.streams)
   pub ready : new.ready ≡ old.ready ++ deliveries_by entries (λ id. stream_on id old.streams)
@@ -64,7 +65,7 @@ pub record MovesTo (tsn_number : ℕ) (entries : List SkippedTo) (old new : Inco
 abbrev pub MovesOn : ℕ → List SkippedTo → IncomingModel → IncomingModel → Type 0
 MovesOn tsn entries old new = MovesTo (number_near old.last_tsn_number tsn) entries old new
 
--- ---- streams that begin anew; messages that are ready stay
+-- ---- streams that start anew; messages that are ready stay
 
 -- the parts of unordered messages of DATA whose stream isn't named
 abbrev pub parts_left : List ℕ → List RunModel → List RunModel
@@ -86,7 +87,7 @@ pub record ResetsAll (old new : IncomingModel) : Type 0 where
   pub unordered : new.unordered ≡ []
   pub kept : KeepsReady old new
 
--- The streams of the list begin anew; an empty list names all.
+-- The streams of the list start anew; an empty list names all.
 abbrev pub ResetsStreams : List ℕ → IncomingModel → IncomingModel → Type 0
 ResetsStreams [] old new = ResetsAll old new
 ResetsStreams (reset ∷ resets) old new = ResetsEach (reset ∷ resets) old new

@@ -25,9 +25,9 @@ pub record StreamModel : Type 0 where
   pub id : ℕ
   -- the number of the ordered message that comes next
   pub next : ℕ
-  -- the number of the unordered message of which a part came in last
+  -- the number of the unordered message of which a part was received last
   pub last_unordered : ℕ
-  -- whole ordered messages behind one that is missing, ascending
+  -- whole ordered messages after one that is missing, ascending
   pub waiting : List WholeModel
   -- parts of ordered and of unordered messages
   pub ordered : List RunModel
@@ -48,7 +48,7 @@ stream_of stream =
       unordered = map run_of stream.unordered.entries;
     }
 
--- a stream on which nothing came in
+-- a stream on which nothing was received
 abbrev pub new_stream : ℕ → StreamModel
 new_stream id = record { id = id; next = 2 ^ 32; last_unordered = 2 ^ 32; waiting = []; ordered = []; unordered = [] }
 
@@ -83,11 +83,11 @@ delivered_from next stream = record stream { next = next_due next stream.waiting
 abbrev pub deliveries_from : ℕ → StreamModel → List MessageContent
 deliveries_from next stream = map (delivered_as stream.id) (due next stream.waiting)
 
--- the number behind a skipped one, where that isn't before the next
+-- the number after a skipped one, if that isn't before the next
 abbrev pub next_past : ℕ → ℕ → ℕ
 next_past skipped next = max next (min (skipped + 1) (2 ^ 64 - 1))
 
--- ---- data that comes in
+-- ---- data that is received
 
 abbrev pub NothingTaken : Taken → Type 0
 NothingTaken taken = (taken.kept_bytes ≡ 0) × (taken.ready ≡ 0)
@@ -109,7 +109,7 @@ abbrev pub is_due : ℕ → List WholeModel → Bool
 is_due next [] = false
 is_due next (whole ∷ waiting) = nat_le whole.number next
 
--- An entry without content was put at this number, at its place in the order of numbers.
+-- An entry without content was added at this number, in the order of numbers.
 pub record HoldsPlace (number : ℕ) (old new : List (ℕ × Waiting)) : Type 0 where
   pub empty : Waiting
   pub ascends : Ascends old
@@ -174,7 +174,7 @@ pub record TakesUnordered (part : PartModel) (shown : WholeModel → MessageCont
   pub parts : AddsPart part old outcome new
   pub does : UnorderedOutcome part shown before outcome taken after
 
--- A part of an ordered message of a number that a message has which waits, or a whole one: no order says which of the two comes
+-- A part of an ordered message, or a whole one, whose number a waiting message already has. No order says which of the two comes
 -- first, so this one becomes ready once it is whole.
 pub record TakesRepeated (part : PartModel) (old : StreamModel) (before : List MessageContent) (taken : Taken) (new : StreamModel) (after : List MessageContent) : Type 0 where
   pub ordered : TakesUnordered part (delivered_as old.id) old.ordered before taken new.ordered after
@@ -188,7 +188,7 @@ pub record TakesAhead (part : PartModel) (old : StreamModel) (before : List Mess
 
 -- ---- chunks of data
 
--- what a chunk bears
+-- what a chunk carries
 pub record ChunkModel : Type 0 where
   pub stream : ℕ
   pub numbering : Numbering
@@ -206,29 +206,30 @@ abbrev pub data_part : ChunkModel → ℕ → ℕ → PartModel
 data_part chunk place number =
     record { place = place; number = number; ppid = chunk.ppid; payload = chunk.payload; is_beginning = chunk.is_beginning; is_end = chunk.is_end }
 
--- A part of an ordered I-DATA message, or a whole one: it is dropped where its message is before the next.
+-- A part of an ordered I-DATA message, or a whole one: it is dropped if its message is before the next.
 pub record TakesInOrder (part : PartModel) (old : StreamModel) (before : List MessageContent) (taken : Taken) (new : StreamModel) (after : List MessageContent) : Type 0 where
   pub past : part.number < old.next → NothingTaken taken × (new ≡ old) × (after ≡ before)
   pub ahead : old.next ≤ part.number → TakesAhead part old before taken new after
 
--- the same of an unordered I-DATA message
+-- the same for an unordered I-DATA message
 pub record TakesOutOfOrder (part : PartModel) (old : StreamModel) (before : List MessageContent) (taken : Taken) (new : StreamModel) (after : List MessageContent) : Type 0 where
   pub unordered : TakesUnordered part (delivered_as old.id) old.unordered before taken new.unordered after
   pub last : new.last_unordered ≡ part.number
   pub others : (new.id ≡ old.id) × (new.next ≡ old.next) × (new.waiting ≡ old.waiting) × (new.ordered ≡ old.ordered)
 
--- the same of an unordered message of DATA, whose parts go by their TSNs
+-- the same for an unordered message of DATA, whose parts go by their TSNs
 pub record TakesApart (part : PartModel) (old : StreamModel) (before : List MessageContent) (taken : Taken) (new : StreamModel) (after : List MessageContent) : Type 0 where
   pub unordered : TakesUnordered part (delivered_as old.id) old.unordered before taken new.unordered after
   pub others : (new.id ≡ old.id) × (new.next ≡ old.next) × (new.waiting ≡ old.waiting) × (new.ordered ≡ old.ordered)
   pub last : new.last_unordered ≡ old.last_unordered
 
--- Data of a stream came in, whose TSN has this number. The parts of an ordered message of DATA go by their TSNs, those of I-DATA
--- by their fragment numbers.
+-- Data of a stream was received, whose TSN has this number. The parts of an ordered message of DATA go by their TSNs, those of
+-- I-DATA by their fragment numbers.
 --
--- A stream sequence number is read from the next one on, up to its whole range: the TSN is new, and all TSNs of a message that was
--- delivered or skipped count as received (RFC 3758, section 3.5). A message identifier is the nearest: nobody is 2^31 messages ahead,
--- and a part of a message that was skipped may come late, since parts of I-DATA messages need not have TSNs in a row.
+-- A stream sequence number is read as the next number or a later one, over its whole range. The TSN is new, and all TSNs of a
+-- message that was delivered or skipped count as received (RFC 3758, section 3.5). A message identifier is read as the nearest
+-- number: nobody is 2^31 messages ahead. A part of a skipped message may come late, since parts of I-DATA messages need not have
+-- TSNs in a row.
 abbrev pub TakesNumbered : ℕ → ChunkModel → Numbering → StreamModel → List MessageContent → Taken → StreamModel → List MessageContent → Type 0
 TakesNumbered tsn chunk (Ordered ssn) old before taken new after =
     TakesAhead (data_part chunk tsn (short_number_from old.next ssn)) old before taken new after
@@ -250,13 +251,13 @@ runs_up_to number runs = filter (λ run. nat_le run.number number) runs
 abbrev pub runs_behind : ℕ → List RunModel → List RunModel
 runs_behind number runs = filter (λ run. not (nat_le run.number number)) runs
 
--- The ordered messages up to a number are skipped: what isn't whole of them is dropped, whole ones and those that follow in a row
+-- The ordered messages up to a number are skipped. Those that aren't whole are dropped; whole ones and those that follow in a row
 -- become ready.
 abbrev pub skipped_in_order : ℕ → StreamModel → StreamModel
 skipped_in_order number stream =
     delivered_from (next_past number stream.next) (record stream { ordered = runs_behind number stream.ordered })
 
--- The unordered messages up to a number are skipped: what is there of them is dropped.
+-- The unordered messages up to a number are skipped: their parts are dropped.
 abbrev pub skipped_out_of_order : ℕ → StreamModel → StreamModel
 skipped_out_of_order number stream = record stream { last_unordered = number; unordered = runs_behind number stream.unordered }
 

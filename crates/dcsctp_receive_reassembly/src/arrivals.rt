@@ -1,4 +1,4 @@
-//! What the reassembly queue is handed: data chunks and skipped messages, by their meaning.
+//! The inputs of the reassembly queue: data chunks and skipped messages, by their meaning.
 
 ghost use Rattle.std.specs.Prelude.{◌≡◌, IfOk};
 ghost use Rattle.dcsctp_receive_reassembly.specs.Streams.{chunk_of};
@@ -24,7 +24,7 @@ pub enum Numbering {
     InterleavedUnordered { mid: u32, fsn: u32 },
 }
 
-/// What a DATA or I-DATA chunk bears: a message or a part of one.
+/// What a DATA or I-DATA chunk carries: a message or a part of one.
 #[derive(Debug, Drop)]
 pub struct Data {
     /// The stream that the message goes by.
@@ -33,7 +33,7 @@ pub struct Data {
     /// Which message, and which part of it.
     pub numbering: Numbering,
 
-    /// The protocol of the payload. Of I-DATA it counts in the first part alone.
+    /// The protocol of the payload. For I-DATA it counts only in the first part.
     pub ppid: PpId,
 
     /// The bytes. They aren't empty.

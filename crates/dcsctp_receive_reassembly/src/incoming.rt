@@ -1,5 +1,5 @@
-//! What came in and doesn't wait for the end of a deferred reset: the streams, the parts of unordered
-//! messages, and the messages that are ready (RFC 9260, sections 6.5, 6.6 and 6.9).
+//! What was received and doesn't wait for the end of a deferred reset. These are the streams, the parts of
+//! unordered messages, and the ready messages (RFC 9260, sections 6.5, 6.6 and 6.9).
 
 ghost use Rattle.std.specs.Prelude.{◌≡◌, ℕ, ◌+◌, ◌^◌, ◌<◌, map, true, IfOk, OnOk, OnErr, IsSome, IfSome, IfNone, length, [], ◌∷◌};
 ghost use Rattle.std.specs.BTreeMap.{get};
@@ -31,7 +31,7 @@ use dcsctp_api::{Message, StreamId};
 use std::alloc::{AllocError, Global};
 use std::collections::{BTreeMap, VecDeque};
 
-/// All that is kept of what came in.
+/// All that is kept of what was received.
 #[derive(Drop)]
 pub struct Incoming {
     pub alloc: Global,
@@ -48,11 +48,11 @@ pub struct Incoming {
     /// Parts of unordered messages of DATA, by their TSNs. The number of a message is its stream.
     pub unordered: BTreeMap<u128, Run>,
 
-    /// The number of the TSN that was worked last.
+    /// The number of the TSN that was handled last.
     pub last_tsn_number: u64,
 }
 
-/// Makes the stream, if nothing came in on it yet.
+/// Makes the stream, if nothing was received on it yet.
 pub fn make_stream(
     alloc: Global,
     streams: &mut BTreeMap<u16, Stream>,
@@ -69,7 +69,7 @@ pub fn make_stream(
     Ok(())
 }
 
-// Takes data in on its stream, which is there. The other streams stay.
+// Adds data to its stream, which exists. The other streams are unchanged.
 fn take_on_made(
     alloc: Global,
     streams: &mut BTreeMap<u16, Stream>,
@@ -88,7 +88,7 @@ fn take_on_made(
     Ok(taken)
 }
 
-// Takes data in on its stream, which is made first. The other streams stay.
+// Adds data to its stream, which is made first. The other streams are unchanged.
 fn take_on_new(
     alloc: Global,
     streams: &mut BTreeMap<u16, Stream>,
@@ -105,8 +105,8 @@ fn take_on_new(
     take_on_made(alloc, streams, tsn_number, chunk, ready)
 }
 
-// Takes data in on its stream, which is made if nothing came in on it yet. The other streams stay. One that
-// is there is looked up once.
+// Adds data to its stream, which is made if nothing was received on it yet. The other streams are unchanged.
+// An existing stream is looked up once.
 #[inline(always)]
 fn take_on(
     alloc: Global,
@@ -130,7 +130,7 @@ fn take_on(
 }
 
 impl Incoming {
-    /// Nothing came in yet.
+    /// Nothing was received yet.
     pub fn new(alloc: Global) -> Incoming
         ensures queued { result.queued_bytes ≡ 0 }
         ensures incoming { incoming_of result ≡ nothing }
@@ -155,7 +155,7 @@ impl Incoming {
         self.messages_received = self.messages_received.saturating_add(taken.ready as u64);
     }
 
-    // A part of an unordered message of DATA came in.
+    // A part of an unordered message of DATA was received.
     fn take_unordered(&mut self, tsn_number: u64, chunk: Data) -> Result<(), AllocError>
         requires { self.old.queued_bytes + length chunk.payload.items < 2 ^ 64 }
         ensures ok { OnOk result (TakesUnorderedData tsn_number (chunk_of chunk) (incoming_of self.old) (incoming_of self.new)) }
@@ -170,7 +170,7 @@ impl Incoming {
         Ok(())
     }
 
-    // Data of a stream came in, but for unordered DATA.
+    // Data of a stream was received, except for unordered DATA.
     #[inline(always)]
     fn take_on_stream(&mut self, tsn_number: u64, chunk: Data) -> Result<(), AllocError>
         requires { self.old.queued_bytes + length chunk.payload.items < 2 ^ 64 }
@@ -190,7 +190,7 @@ impl Incoming {
         Ok(())
     }
 
-    // Data came in whose TSN has this number.
+    // Data was received whose TSN has this number.
     #[inline(always)]
     fn take_numbered(&mut self, tsn_number: u64, chunk: Data) -> Result<(), AllocError>
         requires { self.old.queued_bytes + length chunk.payload.items < 2 ^ 64 }
@@ -207,7 +207,7 @@ impl Incoming {
         }
     }
 
-    /// Works data, whose bytes can be counted. If there is no memory for it, all stays.
+    /// Handles data, whose bytes can be counted. `Err`: an allocation failed, and nothing has changed.
     #[inline(always)]
     pub fn take(&mut self, tsn: u32, chunk: Data) -> Result<(), AllocError>
         requires { self.old.queued_bytes + length chunk.payload.items < 2 ^ 64 }

@@ -1,5 +1,5 @@
-//! How a part of a message goes to the parts that are there, and a message is joined once its first and its
-//! last part are there (RFC 9260, section 6.9).
+//! How a part of a message is added to its other parts, and a message is joined once it is whole (RFC 9260,
+//! section 6.9).
 
 ghost use Rattle.std.specs.Prelude.{
   ◌≡◌,
@@ -95,7 +95,7 @@ fn copy_run(joined: &mut Vec<u8>, run: &Run) -> Result<(), AllocError>
     copy_payloads(joined, &run.others)
 }
 
-// A run of this part alone. It takes no memory.
+// A run of this part alone. Allocates nothing.
 fn single(alloc: Global, part: Part) -> Run
     ensures { run_of (part.place, result) ≡ single_run (part_of part) }
 {
@@ -192,7 +192,7 @@ fn take_over(run: &mut Run, behind: Run)
     run.has_end = has_end;
 }
 
-// The run before the part, where the part follows on it.
+// The run before the part, if the part follows on it.
 fn run_before<'x>(nearest: Option<(u128, &'x Run)>, part: &Part) -> Option<(u128, &'x Run)>
     ensures { lent_run result ≡ following (lent_run nearest.entry) (part_of part.now) }
 {
@@ -255,7 +255,7 @@ fn keep_before(runs: &mut BTreeMap<u128, Run>, first: u128, part: Part) -> Resul
     append(runs.get_mut(&first).unwrap(), part)
 }
 
-// Makes room in a run for so many more parts.
+// Makes room in a run for that many more parts.
 fn reserve_in(run: &mut Run, count: usize) -> Result<(), AllocError>
     ensures kept { (first : ℕ) → run_of (first, run.new) ≡ run_of (first, run.old) }
     ensures room { OnOk result (length run.new.others.items + count ≤ deque_capacity run.new.others) }
@@ -264,7 +264,7 @@ fn reserve_in(run: &mut Run, count: usize) -> Result<(), AllocError>
     Ok(())
 }
 
-// Makes room in the run that begins at this place for so many more parts.
+// Makes room in the run that begins at this place for that many more parts.
 fn reserve(runs: &mut BTreeMap<u128, Run>, first: u128, count: usize) -> Result<(), AllocError>
     requires there { IsSome (get nat_cmp runs.old first) }
     ensures kept { map run_of runs.new.entries ≡ map run_of runs.old.entries }
@@ -274,7 +274,7 @@ fn reserve(runs: &mut BTreeMap<u128, Run>, first: u128, count: usize) -> Result<
     reserve_in(runs.get_mut(&first).unwrap(), count)
 }
 
-// The part goes to the run behind it, which begins at `next` and there from now on. All memory is taken
+// The part goes to the run after it, which begins at `next` and there from now on. All memory is allocated
 // first.
 fn keep_behind(
     alloc: Global,
@@ -359,7 +359,7 @@ fn take_out(runs: &mut BTreeMap<u128, Run>, first: Option<u128>, next: Option<u1
     }
 }
 
-// Is the place held by the nearest run that begins at it or before it?
+// Is the place in the nearest run that begins at it or before it?
 fn is_held_by(nearest: Option<(u128, &Run)>, place: u128) -> bool
     ensures { result ≡ holds_some (lent_run nearest.entry) place }
 {
@@ -377,8 +377,8 @@ fn first_of(run: Option<(u128, &Run)>) -> Option<u128>
     Some(first)
 }
 
-/// Takes a part in, and answers with its message where that is whole now. One that is there already is
-/// dropped. If there is no memory for it, the runs stay.
+/// Adds a part, and returns its message if that is whole now. One that was received before is dropped. If an
+/// allocation fails, the runs are unchanged.
 pub fn add_part(
     alloc: Global,
     runs: &mut BTreeMap<u128, Run>,

@@ -1,5 +1,5 @@
-//! The reassembly queue of the transfer layer: what of the data that came in waits to be taken (RFC 9260,
-//! sections 6.5, 6.6 and 6.9).
+//! The reassembly queue of the transfer layer: what of the data that was received waits to be taken (RFC
+//! 9260, sections 6.5, 6.6 and 6.9).
 #![tactic(auto)]
 
 mod arrivals;

@@ -1,5 +1,4 @@
-//! The streams that a reset names (RFC 6525, section 4.1). A stream is found in a time that hardly grows with
-//! how many they are.
+//! The streams that a reset names (RFC 6525, section 4.1). A stream is found by binary search.
 
 ghost use Rattle.std.specs.Prelude.{◌≡◌, IfOk};
 ghost use Rattle.dcsctp_machine.specs.Ids.{stream_numbers};

@@ -1,5 +1,5 @@
-//! The streams that a request names, as a table of bits (RFC 6525, section 5.2.2). Whether one is named is found
-//! at once, and no memory is allocated.
+//! The streams that a request names, as a table of bits (RFC 6525, section 5.2.2). A lookup takes constant
+//! time, and nothing is allocated.
 
 ghost use Rattle.std.specs.Prelude.{◌≡◌, ◌==◌, ◌||◌, ℕ, false};
 ghost use Rattle.dcsctp_machine.specs.Ids.{stream_numbers};

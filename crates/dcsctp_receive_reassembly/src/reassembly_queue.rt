@@ -1,6 +1,6 @@
-//! What came in and was not taken by the user yet (RFC 9260, sections 6.5, 6.6 and 6.9; RFC 8260; RFC 3758,
-//! section 3.6; RFC 6525, section 5.2.2). The association hands it each data chunk whose TSN is new, each
-//! FORWARD TSN chunk, and each reset of incoming streams.
+//! What was received and was not taken by the user yet (RFC 9260, sections 6.5, 6.6 and 6.9; RFC 8260; RFC
+//! 3758, section 3.6; RFC 6525, section 5.2.2). The association hands it each data chunk whose TSN is new,
+//! each FORWARD TSN chunk, and each reset of incoming streams.
 
 ghost use Rattle.std.specs.Prelude.{◌≡◌, ◌==◌, ◌+◌, ◌≤◌, true, false, map, length, [], IsOk, OnOk, OnErr, IsSome};
 ghost use Rattle.std.specs.List.{list_any, sum_by};
@@ -42,7 +42,7 @@ struct Deferral {
     waiting: VecDeque<Deferred>,
 }
 
-/// The data that came in: parts of messages, whole messages that wait for their turn, and whole messages
+/// The data that was received: parts of messages, whole messages that wait for their turn, and whole messages
 /// that the user did not take yet.
 #[derive(Drop)]
 pub struct ReassemblyQueue {
@@ -100,7 +100,7 @@ impl ReassemblyQueue {
       StaysDeferred,
     };
 
-    /// Nothing came in yet, and at most `max_size` bytes are kept. It takes no memory.
+    /// Nothing was received yet, and at most `max_size` bytes are kept. Allocates nothing.
     pub fn new(alloc: Global, max_size: usize) -> ReassemblyQueue
         ensures whole { result ≡ new_queue max_size }
         ensures shown { reassembly_state result ≡ record {
@@ -117,7 +117,7 @@ impl ReassemblyQueue {
         }
     }
 
-    /// Takes the message that became ready first; none where none is ready. It takes no memory.
+    /// Takes the message that became ready first; none if none is ready. Allocates nothing.
     pub fn get_next_message(&mut self) -> Option<Message>
         ensures some { IfSome result (λ message. self.old.incoming.ready ≡ message_content message ∷ self.new.incoming.ready) }
         ensures left { IfSome result (λ _. self.new ≡ record self.old { incoming = record self.old.incoming { ready = self.new.incoming.ready } }) }
@@ -140,7 +140,8 @@ impl ReassemblyQueue {
         self.incoming.messages_received
     }
 
-    /// How many more bytes are kept: the receive window that the peer is told (RFC 9260, section 6.2).
+    /// How many more bytes can be kept: the receive window that is announced to the peer (RFC 9260, section
+    /// 6.2).
     pub fn remaining_bytes(&self) -> usize
         ensures left { result ≡ (reassembly_state self.now).remaining_bytes }
         ensures within { result ≤ self.now.max_size }
@@ -174,18 +175,18 @@ impl ReassemblyQueue {
         }
     }
 
-    /// Takes data in whose TSN is new. Messages that are whole now become ready to be taken: an unordered
-    /// one at once, an ordered one when all before it on its stream did (RFC 9260, sections 6.5, 6.6 and
+    /// Adds data whose TSN is new. Messages that are whole now become ready to be taken. An unordered one
+    /// does at once, an ordered one when all before it on its stream did (RFC 9260, sections 6.5, 6.6 and
     /// 6.9).
     ///
-    /// A message of one chunk keeps its payload; that of a longer one is joined by one copy. Parts of one
-    /// message have TSNs in a row from B to E (DATA), or fragment numbers in a row (RFC 8260, section 2.1).
-    /// A stream sequence number is read from the expected one on, up to 65,535 ahead. I-DATA of an ordered
-    /// message whose identifier is before the expected one is dropped, as is a part that is there already. In
-    /// a deferred reset data beyond its last TSN waits on the streams that it names.
+    /// The payload of a message of one chunk is kept as it is; that of a longer one is joined by one copy.
+    /// Parts of one message have TSNs in a row from B to E (DATA), or fragment numbers in a row (RFC 8260,
+    /// section 2.1). A stream sequence number is read from the expected one on, up to 65,535 ahead. I-DATA of
+    /// an ordered message whose identifier is before the expected one is dropped, as is a part that is there
+    /// already. In a deferred reset data beyond its last TSN waits on the streams that it names.
     ///
-    /// Data whose bytes would bring those that are held to 2^64 is dropped. If there is no memory for it, the
-    /// data is dropped, and all that was there before stays.
+    /// Data with which the queue would have 2^64 bytes is dropped. If an allocation fails, the data is
+    /// dropped, and nothing else has changed.
     pub fn add(&mut self, tsn: u32, chunk: Data) -> Result<(), AllocError>
         ensures deferred { can_count (length chunk.payload.items) self.old ≡ true → is_deferred tsn chunk.stream_id.0 self.old.deferral ≡ true → OnOk result (self.new ≡ with_deferred tsn (chunk_of chunk) self.old) }
         ensures taken { can_count (length chunk.payload.items) self.old ≡ true → is_deferred tsn chunk.stream_id.0 self.old.deferral ≡ false → OnOk result (Takes tsn (chunk_of chunk) self.old self.new) }
@@ -201,7 +202,7 @@ impl ReassemblyQueue {
         self.incoming.take(tsn, chunk)
     }
 
-    // Can the bytes be counted with so many more?
+    // Can the bytes be counted with that many more?
     fn can_count(&self, size: usize) -> bool
         ensures { result ≡ can_count size self.now }
     {
@@ -223,13 +224,13 @@ impl ReassemblyQueue {
         Ok(())
     }
 
-    /// Works a FORWARD TSN or I-FORWARD-TSN chunk (RFC 3758, section 3.6; RFC 8260, section 2.3.1). On each
-    /// stream that it names, the ordered messages up to its number are skipped: those that aren't whole are
-    /// dropped, and whole ones that waited for them become ready. Parts of unordered messages are dropped
-    /// where they begin at the new cumulative TSN or before it (DATA), or belong to a message up to the
-    /// number named (I-DATA). In a deferred reset one beyond its last TSN waits.
+    /// Handles a FORWARD TSN or I-FORWARD-TSN chunk (RFC 3758, section 3.6; RFC 8260, section 2.3.1). On each
+    /// stream that it names, the ordered messages up to its number are skipped. Those that aren't whole are
+    /// dropped, and whole ones that waited for them become ready. Parts of unordered DATA messages are
+    /// dropped if they begin at the new cumulative TSN or before it. Those of I-DATA are dropped if their
+    /// message is at most the number named. In a deferred reset a chunk beyond its last TSN waits.
     ///
-    /// If there is no memory for it, all stays.
+    /// `Err`: an allocation failed, and nothing has changed.
     pub fn handle_forward_tsn(
         &mut self,
         new_cumulative_tsn: u32,
@@ -269,12 +270,11 @@ impl ReassemblyQueue {
         Ok(())
     }
 
-    /// A reset of streams came in before all data that was sent before it (RFC 6525, section 5.2.2). What
-    /// comes with a TSN beyond the sender's last one at that time waits from now on, on the streams that are
-    /// named (an empty list: all), until the streams are reset. While one such reset waits, another changes
-    /// nothing.
+    /// A reset of streams was received before all data that was sent before it (RFC 6525, section 5.2.2). On
+    /// the named streams (an empty list: all), what comes beyond the sender's last TSN of that time waits
+    /// until the streams are reset. While one such reset waits, another changes nothing.
     ///
-    /// If there is no memory for it, nothing changes.
+    /// `Err`: an allocation failed, and nothing has changed.
     pub fn enter_deferred_reset(
         &mut self,
         sender_last_assigned_tsn: u32,
@@ -294,12 +294,12 @@ impl ReassemblyQueue {
         Ok(())
     }
 
-    /// Resets the streams that are named (an empty list: all), so that the next message on each has the
-    /// number 0, and drops what was kept of them but messages that are ready (RFC 6525, section 5.2.2). Then
-    /// what waited for this is worked, in the order in which it came.
+    /// Resets the streams that are named (an empty list: all): the next message on each has the number 0 (RFC
+    /// 6525, section 5.2.2). What was kept of them is dropped, except for messages that are ready. Then what
+    /// waited for this is handled, in the order in which it came.
     ///
-    /// If there is no memory for something that waited, that and what came after it waits on: the deferral
-    /// stands with the rest, the streams are reset, and what was worked before stays so.
+    /// `Err`: an allocation failed for something that waited. That and what came after it keep waiting, with
+    /// the deferral. The streams are reset, and what was handled before stays so.
     pub fn reset_streams_and_leave_deferred_reset(
         &mut self,
         streams: &[StreamId],
@@ -321,7 +321,7 @@ impl ReassemblyQueue {
     }
 }
 
-// Works data that waited. If there is no memory for it, all stays.
+// Handles data that waited. `Err`: an allocation failed, and nothing has changed.
 fn work_data(incoming: &mut Incoming, tsn: u32, chunk: &Data) -> Result<(), AllocError>
     requires { held_bytes (incoming_of incoming.old) + length chunk.now.payload.items ≤ incoming.old.queued_bytes }
     ensures ok { OnOk result (TakesData tsn (chunk_of chunk.now) (incoming_of incoming.old) (incoming_of incoming.new)) }
@@ -341,7 +341,7 @@ fn work_data(incoming: &mut Incoming, tsn: u32, chunk: &Data) -> Result<(), Allo
     }
 }
 
-// Works what waited. If there is no memory for it, all stays.
+// Handles what waited. `Err`: an allocation failed, and nothing has changed.
 fn work(incoming: &mut Incoming, action: &Deferred) -> Result<(), AllocError>
     requires { held_bytes (incoming_of incoming.old) + waiting_bytes (waiting_of action.now) ≤ incoming.old.queued_bytes }
     ensures ok { OnOk result (Works (waiting_of action.now) (incoming_of incoming.old) (incoming_of incoming.new)) }
@@ -355,7 +355,8 @@ fn work(incoming: &mut Incoming, action: &Deferred) -> Result<(), AllocError>
     }
 }
 
-// Works all that waited, in turn. If there is no memory for something, that and the rest wait on.
+// Handles all that waited, in turn. `Err`: an allocation failed for something; that and the rest keep
+// waiting.
 fn work_all(incoming: &mut Incoming, waiting: &mut VecDeque<Deferred>) -> Result<(), AllocError>
     requires { incoming.old.queued_bytes ≡ held_bytes (incoming_of incoming.old) + sum_by waiting_bytes (map waiting_of waiting.old.items) }
     ensures ok { OnOk result (WorksAll (map waiting_of waiting.old.items) (incoming_of incoming.old) (incoming_of incoming.new)) }

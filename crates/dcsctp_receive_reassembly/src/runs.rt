@@ -13,7 +13,7 @@ use dcsctp_api::PpId;
 use dcsctp_receive_entries::entry_up_to;
 use std::collections::{BTreeMap, VecDeque};
 
-/// A part of a message, where it stands among the parts of its stream.
+/// A part of a message, at its place among the parts of its stream.
 #[derive(Drop)]
 pub struct Part {
     /// Parts of one message have places in a row.
@@ -71,7 +71,8 @@ pub fn holds(first: u128, run: &Run, place: u128) -> bool
     first <= place && place - first <= run.others.len() as u128
 }
 
-/// The last run that begins at this place or before it, and where. The last of all is found at once.
+/// The last run that begins at this place or before it, and where. The last of all is found without a search
+/// by key.
 pub fn run_up_to<'x>(runs: &'x BTreeMap<u128, Run>, place: u128) -> Option<(u128, &'x Run)>
     ensures run { lent_run result ≡ entry_before (count_up_to place runs.now.entries) (map run_of runs.now.entries) }
     ensures ordered { IsOrdered nat_cmp runs.now }
@@ -80,7 +81,7 @@ pub fn run_up_to<'x>(runs: &'x BTreeMap<u128, Run>, place: u128) -> Option<(u128
     Some((*first, run))
 }
 
-// How many bytes the payloads have together, and no more than a usize counts.
+// How many bytes the payloads have together, at most `usize::MAX`.
 fn size_of(payloads: &VecDeque<Vec<u8>>) -> usize
     ensures { result ≡ capped (payloads_bytes (map (λ payload. payload.items) payloads.now.items)) }
 {
@@ -91,14 +92,14 @@ fn size_of(payloads: &VecDeque<Vec<u8>>) -> usize
     size
 }
 
-/// How many bytes a run has, and no more than a usize counts.
+/// How many bytes a run has, at most `usize::MAX`.
 pub fn size_of_run(run: &Run) -> usize
     ensures { result ≡ capped (payloads_bytes (run_of (0, run.now)).payloads) }
 {
     run.payload.len().saturating_add(size_of(&run.others))
 }
 
-/// How many bytes the runs have, and no more than a usize counts.
+/// How many bytes the runs have, at most `usize::MAX`.
 pub fn size_of_runs(runs: &BTreeMap<u128, Run>) -> usize
     ensures { result ≡ capped (runs_bytes (map run_of runs.now.entries)) }
 {
@@ -130,7 +131,7 @@ impl Numbers for UpTo {
     }
 }
 
-// How many bytes the runs of the messages with these numbers have, and no more than a usize counts.
+// How many bytes the runs of the messages with these numbers have, at most `usize::MAX`.
 fn size_of_messages<N: Numbers>(runs: &BTreeMap<u128, Run>, numbers: &N) -> usize
     ensures { result ≡ capped (runs_bytes (filter (λ run. N.has numbers.now run.number) (map run_of runs.now.entries))) }
 {
@@ -143,7 +144,7 @@ fn size_of_messages<N: Numbers>(runs: &BTreeMap<u128, Run>, numbers: &N) -> usiz
     size
 }
 
-/// Drops the runs of the messages with these numbers, and answers how many bytes they had.
+/// Drops the runs of the messages with these numbers, and returns how many bytes they had.
 pub fn drop_messages<N: Numbers>(runs: &mut BTreeMap<u128, Run>, numbers: &N) -> usize
     ensures kept { map run_of runs.new.entries ≡ filter (λ run. not (N.has numbers.now run.number)) (map run_of runs.old.entries) }
     ensures size { result ≡ capped (runs_bytes (filter (λ run. N.has numbers.now run.number) (map run_of runs.old.entries))) }
@@ -163,7 +164,7 @@ fn first_begins_up_to(runs: &BTreeMap<u128, Run>, place: u128) -> bool
     }
 }
 
-/// Drops the runs in front that begin at this place or before it, and answers how many bytes they had.
+/// Drops the runs in front that begin at this place or before it, and returns how many bytes they had.
 pub fn drop_places(runs: &mut BTreeMap<u128, Run>, place: u128) -> usize
     ensures kept { map run_of runs.new.entries ≡ behind_place place (map run_of runs.old.entries) }
     ensures size { result ≡ capped (runs_bytes (up_to_place place (map run_of runs.old.entries))) }

@@ -1,4 +1,4 @@
-//! Messages that are skipped (RFC 3758, section 3.6; RFC 8260, section 2.3.1), and streams that begin anew
+//! Messages that are skipped (RFC 3758, section 3.6; RFC 8260, section 2.3.1), and streams that start anew
 //! (RFC 6525, section 5.2.2).
 
 ghost use Rattle.std.specs.Prelude.{◌≡◌, ◌==◌, ℕ, ◌+◌, ◌-◌, ◌<◌, ◌≤◌, ◌++◌, map, length, OnOk, OnErr, IsSome, if◌then◌else◌};
@@ -52,7 +52,7 @@ fn stream_of(entry: &SkippedTo) -> StreamId
     }
 }
 
-// Makes the streams that are named, where nothing came in on them yet.
+// Makes the streams that are named, if nothing was received on them yet.
 fn make_streams(
     alloc: Global,
     streams: &mut BTreeMap<u16, Stream>,
@@ -78,7 +78,7 @@ fn waiting_on(streams: &BTreeMap<u16, Stream>, id: StreamId) -> usize
     }
 }
 
-// How many messages wait on the streams that are named, and no more than a usize counts.
+// How many messages wait on the streams that are named, at most `usize::MAX`.
 fn room_for(streams: &BTreeMap<u16, Stream>, entries: &[SkippedTo]) -> usize
     ensures { result ≡ capped (room_for entries.now (λ id. stream_on id (map entry_of streams.now.entries))) }
 {
@@ -89,8 +89,8 @@ fn room_for(streams: &BTreeMap<u16, Stream>, entries: &[SkippedTo]) -> usize
     room
 }
 
-// Skips messages on their stream, which is there, and answers how many bytes are dropped. The other
-// streams stay. There is room for all that wait.
+// Skips messages on their stream, which exists, and returns how many bytes are dropped. The other streams are
+// unchanged. There is room for all that wait.
 fn skip_on(
     streams: &mut BTreeMap<u16, Stream>,
     entry: &SkippedTo,
@@ -109,8 +109,7 @@ fn skip_on(
     stream.skip(entry, ready)
 }
 
-// Forgets the stream, so that it begins anew, and answers how many bytes it had, and no more than a usize
-// counts.
+// Forgets the stream, so that it starts anew, and returns how many bytes it had, at most `usize::MAX`.
 fn forget_stream(streams: &mut BTreeMap<u16, Stream>, id: StreamId) -> usize
     ensures streams { (other : ℕ) → stream_on other (map entry_of streams.new.entries) ≡ (if id.0 == other then new_stream other else stream_on other (map entry_of streams.old.entries)) }
     ensures bytes { streams_bytes (map entry_of streams.new.entries) + stream_bytes (stream_on id.0 (map entry_of streams.old.entries)) ≡ streams_bytes (map entry_of streams.old.entries) }
@@ -122,7 +121,7 @@ fn forget_stream(streams: &mut BTreeMap<u16, Stream>, id: StreamId) -> usize
     }
 }
 
-// Forgets these streams, and answers how many bytes they had, and no more than a usize counts.
+// Forgets these streams, and returns how many bytes they had, at most `usize::MAX`.
 fn forget_each_stream(streams: &mut BTreeMap<u16, Stream>, ids: &[StreamId]) -> usize
     ensures streams { (other : ℕ) → stream_on other (map entry_of streams.new.entries) ≡ (if is_named (stream_numbers ids.now) other then new_stream other else stream_on other (map entry_of streams.old.entries)) }
     ensures bytes { streams_bytes (map entry_of streams.new.entries) ≤ streams_bytes (map entry_of streams.old.entries) }
@@ -135,7 +134,7 @@ fn forget_each_stream(streams: &mut BTreeMap<u16, Stream>, ids: &[StreamId]) -> 
     size
 }
 
-// Forgets all streams, and answers how many bytes they had, and no more than a usize counts.
+// Forgets all streams, and returns how many bytes they had, at most `usize::MAX`.
 fn forget_streams(streams: &mut BTreeMap<u16, Stream>) -> usize
     ensures streams { (other : ℕ) → stream_on other (map entry_of streams.new.entries) ≡ new_stream other }
     ensures bytes { streams_bytes (map entry_of streams.new.entries) ≡ 0 }
@@ -150,7 +149,7 @@ fn forget_streams(streams: &mut BTreeMap<u16, Stream>) -> usize
 }
 
 impl Incoming {
-    // Skips messages of one stream, which is there. There is room for all that wait on it.
+    // Skips messages of one stream, which exists. There is room for all that wait on it.
     fn skip(&mut self, entry: &SkippedTo)
         requires made { IsSome (get nat_cmp self.old.streams (skipped_stream entry.now)) }
         requires room { deque_len self.old.ready + length (stream_on (skipped_stream entry.now) (map entry_of self.old.streams.entries)).waiting ≤ deque_capacity self.old.ready }
@@ -163,7 +162,7 @@ impl Incoming {
         self.queued_bytes = self.queued_bytes.saturating_sub(dropped);
     }
 
-    // Skips messages of streams that are there. There is room for all that wait on them.
+    // Skips messages of streams that exist. There is room for all that wait on them.
     fn skip_all(&mut self, entries: &[SkippedTo])
         requires made { AllMade entries.now self.old.streams }
         requires room { deque_len self.old.ready + room_for entries.now (λ id. stream_on id (map entry_of self.old.streams.entries)) ≤ deque_capacity self.old.ready }
@@ -186,7 +185,7 @@ impl Incoming {
         self.queued_bytes = self.queued_bytes.saturating_sub(dropped);
     }
 
-    // Works a FORWARD TSN whose TSN has this number. There is room for all that wait on the streams that it
+    // Handles a FORWARD TSN whose TSN has this number. There is room for all that wait on the streams that it
     // names.
     fn move_on(&mut self, tsn_number: u64, entries: &[SkippedTo])
         requires made { AllMade entries.now self.old.streams }
@@ -202,8 +201,8 @@ impl Incoming {
         self.last_tsn_number = tsn_number;
     }
 
-    /// Works a FORWARD TSN or I-FORWARD-TSN that doesn't wait for the end of a deferred reset. All memory is
-    /// taken first: if there is none, all stays.
+    /// Handles a FORWARD TSN or I-FORWARD-TSN that doesn't wait for the end of a deferred reset. All memory
+    /// is allocated first: if that fails, nothing has changed.
     pub fn forward(&mut self, tsn: u32, entries: &[SkippedTo]) -> Result<(), AllocError>
         ensures ok { OnOk result (MovesOn tsn entries.now (incoming_of self.old) (incoming_of self.new)) }
         ensures bytes { Balances self.old self.new }
@@ -231,7 +230,8 @@ impl Incoming {
             .saturating_sub(forgotten);
     }
 
-    // Forgets these streams. However many they are, the parts of unordered messages are gone over once.
+    // Forgets these streams. The parts of unordered messages are visited once, however many streams there
+    // are.
     fn reset_each_stream(&mut self, streams: &[StreamId])
         ensures resets { ResetsEach (stream_numbers streams.now) (incoming_of self.old) (incoming_of self.new) }
         ensures bytes { Balances self.old self.new }
@@ -244,7 +244,7 @@ impl Incoming {
             .saturating_sub(forgotten);
     }
 
-    /// Forgets the streams that are named, so that they begin anew; an empty list names all.
+    /// Forgets the streams that are named, so that they start anew; an empty list names all.
     pub fn reset_streams(&mut self, streams: &[StreamId])
         ensures resets { ResetsStreams (stream_numbers streams.now) (incoming_of self.old) (incoming_of self.new) }
         ensures bytes { Balances self.old self.new }

@@ -28,7 +28,7 @@ pub struct Stream {
     /// The number of the ordered message that comes next.
     pub next: u64,
 
-    /// The number of the unordered message of which a part came in last.
+    /// The number of the unordered message of which a part was received last.
     pub last_unordered: u64,
 
     /// Whole ordered messages by their numbers. An earlier one is missing.
@@ -48,7 +48,7 @@ pub struct Waiting {
     pub payload: Vec<u8>,
 }
 
-/// What became of data that came in.
+/// What became of data that was received.
 #[derive(Clone, Copy)]
 pub struct Taken {
     /// How many of its bytes are kept.
@@ -82,8 +82,8 @@ pub fn part_of_data(chunk: Data, place: u128, number: u64) -> Part
     }
 }
 
-/// A part of an unordered message of this stream came in, or a whole one; the runs hold the parts of such
-/// messages. If there is no memory for it, what is ready stays.
+/// A part of an unordered message of this stream was received, or a whole one; the runs hold the parts of
+/// such messages. If an allocation fails, the ready messages are unchanged.
 pub fn take_unordered(
     alloc: Global,
     id: StreamId,
@@ -135,7 +135,7 @@ fn waits(waiting: &BTreeMap<u64, Waiting>, number: u64) -> bool
     waiting.contains_key(&number)
 }
 
-// How many bytes the messages have, and no more than a usize counts.
+// How many bytes the messages have, at most `usize::MAX`.
 fn size_of_waiting(waiting: &BTreeMap<u64, Waiting>) -> usize
     ensures { result ≡ capped (wholes_bytes (map waits_as waiting.now.entries)) }
 {
@@ -146,7 +146,7 @@ fn size_of_waiting(waiting: &BTreeMap<u64, Waiting>) -> usize
     size
 }
 
-// Takes a place for a message of this number, of which there is none.
+// Takes a place for a message of this number, for which there is none yet.
 fn hold_place(
     alloc: Global,
     waiting: &mut BTreeMap<u64, Waiting>,
@@ -174,7 +174,7 @@ fn fill_place(waiting: &mut BTreeMap<u64, Waiting>, whole: Whole)
     message.payload = whole.payload;
 }
 
-// Gives the place up that was taken for a message of this number.
+// Frees the place that was taken for a message of this number.
 fn leave_place(waiting: &mut BTreeMap<u64, Waiting>, number: u64)
     ensures { (before : List (ℕ × Waiting)) → HoldsPlace number before waiting.old.entries → waiting.new.entries ≡ before }
 {
@@ -182,7 +182,7 @@ fn leave_place(waiting: &mut BTreeMap<u64, Waiting>, number: u64)
 }
 
 impl Stream {
-    /// A stream on which nothing came in. It takes no memory.
+    /// A stream on which nothing was received. Allocates nothing.
     pub fn new(alloc: Global, id: StreamId) -> Stream
         ensures { stream_of result ≡ new_stream id.0 }
     {
@@ -196,9 +196,9 @@ impl Stream {
         }
     }
 
-    /// The messages that wait and are numbered below the next one become ready, and those that follow in a
-    /// row from that on; the next one is then the first that is missing. Answers how many they are. There
-    /// is room for all that wait.
+    /// Waiting messages that are numbered below the next one become ready, and those that follow in a row
+    /// from it on. The next one is then the first that is missing. Returns how many they are. There is room
+    /// for all that wait.
     pub fn deliver(&mut self, ready: &mut VecDeque<Message>) -> usize
         requires { deque_len ready.old + btree_map_len self.old.waiting ≤ deque_capacity ready.old }
         ensures stream { stream_of self.new ≡ delivered_from self.old.next (stream_of self.old) }
@@ -231,8 +231,8 @@ impl Stream {
         self.deliver(ready) + 1
     }
 
-    // A part of the next message came in, or all of it: a whole one becomes ready with those that waited for
-    // it.
+    // A part of the next message was received, or all of it: a whole one becomes ready with those that waited
+    // for it.
     #[inline(always)]
     fn take_next(
         &mut self,
@@ -259,8 +259,8 @@ impl Stream {
         }
     }
 
-    // A part of a message behind the next came in, or all of it: a whole one waits. A place for it is taken
-    // first, so that nothing fails once its parts are joined.
+    // A part of a message after the next was received, or all of it: a whole one waits. A place for it is
+    // taken first, so that nothing fails once its parts are joined.
     #[inline(never)]
     fn take_ahead(&mut self, alloc: Global, part: Part) -> Result<Taken, AllocError>
         requires ahead { self.old.next < part.number }
@@ -297,9 +297,9 @@ impl Stream {
         }
     }
 
-    /// A part of an ordered message came in, or a whole one. One of a message before the next is dropped. Where
-    /// a message of the same number waits already, this one becomes ready once it is whole. If there is no
-    /// memory for it, nothing that callers see changes.
+    /// A part of an ordered message was received, or a whole one. One of a message before the next is
+    /// dropped. If a message of the same number waits already, this one becomes ready once it is whole.
+    /// `Err`: an allocation failed, and nothing has changed.
     #[inline(always)]
     pub fn take_ordered(
         &mut self,
@@ -324,8 +324,8 @@ impl Stream {
         }
     }
 
-    /// A part of an unordered I-DATA message came in, or a whole one. If there is no memory for it, nothing
-    /// that callers see changes.
+    /// A part of an unordered I-DATA message was received, or a whole one. `Err`: an allocation failed, and
+    /// nothing has changed.
     pub fn take_unordered(
         &mut self,
         alloc: Global,
@@ -339,8 +339,8 @@ impl Stream {
         take_unordered(alloc, self.id, &mut self.unordered, part, ready)
     }
 
-    /// Takes data of this stream in, but for unordered DATA. If there is no memory for it, nothing that
-    /// callers see changes.
+    /// Adds data of this stream, except for unordered DATA. `Err`: an allocation failed, and nothing has
+    /// changed.
     pub fn take(
         &mut self,
         alloc: Global,
@@ -376,7 +376,7 @@ impl Stream {
         }
     }
 
-    /// Messages of this stream are skipped. Answers how many bytes are dropped. There is room for all that
+    /// Messages of this stream are skipped. Returns how many bytes are dropped. There is room for all that
     /// wait.
     pub fn skip(&mut self, entry: &SkippedTo, ready: &mut VecDeque<Message>) -> usize
         requires { deque_len ready.old + btree_map_len self.old.waiting ≤ deque_capacity ready.old }
@@ -409,9 +409,8 @@ impl Stream {
         }
     }
 
-    // The ordered messages up to this number are skipped: those that aren't whole are dropped, and the
-    // whole ones become ready with those that follow (RFC 3758, section 3.6). There is room for all that
-    // wait.
+    // The ordered messages up to this number are skipped. Those that aren't whole are dropped, and the whole
+    // ones become ready with those that follow (RFC 3758, section 3.6). There is room for all that wait.
     fn skip_ordered(&mut self, number: u64, ready: &mut VecDeque<Message>) -> usize
         requires { deque_len ready.old + btree_map_len self.old.waiting ≤ deque_capacity ready.old }
         ensures stream { stream_of self.new ≡ skipped_in_order number (stream_of self.old) }
@@ -425,8 +424,8 @@ impl Stream {
         dropped_bytes
     }
 
-    // The unordered messages up to this number are skipped: what is there of them is dropped (RFC 8260,
-    // section 2.3.1).
+    // The unordered messages up to this number are skipped: their parts are dropped (RFC 8260, section
+    // 2.3.1).
     fn skip_unordered(&mut self, number: u64) -> usize
         ensures stream { stream_of self.new ≡ skipped_out_of_order number (stream_of self.old) }
         ensures size { result ≡ capped (runs_bytes (runs_up_to number (map run_of self.old.unordered.entries))) }
@@ -435,7 +434,7 @@ impl Stream {
         drop_messages(&mut self.unordered, &UpTo(number))
     }
 
-    /// How many bytes of the stream are kept, and no more than a usize counts.
+    /// How many bytes of the stream are kept, at most `usize::MAX`.
     pub fn size(&self) -> usize
         ensures { result ≡ capped (stream_bytes (stream_of self.now)) }
     {

@@ -1,4 +1,4 @@
-//! What a test does to the reassembly queue and what it expects of it, as a table of steps.
+//! What a test does to the reassembly queue, and what it expects, as a table of steps.
 
 use crate::receiver::Receiver;
 use dcsctp_api::StreamId;
@@ -7,7 +7,7 @@ use dcsctp_testing::{Row, Takes, run_steps};
 use std::alloc::AllocGlobal;
 use std::process::Abort;
 
-/// Which part of its message a chunk bears: its flags B and E.
+/// Which part of its message a chunk carries: its flags B and E.
 #[derive(Clone, Copy)]
 pub enum Part {
     /// B alone.
@@ -26,10 +26,10 @@ pub enum Part {
 /// One step. The first step of a table is `Begins`.
 #[derive(Clone, Copy)]
 pub enum Step {
-    /// A new queue takes the place of the old one, with a receive window of so many bytes.
+    /// A new queue takes the place of the old one, with a receive window of that many bytes.
     Begins(usize),
 
-    /// A chunk comes in: its TSN and stream, which message it is of, which part of it, and its bytes.
+    /// A chunk is received: its TSN and stream, which message it is of, which part of it, and its bytes.
     Add(u32, u16, Numbering, Part, &'static str),
 
     /// A FORWARD-TSN of this TSN skips the ordered messages of stream 7 up to this number.
@@ -41,19 +41,19 @@ pub enum Step {
     /// The reset of these streams waits for the data up to this TSN. None named: all.
     Defers(u32, &'static [StreamId]),
 
-    /// These streams begin anew. None named: all.
+    /// These streams start anew. None named: all.
     Resets(&'static [StreamId]),
 
     /// The next message has these bytes.
     Gives(&'static str),
 
-    /// No message is ready, and so much is left of the window.
+    /// No message is ready, and that much is left of the window.
     Rests(usize),
 
-    /// So much is left of the window.
+    /// This many bytes are left of the window.
     Remains(usize),
 
-    /// So many messages became ready so far.
+    /// This many messages have become ready so far.
     Counts(u64),
 
     /// Is the window full, and are nine tenths of it in use?

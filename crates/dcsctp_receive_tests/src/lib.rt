@@ -1,5 +1,5 @@
-//! Tests of `dcsctp_receive_tracker` and `dcsctp_receive_reassembly` by their public calls. Their values were worked
-//! out by hand from the rules.
+//! Tests of `dcsctp_receive_tracker` and `dcsctp_receive_reassembly` by their public calls. Their values were
+//! computed by hand from the rules.
 #![tactic(auto)]
 
 #[cfg(test)]

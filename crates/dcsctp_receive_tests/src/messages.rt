@@ -54,7 +54,7 @@ fn stream_sequence_numbers_wrap(rt: HostRuntime) {
     run(&rt, STEPS);
 }
 
-// Messages of this kind, the last before the wrap and the first behind it.
+// Messages of this kind, the last before the wrap and the first after it.
 macro_rules! identifiers_wrap {
     ($is_unordered:literal, $kind:ident) => {
         &[
@@ -232,7 +232,8 @@ fn skipped_messages_make_way(rt: HostRuntime) {
 
 #[test]
 fn messages_far_ahead_wait(rt: HostRuntime) {
-    // Stream sequence numbers up to 65,535 behind the next one are read. Messages of one chunk have TSNs in a row.
+    // Stream sequence numbers up to 65,535 after the next one are read. Messages of one chunk have TSNs in a
+    // row.
     static STEPS: &[(&str, Step)] = &[
         ("DATA", Begins(100)),
         ("half", Add(32769, 7, Ordered { ssn: 32768 }, Whole, "half")),
@@ -325,7 +326,7 @@ fn a_number_that_comes_twice_loses_nothing(rt: HostRuntime) {
 
 #[test]
 fn parts_join_in_any_order(rt: HostRuntime) {
-    // A part goes between two runs, behind one, before one, and alone; the last makes the message whole.
+    // A part goes between two runs, after one, before one, and alone. The last makes the message whole.
     static STEPS: &[(&str, Step)] = &[
         ("second", Begins(100)),
         ("second", Add(2, 7, Ordered { ssn: 0 }, Middle, "b")),
@@ -347,7 +348,7 @@ fn parts_join_in_any_order(rt: HostRuntime) {
 
 #[test]
 fn a_skip_that_comes_again_skips_nothing(rt: HostRuntime) {
-    // Where a SACK is lost, a FORWARD-TSN names again what was skipped before.
+    // If a SACK is lost, a FORWARD-TSN names again what was skipped before.
     static STEPS: &[(&str, Step)] = &[
         ("waits", Begins(100)),
         ("waits", Add(3, 7, Ordered { ssn: 1 }, Whole, "waits")),

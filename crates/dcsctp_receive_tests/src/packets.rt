@@ -11,17 +11,17 @@ pub enum Step {
     /// A new tracker takes the place of the old one: its first TSN.
     Begins(u32),
 
-    /// The retransmission timeout is so many milliseconds.
+    /// The retransmission timeout is that many milliseconds.
     HasTimeout(u64),
 
-    /// Packets with data of these TSNs come in at the first moment: is each new? A TSN that isn't valid is
-    /// passed over.
+    /// Packets with data of these TSNs are received at the first moment: is each new? A TSN that isn't valid
+    /// is skipped.
     Receives(&'static [u32], bool),
 
-    /// Data of this TSN comes in, with the I flag or without it. Its packet goes on.
+    /// Data of this TSN is received, with the I flag or without it. Its packet goes on.
     Observes(u32, bool),
 
-    /// A FORWARD-TSN of this TSN comes in: does it move the cumulative TSN?
+    /// A FORWARD-TSN of this TSN is received: does it move the cumulative TSN?
     Skips(u32, bool),
 
     /// Is data of this TSN taken?
@@ -34,8 +34,8 @@ pub enum Step {
     /// came again.
     Acknowledges(u32, &'static [u8], usize),
 
-    /// The next SACK, of no window: its cumulative TSN, of how many bytes its gap ack blocks and the TSNs
-    /// that came again are, and the last byte of the second of these.
+    /// The next SACK, of no window: its cumulative TSN, and the sizes in bytes of its gap ack blocks and of
+    /// the TSNs that came again. Then the last byte of the second of these TSNs.
     HasSizes(u32, usize, usize, Option<u8>),
 
     /// Is a SACK sent now?

@@ -29,7 +29,7 @@ fn flags(part: Part) -> (bool, bool) {
     }
 }
 
-// The bytes of a message, where there is one.
+// The bytes of a message, if there is one.
 fn bytes_of(message: &Option<Message>) -> Option<&[u8]> {
     match message {
         None => None,
@@ -38,7 +38,7 @@ fn bytes_of(message: &Option<Message>) -> Option<&[u8]> {
 }
 
 impl Receiver {
-    /// A queue with a receive window of so many bytes.
+    /// A queue with a receive window of that many bytes.
     pub fn new(alloc: Global, window: usize) -> Receiver {
         Receiver {
             alloc,
@@ -46,7 +46,7 @@ impl Receiver {
         }
     }
 
-    /// Begins anew.
+    /// Replaces it with a new one.
     pub fn begin(&mut self, window: usize) {
         *self = Receiver::new(self.alloc, window);
     }
@@ -70,7 +70,7 @@ impl Receiver {
         })
     }
 
-    /// A chunk comes in.
+    /// A chunk is received.
     pub fn add(
         &mut self,
         row: &mut Row,
@@ -111,7 +111,7 @@ impl Receiver {
         row.done(self.queue.enter_deferred_reset(tsn, streams).is_ok());
     }
 
-    /// The streams begin anew; none named: all.
+    /// The streams start again from 0; none named: all.
     pub fn reset(&mut self, row: &mut Row, streams: &[StreamId]) {
         let is_done = self.queue.reset_streams_and_leave_deferred_reset(streams);
         row.done(is_done.is_ok());
@@ -123,18 +123,18 @@ impl Receiver {
         row.same(bytes_of(&message), Some(bytes.as_bytes()));
     }
 
-    /// No message is ready, and so much is left of the window.
+    /// No message is ready, and this many bytes are left of the window.
     pub fn rests(&self, row: &mut Row, remaining: usize) {
         row.same(self.queue.messages_ready_count(), 0);
         self.remains(row, remaining);
     }
 
-    /// So much is left of the window.
+    /// This many bytes are left of the window.
     pub fn remains(&self, row: &mut Row, remaining: usize) {
         row.same(self.queue.remaining_bytes(), remaining);
     }
 
-    /// So many messages became ready so far.
+    /// This many messages have become ready so far.
     pub fn counts(&self, row: &mut Row, messages: u64) {
         row.same(self.queue.rx_messages_count(), messages);
     }

@@ -22,7 +22,7 @@ impl Drop for Tracker {
     }
 }
 
-// The moment so many nanoseconds after the first.
+// The moment that many nanoseconds after the first.
 fn at(nanos: u64) -> SocketTime {
     SocketTime::zero() + Duration::from_nanos(nanos)
 }
@@ -36,17 +36,17 @@ impl Tracker {
         }
     }
 
-    /// Begins anew.
+    /// Replaces it with a new one.
     pub fn begin(&mut self, first: u32) {
         *self = Tracker::new(self.alloc, first);
     }
 
-    /// The retransmission timeout is so many milliseconds.
+    /// The retransmission timeout is that many milliseconds.
     pub fn has_timeout(&mut self, millis: u64) {
         self.received.update_rto(Duration::from_millis(millis));
     }
 
-    // Data of this TSN comes in; answers whether it is new. A TSN that isn't valid is passed over.
+    // Data of this TSN is received; returns whether it is new. A TSN that isn't valid is skipped.
     fn takes(&mut self, row: &mut Row, tsn: u32, immediate_ack: bool) -> bool {
         if !self.received.is_tsn_valid(tsn) {
             return false;
@@ -56,12 +56,12 @@ impl Tracker {
         is_new.unwrap_or(false)
     }
 
-    /// Data of this TSN comes in, with the I flag or without it.
+    /// Data of this TSN is received, with the I flag or without it.
     pub fn observe(&mut self, row: &mut Row, tsn: u32, immediate_ack: bool) {
         let _ = self.takes(row, tsn, immediate_ack);
     }
 
-    /// Packets with data of these TSNs come in at the first moment; asserts whether each is new.
+    /// Packets with data of these TSNs are received at the first moment; asserts whether each is new.
     pub fn receives(&mut self, row: &mut Row, tsns: &[u32], is_new: bool) {
         for tsn in tsns {
             let found = self.takes(row, *tsn, false);
@@ -103,7 +103,7 @@ impl Tracker {
         }
     }
 
-    /// Asserts how long the next SACK is: of how many bytes its gap ack blocks and its duplicates are, and
+    /// Asserts how long the next SACK is: the sizes in bytes of its gap ack blocks and its duplicates. Also
     /// the last byte of the second duplicate.
     pub fn has_sizes(&mut self, row: &mut Row, cumulative: u32, sizes: (usize, usize, Option<u8>)) {
         match self.received.create_selective_ack(0) {

@@ -1,4 +1,4 @@
--- Which TSNs came in, and when that is acknowledged (RFC 9260, sections 6.2 and 6.7; RFC 3758, section 3.6). Moments and
+-- Which TSNs were received, and when that is acknowledged (RFC 9260, sections 6.2 and 6.7; RFC 3758, section 3.6). Moments and
 -- durations are nanoseconds. TSNs are numbered without wrap: the number of a TSN modulo 2^32 is the TSN.
 use Rattle.std.specs.Prelude.{◌≡◌, ◌==◌, ℕ, ◌+◌, ◌-◌, ◌/◌, ◌%◌, ◌^◌, ◌≤◌, min, nat_le, nat_lt, Bool, true, false, not, ◌&&◌, ◌||◌, if◌then◌else◌, Option, None, Some, IfSome, IsSome, List, [], ◌∷◌, ◌++◌, length}
 use Rattle.std.specs.Int.{w16, to_be_bytes}
@@ -37,12 +37,12 @@ abbrev pub distance : ℕ → ℕ → ℕ
 distance cumulative tsn = (tsn + (2 ^ 32 - cumulative % 2 ^ 32)) % 2 ^ 32
 
 -- The number of a TSN by serial number arithmetic (RFC 9260, section 1.6): the nearest to the cumulative one. One half of the
--- TSNs is ahead of it, the other behind.
+-- TSNs is after it, the other before.
 abbrev pub number_of : ℕ → ℕ → ℕ
 number_of cumulative tsn =
     if nat_lt (distance cumulative tsn) (2 ^ 31) then cumulative + distance cumulative tsn else cumulative - (2 ^ 32 - distance cumulative tsn)
 
--- Are there numbers left? So many TSNs no association takes.
+-- Are there numbers left? No association uses that many TSNs.
 abbrev pub has_numbers_left : ℕ → Bool
 has_numbers_left cumulative = nat_lt cumulative (2 ^ 64 - 2 ^ 32)
 
@@ -129,20 +129,20 @@ new_tracker_model options peer_first_tsn =
       longest_delay = as_nanos options.delayed_ack_max_timeout;
     }
 
--- the duplicates with one more, where there is room
+-- the duplicates with one more, if there is room
 abbrev pub with_duplicate : ℕ → List ℕ → List ℕ
 with_duplicate tsn duplicates = if nat_lt (length duplicates) 20 then duplicates ++ tsn ∷ [] else duplicates
 
--- Is data to be acknowledged at once? So it is if it is the association's first, has the I flag, came before, or leaves a gap.
+-- Is data to be acknowledged at once? Yes if it is the association's first, has the I flag, came before, or leaves a gap.
 abbrev pub is_urgent : Bool → Bool → TrackerModel → TrackerModel → Bool
 is_urgent is_new immediate old new = not is_new || immediate || not old.has_seen_data || has_ranges new.ranges
 
--- Data with this TSN came in.
+-- Data with this TSN was received.
 pub record Observes (tsn : ℕ) (immediate : Bool) (old : TrackerModel) (is_new : Bool) (new : TrackerModel) : Type 0 where
   pub answer : is_new ≡ not (has_received old (number_of old.cumulative tsn))
   -- it is received from now on, and nothing else
   pub members : (other : ℕ) → has_received new other ≡ (has_received old other || (other == number_of old.cumulative tsn))
-  -- the first that is missing is the one behind the cumulative number
+  -- the first that is missing is the one after the cumulative number
   pub beyond : IsBeyond new.cumulative new.ranges
   pub duplicates : new.duplicates ≡ (if is_new then old.duplicates else with_duplicate tsn old.duplicates)
   pub acknowledgement : new.acknowledgement ≡ after_arrival old.acknowledgement (is_urgent is_new immediate old new)
@@ -164,12 +164,12 @@ pub record MovesForward (tsn : ℕ) (old new : TrackerModel) : Type 0 where
   pub seen : new.has_seen_data ≡ old.has_seen_data
   pub kept : new.longest_delay ≡ old.longest_delay
 
--- A FORWARD TSN came in: does it move the cumulative TSN?
+-- A FORWARD TSN was received: does it move the cumulative TSN?
 abbrev pub Forwards : ℕ → TrackerModel → Bool → TrackerModel → Type 0
 Forwards tsn old true new = (is_forward old.cumulative tsn ≡ true) × MovesForward tsn old new
 Forwards tsn old false new = (is_forward old.cumulative tsn ≡ false) × (new ≡ record old { acknowledgement = Immediate; delay = stopped old.delay })
 
--- a packet was worked whole
+-- a packet was fully handled
 abbrev pub delayed_from : ℕ → TrackerModel → AckState → TrackerModel
 delayed_from moment tracker Idle = tracker
 delayed_from moment tracker BecomingDelayed =
@@ -188,7 +188,7 @@ abbrev pub acknowledged : Bool → TrackerModel → TrackerModel
 acknowledged along tracker =
     if is_acknowledgement_due along tracker then record tracker { acknowledgement = Idle; delay = stopped tracker.delay } else tracker
 
--- A moment has come. A delay that is over doesn't begin again.
+-- A moment has come. A delay that is over doesn't start again.
 abbrev pub after_moment : ℕ → TrackerModel → TrackerModel
 after_moment moment tracker =
     if expires_at moment tracker.delay.running

@@ -1,4 +1,4 @@
--- Which TSNs came in (RFC 9260, section 6.2). TSNs are numbered without wrap: the number of a TSN modulo 2^32 is the TSN.
+-- Which TSNs were received (RFC 9260, section 6.2). TSNs are numbered without wrap: the number of a TSN modulo 2^32 is the TSN.
 use Rattle.std.specs.Prelude.{◌≡◌, ◌==◌, ℕ, ◌+◌, ◌<◌, ◌≤◌, nat_le, Bool, false, not, ◌&&◌, ◌||◌, List, [], ◌∷◌, ◌++◌, map, take, drop, suc, slice_get, Option, None, Some}
 use Rattle.std.specs.BTreeMap.{BTreeMap}
 use Rattle.dcsctp_receive_tracker.specs.declared.received.TsnRange.{TsnRange}
@@ -34,7 +34,7 @@ is_received cumulative number ranges = nat_le number cumulative || is_in number 
 abbrev pub Removes : ℕ → List (ℕ × ℕ) → List (ℕ × ℕ) → Type 0
 Removes key old new = (i last : ℕ) → slice_get old i ≡ Some (key, last) → new ≡ take i old ++ drop (suc i) old
 
--- A range is written that ends at the number. If another one begins right behind the number, the two become one.
+-- A range that ends at the number is written. If another one begins right after the number, the two become one.
 abbrev pub Joins : (ℕ → List (ℕ × ℕ)) → ℕ → Option TsnRange → List (ℕ × ℕ) → Type 0
 Joins written number None new = new ≡ written number
 Joins written number (Some next) new = Removes next.first (written next.last) new
@@ -50,7 +50,7 @@ pub record Advances (number : ℕ) (old : List TsnRange) (reached : ℕ) (new : 
   pub beyond : IsBeyond reached new
   pub members : (other : ℕ) → is_received reached other new ≡ is_received number other old
 
--- A number is received: is it new, and what is received then? Where it isn't new, nothing changes.
+-- A number is received: is it new, and what is received then? If it isn't new, nothing changes.
 pub record Receives (number cumulative : ℕ) (old : List TsnRange) (is_new : Bool) (reached : ℕ) (new : List TsnRange) : Type 0 where
   pub answer : is_new ≡ not (is_received cumulative number old)
   pub forward : cumulative ≤ reached

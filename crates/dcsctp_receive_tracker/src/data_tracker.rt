@@ -1,5 +1,5 @@
-//! Which TSNs came in, and when that is acknowledged (RFC 9260, sections 6.2 and 6.7). The association
-//! tells it each DATA chunk, each FORWARD TSN chunk, each end of a packet and each moment.
+//! Which TSNs were received, and when that is acknowledged (RFC 9260, sections 6.2 and 6.7). The association
+//! reports to it each DATA chunk, each FORWARD TSN chunk, each end of a packet and each moment.
 
 ghost use Rattle.std.specs.Prelude.{◌≡◌, ◌<◌, ◌-◌, ◌^◌, ◌≤◌, true, take, length, IfOk};
 ghost use Rattle.std.specs.List.{flat_map};
@@ -33,16 +33,16 @@ const MAX_GAP_ACK_BLOCKS: usize = 20;
 
 const MAX_DUPLICATE_TSNS: usize = 20;
 
-// Past this number of TSNs no TSN is taken any more. No association lives so long.
+// Past this number of TSNs no TSN is accepted any more. No association lives that long.
 const LAST_CUMULATIVE: u64 = 0xffff_fffe_ffff_ffff;
 
-/// When the data that came in is acknowledged.
+/// When the data that was received is acknowledged.
 #[derive(Clone, Copy, Debug, PartialEq, Eq)]
 pub enum AckState {
     /// All is acknowledged.
     Idle,
 
-    /// Data came in with the packet that is being worked; it may be acknowledged later.
+    /// Data was received with the packet that is being handled; it may be acknowledged later.
     BecomingDelayed,
 
     /// A packet with data waits to be acknowledged, and the timer runs.
@@ -160,10 +160,10 @@ impl SelectiveAck {
     }
 }
 
-/// The TSNs that came in from the peer, and when they are acknowledged.
+/// The TSNs that were received from the peer, and when they are acknowledged.
 ///
-/// A contract numbers the TSNs without wrap: the number of a TSN modulo 2^32 is the TSN, and the first
-/// that the association takes is numbered as itself.
+/// A contract numbers the TSNs without wrap: the number of a TSN modulo 2^32 is the TSN. The first TSN of the
+/// association is its own number.
 #[derive(Debug, Drop)]
 pub struct DataTracker {
     alloc: Global,
@@ -172,7 +172,7 @@ pub struct DataTracker {
     // What came again since the last SACK.
     duplicates: Vec<u32>,
 
-    // Did any data come in?
+    // Was any data received?
     has_seen_data: bool,
 
     acknowledgement: AckState,
@@ -220,9 +220,8 @@ impl DataTracker {
     };
     ghost use Rattle.dcsctp_send_timer.specs.Timer.{running_deadline, expires_at};
 
-    /// Nothing came in yet, and `peer_initial_tsn` is the TSN that is to come first. The one before it
-    /// counts as received (RFC 9260, section 6.2), which is 2^32 - 1 where the first is 0. It takes no
-    /// memory.
+    /// Nothing was received yet, and `peer_initial_tsn` is the TSN that is to come first. The one before it
+    /// counts as received (RFC 9260, section 6.2), which is 2^32 - 1 if the first is 0. Allocates nothing.
     pub fn new(alloc: Global, options: &Options, peer_initial_tsn: u32) -> DataTracker
         ensures whole { result ≡ new_tracker_model options.now peer_initial_tsn }
         ensures shown { tracker_state result ≡ new_tracker peer_initial_tsn }
@@ -255,9 +254,9 @@ impl DataTracker {
         (self.received.cumulative % 0x1_0000_0000) as u32
     }
 
-    /// May data with this TSN be taken? Not where it is more than 65,535 ahead of the cumulative TSN, since
-    /// no gap ack block could name it; one that is behind may, as a duplicate. Which of two TSNs is ahead
-    /// goes by serial number arithmetic (RFC 9260, section 1.6). After 2^64 - 2^32 TSNs none is taken.
+    /// Is data with this TSN accepted? Not if it is more than 65,535 ahead of the cumulative TSN, since no
+    /// gap ack block could name it. An older TSN is, as a duplicate. Serial number arithmetic decides which
+    /// of two TSNs is ahead (RFC 9260, section 1.6). After 2^64 - 2^32 TSNs none is accepted.
     pub fn is_tsn_valid(&self, tsn: u32) -> bool
         ensures { result ≡ is_valid_tsn self.now.cumulative tsn }
     {
@@ -265,13 +264,13 @@ impl DataTracker {
         cumulative <= LAST_CUMULATIVE && number_of(cumulative, tsn) <= cumulative + MAX_TSN_DISTANCE
     }
 
-    /// Takes the TSN of a DATA chunk in, and answers whether it is new (RFC 9260, section 6.2).
+    /// Adds the TSN of a DATA chunk, and returns whether it is new (RFC 9260, section 6.2).
     ///
-    /// It is acknowledged at once where it is the first of the association, or has the I flag, comes again,
-    /// or leaves a gap, and where another packet waits already (RFC 9260, sections 5.1, 6.2 and 6.7). A TSN
-    /// that comes again is told in the next SACK, unless that has 20 already.
+    /// It is acknowledged at once if it is the first of the association, has the I flag, comes again, or
+    /// leaves a gap. So it is if another packet waits already (RFC 9260, sections 5.1, 6.2 and 6.7). A TSN
+    /// that comes again is reported in the next SACK, unless that has 20 already.
     ///
-    /// If there is no memory for it, nothing changes.
+    /// `Err`: an allocation failed, and nothing has changed.
     pub fn observe(&mut self, tsn: u32, immediate_ack: bool) -> Result<bool, AllocError>
         requires { is_valid_tsn self.old.cumulative tsn ≡ true }
         ensures ok { IfOk result (λ is_new. Observes tsn immediate_ack self.old is_new self.new) }
@@ -292,8 +291,8 @@ impl DataTracker {
         Ok(is_new)
     }
 
-    /// Tells the tracker that a packet was worked whole. Data that came with it and needn't be acknowledged
-    /// at once is acknowledged after the delay (RFC 9260, section 6.2).
+    /// Call it once all of a packet was handled. Data that came with it and needn't be acknowledged at once
+    /// is acknowledged after the delay (RFC 9260, section 6.2).
     pub fn observe_packet_end(&mut self, now: SocketTime)
         ensures left { self.new ≡ after_packet_end now self.old }
         ensures runs { RunsWhereDelayed self.new.acknowledgement self.new.delay.running }
@@ -304,14 +303,14 @@ impl DataTracker {
         }
     }
 
-    /// Is a SACK due, whatever else goes out?
+    /// Is a SACK due, whatever else is sent?
     pub fn is_acknowledgement_due(&self) -> bool
         ensures { result ≡ (tracker_state self.now).is_acknowledgement_due }
     {
         is_due(self.acknowledgement, false)
     }
 
-    /// Did data come in that isn't acknowledged yet? Then a SACK may go along with other chunks (RFC 9260,
+    /// Was data received that isn't acknowledged yet? Then a SACK may go along with other chunks (RFC 9260,
     /// section 6.1).
     pub fn owes_acknowledgement(&self) -> bool
         ensures { result ≡ (tracker_state self.now).owes_acknowledgement }
@@ -319,8 +318,8 @@ impl DataTracker {
         is_due(self.acknowledgement, true)
     }
 
-    /// Is a SACK to be sent now? One that is delayed counts where other chunks go out that it can go along
-    /// with. Where the answer is yes, all counts as acknowledged.
+    /// Is a SACK to be sent now? A delayed one counts if other chunks are sent that it can go along with. If
+    /// the answer is yes, all counts as acknowledged.
     pub fn should_send_ack(&mut self, also_if_delayed: bool) -> bool
         ensures answer { result ≡ is_acknowledgement_due also_if_delayed self.old }
         ensures left { self.new ≡ acknowledged also_if_delayed self.old }
@@ -334,10 +333,10 @@ impl DataTracker {
     }
 
     /// What a SACK says now, with the receive window `a_rwnd`: at most 20 gap ack blocks, the lowest, and the
-    /// TSNs that came again, which are then forgotten (RFC 9260, section 6.2). Where there is neither, no
-    /// memory is taken.
+    /// TSNs that came again (RFC 9260, section 6.2). The latter are then forgotten. If there is neither,
+    /// nothing is allocated.
     ///
-    /// If there is no memory, nothing changes.
+    /// `Err`: an allocation failed, and nothing has changed.
     pub fn create_selective_ack(&mut self, a_rwnd: u32) -> Result<SelectiveAck, AllocError>
         ensures cumulative { IfOk result (λ sack. sack.cumulative_tsn_ack ≡ self.old.cumulative % 2 ^ 32) }
         ensures window { IfOk result (λ sack. sack.a_rwnd ≡ a_rwnd) }
@@ -358,9 +357,9 @@ impl DataTracker {
         })
     }
 
-    /// Works a FORWARD TSN chunk (RFC 3758, section 3.6): all up to `new_cumulative_tsn` count as received,
-    /// and it is acknowledged as data is. Where that isn't beyond the cumulative TSN, a SACK is due at once,
-    /// nothing else changes, and the answer is no.
+    /// Handles a FORWARD TSN chunk (RFC 3758, section 3.6): all up to `new_cumulative_tsn` count as received,
+    /// and it is acknowledged as data is. If that isn't beyond the cumulative TSN, a SACK is due at once,
+    /// nothing else changes, and the result is `false`.
     pub fn handle_forward_tsn(&mut self, new_cumulative_tsn: u32) -> bool
         ensures { Forwards new_cumulative_tsn self.old result self.new }
     {
@@ -377,8 +376,8 @@ impl DataTracker {
         true
     }
 
-    /// Tells the tracker that the moment `now` has come, and answers whether the delay is over, so that a
-    /// SACK is due. Before its deadline nothing changes.
+    /// Advances the delay to `now`, and returns whether it is over, so that a SACK is due. Before its
+    /// deadline nothing changes.
     pub fn handle_timeout(&mut self, now: SocketTime) -> bool
         ensures answer { result ≡ expires_at now self.old.delay.running }
         ensures left { self.new ≡ after_moment now self.old }
@@ -390,7 +389,7 @@ impl DataTracker {
         is_over
     }
 
-    /// When the delay is over; none where no acknowledgement is delayed.
+    /// When the delay is over; `None` if no acknowledgement is delayed.
     pub fn next_timeout(&self) -> Option<SocketTime>
         ensures { result ≡ running_deadline self.now.delay.running }
     {

@@ -1,4 +1,4 @@
-//! The data tracker of the transfer layer: which TSNs came in, and when that is acknowledged (RFC 9260,
+//! The data tracker of the transfer layer: which TSNs were received, and when that is acknowledged (RFC 9260,
 //! sections 6.2 and 6.7).
 #![tactic(auto)]
 

@@ -1,4 +1,4 @@
-//! The TSNs that came in beyond the first missing one, as ranges. They are numbered without wrap.
+//! The TSNs that were received beyond the first missing one, as ranges. They are numbered without wrap.
 
 ghost use Rattle.std.specs.Prelude.{
   ◌≡◌,
@@ -45,7 +45,7 @@ struct Neighbors {
     // The last range that begins at the number or before it.
     before: Option<TsnRange>,
 
-    // The range that begins right behind the number.
+    // The range that begins right after the number.
     behind: Option<TsnRange>,
 }
 
@@ -83,7 +83,7 @@ fn search_neighbors(ranges: &BTreeMap<u64, u64>, number: u64) -> Neighbors
     }
 }
 
-// The ranges around a number. Those of a number beyond all others are found at once.
+// The ranges around a number. Those of a number beyond all others are found without a search by key.
 fn find_neighbors(ranges: &BTreeMap<u64, u64>, number: u64) -> Neighbors
     ensures before { result.before ≡ option_map range_of (entry_before (count_up_to number ranges.now.entries) ranges.now.entries) }
     ensures behind { result.behind ≡ option_map (λ last. range_of (number + 1, last)) (get nat_cmp ranges.now (number + 1)) }
@@ -105,8 +105,8 @@ fn find_neighbors(ranges: &BTreeMap<u64, u64>, number: u64) -> Neighbors
     }
 }
 
-// Puts a number that touches no range before it. If a range begins right behind it, the two become one. All
-// memory is taken first.
+// Puts a number that touches no range before it. If a range begins right after it, the two become one. All
+// memory is allocated first.
 fn put(
     ranges: &mut BTreeMap<u64, u64>,
     number: u64,
@@ -134,8 +134,8 @@ fn set_last(ranges: &mut BTreeMap<u64, u64>, first: u64, last: u64)
     }
 }
 
-// The range that begins at `first` goes on to the number. If another one begins right behind the number,
-// the two become one.
+// The range that begins at `first` goes on to the number. If another one begins right after the number, the
+// two become one.
 fn extend(ranges: &mut BTreeMap<u64, u64>, first: u64, number: u64, behind: Option<TsnRange>)
     ensures { Joins (set_value (is_at (nat_cmp first)) ranges.old.entries) number behind ranges.new.entries }
 {
@@ -147,8 +147,8 @@ fn extend(ranges: &mut BTreeMap<u64, u64>, first: u64, number: u64, behind: Opti
     let _ = ranges.remove(&next.first);
 }
 
-/// All up to `number` count as received: answers the last number before the first that is missing, and
-/// leaves the ranges beyond that.
+/// All up to `number` count as received. Returns the last number before the first that is missing; the ranges
+/// beyond that are kept.
 pub fn advance(ranges: &mut BTreeMap<u64, u64>, number: u64) -> u64
     requires { IsSpaced (ranges_of ranges.old) }
     ensures { Advances number (ranges_of ranges.old) result (ranges_of ranges.new) }
@@ -164,7 +164,7 @@ pub fn advance(ranges: &mut BTreeMap<u64, u64>, number: u64) -> u64
     reached
 }
 
-/// Which TSNs came in, by their numbers: all up to the cumulative one, and ranges beyond that.
+/// Which TSNs were received, by their numbers: all up to the cumulative one, and ranges beyond that.
 #[derive(Debug, Drop)]
 pub struct Received {
     pub cumulative: u64,
@@ -174,8 +174,8 @@ pub struct Received {
 }
 
 impl Received {
-    // Adds a number that leaves a gap behind the cumulative one, and answers whether it is new. If there is
-    // no memory for it, nothing changes.
+    // Adds a number that leaves a gap after the cumulative one, and returns whether it is new. `Err`: an
+    // allocation failed, and nothing has changed.
     fn add(&mut self, number: u64) -> Result<bool, AllocError>
         requires beyond { self.old.cumulative + 1 < number }
         requires ordered { IsBeyond self.old.cumulative (ranges_of self.old.ranges) }
@@ -199,7 +199,7 @@ impl Received {
         Ok(true)
     }
 
-    /// Takes a number in, and answers whether it is new. If there is no memory for it, nothing changes.
+    /// Adds a number, and returns whether it is new. `Err`: an allocation failed, and nothing has changed.
     pub fn receive(&mut self, number: u64) -> Result<bool, AllocError>
         requires { IsBeyond self.old.cumulative (ranges_of self.old.ranges) }
         ensures ok { IfOk result (λ is_new. Receives number self.old.cumulative (ranges_of self.old.ranges) is_new self.new.cumulative (ranges_of self.new.ranges)) }

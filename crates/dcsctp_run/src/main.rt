@@ -1,7 +1,6 @@
-//! The program `dcsctp-run`: it reads a script from standard input, runs it on two sockets, and
-//! writes what comes of it to standard output. `dcsctp_script` says what a script is. The exit status
-//! is 0 where the script was run, 1 where reading or writing failed, 2 at a bad line, and 3 where
-//! memory was wanting.
+//! The program `dcsctp-run`: it reads a script from standard input, runs it on two sockets, and writes its
+//! result to standard output. `dcsctp_script` says what a script is. The exit status is 0 if the script was
+//! run, 1 if reading or writing failed, 2 at a bad line, and 3 if an allocation failed.
 #![tactic(auto)]
 
 use dcsctp_script::run_script;

@@ -27,7 +27,7 @@ last_line (BadLine number) = codes "line " ++ decimal number ++ codes ": bad\n"
 last_line OutOfMemory = codes "out of memory\n"
 last_line Broken = []
 
--- how a run fails by a read that fails so; it is the library that may lack memory for it
+-- how a run fails after a read with this error; out of memory is the library's error
 abbrev pub failure_of : ErrorKind → Failure
 failure_of kinds.OutOfMemory = OutOfMemory
 failure_of _ = Broken

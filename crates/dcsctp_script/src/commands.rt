@@ -14,7 +14,7 @@ use dcsctp_world::{Reply, World};
 use std::alloc::Global;
 use std::io::{self, BufRead, Write};
 
-// The next command; none at the end of the script. No other line may come.
+// The next command; `None` at the end of the script. No other line may come.
 fn next_command<R: BufRead>(
     alloc: Global,
     script: &mut Script<R>,
@@ -89,12 +89,10 @@ impl Run {
         }
     }
 
-    /// Does what this command says and those that follow in the script, and prints what comes of
-    /// each.
+    /// Does what this command says and those that follow in the script, and prints the result of each.
     ///
-    /// `BadLine` says that a line is no command; the lines before it were run. `OutOfMemory` says that
-    /// a growth was refused, the reader's own among them, and `Broken` that the reader failed in
-    /// another way, or the writer in any.
+    /// `BadLine`: a line isn't a command; the lines before it were run. `OutOfMemory`: an allocation failed,
+    /// perhaps the reader's. `Broken`: the reader failed in another way, or the writer failed.
     pub fn obey_all<R: BufRead, W: Write>(
         &mut self,
         alloc: Global,
@@ -112,7 +110,7 @@ impl Run {
         Ok(())
     }
 
-    // Does what a command says, and prints what comes of it.
+    // Does what a command says, and prints its result.
     fn obey<W: Write>(&mut self, command: Command, output: &mut W) -> Result<(), Failure> {
         self.act(command, output)?;
         written(self.print_events(output))
@@ -136,8 +134,8 @@ impl Run {
         }
     }
 
-    // Sends a message, without a protocol and in the default way, and prints what comes of it and why it is
-    // refused, where it is.
+    // Sends a message, without a protocol and in the default way, and prints its result and why it is
+    // refused, if it is.
     fn send<W: Write>(
         &mut self,
         side: Side,
@@ -155,7 +153,7 @@ impl Run {
         }
     }
 
-    // Resets streams, and prints what comes of it and why it is refused, where it is.
+    // Resets streams, and prints its result and why it is refused, if it is.
     fn reset<W: Write>(
         &mut self,
         side: Side,
@@ -190,7 +188,7 @@ impl Run {
         print_state(side, self.world.socket(side).state(), output)
     }
 
-    // Prints when this side wants to be told the time.
+    // Prints this side's next deadline.
     fn print_timeout<W: Write>(&self, side: Side, output: &mut W) -> io::Result<()> {
         print_timeout(side, self.world.socket(side).poll_timeout(), output)
     }

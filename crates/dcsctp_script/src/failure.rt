@@ -18,10 +18,10 @@ pub enum Status {
     /// The input could not be read, or the output not be written.
     Broken,
 
-    /// A line is no line of a script, or came at the wrong place.
+    /// A line isn't a line of a script, or came at the wrong place.
     BadLine,
 
-    /// A growth was refused.
+    /// An allocation failed.
     OutOfMemory,
 }
 
@@ -45,7 +45,7 @@ pub enum Failure {
     /// The line of this number, counted from 1, is bad.
     BadLine(u64),
 
-    /// A growth was refused.
+    /// An allocation failed.
     OutOfMemory,
 
     /// The input could not be read, or the output not be written.
@@ -81,7 +81,7 @@ impl<T: Drop> From<AllocFailed<T>> for Failure {
     }
 }
 
-// A socket fails for want of memory alone.
+// A socket only fails when an allocation failed.
 impl From<SocketFault> for Failure {
     ghost from_gives = { λ _ failure. failure ≡ OutOfMemory };
 
@@ -102,7 +102,7 @@ impl From<io::Error> for Failure {
     }
 }
 
-/// What comes of writing, for the run: an error of the writer, of whatever kind, is `Broken`.
+/// The result of writing, for the run: an error of the writer, of whatever kind, is `Broken`.
 pub fn written(outcome: io::Result<()>) -> Result<(), Failure>
     ensures ok { IsOk result ↔ IsOk outcome }
     ensures err { IfErr result (λ failure. failure ≡ Broken) }

@@ -17,7 +17,7 @@ use std::io::{self, BufRead, BufReader, BufWriter, Read, Write};
 /// - `Done`: every line was run, and all that it prints was written and flushed.
 /// - `BadLine`: a line is no line of a script, or comes at the wrong place. The lines before it were
 ///   run and printed, and then `line n: bad` with its number, counted from 1, empty lines too.
-/// - `OutOfMemory`: a growth was refused, or the reader failed with `io::ErrorKind::OutOfMemory`. The
+/// - `OutOfMemory`: an allocation failed, or the reader failed with `io::ErrorKind::OutOfMemory`. The
 ///   commands before were run and printed; of the one that met it nothing is printed, and the last
 ///   line is `out of memory`.
 /// - `Broken`: the reader failed in another way, and the commands before were run and printed; or the
@@ -34,7 +34,7 @@ pub fn run_script<R: Read, W: Write>(alloc: Global, reader: &mut R, writer: &mut
     }
 }
 
-// Runs the script, with a buffer at each end. What was printed goes out also where the run fails.
+// Runs the script, with a buffer at each end. What was printed is flushed even if the run fails.
 fn run_buffered<R: Read, W: Write>(
     alloc: Global,
     reader: &mut R,
@@ -47,12 +47,12 @@ fn run_buffered<R: Read, W: Write>(
     outcome
 }
 
-// Runs the lines of a script, and writes what comes of them.
+// Runs the lines of a script, and writes their result.
 //
-// `BadLine` says that a line is none, or that an option or words stand behind a command; the lines
-// before it were run. `OutOfMemory` says that a growth was refused, the reader's own among them; of
-// the command that met it nothing is written. `Broken` says that the reader failed in another way,
-// or the writer in any. What a failed writer has taken may end within a line.
+// `BadLine`: a line isn't one of a script, or an option or words come after a command; the lines before it
+// were run. `OutOfMemory`: an allocation failed, perhaps the reader's; nothing is written of that command.
+// `Broken`: the reader failed in another way, or the writer failed. What a failed writer has taken may end
+// within a line.
 fn run_lines<R: BufRead, W: Write>(
     alloc: Global,
     script: &mut Script<R>,

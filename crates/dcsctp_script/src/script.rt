@@ -28,10 +28,10 @@ impl<R: BufRead> Script<R> {
         }
     }
 
-    /// The next line that isn't empty, without its line feed; none at the end of the input.
+    /// The next line that isn't empty, without its line feed; `None` at the end of the input.
     ///
-    /// `BadLine` says that the line has a byte outside 32 to 126, `OutOfMemory` that there is no
-    /// memory for it, and `Broken` that the reader failed.
+    /// `BadLine`: the line has a byte outside 32 to 126. `OutOfMemory`: an allocation failed. `Broken`: the
+    /// reader failed.
     pub fn next_line(&mut self) -> Result<Option<&str>, Failure>
         ensures line { IfOk result (λ found. IfSome found (λ text. IsLine text.now)) }
     {

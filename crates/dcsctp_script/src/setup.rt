@@ -1,4 +1,4 @@
-//! What stands before the first command: the options and the words of the two sockets.
+//! What precedes the first command: the options and the words of the two sockets.
 
 ghost use Rattle.std.specs.Prelude.{◌≡◌, true, false};
 ghost use Rattle.dcsctp_machine.specs.Settings.{IsValid};
@@ -29,7 +29,7 @@ impl SocketSetup {
         }
     }
 
-    // Sets an option. False where that can't be, as the options would not be valid.
+    // Sets an option. False if that can't be, as the options would not be valid.
     fn set(&mut self, name: &str, value: &str) -> bool {
         let mut options = self.options;
         if !set_option(&mut options, name, value) || !options.is_valid() {
@@ -39,7 +39,7 @@ impl SocketSetup {
         true
     }
 
-    // Appends the words of a list. False where one is no word; those before it are appended.
+    // Appends the words of a list. False if one is no word; those before it are appended.
     fn append(&mut self, list: &str) -> Result<bool, AllocError> {
         for text in list.split(' ') {
             let Some(word) = number(text, u64::MAX) else {
@@ -69,12 +69,11 @@ impl Setup {
         }
     }
 
-    /// Reads on up to the first command; none where the script ends before.
+    /// Reads on up to the first command; none if the script ends before.
     ///
-    /// `BadLine` says that a line is no line of a script, that an option stands behind words, that
-    /// there is no such option or it may not have the value, or that a word is no number up to
-    /// 2^64 - 1. `OutOfMemory` says that there is no memory for a line, a word or bytes, and `Broken` that
-    /// the reader failed.
+    /// `BadLine`: a line isn't one of a script, or an option comes after words. So it is if there is no such
+    /// option, if it can't have the value, or if a word is no number up to 2^64 - 1. `OutOfMemory`: an
+    /// allocation failed. `Broken`: the reader failed.
     pub fn read<R: BufRead>(
         &mut self,
         alloc: Global,
@@ -97,14 +96,14 @@ impl Setup {
         Ok(None)
     }
 
-    /// The two sockets. The one error is `OutOfMemory`.
+    /// The two sockets. `Err`: an allocation failed.
     pub fn make_world(self, alloc: Global) -> Result<World<Words>, Failure> {
         let Setup { a, b, has_words: _ } = self;
         let (options_a, options_b) = (a.options, b.options);
         Ok(World::new(alloc, &options_a, &options_b, a.words, b.words)?)
     }
 
-    // Sets an option. No option is set behind words.
+    // Sets an option. No option is set after words.
     fn set(&mut self, side: Side, name: &str, value: &str) -> bool
         ensures first { self.old.has_words ≡ true → result ≡ false }
     {

@@ -34,7 +34,7 @@ impl Words {
         }
     }
 
-    /// Appends a word to the list. The one error is want of memory, and the list stays then.
+    /// Appends a word to the list. `Err`: an allocation failed, and the list is unchanged.
     pub fn append(&mut self, word: u64) -> Result<(), AllocError>
         ensures ok { OnOk result (self.new ≡ self.old ++ word ∷ []) }
         ensures err { OnErr result (self.new ≡ self.old) }

@@ -17,7 +17,7 @@ pub record WritesNone (digits : List ℕ) : Type 0 where
 abbrev pub WritesBytes : List ℕ → List ℕ → Type 0
 WritesBytes digits bytes = ((digits ≡ codes "-") × (bytes ≡ [])) ⊎ ((digits ≢ []) × (decode_of digits ≡ Ok bytes))
 
--- The bytes are read where digits write them. A growth may be refused.
+-- The bytes are read if digits write them; or an allocation failed.
 abbrev pub ReadsBytes : {E : Type 0} → List ℕ → Result (Option (Vec ℕ Global)) E → Type 0
 ReadsBytes digits (Ok None) = WritesNone digits
 ReadsBytes digits (Ok (Some bytes)) = WritesBytes digits bytes.items

@@ -8,7 +8,7 @@ use Rattle.std.specs.Str.Parse.{IsNumeral, digits_value, without_leading_sign, s
 abbrev pub HasPlus : List ℕ → Type 0
 HasPlus text = slice_index text 0 ≡ 43
 
--- The number is read where there are digits alone, and it is at most `most`.
+-- The number is read if there are digits alone, and it is at most `most`.
 abbrev pub ReadsNumber : List ℕ → ℕ → Option ℕ → Type 0
 ReadsNumber text most found =
     SomeIff found (IsNumeral 10 text × (digits_value 10 text ≤ most)) (digits_value 10 text)

@@ -5,8 +5,8 @@ ghost use Rattle.dcsctp_script_lines.specs.Bytes.{digits_in, ReadsBytes};
 
 use std::alloc::{AllocError, Global};
 
-/// The bytes that the digits write, or no bytes where `-` stands in place of them. None where the text
-/// has no digit, an odd number of them, or anything else but spaces. The one error is want of memory.
+/// The bytes that the digits write, or no bytes if the text is `-`. `None` if the text has no digit, an odd
+/// number of them, or anything else but spaces.
 pub fn bytes_of(alloc: Global, text: &str) -> Result<Option<Vec<u8>>, AllocError>
     ensures { ReadsBytes (digits_in text.now) result }
 {
@@ -24,7 +24,7 @@ pub fn bytes_of(alloc: Global, text: &str) -> Result<Option<Vec<u8>>, AllocError
     }
 }
 
-// The text without its spaces. The one error is want of memory.
+// The text without its spaces.
 fn without_spaces(alloc: Global, text: &str) -> Result<Vec<u8>, AllocError>
     ensures { IfOk result (λ digits. digits.items ≡ digits_in text.now) }
 {
@@ -35,7 +35,7 @@ fn without_spaces(alloc: Global, text: &str) -> Result<Vec<u8>, AllocError>
     Ok(digits)
 }
 
-// Keeps a byte that is no space. The one error is want of memory.
+// Keeps a byte that is no space.
 fn keep_digit(digits: &mut Vec<u8>, byte: &u8) -> Result<(), AllocError>
     ensures { IfOk result (λ done. digits.new.items ≡ digits.old.items ++ digits_in (byte.now ∷ [])) }
 {

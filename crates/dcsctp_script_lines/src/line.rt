@@ -41,10 +41,10 @@ pub enum Command {
     /// The state of this socket is printed.
     State(Side),
 
-    /// This socket is told that this moment has come.
+    /// This socket's clock is advanced to this moment.
     Time(Side, SocketTime),
 
-    /// The moment at which this socket wants to be told the time is printed.
+    /// This socket's next deadline is printed.
     Timeout(Side),
 }
 
@@ -63,9 +63,9 @@ pub enum Line<'a> {
 
 /// The line that a text is. Its second field always names a side.
 ///
-/// None where the keyword or the side is unknown, a field is missing or one too many, the number of a
-/// packet or of milliseconds isn't one up to 2^64 - 1, or bytes or streams aren't written as such. The name and the
-/// value of an option and a list of words are not looked at here. The one error is want of memory.
+/// `None` if the keyword or the side is unknown, or a field is missing or one too many. So it is if the
+/// number of a packet or of milliseconds isn't one up to 2^64 - 1, or if bytes or streams aren't written as
+/// such. The name and the value of an option and a list of words are not looked at here.
 pub fn parse_line(alloc: Global, text: &str) -> Result<Option<Line<'_>>, AllocError> {
     let Some((keyword, rest)) = text.split_once(' ') else {
         return Ok(None);
@@ -107,7 +107,7 @@ fn plain_line<'a>(keyword: &str, name: &str) -> Option<Line<'a>> {
     Some(Line::Command(command))
 }
 
-// A line whose side is followed by more. The one error is want of memory.
+// A line whose side is followed by more.
 fn line_with_rest<'a>(
     alloc: Global,
     keyword: &str,
@@ -122,7 +122,7 @@ fn line_with_rest<'a>(
     }
 }
 
-// A line that hands in these bytes. The one error is want of memory.
+// A line that hands in these bytes.
 fn input_line<'a>(alloc: Global, side: Side, text: &str) -> Result<Option<Line<'a>>, AllocError> {
     match bytes_of(alloc, text)? {
         Some(bytes) => Ok(Some(Line::Command(Command::Input(side, bytes)))),
@@ -130,7 +130,7 @@ fn input_line<'a>(alloc: Global, side: Side, text: &str) -> Result<Option<Line<'
     }
 }
 
-// A line that sends a message: its stream, and then its bytes. The one error is want of memory.
+// A line that sends a message: its stream, and then its bytes.
 fn send_line<'a>(alloc: Global, side: Side, rest: &str) -> Result<Option<Line<'a>>, AllocError> {
     let Some((stream, text)) = rest.split_once(' ') else {
         return Ok(None);
@@ -147,7 +147,7 @@ fn send_line<'a>(alloc: Global, side: Side, rest: &str) -> Result<Option<Line<'a
     }
 }
 
-// A line that resets streams, whose numbers are joined by commas. The one error is want of memory.
+// A line that resets streams, whose numbers are joined by commas.
 fn reset_line<'a>(alloc: Global, side: Side, text: &str) -> Result<Option<Line<'a>>, AllocError> {
     let mut stream_ids = Vec::new(alloc);
     for field in text.split(',') {
@@ -159,7 +159,7 @@ fn reset_line<'a>(alloc: Global, side: Side, text: &str) -> Result<Option<Line<'
     Ok(Some(Line::Command(Command::Reset(side, stream_ids))))
 }
 
-// Such a line, but for one with bytes or streams.
+// Such a line, except for one with bytes or streams.
 fn line_with_text<'a>(keyword: &str, side: Side, rest: &'a str) -> Option<Line<'a>> {
     match keyword {
         "opt" => {
@@ -179,7 +179,7 @@ fn line_with_text<'a>(keyword: &str, side: Side, rest: &'a str) -> Option<Line<'
     }
 }
 
-// The moment so many milliseconds after the making of the sockets.
+// The moment that many milliseconds after the making of the sockets.
 fn moment_at(millis: u64) -> SocketTime
     ensures { result ≡ millis * 1_000_000 }
 {

@@ -3,8 +3,8 @@
 ghost use Rattle.std.specs.Prelude.{◌↔◌, IsTrue};
 ghost use Rattle.dcsctp_script_lines.specs.Number.{HasPlus, ReadsNumber, ReadsSignedNumber, ReadsLimit};
 
-/// The number that the digits write. None where the text isn't digits alone, has none, or writes
-/// a number above `most`.
+/// The number that the digits write. `None` if the text isn't digits alone, has none, or writes a number
+/// above `most`.
 pub fn number(text: &str, most: u64) -> Option<u64>
     ensures { ReadsNumber text.now most result }
 {
@@ -17,8 +17,8 @@ pub fn number(text: &str, most: u64) -> Option<u64>
     }
 }
 
-/// The number that the digits write, which may have a minus in front. None where the text is
-/// anything else, or the number isn't one of 32 bits.
+/// The number that the digits write, which may have a minus in front. `None` if the text is anything else, or
+/// the number isn't one of 32 bits.
 pub fn signed_number(text: &str) -> Option<i32>
     ensures { ReadsSignedNumber text.now result }
 {
@@ -28,7 +28,7 @@ pub fn signed_number(text: &str) -> Option<i32>
     text.parse::<i32>().ok()
 }
 
-/// A number up to `most`, or no limit where the text is `none`. None where it is neither.
+/// A number up to `most`, or no limit if the text is `none`. `None` if it is neither.
 pub fn limit(text: &str, most: u64) -> Option<Option<u64>>
     ensures { ReadsLimit text.now most result }
 {

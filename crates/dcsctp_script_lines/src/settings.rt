@@ -1,7 +1,7 @@
 //! The options that a script can set, by name and value.
 //!
-//! A value is a number within the range of its field, `true` or `false`, or `none` where a field
-//! may have no value; a time is a number of milliseconds.
+//! A value is a number within the range of its field, `true` or `false`, or `none` if a field may have no
+//! value; a time is a number of milliseconds.
 
 ghost use Rattle.std.specs.Prelude.{◌≡◌};
 ghost use Rattle.std.specs.Bool.{OnFalse};
@@ -10,8 +10,8 @@ use crate::numbers::{limit, number, signed_number};
 use dcsctp_machine::{Options, ZeroChecksumAlternateErrorDetectionMethod};
 use std::time::Duration;
 
-/// Sets the option of this name to this value. False, and nothing is set, where there is no such
-/// option or the value isn't one of its type. Whether the options are valid then isn't looked at.
+/// Sets the option of this name to this value. False, and nothing is set, if there is no such option or the
+/// value isn't one of its type. Whether the options are valid then isn't looked at.
 pub fn set_option(options: &mut Options, name: &str, value: &str) -> bool
     ensures refused { OnFalse result (options.new ≡ options.old) }
 {

@@ -5,10 +5,10 @@ use dcsctp_api::{Message, ResetStreamsError, SendError};
 use dcsctp_machine::Side;
 use std::io::{self, Write};
 
-/// Prints the message that a side took: its stream, its protocol and its bytes in hexadecimal digits; or that
-/// there was none.
+/// Prints the message that a side took, or that there was none: its stream, its protocol and its bytes in
+/// hexadecimal digits.
 ///
-/// The one error is the writer's, which may have taken a part of the line then.
+/// `Err`: the writer failed, and may have taken a part of the line.
 pub fn print_taken<W: Write>(
     side: Side,
     message: Option<&Message>,
@@ -34,7 +34,7 @@ fn print_bytes<W: Write>(bytes: &[u8], output: &mut W) -> io::Result<()> {
 
 /// Prints why a side refused a message, by the number of the reason.
 ///
-/// The one error is the writer's, which may have taken a part of the line then.
+/// `Err`: the writer failed, and may have taken a part of the line.
 pub fn print_refusal<W: Write>(side: Side, error: &SendError, output: &mut W) -> io::Result<()> {
     let name = side_name(side);
     let number = match error {
@@ -48,7 +48,7 @@ pub fn print_refusal<W: Write>(side: Side, error: &SendError, output: &mut W) ->
 
 /// Prints why a side reset no stream, by the number of the reason.
 ///
-/// The one error is the writer's, which may have taken a part of the line then.
+/// `Err`: the writer failed, and may have taken a part of the line.
 pub fn print_reset_refusal<W: Write>(
     side: Side,
     error: &ResetStreamsError,

@@ -10,10 +10,10 @@ const COMMON_HEADER: usize = 12;
 
 const CHUNK_HEADER: usize = 4;
 
-/// Prints the packet of this number of a side, on a line: its header tag in 8 hexadecimal digits
-/// and the names of its chunks; one too short for a header has neither.
+/// Prints the packet of this number of a side, on a line: its header tag in 8 hexadecimal digits and the
+/// names of its chunks. A packet too short for a header has neither.
 ///
-/// The one error is the writer's, which may have taken a part of the line then.
+/// `Err`: the writer failed, and may have taken a part of the line.
 pub fn print_packet<W: Write>(
     side: &str,
     number: u64,
@@ -45,7 +45,7 @@ fn print_chunks<W: Write>(chunks: &[u8], output: &mut W) -> io::Result<()> {
     Ok(())
 }
 
-// What stands behind the first chunk and its padding.
+// What follows the first chunk and its padding.
 fn behind_chunk(chunks: &[u8]) -> &[u8]
     requires { 4 ≤ length chunks.now }
 {

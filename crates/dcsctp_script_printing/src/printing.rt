@@ -15,7 +15,7 @@ pub fn side_name(side: Side) -> &'static str {
 
 /// Prints an event of a side on a line; a packet under this number.
 ///
-/// The one error is the writer's, which may have taken a part of the line then.
+/// `Err`: the writer failed, and may have taken a part of the line.
 pub fn print_event<W: Write>(
     side: Side,
     number: u64,
@@ -68,8 +68,7 @@ fn print_message<W: Write>(
     writeln!(output, "{side} {what} {id}")
 }
 
-// Prints a kind of error, and its text where it isn't empty. A character below 32 is printed as a
-// dot.
+// Prints a kind of error, and its text if it isn't empty. A character below 32 is printed as a dot.
 fn print_error<W: Write>(
     side: &str,
     what: &str,

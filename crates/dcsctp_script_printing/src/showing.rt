@@ -10,7 +10,7 @@ use std::io::{self, Write};
 
 /// Prints the state of a socket, on a line.
 ///
-/// The one error is the writer's, which may have taken a part of the line then.
+/// `Err`: the writer failed, and may have taken a part of the line.
 pub fn print_state<W: Write>(side: Side, state: SocketState, output: &mut W) -> io::Result<()> {
     let name = side_name(side);
     let state = match state {
@@ -22,10 +22,9 @@ pub fn print_state<W: Write>(side: Side, state: SocketState, output: &mut W) -> 
     writeln!(output, "{name} {state}")
 }
 
-/// Prints the moment at which a socket wants to be told the time, on a line: in nanoseconds after its
-/// making, or `never`.
+/// Prints the next deadline of a socket, on a line: in nanoseconds after its making, or `never`.
 ///
-/// The one error is the writer's, which may have taken a part of the line then.
+/// `Err`: the writer failed, and may have taken a part of the line.
 pub fn print_timeout<W: Write>(side: Side, moment: SocketTime, output: &mut W) -> io::Result<()> {
     let name = side_name(side);
     if moment == SocketTime::infinite_future() {
@@ -35,10 +34,10 @@ pub fn print_timeout<W: Write>(side: Side, moment: SocketTime, output: &mut W) -
     writeln!(output, "{name} timeout {nanos}")
 }
 
-/// Prints an association on a line: its phase, the own pair, and the rest where a peer is known;
-/// none as `no association`.
+/// Prints an association on a line: its phase, its own pair, and the rest if the peer is known. Without an
+/// association it prints `no association`.
 ///
-/// The one error is the writer's, which may have taken a part of the line then.
+/// `Err`: the writer failed, and may have taken a part of the line.
 pub fn print_association<W: Write>(
     side: Side,
     association: Option<Association>,
@@ -100,7 +99,7 @@ fn print_limits<W: Write>(capabilities: &Capabilities, output: &mut W) -> io::Re
     write!(output, " {method} {incoming} {outgoing}")
 }
 
-// Prints the requests to reset streams: the own ones, and the peer's last with its answer.
+// Prints the requests to reset streams: its own ones, and the peer's last with its answer.
 fn print_requests<W: Write>(held: &Held, output: &mut W) -> io::Result<()> {
     print_own_requests(held.own_next, held.own_outstanding, output)?;
     let last = held.peer_last;
@@ -108,7 +107,7 @@ fn print_requests<W: Write>(held: &Held, output: &mut W) -> io::Result<()> {
     write!(output, " last {last} {code}")
 }
 
-// Prints the number of the next own request, and of the one that is under way.
+// Prints the number of its next request, and of the one that is under way.
 fn print_own_requests<W: Write>(
     next: u32,
     outstanding: Option<u32>,

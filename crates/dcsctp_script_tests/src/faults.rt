@@ -1,4 +1,4 @@
-//! A reader and a writer that fail, also for want of memory.
+//! A reader and a writer that fail, also with out of memory.
 
 use crate::checks::{holds, same};
 use dcsctp_script::run_script;
@@ -6,7 +6,7 @@ use std::alloc::Global;
 use std::io::{self, Read, Write};
 use std::process::Abort;
 
-// A reader that gives two lines and the front of a third, and then fails so.
+// A reader that gives two lines and the front of a third, and then fails with this error.
 #[derive(Drop)]
 struct FailingReader {
     kind: io::ErrorKind,
@@ -24,7 +24,7 @@ impl Read for FailingReader {
     }
 }
 
-// A writer that takes one byte, then fails so this many times, and then takes all.
+// A writer that takes one byte, then fails with this error this many times, and then takes all.
 #[derive(Drop)]
 struct FailingWriter {
     taken: Vec<u8>,
@@ -49,7 +49,8 @@ impl Write for FailingWriter {
     }
 }
 
-// Runs a script whose reading fails so: these lines have to be printed, and this to be the status.
+// Runs a script whose reading fails with this error: these lines have to be printed, and this to be the
+// status.
 fn breaks_reading(rt: &impl Abort, alloc: Global, kind: io::ErrorKind, lines: &str, code: u8) {
     let mut reader = FailingReader {
         kind,
@@ -82,8 +83,8 @@ fn a_failed_read_ends_the_run(rt: HostRuntime) {
     }
 }
 
-// A script of one line, which stands there so often and prints one answer each time, and how its writes
-// fail: so and so often.
+// A script that is one line, repeated that often, which prints one answer each time. Its writes fail with
+// this error, that often.
 struct Writes {
     name: &'static str,
     line: &'static str,
@@ -93,7 +94,7 @@ struct Writes {
     failures: u32,
 }
 
-// Runs the script: the run has to end, and what was taken to be a front part of as many answers.
+// Runs the script: the run has to end, and what was taken to be the first part of as many answers.
 fn breaks_writing(rt: &impl Abort, alloc: Global, writes: &Writes) {
     let script = writes
         .line

@@ -1,6 +1,6 @@
-//! Tests of `dcsctp_script` by its public calls, for what no text shows: letters that no script has, readers
-//! and writers that fail, events that no script brings about, options that nothing printed depends on. All
-//! other scripts are cases of the program (crates/dcsctp_run/cases).
+//! Tests of `dcsctp_script` by its public calls, for what no text shows. These are letters that no script
+//! has, failing readers and writers, events that no script causes, and options that nothing printed depends
+//! on. All other scripts are cases of the program (crates/dcsctp_run/cases).
 #![tactic(auto)]
 
 #[cfg(test)]

@@ -127,7 +127,7 @@ static FLAGS: [(&str, &str); 5] = [
     ("enable_handover_with_outstanding_data", "true"),
 ];
 
-// Clears this flag where all are set: they have to be so then.
+// Clears this flag if all are set: they have to be so then.
 fn clears(rt: &impl Abort, name: &str, expected: [bool; 5]) {
     let mut options = options_with(rt, &FLAGS);
     holds(rt, name, set_option(&mut options, name, "false"));

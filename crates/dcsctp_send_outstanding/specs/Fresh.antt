@@ -1,15 +1,15 @@
--- Chunks that go out for the first time: their TSNs follow each other (RFC 9260, section 6.1).
+-- Chunks that are sent for the first time: their TSNs follow each other (RFC 9260, section 6.1).
 use Rattle.std.specs.Prelude.{◌≡◌, ℕ, zero, suc, ◌+◌, ◌%◌, ◌^◌, ◌<◌, ◌≤◌, List, [], ◌∷◌, ◌++◌, length, vec_len}
 use Rattle.dcsctp_send_outstanding.specs.declared.item.Item.{Item}
 use Rattle.dcsctp_send_outstanding.specs.Items.{marked_items}
 use Rattle.dcsctp_send_outstanding.specs.Outstanding.{OutstandingModel, just_sent}
 
--- the TSNs of so many places from this one on
+-- the TSNs of that many places from this one on
 abbrev pub tsns_from : ℕ → ℕ → ℕ → List ℕ
 tsns_from first place zero = []
 tsns_from first place (suc count) = ((first + place) % 2 ^ 32) ∷ tsns_from first (suc place) count
 
--- It goes out for the first time at this moment, with one byte at least.
+-- It is sent for the first time at this moment, with one byte at least.
 pub record IsFresh (now : ℕ) (item : Item) : Type 0 where
   pub progress : item.progress ≡ just_sent
   pub sent_at : item.sent_at ≡ now
@@ -20,15 +20,15 @@ abbrev pub AllFresh : ℕ → List Item → Type 0
 AllFresh now [] = Unit {0}
 AllFresh now (item ∷ items) = IsFresh now item × AllFresh now items
 
--- Such items come behind the others, and their TSNs behind those in a packet.
+-- Such items come after the others, and their TSNs after those in a packet.
 pub record SendsFresh (now : ℕ) (old new : OutstandingModel) (before after : List ℕ) : Type 0 where
   pub fresh : List Item
   pub each : AllFresh now fresh
   pub grows : new ≡ record old { items = old.items ++ fresh }
   pub tsns : after ≡ before ++ tsns_from old.first_tsn (length old.items) (length fresh)
 
--- The last TSNs of a packet are those of new items, without a gap up to the last one. Before them stand at most as many as
--- waited to be sent again.
+-- The last TSNs of a packet are those of new items, without a gap up to the last one. Before them are at most as many as waited
+-- to be sent again.
 pub record EndsFresh (now : ℕ) (old new : OutstandingModel) (tsns : List ℕ) : Type 0 where
   pub kept : OutstandingModel
   pub again : List ℕ

@@ -4,7 +4,7 @@ use Rattle.dcsctp_send_outstanding.specs.declared.item.Item.{Item}
 use Rattle.dcsctp_send_outstanding.specs.declared.progress.Change.{Change}
 use Rattle.dcsctp_send_outstanding.specs.Progress.{is_in_flight, is_marked, is_unacknowledged, is_abandoned, changed}
 
--- the number where the test holds, else nothing
+-- the number if the test holds, else nothing
 abbrev pub counted : Bool → ℕ → ℕ
 counted test number = if test then number else 0
 
@@ -70,7 +70,7 @@ changed_between change (suc start) (suc end) (item ∷ items) = item ∷ changed
 abbrev pub cursor_after : Bool → ℕ → ℕ → ℕ
 cursor_after is_marked place cursor = if is_marked then min cursor place else cursor
 
--- Was the message of the first item given up?
+-- Was the message of the first item abandoned?
 abbrev pub is_first_abandoned : List Item → Bool
 is_first_abandoned [] = false
 is_first_abandoned (item ∷ items) = is_abandoned item.progress.state

@@ -29,7 +29,7 @@ pub record EndsMessage (place end : ℕ) (items : List Item) : Type 0 where
   pub other : (item own : Item) → slice_get items end ≡ Some item → slice_get items place ≡ Some own
       → (item.fragment.message_id ≡ own.fragment.message_id → ⊥)
 
--- The items round this place that bear the same message: from `start` to before `end`.
+-- The items round this place that carry the same message: from `start` to before `end`.
 abbrev pub IsMessage : ℕ → ℕ → ℕ → List Item → Type 0
 IsMessage place start end items = StartsMessage place start items × EndsMessage place end items
 
@@ -57,8 +57,8 @@ abbrev pub EndsDropped : ℕ → Bool → Item → OutstandingModel → Outstand
 EndsDropped now begins last old new true = AddsEndOf now begins last old new
 EndsDropped now begins last old new false = new ≡ old
 
--- What waits of the message in the send queue is dropped. Where the flag is set, streams were reset since the last item was added: the
--- end of the message lies behind the reset.
+-- What waits of the message in the send queue is dropped. If the flag is set, streams were reset since the last item was added:
+-- the end of the message lies after the reset.
 pub record DropsRest (now : ℕ) (begins : Bool) (last : Item) (old : OutstandingModel) (waiting : Backlog) (told : List (Event (List ℕ))) (new : OutstandingModel) (left : Backlog) (telling : List (Event (List ℕ))) : Type 0 where
   pub is_dropped : Bool
   pub drops : DiscardsNamed waiting last.fragment.stream_id.0 last.fragment.message_id told is_dropped left telling

@@ -4,8 +4,8 @@ use Rattle.dcsctp_wire.specs.declared.chunk.sack.GapAckBlock.{GapAckBlock}
 use Rattle.dcsctp_send_outstanding.specs.declared.item.Item.{Item}
 use Rattle.dcsctp_send_outstanding.specs.Reports.{Names, IsNewlyAcknowledged}
 
--- The item at this place shows that those before it are missing, where they are still in flight: one that is newly
--- acknowledged does; in fast recovery, once the cumulative TSN moves, any that a block names.
+-- The item at this place shows that those before it are missing, if they are still in flight. A newly acknowledged item does. In
+-- fast recovery, once the cumulative TSN moves, any item does that a block names.
 abbrev pub Shows : Bool → ℕ → List GapAckBlock → ℕ → Item → Type 0
 Shows false count blocks place item = IsNewlyAcknowledged count blocks place item
 Shows true count blocks place item = Names count blocks place

@@ -1,4 +1,4 @@
--- Which item comes next, and where none can.
+-- Which item comes next, and when none can.
 use Rattle.std.specs.Prelude.{◌≡◌, ℕ, None, List, []}
 use Rattle.dcsctp_send_queue.specs.declared.backlog.Backlog.{Backlog}
 use Rattle.dcsctp_send_streams.specs.Ranking.{turns_of}
@@ -10,7 +10,7 @@ pub record IsNextMarked (place : ℕ) (items : List Item) : Type 0 where
   pub marked : IsMarkedAt place items
   pub first : NoneMarkedBefore place items
 
--- No message is under way, and none can be begun.
+-- No message is under way, and none can be started.
 pub record HasNone (waiting : Backlog) : Type 0 where
   pub idle : waiting.under_way ≡ None
   pub none_left : turns_of waiting.streams ≡ []

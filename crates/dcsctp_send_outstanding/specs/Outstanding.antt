@@ -19,7 +19,7 @@ pub record OutstandingModel : Type 0 where
   pub header : ℕ
   pub items : List Item
 
--- the TSN so many places behind the first
+-- the TSN that many places after the first
 abbrev pub tsn_at : OutstandingModel → ℕ → ℕ
 tsn_at outstanding place = (outstanding.first_tsn + place) % 2 ^ 32
 
@@ -27,7 +27,7 @@ tsn_at outstanding place = (outstanding.first_tsn + place) % 2 ^ 32
 abbrev pub next_tsn : OutstandingModel → ℕ
 next_tsn outstanding = tsn_at outstanding (length outstanding.items)
 
--- how far a TSN is behind the first
+-- how far a TSN is after the first
 abbrev pub distance_to : OutstandingModel → ℕ → ℕ
 distance_to outstanding tsn = (tsn + (2 ^ 32 - outstanding.first_tsn)) % 2 ^ 32
 
@@ -43,8 +43,8 @@ acknowledged_by outstanding cumulative = distance_to outstanding ((cumulative + 
 abbrev pub was_sent : OutstandingModel → ℕ → Type 0
 was_sent outstanding cumulative = acknowledged_by outstanding cumulative ≤ length outstanding.items
 
--- the items with those acknowledged that the blocks name, from the place `count` on, which is the first TSN behind the
--- cumulative one
+-- the items with those acknowledged that the blocks name, from the place `count` on, which is the first TSN after the cumulative
+-- one
 abbrev pub reported : ℕ → List GapAckBlock → List Item → List Item
 reported count [] items = items
 reported count (block ∷ blocks) items =

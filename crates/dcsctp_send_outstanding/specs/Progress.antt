@@ -32,7 +32,7 @@ is_abandoned Marked = false
 is_abandoned Acknowledged = false
 is_abandoned Abandoned = true
 
--- in flight, once more, before the TSN that goes out next for the first time; its misses count anew
+-- in flight, once more, before the TSN that is sent next for the first time; its misses count anew
 abbrev pub sent_again : ℕ → Progress → Progress
 sent_again next progress =
     record progress {
@@ -42,13 +42,13 @@ sent_again next progress =
       misses = 0;
     }
 
--- Has the TSN come to the other one? It has where it is at most 2^31 - 1 ahead of it (RFC 9260, section 1.6).
+-- Has the TSN reached the other one? It has if it is at most 2^31 - 1 ahead of it (RFC 9260, section 1.6).
 abbrev pub has_come_to : ℕ → ℕ → Bool
 has_come_to newest tsn = nat_lt ((newest + (2 ^ 32 - tsn)) % 2 ^ 32) (2 ^ 31)
 
--- Does a SACK tell whether an item is missing, by the TSN before which it was sent again and the newest one that the SACK
--- acknowledges and none before did? Of an item that was sent once each SACK tells. Of one that was sent again only one tells that
--- acknowledges what went out behind it, since others may have left before it could arrive.
+-- Does a SACK tell whether an item is missing? It depends on the TSN before which the item was sent again, and on the newest TSN
+-- that the SACK newly acknowledges. For an item that was sent once each SACK tells. For one that was sent again, only a SACK
+-- tells that acknowledges what was sent after it. Others may have left before it could arrive.
 abbrev pub tells_of : Option ℕ → Option ℕ → Bool
 tells_of None newest = true
 tells_of (Some next) None = false
@@ -64,7 +64,7 @@ missed Marked progress = progress
 missed Acknowledged progress = progress
 missed Abandoned progress = progress
 
--- one more miss, where the SACK tells of the item
+-- one more miss, if the SACK tells of the item
 abbrev pub missed_where : Bool → Progress → Progress
 missed_where true progress = missed progress.state progress
 missed_where false progress = progress

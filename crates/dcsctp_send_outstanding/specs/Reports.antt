@@ -9,7 +9,7 @@ use Rattle.dcsctp_send_outstanding.specs.Progress.{is_unacknowledged}
 abbrev pub IsWithin : ℕ → ℕ → ℕ → Type 0
 IsWithin start end place = (start ≤ place) × (place < end)
 
--- A block names the item at this place: the one behind the cumulative TSN has the offset 1.
+-- A block names the item at this place: the one after the cumulative TSN has the offset 1.
 abbrev pub Names : ℕ → List GapAckBlock → ℕ → Type 0
 Names count [] place = ⊥
 Names count (block ∷ blocks) place = ((count + block.start ≤ place + 1) × (place + 1 ≤ count + block.end)) ⊎ Names count blocks place
@@ -25,7 +25,7 @@ pub record IsLastAt (Holds : ℕ → Item → Type 0) (items : List Item) (place
   pub holds : Holds place item
   pub last : (k : ℕ) (other : Item) → place < k → slice_get items k ≡ Some other → Holds k other → ⊥
 
--- the place of the last item of which that holds; none where it holds of none
+-- the place of the last item of which that holds; none if it holds of none
 abbrev pub IsLast : (ℕ → Item → Type 0) → List Item → Option ℕ → Type 0
 IsLast Holds items None = (k : ℕ) (item : Item) → slice_get items k ≡ Some item → Holds k item → ⊥
 IsLast Holds items (Some place) = IsLastAt Holds items place

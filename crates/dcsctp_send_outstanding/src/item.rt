@@ -9,7 +9,7 @@ use dcsctp_send_queue::DataToSend;
 /// What was sent under one TSN.
 #[derive(Drop)]
 pub struct Item {
-    /// What its chunk says. The payload is empty where it stands for the end of an abandoned message.
+    /// What its chunk says. The payload is empty if it stands for the end of an abandoned message.
     pub fragment: DataToSend,
 
     /// How far it is.

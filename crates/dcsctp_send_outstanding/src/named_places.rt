@@ -1,26 +1,26 @@
-//! Which places the blocks of the last SACK named, so that the next one is handled by what it says anew
-//! (RFC 9260, section 3.3.4).
+//! Which places the blocks of the last SACK named, so that of the next one only what is new is handled (RFC
+//! 9260, section 3.3.4).
 
 ghost use Rattle.std.specs.Prelude.{◌≡◌, ◌⊎◌, ◌<◌, ◌≤◌, ◌+◌, ℕ};
 ghost use Rattle.dcsctp_send_outstanding.specs.NamedPlaces.{IsNamed};
 
 use std::alloc::Global;
 
-/// A row of places: the first, and the one behind the last.
+/// A row of places: the first, and the one after the last.
 #[derive(Clone, Copy, Debug)]
 pub struct Row {
     start: usize,
     end: usize,
 }
 
-/// Rows of places among the outstanding items. Where there is no memory for a row, its places count as not
+/// Rows of places among the outstanding items. If an allocation fails for a row, its places count as not
 /// named.
 #[derive(Drop)]
 pub struct NamedPlaces {
     // The places count as they did before the first `removed` items were removed.
     rows: Vec<Row>,
 
-    // At the greatest number it stays, where no row has a place left.
+    // At the greatest number it stays, if no row has a place left.
     removed: usize,
 
     alloc: Global,
@@ -30,7 +30,7 @@ impl NamedPlaces {
     ghost use Rattle.std.specs.Prelude.{false};
     ghost use Rattle.dcsctp_send_outstanding.specs.Reports.{IsWithin};
 
-    /// No place. It takes no memory.
+    /// No place. Allocates nothing.
     pub fn new(alloc: Global) -> NamedPlaces
         ensures { (place : ℕ) → IsNamed result place → ⊥ }
     {
@@ -41,7 +41,7 @@ impl NamedPlaces {
         }
     }
 
-    /// Forgets all places. The room for rows stays.
+    /// Forgets all places. The room for rows is kept.
     pub fn clear(&mut self)
         ensures { (place : ℕ) → IsNamed self.new place → ⊥ }
     {
@@ -100,7 +100,7 @@ impl NamedPlaces {
         row
     }
 
-    /// Up to where the row names each place from this one on: the place itself where it doesn't name it.
+    /// Up to where the row names each place from this one on: the place itself if it doesn't name it.
     pub fn end_from(&self, row: usize, place: usize) -> usize
         ensures from { place ≤ result }
         ensures named { (k : ℕ) → place ≤ k → k < result → IsNamed self.now k }

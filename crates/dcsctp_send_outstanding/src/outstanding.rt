@@ -65,7 +65,7 @@ impl Outstanding {
     ghost use Rattle.dcsctp_send_outstanding.specs.NamedPlaces.{IsLeftBetween};
     ghost use Rattle.dcsctp_send_streams.specs.Telling.{contents};
 
-    /// Nothing was sent yet. It takes no memory.
+    /// Nothing was sent yet. Allocates nothing.
     pub fn new(alloc: Global, first_tsn: u32, header: usize) -> Outstanding
         requires { header ≤ 20 }
         ensures { result ≡ record { first_tsn = first_tsn; header = header; items = [] } }
@@ -134,14 +134,14 @@ impl Outstanding {
         self.first_tsn.wrapping_add(place as u32)
     }
 
-    /// The TSN that goes out next.
+    /// The TSN that is sent next.
     pub fn next_tsn(&self) -> u32
         ensures { result ≡ next_tsn self.now }
     {
         self.first_tsn.wrapping_add(self.items.len() as u32)
     }
 
-    /// How many places behind the first TSN this one is.
+    /// How many places after the first TSN this one is.
     pub fn distance_to(&self, tsn: u32) -> usize
         ensures value { result ≡ distance_to self.now tsn }
         ensures places { FindsPlaces self.now }
@@ -176,8 +176,8 @@ impl Outstanding {
         self.items[place].size(self.header)
     }
 
-    // Makes the change at one place. It is inlined, and so are those through which callers reach it, since a
-    // caller knows which change it is: for an acknowledgement most of the sums then fall away.
+    // Makes the change at one place. It is inlined, and so are the functions through which callers reach it.
+    // A caller knows which change it is: for an acknowledgement most of the sums then fall away.
     #[inline(always)]
     fn change_at(&mut self, change: Change, place: usize)
         requires { place < length self.old.items }
@@ -217,8 +217,8 @@ impl Outstanding {
         self.change_at(change, place);
     }
 
-    // Up to where the change leaves each item from the place on as it is, as far as the named places tell from
-    // this row on; before that the row that tells it.
+    // The first item from the place on that the change doesn't leave as it is, as far as the named places
+    // tell from this row on. Before that, the row that tells it.
     fn left_until(&self, change: Change, place: usize, row: usize) -> (usize, usize)
         ensures from { place ≤ result.1 }
         ensures left { IsLeftBetween change place result.1 self.now.items }
@@ -297,7 +297,7 @@ impl Outstanding {
         None
     }
 
-    /// Drops the first items, so many.
+    /// Drops that many first items.
     pub fn remove_first(&mut self, count: usize)
         requires { count ≤ length self.old.items }
         ensures { self.new ≡ record { first_tsn = (self.old.first_tsn + count) % 2 ^ 32; header = self.old.header; items = drop count self.old.items } }
@@ -309,7 +309,7 @@ impl Outstanding {
         self.give_room_back();
     }
 
-    // Gives half of the room for items back where less than a quarter of it is in use.
+    // Gives half of the room for items back if less than a quarter of it is in use.
     fn give_room_back(&mut self)
         ensures { self.new ≡ self.old }
     {
@@ -340,8 +340,8 @@ impl Outstanding {
         self.items.len() + 1 < 0x8000_0000
     }
 
-    /// Sends a fragment of at most `max` bytes from the queue for the first time, under the next TSN. None
-    /// where the queue gives none. If there is no memory for it, nothing leaves the queue.
+    /// Sends a fragment of at most `max` bytes from the queue for the first time, under the next TSN. `None`
+    /// if the queue gives none. If an allocation fails, nothing leaves the queue.
     #[inline(always)]
     pub fn send_next(
         &mut self,

@@ -13,10 +13,10 @@ pub enum ItemState {
     /// It was lost, and waits to be sent again.
     Marked,
 
-    /// A gap ack block has reported it. That isn't taken back, whatever later blocks say.
+    /// A gap ack block has reported it. It stays so, whatever later blocks say.
     Acknowledged,
 
-    /// Its message was given up (RFC 3758, section 3.5).
+    /// Its message was abandoned (RFC 3758, section 3.5).
     Abandoned,
 }
 
@@ -26,13 +26,13 @@ pub struct Progress {
     /// How far it is.
     pub state: ItemState,
 
-    /// Has a SACK acknowledged it, before its message was given up or since?
+    /// Has a SACK acknowledged it, before its message was abandoned or since?
     pub was_acknowledged: bool,
 
     /// How often it was sent again.
     pub times_sent_again: u16,
 
-    /// The TSN that went out next for the first time when it was sent again last; none where it was sent once.
+    /// The TSN that was sent next for the first time when it was sent again last; none if it was sent once.
     pub sent_before: Option<u32>,
 
     /// How often it was reported missing since it was sent last. At three it is marked for that.
@@ -42,7 +42,7 @@ pub struct Progress {
 /// What may happen to an item.
 #[derive(Clone, Copy, Debug)]
 pub enum Change {
-    /// It is sent again, before this TSN goes out for the first time.
+    /// It is sent again, before this TSN is sent for the first time.
     SendAgain(u32),
 
     /// It is reported missing, while later ones have arrived, by a SACK. The TSN is the newest that this one
@@ -55,7 +55,7 @@ pub enum Change {
     /// It is acknowledged.
     Acknowledge,
 
-    /// Its message is given up.
+    /// Its message is abandoned.
     Abandon,
 }
 
@@ -92,7 +92,7 @@ impl ItemState {
         }
     }
 
-    /// Was its message given up?
+    /// Was its message abandoned?
     pub fn is_abandoned(self) -> bool
         ensures { result ≡ is_abandoned self }
     {
@@ -120,8 +120,8 @@ fn has_come_to(newest: u32, tsn: u32) -> bool
     newest.wrapping_sub(tsn) < 0x8000_0000
 }
 
-// Does a SACK tell whether an item is missing? Of one that was sent again, it does where it acknowledges a TSN
-// that went out behind it. Unlike RFC 9260, section 7.2.4, such an item may be sent again fast once more
+// Does a SACK tell whether an item is missing? Of one that was sent again, it does if it acknowledges a TSN
+// that was sent after it. Unlike RFC 9260, section 7.2.4, such an item may be sent again fast once more
 // (docs/DECISIONS.md, Lost again).
 fn tells_of(sent_before: Option<u32>, newest: Option<u32>) -> bool
     ensures { result ≡ tells_of sent_before newest }
@@ -153,7 +153,7 @@ impl Progress {
         }
     }
 
-    // Sent again, before this TSN goes out for the first time.
+    // Sent again, before this TSN is sent for the first time.
     fn sent_again(self, next: u32) -> Progress
         ensures { result ≡ sent_again next self }
     {
@@ -196,7 +196,7 @@ impl Progress {
         }
     }
 
-    // Reported missing by a SACK, where that tells of it.
+    // Reported missing by a SACK, if that tells of it.
     fn missed_where(self, is_told: bool) -> Progress
         ensures { result ≡ missed_where is_told self }
     {
@@ -216,7 +216,7 @@ impl Progress {
         }
     }
 
-    // Lost, where it was in flight.
+    // Lost, if it was in flight.
     fn marked(self) -> Progress
         ensures { result ≡ marked self.state self }
     {

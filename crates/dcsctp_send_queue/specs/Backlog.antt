@@ -9,7 +9,7 @@ use Rattle.dcsctp_send_streams.specs.declared.stream.Pause.TheVariants.{Open, Pa
 use Rattle.dcsctp_send_streams.specs.Waiting.{Waiting, Stream, unused, is_pausing, front_of, next_numbers, counted}
 use Rattle.dcsctp_send_streams.specs.Ranking.{stream_at}
 
--- the streams, where that of the number is changed
+-- the streams, if that of the number is changed
 abbrev pub changed : ℕ → (Stream → Stream) → List Stream → List Stream
 changed id f streams = map (λ stream. if stream.id == id then f stream else stream) streams
 
@@ -91,7 +91,7 @@ queue_state queue =
 
 -- ---- a message under way
 
--- The message under way is the oldest of its stream, and a part of it went out.
+-- The message under way is the oldest of its stream, and a part of it was sent.
 pub record IsUnderWay (streams : List Stream) (under_way : UnderWay) : Type 0 where
   pub place : ℕ
   pub within : place < length streams
@@ -145,7 +145,7 @@ numbered_anew (Some under_way) queue =
       under_way = Some (renumbered under_way (stream_of queue under_way.stream_id.0));
     }
 
--- Messages are interleaved from now on, or not. Where that is new, other numbers count than before.
+-- Messages are interleaved from now on, or not. If that is new, other numbers count than before.
 abbrev pub numbered_for : Bool → Backlog → Backlog
 numbered_for enabled queue = from queue.is_interleaved enabled queue
   where

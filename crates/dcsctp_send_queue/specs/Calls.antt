@@ -55,8 +55,8 @@ with_added id message queue =
       next_message_id = (queue.next_message_id + 1) % 2 ^ 64;
     }
 
--- Which message a fragment is taken of: the one under way, or else the oldest of the stream whose turn it
--- is, once those that are too old to be begun are dropped.
+-- Which message a fragment is taken of: the one under way, or else the oldest of the stream whose turn it is. Before that,
+-- messages that are too old to be started are dropped.
 abbrev pub Chooses : ℕ → Backlog → Option UnderWay → Backlog → ℕ → Waiting → UnderWay → Type 0
 Chooses now old None queue place message under_way =
     IsNext queue.streams place × (is_expired now message ≡ false) × (under_way ≡ begun message (stream_at queue.streams place))
@@ -78,7 +78,7 @@ pub record Takes (now max : ℕ) (old : Backlog) (told_before : List (Event (Lis
   pub left : new ≡ produced place max message under_way queue
   pub events : told_after ≡ told ++ produced_events place max message under_way queue
 
--- No message is under way, and none is left that can be begun.
+-- No message is under way, and none is left that can be started.
 pub record TakesNone (now : ℕ) (old : Backlog) (told_before : List (Event (List ℕ))) (new : Backlog) (told_after : List (Event (List ℕ))) : Type 0 where
   pub idle : old.under_way ≡ None
   pub drops : DropsAll now old told_before new told_after
@@ -88,7 +88,7 @@ abbrev pub TakesNext : ℕ → ℕ → Backlog → List (Event (List ℕ)) → O
 TakesNext now max old told_before None new told_after = TakesNone now old told_before new told_after
 TakesNext now max old told_before (Some part) new told_after = Takes now max old told_before part new told_after
 
--- The message that is dropped next, and what is told of it.
+-- The message that is dropped next, and the events about it.
 pub record DropsNext (now : ℕ) (queue : Backlog) (events : List (Event (List ℕ))) : Type 0 where
   pub place : ℕ
   pub message : Waiting
@@ -97,7 +97,7 @@ pub record DropsNext (now : ℕ) (queue : Backlog) (events : List (Event (List �
   pub expired : is_expired now message ≡ true
   pub is : events ≡ drop_events place 0 message queue
 
--- The fragment that is taken next, and what is told of it.
+-- The fragment that is taken next, and the events about it.
 pub record PartNext (now max : ℕ) (old queue : Backlog) (events : List (Event (List ℕ))) : Type 0 where
   pub place : ℕ
   pub message : Waiting
@@ -106,7 +106,7 @@ pub record PartNext (now max : ℕ) (old queue : Backlog) (events : List (Event 
   pub chosen : Chooses now old old.under_way queue place message under_way
   pub is : events ≡ produced_events place max message under_way queue
 
--- Memory is refused, once messages are dropped that are too old to be begun: a front part is told of what would be told next.
+-- An allocation fails, once messages are dropped that are too old to be started: the first of the next events are added.
 pub record StopsTaking (now max : ℕ) (old : Backlog) (told_before : List (Event (List ℕ))) (new : Backlog) (told_after : List (Event (List ℕ))) : Type 0 where
   pub events : List (Event (List ℕ))
   pub drops : Drops now old events new
@@ -132,7 +132,7 @@ pub record Discards (old : Backlog) (stream message_id : ℕ) (told_before : Lis
   pub left : new ≡ record (without_rest named.place named.under_way.sent named.message old) { under_way = None }
   pub events : told_after ≡ told_before ++ drop_events named.place named.under_way.sent named.message old
 
--- Memory is refused, and a front part is told of what would be dropped.
+-- An allocation fails, and the first of the events about what would be dropped are added.
 pub record StopsDiscarding (queue : Backlog) (stream message_id : ℕ) (told_before told_after : List (Event (List ℕ))) : Type 0 where
   pub named : IsNamed queue stream message_id
   pub tells : TellsFront told_before (drop_events named.place named.under_way.sent named.message queue) told_after

@@ -8,7 +8,7 @@ use Rattle.dcsctp_send_streams.specs.Telling.{low_events, expiry_events, expirie
 use Rattle.dcsctp_send_streams.specs.Ranking.{stream_at, turns_of, IsNext}
 use Rattle.dcsctp_send_queue.specs.Backlog.{is_under_way}
 
--- so much leaves the stream at the place
+-- that much leaves the stream at the place
 abbrev pub reduced : ℕ → ℕ → Backlog → Backlog
 reduced place size queue =
     record queue {
@@ -20,14 +20,14 @@ reduced place size queue =
 abbrev pub without_oldest : ℕ → Backlog → Backlog
 without_oldest place queue = record queue { streams = slice_set queue.streams place (without_front (stream_at queue.streams place)) }
 
--- its numbers are used up, where it is begun
+-- its numbers are used up, if it is begun
 abbrev pub numbered : ℕ → Waiting → UnderWay → Backlog → Backlog
 numbered place message under_way queue =
     if under_way.sent == 0
     then record queue { streams = slice_set queue.streams place (counted queue.is_interleaved message.is_unordered (stream_at queue.streams place)) }
     else queue
 
--- A message of which so much went out is dropped.
+-- A message of which that much was sent is dropped.
 abbrev pub without_rest : ℕ → ℕ → Waiting → Backlog → Backlog
 without_rest place sent message queue = without_oldest place (reduced place (length message.payload - sent) queue)
 
@@ -36,7 +36,7 @@ drop_events place sent message queue =
     low_events (stream_at queue.streams place) queue.total_threshold queue.total_amount (length message.payload - sent)
     ++ expiry_events message
 
--- after a fragment of so many bytes that isn't the last
+-- after a fragment of that many bytes that isn't the last
 abbrev pub after_part : ℕ → ℕ → Waiting → UnderWay → Backlog → Backlog
 after_part place size message under_way queue =
     record (numbered place message under_way (reduced place size queue)) {
@@ -60,7 +60,7 @@ last_events place message under_way queue = part_events place (length message.pa
 abbrev pub count_under_way : ℕ → Option UnderWay → ℕ
 count_under_way id under_way = if is_under_way id under_way then 1 else 0
 
--- the messages of the stream at the place that aren't begun
+-- the messages of the stream at the place that haven't been started
 abbrev pub not_begun : ℕ → Backlog → List Waiting
 not_begun place queue = drop (count_under_way (stream_at queue.streams place).id queue.under_way) (stream_at queue.streams place).messages
 
@@ -68,7 +68,7 @@ not_begun place queue = drop (count_under_way (stream_at queue.streams place).id
 abbrev pub size_not_begun : ℕ → Backlog → ℕ
 size_not_begun place queue = min (size_of (not_begun place queue)) (2 ^ 64 - 1)
 
--- the stream at the place is paused, without the messages that aren't begun
+-- the stream at the place is paused, without the messages that haven't been started
 abbrev pub paused_at : ℕ → ℕ → Backlog → Backlog
 paused_at place kept queue = record queue { streams = slice_set queue.streams place (paused kept (stream_at queue.streams place)) }
 
@@ -79,21 +79,21 @@ after_pause place queue =
 abbrev pub pause_events : ℕ → Backlog → List (Event (List ℕ))
 pause_events place queue = part_events place (size_not_begun place queue) queue ++ expiries (not_begun place queue)
 
--- The oldest message of the stream at the place has more than so many bytes.
+-- The oldest message of the stream at the place has more than that many bytes.
 pub record HasMore (streams : List Stream) (place sent : ℕ) : Type 0 where
   pub within : place < length streams
   pub message : Waiting
   pub front : front_of (stream_at streams place).messages ≡ Some message
   pub more : sent < length message.payload
 
--- The oldest message of the stream at the place has so many bytes at least.
+-- The oldest message of the stream at the place has that many bytes at least.
 pub record HasRest (streams : List Stream) (place sent : ℕ) : Type 0 where
   pub within : place < length streams
   pub message : Waiting
   pub front : front_of (stream_at streams place).messages ≡ Some message
   pub rest : sent ≤ length message.payload
 
--- Messages that are too old to be begun are dropped, each the oldest of the stream whose turn it is.
+-- Messages that are too old to be started are dropped, each the oldest of the stream whose turn it is.
 pub data Drops (now : ℕ) (old : Backlog) : List (Event (List ℕ)) → Backlog → Type 0 where
   none : Drops now old [] old
   more : (events : List (Event (List ℕ))) (queue : Backlog) (place : ℕ) (message : Waiting)
@@ -103,7 +103,7 @@ pub data Drops (now : ℕ) (old : Backlog) : List (Event (List ℕ)) → Backlog
       → is_expired now message ≡ true
       → Drops now old (events ++ drop_events place 0 message queue) (without_rest place 0 message queue)
 
--- Such messages are dropped, and what is told of them comes behind.
+-- Such messages are dropped, and their events are added.
 pub record DropsAll (now : ℕ) (old : Backlog) (told_before : List (Event (List ℕ))) (new : Backlog) (told_after : List (Event (List ℕ))) : Type 0 where
   pub events : List (Event (List ℕ))
   pub drops : Drops now old events new
@@ -114,19 +114,19 @@ pub record DropsSome (now : ℕ) (old new : Backlog) : Type 0 where
   pub events : List (Event (List ℕ))
   pub drops : Drops now old events new
 
--- It is this stream's turn, and its oldest message is not too old to be begun.
+-- It is this stream's turn, and its oldest message is not too old to be started.
 pub record MayBegin (now : ℕ) (streams : List Stream) (place : ℕ) : Type 0 where
   pub next : IsNext streams place
   pub message : Waiting
   pub front : front_of (stream_at streams place).messages ≡ Some message
   pub fresh : is_expired now message ≡ false
 
--- the stream that may begin a message, or none where no stream has its turn
+-- the stream that may begin a message, or none if no stream has its turn
 abbrev pub NextUnexpired : ℕ → List Stream → Option ℕ → Type 0
 NextUnexpired now streams None = turns_of streams ≡ []
 NextUnexpired now streams (Some place) = MayBegin now streams place
 
--- how much leaves of the message, where at most `max` bytes are asked for
+-- how much of the message leaves if at most `max` bytes are asked for
 abbrev pub size_produced : ℕ → Waiting → UnderWay → ℕ
 size_produced max message under_way = min max (length message.payload - under_way.sent)
 

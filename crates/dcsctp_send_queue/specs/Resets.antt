@@ -56,7 +56,7 @@ abbrev pub may_send : Option UnderWay → List Stream → Bool
 may_send None streams = list_any (λ stream. is_some (turn_of stream)) streams
 may_send (Some under_way) streams = true
 
--- a stream that is to be reset, without so many payload bytes and with so many messages
+-- a stream that is to be reset, without that many payload bytes and with that many messages
 abbrev pub prepared_stream : ℕ → ℕ → Stream → Stream
 prepared_stream size kept stream = paused kept (record stream { amount = stream.amount - size })
 
@@ -64,7 +64,7 @@ prepared_stream size kept stream = paused kept (record stream { amount = stream.
 abbrev pub with_used : ℕ → Backlog → Backlog
 with_used id queue = record queue { streams = used queue id }
 
--- Messages that aren't begun are dropped, and the stream is paused.
+-- Messages that haven't been started are dropped, and the stream is paused.
 abbrev pub prepared_open : ℕ → Backlog → Backlog
 prepared_open id queue =
     record queue {
@@ -93,6 +93,6 @@ abbrev pub shown_prepared : ℕ → Backlog → SendQueueState
 shown_prepared id queue =
     if (queued_stream (queue_state queue) id).is_paused then queue_state queue else queue_pausing id (dropped_size id queue) (queue_state queue)
 
--- Nothing has changed, but that the stream may count as used.
+-- Nothing has changed, except that the stream may count as used.
 abbrev pub IsUsedAtMost : ℕ → Backlog → Backlog → Type 0
 IsUsedAtMost id old new = (new ≡ old) ⊎ (new ≡ with_used id old)

@@ -10,7 +10,7 @@ use dcsctp_api::{Events, SocketEvent, StreamId};
 use dcsctp_send_streams::{OutgoingStream, QueuedMessage, Streams, UnderWay};
 use std::alloc::{AllocError, Global};
 
-// Does an amount that falls by so much fall from above its threshold to it or below?
+// Does an amount that falls by that much fall from above its threshold to it or below?
 fn falls_low(threshold: usize, amount: usize, by: usize) -> bool
     ensures { result ≡ falls_low threshold amount by }
 {
@@ -58,7 +58,7 @@ impl Backlog {
         )
     }
 
-    /// Adds a message behind the others of its stream. If there is no memory for it, nothing changes.
+    /// Adds a message after the others of its stream. `Err`: an allocation failed, and nothing has changed.
     pub fn put(&mut self, stream_id: StreamId, message: QueuedMessage) -> Result<(), AllocError>
         ensures ok { OnOk result (self.new ≡ record self.old { streams = changed stream_id.0 (with_message message) (used self.old stream_id.0) }) }
         ensures was_ascending { IsAscending self.old.streams }
@@ -79,8 +79,8 @@ impl Backlog {
         }
     }
 
-    /// The place of the stream, which counts as used from now on. If there is no memory for it, nothing
-    /// changes.
+    /// The place of the stream, which counts as used from now on. `Err`: an allocation failed, and nothing
+    /// has changed.
     pub fn use_stream(&mut self, stream_id: StreamId) -> Result<usize, AllocError>
         ensures ok { OnOk result (self.new ≡ record self.old { streams = used self.old stream_id.0 }) }
         ensures place { IfOk result (λ place. IsFound self.new.streams stream_id.0 (Ok place)) }
@@ -99,7 +99,7 @@ impl Backlog {
         }
     }
 
-    /// Gives the stream a threshold, in bytes. If there is no memory for it, nothing changes.
+    /// Sets the stream's threshold, in bytes. `Err`: an allocation failed, and nothing has changed.
     pub fn set_threshold(&mut self, stream_id: StreamId, bytes: usize) -> Result<(), AllocError>
         ensures ok { OnOk result (self.new ≡ record self.old { streams = changed stream_id.0 (with_threshold bytes) (used self.old stream_id.0) }) }
         ensures was_ascending { IsAscending self.old.streams }
@@ -111,7 +111,7 @@ impl Backlog {
         Ok(())
     }
 
-    /// Gives the stream a priority. If there is no memory for it, nothing changes.
+    /// Sets the stream's priority. `Err`: an allocation failed, and nothing has changed.
     pub fn set_priority(&mut self, stream_id: StreamId, priority: u16) -> Result<(), AllocError>
         ensures ok { OnOk result (self.new ≡ record self.old { streams = changed stream_id.0 (with_priority priority) (used self.old stream_id.0) }) }
         ensures was_ascending { IsAscending self.old.streams }
@@ -147,7 +147,7 @@ impl Backlog {
         }
     }
 
-    /// Tells which amounts fall to their thresholds where so much leaves the stream.
+    /// Tells which amounts fall to their thresholds if that much leaves the stream.
     pub fn tell_low(&self, events: &mut Events, place: usize, size: usize) -> Result<(), AllocError>
         requires { place < length self.now.streams }
         ensures ok { OnOk result (contents events.new ≡ contents events.old ++ part_events place size self.now) }
@@ -163,7 +163,7 @@ impl Backlog {
         Ok(())
     }
 
-    /// Takes so much away from the amounts.
+    /// Takes that much away from the amounts.
     pub fn reduce(&mut self, place: usize, size: usize)
         requires { place < length self.old.streams }
         ensures { self.new ≡ reduced place size self.old }
@@ -172,7 +172,7 @@ impl Backlog {
         self.total_amount = self.total_amount.saturating_sub(size);
     }
 
-    /// Drops the oldest message of the stream, of which so much went out.
+    /// Drops the oldest message of the stream, of which that much was sent.
     pub fn drop_front(
         &mut self,
         events: &mut Events,

@@ -1,5 +1,5 @@
-//! The send queue: which message leaves next, in fragments, and what the user is told of it
-//! (RFC 9260, section 6.9, RFC 8260, section 2.1, RFC 3758, section 3.5 and RFC 6525, section 5.1.2).
+//! The send queue: which message leaves next, in fragments, and the events about it (RFC 9260, section 6.9,
+//! RFC 8260, section 2.1, RFC 3758, section 3.5 and RFC 6525, section 5.1.2).
 
 ghost use Rattle.std.specs.Prelude.{◌<◌};
 
@@ -11,10 +11,9 @@ use std::marker::Model;
 
 /// The messages that wait to be sent, by stream.
 ///
-/// An amount is the payload bytes that were neither produced nor dropped; it stops at `usize::MAX`. One
-/// that falls from above its threshold to it or below adds its event: the stream's, and then the
-/// total's. Where a fragment leaves or messages are dropped, these come before the events that name a
-/// message.
+/// An amount is the payload bytes that were neither produced nor dropped; it stops at `usize::MAX`. One that
+/// falls from above its threshold to it or below adds its event: the stream's, and then the total's. If a
+/// fragment leaves or messages are dropped, these come before the events that name a message.
 #[derive(Drop)]
 pub struct SendQueue {
     backlog: Backlog,
@@ -45,7 +44,7 @@ impl SendQueue {
     ghost use Rattle.dcsctp_send_streams.specs.Waiting.{committed, rolled_back};
     ghost use Rattle.dcsctp_machine.specs.Ids.{stream_numbers};
 
-    /// A queue with no messages, which numbers them as for no interleaving. It takes no memory.
+    /// A queue with no messages, which numbers them as for no interleaving. Allocates nothing.
     pub fn new(alloc: Global, options: &Options) -> SendQueue
         ensures whole { result ≡ no_backlog alloc options.now }
         ensures shown { queue_state result ≡ empty_queue options.now }
@@ -65,8 +64,8 @@ impl SendQueue {
         }
     }
 
-    /// Adds a message, whose payload isn't empty, behind the others of its stream. It may be begun until
-    /// its lifetime after `now` has passed. If there is no memory for it, nothing changes.
+    /// Adds a message, whose payload isn't empty, after the others of its stream. It may be started until its
+    /// lifetime, counted from `now`, is over. `Err`: an allocation failed, and nothing has changed.
     pub fn add(
         &mut self,
         now: SocketTime,
@@ -87,13 +86,13 @@ impl SendQueue {
         Ok(())
     }
 
-    /// Takes the next fragment, of at most `max` payload bytes: of the message under way, or else of the
-    /// oldest message of the stream of greatest priority, and of these the one of least number, that
-    /// isn't paused and has a message. Messages there that are too old at the moment `now` to be begun
-    /// are dropped. None: no message can be taken.
+    /// Takes the next fragment, of at most `max` payload bytes, of the message under way. Without one, that
+    /// is the oldest message of a stream that isn't paused. Of those with messages, it is the stream of
+    /// greatest priority, and of these the one of least number. Messages there that are too old at the moment
+    /// `now` to be started are dropped. `None`: no message can be taken.
     ///
-    /// A message that was begun is never dropped here. One that fits goes out as one fragment, whose
-    /// payload is not copied.
+    /// A message that was started is never dropped here. One that fits is sent as one fragment, whose payload
+    /// is not copied.
     #[inline(always)]
     pub fn produce(
         &mut self,
@@ -113,8 +112,8 @@ impl SendQueue {
         }
     }
 
-    /// Drops what is left of the message under way, if it is the one of this name and stream, and
-    /// answers whether it was.
+    /// Drops what is left of the message under way, if it is the one of this name and stream, and returns
+    /// whether it was.
     pub fn discard(
         &mut self,
         events: &mut Events,
@@ -137,7 +136,7 @@ impl SendQueue {
     }
 
     /// Says whether messages are numbered as for interleaving (RFC 8260, section 2.1): with it message
-    /// identifiers count, without it stream sequence numbers. Where that is new, the message under way goes
+    /// identifiers count, without it stream sequence numbers. If that is a change, the message under way goes
     /// on under the next number of its stream. No message interrupts it in either case.
     pub fn enable_message_interleaving(&mut self, enabled: bool)
         ensures whole { self.new ≡ numbered_for enabled self.old }
@@ -146,8 +145,8 @@ impl SendQueue {
         self.backlog.interleave(enabled);
     }
 
-    /// Makes the queue ready for another association: the message that is under way begins again, all
-    /// messages are numbered from 0, and every pause ends. Messages, thresholds and priorities stay.
+    /// Makes the queue ready for another association: the message that is under way starts again, all
+    /// messages are numbered from 0, and every pause ends. Messages, thresholds and priorities are kept.
     pub fn reset(&mut self)
         ensures whole { self.new ≡ restarted self.old }
         ensures shown { queue_state self.new ≡ queue_after_reset (queue_state self.old) }
@@ -156,8 +155,8 @@ impl SendQueue {
         self.backlog.streams.begin_all_anew();
     }
 
-    /// Drops the messages of the stream that aren't begun, and pauses it until it was reset, or until
-    /// that failed. A stream that is paused stays as it is, with its messages.
+    /// Drops the messages of the stream that haven't been started, and pauses it until it was reset, or until
+    /// that failed. A stream that is paused is unchanged, with its messages.
     pub fn prepare_reset_stream(
         &mut self,
         events: &mut Events,
@@ -179,9 +178,9 @@ impl SendQueue {
         self.backlog.has_ready()
     }
 
-    /// Hands out at most `max` streams that can be reset (RFC 6525, section 5.1.2): those of least
-    /// number, ascending. They stay paused until `commit_reset_streams` or `rollback_reset_streams`. If
-    /// there is no memory for the list, none is handed out.
+    /// Hands out at most `max` streams that can be reset (RFC 6525, section 5.1.2): those of least number,
+    /// ascending. They stay paused until `commit_reset_streams` or `rollback_reset_streams`. `Err`: an
+    /// allocation failed, and none is handed out.
     pub fn get_streams_ready_to_reset(&mut self, max: usize) -> Result<Vec<StreamId>, AllocError>
         ensures streams { IfOk result (λ ids. stream_numbers ids.items ≡ take max (ready_streams self.old)) }
         ensures left { OnOk result (self.new ≡ record self.old { streams = handing_out (take max (ready_streams self.old)) self.old.streams }) }
@@ -238,7 +237,7 @@ impl SendQueue {
         }
     }
 
-    /// Gives the stream a threshold, in bytes. It adds no event.
+    /// Sets the stream's threshold, in bytes. It adds no event.
     pub fn set_buffered_amount_low_threshold(
         &mut self,
         stream_id: StreamId,
@@ -261,7 +260,7 @@ impl SendQueue {
         }
     }
 
-    /// Gives the stream a priority.
+    /// Sets the stream's priority.
     pub fn set_priority(&mut self, stream_id: StreamId, priority: u16) -> Result<(), AllocError>
         ensures ok { OnOk result (self.new ≡ record self.old { streams = changed stream_id.0 (with_priority priority) (used self.old stream_id.0) }) }
         ensures shown { OnOk result (queue_state self.new ≡ set_in_queue (stream_priority stream_id.0 priority) (queue_state self.old)) }

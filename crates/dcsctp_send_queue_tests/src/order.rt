@@ -1,4 +1,4 @@
-//! Which message leaves next, in which fragments and with which numbers.
+//! Which message is sent next, in which fragments and with which numbers.
 
 use crate::script::run;
 

@@ -1,14 +1,14 @@
 //! What a test does to a queue and what it expects of it, as a text with a line for each step.
 //!
-//! `# NAME` names the test that follows. An empty line is passed over. S stands for a stream.
+//! `# NAME` names the test that follows. An empty line is skipped. S stands for a stream.
 //!
 //!     begin N N                   a new queue: the threshold of each stream, and that of all together
 //!     now N                       the moment from here on, in milliseconds; after `begin` it is 0
 //!     name N, lifetime N, times N, unordered
-//!                                 the next message has this name in events, lives so many milliseconds, is
-//!                                 sent again so often at most, or is unordered
+//!                                 the next message has this name in events, lives this many milliseconds, is
+//!                                 sent again this often at most, or is unordered
 //!     add S BYTES                 a message
-//!     use-up N                    adds a message of one byte to stream 1 and takes it, so many times
+//!     use-up N                    adds a message of one byte to stream 1 and takes it, this many times
 //!     fragment N [NUMBERS] [BYTES]    the next fragment, of at most N bytes; `size 0`: there is none
 //!     discard S N done N          is the message under way dropped, where it is this one?
 //!     prepare S, commit, roll-back    a reset of streams
@@ -18,15 +18,15 @@
 //!     state S NUMBERS             what the queue answers
 //!     tells [EVENT]               the next event, as `Debug` writes it; without one: there is none
 //!
-//! NUMBERS are some of the names that `sender` lists, in that order, with a number behind each: 1 for what
-//! is so, 0 for what isn't.
+//! NUMBERS are some of the names that `sender` lists, in that order, with a number after each. For a flag it
+//! is 1 for yes, 0 for no.
 
 use crate::sender::Sender;
 use dcsctp_testing::run_text;
 use std::alloc::AllocGlobal;
 use std::process::Abort;
 
-/// Takes the lines of a text. Behind one that fails it goes on at the next `begin`, and at the end it fails.
+/// Takes the lines of a text. After one that fails it goes on at the next `begin`, and at the end it fails.
 pub fn run<R: Abort + AllocGlobal>(rt: &R, text: &'static str) {
     let mut sender = Sender::new(rt.alloc(), 0, 0);
     if let Err(fault) = run_text(rt.alloc(), &mut sender, text) {

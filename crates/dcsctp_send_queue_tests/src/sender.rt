@@ -1,4 +1,4 @@
-//! A queue with the events that it adds, and the lines that it takes.
+//! A queue with the events that it adds, and the lines that it runs.
 
 use dcsctp_api::{Events, LifecycleId, Message, Options, PpId, SendOptions, SocketTime, StreamId};
 use dcsctp_send_queue::{DataToSend, SendQueue};
@@ -6,7 +6,7 @@ use dcsctp_testing::{Row, Takes};
 use std::alloc::{AllocError, Global};
 use std::time::Duration;
 
-/// A queue, what it told, the moment, and how the next message is sent.
+/// A queue, its events, the moment, and how the next message is sent.
 pub struct Sender {
     alloc: Global,
     queue: SendQueue,
@@ -28,7 +28,7 @@ impl Drop for Sender {
     }
 }
 
-// The moment so many milliseconds after the start.
+// The moment that many milliseconds after the start.
 fn at(millis: u64) -> SocketTime {
     SocketTime::zero() + Duration::from_millis(millis)
 }
@@ -97,7 +97,7 @@ impl Sender {
         }
     }
 
-    // Begins anew.
+    // Replaces it with a new one.
     fn begin(&mut self, threshold: u64, total_threshold: u64) {
         *self = Sender::new(self.alloc, threshold, total_threshold);
     }
@@ -119,7 +119,7 @@ impl Sender {
         self.how = SendOptions::default();
     }
 
-    // A fragment of at most so many bytes leaves, of one at least.
+    // Takes a fragment of at most this many bytes, of one at least.
     fn fragment(&mut self, row: &mut Row, max: u64) {
         let max = max.max(1) as usize;
         match self.queue.produce(&mut self.events, at(self.now), max) {
@@ -129,7 +129,7 @@ impl Sender {
         }
     }
 
-    // Adds a message of one byte to stream 1 and takes it, so many times.
+    // Adds a message of one byte to stream 1 and takes it, this many times.
     fn use_up(&mut self, row: &mut Row) {
         for _ in 0..row.number::<u64>() {
             self.add(row, StreamId(1), "x");

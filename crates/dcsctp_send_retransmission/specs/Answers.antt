@@ -4,8 +4,8 @@ use Rattle.dcsctp_wire.specs.declared.chunk.sack.GapAckBlock.{GapAckBlock}
 use Rattle.dcsctp_send_outstanding.specs.declared.item.Item.{Item}
 use Rattle.dcsctp_send_outstanding.specs.Reports.{Names}
 
--- The SACK acknowledges the item at this place: the cumulative TSN passes it, which passes the first ones, so many, or a block names
--- it. No SACK has acknowledged it before. It may have been given up.
+-- The SACK acknowledges the item at this place: the cumulative TSN passes it, which passes that many first items, or a block
+-- names it. No SACK has acknowledged it before. It may have been abandoned.
 abbrev pub IsAcknowledgedFirst : ℕ → List GapAckBlock → ℕ → Item → Type 0
 IsAcknowledgedFirst count blocks place item = ((place < count) ⊎ Names count blocks place) × (item.progress.was_acknowledged ≡ false)
 

@@ -25,8 +25,8 @@ new_congestion options window =
 abbrev pub ssthresh_after_loss : CongestionControl → ℕ
 ssthresh_after_loss control = max (control.cwnd / 2) control.least_ssthresh
 
--- The retransmission timer has expired (section 7.2.3): one MTU is left of the window. Fast recovery ends, since all that was
--- outstanding is sent again.
+-- The retransmission timer has expired (section 7.2.3): the window is one MTU. Fast recovery ends, since all that was outstanding
+-- is sent again.
 abbrev pub after_timeout : CongestionControl → CongestionControl
 after_timeout control =
     record control { cwnd = control.mtu; ssthresh = ssthresh_after_loss control; partial_bytes_acked = 0; recovery_exit = None }
@@ -46,7 +46,7 @@ abbrev pub after_loss : Option ℕ → ℕ → CongestionControl → CongestionC
 after_loss None exit control = in_recovery exit control
 after_loss (Some under_way) exit control = control
 
--- Is the TSN acknowledged by this cumulative one? It is where it lies at most 2^31 - 1 behind it (RFC 9260, section 1.6).
+-- Is the TSN acknowledged by this cumulative one? It is if it lies at most 2^31 - 1 behind it (RFC 9260, section 1.6).
 abbrev pub is_passed : ℕ → ℕ → Bool
 is_passed cumulative tsn = nat_lt ((cumulative + (2 ^ 32 - tsn)) % 2 ^ 32) (2 ^ 31)
 

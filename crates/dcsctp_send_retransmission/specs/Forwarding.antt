@@ -12,7 +12,7 @@ use Rattle.dcsctp_send_retransmission.specs.Queue.{QueueModel}
 
 -- ---- the row of items that is skipped
 
--- Was the item at this place given up, so that the row goes on? It ends where streams were reset.
+-- Was the item at this place abandoned, so that the row goes on? It ends where streams were reset.
 abbrev pub goes_on : ℕ → Item → Bool
 goes_on place item = is_abandoned item.progress.state && ((place == 0) || not item.begins_after_reset)
 
@@ -79,7 +79,7 @@ abbrev pub entry_count : Skipped → ℕ
 entry_count (Streams streams) = length streams.items
 entry_count (Messages messages) = length messages.items
 
--- There is no room for the item's message behind this row, which has so many entries.
+-- There is no room for the item's message behind this row, which has that many entries.
 pub record LacksRoom (interleaving : Bool) (limit entries : ℕ) (row : List Item) (item : Item) : Type 0 where
   pub listed : is_listed interleaving item ≡ true
   pub full : limit ≤ entries
@@ -91,14 +91,14 @@ pub record StopsBefore (interleaving : Bool) (limit entries place : ℕ) (items 
   pub at : slice_get items place ≡ Some item
   pub why : (goes_on place item ≡ false) ⊎ LacksRoom interleaving limit entries (take place items) item
 
--- the first items, so many, all of which are skipped; and no more can be
+-- that many first items, all of which are skipped; no more can be
 pub record IsRow (interleaving : Bool) (limit entries count : ℕ) (items : List Item) : Type 0 where
   pub within : count ≤ length items
   pub each : (place : ℕ) (item : Item) → place < count → slice_get items place ≡ Some item → goes_on place item ≡ true
   pub fits : entries ≤ limit
   pub ends : (count ≡ length items) ⊎ StopsBefore interleaving limit entries count items
 
--- The chunk skips the first items which were given up, as far as it has room, and no other.
+-- The chunk skips the first items which were abandoned, as far as it has room, and no other.
 pub record Says (queue : QueueModel) (chunk : ForwardTsn) : Type 0 where
   pub count : ℕ
   pub row : IsRow queue.interleaving (entry_limit queue.interleaving queue.congestion.mtu) (entry_count chunk.skipped) count queue.outstanding.items

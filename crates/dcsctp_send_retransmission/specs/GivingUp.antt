@@ -1,4 +1,4 @@
--- Which messages are given up before a FORWARD-TSN (RFC 3758, sections 3.5 and 4.1).
+-- Which messages are abandoned before a FORWARD-TSN (RFC 3758, sections 3.5 and 4.1).
 use Rattle.std.specs.Prelude.{Result, Ok, Err, ◌≡◌, ◌<◌, ℕ, Bool, true, false, Some, List, slice_get}
 use Rattle.std.specs.declared.alloc.AllocError.{AllocError}
 use Rattle.dcsctp_send_outstanding.specs.declared.item.Item.{Item}
@@ -6,11 +6,11 @@ use Rattle.dcsctp_send_outstanding.specs.Progress.{is_unacknowledged}
 use Rattle.dcsctp_send_retransmission.specs.Queue.{QueueModel}
 use Rattle.dcsctp_send_retransmission.specs.States.{Stage, is_due, GivesUpAt, RefusesUpAt, Steps}
 
--- Each item before this place was acknowledged or given up.
+-- Each item before this place was acknowledged or abandoned.
 abbrev pub NoneAwaitedBefore : ℕ → List Item → Type 0
 NoneAwaitedBefore place items = (k : ℕ) (item : Item) → k < place → slice_get items k ≡ Some item → is_unacknowledged item.progress.state ≡ false
 
--- The item at this place is due to be given up, and none before it is awaited.
+-- The item at this place is due to be abandoned, and none before it is awaited.
 pub record IsDueAt (now place : ℕ) (queue : QueueModel) : Type 0 where
   pub none_awaited : NoneAwaitedBefore place queue.outstanding.items
   pub item : Item
@@ -21,19 +21,19 @@ pub record IsDueAt (now place : ℕ) (queue : QueueModel) : Type 0 where
 abbrev pub NoneDue : ℕ → QueueModel → Type 0
 NoneDue now queue = (place : ℕ) → IsDueAt now place queue → ⊥
 
--- The message of such an item is given up.
+-- The message of such an item is abandoned.
 pub record GivesUpFirst (now : ℕ) (old new : Stage) : Type 0 where
   pub place : ℕ
   pub is_due : IsDueAt now place old.queue
   pub gives_up : GivesUpAt now place old new
 
--- Memory is refused for giving up the message of the item at this place: a front part is told of what would be told, and nothing else
+-- An allocation fails for abandoning the message of the item at this place. The first of its events are added, and nothing else
 -- has happened.
 pub record RefusesAt (place : ℕ) (old new : Stage) : Type 0 where
   pub refused : RefusesUpAt place old.queue.outstanding.items old.waiting old.told new.told
   pub is : new ≡ record old { told = new.told }
 
--- Some messages are given up, and for the next one memory is refused.
+-- Some messages are abandoned, and for the next one an allocation fails.
 pub record StopsGivingUp (now : ℕ) (old new : Stage) : Type 0 where
   pub at : Stage
   pub steps : Steps (GivesUpFirst now) old at
@@ -41,12 +41,12 @@ pub record StopsGivingUp (now : ℕ) (old new : Stage) : Type 0 where
   pub is_due : IsDueAt now place at.queue
   pub refuses : RefusesAt place at new
 
--- Messages are given up one behind the other, until none is due; or up to where memory is refused.
+-- Messages are abandoned one after the other, until none is due; or up to where an allocation fails.
 abbrev pub GivesUpDue : {A : Type 0} → ℕ → Stage → Stage → Result A AllocError → Type 0
 GivesUpDue now old new (Ok done) = Steps (GivesUpFirst now) old new × NoneDue now new.queue
 GivesUpDue now old new (Err error) = StopsGivingUp now old new
 
--- what is done at the item at this place, by whether it is due, and by whether memory was refused
+-- what is done at the item at this place, by whether it is due, and by whether an allocation failed
 abbrev pub GivesUpIf : {A : Type 0} → ℕ → ℕ → Stage → Stage → Bool → Result A AllocError → Type 0
 GivesUpIf now place old new true (Ok done) = GivesUpAt now place old new
 GivesUpIf now place old new true (Err error) = RefusesAt place old new

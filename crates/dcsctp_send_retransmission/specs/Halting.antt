@@ -21,13 +21,13 @@ pub record WaitsForRoom (room : ℕ) (outstanding : OutstandingModel) : Type 0 w
 abbrev pub HaltsAgain : ℕ → QueueModel → Type 0
 HaltsAgain room queue = (marked_items queue.outstanding.items ≡ 0) ⊎ ((may_send queue ≡ false) ⊎ WaitsForRoom room queue.outstanding)
 
--- Why no new chunk is sent: the windows don't allow, not one byte fits, all TSNs are in use that can be compared, or the send
--- queue gives none.
+-- Why no new chunk is sent. The windows don't allow, not one byte fits, all comparable TSNs are in use, or the send queue gives
+-- none.
 abbrev pub HaltsNew : ℕ → QueueModel → Backlog → Type 0
 HaltsNew room queue waiting =
     (may_send queue ≡ false) ⊎ ((room < queue.outstanding.header + 4) ⊎ ((2 ^ 31 ≤ length queue.outstanding.items + 1) ⊎ HasNone waiting))
 
--- Why nothing more goes into a packet with so much room. New chunks go behind all that are sent again.
+-- Why nothing more goes into a packet with that much room. New chunks go after all that are sent again.
 abbrev pub Halts : ℕ → QueueModel → Backlog → Type 0
 Halts room queue waiting =
     ((may_send queue ≡ false) ⊎ WaitsForRoom room queue.outstanding) ⊎ ((marked_items queue.outstanding.items ≡ 0) × HaltsNew room queue waiting)
@@ -45,7 +45,7 @@ abbrev pub GoesAgain : QueueModel → QueueModel → ℕ → Bool → Type 0
 GoesAgain old new room true = marked_items new.outstanding.items < marked_items old.outstanding.items
 GoesAgain old new room false = (marked_items new.outstanding.items ≤ marked_items old.outstanding.items) × HaltsAgain room new
 
--- TSNs of outstanding items fill a packet of so many bytes as far as can be.
+-- TSNs of outstanding items fill a packet of that many bytes as far as possible.
 pub record FillsUp (bytes : ℕ) (queue : QueueModel) (waiting : Backlog) (tsns : List ℕ) : Type 0 where
   pub used : ℕ
   pub packed : PackedFrom queue.outstanding tsns used

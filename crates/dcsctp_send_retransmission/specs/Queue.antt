@@ -108,7 +108,7 @@ may_send queue =
     let flying = bytes_in_flight queue.outstanding.header queue.outstanding.items in
     (flying == 0) || (nat_lt flying queue.congestion.cwnd && nat_lt flying queue.peer_window)
 
--- The timer with something outstanding, at this moment: it is started where it doesn't run.
+-- The timer with something outstanding, at this moment: it is started if it doesn't run.
 abbrev pub kept_running : ℕ → TimerModel → TimerModel
 kept_running now timer = if is_some timer.running then timer else record timer { running = started now timer.settings }
 
@@ -135,7 +135,7 @@ queue_at now queue = if expires_at now queue.timer.running then queue_after_expi
 abbrev pub with_items : List Item → QueueModel → QueueModel
 with_items items queue = record queue { outstanding = record queue.outstanding { items = items } }
 
--- the items with those acknowledged that the SACK covers: the first ones, so many, and those that its blocks name
+-- the items with those acknowledged that the SACK covers: that many first ones and those that its blocks name
 abbrev pub covered : ℕ → List GapAckBlock → List Item → List Item
 covered count blocks items = reported count blocks (changed_between Acknowledge 0 count items)
 
@@ -147,8 +147,8 @@ lossy queue =
       fast_retransmit_due = if is_some queue.congestion.recovery_exit then queue.fast_retransmit_due else true;
     }
 
--- the items from the place `count` to before the place `limit` with one more miss, by a SACK that acknowledges this TSN last of those
--- that none before did
+-- the items from the place `count` to before the place `limit` with one more miss; this TSN is the last that the SACK newly
+-- acknowledges
 abbrev pub missed_until : ℕ → ℕ → Option ℕ → QueueModel → QueueModel
 missed_until count limit newest queue =
     let items = changed_between (Miss newest) count limit queue.outstanding.items in
@@ -164,7 +164,7 @@ acknowledgement count old new =
       is_last = unacknowledged_items new.outstanding.items == 0;
     }
 
--- without the first items, so many
+-- without that many first items
 abbrev pub without_first : ℕ → QueueModel → QueueModel
 without_first count queue =
     record queue { outstanding = record { first_tsn = (queue.outstanding.first_tsn + count) % 2 ^ 32; header = queue.outstanding.header; items = drop count queue.outstanding.items } }
@@ -185,11 +185,11 @@ abbrev pub exiting : ℕ → QueueModel → QueueModel
 exiting cumulative queue =
     record queue { congestion = record queue.congestion { recovery_exit = exit_after cumulative queue.congestion.recovery_exit } }
 
--- The timer once the cumulative TSN has passed so many items: it starts anew where there were some.
+-- The timer once the cumulative TSN has passed that many items: it starts anew if there were some.
 abbrev pub rewound : ℕ → TimerModel → TimerModel
 rewound count timer = if nat_lt 0 count then record timer { running = None } else timer
 
--- The peer's window is this now, and the timer runs where something is outstanding.
+-- The peer's window is this now, and the timer runs while something is outstanding.
 abbrev pub settled_at : ℕ → ℕ → ℕ → QueueModel → QueueModel
 settled_at now window count queue =
     record queue { peer_window = window; timer = timer_with now queue.outstanding.items (rewound count queue.timer) }
@@ -231,7 +231,7 @@ HandlesSack now cumulative window blocks old told new telling (Err error) =
     × (new ≡ old)
     × TellsFront (contents told) (contents (delivered (take (acknowledged_by old.outstanding cumulative) old.outstanding.items))) (contents telling)
 
--- ---- what is given up
+-- ---- what is abandoned
 
 -- An abandoned item may be added that stands for the end of a message; nothing else changes.
 pub record MayGrow (old new : QueueModel) : Type 0 where

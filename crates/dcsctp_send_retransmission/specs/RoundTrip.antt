@@ -5,12 +5,12 @@ use Rattle.dcsctp_send_outstanding.specs.declared.item.Item.{Item}
 use Rattle.dcsctp_send_outstanding.specs.Progress.{is_marked}
 use Rattle.dcsctp_send_outstanding.specs.Reports.{IsNewlyAcknowledged, IsLast}
 
--- The round trip of an item that is acknowledged now: none where it was sent again, or was to be.
+-- The round trip of an item that is acknowledged now: none if it was sent again, or was to be.
 abbrev pub round_trip_of : ℕ → Item → Option ℕ
 round_trip_of now item =
     if (item.progress.times_sent_again == 0) && not (is_marked item.progress.state) then Some (now - item.sent_at) else None
 
--- that of an item, where there is one
+-- that of an item, if there is one
 abbrev pub round_trip_of_any : ℕ → Option Item → Option ℕ
 round_trip_of_any now None = None
 round_trip_of_any now (Some item) = round_trip_of now item

@@ -7,7 +7,7 @@ use Rattle.dcsctp_send_outstanding.specs.Items.{size_of}
 use Rattle.dcsctp_send_outstanding.specs.Outstanding.{OutstandingModel}
 use Rattle.dcsctp_send_retransmission.specs.Queue.{QueueModel, timer_with}
 
--- the item at this place bears the fragment
+-- the item at this place carries the fragment
 pub record HasFragment (place : ℕ) (fragment : DataToSend) (items : List Item) : Type 0 where
   pub item : Item
   pub at : slice_get items place ≡ Some item
@@ -28,16 +28,16 @@ pub record Keeps (old new : QueueModel) : Type 0 where
   pub partial_reliability : new.partial_reliability ≡ old.partial_reliability
   pub interleaving : new.interleaving ≡ old.interleaving
 
--- These TSNs are those of items, and their chunks take up so many bytes.
+-- These TSNs are those of items, and their chunks take up that many bytes.
 pub data Packed (first header : ℕ) (items : List Item) : List ℕ → ℕ → Type 0 where
   none : Packed first header items [] 0
   more : (tsns : List ℕ) (used place : ℕ) (item : Item) (tsn size : ℕ) → Packed first header items tsns used → slice_get items place ≡ Some item → tsn ≡ (first + place) % 2 ^ 32 → size ≡ size_of header item → Packed first header items (tsns ++ tsn ∷ []) (used + size)
 
--- the same of what is outstanding
+-- the same for what is outstanding
 abbrev pub PackedFrom : OutstandingModel → List ℕ → ℕ → Type 0
 PackedFrom outstanding tsns used = Packed outstanding.first_tsn outstanding.header outstanding.items tsns used
 
--- A packet that had so many bytes of room holds chunks of the queue.
+-- A packet that had that many bytes of room holds chunks of the queue.
 pub record Filled (bytes : ℕ) (queue : QueueModel) (packet : Packet) : Type 0 where
   pub used : ℕ
   pub packed : PackedFrom queue.outstanding packet.tsns.items used
@@ -52,19 +52,19 @@ pub record Fills (old : QueueModel) (before : Packet) (new : QueueModel) (after 
   pub keeps : Keeps old new
   pub filling : GoesOnFilling old before new after
 
--- the TSNs of outstanding items, whose chunks fit into so many bytes
+-- the TSNs of outstanding items, whose chunks fit into that many bytes
 pub record HandsOut (bytes : ℕ) (outstanding : OutstandingModel) (tsns : List ℕ) : Type 0 where
   pub used : ℕ
   pub fits : used ≤ bytes
   pub packed : PackedFrom outstanding tsns used
 
--- Nothing is lost, and the timer runs where something is outstanding.
+-- Nothing is lost, and the timer runs while something is outstanding.
 pub record Sends (now : ℕ) (old new : QueueModel) : Type 0 where
   pub sent : QueueModel
   pub keeps : Keeps old sent
   pub is : new ≡ record sent { timer = timer_with now sent.outstanding.items sent.timer }
 
--- one more packet with so many bytes of chunks that were sent again, where there are any
+-- one more packet with that many bytes of chunks that were sent again, if there are any
 abbrev pub counted_again : ℕ → QueueModel → QueueModel
 counted_again size queue =
     if nat_lt 0 size

@@ -17,7 +17,7 @@ stream_bytes entry = to_be_bytes w16 entry.stream_id ++ to_be_bytes w16 entry.ss
 abbrev pub messages_bytes : SkippedMessages → List ℕ
 messages_bytes entry = to_be_bytes w16 entry.stream_id ++ to_be_bytes w16 (t_bit entry.is_unordered) ++ to_be_bytes w32 entry.mid
 
--- one entry behind the other
+-- one entry after the other
 abbrev pub skipped_bytes : Skipped → List ℕ
 skipped_bytes (Streams streams) = flat_map stream_bytes streams.items
 skipped_bytes (Messages messages) = flat_map messages_bytes messages.items
@@ -29,7 +29,7 @@ FitsStream entry = (entry.stream_id < 2 ^ 16) × (entry.ssn < 2 ^ 16)
 abbrev pub FitsMessages : SkippedMessages → Type 0
 FitsMessages entry = (entry.stream_id < 2 ^ 16) × (entry.mid < 2 ^ 32)
 
--- These bytes are the entries of a chunk: a reader of the entry at a place finds the one that stands there.
+-- These bytes are the entries of a chunk: a reader of the entry at a place finds that entry.
 abbrev pub ReadsAs : Skipped → List ℕ → Type 0
 ReadsAs (Streams streams) bytes =
     (length bytes ≡ 4 * length streams.items)

@@ -1,5 +1,5 @@
--- How a packet is filled: which items are sent again, which are given up, which are new, and what is told
--- (RFC 9260, section 6.1; RFC 3758, section 3.5).
+-- How a packet is filled: which items are sent again, which are abandoned, which are new, and what is told (RFC 9260, section
+-- 6.1; RFC 3758, section 3.5).
 use Rattle.std.specs.Prelude.{Result, Ok, Err, Vec, ◌≡◌, ◌⊎◌, ◌+◌, ◌-◌, ◌*◌, ◌/◌, ◌^◌, ◌<◌, ◌≤◌, ◌&&◌, ◌||◌, min, nat_lt, nat_le, ℕ, Bool, true, false, Option, None, Some, List, [], ◌∷◌, ◌++◌, length, slice_get}
 use Rattle.std.specs.declared.alloc.AllocError.{AllocError}
 use Rattle.std.specs.declared.alloc.Global.{Global}
@@ -38,7 +38,7 @@ pub record Stage : Type 0 where
 abbrev pub stage : QueueModel → Backlog → List SocketEvent → List ℕ → ℕ → Stage
 stage queue waiting events tsns room = record { queue = queue; waiting = waiting; told = contents events; tsns = tsns; room = room }
 
--- ---- what is given up
+-- ---- what is abandoned
 
 -- was it sent again as often as it may be?
 abbrev pub is_used_up : Option ℕ → ℕ → Bool
@@ -50,32 +50,32 @@ abbrev pub is_over : Option ℕ → ℕ → Bool
 is_over None now = false
 is_over (Some moment) now = nat_lt moment now
 
--- Is the message of the item to be given up, where partial reliability was negotiated? The item was lost, and its message may not
+-- Is the message of the item to be abandoned, if partial reliability was negotiated? The item was lost, and its message may not
 -- be sent again.
 abbrev pub is_due : ℕ → Bool → Item → Bool
 is_due now negotiated item =
     negotiated && is_marked item.progress.state
     && (is_used_up item.fragment.max_retransmissions item.progress.times_sent_again || is_over item.fragment.expires_at now)
 
--- what is told of a message that was fully sent, and is given up: the peer may have it
+-- the events about a message that was fully sent, and is abandoned: the peer may have it
 abbrev pub maybe_expired : Option LifecycleId → List (Event (List ℕ))
 maybe_expired None = []
 maybe_expired (Some id) = lifecycle_message_maybe_expired (lifecycle_number id) ∷ lifecycle_end (lifecycle_number id) ∷ []
 
--- the same of a stage
+-- the same for a stage
 pub record DropsRestAt (now : ℕ) (last : Item) (old new : Stage) : Type 0 where
   pub outstanding : OutstandingModel
   pub drops : DropsRest now old.queue.reset_begun last old.queue.outstanding old.waiting old.told outstanding new.waiting new.told
   pub is : new ≡ record old { queue = record old.queue { outstanding = outstanding }; waiting = new.waiting; told = new.told }
 
--- It is told that a message is given up which was fully sent; or what waits of it is dropped, where TSNs are left.
+-- It is told that a message is abandoned which was fully sent; or what waits of it is dropped, if TSNs are left.
 abbrev pub Closes : ℕ → Item → Stage → Stage → Bool → Type 0
 Closes now last old new true = new ≡ record old { told = old.told ++ maybe_expired last.fragment.lifecycle_id }
 Closes now last old new false =
     ((length old.queue.outstanding.items + 1 < 2 ^ 31) × DropsRestAt now last old new)
     ⊎ ((2 ^ 31 ≤ length old.queue.outstanding.items + 1) × (new ≡ old))
 
--- The message of the item at this place is given up.
+-- The message of the item at this place is abandoned.
 pub record GivesUpAt (now place : ℕ) (old new : Stage) : Type 0 where
   pub start : ℕ
   pub last_place : ℕ
@@ -88,7 +88,7 @@ pub record GivesUpAt (now place : ℕ) (old new : Stage) : Type 0 where
 
 -- ---- the steps
 
--- The first item that waits to be sent again isn't due to be given up, and goes out.
+-- The first item that waits to be sent again isn't due to be abandoned, and is sent.
 pub record SendsMarked (now : ℕ) (old new : Stage) : Type 0 where
   pub place : ℕ
   pub next : IsNextMarked place old.queue.outstanding.items
@@ -100,18 +100,18 @@ pub record SendsMarked (now : ℕ) (old new : Stage) : Type 0 where
     room = old.room - size_of old.queue.outstanding.header next.marked.item;
   }
 
--- The first item that waits to be sent again is due to be given up, and is.
+-- The first item that waits to be sent again is due to be abandoned, and is.
 pub record GivesUpMarked (now : ℕ) (old new : Stage) : Type 0 where
   pub place : ℕ
   pub next : IsNextMarked place old.queue.outstanding.items
   pub due : is_due now old.queue.partial_reliability next.marked.item ≡ true
   pub gives_up : GivesUpAt now place old new
 
--- the greatest payload of a chunk with this header that fits into so much room (RFC 9260, section 3.2)
+-- the greatest payload of a chunk with this header that fits into that much room (RFC 9260, section 3.2)
 abbrev pub payload_room : ℕ → ℕ → ℕ
 payload_room header room = (min room 65532 - header) / 4 * 4
 
--- A new item goes out, with what the send queue gives.
+-- A new item is sent, with what the send queue gives.
 pub record SendsNew (now : ℕ) (old new : Stage) : Type 0 where
   pub item : Item
   pub is_fresh : IsFresh now item
@@ -130,27 +130,27 @@ pub record FindsNone (now : ℕ) (old new : Stage) : Type 0 where
   pub takes : TakesNone now old.waiting old.told new.waiting new.told
   pub is : new ≡ record old { waiting = new.waiting; told = new.told }
 
--- What waits to be sent again goes out where the windows allow, or is given up.
+-- What waits to be sent again is sent if the windows allow, or is abandoned.
 abbrev pub StepAgain : ℕ → Stage → Stage → Type 0
 StepAgain now old new = ((may_send old.queue ≡ true) × SendsMarked now old new) ⊎ GivesUpMarked now old new
 
--- Something new goes out where the windows allow, and nothing waits to be sent again.
+-- Something new is sent if the windows allow, and nothing waits to be sent again.
 abbrev pub StepNew : ℕ → Stage → Stage → Type 0
 StepNew now old new =
     (may_send old.queue ≡ true) × (marked_items old.queue.outstanding.items ≡ 0) × (SendsNew now old new ⊎ FindsNone now old new)
 
--- some such steps, one behind the other
+-- some such steps, one after the other
 pub data Steps (Step : Stage → Stage → Type 0) (old : Stage) : Stage → Type 0 where
   none : Steps Step old old
   more : (between new : Stage) → Steps Step old between → Step between new → Steps Step old new
 
--- What is told where memory is refused for giving a message up whose last item is this one: a front part of what would be.
+-- The events if an allocation fails for abandoning a message whose last item is this one: the first part of all.
 abbrev pub RefusesClosing : Item → Backlog → List (Event (List ℕ)) → List (Event (List ℕ)) → Bool → Type 0
 RefusesClosing last waiting told telling true = TellsFront told (maybe_expired last.fragment.lifecycle_id) telling
 RefusesClosing last waiting told telling false =
     (telling ≡ told) ⊎ StopsDiscarding waiting last.fragment.stream_id.0 last.fragment.message_id told telling
 
--- Memory is refused for giving up the message of the item at this place.
+-- An allocation fails for abandoning the message of the item at this place.
 pub record RefusesUpAt (place : ℕ) (items : List Item) (waiting : Backlog) (told telling : List (Event (List ℕ))) : Type 0 where
   pub last_place : ℕ
   pub message : EndsMessage place (last_place + 1) items
@@ -158,7 +158,7 @@ pub record RefusesUpAt (place : ℕ) (items : List Item) (waiting : Backlog) (to
   pub at : slice_get items last_place ≡ Some last
   pub tells : RefusesClosing last waiting told telling last.fragment.is_end
 
--- The first item that waits to be sent again is due to be given up, and memory is refused for that.
+-- The first item that waits to be sent again is due to be abandoned, and an allocation fails for that.
 pub record RefusesUp (now : ℕ) (at : Stage) (left : Backlog) (telling : List (Event (List ℕ))) : Type 0 where
   pub place : ℕ
   pub next : IsNextMarked place at.queue.outstanding.items
@@ -166,8 +166,8 @@ pub record RefusesUp (now : ℕ) (at : Stage) (left : Backlog) (telling : List (
   pub refused : RefusesUpAt place at.queue.outstanding.items at.waiting at.told telling
   pub stays : left ≡ at.waiting
 
--- What has happened to the send queue and was told of a further step, for which memory was refused: nothing, or messages that are too
--- old to be begun were dropped, and a front part is told of what would be told next.
+-- The send queue and the events after a further step for which an allocation failed. Nothing happened; or messages that are too
+-- old to be started were dropped, and the first part of the next events was added.
 abbrev pub Refused : ℕ → Stage → Backlog → List (Event (List ℕ)) → Type 0
 Refused now at left telling =
     ((left ≡ at.waiting) × (telling ≡ at.told))
@@ -175,21 +175,21 @@ Refused now at left telling =
     ⊎ ((marked_items at.queue.outstanding.items ≡ 0)
     × StopsTaking now (payload_room at.queue.outstanding.header at.room) at.waiting at.told left telling))
 
--- After some steps memory is refused: nothing of a further step has happened to the items.
+-- After some steps an allocation fails: nothing of a further step has happened to the items.
 pub record Stops (now : ℕ) (Step : Stage → Stage → Type 0) (old new : Stage) : Type 0 where
   pub at : Stage
   pub steps : Steps Step old at
   pub queue : new.queue ≡ at.queue
   pub refused : Refused now at new.waiting new.told
 
--- some steps, by whether memory was refused
+-- some steps, by whether an allocation failed
 abbrev pub Goes : {A : Type 0} → ℕ → (Stage → Stage → Type 0) → Stage → Stage → Result A AllocError → Type 0
 Goes now Step old new (Ok done) = Steps Step old new
 Goes now Step old new (Err error) = Stops now Step old new
 
 -- ---- the whole
 
--- The packet that had so much room is counted, where chunks are in it that were sent again.
+-- The packet that had that much room is counted, if it has chunks that were sent again.
 abbrev pub counting : ℕ → Stage → Stage
 counting room old = record old { queue = counted_again (room - old.room) old.queue }
 
@@ -199,7 +199,7 @@ pub record FillsStage (now : ℕ) (old new : Stage) : Type 0 where
   pub again : Steps (StepAgain now) old resent
   pub anew : Steps (StepNew now) (counting old.room resent) new
 
--- The same, up to where memory is refused.
+-- The same, up to where an allocation fails.
 pub record StopsAnew (now : ℕ) (old new : Stage) : Type 0 where
   pub resent : Stage
   pub again : Steps (StepAgain now) old resent
@@ -212,18 +212,18 @@ abbrev pub GoesFilling : {A : Type 0} → ℕ → Stage → Stage → Result A A
 GoesFilling now old new (Ok done) = FillsStage now old new
 GoesFilling now old new (Err error) = StopsFilling now old new
 
--- A packet is filled that had so many bytes of room, from a queue, a send queue and events to others.
+-- A packet is filled that had that many bytes of room, from a queue, a send queue and events to others.
 pub record FillsPacket (now bytes : ℕ) (old : QueueModel) (waiting : Backlog) (events : List SocketEvent) (new : QueueModel) (left : Backlog) (telling : List SocketEvent) (tsns : List ℕ) : Type 0 where
   pub room : ℕ
   pub fills : FillsStage now (stage old waiting events [] bytes) (stage new left telling tsns room)
 
--- a packet is filled by whether memory was refused
+-- a packet is filled by whether an allocation failed
 abbrev pub TriesPacket : ℕ → ℕ → QueueModel → Backlog → List SocketEvent → QueueModel → Backlog → List SocketEvent → Result (Vec ℕ Global) AllocError → Type 0
 TriesPacket now bytes old waiting events new left telling (Ok tsns) = FillsPacket now bytes old waiting events new left telling tsns.items
 TriesPacket now bytes old waiting events new left telling (Err error) =
     StopsFilling now (stage old waiting events [] bytes) (stage new left telling [] bytes)
 
--- The same, and then the timer runs where something is outstanding.
+-- The same, and then the timer runs while something is outstanding.
 pub record SendsPacket (now bytes : ℕ) (old : QueueModel) (waiting : Backlog) (events : List SocketEvent) (new : QueueModel) (left : Backlog) (telling : List SocketEvent) (result : Result (Vec ℕ Global) AllocError) : Type 0 where
   pub sent : QueueModel
   pub fills : TriesPacket now bytes old waiting events sent left telling result
@@ -242,7 +242,7 @@ SendsAt place item old before new after false = (new ≡ old) × (after.tsns.ite
 
 -- ---- a fast retransmission (RFC 9260, section 7.2.4)
 
--- Why no more chunks go out at once: none waits to be sent again, or the first that does is due to be given up or doesn't fit.
+-- Why no more chunks are sent at once. None waits to be sent again, or the first that does is due to be abandoned or doesn't fit.
 pub record IsFirstDue (now : ℕ) (queue : QueueModel) : Type 0 where
   pub place : ℕ
   pub next : IsNextMarked place queue.outstanding.items
@@ -256,17 +256,17 @@ abbrev pub is_first_marked : List Item → Bool
 is_first_marked [] = false
 is_first_marked (item ∷ items) = is_marked item.progress.state
 
--- Is the first item among those that were sent again? Then it waited for that, and doesn't any more.
+-- Is the first item among those that were sent again? Then it waited for that, and no longer does.
 abbrev pub SendsFirst : List Item → List Item → Bool → Type 0
 SendsFirst old new true = (is_first_marked old ≡ true) × (is_first_marked new ≡ false)
 SendsFirst old new false = is_first_marked new ≡ is_first_marked old
 
--- the timer starts anew where the first item is sent again
+-- the timer starts anew if the first item is sent again
 abbrev pub restarted : Bool → TimerModel → TimerModel
 restarted true timer = record timer { running = None }
 restarted false timer = timer
 
--- These TSNs go out at once, as many as fit into so many bytes.
+-- These TSNs are sent at once, as many as fit into that many bytes.
 pub record SendsAtOnce (now bytes : ℕ) (old new : QueueModel) (tsns : List ℕ) : Type 0 where
   pub resent : QueueModel
   pub room : ℕ
@@ -277,7 +277,7 @@ pub record SendsAtOnce (now bytes : ℕ) (old new : QueueModel) (tsns : List ℕ
   pub is : let queue = counted_again (bytes - room) resent in
       new ≡ record queue { timer = timer_with now queue.outstanding.items (restarted sends_first queue.timer) }
 
--- a fast retransmission by whether memory was refused
+-- a fast retransmission by whether an allocation failed
 abbrev pub TriesAtOnce : ℕ → ℕ → QueueModel → QueueModel → Result (Vec ℕ Global) AllocError → Type 0
 TriesAtOnce now bytes old new (Ok tsns) = SendsAtOnce now bytes (record old { fast_retransmit_due = false }) new tsns.items
 TriesAtOnce now bytes old new (Err error) =

@@ -1,4 +1,4 @@
--- What is told of messages that leave the queue.
+-- The events about messages that leave the queue.
 use Rattle.std.specs.Prelude.{Bool, true, false, ◌&&◌, not, Option, None, Some, List, [], ◌∷◌, ◌++◌}
 use Rattle.dcsctp_machine.specs.declared.ids.LifecycleId.{LifecycleId}
 use Rattle.dcsctp_api.specs.declared.events.SocketEvent.{SocketEvent}
@@ -6,7 +6,7 @@ use Rattle.dcsctp_api.specs.declared.events.SocketEvent.TheVariants.{OnLifecycle
 use Rattle.dcsctp_send_outstanding.specs.declared.item.Item.{Item}
 use Rattle.dcsctp_send_outstanding.specs.Progress.{is_abandoned}
 
--- It is the last of its message, which wasn't given up.
+-- It is the last of its message, which wasn't abandoned.
 abbrev pub ends_delivery : Item → Bool
 ends_delivery item = item.fragment.is_end && not (is_abandoned item.progress.state)
 

@@ -22,7 +22,7 @@ pub struct Acknowledged {
     pub is_last: bool,
 }
 
-/// The congestion window of an association. It takes no memory.
+/// The congestion window of an association. Allocates nothing.
 #[derive(Clone, Copy, Debug)]
 pub struct CongestionControl {
     /// The congestion window.
@@ -94,8 +94,8 @@ impl CongestionControl {
         self.recovery_exit = None;
     }
 
-    /// Some TSNs were found lost. Fast recovery begins, unless it is under way; it ends once `exit`, the
-    /// highest TSN that is outstanding, is acknowledged (RFC 9260, section 7.2.4).
+    /// Some TSNs were found lost. Fast recovery begins, unless it is under way. It ends once `exit`, the
+    /// highest outstanding TSN, is acknowledged (RFC 9260, section 7.2.4).
     pub fn handle_loss(&mut self, exit: u32)
         ensures { self.new ≡ after_loss self.old.recovery_exit exit self.old }
     {
@@ -110,7 +110,7 @@ impl CongestionControl {
         }
     }
 
-    /// The cumulative TSN is this one: fast recovery ends where it has come to the exit point.
+    /// The cumulative TSN is this one: fast recovery ends if it has come to the exit point.
     pub fn leave_recovery(&mut self, cumulative_tsn_ack: u32)
         ensures { self.new ≡ record self.old { recovery_exit = exit_after cumulative_tsn_ack self.old.recovery_exit } }
     {

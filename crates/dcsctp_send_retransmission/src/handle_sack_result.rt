@@ -10,11 +10,12 @@ pub enum HandleSackResult {
 
     /// It was taken into account.
     Valid {
-        /// The round trip of the newest item that it acknowledges and none before did; none where there is no
+        /// The round trip of the newest item that it acknowledges and none before did. `None` if there is no
         /// such item, or it was sent again or waits for that (RFC 9260, section 6.3.1, rule C5).
         rtt: Option<Duration>,
 
-        /// Was an item acknowledged that no SACK had acknowledged before, given up or not (RFC 9260, section 8.1)?
+        /// Was an item acknowledged that no SACK had acknowledged before, abandoned or not (RFC 9260, section
+        /// 8.1)?
         reset_error_counter: bool,
     },
 }

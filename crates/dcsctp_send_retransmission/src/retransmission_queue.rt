@@ -1,5 +1,5 @@
-//! What is in flight, and how much more may be sent: the sending side of RFC 9260, sections 6.1 to 6.3 and 7.2,
-//! and of RFC 3758, section 3.5.
+//! What is in flight, and how much more may be sent. It is the sending side of RFC 9260, sections 6.1 to 6.3
+//! and 7.2, and of RFC 3758, section 3.5.
 
 ghost use Rattle.std.specs.Prelude.{◌≡◌};
 
@@ -75,9 +75,9 @@ impl RetransmissionQueue {
     ghost use Rattle.dcsctp_send_retransmission.specs.Queue.{retransmission_state, new_queue, may_send, queue_at, timer_with};
     ghost use Rattle.dcsctp_send_retransmission.specs.Sending.{counted_again, HasFragment};
 
-    /// Nothing was sent yet: the first TSN is `my_initial_tsn`, the peer's receive window is the one that it
-    /// announced, `a_rwnd` bytes, and the congestion window is `cwnd_mtus_initial` MTUs of the options
-    /// (RFC 9260, section 7.2.1). It takes no memory.
+    /// Nothing was sent yet: the first TSN is `my_initial_tsn`, the peer's receive window is `a_rwnd` bytes,
+    /// as it announced. The congestion window is `cwnd_mtus_initial` MTUs of the options (RFC 9260, section
+    /// 7.2.1). Allocates nothing.
     pub fn new(
         alloc: Global,
         options: &Options,
@@ -121,14 +121,14 @@ impl RetransmissionQueue {
         self.spare = tsns;
     }
 
-    /// Do messages go out as I-DATA (RFC 8260, section 2.1)?
+    /// Are messages sent as I-DATA (RFC 8260, section 2.1)?
     pub fn is_interleaving(&self) -> bool
         ensures { result ≡ (retransmission_state self.now).message_interleaving }
     {
         self.interleaving
     }
 
-    /// The TSN that goes out next.
+    /// The TSN that is sent next.
     pub fn next_tsn(&self) -> u32
         ensures { result ≡ (retransmission_state self.now).next_tsn }
     {
@@ -193,7 +193,7 @@ impl RetransmissionQueue {
         self.bytes_retransmitted
     }
 
-    /// When the retransmission timer expires next; none where it doesn't run.
+    /// When the retransmission timer expires next; none if it doesn't run.
     pub fn next_timeout(&self) -> Option<SocketTime>
         ensures { result ≡ (retransmission_state self.now).deadline }
     {
@@ -211,8 +211,8 @@ impl RetransmissionQueue {
         self.timer.set_duration(rto);
     }
 
-    /// May more be sent? That is so where less than the congestion window and less than the peer's window is
-    /// in flight, or nothing (RFC 9260, section 6.1).
+    /// May more be sent? Yes if less than the congestion window and less than the peer's window is in flight,
+    /// or nothing (RFC 9260, section 6.1).
     pub fn can_send_data(&self) -> bool
         ensures { result ≡ may_send self.now }
     {
@@ -220,7 +220,7 @@ impl RetransmissionQueue {
         flying == 0 || (flying < self.congestion.cwnd && flying < self.peer_window)
     }
 
-    /// Notes that outgoing streams are reset: no FORWARD-TSN reaches across, since numbers begin anew behind
+    /// Notes that outgoing streams are reset: no FORWARD-TSN goes beyond that, since numbers start anew after
     /// the last assigned TSN (RFC 6525, section 5.1.2).
     pub fn begin_reset_streams(&mut self)
         ensures { self.new ≡ record self.old { reset_begun = true } }
@@ -228,7 +228,7 @@ impl RetransmissionQueue {
         self.reset_begun = true;
     }
 
-    /// What the chunk of the TSN says; none where the TSN isn't outstanding.
+    /// What the chunk of the TSN says; none if the TSN isn't outstanding.
     pub fn chunk(&self, tsn: u32) -> Option<&DataToSend>
         ensures found { IfSome result (λ fragment. HasFragment (distance_to self.now.outstanding tsn) fragment.now self.now.outstanding.items) }
         ensures none { IfNone result (length self.now.outstanding.items ≤ distance_to self.now.outstanding tsn) }
@@ -242,12 +242,12 @@ impl RetransmissionQueue {
         }
     }
 
-    /// Tells the queue that the moment `now` has come, and answers whether the retransmission timer expires.
-    /// Before its deadline it doesn't, and nothing changes.
+    /// Advances the retransmission timer to `now`, and returns whether it expires. Before its deadline it
+    /// doesn't, and nothing changes.
     ///
-    /// Once it expires all that was in flight is marked to be sent again, one MTU is left of the congestion
-    /// window, and the timer goes on for twice as long as before, at most `max_timer_backoff_duration` of the
-    /// options (RFC 9260, section 6.3.3).
+    /// Once it expires, all that was in flight is marked to be sent again, and the congestion window is one
+    /// MTU (RFC 9260, section 6.3.3). The timer goes on for twice as long as before, at most
+    /// `max_timer_backoff_duration` of the options.
     pub fn handle_timeout(&mut self, now: SocketTime) -> bool
         ensures answer { result ≡ expires_at now self.old.timer.running }
         ensures left { self.new ≡ queue_at now self.old }
@@ -272,7 +272,7 @@ impl RetransmissionQueue {
         }
     }
 
-    // Counts a packet with so many bytes of chunks that were sent again, where there are any.
+    // Counts a packet with that many bytes of chunks that were sent again, if there are any.
     fn count_sent_again(&mut self, size: usize)
         ensures { self.new ≡ counted_again size self.old }
     {

@@ -1,8 +1,8 @@
-//! Tests of `RetransmissionTimeout` and `RetransmissionQueue` by their public calls. Their values were worked
-//! out by hand from the formulas of RFC 9260, sections 6.3.1 and 7.2, and RFC 3758.
+//! Tests of `RetransmissionTimeout` and `RetransmissionQueue` by their public calls. Their values were
+//! computed by hand from the formulas of RFC 9260, sections 6.3.1 and 7.2, and RFC 3758.
 //!
-//! A test is a text with a line for each step, which one runner goes through (`script`): a table in the
-//! code would be proved, and a function for each test too.
+//! A test is a text with a line for each step, which one runner goes through (`script`). A table in the code
+//! would have to be proved, and so would a function for each test.
 #![tactic(auto)]
 
 #[cfg(test)]

@@ -9,7 +9,7 @@ use dcsctp_wire::GapAckBlock;
 use std::alloc::Global;
 use std::time::Duration;
 
-/// The two queues, what they told, the moment, how the next message is sent, and what the latest SACK did.
+/// The two queues, their events, the moment, how the next message is sent, and what the latest SACK did.
 pub struct Line {
     alloc: Global,
     queue: SendQueue,
@@ -58,7 +58,7 @@ static STATE: &[&str] = &[
 // The names of the numbers of a chunk.
 static CHUNK: &[&str] = &["stream", "fsn", "size", "begins", "ends"];
 
-// The moment so many milliseconds after the first.
+// The moment that many milliseconds after the first.
 fn at(millis: u32) -> SocketTime {
     SocketTime::zero() + Duration::from_millis(millis as u64)
 }
@@ -98,8 +98,8 @@ fn shows(row: &mut Row, data: &DataToSend) {
 }
 
 impl Line {
-    /// Nothing waits, and the peer's window is this. What was negotiated: partial reliability, and
-    /// interleaving.
+    /// Nothing waits, and the peer's window is this. The flags say what was negotiated: partial reliability,
+    /// and interleaving.
     pub fn new(alloc: Global, first_tsn: u32, window: u32, negotiated: (bool, bool)) -> Line {
         let options = options();
         let (partial_reliability, interleaving) = negotiated;
@@ -125,7 +125,7 @@ impl Line {
         }
     }
 
-    // Begins anew.
+    // Replaces it with a new one.
     fn begin(&mut self, row: &mut Row) {
         let first_tsn = row.number();
         let window = row.number();
@@ -133,7 +133,7 @@ impl Line {
         *self = Line::new(self.alloc, first_tsn, window, negotiated);
     }
 
-    // Adds a message of so many bytes, of one at least, in the way that was asked for.
+    // Adds a message of this many bytes, of one at least, in the way that was asked for.
     fn add(&mut self, row: &mut Row, stream: StreamId, size: u32) {
         let is_done = match vec![in self.alloc; 7u8; size as usize] {
             Err(_) => false,
@@ -150,7 +150,7 @@ impl Line {
         self.how = SendOptions::default();
     }
 
-    // Adds so many messages of so many bytes to stream 1.
+    // Adds this many messages of this many bytes to stream 1.
     fn add_many(&mut self, row: &mut Row) {
         let count = row.number();
         let size = row.number();
@@ -159,7 +159,7 @@ impl Line {
         }
     }
 
-    // Which TSNs go into a packet of so many bytes.
+    // Which TSNs go into a packet of this many bytes.
     fn send(&mut self, row: &mut Row) {
         let bytes = row.number();
         let moment = at(self.now);

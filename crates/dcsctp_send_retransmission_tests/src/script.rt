@@ -1,13 +1,13 @@
 //! What a test does to the two queues and what it expects of them, as a text with a line for each step.
 //!
-//! `# NAME` names the test that follows. An empty line is passed over. S stands for a stream.
+//! `# NAME` names the test that follows. An empty line is skipped. S stands for a stream.
 //!
 //!     begin N N N N               new queues: the first TSN, the peer's window, and whether partial
 //!                                 reliability and interleaving were negotiated
 //!     now N                       the moment from here on, in milliseconds; after `begin` it is 0
 //!     name N, lifetime N, times N, unordered
-//!                                 the next message has this name in events, lives so many milliseconds, is
-//!                                 sent again so often at most, or is unordered
+//!                                 the next message has this name in events, lives this many milliseconds, is
+//!                                 sent again this often at most, or is unordered
 //!     add S N, add-many N N       a message of so many bytes; so many messages on stream 1
 //!     send N [TSN, ..]            what goes into a packet of N bytes
 //!     send-fast N [TSN, ..]       the same, as a fast retransmission
@@ -22,15 +22,15 @@
 //!     state NUMBERS               what the queue answers, and what the latest SACK did
 //!     tells [EVENT]               the next event, as `Debug` writes it; without one: there is none
 //!
-//! NUMBERS are some of the names that `line` lists, in that order, with a number behind each: 1 for what is
-//! so, 0 for what isn't. `expires` is in milliseconds, and `rtt` in nanoseconds.
+//! NUMBERS are some of the names that `line` lists, in that order, with a number after each. For a flag it is
+//! 1 for yes, 0 for no. `expires` is in milliseconds, and `rtt` in nanoseconds.
 
 use crate::line::Line;
 use dcsctp_testing::run_text;
 use std::alloc::AllocGlobal;
 use std::process::Abort;
 
-/// Takes the lines of a text. Behind one that fails it goes on at the next `begin`, and at the end it fails.
+/// Takes the lines of a text. After one that fails it goes on at the next `begin`, and at the end it fails.
 pub fn run<R: Abort + AllocGlobal>(rt: &R, text: &'static str) {
     let mut line = Line::new(rt.alloc(), 0, 0, (false, false));
     if let Err(fault) = run_text(rt.alloc(), &mut line, text) {

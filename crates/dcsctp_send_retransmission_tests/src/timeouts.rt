@@ -5,7 +5,7 @@ use dcsctp_send_timer::RetransmissionTimeout;
 use std::process::Abort;
 use std::time::Duration;
 
-// A sample, and the timeout and the smoothed round trip behind it, in nanoseconds.
+// A sample, and the timeout and the smoothed round trip after it, in nanoseconds.
 type Sample = (u64, u128, u128);
 
 // Asserts what the timeout and the smoothed round trip are after each sample.
@@ -37,7 +37,7 @@ fn samples_are_smoothed(rt: HostRuntime) {
     follows(&rt, &options, PLAIN);
     options.min_rtt_variance = Duration::from_nanos(10_000);
     follows(&rt, &options, LEAST_VARIANCE);
-    // Raised to the least and then cut to the greatest, also where that is smaller.
+    // Raised to the least and then cut to the greatest, also if that is smaller.
     options.rto_min = Duration::from_nanos(12_000);
     follows(&rt, &options, &[(1000, 12_000, 1000)]);
     options.rto_max = Duration::from_nanos(9_000);

@@ -9,7 +9,7 @@ use std::process::Abort;
 // How many MTUs the options say, and the congestion window that a queue begins with.
 static BEGINS: &[(usize, usize)] = &[(10, 11_910), (0, 0), (usize::MAX, usize::MAX)];
 
-// Asserts with which windows a queue begins whose options say so many MTUs.
+// Asserts with which windows a queue begins whose options say that many MTUs.
 fn begins(rt: &impl Abort, alloc: Global, mtus: usize, cwnd: usize) {
     let mut options = Options::default();
     options.cwnd_mtus_initial = mtus;

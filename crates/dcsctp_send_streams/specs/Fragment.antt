@@ -41,7 +41,7 @@ fragment_of part =
       lifecycle = option_map lifecycle_number part.lifecycle_id;
     }
 
--- the next fragment of a message that has come so far, with so many of its bytes
+-- the next fragment of a message that has come so far, with that many of its bytes
 abbrev pub fragment : UnderWay → Waiting → ℕ → Fragment
 fragment under_way message size =
     record {
@@ -60,11 +60,11 @@ fragment under_way message size =
       lifecycle = message.lifecycle;
     }
 
--- a fragment of one byte at least, and of at most so many
+-- a fragment of one byte at least, and of at most that many
 abbrev pub HasSize : ℕ → DataToSend → Type 0
 HasSize max part = (0 < vec_len part.payload) × (vec_len part.payload ≤ max)
 
--- the rest of a payload of which so much went out, or none where the payload itself is to give it
+-- the rest of a payload of which that much was sent, or none if the payload itself is to give it
 abbrev pub CopiesRest : ℕ → List ℕ → Option (Vec ℕ Global) → Type 0
 CopiesRest sent payload None = Unit {0}
 CopiesRest sent payload (Some rest) = rest.items ≡ drop sent payload

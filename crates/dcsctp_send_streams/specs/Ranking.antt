@@ -18,7 +18,7 @@ turn_if priority id Open (message ∷ messages) = Some (record { priority = prio
 turn_if priority id Pausing messages = None
 turn_if priority id HandedOut messages = None
 
--- a stream's turn, where it may begin a message
+-- a stream's turn, if it may begin a message
 abbrev pub turn_of : Stream → Option Turn
 turn_of stream = turn_if stream.priority stream.id stream.pause stream.messages
 

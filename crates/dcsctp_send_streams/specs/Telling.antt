@@ -9,14 +9,14 @@ use Rattle.dcsctp_send_streams.specs.Waiting.{Waiting, Stream}
 abbrev pub contents : List SocketEvent → List (Event (List ℕ))
 contents events = map event_content events
 
--- Where memory is refused, a front part is told of the whole.
+-- If an allocation fails, the first of the events are added.
 pub record TellsFront (before whole after : List (Event (List ℕ))) : Type 0 where
   pub front : List (Event (List ℕ))
   pub rest : List (Event (List ℕ))
   pub parts : whole ≡ front ++ rest
   pub told : after ≡ before ++ front
 
--- A message with a name was given up before it was fully sent.
+-- A message with a name was abandoned before it was fully sent.
 abbrev pub expiry_events : Waiting → List (Event (List ℕ))
 expiry_events message = named message.lifecycle
   where
@@ -32,16 +32,16 @@ sent_events message = named message.lifecycle
     named None = []
     named (Some id) = lifecycle_message_fully_sent id ∷ []
 
--- These messages were given up, in their order.
+-- These messages were abandoned, in their order.
 abbrev pub expiries : List Waiting → List (Event (List ℕ))
 expiries [] = []
 expiries (message ∷ messages) = expiry_events message ++ expiries messages
 
--- Does an amount that falls by so much fall from above its threshold to it or below?
+-- Does an amount that falls by that much fall from above its threshold to it or below?
 abbrev pub falls_low : ℕ → ℕ → ℕ → Bool
 falls_low threshold amount by = nat_lt threshold amount && nat_le (amount - by) threshold
 
--- So much leaves a stream, and all streams together: the stream's event comes first.
+-- That much leaves a stream, and all streams together. The stream's event comes first.
 abbrev pub low_events : Stream → ℕ → ℕ → ℕ → List (Event (List ℕ))
 low_events stream total_threshold total by =
     (if falls_low stream.threshold stream.amount by then buffered_amount_low stream.id ∷ [] else [])

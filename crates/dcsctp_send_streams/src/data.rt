@@ -2,8 +2,8 @@
 
 use dcsctp_api::{LifecycleId, PpId, SocketTime, StreamId};
 
-/// A fragment of a message, which goes out as one DATA chunk (RFC 9260, section 3.3.1) or I-DATA chunk
-/// (RFC 8260, section 2.1).
+/// A fragment of a message, which is sent as one DATA chunk (RFC 9260, section 3.3.1) or I-DATA chunk (RFC
+/// 8260, section 2.1).
 #[derive(Debug, Drop)]
 pub struct DataToSend {
     /// Counts the messages of the queue in the order in which they were added, from 0. It names the
@@ -40,7 +40,7 @@ pub struct DataToSend {
     /// How often the message may be sent again; none: there is no limit.
     pub max_retransmissions: Option<u16>,
 
-    /// The moment after which the message is given up; none: it never is.
+    /// The moment after which the message is abandoned; none: it never is.
     pub expires_at: Option<SocketTime>,
 
     /// The name under which events tell how the message fares.

@@ -13,7 +13,7 @@ use std::marker::Model;
 // last fragment, until that is acknowledged.
 const LONGEST_MOVED: usize = 2048;
 
-/// How far the message under way has come. It was begun, and isn't fully sent.
+/// How far the message under way has come. It was started, and isn't fully sent.
 #[derive(Clone, Copy, Debug)]
 pub struct UnderWay {
     pub stream_id: StreamId,
@@ -21,11 +21,11 @@ pub struct UnderWay {
     pub mid: u32,
     pub next_fsn: u32,
 
-    /// How many of its bytes went out.
+    /// How many of its bytes were sent.
     pub sent: usize,
 }
 
-/// A message that waits whole, or of which some fragments went out. Its payload isn't empty.
+/// A message that waits whole, or of which some fragments were sent. Its payload isn't empty.
 ///
 /// A contract sees its payload as the list of its bytes, and the moment in nanoseconds.
 #[derive(Debug, Drop)]
@@ -36,7 +36,7 @@ pub struct QueuedMessage {
     payload: Vec<u8>,
     max_retransmissions: Option<u16>,
 
-    // The last moment at which it may be begun; none: it never expires.
+    // The last moment at which it may be started; none: it never expires.
     expires_at: Option<SocketTime>,
 
     lifecycle_id: Option<LifecycleId>,
@@ -109,7 +109,7 @@ impl QueuedMessage {
         self.payload.len()
     }
 
-    /// Is the message too old to be begun at the moment `now`?
+    /// Is the message too old to be started at the moment `now`?
     pub fn is_expired(&self, now: SocketTime) -> bool
         ensures { result ≡ is_expired now self.now }
     {
@@ -140,7 +140,7 @@ impl QueuedMessage {
         self.lifecycle_id
     }
 
-    /// Tells that it was given up before it was fully sent, where it has a name.
+    /// Tells that it was abandoned before it was fully sent, if it has a name.
     pub fn tell_expired(&self, events: &mut Events) -> Result<(), AllocError>
         ensures ok { OnOk result (contents events.new ≡ contents events.old ++ expiry_events self.now) }
         ensures err { OnErr result (TellsFront (contents events.old) (expiry_events self.now) (contents events.new)) }
@@ -152,7 +152,7 @@ impl QueuedMessage {
         Ok(())
     }
 
-    /// Tells that it was fully sent, where it has a name.
+    /// Tells that it was fully sent, if it has a name.
     pub fn tell_fully_sent(&self, events: &mut Events) -> Result<(), AllocError>
         ensures ok { OnOk result (contents events.new ≡ contents events.old ++ sent_events self.now) }
         ensures err { OnErr result (TellsFront (contents events.old) (sent_events self.now) (contents events.new)) }
@@ -163,7 +163,7 @@ impl QueuedMessage {
         Ok(())
     }
 
-    /// The next fragment, of so many bytes, which are copied. It isn't the last.
+    /// The next fragment, of that many bytes, which are copied. It isn't the last.
     #[inline(always)]
     pub fn part(
         &self,
@@ -194,7 +194,7 @@ impl QueuedMessage {
         })
     }
 
-    /// What is left of its payload, copied. None where nothing went out, or the payload is short: then
+    /// What is left of its payload, copied. `None` if nothing was sent, or the payload is short: then
     /// `last_part` takes the rest from the payload itself.
     #[inline(always)]
     pub fn copied_rest(&self, alloc: Global, sent: usize) -> Result<Option<Vec<u8>>, AllocError>
@@ -246,7 +246,7 @@ impl QueuedMessage {
     }
 }
 
-// What is left of a payload without so many bytes at its front. It keeps its room.
+// What is left of a payload without that many bytes at its front. It keeps its room.
 fn without_first(payload: Vec<u8>, sent: usize) -> Vec<u8>
     requires { sent ≤ vec_len payload }
     ensures { result.items ≡ drop sent payload.items }

@@ -69,7 +69,7 @@ impl OutgoingStream {
     ghost use Rattle.dcsctp_send_streams.specs.Waiting.{unused, is_pausing, front_of, with_message, without_front, paused, resumed, handed_out, begun_anew, raised, next_numbers, counted, committed, rolled_back};
     ghost use Rattle.dcsctp_send_streams.specs.Ranking.{turn_of};
 
-    /// A stream that was never used. It takes no memory.
+    /// A stream that was never used. Allocates nothing.
     pub fn new(alloc: Global, id: StreamId, priority: u16, threshold: usize) -> OutgoingStream
         ensures { result ≡ unused id.0 priority threshold }
     {
@@ -121,7 +121,7 @@ impl OutgoingStream {
         self.pause
     }
 
-    /// One where it is to be reset and wasn't handed out yet, else none.
+    /// One if it is to be reset and wasn't handed out yet, else none.
     pub fn count_pausing(&self) -> usize
         ensures { result ≡ if is_pausing self.now.pause then 1 else 0 }
     {
@@ -131,7 +131,7 @@ impl OutgoingStream {
         }
     }
 
-    /// The stream's turn; none where it is paused or has no message.
+    /// The stream's turn; none if it is paused or has no message.
     pub fn turn(&self) -> Option<Turn>
         ensures { result ≡ turn_of self.now }
     {
@@ -149,14 +149,14 @@ impl OutgoingStream {
         }
     }
 
-    /// Its oldest message; none where it has none.
+    /// Its oldest message; none if it has none.
     pub fn front(&self) -> Option<&QueuedMessage>
         ensures { option_copied result ≡ front_of self.now.messages }
     {
         self.messages.front()
     }
 
-    /// The payload bytes of its messages but for so many of the oldest; at most the greatest `usize`.
+    /// The payload bytes of its messages except for that many of the oldest; at most the greatest `usize`.
     pub fn size_from(&self, kept: usize) -> usize
         ensures { result ≡ min (size_of (drop kept self.now.messages)) (2 ^ 64 - 1) }
     {
@@ -168,7 +168,7 @@ impl OutgoingStream {
         size
     }
 
-    /// Tells that its messages, but for so many of the oldest, are given up.
+    /// Tells that its messages, except for that many of the oldest, are abandoned.
     pub fn tell_dropped(&self, events: &mut Events, kept: usize) -> Result<(), AllocError>
         ensures ok { OnOk result (contents events.new ≡ contents events.old ++ expiries (drop kept self.now.messages)) }
         ensures err { OnErr result (TellsFront (contents events.old) (expiries (drop kept self.now.messages)) (contents events.new)) }
@@ -180,7 +180,7 @@ impl OutgoingStream {
         Ok(())
     }
 
-    /// Adds a message behind the others. If there is no memory for it, nothing changes.
+    /// Adds a message after the others. `Err`: an allocation failed, and nothing has changed.
     pub fn push(&mut self, message: QueuedMessage) -> Result<(), AllocError>
         ensures ok { OnOk result (self.new ≡ with_message message self.old) }
         ensures err { OnErr result (self.new ≡ self.old) }
@@ -202,7 +202,7 @@ impl OutgoingStream {
         message
     }
 
-    // Gives half of the room for messages back where less than a quarter of it is in use.
+    // Gives half of the room for messages back if less than a quarter of it is in use.
     fn give_room_back(&mut self)
         ensures { self.new ≡ self.old }
     {
@@ -212,7 +212,7 @@ impl OutgoingStream {
         }
     }
 
-    /// Keeps only so many of its messages, the oldest, and pauses it.
+    /// Keeps only that many of its messages, the oldest, and pauses it.
     pub fn pause(&mut self, kept: usize)
         ensures { self.new ≡ paused kept self.old }
     {
@@ -278,22 +278,22 @@ impl OutgoingStream {
         self.threshold = threshold;
     }
 
-    /// Takes so much away from its amount.
+    /// Takes that much away from its amount.
     pub fn reduce(&mut self, size: usize)
         ensures { self.new ≡ record self.old { amount = self.old.amount - size } }
     {
         self.amount = self.amount.saturating_sub(size);
     }
 
-    /// Adds so much to its amount, which stops at the greatest `usize`.
+    /// Adds that much to its amount, which stops at the greatest `usize`.
     pub fn raise(&mut self, size: usize)
         ensures { self.new ≡ raised size self.old }
     {
         self.amount = self.amount.saturating_add(size);
     }
 
-    /// The numbers that an ordered or unordered message has that is begun next: SSN and MID. One of the two
-    /// is sent, by whether messages are interleaved.
+    /// The numbers of an ordered or unordered message that is started next: SSN and MID. One of the two is
+    /// sent, by whether messages are interleaved.
     pub fn next_numbers(&self, is_unordered: bool) -> (u16, u32)
         ensures { result ≡ next_numbers is_unordered self.now }
     {
@@ -304,7 +304,7 @@ impl OutgoingStream {
         }
     }
 
-    /// Counts a message that is begun: with interleaving its MID, else its SSN, which an unordered message
+    /// Counts a message that is started: with interleaving its MID, else its SSN, which an unordered message
     /// doesn't have (RFC 8260, section 2.1).
     pub fn count_begun(&mut self, is_interleaved: bool, is_unordered: bool)
         ensures { self.new ≡ counted is_interleaved is_unordered self.old }

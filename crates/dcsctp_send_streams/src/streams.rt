@@ -37,7 +37,7 @@ impl Streams {
     ghost use Rattle.dcsctp_send_streams.specs.Waiting.{front_of, with_message, without_front, paused, handed_out, begun_anew, raised, counted, committed, rolled_back};
     ghost use Rattle.dcsctp_send_streams.specs.Ranking.{stream_at, turn_of, turns_of, count_pausing, IsAscending, IsFound, IsNext};
 
-    /// No streams. It takes no memory.
+    /// No streams. Allocates nothing.
     pub fn new(alloc: Global) -> Streams
         ensures { result ≡ [] }
     {
@@ -85,8 +85,8 @@ impl Streams {
         &self.items[place]
     }
 
-    /// Puts in a stream that was never used, at the place that `find` answered. If there is no memory
-    /// for it, nothing changes.
+    /// Adds a stream that was never used, at the place that `find` returned. `Err`: an allocation failed, and
+    /// nothing has changed.
     pub fn insert(&mut self, place: usize, stream: OutgoingStream) -> Result<(), AllocError>
         requires { IsFound self.old stream.id (Err place) }
         ensures ok { OnOk result (self.new ≡ insert self.old place stream) }
@@ -103,7 +103,7 @@ impl Streams {
         Ok(())
     }
 
-    /// The place of the stream whose turn it is; none where no stream may begin a message.
+    /// The place of the stream whose turn it is; none if no stream may begin a message.
     pub fn next_place(&self) -> Option<usize>
         ensures some { IfSome result (IsNext self.now) }
         ensures none { IfNone result (turns_of self.now ≡ []) }
@@ -129,7 +129,7 @@ impl Streams {
         !self.turns.as_slice().is_empty()
     }
 
-    /// Adds a message behind the others of the stream. If there is no memory for it, nothing changes.
+    /// Adds a message after the others of the stream. `Err`: an allocation failed, and nothing has changed.
     pub fn push(&mut self, place: usize, message: QueuedMessage) -> Result<(), AllocError>
         requires { place < length self.old }
         ensures ok { OnOk result (self.new ≡ slice_set self.old place (with_message message (stream_at self.old place))) }
@@ -158,7 +158,7 @@ impl Streams {
         message
     }
 
-    /// Keeps only so many of the stream's messages, the oldest, and pauses the stream.
+    /// Keeps only that many of the stream's messages, the oldest, and pauses the stream.
     pub fn pause(&mut self, place: usize, kept: usize)
         requires { place < length self.old }
         ensures { self.new ≡ slice_set self.old place (paused kept (stream_at self.old place)) }
@@ -224,7 +224,7 @@ impl Streams {
         move_turn(&mut self.turns, before, after);
     }
 
-    /// Gives the stream a priority.
+    /// Sets the stream's priority.
     pub fn set_priority(&mut self, place: usize, priority: u16)
         requires { place < length self.old }
         ensures { self.new ≡ slice_set self.old place (record (stream_at self.old place) { priority = priority }) }
@@ -236,7 +236,7 @@ impl Streams {
         move_turn(&mut self.turns, before, after);
     }
 
-    /// Gives the stream a threshold.
+    /// Sets the stream's threshold.
     pub fn set_threshold(&mut self, place: usize, threshold: usize)
         requires { place < length self.old }
         ensures { self.new ≡ slice_set self.old place (record (stream_at self.old place) { threshold = threshold }) }
@@ -245,7 +245,7 @@ impl Streams {
         stream.set_threshold(threshold);
     }
 
-    /// Takes so much away from the stream's amount.
+    /// Takes that much away from the stream's amount.
     pub fn reduce(&mut self, place: usize, size: usize)
         requires { place < length self.old }
         ensures { self.new ≡ slice_set self.old place (record (stream_at self.old place) { amount = (stream_at self.old place).amount - size }) }
@@ -254,7 +254,7 @@ impl Streams {
         stream.reduce(size);
     }
 
-    /// Adds so much to the stream's amount, which stops at the greatest `usize`.
+    /// Adds that much to the stream's amount, which stops at the greatest `usize`.
     pub fn raise(&mut self, place: usize, size: usize)
         requires { place < length self.old }
         ensures { self.new ≡ slice_set self.old place (raised size (stream_at self.old place)) }

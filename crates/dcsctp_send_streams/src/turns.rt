@@ -63,7 +63,7 @@ fn remove_turn(turns: &mut Vec<Turn>, turn: Turn)
     turns.remove(place);
 }
 
-/// Puts one turn in the place of another, where there are any.
+/// Puts one turn in the place of another, if there are any.
 pub fn move_turn(turns: &mut Vec<Turn>, before: Option<Turn>, after: Option<Turn>)
     requires { Holds turns.old.items before (vec_capacity turns.old) }
     ensures turns { (others : List Turn) → turns.old.items ≡ with_turns before others → turns.new.items ≡ with_turns after others }

@@ -8,7 +8,7 @@ pub record TimerModel : Type 0 where
   -- how it runs once it is started next
   pub settings : TimerSettings
 
--- when it expires next, where it runs
+-- when it expires next, if it runs
 abbrev pub running_deadline : Option RunningTimer → Option ℕ
 running_deadline None = None
 running_deadline (Some timer) = Some timer.deadline

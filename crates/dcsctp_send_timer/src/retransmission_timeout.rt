@@ -67,8 +67,8 @@ impl Bounds {
     }
 }
 
-/// How long an acknowledgement is awaited before data is sent again, and the round trip that this is
-/// worked out from.
+/// How long an acknowledgement is awaited before data is sent again, and the round trip that this is computed
+/// from.
 ///
 /// A contract sees it with its durations in nanoseconds; `timeout_state` of it is what a user sees.
 #[derive(Debug, Drop)]
@@ -131,8 +131,8 @@ impl RetransmissionTimeout {
     /// Takes one more round trip into account (RFC 9260, section 6.3.1, with 1/8 for alpha and 1/4 for
     /// beta). Each division drops the fraction of a nanosecond.
     ///
-    /// One longer than `rtt_max` of the options changes nothing. Four variances count as
-    /// `min_rtt_variance` where they are less; the timeout is raised to `rto_min` and then cut to `rto_max`.
+    /// One longer than `rtt_max` of the options changes nothing. Four variances count as `min_rtt_variance`
+    /// if they are less; the timeout is raised to `rto_min` and then cut to `rto_max`.
     pub fn observe_rto(&mut self, rtt: Duration)
         ensures { self.new ≡ timeout_after (as_nanos rtt) self.old }
     {

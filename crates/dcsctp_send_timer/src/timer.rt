@@ -1,5 +1,5 @@
-//! A timer that is started, stopped, asked for its deadline and told that a moment has come. It doesn't
-//! read a clock: the caller hands in the moment.
+//! A timer is started and stopped, and expires at its deadline. It reads no clock: the caller hands in the
+//! moment.
 
 ghost use Rattle.std.specs.Prelude.{◌≡◌};
 ghost use Rattle.std.specs.Duration.{as_nanos};
@@ -10,7 +10,7 @@ use dcsctp_machine::{BackoffAlgorithm, SocketTime};
 use std::marker::Model;
 use std::time::Duration;
 
-// May a timer go on that has expired so often?
+// May a timer go on that has expired that often?
 fn goes_on(max_restarts: Option<u32>, expiries: u64) -> bool
     ensures { result ≡ goes_on max_restarts expiries }
 {
@@ -30,7 +30,7 @@ fn next_wait(backoff: BackoffAlgorithm, wait: Duration) -> Duration
     }
 }
 
-// No longer than the bound, where there is one.
+// No longer than the bound, if there is one.
 fn bounded(max_backoff: Option<Duration>, wait: Duration) -> Duration
     ensures { as_nanos result ≡ bounded (option_map as_nanos max_backoff) (as_nanos wait) }
 {
@@ -51,7 +51,7 @@ struct Running {
     expiries: u64,
 }
 
-/// A timer. It takes no memory.
+/// A timer. Allocates nothing.
 ///
 /// A contract sees it with its durations and its deadline in nanoseconds.
 #[derive(Debug, Drop)]
@@ -101,8 +101,8 @@ impl Timer {
 
     /// A timer that doesn't run. Once started it runs for `duration`.
     ///
-    /// After it has expired it goes on for as long as `backoff` says, at most `max_backoff`, and no more
-    /// than `max_restarts` times; `None` is no bound.
+    /// After it has expired it goes on for as long as `backoff` says, at most `max_backoff`. It does so no
+    /// more than `max_restarts` times; `None` is no limit.
     pub fn new(
         duration: Duration,
         backoff: BackoffAlgorithm,
@@ -154,11 +154,10 @@ impl Timer {
         self.duration = duration;
     }
 
-    /// Tells the timer that the moment `now` has come, and answers whether it expires. Before its deadline
-    /// it doesn't, and nothing changes.
+    /// Advances the timer to `now`, and returns whether it expires. Before its deadline it doesn't, and
+    /// nothing changes.
     ///
-    /// A timer that expires goes on from `now`, as its backoff says; where its restarts are used up, it
-    /// stops.
+    /// A timer that expires goes on from `now`, as its backoff says; if its restarts are used up, it stops.
     pub fn expire(&mut self, now: SocketTime) -> bool
         ensures answer { result ≡ expires_at now self.old.running }
         ensures left { self.new ≡ record self.old { running = running_after now self.old.running } }
@@ -199,7 +198,7 @@ impl Timer {
         self.running.is_some()
     }
 
-    /// When the timer expires next; none where it doesn't run.
+    /// When the timer expires next; none if it doesn't run.
     pub fn next_expiry(&self) -> Option<SocketTime>
         ensures { result ≡ running_deadline self.now.running }
     {

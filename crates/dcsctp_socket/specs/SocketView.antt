@@ -1,4 +1,4 @@
--- What a socket is: its view in the machine, and whether a growth was refused.
+-- What a socket is: its view in the machine, and whether an allocation failed.
 use Rattle.std.specs.Prelude.{◌≡◌, Bool, true, false, Result, Ok, Err, []}
 use Rattle.dcsctp_machine.specs.declared.options.Options.{Options}
 use Rattle.dcsctp_machine.specs.Endpoint.{fresh_endpoint}

@@ -30,9 +30,8 @@
 //! happened. A later call invalidates none of them. Messages that are ready are dropped when their
 //! association ends, so take them before the next call.
 //!
-//! The socket reads no clock. After each call a user asks `poll_timeout`, and calls `advance_time` at that
-//! moment or earlier: a packet that the peer never answered is sent again then. Each call may move that
-//! moment.
+//! The socket reads no clock. After each call ask `poll_timeout`, and call `advance_time` at that moment or
+//! earlier. A packet that the peer never answered is sent again then. Each call may move that moment.
 #![tactic(auto)]
 
 mod socket;

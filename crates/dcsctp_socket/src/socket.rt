@@ -44,7 +44,7 @@ impl<R> Model for Socket<R> {
     ghost view = { λ s. record { view = view_of s.context.value; failed = s.failed } };
 }
 
-// The answer to a call. A socket that was refused a growth has failed from then on.
+// The result of a call. Once an allocation has failed, the socket has failed for good.
 fn settled<T>(failed: &mut bool, outcome: Result<T, AllocError>) -> Result<T, SocketFault>
     ensures { Settles failed.old outcome result failed.new }
 {
@@ -65,8 +65,7 @@ impl<R: Rng + Drop> Socket<R> {
 
     /// Makes a closed socket, at moment zero. Random words come from `rng`; `name` has no effect.
     ///
-    /// The options have to be valid, which `Options::is_valid` tells. The one error is
-    /// `SocketFault::OutOfMemory`.
+    /// The options have to be valid, which `Options::is_valid` tells.
     pub fn new(
         alloc: Global,
         name: &str,
@@ -86,30 +85,30 @@ impl<R: Rng + Drop> Socket<R> {
         })
     }
 
-    /// The association; none in the closed state. It takes no memory.
+    /// The association; none in the closed state. Allocates nothing.
     pub fn association(&self) -> Option<Association>
         ensures { result ≡ association_of self.now.view.endpoint.core }
     {
         self.context.state.association()
     }
 
-    /// The own verification tag, which packets to this socket bear (RFC 9260, section 8.5); 0 in the
-    /// closed state. It takes no memory.
+    /// Our own verification tag, which packets to this socket carry (RFC 9260, section 8.5); 0 in the closed
+    /// state. Allocates nothing.
     pub fn verification_tag(&self) -> u32
         ensures { result ≡ own_tag self.now.view.endpoint.core }
     {
         self.context.state.verification_tag()
     }
 
-    /// The pairs of a tag and a first TSN that the last call of this socket drew, in order: own ones,
-    /// and those of answers to an INIT (RFC 9260, section 5.1). It takes no memory.
+    /// The pairs of a tag and a first TSN that the last call of this socket drew, in order. They are our own
+    /// ones, and those of answers to an INIT (RFC 9260, section 5.1). Allocates nothing.
     pub fn drawn_pairs(&self) -> &[Pair]
         ensures { result.now ≡ self.now.view.pairs }
     {
         self.context.drawn_pairs()
     }
 
-    /// Was a growth refused in an earlier call? It takes no memory.
+    /// Did an allocation fail in an earlier call? Allocates nothing.
     pub fn has_failed(&self) -> bool
         ensures { result ≡ self.now.failed }
     {
@@ -261,7 +260,7 @@ impl<R: Rng + Drop> DcSctpSocket for Socket<R> {
             (R.stream self.new.view.generator)) }
         ensures failed { IsErrOf result SocketFault.Failed → self.new ≡ self.old }
     {
-        // Nor any of several.
+        // A socket that has failed takes none of them.
         if self.failed {
             return Err(SocketFault::Failed);
         }
@@ -279,7 +278,7 @@ impl<R: Rng + Drop> DcSctpSocket for Socket<R> {
             (R.stream self.new.view.generator)) }
         ensures failed { IsErrOf result SocketFault.Failed → self.new ≡ self.old }
     {
-        // Nor does it reset a stream.
+        // A socket that has failed resets no stream.
         if self.failed {
             return Err(SocketFault::Failed);
         }
@@ -319,7 +318,7 @@ impl<R: Rng + Drop> DcSctpSocket for Socket<R> {
         ensures generator { self.new.view.generator ≡ self.old.view.generator }
         ensures failed { IsErrOf result SocketFault.Failed → self.new ≡ self.old }
     {
-        // A socket that has failed stays as it is.
+        // A socket that has failed is unchanged.
         if self.failed {
             return Err(SocketFault::Failed);
         }
@@ -354,7 +353,7 @@ impl<R: Rng + Drop> DcSctpSocket for Socket<R> {
         ensures generator { self.new.view.generator ≡ self.old.view.generator }
         ensures failed { IsErrOf result SocketFault.Failed → self.new ≡ self.old }
     {
-        // Its threshold stays, too.
+        // A socket that has failed keeps the threshold.
         if self.failed {
             return Err(SocketFault::Failed);
         }

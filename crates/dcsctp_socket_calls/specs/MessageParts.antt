@@ -20,20 +20,20 @@ use Rattle.dcsctp_socket_calls.specs.Parts.{CallMoved, CallCut}
 abbrev pub SendTurns : List Sending → Endpoint → List Turned → Type 0
 SendTurns messages e turns = Turns e (user_sends messages ∷ []) turns
 
--- The message was sent or refused, as is answered; or a growth was refused, and the first of the events may stand.
+-- The message was sent or refused, as the result says; or an allocation failed, and the first of its events may have been added.
 abbrev pub WorksSend : {R E : Type 0} → (R → Stream) → MessageContent → SendOptions → Context R → Result (Result (Unit {0}) SendError) E → Context R → Type 0
 WorksSend stream message options old (Ok answer) new =
     (refusal_in answer ≡ message_refusal (view_of old).endpoint message.stream (length message.payload))
     × CallMoved stream (SendTurns (sending_of options message ∷ [])) (view_of old) (view_of new)
 WorksSend stream message options old (Err error) new = CallCut (SendTurns (sending_of options message ∷ [])) (view_of old) (view_of new).events
 
--- the same of several
+-- the same for several
 abbrev pub WorksSendMany : {R E : Type 0} → (R → Stream) → List MessageContent → SendOptions → Context R → Result (Result (Unit {0}) BatchSendError) E → Context R → Type 0
 WorksSendMany stream messages options old (Ok answer) new =
     IsBatchAnswer (refused_from 0 (view_of old).endpoint (map (sending_of options) messages)) answer
     × CallMoved stream (SendTurns (map (sending_of options) messages)) (view_of old) (view_of new)
 WorksSendMany stream messages options old (Err error) new = CallCut (SendTurns (map (sending_of options) messages)) (view_of old) (view_of new).events
 
--- The first message that is ready is taken, where one is, and no word is drawn.
+-- The first message that is ready is taken, if one is, and no word is drawn.
 abbrev pub WorksTake : {R : Type 0} → View R → Option Message → View R → Type 0
 WorksTake old result new = TakesNextOf (call_start old) result new

@@ -28,8 +28,8 @@ pub record ChunkMoves {R : Type 0} (stream : R → Stream) (tag : ℕ) (content 
   pub following : outcome.following ≡ following_of next
   pub moves : Moves stream old outcome new
 
--- What stands before the chunks of a packet: data that comes while a SHUTDOWN waits for its answer is answered (RFC 9260,
--- section 9.2).
+-- What precedes the chunks of a packet: data that comes while a SHUTDOWN waits for its answer is answered (RFC 9260, section
+-- 9.2).
 abbrev pub begun_by : {R : Type 0} → Bool → View R → Outcome
 begun_by true view = answer_turn view
 begun_by false view = still view.endpoint
@@ -41,8 +41,8 @@ begin_turn packet view = begun_by (has_data (packet_in packet).contents) view
 abbrev pub ChunksToEnd : Endpoint → Packet → List Turned → Type 0
 ChunksToEnd e packet turns = ChunkTurns e packet.tag packet.contents (packet_ends ∷ []) turns
 
--- The turns of a packet's chunks up to its end: whatever its end does, they are whole with it; or the end is dropped, and they are
--- whole.
+-- The turns of a packet's chunks up to its end. They are whole with the end, whatever it does; or the end is dropped, and they
+-- are whole without it.
 abbrev pub TurnsToEnd : Bool → Endpoint → Packet → List Turned → Type 0
 TurnsToEnd true e packet turns = (last : Turned) → IsTurn (after_all e turns) packet_ends last → ChunksToEnd e packet (turns ++ last ∷ [])
 TurnsToEnd false e packet turns = ChunksToEnd e packet turns
@@ -60,13 +60,13 @@ pub record ChunksMove {R : Type 0} (stream : R → Stream) (packet : PacketConte
   pub are : ChunksToEnd old.endpoint (packet_in packet) turns
   pub moves : MovesAll stream old turns new
 
--- A packet was worked whole: what stands before its chunks, they, and its end.
+-- All of a packet was handled: what precedes its chunks, the chunks, and its end.
 pub record WholeMoves {R : Type 0} (stream : R → Stream) (packet : PacketContent) (old new : View R) : Type 0 where
   pub turns : List Turned
   pub are : WholeTurns old.endpoint (packet_in packet) turns
   pub moves : MovesAll stream old turns new
 
--- A chunk had its turn, where it is a SHUTDOWN ACK, and those behind it may have theirs.
+-- A chunk had its turn, if it is a SHUTDOWN ACK, and those after it may have theirs.
 pub record AckMoves {R : Type 0} (stream : R → Stream) (tag : ℕ) (content : Content) (old new : View R) : Type 0 where
   pub turns : List Turned
   pub goes_on : AllByRecursion (λ turn. turn.outcome.following ≡ next_chunk) turns
@@ -80,7 +80,7 @@ pub record AcksMove {R : Type 0} (stream : R → Stream) (packet : PacketContent
   pub are : ChunkTurns old.endpoint packet.verification_tag (shutdown_acks_in (packet_in packet).contents) [] turns
   pub moves : MovesAll stream old turns new
 
--- A packet that was counted was admitted and worked, or refused.
+-- A packet that was counted was admitted and handled, or refused.
 pub record PacketMoves {R : Type 0} (stream : R → Stream) (packet : PacketContent) (old new : View R) : Type 0 where
   pub turns : List Turned
   pub are : AdmittedTurns old.endpoint (packet_in packet) (admits old.endpoint.core (packet_in packet)) turns
@@ -108,9 +108,9 @@ pub record CallMoved {R : Type 0} (stream : R → Stream) (CallTurns : Endpoint 
 abbrev pub ActTurns : Act → Endpoint → List Turned → Type 0
 ActTurns act e turns = Turns e (act_input act ∷ []) turns
 
--- ---- where a growth was refused
+-- ---- when an allocation failed
 
--- The turn of a chunk was cut after it had added so many of its events.
+-- The turn of a chunk was cut after it had added that many of its events.
 pub record ChunkCut {R : Type 0} (tag : ℕ) (content : Content) (old : View R) (events : List (Event (List ℕ))) : Type 0 where
   pub outcome : Outcome
   pub turn : ContentTurn old.endpoint tag content outcome
@@ -125,7 +125,7 @@ pub record ChunksCut {R : Type 0} (packet : PacketContent) (old : View R) (event
   pub are : FirstToEnd old.endpoint (packet_in packet) turns
   pub adds : AddsFront (ports_of old.endpoint.options) turns old.events events
 
--- A packet that is worked whole had some of its turns.
+-- A packet that is fully handled had some of its turns.
 pub record WholeCut {R : Type 0} (packet : PacketContent) (old : View R) (events : List (Event (List ℕ))) : Type 0 where
   pub turns : List Turned
   pub are : FirstOfWhole old.endpoint (packet_in packet) turns
@@ -177,7 +177,7 @@ abbrev pub WorksWhole : {R E : Type 0} → (R → Stream) → PacketContent → 
 WorksWhole stream packet old (Ok done) new = WholeMoves stream packet (view_of old) (view_of new)
 WorksWhole stream packet old (Err error) new = WholeCut packet (view_of old) (view_of new).events
 
--- Where a growth was refused, nothing has changed.
+-- If an allocation failed, nothing has changed.
 abbrev pub WorksAck : {R E : Type 0} → (R → Stream) → ℕ → Content → Context R → Result (Unit {0}) E → Context R → Type 0
 WorksAck stream tag content old (Ok done) new = AckMoves stream tag content (view_of old) (view_of new)
 WorksAck stream tag content old (Err error) new = view_of new ≡ view_of old
@@ -199,12 +199,12 @@ abbrev pub WorksCall : {R E : Type 0} → (R → Stream) → (Endpoint → List 
 WorksCall stream CallTurns old (Ok done) new = CallMoved stream CallTurns (view_of old) (view_of new)
 WorksCall stream CallTurns old (Err error) new = CallCut CallTurns (view_of old) (view_of new).events
 
--- It is set; or a growth was refused, and nothing has changed.
+-- It is set; or an allocation failed, and nothing has changed.
 abbrev pub WorksSetting : {R E : Type 0} → Setting → Context R → Result (Unit {0}) E → Context R → Type 0
 WorksSetting setting old (Ok done) new = view_of new ≡ set_view setting (view_of old)
 WorksSetting setting old (Err error) new = view_of new ≡ call_start (view_of old)
 
--- Where a growth was refused, nothing has changed but what words were drawn.
+-- If an allocation failed, nothing has changed but the words that were drawn.
 abbrev pub WorksConnect : {R E : Type 0} → (R → Stream) → Context R → Result (Unit {0}) E → Context R → Type 0
 WorksConnect stream old (Ok done) new = ConnectMoves stream (view_of old) (view_of new)
 WorksConnect stream old (Err error) new = OnlyDrew (call_start (view_of old)) (view_of new)

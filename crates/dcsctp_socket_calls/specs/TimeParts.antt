@@ -1,4 +1,4 @@
--- What a socket does where it is told the time, by its parts.
+-- What `advance_time` does to a socket, by its parts.
 use Rattle.std.specs.Prelude.{ℕ, true, Result, Ok, Err, List, []}
 use Rattle.rand_core.specs.Stream.{Stream}
 use Rattle.dcsctp_machine.specs.Settings.{ports_of}
@@ -17,7 +17,7 @@ pub record TimeMoves {R : Type 0} (stream : R → Stream) (moment : ℕ) (old ne
   pub are : AdvanceTurns old.endpoint moment turns
   pub moves : CallMoves stream old turns new
 
--- A growth was refused in one of these turns.
+-- An allocation failed in one of these turns.
 pub record TimeCut {R : Type 0} (moment : ℕ) (old : View R) (events : List (Event (List ℕ))) : Type 0 where
   pub turns : List Turned
   pub are : AdvanceTurns old.endpoint moment turns
@@ -35,7 +35,7 @@ pub record TurnsMove {R : Type 0} (stream : R → Stream) (Allowed : Endpoint �
   pub are : Allowed old.endpoint turns
   pub moves : MovesAll stream old turns new
 
--- A growth was refused in one of such turns.
+-- An allocation failed in one of such turns.
 pub record TurnsCut {R : Type 0} (Allowed : Endpoint → List Turned → Type 0) (old : View R) (events : List (Event (List ℕ))) : Type 0 where
   pub turns : List Turned
   pub are : Allowed old.endpoint turns
@@ -45,10 +45,10 @@ abbrev pub WorksTurns : {R E : Type 0} → (R → Stream) → (Endpoint → List
 WorksTurns stream Allowed old (Ok done) new = TurnsMove stream Allowed (view_of old) (view_of new)
 WorksTurns stream Allowed old (Err error) new = TurnsCut Allowed (view_of old) (view_of new).events
 
--- What follows where one timer has expired: an own abort, where too many errors were counted, and else these inputs.
+-- What follows if one timer has expired: our own abort, if too many errors were counted, and else these inputs.
 abbrev pub EndTurns : List Input → Endpoint → List Turned → Type 0
 EndTurns inputs e turns = Turns e (unless_exhausted e inputs) turns
 
--- what follows the timers where one has expired
+-- what follows the timers if one has expired
 abbrev pub TurnsBehind : Endpoint → List Turned → Type 0
 TurnsBehind e turns = ExpiryTurns [] true e turns

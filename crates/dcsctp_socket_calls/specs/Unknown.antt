@@ -5,7 +5,7 @@ use Rattle.dcsctp_machine.specs.Outcome.{Outcome, still, sends}
 use Rattle.dcsctp_machine.specs.turns.PlainOutcomes.{unknown_report, unknown_told, unknown_outcome}
 use Rattle.dcsctp_core.specs.View.{View}
 
--- The peer is told, where one is held.
+-- The peer is told, if it is known.
 abbrev pub reported_outcome : Endpoint → Core → List ℕ → Outcome
 reported_outcome e (cookie_echoed my held cookie) chunk = sends e [] [] (unknown_report e held chunk)
 reported_outcome e (open_in phase my held) chunk = sends e [] [] (unknown_report e held chunk)

@@ -29,8 +29,8 @@ use dcsctp_wire::{Chunk, PacketError, SctpPacket, WireOptions};
 use rand_core::Rng;
 use std::alloc::AllocError;
 
-// Works the chunks of an admitted packet one after another, until one says that the others aren't worked, and
-// answers whether the end of the packet follows.
+// Handles the chunks of an admitted packet one after another, until one says that the others aren't handled.
+// Returns whether the end of the packet follows.
 fn work_chunks<R: Rng>(
     context: &mut Context<R>,
     packet: &SctpPacket<'_>,
@@ -48,7 +48,7 @@ fn work_chunks<R: Rng>(
     Ok(true)
 }
 
-// Works the chunks of an admitted packet, and then its end, unless a chunk said that the rest is dropped.
+// Handles the chunks of an admitted packet, and then its end, unless a chunk said that the rest is dropped.
 fn handle_chunks<R: Rng>(
     context: &mut Context<R>,
     packet: &SctpPacket<'_>,
@@ -73,8 +73,8 @@ fn has_data(chunks: &[Chunk<'_>]) -> bool
     false
 }
 
-// What stands before the chunks of a packet: data that comes while a SHUTDOWN waits for its answer is answered by another.
-// The one error is that a growth was refused. Nothing has changed then.
+// What precedes the chunks of a packet: data that comes while a SHUTDOWN waits for its answer is answered by
+// another. `Err`: an allocation failed, and nothing has changed.
 fn begin_packet<R: Rng>(context: &mut Context<R>, packet: &SctpPacket<'_>) -> Result<(), AllocError>
     ensures { Tries R.stream (begin_turn (packet_content packet.now)) context.old result context.new }
 {
@@ -84,7 +84,7 @@ fn begin_packet<R: Rng>(context: &mut Context<R>, packet: &SctpPacket<'_>) -> Re
     Ok(())
 }
 
-// Works a packet that is admitted whole. The one error is that a growth was refused.
+// Handles a packet that is admitted whole.
 fn handle_whole<R: Rng>(context: &mut Context<R>, packet: &SctpPacket<'_>) -> Result<(), AllocError>
     ensures { WorksWhole R.stream (packet_content packet.now) context.old result context.new }
 {
@@ -92,7 +92,7 @@ fn handle_whole<R: Rng>(context: &mut Context<R>, packet: &SctpPacket<'_>) -> Re
     handle_chunks(context, packet)
 }
 
-// Answers a chunk, where it is a SHUTDOWN ACK: no association that is set up awaits one.
+// Answers a chunk if it is a SHUTDOWN ACK: during a handshake none is awaited.
 fn work_shutdown_ack<R: Rng>(
     context: &mut Context<R>,
     header_tag: u32,
@@ -109,7 +109,7 @@ fn work_shutdown_ack<R: Rng>(
     Ok(())
 }
 
-// Works the SHUTDOWN ACK chunks of a packet, and nothing else of it.
+// Handles the SHUTDOWN ACK chunks of a packet, and nothing else of it.
 fn handle_shutdown_acks<R: Rng>(
     context: &mut Context<R>,
     packet: &SctpPacket<'_>,
@@ -124,7 +124,7 @@ fn handle_shutdown_acks<R: Rng>(
     Ok(())
 }
 
-// Works a packet that was read: as admission says.
+// Handles a packet that was read, as its admission says.
 fn handle_packet<R: Rng>(
     context: &mut Context<R>,
     packet: &SctpPacket<'_>,
@@ -142,8 +142,8 @@ fn handle_packet<R: Rng>(
     Ok(())
 }
 
-/// Works a packet (RFC 9260, section 8.5): it is counted, read, admitted or refused, and each chunk
-/// has its turn. The one error is that a growth was refused.
+/// Handles a packet (RFC 9260, section 8.5): it is counted, read, admitted or refused, and each chunk is
+/// handled.
 pub fn handle_input<R: Rng>(context: &mut Context<R>, packet: &[u8]) -> Result<(), AllocError>
     ensures { WorksInput R.stream packet.now context.old result context.new }
 {
@@ -161,8 +161,8 @@ pub fn handle_input<R: Rng>(context: &mut Context<R>, packet: &[u8]) -> Result<(
     Ok(())
 }
 
-/// Begins an association where there is none (RFC 9260, section 5.1). The one error is that a growth was
-/// refused; no event is added then.
+/// Begins an association if there is none (RFC 9260, section 5.1). `Err`: an allocation failed, and no event
+/// was added.
 pub fn connect<R: Rng>(context: &mut Context<R>) -> Result<(), AllocError>
     ensures turn { WorksConnect R.stream context.old result context.new }
     ensures open { is_closed (core_of context.old.state) ≡ false → IsOk result }
@@ -172,8 +172,8 @@ pub fn connect<R: Rng>(context: &mut Context<R>) -> Result<(), AllocError>
     Ok(())
 }
 
-/// Ends the association at once (RFC 9260, section 9.1). The one error is that a growth was refused; the
-/// first events of the call may stand then.
+/// Ends the association at once (RFC 9260, section 9.1). `Err`: an allocation failed; the first of its events
+/// may already have been added.
 pub fn close<R: Rng>(context: &mut Context<R>) -> Result<(), AllocError>
     ensures turn { WorksCall R.stream (ActTurns (abort_with AbortReason.CloseCalled)) context.old result
         context.new }
@@ -184,8 +184,8 @@ pub fn close<R: Rng>(context: &mut Context<R>) -> Result<(), AllocError>
     Ok(())
 }
 
-/// Shuts the association down (RFC 9260, section 9.2). The one error is that a growth was refused; the first events of
-/// the call may stand then.
+/// Shuts the association down (RFC 9260, section 9.2). `Err`: an allocation failed; the first of its events
+/// may already have been added.
 pub fn shutdown<R: Rng>(context: &mut Context<R>) -> Result<(), AllocError>
     ensures turn { WorksCall R.stream (ActTurns shut_down) context.old result context.new }
     ensures idle { takes_shutdown (core_of context.old.state) ≡ false → IsOk result }
@@ -195,8 +195,8 @@ pub fn shutdown<R: Rng>(context: &mut Context<R>) -> Result<(), AllocError>
     Ok(())
 }
 
-/// Tells the time: the clock is moved, and the timers that are due have their turns (RFC 9260, sections 5.1
-/// and 8.3). An earlier moment changes nothing. The one error is that a growth was refused.
+/// Moves the clock to `now`, and handles the timers that are due (RFC 9260, sections 5.1 and 8.3). An earlier
+/// moment changes nothing.
 pub fn advance_time<R: Rng>(context: &mut Context<R>, now: SocketTime) -> Result<(), AllocError>
     ensures turn { WorksTime R.stream now context.old result context.new }
     ensures earlier { now < context.old.moment → IsOk result }

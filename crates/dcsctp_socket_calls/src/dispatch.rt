@@ -1,4 +1,4 @@
-//! Which handler works a chunk.
+//! Which handler a chunk goes to.
 
 ghost use Rattle.std.specs.Prelude.{◌≡◌, None};
 ghost use Rattle.dcsctp_wire.specs.Content.{chunk_content};
@@ -22,8 +22,8 @@ use dcsctp_wire::Chunk;
 use rand_core::Rng;
 use std::alloc::AllocError;
 
-/// Works a chunk of an admitted packet with this header tag, and says what follows it. One that breaks the
-/// protocol which was negotiated aborts the association. The one error is that a growth was refused.
+/// Handles a chunk of an admitted packet with this header tag, and says what follows it. One that breaks the
+/// negotiated protocol aborts the association.
 pub(crate) fn handle_chunk<R: Rng>(
     context: &mut Context<R>,
     header_tag: u32,
@@ -41,7 +41,7 @@ pub(crate) fn handle_chunk<R: Rng>(
     }
 }
 
-// Works a chunk that breaks nothing.
+// Handles a chunk that breaks nothing.
 fn work_chunk<R: Rng>(
     context: &mut Context<R>,
     header_tag: u32,

@@ -1,7 +1,7 @@
-//! The calls of a socket, over its parts: each begins, is a list of turns, and answers whether a growth was
-//! refused. A packet is counted, read, admitted, and its chunks are worked; time that is told lets the timers
-//! that are due expire; messages are sent and taken, and streams are reset; settings are kept. `dcsctp_socket` calls them, and keeps
-//! a socket that has failed from calling any.
+//! The calls of a socket, over its parts. Each is a list of turns, and fails only if an allocation failed. A
+//! packet is counted, read and admitted, and its chunks are handled. When the clock moves, timers that are
+//! due expire. Messages are sent and taken, streams are reset, and settings are kept. `dcsctp_socket` calls
+//! them, and keeps a socket that has failed from calling any.
 #![tactic(auto)]
 
 mod calls;

@@ -13,7 +13,7 @@ use dcsctp_core_messages::{do_reset_streams, do_send, do_send_many};
 use rand_core::Rng;
 use std::alloc::AllocError;
 
-/// Sends a message. The one error is that a growth was refused. The first events of the turn may stand then.
+/// Sends a message. `Err`: an allocation failed; the first of its events may already have been added.
 pub fn send<R: Rng>(
     context: &mut Context<R>,
     message: Message,
@@ -38,7 +38,7 @@ pub fn send_many<R: Rng>(
     do_send_many(context, messages, options)
 }
 
-/// Resets own streams. The one error is that a growth was refused. The first events of the turn may stand then.
+/// Resets our own streams. `Err`: an allocation failed; the first of its events may already have been added.
 pub fn reset_streams<R: Rng>(
     context: &mut Context<R>,
     stream_ids: &[StreamId],
@@ -49,7 +49,7 @@ pub fn reset_streams<R: Rng>(
     do_reset_streams(context, stream_ids)
 }
 
-/// Takes the message that became ready first, where one is ready. It takes no memory.
+/// Takes the message that became ready first, if one is ready. Allocates nothing.
 pub fn get_next_message<R: Rng>(context: &mut Context<R>) -> Option<Message>
     ensures { WorksTake (view_of context.old) result (view_of context.new) }
 {

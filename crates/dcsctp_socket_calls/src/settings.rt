@@ -1,4 +1,4 @@
-//! What the user sets of a socket, over its parts: no packet tells the peer.
+//! What the user sets of a socket, over its parts. Nothing of it is sent to the peer.
 
 ghost use Rattle.std.specs.Prelude.{◌≡◌};
 ghost use Rattle.dcsctp_machine.specs.turns.SettingOutcomes.{stream_priority, stream_low_threshold, longest_message};
@@ -10,7 +10,7 @@ use dcsctp_core::Context;
 use rand_core::Rng;
 use std::alloc::AllocError;
 
-/// Gives a stream a priority. The one error is that a growth was refused; nothing has changed then.
+/// Sets the priority of a stream. `Err`: an allocation failed, and nothing has changed.
 pub fn set_stream_priority<R: Rng>(
     context: &mut Context<R>,
     stream_id: StreamId,
@@ -23,8 +23,8 @@ pub fn set_stream_priority<R: Rng>(
     Ok(())
 }
 
-/// Gives a stream the amount at which it is told that its buffered amount is low. The one error is that a
-/// growth was refused; nothing has changed then.
+/// Sets the low threshold of a stream's buffered amount. `Err`: an allocation failed, and nothing has
+/// changed.
 pub fn set_buffered_amount_low_threshold<R: Rng>(
     context: &mut Context<R>,
     stream_id: StreamId,

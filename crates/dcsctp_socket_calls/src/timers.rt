@@ -19,8 +19,8 @@ use dcsctp_machine::AbortReason;
 use rand_core::Rng;
 use std::alloc::AllocError;
 
-// Gives up a peer that doesn't answer: aborts the association where too many errors were counted
-// (RFC 9260, section 8.1). The one error is that a growth was refused.
+// Gives up a peer that doesn't answer: aborts the association if too many errors were counted (RFC 9260,
+// section 8.1).
 fn end_by_errors<R: Rng>(context: &mut Context<R>) -> Result<(), AllocError>
     ensures { WorksTurns R.stream (EndTurns []) context.old result context.new }
 {
@@ -30,8 +30,7 @@ fn end_by_errors<R: Rng>(context: &mut Context<R>) -> Result<(), AllocError>
     Ok(())
 }
 
-// Gives up a peer that doesn't answer, as above; else what waits goes out (RFC 9260, sections 6.3.3 and 8.1).
-// The one error is that a growth was refused.
+// Gives up a peer that doesn't answer, as above; else what waits is sent (RFC 9260, sections 6.3.3 and 8.1).
 fn end_or_send<R: Rng>(context: &mut Context<R>) -> Result<(), AllocError>
     ensures { WorksTurns R.stream (EndTurns (act_input flushes ∷ [])) context.old result context.new }
 {
@@ -43,8 +42,7 @@ fn end_or_send<R: Rng>(context: &mut Context<R>) -> Result<(), AllocError>
     Ok(())
 }
 
-// What follows the timers where one has expired: a peer that is held may be given up. The one error is that
-// a growth was refused.
+// What follows the timers if one has expired: the association may be aborted.
 fn end_where_held<R: Rng>(context: &mut Context<R>) -> Result<(), AllocError>
     ensures { WorksTurns R.stream TurnsBehind context.old result context.new }
 {
@@ -57,7 +55,7 @@ fn end_where_held<R: Rng>(context: &mut Context<R>) -> Result<(), AllocError>
     Ok(())
 }
 
-// What follows the timers. The one error is that a growth was refused.
+// What follows the timers.
 fn end_expiries<R: Rng>(context: &mut Context<R>, has_expired: bool) -> Result<(), AllocError>
     ensures turns { WorksTurns R.stream (ExpiryTurns [] has_expired) context.old result context.new }
     ensures waits { has_expired ≡ false → IsOk result }
@@ -68,7 +66,7 @@ fn end_expiries<R: Rng>(context: &mut Context<R>, has_expired: bool) -> Result<(
     Ok(())
 }
 
-// Works T1, and what follows it. The one error is that a growth was refused.
+// Handles T1, and what follows it.
 fn handle_t1_last<R: Rng>(context: &mut Context<R>, has_expired: bool) -> Result<(), AllocError>
     ensures turns { WorksTurns R.stream (ExpiryTurns (t1_timer ∷ []) has_expired) context.old result
         context.new }
@@ -79,8 +77,7 @@ fn handle_t1_last<R: Rng>(context: &mut Context<R>, has_expired: bool) -> Result
     end_expiries(context, expired || has_expired)
 }
 
-// Works the timers of an association whose COOKIE ECHO isn't answered, and what follows them. The one error
-// is that a growth was refused.
+// Handles the timers of an association whose COOKIE ECHO isn't answered, and what follows them.
 fn handle_echoed_timers<R: Rng>(context: &mut Context<R>) -> Result<(), AllocError>
     ensures turns { WorksTurns R.stream
         (ExpiryTurns (own_timer acknowledgement_delay ∷ t1_timer ∷ []) false) context.old result
@@ -92,7 +89,7 @@ fn handle_echoed_timers<R: Rng>(context: &mut Context<R>) -> Result<(), AllocErr
     handle_t1_last(context, expired)
 }
 
-// Works T2, and what follows all timers. The one error is that a growth was refused.
+// Handles T2, and what follows all timers.
 fn handle_last_timer<R: Rng>(context: &mut Context<R>, has_expired: bool) -> Result<(), AllocError>
     ensures turns { WorksTurns R.stream (ExpiryTurns (t2_timer ∷ []) has_expired) context.old result
         context.new }
@@ -103,8 +100,7 @@ fn handle_last_timer<R: Rng>(context: &mut Context<R>, has_expired: bool) -> Res
     end_expiries(context, expired || has_expired)
 }
 
-// Works the timer of an own request to reset streams, T2, and what follows all timers. The one error is that a growth
-// was refused.
+// Handles the timer of our own request to reset streams, T2, and what follows all timers.
 fn handle_request_timers<R: Rng>(
     context: &mut Context<R>,
     has_expired: bool,
@@ -118,7 +114,7 @@ fn handle_request_timers<R: Rng>(
     handle_last_timer(context, expired || has_expired)
 }
 
-// Works the timer of the answer to a HEARTBEAT, and those behind it. The one error is that a growth was refused.
+// Handles the timer of the answer to a HEARTBEAT, and those after it.
 fn handle_answer_timers<R: Rng>(
     context: &mut Context<R>,
     has_expired: bool,
@@ -132,7 +128,7 @@ fn handle_answer_timers<R: Rng>(
     handle_request_timers(context, expired || has_expired)
 }
 
-// Works the timers of HEARTBEATs, and those behind them. The one error is that a growth was refused.
+// Handles the timers of HEARTBEATs, and those after them.
 fn handle_heartbeat_timers<R: Rng>(
     context: &mut Context<R>,
     has_expired: bool,
@@ -148,7 +144,7 @@ fn handle_heartbeat_timers<R: Rng>(
     handle_answer_timers(context, expired || has_expired)
 }
 
-// Works the timer of what is in flight, and those behind it. The one error is that a growth was refused.
+// Handles the timer of what is in flight, and those after it.
 fn handle_further_timers<R: Rng>(
     context: &mut Context<R>,
     has_expired: bool,
@@ -164,8 +160,7 @@ fn handle_further_timers<R: Rng>(
     handle_heartbeat_timers(context, expired || has_expired)
 }
 
-// Works the timers of an open association: the delay of an acknowledgement, and those behind it. The one error is that
-// a growth was refused.
+// Handles the timers of an open association: the delay of an acknowledgement, and those after it.
 fn handle_own_timers<R: Rng>(context: &mut Context<R>) -> Result<(), AllocError>
     ensures turns { WorksTurns R.stream (ExpiryTurns (own_timer acknowledgement_delay
         ∷ own_timer retransmission ∷ own_timer heartbeat_interval ∷ own_timer heartbeat_timeout
@@ -178,9 +173,9 @@ fn handle_own_timers<R: Rng>(context: &mut Context<R>) -> Result<(), AllocError>
     handle_further_timers(context, expired)
 }
 
-/// Works the timers that are due at the present moment: T1 while the association is set up, its own timers
-/// where it is open, and the delay of an acknowledgement in both (RFC 9260, sections 5.1, 6.2, 6.3.3, 8.3 and 9.2;
-/// RFC 6525, section 5.1.1). The one error is that a growth was refused.
+/// Handles the timers that are due at the present moment (RFC 9260, sections 5.1, 6.2, 6.3.3, 8.3 and 9.2;
+/// RFC 6525, section 5.1.1). During the handshake that is T1, and once the association is open its own
+/// timers. The delay of an acknowledgement runs in both.
 pub(crate) fn handle_timers<R: Rng>(context: &mut Context<R>) -> Result<(), AllocError>
     ensures turns { WorksTurns R.stream DueTurns context.old result context.new }
     ensures waits { NoneIsDue (endpoint_of context.old) (timers_in (core_of context.old.state))

@@ -30,15 +30,14 @@ fn following(chunk_type: u8) -> Following
     Following::PacketEnd
 }
 
-// The text of the error. The one error is that a growth was refused.
+// The text of the error.
 fn text_of(alloc: Global, chunk_type: u8) -> Result<String, AllocError>
     ensures { IfOk result (λ text. string_bytes text ≡ unknown_text chunk_type) }
 {
     format!(in alloc; "Received chunk type {chunk_type}, ")
 }
 
-// The chunk as it was read, without padding, and at most this many bytes of it. The one error is that a
-// growth was refused.
+// The chunk as it was read, without padding, and at most this many bytes of it.
 fn bytes_of(alloc: Global, chunk: &UnknownChunk<'_>, limit: usize) -> Result<Vec<u8>, AllocError>
     ensures { IfOk result (λ bytes. bytes.items ≡ take limit
         (unknown_bytes chunk.now.chunk_type chunk.now.flags chunk.now.value.now)) }
@@ -54,7 +53,7 @@ fn bytes_of(alloc: Global, chunk: &UnknownChunk<'_>, limit: usize) -> Result<Vec
 
 // Sends an ERROR of the cause Unrecognized Chunk Type under this tag, with as much of the chunk as fits.
 //
-// The one error is that a growth was refused. Nothing has changed then.
+// `Err`: an allocation failed, and nothing has changed.
 fn send_error<R: Rng>(
     context: &mut Context<R>,
     tag: u32,
@@ -71,8 +70,7 @@ fn send_error<R: Rng>(
     Ok(())
 }
 
-// Reports the chunk to the peer, where one is held. The one error is that a growth was refused. Nothing has
-// changed then.
+// Reports the chunk to the peer, if it is known. `Err`: an allocation failed, and nothing has changed.
 fn report_to_peer<R: Rng>(
     context: &mut Context<R>,
     chunk: &UnknownChunk<'_>,
@@ -93,8 +91,8 @@ fn report_to_peer<R: Rng>(
     Ok(())
 }
 
-// Tells the user of the chunk, and the peer, where one is held. The one error is that a growth was refused;
-// the first events of the turn may stand then.
+// Tells the user of the chunk, and the peer, if it is known. `Err`: an allocation failed; the first of its
+// events may already have been added.
 fn tell<R: Rng>(context: &mut Context<R>, chunk: &UnknownChunk<'_>) -> Result<(), AllocError>
     ensures { Takes R.stream (told_turn chunk.now.chunk_type (unknown_bytes chunk.now.chunk_type
         chunk.now.flags chunk.now.value.now)) context.old result context.new }
@@ -105,11 +103,11 @@ fn tell<R: Rng>(context: &mut Context<R>, chunk: &UnknownChunk<'_>) -> Result<()
     Ok(())
 }
 
-/// Works a chunk of a type that isn't known: where its second bit says so the user is told, and so is the
-/// peer, by an ERROR with as much of the chunk as fits `mtu`; where its first bit doesn't say so, no other
-/// chunk of the packet is worked.
+/// Handles a chunk of a type that isn't known. If its second bit says so, the user is told. So is the peer,
+/// by an ERROR with as much of the chunk as fits `mtu`. Unless its first bit says so, no other chunk of the
+/// packet is handled.
 ///
-/// The one error is that a growth was refused. The first events of the turn may stand then.
+/// `Err`: an allocation failed; the first of its events may already have been added.
 pub(crate) fn handle_unknown<R: Rng>(
     context: &mut Context<R>,
     chunk: &UnknownChunk<'_>,

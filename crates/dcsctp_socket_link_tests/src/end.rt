@@ -47,8 +47,8 @@ impl Drop for End {
 // How many events a socket may have at once.
 const MOST_EVENTS: u32 = 100_000;
 
-// Heartbeats are off, so that a socket at rest waits for no moment. A peer is never given up: where three of ten
-// packets are lost, eleven timeouts in a row come about.
+// Heartbeats are off, so that a socket at rest has no deadline. No association is aborted after errors: if
+// three of ten packets are lost, eleven timeouts in a row do occur.
 fn options_of(run: &Run) -> Options {
     let mut options = Options::default();
     options.heartbeat_interval = Duration::from_secs(0);
@@ -98,7 +98,7 @@ impl End {
         self.added = self.added.saturating_add(1);
     }
 
-    // Resets the streams whose turn it is, where it is the turn of some.
+    // Resets the streams whose turn it is, if it is the turn of some.
     fn reset_next(&mut self, rt: &impl Abort) {
         let waiting = match self.resets.next_alone() {
             None => self.buffered(),
@@ -134,12 +134,12 @@ impl End {
         self.added == COUNT && self.buffered() == 0
     }
 
-    // An error is told of packets alone that come after the end, whose tag isn't known any longer.
+    // Errors are only reported for packets that come after the end, whose tag isn't known any longer.
     fn fails(&self, rt: &impl Abort, text: &str) {
         assert!(rt; 0 < self.closings, "error: {text}");
     }
 
-    // The own streams of these numbers were reset.
+    // Its own streams of these numbers were reset.
     fn are_performed(&mut self, rt: &impl Abort, streams: &[StreamId]) {
         for stream in streams {
             self.link.seen.begins_anew(stream.0);
@@ -147,7 +147,7 @@ impl End {
         self.resets.are_performed(rt, streams);
     }
 
-    // Works what the socket tells: a packet leaves, and nothing may go wrong.
+    // Handles what the socket tells: a packet leaves, and nothing may go wrong.
     fn hear(&mut self, rt: &impl Abort, now: SocketTime, event: SocketEvent) {
         match event {
             SocketEvent::SendPacket(packet) => self.link.put(rt, now, packet),
@@ -163,7 +163,7 @@ impl End {
         }
     }
 
-    /// Works all that the socket tells.
+    /// Handles all that the socket tells.
     pub fn drain(&mut self, rt: &impl Abort, now: SocketTime) {
         for _ in 0..MOST_EVENTS {
             let Some(event) = self.socket.poll_event() else {
@@ -173,8 +173,8 @@ impl End {
         }
     }
 
-    /// Hands in the packets of the other end that have arrived. The messages of each are taken before the streams are
-    /// looked at that it has reset.
+    /// Hands in the packets of the other end that have arrived. The messages of each are taken before the
+    /// streams that it has reset are looked at.
     pub fn receive(&mut self, rt: &impl Abort, other: &mut End, now: SocketTime) {
         for _ in 0..other.link.len() {
             if let Some(packet) = other.link.take(now) {
@@ -195,10 +195,10 @@ impl End {
         }
     }
 
-    /// Everything has to have been sent, nothing to wait, what has to arrive to have arrived, and the end to have
-    /// been connected once, and closed once where an end has shut it down. On the wire there was nothing strange. Where messages may be given up some are missing,
-    /// and a FORWARD-TSN said so, but that isn't certain where nothing is lost; elsewhere neither is so. Where some
-    /// are unordered, some came behind later ones.
+    /// Everything was sent, nothing waits, and what has to arrive has arrived. The end was connected once,
+    /// and closed once if an end has shut it down. On the wire there was nothing strange. If messages may be
+    /// abandoned, some are missing, and a FORWARD-TSN said so; that isn't certain if nothing is lost.
+    /// Elsewhere neither is so. If some are unordered, some came after later ones.
     pub fn is_over(&self, rt: &impl Abort, run: &Run, end: &str) {
         let (name, seed, seen) = (run.name, run.seed, self.link.seen);
         let (reliable, limited) = self.sent.missing();

@@ -1,5 +1,5 @@
-//! So many messages on one stream that the last is half the stream sequence numbers ahead of the first, which is lost
-//! until all others have arrived (RFC 9260, sections 6.5 and 6.6).
+//! Many messages on one stream: the last is half the stream sequence numbers ahead of the first. The first is
+//! lost until all others have arrived (RFC 9260, sections 6.5 and 6.6).
 
 use crate::seen::first_tsn;
 use dcsctp_socket::{
@@ -22,7 +22,7 @@ const MOST_TURNS: u32 = 100_000;
 
 const MOST_MOMENTS: u32 = 1_000;
 
-// Two sockets whose packets arrive at once, but for those of A that begin with a TSN that is lost.
+// Two sockets whose packets arrive at once, except for those of A that begin with the lost TSN.
 struct Pair {
     name: &'static str,
     a: Socket<Xoshiro256PlusPlus>,
@@ -48,7 +48,7 @@ impl Drop for Pair {
     }
 }
 
-// A closed socket. Its packets are long, so that few of them bear all messages.
+// A closed socket. Its packets are long, so that few of them carry all messages.
 fn socket(
     rt: &impl Abort,
     alloc: Global,
@@ -65,7 +65,7 @@ fn socket(
     Socket::new(alloc, "end", &options, generator).expect(rt, "no socket")
 }
 
-// Hands the packets of one socket to the other, but for those that begin with the TSN that is lost. Was there one?
+// Hands the packets of one socket to the other, except for those that begin with the lost TSN. Was there one?
 fn hand_over(
     rt: &impl Abort,
     from: &mut Socket<Xoshiro256PlusPlus>,

@@ -1,8 +1,8 @@
-//! Two sockets over a link that loses, doubles and reorders, by their public calls: time is told at the moments
-//! that they ask for, and whole messages arrive, ordered ones in order.
+//! Two sockets over a link that loses, doubles and reorders, by their public calls. Time advances to their
+//! deadlines, and whole messages arrive, ordered ones in order.
 //!
-//! A helper asserts and returns no error, and an end is dropped by a call: each early end of a function that owns
-//! a socket, and each end of a block, is proved to give all of it back.
+//! A helper asserts and returns no error, and an end is dropped by a call. Otherwise each early end of a
+//! function that owns a socket, and each end of a block, would be proved to drop all of it.
 #![tactic(auto)]
 
 #[cfg(test)]

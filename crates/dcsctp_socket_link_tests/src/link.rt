@@ -16,8 +16,8 @@ struct Flying {
     packet: Vec<u8>,
 }
 
-/// One direction between two sockets. A packet is under way for 10 to 49 milliseconds, and one that is late for as
-/// much as two seconds more, so that timers expire before it comes.
+/// One direction between two sockets. A packet is under way for 10 to 49 milliseconds. A late one is under
+/// way for up to two seconds more, so that timers expire before it comes.
 #[derive(Drop)]
 pub struct Link {
     alloc: Global,
@@ -72,7 +72,7 @@ impl Link {
             .expect(rt, "no room on the link");
     }
 
-    /// Loses the packets of these numbers, where the next one has the number 1.
+    /// Loses the packets of these numbers, if the next one has the number 1.
     pub fn lose(&mut self, lost: [usize; 2]) {
         self.count = 0;
         self.lost = lost;
@@ -102,7 +102,7 @@ impl Link {
         None
     }
 
-    /// When the next packet arrives; the last moment where none is under way.
+    /// When the next packet arrives; the last moment if none is under way.
     pub fn next_arrival(&self) -> SocketTime {
         let mut first = SocketTime::infinite_future();
         for flying in &self.flying {

@@ -30,10 +30,10 @@ pub struct Messages {
     // One more than the greatest number that arrived, for each stream.
     after_greatest: [usize; 4],
 
-    // The number of the first message behind the reset that is under way, for each stream; `COUNT` where none is.
+    // The number of the first message after the reset that is under way, for each stream; `COUNT` if none is.
     behind_reset: [usize; 4],
 
-    /// How many messages came behind one of their stream that was sent later.
+    /// How many messages came after one of their stream that was sent later.
     pub overtaken: usize,
 }
 
@@ -116,8 +116,8 @@ impl Messages {
         }
     }
 
-    /// The receiver is told that a stream was reset: the reset was under way, and all messages before it have arrived that
-    /// may not be given up.
+    /// The receiver is told that a stream was reset: the reset was under way, and all messages before it that
+    /// may not be abandoned have arrived.
     pub fn is_reset(&mut self, rt: &impl Abort, stream: u16) {
         let Some(behind_reset) = self.behind_reset.get_mut(usize::from(stream)) else {
             return;
@@ -136,8 +136,8 @@ impl Messages {
         }
     }
 
-    // Notes the number of a message that has arrived: none comes before a reset that it was sent behind, and an
-    // ordered one has to come behind those before it on its stream.
+    // Notes the number of a message that has arrived: none comes before a reset after which it was sent, and
+    // an ordered one has to come after those before it on its stream.
     fn note(&mut self, rt: &impl Abort, number: usize, planned: &Planned) {
         let stream = usize::from(planned.stream % 4);
         let after = number.saturating_add(1);

@@ -1,5 +1,5 @@
-//! Messages that are given up (RFC 3758): those that arrive do so once, whole and in order, and the reliable ones
-//! among them, as the last of each stream, aren't held up.
+//! Messages that are abandoned (RFC 3758): those that arrive do so once, whole and in order. The reliable
+//! ones among them, such as the last of each stream, aren't held up.
 
 use crate::run::{Effort, PLAIN};
 use crate::simulation::runs_each;

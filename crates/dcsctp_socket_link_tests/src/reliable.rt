@@ -1,5 +1,5 @@
-//! Reliable messages: each arrives once and whole, and an ordered one behind those before it on its stream (RFC 9260,
-//! sections 6.5 and 6.6).
+//! Reliable messages: each arrives once and whole, and an ordered one after those before it on its stream
+//! (RFC 9260, sections 6.5 and 6.6).
 
 use crate::run::PLAIN;
 use crate::simulation::runs_each;

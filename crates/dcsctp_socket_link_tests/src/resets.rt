@@ -15,7 +15,7 @@ pub struct Resets {
     // How many calls there were.
     calls: usize,
 
-    // The own streams that were to be reset, and those that were.
+    // Its own streams that were to be reset, and those that were.
     asked: Vec<u16>,
     performed: Vec<u16>,
 
@@ -27,7 +27,7 @@ pub struct Resets {
     noted: usize,
 }
 
-// Puts the numbers of streams behind those of a list.
+// Puts the numbers of streams after those of a list.
 fn put(rt: &impl Abort, list: &mut Vec<u16>, streams: &[StreamId]) {
     for stream in streams {
         list.push(stream.0).expect(rt, "no room for a stream");
@@ -58,7 +58,7 @@ impl Resets {
         is_for_messages && self.calls < number / 8
     }
 
-    /// The stream that comes next, where no other has to be empty for its reset.
+    /// The stream that comes next, if no other has to be empty for its reset.
     pub fn next_alone(&self) -> Option<StreamId> {
         if self.plan != Resetting::AmongMessages {
             return None;
@@ -66,7 +66,8 @@ impl Resets {
         Some(StreamId((self.calls % 4) as u16))
     }
 
-    // The streams of the next call, where it is its turn: the first one, and how many. Four streams bear messages.
+    // The streams of the next call, if it is its turn: the first one, and how many. Four streams carry
+    // messages.
     fn next(&self, number: usize, waiting: usize) -> Option<(u16, u16)> {
         if self.performed.len() < self.asked.len() {
             return None;
@@ -91,8 +92,8 @@ impl Resets {
         }
     }
 
-    /// The streams that are to be reset before the message of this number, while so many bytes wait, where it is the
-    /// turn of some.
+    /// The streams that are to be reset before the message of this number, while that many bytes wait, if it
+    /// is the turn of some.
     pub fn ask(&mut self, rt: &impl Abort, number: usize, waiting: usize) -> Option<Vec<StreamId>> {
         let (first, count) = self.next(number, waiting)?;
         let mut streams = Vec::new(self.alloc);
@@ -104,7 +105,7 @@ impl Resets {
         Some(streams)
     }
 
-    /// It is told that own streams were reset.
+    /// It is told that its own streams were reset.
     pub fn are_performed(&mut self, rt: &impl Abort, streams: &[StreamId]) {
         put(rt, &mut self.performed, streams);
         self.requests = self.requests.wrapping_add(1);
@@ -124,7 +125,7 @@ impl Resets {
         self.noted = self.told.len();
     }
 
-    /// All streams were reset that were to be, and both ends were told so once of each, in order.
+    /// All streams that were to be reset were reset, and both ends were told so once of each, in order.
     pub fn are_over(&self, rt: &impl Abort, run: &Run, other: &Resets) {
         let asked = self.asked.as_slice();
         let (name, seed) = (run.name, run.seed);

@@ -1,5 +1,5 @@
-//! Streams that are reset (RFC 6525), again and again, while messages go both ways: a reset parts the messages before
-//! it from those behind it, and either end is told of it once.
+//! Streams that are reset (RFC 6525), again and again, while messages go both ways. A reset separates the
+//! messages before it from those after it, and either end is told of it once.
 
 use crate::run::{Effort, PLAIN, Resetting};
 use crate::simulation::{runs, runs_each};
@@ -22,7 +22,8 @@ fn a_reset_parts_the_messages_of_its_stream(rt: HostRuntime) {
     }
 }
 
-// What is given up comes not at all, or before the reset, and no FORWARD-TSN reaches across (RFC 6525, section 5.1.2).
+// What is abandoned comes before the reset or never, and no FORWARD-TSN goes beyond it (RFC 6525, section
+// 5.1.2).
 #[test]
 fn a_reset_parts_messages_that_are_given_up(rt: HostRuntime) {
     for (name, interleaving, resetting) in [

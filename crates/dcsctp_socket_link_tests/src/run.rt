@@ -22,7 +22,7 @@ pub enum Resetting {
     /// None.
     Never,
 
-    /// Of the four that bear messages some, before each eighth message, once all before it have left.
+    /// Of the four that carry messages some, before each eighth message, once all before it have left.
     BetweenMessages,
 
     /// Of those four one, before each eighth message, once all of its own have left; messages of others may wait.
@@ -31,7 +31,7 @@ pub enum Resetting {
     /// So many others, by one call.
     AtOnce(u16),
 
-    /// Others, one by one: so many times, each time once the reset before it was performed.
+    /// Others, one by one: that many times, each time once the reset before it was performed.
     InTurn(usize),
 }
 
@@ -66,7 +66,7 @@ pub struct Run {
     /// Is every third message unordered?
     pub has_unordered: bool,
 
-    /// Do messages go out as I-DATA (RFC 8260)?
+    /// Are messages sent as I-DATA (RFC 8260)?
     pub interleaving: bool,
 
     /// Do packets go without a checksum (RFC 9653)?
@@ -84,7 +84,7 @@ pub struct Run {
     /// Which ends shut the association down (RFC 9260, section 9.2)?
     pub closing: Closing,
 
-    /// Which packets are lost of those that A and B send from that shutdown on, by their numbers from 1.
+    /// Which of the packets that A and B send from that shutdown on are lost, by their numbers from 1.
     pub lost: [[usize; 2]; 2],
 }
 
@@ -105,7 +105,7 @@ pub const PLAIN: Run = Run {
 };
 
 impl Run {
-    /// May messages be given up?
+    /// May messages be abandoned?
     pub fn is_limited(&self) -> bool {
         for effort in &self.efforts {
             if *effort != Effort::Reliable {

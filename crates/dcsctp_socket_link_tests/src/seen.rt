@@ -11,7 +11,7 @@ pub struct Seen {
     // The last TSN, once there was one.
     last_tsn: Option<u32>,
 
-    // The number that the next ordered message bears, for each stream.
+    // The number that the next ordered message carries, for each stream.
     next_numbers: [u32; 4],
 
     /// DATA, or with interleaving I-DATA.
@@ -20,12 +20,13 @@ pub struct Seen {
     /// FORWARD-TSNs, or with interleaving I-FORWARD-TSNs.
     pub forward_tsns: usize,
 
-    /// Those of the other kind; packets with a checksum that are to have none, or the other way round; and ordered
-    /// messages whose number isn't the next one of their stream.
+    /// Those of the other kind, and ordered messages whose number isn't the next one of their stream. Also
+    /// packets with a checksum that are to have none, or the other way round.
     pub strange: usize,
 }
 
-// The chunk at a place of a packet with all that is behind it, and where the next one is (RFC 9260, section 3.2).
+// The chunk at a place of a packet with all that is after it, and where the next one is (RFC 9260, section
+// 3.2).
 fn chunk_at(packet: &[u8], at: usize) -> Option<(&[u8], usize)> {
     let chunk = packet.get(at..)?;
     if chunk.len() < 4 {
@@ -36,7 +37,7 @@ fn chunk_at(packet: &[u8], at: usize) -> Option<(&[u8], usize)> {
     Some((chunk, at.saturating_add(len).saturating_add(padding)))
 }
 
-// The byte at a place; 0 behind the end.
+// The byte at a place; 0 after the end.
 fn byte(chunk: &[u8], at: usize) -> u8 {
     chunk.get(at).copied().unwrap_or(0)
 }
@@ -71,7 +72,7 @@ fn has_checksum(packet: &[u8]) -> bool {
     false
 }
 
-/// The TSN of the first chunk of a packet, where that is DATA or I-DATA.
+/// The TSN of the first chunk of a packet, if that is DATA or I-DATA.
 pub fn first_tsn(packet: &[u8]) -> Option<u32> {
     let (chunk, _) = chunk_at(packet, 12)?;
     match byte(chunk, 0) {
@@ -132,7 +133,7 @@ impl Seen {
         }
     }
 
-    /// This stream was reset: its next message bears the number 0 (RFC 6525, section 5.2.7).
+    /// This stream was reset: its next message carries the number 0 (RFC 6525, section 5.2.7).
     pub fn begins_anew(&mut self, stream: u16) {
         if let Some(next) = self.next_numbers.get_mut(usize::from(stream)) {
             *next = 0;

@@ -31,7 +31,7 @@ fn earlier(first: SocketTime, second: SocketTime) -> SocketTime {
     if second < first { second } else { first }
 }
 
-// When something happens next; the last moment where both ends are at rest.
+// When something happens next; the last moment if both ends are at rest.
 fn next_moment(a: &End, b: &End) -> SocketTime {
     let timeout = earlier(a.socket.poll_timeout(), b.socket.poll_timeout());
     let arrival = earlier(a.link.next_arrival(), b.link.next_arrival());
@@ -56,7 +56,7 @@ fn shut_down(rt: &impl Abort, a: &mut End, b: &mut End, run: &Run, now: SocketTi
     b.drain(rt, now);
 }
 
-// Runs until both ends are at rest; false where they don't come to it.
+// Runs until both ends are at rest; false if they don't come to it.
 fn comes_to_rest(rt: &impl Abort, a: &mut End, b: &mut End, run: &Run) -> bool {
     let mut now = SocketTime::zero();
     for _ in 0..MOST_MOMENTS {
@@ -70,8 +70,8 @@ fn comes_to_rest(rt: &impl Abort, a: &mut End, b: &mut End, run: &Run) -> bool {
     false
 }
 
-// The numbers of requests to reset streams (RFC 6525, section 4.1): the own first one, the own next one, and the one that
-// is awaited of the other end.
+// The numbers of requests to reset streams (RFC 6525, section 4.1): its own first one, its own next one, and
+// the one that is awaited of the other end.
 fn numbers_of(rt: &impl Abort, end: &End) -> (u32, u32, u32) {
     let association = end.socket.association().expect(rt, "no association");
     let held = association.held.expect(rt, "no peer");
@@ -82,7 +82,8 @@ fn numbers_of(rt: &impl Abort, end: &End) -> (u32, u32, u32) {
     )
 }
 
-// All that this end had to reset was reset, and told once at either end, by requests whose numbers follow one another.
+// All that this end had to reset was reset, and reported once at either end, by requests whose numbers follow
+// one another.
 fn resets_are_over(rt: &impl Abort, run: &Run, end: &End, other: &End) {
     end.resets.are_over(rt, run, &other.resets);
     let (first, next, _) = numbers_of(rt, end);
@@ -113,7 +114,7 @@ fn ends_of(rt: &impl Abort, alloc: Global, run: &Run) -> (End, End) {
     (End::new(rt, alloc, run), End::new(rt, alloc, &other))
 }
 
-/// A connects to B, and both send all that they have. It answers the first TSN of A.
+/// A connects to B, and both send all that they have. Returns the first TSN of A.
 pub fn runs(rt: &impl Abort, alloc: Global, run: &Run) -> u32 {
     let (mut a, mut b) = ends_of(rt, alloc, run);
     runs_between(rt, run, &mut a, &mut b);
@@ -125,7 +126,7 @@ pub fn runs(rt: &impl Abort, alloc: Global, run: &Run) -> u32 {
     first_tsn
 }
 
-/// A connects to B, both send all that they have, and the association is shut down: neither end holds it any longer.
+/// A connects to B, both send all that they have, and the association is shut down: it is gone at both ends.
 pub fn closes(rt: &impl Abort, alloc: Global, run: &Run) {
     let (mut a, mut b) = ends_of(rt, alloc, run);
     runs_between(rt, run, &mut a, &mut b);
@@ -141,8 +142,8 @@ pub fn closes(rt: &impl Abort, alloc: Global, run: &Run) {
     drop(b);
 }
 
-/// Runs by several seeds. Of a hundred packets none is lost in the first run, 10 are in the second, 20 in the third,
-/// 30 in the fourth, and so on.
+/// Runs by several seeds. In the first run no packet is lost. In the second 10 of a hundred are, in the third
+/// 20, in the fourth 30, and so on.
 pub fn runs_each(rt: &impl Abort, alloc: Global, run: &Run) {
     for seed in 0..SEEDS {
         let mut one = *run;

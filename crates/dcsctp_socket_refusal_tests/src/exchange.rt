@@ -1,9 +1,9 @@
-//! The exchange: what each side does, step by step, and what it tells then.
+//! The exchange: what each side does, step by step, and which events follow.
 //!
-//! All was worked out by hand for the default options. A packet has 1,188 bytes at most, and so a chunk 1,160 of a
-//! message. Packets are under way for no time, and acknowledgements come after 200 milliseconds at most: so the
-//! retransmission timeout is the least that there is, 400 milliseconds, and half of it the delay of an
-//! acknowledgement.
+//! All was computed by hand for the default options. A packet has 1,188 bytes at most, and so a chunk 1,160
+//! of a message. Packets are under way for no time, and acknowledgements come after 200 milliseconds at most.
+//! So the retransmission timeout is the least that is allowed, 400 milliseconds, and the delay of an
+//! acknowledgement is half of it.
 
 use crate::messages::How::{self, Lives, Named, Plain, SentOnce, Unordered};
 use crate::told::Told::{self, Event, Packet};
@@ -43,13 +43,13 @@ pub enum Act {
     /// The next packet of the other side is lost.
     Loses,
 
-    /// It is handed bytes that are no packet, so often.
+    /// It is handed bytes that are no packet, that often.
     TakesNoPackets(u16),
 
-    /// It sends a message on this stream, of so many bytes.
+    /// It sends a message on this stream, of that many bytes.
     Sends(u16, u16, How),
 
-    /// It sends messages on these streams, of so many bytes each, by one call.
+    /// It sends messages on these streams, of that many bytes each, by one call.
     SendsMany(&'static [(u16, u16)]),
 
     /// It resets these streams.
@@ -125,9 +125,9 @@ pub static EXCHANGE: &[Step] = &[
     ),
     (A, Takes, &[Packet(&[SACK])]),
     (B, Takes, &[]),
-    // A lost packet. The message behind it leaves a gap, which is told at once, and waits for its turn. What was lost
-    // goes out again by the retransmission timer, and is acknowledged after the delay (RFC 9260, sections 6.3.3 and
-    // 6.7).
+    // A lost packet. The message after it leaves a gap, which is reported at once, and waits for its turn.
+    // What was lost is sent again by the retransmission timer, and is acknowledged after the delay (RFC 9260,
+    // sections 6.3.3 and 6.7).
     (A, Sends(1, 25, Plain), &[Event("low", 1), Packet(&[DATA])]),
     (B, Loses, &[]),
     (A, Sends(1, 27, Plain), &[Event("low", 1), Packet(&[DATA])]),
@@ -139,8 +139,8 @@ pub static EXCHANGE: &[Step] = &[
     (B, Expires(600), &[Packet(&[SACK])]),
     (A, Passes(600), &[]),
     (A, Takes, &[]),
-    // A lost message that isn't sent again: the peer is told not to wait for it, and acknowledges that as it does
-    // data, here along with data of its own (RFC 3758, sections 3.5 and 3.6).
+    // A lost message that isn't sent again. The peer is told not to wait for it, and acknowledges that as it
+    // does data, here along with data of its own (RFC 3758, sections 3.5 and 3.6).
     (
         B,
         Sends(2, 35, SentOnce(6)),
@@ -188,13 +188,13 @@ pub static EXCHANGE: &[Step] = &[
     (B, Expires(1800), &[Packet(&[SACK])]),
     (A, Passes(1800), &[]),
     (A, Takes, &[]),
-    // B sent its last data at 600 milliseconds: 30 seconds later a heartbeat goes out (RFC 9260, section 8.3).
+    // B sent its last data at 600 milliseconds: 30 seconds later a heartbeat is sent (RFC 9260, section 8.3).
     (B, Expires(30_600), &[Packet(&[HEARTBEAT])]),
     (A, Passes(30_600), &[]),
     (A, Takes, &[Packet(&[HEARTBEAT_ACK])]),
     (B, Takes, &[]),
-    // Streams are reset; the second request is lost, and goes out again after the retransmission timeout (RFC 6525,
-    // sections 5.1 and 5.2).
+    // Streams are reset; the second request is lost, and is sent again after the retransmission timeout (RFC
+    // 6525, sections 5.1 and 5.2).
     (A, Resets(&[2, 1]), &[Packet(&[RE_CONFIG])]),
     (
         B,
@@ -212,16 +212,17 @@ pub static EXCHANGE: &[Step] = &[
         &[Event("incoming reset", 1), Packet(&[RE_CONFIG])],
     ),
     (A, Takes, &[Event("reset performed", 1)]),
-    // Some messages are taken, and the others are lost with the association (RFC 9260, section 9.1). So many events
-    // stand then that the last one of each side needs room: it was doubled as it grew, to 16 at A and 4 at B.
+    // Some messages are taken, and the others are lost with the association (RFC 9260, section 9.1). So many
+    // events wait then that the last one of each side needs new room. The room was doubled as it grew, to 16
+    // at A and 4 at B.
     (A, Reads(2), &[]),
     (B, Reads(3), &[]),
     (A, TakesNoPackets(15), &[Event("unreadable", 0); 15]),
     (B, TakesNoPackets(4), &[Event("unreadable", 0); 4]),
     (A, Closes, &[Packet(&[ABORT]), Event("closed", 0)]),
     (B, Takes, &[Event("aborted by the peer", 0)]),
-    // They connect again, and A shuts the association down: its SHUTDOWN is lost, and goes out again by T2 (RFC 9260,
-    // section 9.2).
+    // They connect again, and A shuts the association down: its SHUTDOWN is lost, and is sent again by T2
+    // (RFC 9260, section 9.2).
     (A, Connects, &[Packet(&[INIT])]),
     (B, Takes, &[Packet(&[INIT_ACK])]),
     (A, Takes, &[Packet(&[COOKIE_ECHO])]),
@@ -239,7 +240,7 @@ pub static EXCHANGE: &[Step] = &[
     (B, Takes, &[Event("closed", 0)]),
 ];
 
-/// What a side tells in a step of the exchange: nothing where it is the other side's.
+/// What a side tells in a step of the exchange: nothing if it is the other side's.
 pub fn tells_at(name: Name, index: usize) -> &'static [Told] {
     match EXCHANGE.get(index) {
         Some((side, _, tells)) if *side == name => tells,
@@ -255,7 +256,7 @@ pub fn is_told_at(name: Name, index: usize, place: usize, event: &SocketEvent) -
     }
 }
 
-/// The messages that come to a side, in order: the stream and the bytes of each.
+/// The messages that a side receives, in order: the stream and the bytes of each.
 pub fn messages_to(name: Name) -> &'static [(u16, u16)] {
     match name {
         A => &[(1, 30), (2, 40), (4, 50)],

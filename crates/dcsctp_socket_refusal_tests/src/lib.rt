@@ -1,9 +1,9 @@
-//! What a socket promises where memory is refused, by its public calls: two sockets go through one exchange of
-//! packets, of which a table says all that they tell. With enough memory the whole of it is compared.
-//! `scripts/refusals.sh` runs it once more for each allocation, which is refused in that run.
+//! What a socket promises when an allocation fails, by its public calls. Two sockets go through one exchange
+//! of packets, and a table has all their events. With enough memory the whole of it is compared.
+//! `scripts/refusals.sh` runs it once more for each allocation, which fails in that run.
 //!
-//! A helper asserts and returns no error of a socket, and a socket is dropped by a call: each early end of a
-//! function that owns a socket is proved to give all of it back.
+//! A helper asserts and returns no error of a socket, and a socket is dropped by a call. Otherwise each early
+//! end of a function that owns a socket would be proved to drop all of it.
 #![tactic(auto)]
 
 #[cfg(test)]

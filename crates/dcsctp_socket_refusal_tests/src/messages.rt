@@ -19,7 +19,7 @@ pub enum How {
     /// It isn't sent again. It has this name.
     SentOnce(u64),
 
-    /// It is sent again for so many milliseconds. It has this name.
+    /// It is sent again for that many milliseconds. It has this name.
     Lives(u64, u64),
 }
 
@@ -48,7 +48,7 @@ fn byte_at(size: usize, place: usize) -> u8 {
     (size.wrapping_mul(31).wrapping_add(place) % 251) as u8
 }
 
-/// The message of a size, on this stream. The size is its protocol, too. The one error is want of memory.
+/// The message of a size, on this stream. The size is its protocol, too.
 pub fn message(alloc: Global, stream: u16, size: u16) -> Result<Message, AllocError> {
     let len = usize::from(size);
     let mut payload = Vec::with_capacity(alloc, len)?;

@@ -1,5 +1,5 @@
-//! What is promised where a call of a socket was refused memory: the socket has failed and says so at each later
-//! call; the events that it had told can be polled, and the messages that were ready can be taken.
+//! What is promised when an allocation failed in a call of a socket. The socket has failed and says so at
+//! each later call. Its earlier events can be polled, and the messages that were ready can be taken.
 
 use crate::messages::message;
 use crate::side::Side;
@@ -44,8 +44,8 @@ fn ask(socket: &Socket<TwoWords>, stream: StreamId) -> Answers {
     }
 }
 
-// Each call that can answer that the socket has failed has to do so. On one that hasn't, they would add events and
-// change what queries answer.
+// Each call that can return that the socket has failed has to do so. On one that hasn't, they would add
+// events and change what queries answer.
 fn each_call_fails(rt: &impl Abort, own: &mut Side) {
     let plain = SendOptions::default();
     let one = message(own.alloc, 2, 60).expect(rt, "no message");
@@ -79,7 +79,7 @@ fn each_call_fails(rt: &impl Abort, own: &mut Side) {
     }
 }
 
-// The events that stood before this step have to come, and then a front part of those of the step. Later calls
+// The events from before this step have to come, and then the first part of those of the step. Later calls
 // add none, and change nothing that a query answers.
 fn keeps_events(rt: &impl Abort, own: &mut Side, index: usize) {
     let before = ask(&own.socket, StreamId(2));
@@ -96,8 +96,8 @@ fn keeps_events(rt: &impl Abort, own: &mut Side, index: usize) {
     );
 }
 
-// The messages that were ready before this step, so many, have to come, with those that became so in it. Nothing
-// is left then, and what can be set without memory is set.
+// That many messages, which were ready before this step, have to come, with those that became so in it.
+// Nothing is left then, and what can be set without memory is set.
 fn keeps_messages(rt: &impl Abort, own: &mut Side, index: usize, ready: usize) {
     let count = own.socket.messages_ready_count();
     assert!(rt;
@@ -117,8 +117,8 @@ fn keeps_messages(rt: &impl Abort, own: &mut Side, index: usize, ready: usize) {
     );
 }
 
-/// In this step a call of one side was refused memory, and so many messages were ready there before it. What is
-/// promised for this has to be kept; the other side has told all that it has to, and goes on.
+/// In this step an allocation failed in a call of one side, which had that many ready messages before. What
+/// is promised for this has to be kept. The other side has reported all that it has to, and goes on.
 pub fn keeps_promises(
     rt: &impl Abort,
     own: &mut Side,

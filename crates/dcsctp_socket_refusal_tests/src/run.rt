@@ -1,4 +1,4 @@
-//! The exchange is gone through, up to the step in which memory is refused.
+//! The exchange is gone through, up to the step in which an allocation fails.
 
 use crate::exchange::{Act, EXCHANGE, Name};
 use crate::refusal::keeps_promises;
@@ -8,7 +8,7 @@ use dcsctp_testing::TwoWords;
 use std::alloc::Global;
 use std::process::Abort;
 
-// A new side, whose socket draws these two words; none where memory is refused.
+// A new side, whose socket draws these two words; none if an allocation fails.
 fn new_side(rt: &impl Abort, alloc: Global, name: Name, first: u64, second: u64) -> Option<Side> {
     let options = Options::default();
     assert!(rt; options.is_valid(), "the options are not valid");
@@ -21,8 +21,8 @@ fn new_side(rt: &impl Abort, alloc: Global, name: Name, first: u64, second: u64)
     }
 }
 
-// Takes a step of one side, and answers whether no memory was refused in it. Where it was the test's own, no socket
-// has failed.
+// Takes a step of one side, and returns whether no allocation failed in it. If the test's own allocation
+// failed, no socket has failed.
 fn take_step(rt: &impl Abort, own: &mut Side, other: &mut Side, index: usize, act: Act) -> bool {
     let ready = own.socket.messages_ready_count();
     match own.act(rt, other, index, act) {
@@ -39,7 +39,7 @@ fn take_step(rt: &impl Abort, own: &mut Side, other: &mut Side, index: usize, ac
     }
 }
 
-// Takes all steps, up to one in which memory is refused, and answers whether that was in none.
+// Takes all steps, up to one in which an allocation fails. Returns whether none failed.
 fn take_steps(rt: &impl Abort, a: &mut Side, b: &mut Side) -> bool {
     for index in 0..EXCHANGE.len() {
         let goes_on = match EXCHANGE.get(index) {
@@ -54,7 +54,7 @@ fn take_steps(rt: &impl Abort, a: &mut Side, b: &mut Side) -> bool {
     a.is_over(rt).is_ok() && b.is_over(rt).is_ok()
 }
 
-// Goes through the exchange with this side and a new one, and answers whether no memory was refused.
+// Goes through the exchange with this side and a new one, and returns whether no allocation failed.
 fn goes_through_with(rt: &impl Abort, alloc: Global, a: &mut Side) -> bool {
     let Some(mut b) = new_side(rt, alloc, Name::B, 200, 8) else {
         return false;
@@ -64,7 +64,7 @@ fn goes_through_with(rt: &impl Abort, alloc: Global, a: &mut Side) -> bool {
     is_whole
 }
 
-// Goes through the exchange with two new sides, and answers whether no memory was refused.
+// Goes through the exchange with two new sides, and returns whether no allocation failed.
 fn goes_through(rt: &impl Abort, alloc: Global) -> bool {
     let Some(mut a) = new_side(rt, alloc, Name::A, 100, 6) else {
         return false;
@@ -74,8 +74,8 @@ fn goes_through(rt: &impl Abort, alloc: Global) -> bool {
     is_whole
 }
 
-// Where memory is refused once, two other sockets go through the whole exchange then: so what the table says is
-// compared in each run.
+// If an allocation fails once, two other sockets go through the whole exchange then: so what the table says
+// is compared in each run.
 #[test]
 fn a_refused_growth_fails_its_socket_and_loses_nothing(rt: HostRuntime) {
     let is_whole = goes_through(&rt, rt.alloc()) || goes_through(&rt, rt.alloc());

@@ -41,10 +41,10 @@ impl Drop for Side {
     }
 }
 
-/// What a call answers. The outer error is that the memory of the test itself was refused.
+/// The result of a call. The outer error is that an allocation of the test itself failed.
 pub type Answer = Result<Result<(), SocketFault>, AllocError>;
 
-// The moment so many milliseconds after the first.
+// The moment that many milliseconds after the first.
 fn at(millis: u64) -> SocketTime {
     SocketTime::zero() + Duration::from_millis(millis)
 }
@@ -99,8 +99,8 @@ impl Side {
         }
     }
 
-    // The next packet that is under way to the other side. What this side tells is taken only where none is known,
-    // so that events stand as long as can be.
+    // The next packet that is under way to the other side. Events of this side are taken only if none is
+    // known, so that they wait as long as possible.
     fn next_packet(&mut self, rt: &impl Abort, index: usize) -> Result<Vec<u8>, AllocError> {
         if self.outgoing.is_empty() {
             self.hear(rt, index)?;
@@ -111,7 +111,7 @@ impl Side {
         Ok(packet)
     }
 
-    // Hands in bytes that are no packet, so often, up to a fault.
+    // Hands in bytes that are no packet, that often, up to a fault.
     fn take_no_packets(&mut self, count: u16) -> Result<(), SocketFault> {
         for _ in 0..count {
             self.socket.handle_input(&[1, 2, 3])?;
@@ -161,8 +161,8 @@ impl Side {
         }
     }
 
-    /// Takes what was told in this step, which has to be a front part of what the table says, and answers whether it
-    /// was all of it. The one error is that the test has no memory to keep a packet.
+    /// Takes the events of this step, which have to be the first part of what the table says. Returns whether
+    /// they were all of it. `Err`: the test can't allocate room for a packet.
     pub fn hear_step(&mut self, rt: &impl Abort, index: usize) -> Result<bool, AllocError> {
         for place in 0..tells_at(self.name, index).len() {
             if !self.hear_one(rt, index, place)? {
@@ -172,7 +172,7 @@ impl Side {
         Ok(true)
     }
 
-    // Takes one event, which has to be that of this place, and answers whether there was one.
+    // Takes one event, which has to be that of this place, and returns whether there was one.
     fn hear_one(
         &mut self,
         rt: &impl Abort,
@@ -190,7 +190,7 @@ impl Side {
         }
     }
 
-    // Keeps an event, where it is a packet.
+    // Keeps an event, if it is a packet.
     fn keep(&mut self, event: SocketEvent) -> Result<(), AllocError> {
         if let SocketEvent::SendPacket(packet) = event {
             self.outgoing.push_back(packet)?;
@@ -198,7 +198,7 @@ impl Side {
         Ok(())
     }
 
-    /// Takes what was told before this step, which has to be all that the table says. The one error is that of
+    /// Takes the events from before this step, which have to be all that the table says. `Err`: as for
     /// `hear_step`.
     pub fn hear(&mut self, rt: &impl Abort, end: usize) -> Result<(), AllocError> {
         for index in self.heard..end {
@@ -219,7 +219,7 @@ impl Side {
         drop(event);
     }
 
-    /// Takes so many messages, which have to be ready, and those of the table, whole and in order.
+    /// Takes that many messages, which have to be ready, and those of the table, whole and in order.
     pub fn read(&mut self, rt: &impl Abort, count: usize) {
         for _ in 0..count {
             let Some(found) = self.socket.get_next_message() else {
@@ -236,8 +236,8 @@ impl Side {
         }
     }
 
-    /// No step is left: all of the table has to have been told, and nothing else, and the association is over. The
-    /// one error is that of `hear_step`.
+    /// No step is left: the events were all of the table and nothing else, and the association is over.
+    /// `Err`: as for `hear_step`.
     pub fn is_over(&mut self, rt: &impl Abort) -> Result<(), AllocError> {
         let end = EXCHANGE.len();
         self.hear(rt, end)?;

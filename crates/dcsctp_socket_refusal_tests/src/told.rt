@@ -1,4 +1,4 @@
-//! What a socket tells, by short names: a packet by the types of its chunks.
+//! The events of a socket, by short names: a packet by the types of its chunks.
 
 use dcsctp_socket::{ErrorKind, SocketEvent};
 
@@ -41,9 +41,9 @@ pub enum Told {
     Event(&'static str, u64),
 }
 
-// Are the chunks of the packet of these types? They begin behind a common header of 12 bytes. The first byte of each
-// is its type, the third and the fourth are its length, and padding goes to a multiple of four (RFC 9260, sections
-// 3.1 and 3.2).
+// Are the chunks of the packet of these types? They begin after a common header of 12 bytes. The first byte
+// of each is its type, the third and the fourth are its length, and padding goes to a multiple of four (RFC
+// 9260, sections 3.1 and 3.2).
 fn has_chunks(packet: &[u8], kinds: &[u8]) -> bool {
     let mut start = 12usize;
     for kind in kinds {

@@ -1,4 +1,4 @@
-//! An ABORT that comes to an open association (RFC 9260, sections 3.3.7 and 8.5.1).
+//! An ABORT that an open association receives (RFC 9260, sections 3.3.7 and 8.5.1).
 
 use crate::script::run;
 
@@ -47,8 +47,8 @@ fn an_abort_counts_under_its_tag_alone(rt: HostRuntime) {
     run(&rt, rt.alloc(), TAGS);
 }
 
-// A thousand times Cookie Received While Shutting Down, which has no value (RFC 9260, section 3.3.10.10), behind a
-// length of 4004.
+// A thousand times Cookie Received While Shutting Down, which has no value (RFC 9260, section 3.3.10.10),
+// after a length of 4004.
 #[test]
 fn an_abort_of_a_thousand_causes_ends_the_association(rt: HostRuntime) {
     let alloc = rt.alloc();

@@ -1,5 +1,5 @@
-//! What the tests of this crate compare by: each ends its test where a comparison fails, and names the
-//! line of the script. A library may end no process, so each crate of tests has these for itself.
+//! What the tests of this crate compare by: each ends its test if a comparison fails, and names the line of
+//! the script. A library may end no process, so each crate of tests has these for itself.
 
 use std::alloc::Global;
 use std::fmt::Debug;

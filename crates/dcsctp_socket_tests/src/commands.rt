@@ -108,7 +108,7 @@ fn streams(rt: &impl Abort, line: Line<'_>, text: &str) -> Vec<StreamId> {
     ids
 }
 
-// A message of so many zeros.
+// A message of that many zeros.
 fn zeros(rt: &impl Abort, line: Line<'_>, id: StreamId, len: &str) -> Message {
     let mut payload = Vec::new(line.alloc);
     payload
@@ -144,7 +144,7 @@ fn next_message(socket: &mut Socket<TwoWords>) -> Option<(u16, u32, usize)> {
     }
 }
 
-// The own pair and the peer's, which is zeros where no peer is known.
+// Its own pair and the peer's, which is zeros if no peer is known.
 fn pairs_of(socket: &Socket<TwoWords>) -> Option<[u32; 4]> {
     let association = socket.association()?;
     let my = association.my;

@@ -1,5 +1,5 @@
-//! How many streams a request to reset names in a small packet (RFC 6525, section 4.1): its chunk has 20 bytes and 2 for
-//! each stream, padded to a multiple of 4, behind a header of 12 bytes.
+//! How many streams a request to reset names in a small packet (RFC 6525, section 4.1): its chunk has 20
+//! bytes and 2 for each stream, padded to a multiple of 4, after a header of 12 bytes.
 
 use dcsctp_api::{Capabilities, Events, Options, Pair, SocketTime, StreamId};
 use dcsctp_core::{Peer, TransmissionControlBlock};
@@ -7,10 +7,10 @@ use dcsctp_transfer::QueuedMessages;
 use std::alloc::{AllocError, Global};
 use std::process::Abort;
 
-// What is left of so many ready streams, once a packet of `mtu` bytes was offered.
+// What is left of that many ready streams, once a packet of `mtu` bytes was offered.
 #[derive(Debug, Drop, PartialEq, Eq)]
 struct Left {
-    // how many streams the request names, where one was begun
+    // how many streams the request names, if one was begun
     named: Option<usize>,
 
     next_number: u32,

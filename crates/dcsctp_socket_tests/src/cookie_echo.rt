@@ -1,8 +1,8 @@
-//! A COOKIE ECHO that comes where an association is held: the table of RFC 9260, section 5.2.4.
+//! A COOKIE ECHO that comes while an association exists: the table of RFC 9260, section 5.2.4.
 //!
-//! B has tag 9 and first TSN 200, its peer tag 7 and first TSN 100, and its tie tag is 0x0123456789abcdef, which it
-//! draws as it is connected. A row has the tag of the header, from byte 7 on, and what is in the cookie: the peer's
-//! tag, from byte 27 on, the own one, from byte 31 on, and the tie tag, from byte 44 on.
+//! B has tag 9 and first TSN 200, its peer tag 7 and first TSN 100, and its tie tag is 0x0123456789abcdef,
+//! which it draws as it is connected. A row has the tag of the header, from byte 7 on. In the cookie it has
+//! the peer's tag, from byte 27 on, its own, from byte 31 on, and the tie tag, from byte 44 on.
 
 use crate::script::run;
 

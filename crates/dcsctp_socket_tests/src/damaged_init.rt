@@ -2,9 +2,9 @@
 
 use crate::script::run;
 
-// The fields of the INIT in their order: each byte of a field is set to 0, and to 255. Its lengths are 30, 4 and 6, the
-// window is 0x500000, the initiate tag 7, and the numbers of streams 65535. Unknown parameters, flags and padding aren't
-// looked at.
+// The fields of the INIT in their order: each byte of a field is set to 0, and to 255. Its lengths are 30, 4
+// and 6, and the window is 0x500000. The initiate tag is 7, and the numbers of streams are 65535. Unknown
+// parameters, flags and padding aren't looked at.
 const FIELDS: &str = r#"
     each 0..2 == source port; B takes INIT @#=00; B sends any of 96
     each 0..2 == source port; B takes INIT @#=ff; B sends any of 96

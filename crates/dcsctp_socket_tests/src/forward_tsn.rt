@@ -1,5 +1,5 @@
-//! What says that messages were given up, byte by byte (RFC 3758, sections 3.2 and 3.5; RFC 8260, section 2.3.1), and
-//! what the peer does then (RFC 3758, section 3.6).
+//! What says that messages were abandoned, byte by byte (RFC 3758, sections 3.2 and 3.5; RFC 8260, section
+//! 2.3.1), and what the peer does then (RFC 3758, section 3.6).
 //!
 //! The first TSN of tag 7 is 100. Packets go without a checksum, so that a whole one can be written down.
 
@@ -49,7 +49,7 @@ const UNORDERED_ON_3: &str = "sending unordered true
     A tells OnBufferedAmountLow(3)
     A sends any";
 
-// A reliable message of 2 bytes comes behind them.
+// A reliable message of 2 bytes comes after them.
 const SENDS_TWO: &str = "sending all default
     A send 1 2 = Ok(())
     A tells OnBufferedAmountLow(1)
@@ -61,8 +61,8 @@ const TAKES_TWO: &str = "B message = Some((1, 51, 2))";
 
 const TAKES_NONE: &str = "B message = None";
 
-// At 500 milliseconds the timer expires for the first time: what was lost is given up, and a packet says so. That is
-// lost, too, and comes again when the timer has run for twice as long.
+// At 500 milliseconds the timer expires for the first time: what was lost is abandoned, and a packet says so.
+// That is lost, too, and comes again when the timer has run for twice as long.
 const EXPIRES: &str = "B sends any
     A receives
     A waits 499
@@ -147,8 +147,8 @@ fn a_forward_tsn_lets_a_later_message_through(rt: HostRuntime) {
     run_parts(&rt, rt.alloc(), FORWARD_TSNS);
 }
 
-// Type 194, and the same in front; then each stream once for its ordered messages and once, with the U bit, for its
-// unordered ones, with the greatest message identifier that is skipped.
+// Type 194, and the same in front. Then each stream once for its ordered messages and once, with the U bit,
+// for its unordered ones. Each has the greatest message identifier that is skipped.
 static I_FORWARD_TSNS: &[&str] = &[
     // an ordered one is lost
     I_DATA,
@@ -199,9 +199,9 @@ fn an_i_forward_tsn_lets_a_later_message_through(rt: HostRuntime) {
     run_parts(&rt, rt.alloc(), I_FORWARD_TSNS);
 }
 
-// Eleven messages are lost and given up, one behind the other, each at a timeout, and A is told each time that the peer has
-// let it go: TSN 100 to 110, in a SACK of 16 bytes. Eleven errors without an answer between them end an association
-// (RFC 9260, section 8.1).
+// Eleven messages are lost and abandoned, one after the other, each at a timeout. Each time a SACK of 16
+// bytes tells A that the peer no longer waits: TSN 100 to 110. Eleven errors without an answer between them
+// end an association (RFC 9260, section 8.1).
 const LETS_GO: &str = "
     sending max_retransmissions 0
     A sets threshold 1 5000

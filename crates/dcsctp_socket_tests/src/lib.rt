@@ -1,5 +1,4 @@
-//! Tests of `dcsctp_socket` by its public calls: packets that were put together by hand, and what comes
-//! of them.
+//! Tests of `dcsctp_socket` by its public calls: packets that were put together by hand, and what they cause.
 //!
 //! A test is a script, which one runner goes through (`script`): a text costs the prover nothing, however long
 //! it is. A helper asserts and returns no error, and a socket is lent to it.

@@ -1,4 +1,5 @@
-//! Messages that a user sends: what is refused, what waits, and what goes out (RFC 9260, sections 6.1 and 6.9).
+//! Messages that a user sends: what is refused, what waits, and what is sent (RFC 9260, sections 6.1 and
+//! 6.9).
 
 use crate::script::run;
 

@@ -1,6 +1,6 @@
-//! Packets that were put together by hand, with checksums that another program worked out.
+//! Packets that were put together by hand, with checksums that another program computed.
 //!
-//! A packet is written as words, each of which goes on where the last one ended:
+//! A packet is written as words, one after the other:
 //!
 //! ```text
 //! INIT             the bytes of this name, below

@@ -1,5 +1,5 @@
-//! How requests of the peer to reset streams are answered, and how own ones go out, byte by byte (RFC 6525, sections
-//! 4.1, 4.2, 4.4, 5.1 and 5.2).
+//! How requests of the peer to reset streams are answered, and how its own ones are sent, byte by byte (RFC
+//! 6525, sections 4.1, 4.2, 4.4, 5.1 and 5.2).
 //!
 //! The first TSN of tag 7 is 100, which is its first number too. Packets go without a checksum, so that a whole one
 //! can be written down.
@@ -85,8 +85,8 @@ const OWN_REQUESTS: &str = r#"
     A sends 13881388 00000009 00000000 82000016 000d0012 00000066 00000066 00000063 00040000
 "#;
 
-// TSN 100 is a message on stream 1, and 101 the first part of one on stream 2. Both are lost, and then the rest of the
-// second is dropped: its end takes TSN 102, which lies behind the reset.
+// TSN 100 is a message on stream 1, and 101 the first part of one on stream 2. Both are lost, and then the
+// rest of the second is dropped: its end takes TSN 102, which lies after the reset.
 const OVER_A_DROPPED_MESSAGE: &str = r#"
     == no FORWARD-TSN crosses an own reset
     option zero_checksum_alternate_error_detection_method 1

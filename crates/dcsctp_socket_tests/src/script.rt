@@ -1,4 +1,5 @@
-//! Scripts: what is done to two sockets, and what they have to tell. A line that says nothing of this fails.
+//! Scripts: what is done to two sockets, and which events and answers they have to give. Any other line
+//! fails.
 //!
 //! ```text
 //! == NAME                     two new sockets, closed: A draws 100 and 6, which make tag 7 and first TSN 100, and
@@ -29,7 +30,7 @@
 //! connects, closes            the user's call
 //! takes PACKET                is handed this packet
 //! receives                    is handed the packet that was sent last
-//! waits N                     is told that N milliseconds have passed since it was made
+//! waits N                     its clock is advanced to N milliseconds after it was made
 //! draws N M                   a new socket, closed, that draws these words
 //! sets priority S N, sets threshold S N, sets longest N
 //! send S N = ANSWER           sends a message of N zeros on stream S
@@ -47,7 +48,7 @@ pub fn run(rt: &impl Abort, alloc: Global, script: &str) {
     run_parts(rt, alloc, &[script]);
 }
 
-/// Goes through the lines of a script in parts, one behind the other.
+/// Goes through the lines of a script in parts, one after the other.
 pub fn run_parts(rt: &impl Abort, alloc: Global, parts: &[&str]) {
     let mut line = Line {
         alloc,

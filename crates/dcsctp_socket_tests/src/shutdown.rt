@@ -2,7 +2,8 @@
 
 use crate::script::run;
 
-// The tags are 7 for A and 9 for its peer, whose first TSN is 200; the checksums were worked out apart.
+// The tags are 7 for A and 9 for its peer, whose first TSN is 200; the checksums were computed by another
+// program.
 const PACKETS: &str = r#"
     // SHUTDOWN says that all came in up to TSN 199, and SHUTDOWN COMPLETE has no T bit.
     == by the user

@@ -75,7 +75,7 @@ impl Stage {
         }
     }
 
-    /// Takes a line of a script, but for one that stands for several.
+    /// Takes a line of a script, except for one that stands for several.
     pub fn take(&mut self, rt: &impl Abort, line: Line<'_>) {
         let (front, rest) = line.text.split_once(' ').unwrap_or((line.text, ""));
         match front {

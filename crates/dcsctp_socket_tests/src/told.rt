@@ -30,7 +30,7 @@ pub fn tells(rt: &impl Abort, line: Line<'_>, socket: &mut Socket<TwoWords>, eve
     }
 }
 
-/// The next event has to be this packet, or one of so many bytes, and is given.
+/// The next event has to be this packet, or one of that many bytes, and is returned.
 pub fn sends(
     rt: &impl Abort,
     line: Line<'_>,

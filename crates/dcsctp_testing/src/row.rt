@@ -1,6 +1,6 @@
 //! A row of a table or a line of a text, and what isn't as the rows so far say.
 //!
-//! A line is read word by word. What isn't as it says is noted, and the runner looks for it behind the step: a
+//! A line is read word by word. What isn't as it says is noted, and the runner looks for it after the step: a
 //! function that may end the test itself costs more to prove.
 
 use std::alloc::Global;
@@ -64,7 +64,7 @@ impl Row {
         }
     }
 
-    // Is a line that begins with this word taken? Behind a fault the next is `begin`, which depends on none before.
+    // Is a line that begins with this word taken? After a fault the next is `begin`, which depends on none before.
     pub(crate) fn takes(&mut self, keyword: &str) -> bool {
         if keyword == "begin" {
             self.has_fault = false;
@@ -79,7 +79,7 @@ impl Row {
         }
     }
 
-    // The first note of a test counts. Without memory for its text that is empty.
+    // The first note of a test counts. Without memory for its text it is empty.
     fn note(&mut self, what: &str, found: &impl Debug, expected: &impl Debug) {
         if self.has_fault {
             return;
@@ -131,7 +131,7 @@ impl Row {
         }
     }
 
-    /// If this name comes next, this number has to come behind it.
+    /// If this name comes next, this number has to follow it.
     pub fn check(&mut self, name: &'static str, found: u128) {
         let before = self.rest;
         if self.next() != name {

@@ -9,7 +9,7 @@ pub trait Takes<S> {
     fn take(&mut self, row: &mut Row, step: S);
 }
 
-/// Takes the steps of a table, each behind the name of its row, up to the first that isn't as it says. `Err`: its
+/// Takes the steps of a table, each with the name of its row, up to the first that isn't as it says. `Err`: its
 /// number from 1, its name, and what was found and expected.
 pub fn run_steps<S: Copy, T: Takes<S>>(
     alloc: Global,
@@ -28,8 +28,8 @@ pub fn run_steps<S: Copy, T: Takes<S>>(
 }
 
 /// Takes the lines of a text. A step is the first word of its line, and the row has the others, of which none may be
-/// left over. `# NAME` names the test that follows, and an empty line is passed over. `begin` begins anew: there it
-/// goes on behind a line that isn't as it says. `Err`: the same as of a table, in a line for each such test.
+/// left over. `# NAME` names the test that follows, and an empty line is skipped. `begin` starts a new test: there it
+/// goes on after a line that isn't as it says. `Err`: the same as of a table, in a line for each such test.
 pub fn run_text<T: Takes<&'static str>>(
     alloc: Global,
     subject: &mut T,

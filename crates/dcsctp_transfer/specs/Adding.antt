@@ -13,7 +13,7 @@ use Rattle.dcsctp_send_outstanding.specs.Items.{size_of}
 use Rattle.dcsctp_send_outstanding.specs.Outstanding.{OutstandingModel, tsn_at}
 use Rattle.dcsctp_transfer.specs.Filling.{IsDataChunk}
 
--- The TSN is that of an item, whose chunk is so long.
+-- The TSN is that of an item, whose chunk is that long.
 pub record HasChunk (outstanding : OutstandingModel) (tsn size : ℕ) : Type 0 where
   pub place : ℕ
   pub item : Item
@@ -21,18 +21,18 @@ pub record HasChunk (outstanding : OutstandingModel) (tsn size : ℕ) : Type 0 w
   pub is : tsn ≡ tsn_at outstanding place
   pub size_is : size ≡ size_of outstanding.header item
 
--- The TSNs are those of items, whose chunks are so long together.
+-- The TSNs are those of items, whose chunks are that long together.
 pub data HaveChunks (outstanding : OutstandingModel) : List ℕ → ℕ → Type 0 where
   none : HaveChunks outstanding [] 0
   more : (tsn size : ℕ) (tsns : List ℕ) (sizes : ℕ) → HasChunk outstanding tsn size → HaveChunks outstanding tsns sizes → HaveChunks outstanding (tsn ∷ tsns) (size + sizes)
 
--- The chunk of this TSN fits into so much room.
+-- The chunk of this TSN fits into that much room.
 pub record HasChunkWithin (room : ℕ) (outstanding : OutstandingModel) (tsn : ℕ) : Type 0 where
   pub size : ℕ
   pub chunk : HasChunk outstanding tsn size
   pub within : size ≤ room
 
--- A chunk with data was put into a packet, which is so long.
+-- A chunk with data was put into a packet, which is that long.
 pub record AddsChunk (interleaving : Bool) (old : Building) (size : ℕ) (new : Building) : Type 0 where
   pub chunk : ChunkContent
   pub is : new ≡ record old { body = old.body ++ chunk_bytes chunk }
@@ -70,7 +70,7 @@ sack_of sack =
 
 -- ---- what a fragment says
 
--- its flags as it goes out: it isn't to be acknowledged at once
+-- its flags as it is sent: it isn't to be acknowledged at once
 abbrev pub flags_said : DataToSend → DataFlags
 flags_said part = record { is_end = part.is_end; is_beginning = part.is_beginning; is_unordered = part.is_unordered; immediate_ack = false }
 

@@ -34,7 +34,7 @@ abbrev pub has_chunks : List ChunkContent → Bool
 has_chunks [] = false
 has_chunks (chunk ∷ chunks) = true
 
--- May data go out: what waits to be sent again, or a message where the windows allow more?
+-- May data be sent: what waits to be sent again, or a message if the windows allow more?
 abbrev pub may_give : SendQueueState → RetransmissionState → Bool
 may_give queue state = nat_lt 0 state.marked_items || (has_data queue && can_send state)
 
@@ -52,22 +52,22 @@ pub record FillsPacket (old : Transfer) (waiting : SendQueueState) (events : Lis
   pub rest : new ≡ record old { retransmission = new.retransmission }
   pub partial_reliability : new.retransmission.partial_reliability ≡ old.retransmission.partial_reliability
   pub message_interleaving : new.retransmission.message_interleaving ≡ old.retransmission.message_interleaving
-  -- Where nothing waits and nothing is outstanding, nothing changes.
+  -- If nothing waits and nothing is outstanding, nothing changes.
   pub idle : has_data waiting ≡ false → old.retransmission.outstanding_items ≡ 0 → (any ≡ false) × (new ≡ old) × (left ≡ waiting) × (told ≡ [])
 
 -- ---- what acknowledges
 
--- Is a SACK to go out? One that is delayed may go along.
+-- Is a SACK to be sent? One that is delayed may go along.
 abbrev pub is_sack_wanted : Bool → Transfer → Bool
 is_sack_wanted along transfer = transfer.tracker.is_acknowledgement_due || (transfer.tracker.owes_acknowledgement && along)
 
--- a SACK of what came in
+-- a SACK of what was received
 pub record IsSackFor (transfer : Transfer) (sack : SackContent) : Type 0 where
   pub cumulative : sack.cumulative_tsn_ack ≡ transfer.tracker.cumulative_tsn % 2 ^ 32
   pub window : sack.a_rwnd ≡ transfer.reassembly.remaining_bytes % 2 ^ 32
   pub fits : FitsSack sack
 
--- the packet with the chunk behind the others, where it fits
+-- the packet with the chunk after the others, if it fits
 abbrev pub with_chunk : Building → ChunkContent → Building
 with_chunk packet chunk = if nat_le (length (chunk_bytes chunk)) (bytes_remaining packet) then record packet { body = packet.body ++ chunk_bytes chunk } else packet
 

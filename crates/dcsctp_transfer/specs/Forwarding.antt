@@ -1,4 +1,4 @@
--- What tells the peer to wait no longer for messages that were given up (RFC 3758, section 3.5; RFC 8260, section 2.3.1).
+-- What tells the peer to wait no longer for messages that were abandoned (RFC 3758, section 3.5; RFC 8260, section 2.3.1).
 use Rattle.std.specs.Prelude.{◌≡◌, ◌≤◌, ℕ, min, length, Bool, false, Option, None, Some, List, [], ◌++◌, map}
 use Rattle.dcsctp_wire.specs.Content.{ChunkContent, forward_tsn_chunk, i_forward_tsn_chunk}
 use Rattle.dcsctp_wire.specs.ReadsBack.{FitsChunk}
@@ -18,7 +18,7 @@ abbrev pub forward_said : ℕ → List ℕ → Skipped → ChunkContent
 forward_said tsn entries (Streams streams) = forward_tsn_chunk tsn entries
 forward_said tsn entries (Messages messages) = i_forward_tsn_chunk tsn entries
 
--- A FORWARD-TSN, or with interleaving an I-FORWARD-TSN, was put behind the other chunks, where it fits; its numbers fit their fields
+-- A FORWARD-TSN, or with interleaving an I-FORWARD-TSN, was put after the other chunks, if it fits; its numbers fit their fields
 -- then.
 pub record PutsForward (interleaving : Bool) (packet filled : Building) : Type 0 where
   pub chunk : ChunkContent
@@ -36,7 +36,8 @@ PutsWhere None now old packet filled = filled ≡ packet
 PutsWhere (Some next) now old packet filled =
     (next ≡ next_after now old) × PutsForward old.retransmission.message_interleaving packet filled
 
--- Messages may have been given up, and the user was told of it; where a chunk was made, it is told when the next one may be.
+-- Messages may have been abandoned, and the user was told of it. If a chunk was made, the result says when the next one may be
+-- made.
 pub record Forwards (now : ℕ) (old : Transfer) (waiting : SendQueueState) (events : List (Event (List ℕ))) (packet : Building) (new : Transfer) (left : SendQueueState) (telling : List (Event (List ℕ))) (filled : Building) (next : Option ℕ) : Type 0 where
   pub told : List Told
   pub puts : PutsWhere next now old packet filled
@@ -44,7 +45,7 @@ pub record Forwards (now : ℕ) (old : Transfer) (waiting : SendQueueState) (eve
   pub rest : new ≡ record old { retransmission = new.retransmission }
   pub partial_reliability : new.retransmission.partial_reliability ≡ old.retransmission.partial_reliability
   pub message_interleaving : new.retransmission.message_interleaving ≡ old.retransmission.message_interleaving
-  -- Without partial reliability nothing is given up.
+  -- Without partial reliability nothing is abandoned.
   pub negotiated : old.retransmission.partial_reliability ≡ false → (next ≡ None) × (new ≡ old) × (left ≡ waiting) × (telling ≡ events)
-  -- Where nothing is outstanding, nothing changes.
+  -- If nothing is outstanding, nothing changes.
   pub idle : old.retransmission.outstanding_items ≡ 0 → (next ≡ None) × (new ≡ old) × (left ≡ waiting) × (told ≡ [])

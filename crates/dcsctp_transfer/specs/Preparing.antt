@@ -1,4 +1,4 @@
--- Own streams that are prepared to be reset (RFC 6525, section 5.1.2).
+-- Our own streams that are prepared to be reset (RFC 6525, section 5.1.2).
 use Rattle.std.specs.Prelude.{◌≡◌, ℕ, Result, Ok, Err, List, ◌++◌, map}
 use Rattle.dcsctp_machine.specs.Event.{Event}
 use Rattle.dcsctp_machine.specs.Transfer.{SendQueueState}
@@ -13,7 +13,7 @@ pub record PreparesStream (id : ℕ) (old : SendQueueState) (before : List (Even
   pub prepares : Prepares id old told new
   pub tells : after ≡ before ++ map told_content told
 
--- The same, where memory was refused: a front part of it is told.
+-- The same, if an allocation failed: the first of its events are added.
 pub record StopsPreparing (id : ℕ) (old : SendQueueState) (before after : List (Event (List ℕ))) : Type 0 where
   pub left : SendQueueState
   pub told : List Told

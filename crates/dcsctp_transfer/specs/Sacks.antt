@@ -15,7 +15,7 @@ use Rattle.dcsctp_send_streams.specs.Telling.{TellsFront}
 use Rattle.dcsctp_transfer.specs.declared.sacks.HandledSack.{HandledSack}
 use Rattle.dcsctp_transfer.specs.declared.sacks.HandledSack.TheVariants.{Invalid, Valid}
 
--- what is told of messages with a name that were delivered
+-- the events about messages with a name that were delivered
 abbrev pub delivered_contents : List ℕ → List (Event (List ℕ))
 delivered_contents [] = []
 delivered_contents (id ∷ ids) = lifecycle_message_delivered id ∷ lifecycle_end id ∷ delivered_contents ids
@@ -25,7 +25,7 @@ pub record TellsDelivered (before after : List (Event (List ℕ))) : Type 0 wher
   pub ids : List ℕ
   pub is : after ≡ before ++ delivered_contents ids
 
--- The same, of which a front part is told.
+-- The same, of which the first events are added.
 pub record TellsSome (before after : List (Event (List ℕ))) : Type 0 where
   pub ids : List ℕ
   pub tells : TellsFront before (delivered_contents ids) after

@@ -1,4 +1,4 @@
-//! What tells the peer to wait no longer for messages that were given up (RFC 3758, section 3.5; RFC 8260,
+//! What tells the peer to wait no longer for messages that were abandoned (RFC 3758, section 3.5; RFC 8260,
 //! section 2.3.1).
 
 ghost use Rattle.std.specs.Prelude.{◌≡◌, ◌≤◌, ◌<◌, ◌^◌, min, IfOk, OnOk, OnErr, IsOk};
@@ -24,16 +24,15 @@ use std::alloc::{AllocError, Global};
 use std::time::Duration;
 
 impl Transfer {
-    /// Gives up messages that may not be sent any more, where partial reliability was negotiated, and puts a
-    /// FORWARD-TSN into the packet where the first item that is outstanding was given up (RFC 3758,
-    /// section 3.5); with interleaving an I-FORWARD-TSN (RFC 8260, section 2.3.1). One that doesn't fit is left
-    /// out.
+    /// Abandons messages that may not be sent any more, if partial reliability was negotiated. Puts a
+    /// FORWARD-TSN into the packet if the first outstanding item was abandoned (RFC 3758, section 3.5). With
+    /// interleaving it is an I-FORWARD-TSN (RFC 8260, section 2.3.1). One that doesn't fit is left out.
     ///
-    /// Where one was made, it answers the moment before which the next one isn't to be: 200 milliseconds after
-    /// this one, or a round trip, where that is less. It takes no memory where nothing is outstanding.
+    /// If one was made, returns the moment before which the next one may not be made. It is 200 milliseconds
+    /// after this one, or a round trip, if that is less. If nothing is outstanding, nothing is allocated.
     ///
-    /// `Err`: memory was refused, and the packet stays. Some messages may have been given up, and a part of the
-    /// events may stand.
+    /// `Err`: an allocation failed; the packet is unchanged. Some messages may have been abandoned, and some
+    /// of the events may already have been added.
     pub fn forward_tsn(
         &mut self,
         events: &mut Events,
@@ -69,7 +68,7 @@ fn next_forward_tsn(rto: &RetransmissionTimeout, now: SocketTime) -> SocketTime
     now + Duration::from_nanos_u128(wait)
 }
 
-// Puts a FORWARD-TSN or I-FORWARD-TSN of what was given up into the packet, where it fits.
+// Puts a FORWARD-TSN or I-FORWARD-TSN of what was abandoned into the packet, if it fits.
 fn put_forward_tsn(
     queue: &RetransmissionQueue,
     alloc: Global,
@@ -84,7 +83,7 @@ fn put_forward_tsn(
     Ok(())
 }
 
-// Puts the chunk with these entries into the packet, where it fits.
+// Puts the chunk with these entries into the packet, if it fits.
 fn add_forward_tsn(forward: &ForwardTsn, entries: &[u8], packet: &mut SctpPacketBuilder)
     ensures added { packet.new ≡ with_chunk packet.old (forward_said forward.now.new_cumulative_tsn entries.now forward.now.skipped) }
     ensures tsn { forward.now.new_cumulative_tsn < 2 ^ 32 }

@@ -1,6 +1,6 @@
-//! The transfer layer as the rest of a socket sees it: what waits to be sent, and what an association has in
-//! flight and has received. Contracts speak of the values that the machine's definitions name, and not of
-//! what stands behind them in the crates below.
+//! The transfer layer, as the rest of a socket sees it. It has what waits to be sent, and what an association
+//! has in flight and has received. Contracts speak of the values that the machine's definitions name, and not
+//! of how the crates below represent them.
 #![tactic(auto)]
 
 mod forwarding;

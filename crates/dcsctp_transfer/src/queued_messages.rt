@@ -32,7 +32,7 @@ impl QueuedMessages {
     ghost use Rattle.dcsctp_machine.specs.Transfer.{empty_queue, queue_after_reset, queue_added, has_data, queued_stream};
     ghost use Rattle.dcsctp_machine.specs.turns.SettingOutcomes.{stream_priority, stream_low_threshold, set_in_queue};
 
-    /// No messages, which are numbered as for no interleaving. It takes no memory.
+    /// No messages, which are numbered as for no interleaving. Allocates nothing.
     pub fn new(alloc: Global, options: &Options) -> QueuedMessages
         ensures { result ≡ empty_queue options.now }
     {
@@ -41,9 +41,8 @@ impl QueuedMessages {
         }
     }
 
-    /// Adds a message, whose payload isn't empty, behind the others of its stream. It may be begun until its
-    /// lifetime after the moment `now` has passed. The one error is that there is no memory for it; then
-    /// nothing has changed.
+    /// Adds a message, whose payload isn't empty, after the others of its stream. It may be started until its
+    /// lifetime, counted from `now`, is over. `Err`: an allocation failed, and nothing has changed.
     pub fn add(
         &mut self,
         now: SocketTime,
@@ -64,8 +63,8 @@ impl QueuedMessages {
         self.queue.has_data_to_send()
     }
 
-    /// Makes them ready for another association: the message that is under way begins again, and no stream
-    /// waits for a reset. It takes no memory.
+    /// Makes the messages ready for another association: one that is under way starts again, and no stream
+    /// waits for a reset. Allocates nothing.
     pub fn reset(&mut self)
         ensures { self.new ≡ queue_after_reset self.old }
     {
@@ -93,15 +92,15 @@ impl QueuedMessages {
         self.queue.buffered_amount(stream_id)
     }
 
-    /// The buffered amount of this stream, in bytes, at which it is told that the amount is low.
+    /// The low threshold of this stream's buffered amount, in bytes.
     pub fn buffered_amount_low_threshold(&self, stream_id: StreamId) -> usize
         ensures { result ≡ (queued_stream self.now stream_id.0).low_threshold }
     {
         self.queue.buffered_amount_low_threshold(stream_id)
     }
 
-    /// Gives a stream such an amount. The one error is that there is no memory for a stream that wasn't
-    /// used before; then nothing has changed.
+    /// Sets the low threshold of a stream. `Err`: an allocation failed, for a stream that wasn't used before,
+    /// and nothing has changed.
     pub fn set_buffered_amount_low_threshold(
         &mut self,
         stream_id: StreamId,
@@ -121,7 +120,7 @@ impl QueuedMessages {
         self.queue.get_priority(stream_id)
     }
 
-    /// Gives a stream a priority. The one error is that of `set_buffered_amount_low_threshold`.
+    /// Sets the priority of a stream. `Err`: as for `set_buffered_amount_low_threshold`.
     pub fn set_priority(&mut self, stream_id: StreamId, priority: u16) -> Result<(), AllocError>
         ensures ok { OnOk result (self.new ≡ set_in_queue (stream_priority stream_id.0 priority) self.old) }
         ensures err { OnErr result (self.new ≡ self.old) }

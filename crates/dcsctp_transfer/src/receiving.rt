@@ -1,5 +1,5 @@
-//! What comes in: data and what the peer skips (RFC 9260, sections 6.2 and 6.5; RFC 3758, section 3.6), when
-//! it is acknowledged, and the messages that a user takes.
+//! What is received: data and what the peer skips (RFC 9260, sections 6.2 and 6.5; RFC 3758, section 3.6).
+//! Also when it is acknowledged, and the messages that a user takes.
 
 ghost use Rattle.std.specs.Prelude.{◌≡◌, ◌≤◌, ◌∷◌, [], length, true, false, if◌then◌else◌, OnOk, OnErr, IsSome, IfSome, IfNone};
 ghost use Rattle.dcsctp_machine.specs.TimeTurns.{has_come};
@@ -20,12 +20,12 @@ use dcsctp_receive_reassembly::{Data, SkippedTo};
 use std::alloc::AllocError;
 
 impl Transfer {
-    /// Takes in a DATA or I-DATA chunk with this TSN (RFC 9260, sections 6.2 and 6.5). `immediate_ack` is its
-    /// I flag, by which it is acknowledged at once. It is dropped where nine tenths of the receive window are
-    /// in use, or more, and where its TSN is more than 65,535 ahead of the cumulative one.
+    /// Receives a DATA or I-DATA chunk with this TSN (RFC 9260, sections 6.2 and 6.5). `immediate_ack` is its
+    /// I flag, by which it is acknowledged at once. It is dropped if nine tenths of the receive window or
+    /// more are in use. So it is if its TSN is more than 65,535 ahead of the cumulative one.
     ///
-    /// If there is no memory for it, the data is dropped, though its TSN may count as received. The messages
-    /// that are ready stay.
+    /// If an allocation fails, the data is dropped, though its TSN may count as received. Messages that are
+    /// ready are kept.
     #[inline(always)]
     pub fn receive_data(
         &mut self,
@@ -47,12 +47,12 @@ impl Transfer {
         Ok(())
     }
 
-    /// Works a FORWARD-TSN or I-FORWARD-TSN chunk (RFC 3758, section 3.6; RFC 8260, section 2.3.1): all up to
-    /// `new_cumulative_tsn` counts as received, and the messages that `skipped` names are skipped. It changes
-    /// nothing where the TSN is more than 65,535 ahead of the cumulative one.
+    /// Handles a FORWARD-TSN or I-FORWARD-TSN chunk (RFC 3758, section 3.6; RFC 8260, section 2.3.1): all up
+    /// to `new_cumulative_tsn` counts as received, and the messages that `skipped` names are skipped. It
+    /// changes nothing if the TSN is more than 65,535 ahead of the cumulative one.
     ///
-    /// If there is no memory for it, no message is skipped, though the TSNs count as received. The messages
-    /// that are ready stay.
+    /// If an allocation fails, no message is skipped, though the TSNs count as received. Messages that are
+    /// ready are kept.
     pub fn handle_forward_tsn(
         &mut self,
         new_cumulative_tsn: u32,
@@ -71,8 +71,8 @@ impl Transfer {
         Ok(())
     }
 
-    /// Says that a packet was worked whole. What came in and needn't be acknowledged at once is acknowledged
-    /// after a delay, which runs from now on (RFC 9260, section 6.2).
+    /// Call it once all of a packet was handled. Received data that needn't be acknowledged at once is
+    /// acknowledged after a delay, which runs from now on (RFC 9260, section 6.2).
     pub fn end_packet(&mut self, now: SocketTime)
         ensures turn { EndsPacket self.old.tracker self.new.tracker }
         ensures delayed { self.old.tracker.owes_acknowledgement ≡ true → self.old.tracker.is_acknowledgement_due ≡ false → IsSome self.new.tracker.delayed_acknowledgement }
@@ -81,22 +81,22 @@ impl Transfer {
         self.data_tracker.observe_packet_end(now);
     }
 
-    /// Is an acknowledgement due, whatever else goes out?
+    /// Is an acknowledgement due, whatever else is sent?
     pub fn is_acknowledgement_due(&self) -> bool
         ensures { result ≡ self.now.tracker.is_acknowledgement_due }
     {
         self.data_tracker.is_acknowledgement_due()
     }
 
-    /// When a delayed acknowledgement is due; none where none is delayed.
+    /// When a delayed acknowledgement is due; none if none is delayed.
     pub fn acknowledgement_deadline(&self) -> Option<SocketTime>
         ensures { result ≡ self.now.tracker.delayed_acknowledgement }
     {
         self.data_tracker.next_timeout()
     }
 
-    /// Says that the moment `now` has come, and answers whether a delayed acknowledgement is due by it. Then
-    /// it is so at once; else nothing changes.
+    /// Advances the delay of an acknowledgement to `now`, and returns whether it is over. Then the
+    /// acknowledgement is due at once; else nothing changes.
     pub fn expire_acknowledgement(&mut self, now: SocketTime) -> bool
         ensures answer { result ≡ has_come now self.old.tracker.delayed_acknowledgement }
         ensures left { self.new ≡ record self.old { tracker = if result then delay_over self.old.tracker else self.old.tracker } }
@@ -104,8 +104,8 @@ impl Transfer {
         self.data_tracker.handle_timeout(now)
     }
 
-    /// Takes the message that became ready first, which gives its bytes back to the receive window; none
-    /// where none is ready. It takes no memory.
+    /// Takes the message that became ready first, and gives its bytes back to the receive window; `None` if
+    /// none is ready. Allocates nothing.
     pub fn get_next_message(&mut self) -> Option<Message>
         ensures some { IfSome result (λ message. self.old.reassembly.messages ≡ record {
           stream = message.stream_id.0;

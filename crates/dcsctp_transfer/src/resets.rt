@@ -1,4 +1,4 @@
-//! Streams that are reset: those of the peer (RFC 6525, section 5.2.2), and the own ones (section 5.1.2).
+//! Streams that are reset: those of the peer (RFC 6525, section 5.2.2), and our own ones (section 5.1.2).
 
 ghost use Rattle.std.specs.Prelude.{◌≡◌, not, take, IfOk, OnOk, OnErr};
 ghost use Rattle.std.specs.Duration.{as_nanos};
@@ -16,8 +16,8 @@ use std::alloc::AllocError;
 use std::time::Duration;
 
 impl Transfer {
-    /// Has all come in up to this TSN? Which of two TSNs is ahead goes by serial number arithmetic (RFC 9260,
-    /// section 1.6). It takes no memory.
+    /// Was everything received up to this TSN? Which of two TSNs is ahead is decided by serial number
+    /// arithmetic (RFC 9260, section 1.6). Allocates nothing.
     pub fn has_received_up_to(&self, tsn: u32) -> bool
         ensures { result ≡ not (is_tsn_beyond tsn self.now.tracker.cumulative_tsn) }
     {
@@ -25,11 +25,11 @@ impl Transfer {
         ahead == 0 || 0x8000_0000 <= ahead
     }
 
-    /// A reset of these streams (an empty list: all) was requested before all had come up to this TSN, the
-    /// last one that the peer had given out then. What comes beyond it on these streams waits from now on,
-    /// until `reset_streams`. While one reset waits, another changes nothing.
+    /// Defers a reset of these streams (an empty list: all). It was requested before everything was received
+    /// up to this TSN, the last one that the peer had assigned then. What comes beyond that TSN on these
+    /// streams waits from now on, until `reset_streams`. While one reset waits, another changes nothing.
     ///
-    /// The one error is that there is no memory for it. Nothing has changed then.
+    /// `Err`: an allocation failed, and nothing has changed.
     pub fn defer_reset(&mut self, last_tsn: u32, streams: &[StreamId]) -> Result<(), AllocError>
         ensures { self.new ≡ self.old }
     {
@@ -38,10 +38,10 @@ impl Transfer {
     }
 
     /// Resets these streams (an empty list: all), so that the next message on each is the first one, and
-    /// works what waited for that. Messages that are ready stay.
+    /// handles what waited for that. Messages that are ready are kept.
     ///
-    /// The one error is that there is no memory for something that waited. That and what came behind it waits
-    /// on then, and the streams are reset.
+    /// `Err`: an allocation failed for something that waited. That and what came after it keep waiting, and
+    /// the streams are reset.
     pub fn reset_streams(&mut self, streams: &[StreamId]) -> Result<(), AllocError>
         ensures { ResetsStreams self.old self.new }
     {
@@ -56,8 +56,8 @@ impl Transfer {
         self.rto.rto()
     }
 
-    /// Own streams are reset behind what was given out so far: the last TSN of that is answered, and no
-    /// FORWARD-TSN goes over it any more, since streams are numbered anew behind it. It takes no memory.
+    /// Our own streams are reset after what was sent so far. Returns the last TSN of that. No FORWARD-TSN
+    /// goes beyond it any more, since streams are numbered anew after it. Allocates nothing.
     pub fn begin_reset_streams(&mut self) -> u32
         ensures answer { result ≡ last_assigned_tsn self.old.retransmission }
         ensures left { self.new ≡ self.old }
@@ -68,10 +68,10 @@ impl Transfer {
 }
 
 impl QueuedMessages {
-    /// Drops the messages of the stream that aren't begun, and tells so; the stream begins no other until it was
-    /// reset, or until that failed. One that is to be reset already stays as it is.
+    /// Drops the messages of the stream that haven't been started, and reports it. The stream starts no other
+    /// until it was reset, or until that failed. One that already waits for its reset is unchanged.
     ///
-    /// The one error is that a growth was refused. A front part of what is told may stand then.
+    /// `Err`: an allocation failed; the first of its events may already have been added.
     pub fn prepare_reset_stream(
         &mut self,
         events: &mut Events,
@@ -89,10 +89,10 @@ impl QueuedMessages {
         self.queue.has_streams_ready_to_be_reset()
     }
 
-    /// Hands out streams that are ready to be reset, the first of them, at most so many; the others stay ready.
-    /// They stay paused until it is known what became of the reset.
+    /// Hands out streams that are ready to be reset, the first of them, at most that many; the others stay
+    /// ready. They stay paused until it is known what became of the reset.
     ///
-    /// The one error is that there is no memory for the list. Nothing has changed then.
+    /// `Err`: an allocation failed, and nothing has changed.
     pub fn get_streams_ready_to_reset(&mut self, max: usize) -> Result<Vec<StreamId>, AllocError>
         ensures streams { IfOk result (λ ids. stream_numbers ids.items ≡ take max self.old.ready_streams) }
         ensures left { OnOk result (self.new ≡ queue_handing_out max self.old) }
@@ -101,15 +101,15 @@ impl QueuedMessages {
         self.queue.get_streams_ready_to_reset(max)
     }
 
-    /// The streams that are handed out were reset: they number their messages from 0, and are paused no longer.
-    /// It takes no memory.
+    /// The streams that are handed out were reset: they number their messages from 0, and are paused no
+    /// longer. Allocates nothing.
     pub fn commit_reset_streams(&mut self)
         ensures { self.new ≡ queue_handed_back self.old }
     {
         self.queue.commit_reset_streams();
     }
 
-    /// The streams that are handed out weren't reset: they are paused no longer. It takes no memory.
+    /// The streams that are handed out weren't reset: they are paused no longer. Allocates nothing.
     pub fn rollback_reset_streams(&mut self)
         ensures { self.new ≡ queue_handed_back self.old }
     {

@@ -1,4 +1,4 @@
-//! SACKs that come in (RFC 9260, sections 6.2.1 and 6.3).
+//! Received SACKs (RFC 9260, sections 6.2.1 and 6.3).
 
 ghost use Rattle.std.specs.Prelude.{◌≡◌};
 ghost use Rattle.dcsctp_send_streams.specs.Telling.{contents};
@@ -16,21 +16,22 @@ use std::time::Duration;
 /// What a SACK led to.
 #[derive(Clone, Copy, Debug)]
 pub enum HandledSack {
-    /// Its cumulative TSN is behind, or was never sent. Nothing has changed.
+    /// Its cumulative TSN is old, or was never sent. Nothing has changed.
     Invalid,
 
     /// It was taken into account.
     Valid {
-        /// Was an item acknowledged that no SACK had acknowledged before, given up or not (RFC 9260, section 8.1)?
+        /// Was an item acknowledged that no SACK had acknowledged before, abandoned or not (RFC 9260, section
+        /// 8.1)?
         acknowledges: bool,
     },
 }
 
 impl Transfer {
-    /// Takes a SACK into account, whatever order its blocks are in (RFC 9260, sections 6.2.1, 6.3 and 7.2). For
-    /// each message that the peer has by it, two events tell that it was delivered.
+    /// Handles a SACK, whatever the order of its blocks (RFC 9260, sections 6.2.1, 6.3 and 7.2). Each message
+    /// that it shows as delivered is reported by two events.
     ///
-    /// `Err`: there is no memory. A front part of the events stands, and nothing else has changed.
+    /// `Err`: an allocation failed; the first of the events have been added, and nothing else has changed.
     pub fn handle_sack(
         &mut self,
         events: &mut Events,
@@ -64,9 +65,9 @@ impl Transfer {
         self.retransmission_queue.next_timeout()
     }
 
-    /// Says that the moment `now` has come, and answers whether what is in flight is lost by it. Then it waits
-    /// to be sent again, and the timer goes on for twice as long (RFC 9260, section 6.3.3); else nothing
-    /// changes.
+    /// Advances the retransmission timer to `now`, and returns whether what is in flight is lost. Then it
+    /// waits to be sent again, and the timer goes on for twice as long (RFC 9260, section 6.3.3); else
+    /// nothing changes.
     pub fn expire_retransmission(&mut self, now: SocketTime) -> bool
         ensures answer { result ≡ has_come now self.old.retransmission.deadline }
         ensures left { LosesWhere result self.old self.new }
@@ -74,7 +75,7 @@ impl Transfer {
         self.retransmission_queue.handle_timeout(now)
     }
 
-    // Takes a round trip into account, where one was measured.
+    // Takes a round trip into account, if one was measured.
     fn observe_round_trip(&mut self, rtt: Option<Duration>)
         ensures { self.new ≡ record self.old { timeout = self.new.timeout } }
     {

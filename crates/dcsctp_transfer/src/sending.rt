@@ -1,4 +1,5 @@
-//! What goes into a packet: data, and what acknowledges data that came in (RFC 9260, sections 6.1 and 6.2).
+//! What goes into a packet: data, and what acknowledges data that was received (RFC 9260, sections 6.1 and
+//! 6.2).
 
 ghost use Rattle.std.specs.Prelude.{◌≡◌, ◌≤◌, ◌<◌, ◌+◌, ◌^◌, ◌||◌, nat_lt, length, vec_len, false, true, IfOk, OnOk, OnErr, IsOk};
 ghost use Rattle.std.specs.List.{AllByRecursion};
@@ -27,12 +28,12 @@ use dcsctp_wire_build::SctpPacketBuilder;
 use std::alloc::AllocError;
 
 impl Transfer {
-    /// Puts chunks with data into the packet, and answers whether there were any: what is sent again, and then
-    /// what waits, as far as it fits and the windows allow (RFC 9260, section 6.1). Messages that may not be
-    /// sent any more are given up (RFC 3758, section 3.5).
+    /// Puts chunks with data into the packet, and returns whether there were any. First what is sent again,
+    /// then what waits, as far as it fits and the windows allow (RFC 9260, section 6.1). Messages that may
+    /// not be sent any more are abandoned (RFC 3758, section 3.5).
     ///
-    /// `Err`: memory was refused, and the packet stays. What was taken of messages is outstanding, and a part
-    /// of the events may stand.
+    /// `Err`: an allocation failed; the packet is unchanged. What was taken from messages is outstanding, and
+    /// some of the events may already have been added.
     pub fn fill_packet(
         &mut self,
         events: &mut Events,
@@ -58,7 +59,7 @@ impl Transfer {
         Ok(has_some)
     }
 
-    /// Do items wait that were found lost, and are to go out at once (RFC 9260, section 7.2.4)?
+    /// Do items wait that were found lost, and are to be sent at once (RFC 9260, section 7.2.4)?
     pub fn has_data_at_once(&self) -> bool
         ensures { result ≡ self.now.retransmission.has_fast_retransmit }
     {
@@ -69,7 +70,7 @@ impl Transfer {
     /// Puts chunks that were lost into the packet, as many as fit, whatever the congestion window is (RFC 9260,
     /// section 7.2.4).
     ///
-    /// `Err`: memory was refused, and the packet stays.
+    /// `Err`: an allocation failed; the packet is unchanged.
     pub fn fill_at_once(
         &mut self,
         now: SocketTime,
@@ -85,11 +86,11 @@ impl Transfer {
         Ok(())
     }
 
-    /// Puts a SACK into the packet where one is due. One that is delayed counts where `also_if_delayed`, since
-    /// other chunks go out with it (RFC 9260, sections 6.1 and 6.2). All that came in is acknowledged by it; it
-    /// is left out where it doesn't fit.
+    /// Puts a SACK into the packet if one is due. A delayed one counts if `also_if_delayed`, since other
+    /// chunks are sent with it (RFC 9260, sections 6.1 and 6.2). All that was received is acknowledged by it;
+    /// it is left out if it doesn't fit.
     ///
-    /// `Err`: there is no memory for it, and the packet stays.
+    /// `Err`: an allocation failed; the packet is unchanged.
     pub fn acknowledge(
         &mut self,
         also_if_delayed: bool,
@@ -108,15 +109,15 @@ impl Transfer {
         Ok(())
     }
 
-    /// May more be sent? That is so where less than both windows is in flight, or nothing (RFC 9260,
-    /// section 6.1).
+    /// May more be sent? That is so if less than both windows is in flight, or nothing (RFC 9260, section
+    /// 6.1).
     pub fn can_send_data(&self) -> bool
         ensures { result ≡ can_send self.now.retransmission }
     {
         self.retransmission_queue.can_send_data()
     }
 
-    /// May data go out now: what waits to be sent again, or a message where the windows allow more?
+    /// May data be sent now: what waits to be sent again, or a message if the windows allow more?
     pub fn may_fill(&self, queue: &QueuedMessages) -> bool
         ensures { result ≡ may_give queue.now self.now.retransmission }
     {
@@ -124,8 +125,8 @@ impl Transfer {
             || (queue.has_data_to_send() && self.can_send_data())
     }
 
-    /// May anything go into the first packet of a flush: a SACK, a FORWARD-TSN, or data? A SACK that is delayed
-    /// counts where `also_if_delayed`.
+    /// May anything go into the first packet of a flush: a SACK, a FORWARD-TSN, or data? A delayed SACK
+    /// counts if `also_if_delayed`.
     pub fn may_fill_first(&self, queue: &QueuedMessages, also_if_delayed: bool) -> bool
         ensures { result ≡ false → (is_sack_wanted also_if_delayed self.now ≡ false) × (may_give queue.now self.now.retransmission ≡ false) }
     {
@@ -143,7 +144,7 @@ impl Transfer {
     }
 }
 
-// Puts the SACK into the packet, where it fits.
+// Puts the SACK into the packet, if it fits.
 fn add_sack(sack: &SelectiveAck, packet: &mut SctpPacketBuilder)
     ensures added { packet.new ≡ with_chunk packet.old (sack_chunk (sack_of sack.now)) }
     ensures blocks { AllByRecursion IsByte sack.now.gap_ack_blocks.items }
@@ -274,7 +275,7 @@ fn ppid_or_fsn(fragment: &DataToSend) -> u32
     }
 }
 
-// Its flags as it goes out. It isn't to be acknowledged at once.
+// Its flags as it is sent. It isn't to be acknowledged at once.
 fn flags_of(fragment: &DataToSend) -> DataFlags
     ensures { result ≡ flags_said fragment.now }
 {

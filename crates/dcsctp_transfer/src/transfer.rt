@@ -17,8 +17,8 @@ pub struct Transfer {
     pub(crate) alloc: Global,
 }
 
-// Written out, so that the drops of all that is in the queues are proved here once, and not in each crate
-// that drops a state.
+// Written out, so that the drops of all queued values are proved here once, and not in each crate that drops
+// a state.
 impl Drop for Transfer {
     fn drop(self) {
         let Transfer {
@@ -55,8 +55,9 @@ impl Transfer {
     ghost use Rattle.std.specs.Prelude.{◌≡◌, ◌==◌, ◌%◌, ◌^◌, not};
     ghost use Rattle.dcsctp_machine.specs.Transfer.{new_transfer};
 
-    /// Nothing was sent or received yet. `first_tsn` goes out first and `peer_first_tsn` comes in first, and
-    /// `a_rwnd` is the receive window in bytes that the peer announced. It takes no memory.
+    /// Nothing was sent or received yet. `first_tsn` is the first TSN that we send, and `peer_first_tsn` the
+    /// first one of the peer. `a_rwnd` is the receive window that the peer announced, in bytes. Allocates
+    /// nothing.
     pub fn new(
         alloc: Global,
         options: &Options,
@@ -83,14 +84,14 @@ impl Transfer {
         }
     }
 
-    /// The TSN that goes out next.
+    /// The TSN that is sent next.
     pub fn next_tsn(&self) -> u32
         ensures { result ≡ self.now.retransmission.next_tsn }
     {
         self.retransmission_queue.next_tsn()
     }
 
-    /// Was something sent that is neither acknowledged nor given up?
+    /// Was something sent that is neither acknowledged nor abandoned?
     pub fn has_unacknowledged_items(&self) -> bool
         ensures { result ≡ not (self.now.retransmission.unacknowledged_items == 0) }
     {

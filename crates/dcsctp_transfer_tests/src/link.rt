@@ -68,7 +68,7 @@ pub struct Link {
 }
 
 impl Link {
-    /// A link of this seed, on which so many of a hundred chunks are lost, and as many are doubled.
+    /// A link of this seed, on which that many of a hundred chunks are lost, and as many are doubled.
     pub fn new(alloc: Global, seed: u64, faults: u32) -> Link {
         Link {
             alloc,

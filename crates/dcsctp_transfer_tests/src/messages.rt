@@ -32,7 +32,7 @@ fn byte_at(number: usize, place: usize) -> u8 {
 }
 
 impl Messages {
-    /// So many messages of 1 to 5,000 bytes on four streams, every third of them unordered. Where some are
+    /// That many messages of 1 to 5,000 bytes on four streams, every third of them unordered. If some are
     /// limited, every second one is sent again twice at most.
     pub fn plan(
         alloc: Global,
@@ -87,7 +87,7 @@ impl Messages {
         options
     }
 
-    /// Notes that a message has arrived: whole, once, and where it is ordered behind those before it.
+    /// Notes that a message has arrived: whole, once, and if it is ordered after those before it.
     pub fn arrives(&mut self, rt: &impl Abort, message: &Message) {
         let number = message.ppid.0 as usize;
         let planned = *self.planned.get(number).expect(rt, "no such message");

@@ -10,7 +10,7 @@ use dcsctp_wire::clean_sack;
 use std::alloc::{AllocError, Global};
 use std::process::Abort;
 
-/// Which TSNs came in, and what waits to be taken.
+/// Which TSNs were received, and what waits to be taken.
 pub struct Receiver {
     alloc: Global,
     tracker: DataTracker,
@@ -29,7 +29,7 @@ impl Drop for Receiver {
 }
 
 impl Receiver {
-    /// Nothing came in, and the peer's first TSN is this.
+    /// Nothing was received, and the peer's first TSN is this.
     pub fn new(alloc: Global, options: &Options, first_tsn: u32) -> Receiver {
         Receiver {
             alloc,
@@ -38,7 +38,7 @@ impl Receiver {
         }
     }
 
-    // Works data.
+    // Handles data.
     fn work_data(&mut self, tsn: u32, data: Data) -> Result<(), AllocError> {
         let is_open = !self.queue.is_full() && !self.queue.is_above_watermark();
         if is_open && self.tracker.is_tsn_valid(tsn) && self.tracker.observe(tsn, false)? {
@@ -47,7 +47,7 @@ impl Receiver {
         Ok(())
     }
 
-    // Works a FORWARD-TSN.
+    // Handles a FORWARD-TSN.
     fn work_forward(&mut self, tsn: u32, skipped: &[SkippedTo]) -> Result<(), AllocError> {
         if self.tracker.is_tsn_valid(tsn) && self.tracker.handle_forward_tsn(tsn) {
             self.queue.handle_forward_tsn(tsn, skipped)?;
@@ -55,7 +55,7 @@ impl Receiver {
         Ok(())
     }
 
-    // Works what came in.
+    // Handles what was received.
     fn work(&mut self, parcel: Parcel) -> Result<(), AllocError> {
         match parcel {
             Parcel::Data { tsn, data } => self.work_data(tsn, data),
@@ -64,7 +64,7 @@ impl Receiver {
         }
     }
 
-    // Acknowledges what came in, where that is due.
+    // Acknowledges what was received, if that is due.
     fn acknowledge(&mut self, link: &mut Link, now: u64) -> Result<(), AllocError> {
         if !self.tracker.should_send_ack(false) {
             return Ok(());
@@ -83,7 +83,7 @@ impl Receiver {
         )
     }
 
-    // Works a packet with what came in, and acknowledges it where that is due.
+    // Handles a packet with what was received, and acknowledges it if that is due.
     fn work_packet(
         &mut self,
         outgoing: &mut Link,
@@ -104,7 +104,7 @@ impl Receiver {
         }
     }
 
-    /// Works all that has arrived, each chunk as a packet of its own, and takes the messages.
+    /// Handles all that has arrived, each chunk as a packet of its own, and takes the messages.
     pub fn receive(
         &mut self,
         rt: &impl Abort,

@@ -11,7 +11,7 @@ use std::alloc::{AllocError, Global};
 use std::process::Abort;
 use std::time::Duration;
 
-/// The moment so many milliseconds after the first.
+/// The moment that many milliseconds after the first.
 pub fn at(millis: u64) -> SocketTime {
     SocketTime::zero() + Duration::from_millis(millis)
 }
@@ -40,7 +40,7 @@ impl Drop for Sender {
     }
 }
 
-// What a chunk of this fragment bears.
+// What a chunk of this fragment carries.
 fn data_of(alloc: Global, part: &DataToSend, interleaving: bool) -> Result<Data, AllocError> {
     let numbering = match (interleaving, part.is_unordered) {
         (false, false) => Numbering::Ordered { ssn: part.ssn },
@@ -104,7 +104,7 @@ impl Sender {
         }
     }
 
-    /// Queues a message, where it isn't empty.
+    /// Queues a message, if it isn't empty.
     pub fn add(&mut self, now: u64, message: Message, how: &SendOptions) -> Result<(), AllocError> {
         if message.payload.is_empty() {
             return Ok(());
@@ -149,12 +149,12 @@ impl Sender {
         Ok(())
     }
 
-    /// Works the retransmission timer.
+    /// Handles the retransmission timer.
     pub fn tell(&mut self, now: u64) {
         self.sent.handle_timeout(at(now));
     }
 
-    /// Works a SACK, and sends what is lost at once.
+    /// Handles a SACK, and sends what is lost at once.
     pub fn acknowledge(
         &mut self,
         rt: &impl Abort,

@@ -1,5 +1,5 @@
-//! Whole runs: each reliable message arrives once and whole, ordered ones in order, and both sides come to
-//! rest with nothing buffered.
+//! Whole runs: each reliable message arrives once and whole, ordered ones in order. Both sides come to rest
+//! with nothing buffered.
 
 use crate::link::{Link, Parcel};
 use crate::messages::Messages;

@@ -17,7 +17,7 @@ use Rattle.dcsctp_wire.specs.declared.packet.SctpPacket.{SctpPacket}
 
 -- A parameter of a chunk (RFC 9260, section 3.2.1). Lists of streams are bytes, two a stream.
 pub data ParameterContent : Type 0 where
-  -- Heartbeat Info (RFC 9260, section 3.3.5): what its sender wants back
+  -- Heartbeat Info (RFC 9260, section 3.3.5): bytes that come back in the HEARTBEAT ACK
   heartbeat_info : List ℕ → ParameterContent
   -- State Cookie (RFC 9260, section 3.3.3.1): its bytes
   state_cookie : List ℕ → ParameterContent

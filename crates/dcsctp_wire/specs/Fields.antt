@@ -1,5 +1,5 @@
--- What a value says by its fields: of a parameter (RFC 9260, section 3.3.2.1; RFC 6525, section 4), of an error cause
--- (RFC 9260, section 3.3.10), and of a chunk that holds neither. Bytes behind the fields are not looked at.
+-- What a value says by its fields: of a parameter (RFC 9260, section 3.3.2.1; RFC 6525, section 4), of an error cause (RFC 9260,
+-- section 3.3.10), and of a chunk that holds neither. Bytes after the fields are not looked at.
 use Rattle.std.specs.Prelude.{◌==◌, ℕ, ◌+◌, ◌*◌, ◌-◌, ◌/◌, ◌%◌, Bool, not, ◌&&◌, List, length, take, drop, Option, Some, None, nat_lt, if◌then◌else◌}
 use Rattle.std.specs.Option.{option_map}
 use Rattle.std.specs.Int.{w16, w32, from_be_bytes}
@@ -20,7 +20,7 @@ u16_at at bytes = from_be_bytes w16 (take 2 (drop at bytes))
 abbrev pub u32_at : ℕ → List ℕ → ℕ
 u32_at at bytes = from_be_bytes w32 (take 4 (drop at bytes))
 
--- fields of so many bytes, and behind them whole entries of so many
+-- fields of that many bytes, and after them whole entries of that many
 abbrev pub has_entries : ℕ → ℕ → List ℕ → Bool
 has_entries fields entry value = not (nat_lt (length value) fields) && (length value - fields) % entry == 0
 
@@ -53,7 +53,8 @@ response_with value next (Some result) = reconfiguration_response (u32_at 0 valu
 abbrev pub next_tsns_in : List ℕ → NextTsns
 next_tsns_in value = record { sender = u32_at 8 value; receiver = u32_at 12 value }
 
--- None or both of the next TSNs stand behind the result: 12 to 15 bytes would be one and a part.
+-- After the result there are either no next TSNs or both. Values of 12 to 15 bytes would have one of them and a part of the
+-- other.
 unfoldable pub response_in : List ℕ → Option ParameterContent
 response_in value =
     if nat_lt (length value) 8 then None
@@ -173,7 +174,7 @@ forward_tsn_in value = if has_entries 4 4 value then Some (forward_tsn_chunk (u3
 unfoldable pub i_forward_tsn_in : List ℕ → Option ChunkContent
 i_forward_tsn_in value = if has_entries 4 8 value then Some (i_forward_tsn_chunk (u32_at 0 value) (drop 4 value)) else None
 
--- What a chunk of this type, flags and value says, where it holds neither parameters nor causes.
+-- What a chunk of this type, flags and value says, if it holds neither parameters nor causes.
 unfoldable pub fields_in : ℕ → ℕ → List ℕ → Option ChunkContent
 fields_in chunk_type flags value =
     if chunk_type == data_type then data_in flags value

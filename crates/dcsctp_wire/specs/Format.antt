@@ -1,5 +1,5 @@
--- Which bytes a packet, a chunk and a parameter are read from (RFC 9260, section 3).
--- A list of chunks or parameters is read where its first stands in front and the others behind it.
+-- Which bytes a packet, a chunk and a parameter are read from (RFC 9260, section 3). A list of chunks or parameters is read one
+-- by one: the first at the front, the others after it.
 use Rattle.std.specs.Prelude.{◌≡◌, ◌≤◌, ◌==◌, ℕ, ◌+◌, ◌-◌, ◌%◌, Bool, true, false, not, ◌&&◌, ◌||◌, IsTrue, List, [], ◌∷◌, length, take, drop, Option, Some, None, nat_lt, slice_index, if◌then◌else◌}
 use Rattle.std.specs.List.{AllByRecursion}
 use Rattle.std.specs.Int.{w32, from_le_bytes}
@@ -13,7 +13,7 @@ use Rattle.dcsctp_wire.specs.Fields.{u16_at, u32_at, parameter_of, cause_of, low
 abbrev pub padding_of : ℕ → ℕ
 padding_of n = (4 - n % 4) % 4
 
--- the value of a chunk or parameter, and what stands behind its padding
+-- the value of a chunk or parameter, and what follows its padding
 pub record Frame : Type 0 where
   pub value : List ℕ
   pub rest : List ℕ
@@ -30,8 +30,8 @@ frame_at bytes =
       rest = drop (u16_at 2 bytes + padding_of (u16_at 2 bytes)) bytes;
     })))
 
--- An item, which is a chunk, a parameter or a cause, stands in front of the bytes, and rest behind it. Says
--- relates it to its header, with which the bytes begin, and to its value.
+-- An item, which is a chunk, a parameter or a cause, is at the front of the bytes, and rest after it. Says relates it to its
+-- header, with which the bytes begin, and to its value.
 pub record BeginsWith {Item : Type 0} (Says : Item → List ℕ → List ℕ → Type 0) (item : Item) (rest bytes : List ℕ) : Type 0 where
   pub value : List ℕ
   pub framed : frame_at bytes ≡ Some (record { value = value; rest = rest })
@@ -46,7 +46,7 @@ AreItems Says (item ∷ items) bytes = (rest : List ℕ) × BeginsWith Says item
 abbrev pub IsReadBy : {Item : Type 0} → (ℕ → List ℕ → Option Item) → Item → List ℕ → List ℕ → Type 0
 IsReadBy read item bytes value = read (u16_at 0 bytes) value ≡ Some item
 
--- the parameter stands in front of the bytes, and rest behind it
+-- the parameter is at the front of the bytes, and rest after it
 abbrev pub BeginsWithParameter : ParameterContent → List ℕ → List ℕ → Type 0
 BeginsWithParameter = BeginsWith (IsReadBy parameter_of)
 
@@ -54,8 +54,8 @@ BeginsWithParameter = BeginsWith (IsReadBy parameter_of)
 abbrev pub AreParameters : List ParameterContent → List ℕ → Type 0
 AreParameters = AreItems (IsReadBy parameter_of)
 
--- What is asked of the numbers of an INIT or INIT ACK (RFC 9260, sections 3.3.2 and 3.3.3): a tag, a window of
--- 1500 bytes, and a stream in each direction.
+-- The minima of an INIT or INIT ACK (RFC 9260, sections 3.3.2 and 3.3.3): a tag other than 0, a window of 1500 bytes, and a
+-- stream in each direction.
 pub record HasInitMinima (init : InitContent) : Type 0 where
   pub tag_is_not_zero : 1 ≤ init.initiate_tag
   pub window_is_large_enough : 1500 ≤ init.a_rwnd
@@ -73,7 +73,7 @@ pub record IsInitValue (init : InitContent) (value : List ℕ) : Type 0 where
   pub minima : HasInitMinima init
   pub parameters : AreParameters init.parameters (drop 16 value)
 
--- The cause stands in front of the bytes, and rest behind it. Causes have the frame of parameters.
+-- The cause is at the front of the bytes, and rest after it. Causes have the frame of parameters.
 abbrev pub BeginsWithCause : CauseContent → List ℕ → List ℕ → Type 0
 BeginsWithCause = BeginsWith (IsReadBy cause_of)
 
@@ -119,7 +119,7 @@ IsChunkOf chunk chunk_type flags value = HasForm (form_of chunk_type) chunk chun
 abbrev pub IsReadByHeader : ChunkContent → List ℕ → List ℕ → Type 0
 IsReadByHeader chunk bytes value = IsChunkOf chunk (slice_index bytes 0) (slice_index bytes 1) value
 
--- the chunk stands in front of the bytes, and rest behind it
+-- the chunk is at the front of the bytes, and rest after it
 abbrev pub BeginsWithChunk : ChunkContent → List ℕ → List ℕ → Type 0
 BeginsWithChunk = BeginsWith IsReadByHeader
 
@@ -140,8 +140,8 @@ checksum_accepted options bytes =
     || (u32_at 8 bytes == 0 && not (options.zero_checksum_alternate_error_detection_method == 0))
     || from_le_bytes w32 (take 4 (drop 8 bytes)) == packet_checksum_of bytes
 
--- The bytes are this packet for a reader with these options (RFC 9260, section 3.1). A COOKIE ECHO
--- stands in front (RFC 9260, section 5.1).
+-- The bytes are this packet for a reader with these options (RFC 9260, section 3.1). A COOKIE ECHO is the first chunk (RFC 9260,
+-- section 5.1).
 pub record IsPacket (options : WireOptions) (packet : PacketContent) (bytes : List ℕ) : Type 0 where
   pub long_enough : 12 ≤ length bytes
   pub source_port : packet.source_port ≡ u16_at 0 bytes

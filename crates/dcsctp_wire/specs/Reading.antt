@@ -1,4 +1,4 @@
--- What a reader has in hand.
+-- What the reader of a packet keeps between two steps.
 use Rattle.dcsctp_wire.specs.declared.bytes.Frame as frames
 use Rattle.dcsctp_wire.specs.Format.{Frame}
 

@@ -1,5 +1,5 @@
--- A built packet reads back (RFC 9260, section 3): the packets whose numbers fit their fields, what a reader
--- asks beyond that, and the laws.
+-- A built packet reads back (RFC 9260, section 3): the packets whose numbers fit their fields, what a reader requires beyond
+-- that, and the laws.
 use Rattle.std.specs.Prelude.{◌≡◌, ◌≢◌, ◌<◌, ◌⊎◌, ℕ, ◌+◌, ◌%◌, ◌^◌, Bool, true, false, Option, None, Some, List, map, length, drop}
 use Rattle.std.specs.List.{AllByRecursion}
 use Rattle.dcsctp_wire.specs.declared.packet.WireOptions.{WireOptions}
@@ -12,7 +12,7 @@ use Rattle.dcsctp_wire.specs.Spelling.{as_parameter, parameters_len, packet_byte
 abbrev pub IsByte : ℕ → Type 0
 IsByte byte = byte < 2 ^ 8
 
--- whole entries of so many bytes
+-- whole entries of that many bytes
 pub record AreEntries (len : ℕ) (entries : List ℕ) : Type 0 where
   pub whole : length entries % len ≡ 0
   pub entries_in_bytes : AllByRecursion IsByte entries
@@ -34,8 +34,7 @@ abbrev pub FitsNextTsns : Option NextTsns → Type 0
 FitsNextTsns None = Unit {0}
 FitsNextTsns (Some next) = (next.sender < 2 ^ 32) × (next.receiver < 2 ^ 32)
 
--- A parameter within its fields (RFC 9260, section 3.2.1; RFC 6525, section 4). Its length fits where that of its chunk
--- does.
+-- A parameter within its fields (RFC 9260, section 3.2.1; RFC 6525, section 4). Its length fits if that of its chunk does.
 abbrev pub FitsParameter : ParameterContent → Type 0
 FitsParameter (heartbeat_info info) = AllByRecursion IsByte info
 FitsParameter (state_cookie cookie) = AllByRecursion IsByte cookie
@@ -98,7 +97,7 @@ pub record FitsSack (chunk : SackContent) : Type 0 where
   pub blocks : AreEntries 4 chunk.gap_ack_blocks
   pub duplicates : AreEntries 4 chunk.duplicate_tsns
 
--- a new cumulative TSN and skipped streams of so many bytes each (RFC 3758, section 3.2; RFC 8260, section 2.3.1)
+-- a new cumulative TSN and skipped streams of that many bytes each (RFC 3758, section 3.2; RFC 8260, section 2.3.1)
 pub record FitsForward (entry tsn : ℕ) (streams : List ℕ) : Type 0 where
   pub tsn_fits : tsn < 2 ^ 32
   pub len_fits : 8 + length streams < 2 ^ 16
@@ -115,7 +114,7 @@ pub record FitsUnknownCause (code : ℕ) (value : List ℕ) : Type 0 where
   pub read_as_unknown : cause_of code value ≡ Some (unknown_cause code value)
   pub value_in_bytes : AllByRecursion IsByte value
 
--- A cause within its fields (RFC 9260, section 3.3.10). Its length fits where that of its chunk does.
+-- A cause within its fields (RFC 9260, section 3.3.10). Its length fits if that of its chunk does.
 abbrev pub FitsCause : CauseContent → Type 0
 FitsCause (missing_mandatory_parameter types) = AreEntries 2 types
 FitsCause (unrecognized_chunk_type chunk) = AllByRecursion IsByte chunk
@@ -158,21 +157,21 @@ pub record FitsFields (packet : PacketContent) : Type 0 where
   pub verification_tag : packet.verification_tag < 2 ^ 32
   pub chunks : AllByRecursion FitsChunk packet.chunks
 
--- what a reader asks of a chunk's numbers: of those of INIT and INIT ACK alone
+-- what a reader requires of a chunk's numbers: only those of INIT and INIT ACK have minima
 abbrev pub HasMinima : ChunkContent → Type 0
 HasMinima (init_chunk init) = HasInitMinima init
 HasMinima (init_ack_chunk init) = HasInitMinima init
 HasMinima chunk = Unit {0}
 
--- A packet within its fields that a reader takes: its chunks have their minima, and a COOKIE ECHO stands in
--- front (RFC 9260, section 5.1).
+-- A packet within its fields that a reader accepts: its chunks have their minima, and a COOKIE ECHO is the first chunk (RFC 9260,
+-- section 5.1).
 pub record IsWritable (packet : PacketContent) : Type 0 where
   pub fields : FitsFields packet
   pub minima : AllByRecursion HasMinima packet.chunks
   pub echo_in_front : AllByRecursion (λ chunk. is_cookie_echo chunk ≡ false) (drop 1 packet.chunks)
 
--- The reader has the packet's port, and where no checksum is written it has an alternate error
--- detection method (RFC 9653, section 5.3).
+-- The reader has the packet's port, and if no checksum is written it has an alternate error detection method (RFC 9653, section
+-- 5.3).
 pub record IsReader (options : WireOptions) (with_checksum : Bool) (packet : PacketContent) : Type 0 where
   pub to_this_port : options.local_port ≡ packet.destination_port
   pub checked : (with_checksum ≡ true) ⊎ (options.zero_checksum_alternate_error_detection_method ≢ 0)
@@ -183,8 +182,8 @@ BuiltPacketReadsBack =
     (options : WireOptions) (with_checksum : Bool) (packet : PacketContent) → IsWritable packet → IsReader options with_checksum packet
     → IsPacket options packet (packet_bytes with_checksum packet)
 
--- Whatever a reader reads of a built packet is what was built. Its port, the packet's minima and the place of a
--- COOKIE ECHO are no premises: where they are wrong, nothing is read.
+-- Whatever a reader reads of a built packet is what was built. The port, the minima and the place of a COOKIE ECHO need no
+-- premise: if they are wrong, nothing is read.
 abbrev pub BuiltPacketReadsAsItself : Type 0
 BuiltPacketReadsAsItself =
     (options : WireOptions) (with_checksum : Bool) (packet read : PacketContent) → FitsFields packet

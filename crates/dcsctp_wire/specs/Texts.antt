@@ -1,4 +1,4 @@
--- The texts of error causes (RFC 9260, section 3.3.10), as a user is told them.
+-- The texts of error causes (RFC 9260, section 3.3.10), as the user sees them.
 use Rattle.std.specs.Prelude.{◌==◌, ℕ, ◌||◌, List, [], ◌++◌, map, codes, nat_lt, if◌then◌else◌}
 use Rattle.std.specs.List.{join_by}
 use Rattle.std.specs.Fmt.{decimal}
@@ -10,7 +10,7 @@ use Rattle.dcsctp_wire.specs.Spelling.{cause_code, cause_value}
 abbrev pub dot : ℕ
 dot = 46
 
--- A byte as it is shown: outside 32 to 126, where ASCII has no character that prints, as a dot.
+-- How a byte is shown: as a dot if it is outside 32 to 126, where ASCII has no printable character.
 abbrev pub shown_byte : ℕ → ℕ
 shown_byte byte = if nat_lt byte 32 || nat_lt 126 byte then dot else byte
 

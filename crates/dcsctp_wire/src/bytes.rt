@@ -7,13 +7,13 @@ ghost use Rattle.dcsctp_wire.specs.Fields.{u16_at, u32_at, has_entries};
 ghost use Rattle.dcsctp_wire.specs.Format.{padding_of, frame_at};
 ghost use Rattle.dcsctp_wire.specs.Reading.{frame_content};
 
-/// The value of a chunk or a parameter, and the bytes behind its padding.
+/// The value of a chunk or a parameter, and the bytes after its padding.
 #[derive(Clone, Copy)]
 pub(crate) struct Frame<'a> {
     /// The value, without padding.
     pub(crate) value: &'a [u8],
 
-    /// What stands behind the padding.
+    /// What follows the padding.
     pub(crate) rest: &'a [u8],
 }
 
@@ -35,7 +35,7 @@ pub fn u32_at(bytes: &[u8], at: usize) -> u32
     u32::from_be_bytes([field[0], field[1], field[2], field[3]])
 }
 
-/// Do fields of so many bytes stand there, and behind them whole entries of so many?
+/// Is the value long enough for `fields` bytes, and is the rest of it whole entries of `entry` bytes?
 pub(crate) fn has_entries(value: &[u8], fields: usize, entry: usize) -> bool
     requires { 0 < entry }
     ensures { result ≡ has_entries fields entry value.now }
@@ -50,7 +50,7 @@ pub fn padding_of(len: usize) -> usize
     (4 - len % 4) % 4
 }
 
-/// The bytes from a place on: none where it lies behind the end, since the last padding may be missing.
+/// The bytes from `start` on. There are none if it is past the end, since the last padding may be missing.
 fn bytes_from(bytes: &[u8], start: usize) -> &[u8]
     ensures { result.now ≡ drop start bytes.now }
 {
@@ -63,8 +63,7 @@ fn bytes_from(bytes: &[u8], start: usize) -> &[u8]
 
 /// The frame in front of the bytes: a header of 4 bytes, whose last two are the length, and a value.
 ///
-/// There is none where the header is cut off, and where its length is below 4 or above the number of
-/// bytes.
+/// There is none if the header is cut off, or its length is below 4 or above the number of bytes.
 #[tactic(auto, unfolding(crate::specs::Format::frame_at))]
 pub(crate) fn read_frame(bytes: &[u8]) -> Option<Frame<'_>>
     ensures gives { option_map frame_content result ≡ frame_at bytes.now }

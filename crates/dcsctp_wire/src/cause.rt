@@ -22,8 +22,8 @@ pub use text::causes_text;
 #[derive(Clone, Copy, Debug)]
 pub enum ErrorCause<'a> {
     /// Missing Mandatory Parameter, code 2 (RFC 9260, section 3.3.10.2): the types of the parameters, two
-    /// bytes each, highest first. Their number, four bytes, stands before them. An odd last byte is
-    /// part of no type.
+    /// bytes each, highest first. Before them is their number, in four bytes. An odd last byte is part of no
+    /// type.
     MissingMandatoryParameter { types: &'a [u8] },
 
     /// Unrecognized Chunk Type, code 6 (RFC 9260, section 3.3.10.6): the bytes of the chunk.
@@ -45,7 +45,7 @@ pub enum ErrorCause<'a> {
     Unknown { code: u16, value: &'a [u8] },
 }
 
-/// The types of the missing parameters, where the value is long enough for its number of them.
+/// The types of the missing parameters, if the value is long enough for its number of them.
 #[tactic(auto, unfolding(crate::specs::Fields::missing_types))]
 fn types_in(value: &[u8]) -> Option<&[u8]>
     ensures { option_map (λ types. types.now) result ≡ missing_types value.now }
@@ -69,7 +69,7 @@ fn missing_from(value: &[u8]) -> Option<ErrorCause<'_>>
     Some(ErrorCause::MissingMandatoryParameter { types })
 }
 
-/// A No User Data of this value, where it is long enough for a TSN.
+/// A No User Data of this value, if it is long enough for a TSN.
 #[tactic(auto, unfolding(crate::specs::Fields::no_user_data_in))]
 fn no_user_data_from(value: &[u8]) -> Option<ErrorCause<'_>>
     ensures { option_map cause_content result ≡ no_user_data_in value.now }
@@ -102,7 +102,7 @@ fn cause_from(code: u16, value: &[u8]) -> Option<ErrorCause<'_>>
     }
 }
 
-/// The cause in front of the bytes, and what stands behind its padding.
+/// The cause in front of the bytes, and what follows its padding.
 fn read_cause(bytes: &[u8]) -> Option<(ErrorCause<'_>, &[u8])>
     ensures gives { MatchOption result
         ((cause : CauseContent) (rest : List ℕ) → BeginsWithCause cause rest bytes.now → ⊥)
@@ -118,7 +118,7 @@ fn read_cause(bytes: &[u8]) -> Option<(ErrorCause<'_>, &[u8])>
 ///
 /// # Errors
 ///
-/// `Malformed` where the bytes are no causes, and `OutOfMemory` where the list can't grow.
+/// `Malformed` if the bytes are no causes, and `OutOfMemory` if the list can't grow.
 pub(crate) fn read_causes(alloc: Global, bytes: &[u8]) -> Result<Vec<ErrorCause<'_>>, PacketError>
     ensures found { IfOk result (λ causes. AreCauses (map cause_content causes.items) bytes.now) }
     ensures malformed { IsErrOf result PacketError.Malformed

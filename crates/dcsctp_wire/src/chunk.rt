@@ -41,8 +41,8 @@ use user_data::{read_data, read_i_data};
 
 /// A chunk. Its bytes are borrowed: from the packet that is read, or from the caller that writes one.
 ///
-/// Each is a type (1 byte), flags (1 byte), a length (2 bytes, header included, padding not), a value,
-/// and zero bytes to a multiple of 4.
+/// Each is a type (1 byte), flags (1 byte), a length (2 bytes) and a value. Zero bytes follow, to a multiple
+/// of 4. The length counts the header and not this padding.
 #[derive(Debug, Drop)]
 pub enum Chunk<'a> {
     /// DATA, type 0 (RFC 9260, section 3.3.1).
@@ -100,8 +100,8 @@ pub enum Chunk<'a> {
     Unknown(UnknownChunk<'a>),
 }
 
-/// The chunk of this type, flags and value, where it holds neither parameters nor causes. There is none where
-/// the value is too short for the fields of its type, or ends within an entry.
+/// The chunk of this type, flags and value, if it holds neither parameters nor causes. There is none if the
+/// value is too short for the fields of its type, or ends within an entry.
 #[tactic(auto, unfolding(crate::specs::Fields::fields_in))]
 fn chunk_of_fields(chunk_type: u8, flags: u8, value: &[u8]) -> Option<Chunk<'_>>
     ensures { option_map chunk_content result ≡ fields_in chunk_type flags value.now }
@@ -131,8 +131,7 @@ fn chunk_of_fields(chunk_type: u8, flags: u8, value: &[u8]) -> Option<Chunk<'_>>
 ///
 /// # Errors
 ///
-/// `Malformed` where the value isn't one of the type, and `OutOfMemory` where a list of parameters or causes
-/// can't grow.
+/// `Malformed` if the value doesn't fit the type, and `OutOfMemory`.
 #[tactic(auto, unfolding(crate::specs::Format::form_of))]
 fn chunk_from(
     alloc: Global,
@@ -168,11 +167,11 @@ fn chunk_from(
     }
 }
 
-/// The chunk in front of the bytes, and what stands behind its padding (RFC 9260, section 3.2).
+/// The chunk in front of the bytes, and what follows its padding (RFC 9260, section 3.2).
 ///
 /// # Errors
 ///
-/// `Malformed` where no chunk stands there, and `OutOfMemory` where a list can't grow.
+/// `Malformed` if no chunk stands there, and `OutOfMemory` if a list can't grow.
 fn read_chunk(alloc: Global, bytes: &[u8]) -> Result<(Chunk<'_>, &[u8]), PacketError>
     ensures found { IfOk result (λ read. BeginsWithChunk
         (chunk_content read.0) read.1.now bytes.now) }
@@ -189,7 +188,7 @@ fn read_chunk(alloc: Global, bytes: &[u8]) -> Result<(Chunk<'_>, &[u8]), PacketE
 ///
 /// # Errors
 ///
-/// `Malformed` where the bytes are no chunks, and `OutOfMemory` where a list can't grow.
+/// `Malformed` if the bytes are no chunks, and `OutOfMemory` if a list can't grow.
 pub(crate) fn read_chunks(alloc: Global, bytes: &[u8]) -> Result<Vec<Chunk<'_>>, PacketError>
     ensures found { IfOk result (λ chunks. AreChunks (map chunk_content chunks.items) bytes.now) }
     ensures malformed { IsErrOf result PacketError.Malformed

@@ -1,4 +1,4 @@
-//! SCTP packets on the wire (RFC 9260, section 3): what bytes say, and the bytes that say it.
+//! SCTP packets on the wire (RFC 9260, section 3): their contents, and their bytes.
 //!
 //! `SctpPacket::from_bytes` reads a packet, whose chunks borrow its bytes. `dcsctp_wire_build` writes one.
 #![tactic(auto)]

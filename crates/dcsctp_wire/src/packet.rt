@@ -12,17 +12,17 @@ use crate::chunk::{Chunk, read_chunks};
 use dcsctp_wire_checksum::packet_checksum;
 use std::alloc::{AllocError, AllocFailed, Global};
 
-/// What a reader knows of itself.
+/// How a packet is read.
 #[derive(Clone, Copy, Debug)]
 pub struct WireOptions {
     /// The port that a packet has to be sent to.
     pub local_port: u16,
 
-    /// Takes every checksum. For tests alone.
+    /// Accepts every checksum. Only for tests.
     pub disable_checksum_verification: bool,
 
-    /// The alternate error detection method (RFC 9653). Where it isn't 0, a checksum field of 0 is
-    /// taken as none.
+    /// The alternate error detection method (RFC 9653). If it isn't 0, a checksum field of 0 means that there
+    /// is no checksum.
     pub zero_checksum_alternate_error_detection_method: u32,
 }
 
@@ -52,10 +52,10 @@ pub struct SctpPacket<'a> {
 /// Why no packet was read.
 #[derive(Clone, Copy, Debug, PartialEq, Eq)]
 pub enum PacketError {
-    /// The bytes are no packet for this reader.
+    /// The bytes aren't a packet that these options allow.
     Malformed,
 
-    /// A growth was refused.
+    /// An allocation failed.
     OutOfMemory,
 }
 
@@ -80,9 +80,9 @@ impl<'a> SctpPacket<'a> {
     ///
     /// # Errors
     ///
-    /// `Malformed` where the bytes are no packet: they are cut off, are sent to another port, have a
-    /// wrong checksum, have chunks or parameters that are not as in RFC 9260, section 3, or have a
-    /// COOKIE ECHO behind another chunk. `OutOfMemory` where a list can't grow.
+    /// `Malformed` if the bytes aren't a packet: they are cut off, are sent to another port, or have a wrong
+    /// checksum. So it is if chunks or parameters don't have the form of RFC 9260, section 3, or if a COOKIE
+    /// ECHO comes after another chunk. `OutOfMemory` if a list can't grow.
     pub fn from_bytes(
         alloc: Global,
         bytes: &'a [u8],
@@ -145,7 +145,7 @@ fn is_cookie_echo(chunk: &Chunk) -> bool
     }
 }
 
-/// Does no COOKIE ECHO stand behind another chunk (RFC 9260, section 5.1)?
+/// Is no COOKIE ECHO after another chunk (RFC 9260, section 5.1)?
 fn has_no_late_echo(chunks: &[Chunk]) -> bool
     ensures { result
         ≡ not (list_any (λ chunk. is_cookie_echo (chunk_content chunk)) (drop 1 chunks.now)) }
@@ -154,8 +154,7 @@ fn has_no_late_echo(chunks: &[Chunk]) -> bool
     !late
 }
 
-/// A law: what bytes say is unique, since for one reader they are at most one packet
-/// (RFC 9260, section 3.1).
+/// A law: bytes have one reading. With the same options they are at most one packet (RFC 9260, section 3.1).
 pub fn one_reading()
     ensures { (options : WireOptions) (bytes : List ℕ) (p q : PacketContent)
         → IsPacket options p bytes → IsPacket options q bytes → p ≡ q }

@@ -22,7 +22,7 @@ use std::alloc::Global;
 /// to a multiple of 4.
 #[derive(Clone, Copy, Debug)]
 pub enum Parameter<'a> {
-    /// Heartbeat Info, type 1 (RFC 9260, section 3.3.5): what its sender wants back.
+    /// Heartbeat Info, type 1 (RFC 9260, section 3.3.5): bytes that come back in the HEARTBEAT ACK.
     HeartbeatInfo {
         info: &'a [u8],
     },
@@ -62,7 +62,7 @@ pub enum Parameter<'a> {
     },
 }
 
-/// The method whose value this is. There is none where it has less than four bytes (RFC 9653, section 4).
+/// The method whose value this is. There is none if it has less than four bytes (RFC 9653, section 4).
 #[tactic(auto, unfolding(crate::specs::Fields::method_in))]
 fn method_from(value: &[u8]) -> Option<Parameter<'_>>
     ensures { option_map parameter_content result ≡ method_in value.now }
@@ -75,7 +75,7 @@ fn method_from(value: &[u8]) -> Option<Parameter<'_>>
     })
 }
 
-/// What a parameter of this type and value says (RFC 9260, section 3.3.2.1). There is none where the value is
+/// What a parameter of this type and value says (RFC 9260, section 3.3.2.1). There is none if the value is
 /// too short for the fields of its type, or ends within an entry.
 #[tactic(auto, unfolding(crate::specs::Fields::parameter_of))]
 fn parameter_from(parameter_type: u16, value: &[u8]) -> Option<Parameter<'_>>
@@ -97,7 +97,7 @@ fn parameter_from(parameter_type: u16, value: &[u8]) -> Option<Parameter<'_>>
     }
 }
 
-/// The parameter in front of the bytes, and what stands behind its padding (RFC 9260, section 3.2.1).
+/// The parameter in front of the bytes, and what follows its padding (RFC 9260, section 3.2.1).
 fn read_parameter(bytes: &[u8]) -> Option<(Parameter<'_>, &[u8])>
     ensures gives { MatchOption result
         ((parameter : ParameterContent) (rest : List ℕ)
@@ -114,7 +114,7 @@ fn read_parameter(bytes: &[u8]) -> Option<(Parameter<'_>, &[u8])>
 ///
 /// # Errors
 ///
-/// `Malformed` where the bytes are no parameters, and `OutOfMemory` where the list can't grow.
+/// `Malformed` if the bytes are no parameters, and `OutOfMemory` if the list can't grow.
 pub(crate) fn read_parameters(
     alloc: Global,
     bytes: &[u8],

@@ -54,7 +54,7 @@ pub struct OutgoingSsnResetRequestParameter<'a> {
     /// The last TSN that the sender gave out.
     pub sender_last_assigned_tsn: u32,
 
-    /// The streams, two bytes each: all where there are none.
+    /// The streams, two bytes each: all if there are none.
     pub streams: &'a [u8],
 }
 
@@ -65,7 +65,7 @@ pub struct IncomingSsnResetRequestParameter<'a> {
     /// The number of this request.
     pub request_seq_nbr: u32,
 
-    /// The streams, two bytes each: all where there are none.
+    /// The streams, two bytes each: all if there are none.
     pub streams: &'a [u8],
 }
 
@@ -89,7 +89,7 @@ pub struct ReconfigurationResponseParameter {
     /// The result.
     pub result: ReconfigurationResponseResult,
 
-    /// The next TSNs, where the request was to reset them.
+    /// The next TSNs, if the request was to reset them.
     pub next_tsns: Option<NextTsns>,
 }
 
@@ -144,7 +144,7 @@ impl ReconfigurationResponseResult {
     }
 }
 
-/// The result of this number, where it has one.
+/// The result of this number, if it has one.
 #[tactic(auto, unfolding(crate::specs::Fields::result_of))]
 fn result_from(code: u32) -> Option<ReconfigurationResponseResult>
     ensures { result ≡ result_of code }
@@ -161,7 +161,7 @@ fn result_from(code: u32) -> Option<ReconfigurationResponseResult>
     }
 }
 
-/// The request whose value this is, where its streams are whole.
+/// The request whose value this is, if its streams are whole.
 #[tactic(auto, unfolding(crate::specs::Fields::outgoing_request_in))]
 pub(crate) fn outgoing_request_from(value: &[u8]) -> Option<Parameter<'_>>
     ensures { option_map parameter_content result ≡ outgoing_request_in value.now }
@@ -177,7 +177,7 @@ pub(crate) fn outgoing_request_from(value: &[u8]) -> Option<Parameter<'_>>
     }))
 }
 
-/// The request whose value this is, where its streams are whole.
+/// The request whose value this is, if its streams are whole.
 #[tactic(auto, unfolding(crate::specs::Fields::incoming_request_in))]
 pub(crate) fn incoming_request_from(value: &[u8]) -> Option<Parameter<'_>>
     ensures { option_map parameter_content result ≡ incoming_request_in value.now }
@@ -220,7 +220,7 @@ fn next_tsns_from(value: &[u8]) -> NextTsns
     }
 }
 
-/// The response whose value this is: there is none where it is too short for its numbers, or has one next TSN
+/// The response whose value this is: there is none if it is too short for its numbers, or has one next TSN
 /// and no other.
 #[tactic(auto, unfolding(crate::specs::Fields::response_in))]
 pub(crate) fn response_from(value: &[u8]) -> Option<Parameter<'_>>

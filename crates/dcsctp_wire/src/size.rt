@@ -36,7 +36,7 @@ fn value_len(parameter: &Parameter<'_>) -> usize
     }
 }
 
-/// The length of parameters, without the padding of the last, or `usize::MAX` where it is larger.
+/// The length of parameters, without the padding of the last, or `usize::MAX` if it is larger.
 pub fn parameters_len(parameters: &[Parameter<'_>]) -> usize
     ensures { result ≡ min (parameters_len (map parameter_content parameters.now)) usize.MAX }
 {
@@ -50,7 +50,7 @@ pub fn parameters_len(parameters: &[Parameter<'_>]) -> usize
 }
 
 /// How many bytes the parameters have in a chunk, each with its padding (RFC 9260, section 3.2.1), or
-/// `usize::MAX` where that is more.
+/// `usize::MAX` if that is more.
 pub fn parameters_serialized_size(parameters: &[Parameter<'_>]) -> usize
     ensures { result ≡ min (length (flat_map parameter_bytes (map parameter_content parameters.now)))
         usize.MAX }
@@ -72,7 +72,7 @@ fn cause_value_len(cause: &ErrorCause<'_>) -> usize
     }
 }
 
-/// The length of causes, without the padding of the last, or `usize::MAX` where it is larger.
+/// The length of causes, without the padding of the last, or `usize::MAX` if it is larger.
 pub fn causes_len(causes: &[ErrorCause<'_>]) -> usize
     ensures { result ≡ min (parameters_len (map as_parameter (map cause_content causes.now)))
         usize.MAX }
@@ -87,7 +87,7 @@ pub fn causes_len(causes: &[ErrorCause<'_>]) -> usize
 }
 
 /// The length field of a chunk, which leaves out its padding and that of its last parameter or cause, or
-/// `usize::MAX` where it is larger.
+/// `usize::MAX` if it is larger.
 #[tactic(auto, unfolding(crate::specs::Spelling::data_fields, crate::specs::Spelling::i_data_fields, crate::specs::Spelling::sack_fields, crate::specs::Spelling::init_fields))]
 fn chunk_len(chunk: &Chunk<'_>) -> usize
     ensures { result ≡ min (chunk_len (chunk_content chunk.now)) usize.MAX }

@@ -18,7 +18,7 @@ pub record Building : Type 0 where
 abbrev pub bytes_remaining : Building → ℕ
 bytes_remaining building = building.size - 12 - length building.body
 
--- The bytes begin with this header, without a checksum, and memory for the whole packet is there.
+-- The bytes begin with this header, without a checksum, and there is room for the whole packet.
 pub record HasRoom (header bytes : List ℕ) (size capacity : ℕ) : Type 0 where
   pub front : bytes ≡ header ++ zeros 4 ++ drop 12 bytes
   pub long_enough : 12 ≤ length bytes

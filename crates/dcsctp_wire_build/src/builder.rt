@@ -16,7 +16,7 @@ use std::marker::Model;
 
 /// A packet that is being built: its header, and the chunks that were added.
 ///
-/// The memory for the whole packet is taken when the builder is made, and none after that.
+/// Memory for the whole packet is allocated once, when the builder is made.
 #[derive(Debug, Drop)]
 pub struct SctpPacketBuilder {
     header: CommonHeader,
@@ -79,7 +79,7 @@ fn set_checksum(packet: &mut [u8], checksum: u32)
 impl SctpPacketBuilder {
     /// A packet with no chunks and at most `size` bytes, rounded down to a multiple of 4.
     ///
-    /// Fails where there is no memory for that many.
+    /// `Err`: an allocation failed.
     #[inline(always)]
     pub fn new(
         alloc: Global,
@@ -133,7 +133,7 @@ impl SctpPacketBuilder {
         self.size - self.bytes.len()
     }
 
-    /// Was no chunk added?
+    /// Are there no chunks yet?
     pub fn is_empty(&self) -> bool
         ensures { IsTrue result ↔ (self.now.body ≡ []) }
     {

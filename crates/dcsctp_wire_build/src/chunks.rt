@@ -1,4 +1,4 @@
-//! Writing chunks where there is room (RFC 9260, section 3.2).
+//! Writing chunks if there is room (RFC 9260, section 3.2).
 
 ghost use Rattle.std.specs.Prelude.{◌≡◌, ◌≤◌, ◌<◌, ◌+◌, ◌^◌, ◌++◌, length, map, []};
 ghost use Rattle.std.specs.Vec.{vec_len, vec_capacity};
@@ -136,7 +136,7 @@ fn put_forward(out: &mut Vec<u8>, chunk_type: u8, tsn: u32, streams: &[u8])
     put_padded(out, &front, streams);
 }
 
-/// Adds the chunk with its padding. No memory is taken.
+/// Adds the chunk with its padding. Allocates nothing.
 pub(crate) fn put_chunk(out: &mut Vec<u8>, chunk: &Chunk<'_>)
     requires fits { length (chunk_bytes (chunk_content chunk.now)) < 2 ^ 16 }
     requires room { vec_len out.old + length (chunk_bytes (chunk_content chunk.now))

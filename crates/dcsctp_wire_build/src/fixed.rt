@@ -86,7 +86,7 @@ pub(crate) fn i_data_front(chunk: &IDataChunk<'_>, len: u16) -> [u8; 20]
     ]
 }
 
-/// The header and the fields of a SACK with so many blocks and duplicates.
+/// The header and the fields of a SACK with that many blocks and duplicates.
 #[rattlefmt::skip]
 pub(crate) fn sack_front(chunk: &SackChunk<'_>, len: u16, blocks: u16, duplicates: u16) -> [u8; 16]
     ensures { result ≡ (3 ∷ 0 ∷ to_be_bytes w16 len) ++ (to_be_bytes w32 chunk.now.cumulative_tsn_ack

@@ -1,4 +1,4 @@
-//! Writing parameters and error causes where there is room (RFC 9260, section 3.2.1).
+//! Writing parameters and error causes if there is room (RFC 9260, section 3.2.1).
 
 ghost use Rattle.std.specs.Prelude.{◌≡◌, ◌≤◌, ◌<◌, ◌+◌, ◌^◌, ◌++◌, length, map};
 ghost use Rattle.std.specs.List.{flat_map};
@@ -26,7 +26,7 @@ fn put_typed(out: &mut Vec<u8>, parameter_type: u16, value: &[u8])
     put_padded(out, &head, value);
 }
 
-// A parameter of this type, whose value is fields and what stands behind them.
+// A parameter of this type, whose value is fields and what follows them.
 #[tactic(auto, unfolding(dcsctp_wire::specs::Spelling::parameter_bytes))]
 fn put_with_fields(out: &mut Vec<u8>, parameter_type: u16, fields: &[u8], value: &[u8])
     requires fits { 4 + length (fields.now ++ value.now) < 2 ^ 16 }
@@ -99,7 +99,7 @@ fn put_parameter(out: &mut Vec<u8>, parameter: &Parameter<'_>)
     }
 }
 
-/// Adds the parameters, each with its padding. No memory is taken.
+/// Adds the parameters, each with its padding. Allocates nothing.
 pub(crate) fn put_parameters(out: &mut Vec<u8>, parameters: &[Parameter<'_>])
     requires fits { length (flat_map parameter_bytes (map parameter_content parameters.now))
         < 2 ^ 16 }
@@ -148,7 +148,7 @@ fn put_cause(out: &mut Vec<u8>, cause: &ErrorCause<'_>)
     }
 }
 
-/// Adds the causes, each with its padding. No memory is taken.
+/// Adds the causes, each with its padding. Allocates nothing.
 pub(crate) fn put_causes(out: &mut Vec<u8>, causes: &[ErrorCause<'_>])
     requires fits { length (flat_map parameter_bytes (map as_parameter
         (map cause_content causes.now))) < 2 ^ 16 }

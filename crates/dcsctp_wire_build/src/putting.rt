@@ -1,4 +1,4 @@
-//! Adding bytes where there is room.
+//! Adding bytes if there is room.
 
 ghost use Rattle.std.specs.Prelude.{◌≡◌, ◌≤◌, ◌+◌, ◌++◌, length};
 ghost use Rattle.std.specs.Vec.{vec_len, vec_capacity};
@@ -7,7 +7,7 @@ ghost use Rattle.dcsctp_wire.specs.Spelling.{zeros};
 
 use dcsctp_wire::padding_of;
 
-/// Adds the bytes. No memory is taken.
+/// Adds the bytes. Allocates nothing.
 pub(crate) fn put(out: &mut Vec<u8>, bytes: &[u8])
     requires { vec_len out.old + length bytes.now ≤ vec_capacity out.old }
     ensures items { out.new.items ≡ out.old.items ++ bytes.now }
@@ -17,7 +17,7 @@ pub(crate) fn put(out: &mut Vec<u8>, bytes: &[u8])
     out.extend_from_slice(bytes).unwrap();
 }
 
-// Adds the padding of so many bytes: most often there is none.
+// Adds the padding of that many bytes: most often there is none.
 fn put_padding(out: &mut Vec<u8>, len: usize)
     requires { vec_len out.old + padding_of len ≤ vec_capacity out.old }
     ensures items { out.new.items ≡ out.old.items ++ zeros (padding_of len) }
@@ -28,8 +28,8 @@ fn put_padding(out: &mut Vec<u8>, len: usize)
     }
 }
 
-/// Adds bytes, a value behind them, and the padding of both. No memory is taken.
-// Inlined, so that a front part of a length that is known is copied without a call.
+/// Adds bytes, a value after them, and the padding of both. Allocates nothing.
+// Inlined, so that the first part of a length that is known is copied without a call.
 #[inline(always)]
 pub(crate) fn put_padded(out: &mut Vec<u8>, front: &[u8], value: &[u8])
     requires { vec_len out.old + length front.now + length value.now + padding_of

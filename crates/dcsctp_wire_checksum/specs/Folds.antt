@@ -1,6 +1,6 @@
--- How bytes are folded on to later ones before the register takes in the end of them. With y for the way from
--- a byte to the next, 1 + y^65 + y^155 + y^170 + y^195 + y^209 is a multiple of the polynomial: a byte and its
--- five copies, so far behind it, add nothing to the register.
+-- How bytes are folded on to later ones, before the register reads the last of them. Let y be the step from a byte to the next.
+-- Then 1 + y^65 + y^155 + y^170 + y^195 + y^209 is a multiple of the polynomial: a byte and its five copies at these distances
+-- add nothing to the register.
 use Rattle.std.specs.Prelude.{ℕ, ◌≡◌, ◌+◌, ◌<◌, ◌≤◌, List, get_or, bit_xor}
 use Rattle.std.specs.Int.{w32, to_le_bytes}
 
@@ -9,7 +9,7 @@ unfoldable pub taps_at : List ℕ → ℕ → ℕ
 taps_at folded at =
     bit_xor (bit_xor (bit_xor (bit_xor (get_or folded (at + 144) 0) (get_or folded (at + 54) 0)) (get_or folded (at + 39) 0)) (get_or folded (at + 14) 0)) (get_or folded at 0)
 
--- the byte at a place, into which the register goes where it is one of the first four
+-- the byte at a place, into which the register goes if it is one of the first four
 unfoldable pub byte_with : ℕ → List ℕ → ℕ → ℕ
 byte_with register bytes at = bit_xor (get_or bytes at 0) (get_or (to_le_bytes w32 register) at 0)
 

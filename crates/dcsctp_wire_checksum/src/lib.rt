@@ -1,6 +1,6 @@
-//! The checksum of SCTP packets, CRC32c (RFC 9260, appendix A), for those who read and write packets.
-//! A block of sixteen bytes is taken in at once, as the exclusive or of what each byte alone has become
-//! by the block's end, which the table holds. Long pieces are folded on to their last bytes first.
+//! The checksum of SCTP packets, CRC32c (RFC 9260, appendix A), for those who read and write packets. A block
+//! of sixteen bytes is read at once. For each byte the table has what it alone becomes by the end of the
+//! block; their exclusive or is the result. Long pieces are folded on to their last bytes first.
 #![tactic(auto)]
 
 ghost use Rattle.std.specs.Prelude.{◌≡◌, ◌+◌, ◌<◌, ◌≤◌, ◌++◌, length, replicate, slice_range};
@@ -11,13 +11,13 @@ mod table;
 
 use table::TABLE;
 
-// The register as it starts, and the bits that are turned at the end.
+// The register at the start, and the bits that are flipped at the end.
 const ALL_ONES: u32 = 0xFFFF_FFFF;
 
-// How many bytes the register takes in at once, one row of the table for each.
+// How many bytes the register reads at once, one row of the table for each.
 const BLOCK_LEN: usize = 16;
 
-// The register that `byte` has become once it and `zeros` bytes of zero are taken in.
+// The register that `byte` has become once it and `zeros` bytes of zero are read.
 #[inline(always)]
 fn entry(byte: u8, zeros: usize) -> u32
     requires { zeros < 16 }
@@ -43,7 +43,7 @@ fn after_first_four(register: u32, bytes: &[u8], at: usize, zeros: usize) -> u32
         ^ entry((word >> 24) as u8, zeros)
 }
 
-// The register after the four bytes from `at` on and `zeros` bytes of zero, where it held zero.
+// The register after the four bytes from `at` on and `zeros` bytes of zero, if it was zero.
 #[inline(always)]
 fn after_next_four(bytes: &[u8], at: usize, zeros: usize) -> u32
     requires within { at + 4 ≤ length bytes.now }
@@ -196,8 +196,8 @@ pub fn crc32c(bytes: &[u8]) -> u32
     after(ALL_ONES, bytes) ^ ALL_ONES
 }
 
-/// The checksum CRC32c of an SCTP packet of 12 bytes or more, whose checksum field, bytes 8 to 11,
-/// counts as zeros, whatever it holds (RFC 9260, appendix A).
+/// The checksum CRC32c of an SCTP packet of 12 bytes or more. The checksum field, bytes 8 to 11, counts as
+/// zeros (RFC 9260, appendix A).
 pub fn packet_checksum(packet: &[u8]) -> u32
     requires { 12 ≤ length packet.now }
     ensures { result ≡ packet_checksum_of packet.now }

@@ -1,6 +1,6 @@
 //! The lookup table of `crc32c` (RFC 9260, appendix A). `crc32c` alone reads it.
 
-/// `TABLE[n][byte]` is the register that `byte` has become once it and `n` bytes of zero are taken in.
+/// `TABLE[n][byte]` is the register that `byte` has become once it and `n` bytes of zero are read.
 #[rattlefmt::skip]
 pub(crate) static TABLE: [[u32; 256]; 16] = [
     [

@@ -1,5 +1,5 @@
-//! What holds of packets on the wire, each the contract of a function without a body: what is built reads
-//! back, and what is read fits its fields.
+//! Laws of packets on the wire: what is built reads back, and what is read fits its fields. Each is the
+//! contract of a function that does nothing.
 //!
 //! Outside examples of the definitions of `dcsctp_wire` stand in `proofs/`.
 #![tactic(auto)]

@@ -19,15 +19,15 @@ const READER: WireOptions = WireOptions {
     zero_checksum_alternate_error_detection_method: 0,
 };
 
-/// How a packet is written: its tag, how many bytes it may have, and how many of these remain before its
-/// chunks are added, and behind them.
+/// How a packet is written: its tag and its greatest size. Then the bytes that remain before its chunks are
+/// added, and after them.
 pub type Room = (u32, usize, usize, usize);
 
-/// A named packet from port 5000 to port 5001 without a checksum: how it is written, its bytes, and the text of
-/// its chunks, as `Debug` writes it.
+/// A named packet from port 5000 to port 5001, without a checksum. It says how it is written, its bytes, and
+/// its chunks as `Debug` writes them.
 pub type Row = (&'static str, Room, &'static [u8], &'static str);
 
-/// A builder of a packet of at most so many bytes, of which so many remain.
+/// A builder of a packet of at most that many bytes, of which that many remain.
 fn begun(rt: &impl Abort, alloc: Global, tag: u32, size: usize) -> SctpPacketBuilder {
     assert!(rt; 12 <= size && size <= 65535, "a packet has a size");
     SctpPacketBuilder::new(alloc, tag, 5000, 5001, size)

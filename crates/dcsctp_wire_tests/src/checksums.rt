@@ -32,8 +32,8 @@ fn outside_examples_have_their_checksums(rt: HostRuntime) {
     }
 }
 
-// Packets of zeros but for the field, and but for the field and the byte behind it; and whether the checksum is
-// that of 32 zeros.
+// Packets of zeros. In the first only the checksum field isn't zero, in the second also the byte after it.
+// The flag says whether the checksum is that of 32 zeros.
 #[rattlefmt::skip]
 static FIELDS: [(&str, &[u8; 32], bool); 2] = [
     (

@@ -1,6 +1,6 @@
-//! Each kind of chunk, byte for byte: DATA, INIT, INIT ACK, SACK, HEARTBEAT, ABORT, SHUTDOWN, ERROR and COOKIE ECHO
-//! as in RFC 9260, section 3.3, FORWARD-TSN as in RFC 3758, section 3.2, RE-CONFIG as in RFC 6525, sections 3.1 and
-//! 4, and I-DATA and I-FORWARD-TSN as in RFC 8260, section 2.
+//! Each kind of chunk, byte for byte. Most are as in RFC 9260, section 3.3; FORWARD-TSN is as in RFC 3758,
+//! section 3.2. RE-CONFIG is as in RFC 6525, sections 3.1 and 4, and I-DATA and I-FORWARD-TSN are as in RFC
+//! 8260, section 2.
 
 use crate::both_ways::Row;
 

@@ -1,6 +1,6 @@
-//! Tests of `dcsctp_wire_checksum`, `dcsctp_wire` and `dcsctp_wire_build` by their public calls: what is read of
-//! packets that were put together by hand, what a builder writes, each kind of chunk both ways, the texts of causes,
-//! checksums, and the published numbers.
+//! Tests of `dcsctp_wire_checksum`, `dcsctp_wire` and `dcsctp_wire_build` by their public calls. Packets that
+//! were put together by hand are read, and chunks are written. Each kind of chunk goes both ways; texts of
+//! causes, checksums and numbers are compared.
 #![tactic(auto)]
 
 #[cfg(test)]

@@ -12,14 +12,14 @@ static UNCHECKED: WireOptions = WireOptions {
     zero_checksum_alternate_error_detection_method: 0,
 };
 
-/// A reader on port 5000 that wants the checksum.
+/// A reader on port 5000 that requires the checksum.
 static CHECKED: WireOptions = WireOptions {
     local_port: 5000,
     disable_checksum_verification: false,
     zero_checksum_alternate_error_detection_method: 0,
 };
 
-/// A reader on port 5000 that has another means against errors.
+/// A reader on port 5000 that has an alternate error detection method.
 static ZERO_ACCEPTING: WireOptions = WireOptions {
     local_port: 5000,
     disable_checksum_verification: false,
@@ -225,7 +225,7 @@ static OUTCOMES: [Row; 43] = [
     ]),
 ];
 
-/// For a reader that wants the checksum.
+/// For a reader that requires the checksum.
 #[rattlefmt::skip]
 static COMPARED: [Row; 1] = [
     ("a wrong checksum", REFUSED, &[
@@ -234,7 +234,7 @@ static COMPARED: [Row; 1] = [
     ]),
 ];
 
-/// For a reader that has another means against errors.
+/// For a reader that has an alternate error detection method.
 #[rattlefmt::skip]
 static ZERO_ACCEPTED: [Row; 2] = [
     ("a wrong checksum", REFUSED, &[

@@ -17,7 +17,7 @@ pub record ActMoves {R : Type 0} (act : ActContent) (answer : Reply) (old new : 
   pub other_stays : of_other (side_of_act act) new ≡ of_other (side_of_act act) old
   pub reply : IsReply (of_side (side_of_act act) old).socket.view.endpoint (of_other (side_of_act act) old).packets act answer
 
--- An act was worked at its side; or it failed there. The other is as it was.
+-- An act was handled at its side; or it failed there. The other is unchanged.
 abbrev pub MovesSide : {R : Type 0} → ActContent → Both (SideShown R) → Result Reply SocketFault → Both (SideShown R) → Type 0
 MovesSide act old (Ok reply) new = ActMoves act reply old new
 MovesSide act old (Err fault) new =
@@ -47,22 +47,22 @@ pub record WorldExtends {R : Type 0} (old new : WorldView R) : Type 0 where
   pub sides : BothExtend old.sides new.sides
   pub acts : Extends old.acts new.acts
 
--- A growth was refused in an act. What its own side shows grew by a front part of what the act's turns bring, if it
--- grew; the other has its socket as it was, and at most its association once more.
+-- An allocation failed in an act. What its own side shows grew at most by the first part of what the act's turns bring. The
+-- other's socket is unchanged, and at most its association was noted once more.
 pub record ActStops {R : Type 0} (act : ActContent) (old new : Both (SideShown R)) : Type 0 where
   pub mover : Stops (TurnsOfAct (of_side (side_of_act act) old).socket.view.endpoint (of_other (side_of_act act) old).packets act)
       (of_side (side_of_act act) old) (of_side (side_of_act act) new)
   pub other : ShowsFront [] (of_other (side_of_act act) old) (of_other (side_of_act act) new)
   pub other_socket : (of_other (side_of_act act) new).socket ≡ (of_other (side_of_act act) old).socket
 
--- An act was applied; or a growth was refused in it, and it isn't among the acts; or the socket at its side had failed, and
+-- An act was applied. Or an allocation failed in it, and it isn't among the acts. Or the socket at its side had failed, and
 -- nothing has changed.
 abbrev pub WorksAct : {R : Type 0} → ActContent → WorldView R → Result Reply SocketFault → WorldView R → Type 0
 WorksAct act old (Ok reply) new = Applied act reply old new
 WorksAct act old (Err OutOfMemory) new = ActStops act old.sides new.sides × (new.acts ≡ old.acts)
 WorksAct act old (Err Failed) new = ((of_side (side_of_act act) old.sides).socket.failed ≡ true) × (new ≡ old)
 
--- A growth was refused in an act, and the world has failed. The act isn't among its acts.
+-- An allocation failed in an act, and the world has failed. The act isn't among its acts.
 pub record RanOut {R : Type 0} (act : ActContent) (old new : WorldView R) : Type 0 where
   pub runs : old.failed ≡ false
   pub fails : new.failed ≡ true
@@ -89,8 +89,8 @@ pub record Ran {R : Type 0} (steps : List StepContent) (old new : WorldView R) :
   pub options : options_of new ≡ options_of old
   pub is_run : IsRun (options_of old) new
 
--- A growth was refused at one of these steps: those before it were applied, one after another, and what is promised of
--- steps that were applied holds of them; the world has failed at this one, and those behind it weren't tried.
+-- An allocation failed at one of these steps: those before it were applied, one after another. What is promised of applied steps
+-- holds of them. The world has failed at this one, and those after it weren't tried.
 pub record RanOutAmong {R : Type 0} (steps : List StepContent) (old new : WorldView R) : Type 0 where
   pub done : List StepContent
   pub refused : StepContent

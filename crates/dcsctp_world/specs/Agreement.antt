@@ -18,13 +18,12 @@ use Rattle.dcsctp_machine_refinement.specs.OneSocket.{EndsByAnswer, TellsEnd}
 use Rattle.dcsctp_world.specs.Shown.{SideShown, WorldView}
 use Rattle.dcsctp_world.specs.Run.{IsRun}
 
--- All that the world shows is what a run shows. Where no side drew a verification tag twice, and no act came from outside
--- up to there, each OnConnected of the run, when it is told, finds that the other side holds, or held, the crossed
--- association, and each own request that was performed, that the other performed it. Where the sockets fit each other, the
--- first five acts of a handshake connect them, whatever comes later. Whatever bytes came from outside: what each side notes of
--- connections and of the numbers of requests stands in its place, an own request ends by an answer with its number, a turn
--- that ends an association tells it once, and no other turn tells an end, and a socket that awaits an INIT ACK or a COOKIE
--- ACK has T1 running.
+-- All that the world shows is what a run shows. The agreement needs two premises: no side drew a verification tag twice, and no
+-- act came from outside so far. Then, when one side reports OnConnected, its peer has, or had, the matching association. When one
+-- side's request to reset streams was performed, the other performed it. If the sockets fit each other, the first five acts of a
+-- handshake connect them, whatever comes later. The rest holds whatever bytes came from outside. What each side notes of
+-- connections and of the numbers of requests is in its order. A request ends by an answer with its number. A turn that ends an
+-- association tells it once, and no other turn tells an end. A socket that awaits an INIT ACK or a COOKIE ACK has T1 running.
 pub record Agrees {R : Type 0} (options : Both Options) (world : WorldView R) : Type 0 where
   pub is_run : IsRun options world
   pub honest : AreHonest world.acts → AreHonest (acts_of is_run.steps)
@@ -47,7 +46,7 @@ pub record BothConnected {R : Type 0} (options : Both Options) (world : WorldVie
   pub a : ShowsConnected options.a options.b world.sides.a a_pair b_pair
   pub b : ShowsConnected options.b options.a world.sides.b b_pair a_pair
 
--- Where the acts are connect at one side and the four packets of the handshake in turn, sockets that fit each other are
--- connected (RFC 9260, section 5.1).
+-- If the acts are connect at one side and the four packets of the handshake in turn, sockets that fit each other are connected
+-- (RFC 9260, section 5.1).
 abbrev pub HandshakeConnects : {R : Type 0} → Both Options → WorldView R → Type 0
 HandshakeConnects options world = (side : Side) → world.acts ≡ handshake_acts side → AreFitting options → BothConnected options world

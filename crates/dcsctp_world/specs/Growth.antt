@@ -23,7 +23,7 @@ pub record Extends {A : Type 0} (old new : List A) : Type 0 where
   pub added : List A
   pub behind : new ≡ old ++ added
 
--- The new list is the old one with a front part of these behind it.
+-- The new list is the old one with the first part of these after it.
 pub record AddsFront {A : Type 0} (all old new : List A) : Type 0 where
   pub added : List A
   pub rest : List A
@@ -40,26 +40,26 @@ pub record Kept : Type 0 where
 abbrev pub with_events : List (Event (List ℕ)) → Kept → Kept
 with_events added kept = record { events = kept.events ++ added; packets = kept.packets ++ packets_in added }
 
--- Front parts of these events and of their packets were kept. A packet is kept before its event, so it may also stand
--- here where its event found no room.
+-- The first of these events, and of their packets, were kept. A packet is kept before its event, so it may be there without its
+-- event if an allocation failed.
 pub record KeptFront (all : List (Event (List ℕ))) (old new : Kept) : Type 0 where
   pub events : AddsFront all old.events new.events
   pub packets : AddsFront (packets_in all) old.packets new.packets
 
--- These events were kept, with their packets; or a growth was refused, and they were kept in part.
+-- These events were kept, with their packets; or an allocation failed, and they were kept in part.
 abbrev pub Keeps : {E : Type 0} → List (Event (List ℕ)) → Kept → Result (Unit {0}) E → Kept → Type 0
 Keeps added old (Ok done) new = new ≡ with_events added old
 Keeps added old (Err error) new = KeptFront added old new
 
--- All events that wait in a socket were taken and kept, and nothing else of it changed; or a growth was refused, and they
--- were kept in part.
+-- All events that wait in a socket were taken and kept, and nothing else of it changed. Or an allocation failed, and they were
+-- kept in part.
 abbrev pub TakesAll : {E : Type 0} → UserView → Kept → Result (Unit {0}) E → UserView → Kept → Type 0
 TakesAll old kept_before (Ok done) new kept_now = (new ≡ record old { events = [] }) × (kept_now ≡ with_events old.events kept_before)
 TakesAll old kept_before (Err error) new kept_now = KeptFront old.events kept_before kept_now
 
 -- ---- a side
 
--- What waits in the socket is taken and kept, with the pairs of the last call; the endpoint stays.
+-- What waits in the socket is taken and kept, with the pairs of the last call; the endpoint is unchanged.
 pub record Collects {R : Type 0} (old new : SideShown R) : Type 0 where
   pub endpoint : new.socket.view.endpoint ≡ old.socket.view.endpoint
   pub failed : new.socket.failed ≡ old.socket.failed
@@ -72,7 +72,7 @@ pub record Collects {R : Type 0} (old new : SideShown R) : Type 0 where
   pub last_words : new.socket.view.words ≡ old.socket.view.words
   pub last_pairs : new.socket.view.pairs ≡ old.socket.view.pairs
 
--- Front parts of what waits in the socket and of the pairs of the last call were kept.
+-- The first of what waits in the socket, and of the pairs of the last call, were kept.
 pub record CollectsFront {R : Type 0} (old new : SideShown R) : Type 0 where
   pub options : new.options ≡ old.options
   pub events : AddsFront old.socket.view.events old.events new.events
@@ -80,7 +80,7 @@ pub record CollectsFront {R : Type 0} (old new : SideShown R) : Type 0 where
   pub pairs : AddsFront old.socket.view.pairs old.pairs new.pairs
   pub associations : new.associations ≡ old.associations
 
--- What waited was collected; or a growth was refused, and it was collected in part.
+-- What waited was collected; or an allocation failed, and it was collected in part.
 abbrev pub CollectsAll : {R E : Type 0} → SideShown R → Result (Unit {0}) E → SideShown R → Type 0
 CollectsAll old (Ok done) new = Collects old new
 CollectsAll old (Err error) new = CollectsFront old new
@@ -98,8 +98,8 @@ WasCalled (SentMany answer) = Unit {0}
 WasCalled (Reset answer) = Unit {0}
 WasCalled (Taken message) = Unit {0}
 
--- Turns of this kind move the socket, and each list grows by what they show; no event waits. Where a call was made,
--- its words and pairs are theirs; where none was, nothing changed.
+-- Turns of this kind move the socket, and each list grows by what they show; no event waits. If a call was made, its words and
+-- pairs are theirs; if none was, nothing changed.
 pub record Grows {R : Type 0} (Turns : List Turned → Type 0) (answer : Reply) (old new : SideShown R) : Type 0 where
   pub turns : List Turned
   pub are : Turns turns
@@ -115,8 +115,8 @@ pub record Grows {R : Type 0} (Turns : List Turned → Type 0) (answer : Reply) 
   pub last_pairs : WasCalled answer → new.socket.view.pairs ≡ pairs_of turns
   pub idle : answer ≡ NoCall → new ≡ old
 
--- What a side shows grew by a front part of what these turns bring, and of its association after them. The options that its
--- socket was made with stay.
+-- What a side shows grew by the first part of what these turns bring, and of its association after them. The options that its
+-- socket was made with are unchanged.
 pub record ShowsFront {R : Type 0} (turns : List Turned) (old new : SideShown R) : Type 0 where
   pub options : new.options ≡ old.options
   pub events : AddsFront (told old turns) old.events new.events
@@ -124,14 +124,14 @@ pub record ShowsFront {R : Type 0} (turns : List Turned) (old new : SideShown R)
   pub pairs : AddsFront (pairs_of turns) old.pairs new.pairs
   pub associations : AddsFront (association_of (after_all old.socket.view.endpoint turns).core ∷ []) old.associations new.associations
 
--- A growth was refused while what such turns brought was kept, or before.
+-- An allocation failed while what such turns brought was kept, or before.
 pub record Stops {R : Type 0} (Turns : List Turned → Type 0) (old new : SideShown R) : Type 0 where
   pub turns : List Turned
   pub are : (turns ≡ []) ⊎ Turns turns
   pub shows : ShowsFront turns old new
 
--- Turns failed at a side: a growth was refused, in its socket or in what it shows; or the socket had failed, and nothing
--- has changed.
+-- Turns failed at a side: an allocation failed, in its socket or in what it shows; or the socket had failed, and nothing has
+-- changed.
 abbrev pub Fails : {R : Type 0} → (List Turned → Type 0) → SideShown R → SocketFault → SideShown R → Type 0
 Fails Turns old OutOfMemory new = (old.socket.failed ≡ false) × Stops Turns old new
 Fails Turns old Failed new = (old.socket.failed ≡ true) × (new ≡ old)
@@ -144,13 +144,13 @@ pub record CallMade (Turns : List Turned → Type 0) (IsIt : Reply → Type 0) (
   pub are : Turns turns
   pub follows : Follows old turns new
 
--- It was made; or a growth was refused in it; or the socket had failed, and nothing has changed.
+-- It was made; or an allocation failed in it; or the socket had failed, and nothing has changed.
 abbrev pub Called : (List Turned → Type 0) → (Reply → Type 0) → UserView → Result Reply SocketFault → UserView → Type 0
 Called Turns IsIt old (Ok answer) new = CallMade Turns IsIt old answer new
 Called Turns IsIt old (Err OutOfMemory) new = old.failed ≡ false
 Called Turns IsIt old (Err Failed) new = old.failed ≡ true
 
--- An act was worked at its side, with such a reply; or it failed.
+-- An act was handled at its side, with such a reply; or it failed.
 abbrev pub Works : {R : Type 0} → (List Turned → Type 0) → (Reply → Type 0) → SideShown R → Result Reply SocketFault → SideShown R → Type 0
 Works Turns IsIt old (Ok answer) new = IsIt answer × Grows Turns answer old new
 Works Turns IsIt old (Err fault) new = Fails Turns old fault new
@@ -166,34 +166,34 @@ pub record SideExtends {R : Type 0} (old new : SideShown R) : Type 0 where
 abbrev pub with_association : {R : Type 0} → SideShown R → SideShown R
 with_association side = record side { associations = side.associations ++ association_of side.socket.view.endpoint.core ∷ [] }
 
--- The association was noted; or a growth was refused, and nothing has changed.
+-- The association was noted; or an allocation failed, and nothing has changed.
 abbrev pub Notes : {R E : Type 0} → SideShown R → Result (Unit {0}) E → SideShown R → Type 0
 Notes old (Ok done) new = new ≡ with_association old
 Notes old (Err error) new = new ≡ old
 
 -- ---- replies
 
--- It is what is answered where these bytes are to be handed in.
+-- It is what is answered if these bytes are to be handed in.
 abbrev pub IsDeliveryReply : Option (List ℕ) → Reply → Type 0
 IsDeliveryReply None reply = reply ≡ NoCall
 IsDeliveryReply (Some bytes) reply = reply ≡ Done
 
--- It is what `send` answers where the message is refused so.
+-- It is what `send` answers if the message is refused so.
 abbrev pub IsSent : Option MessageRefusal → Reply → Type 0
 IsSent refusal (Sent answer) = refusal_in answer ≡ refusal
 IsSent refusal reply = ⊥
 
--- It is what `send_many` answers where these are refused.
+-- It is what `send_many` answers if these are refused.
 abbrev pub IsSentMany : List RefusedMessage → Reply → Type 0
 IsSentMany refused (SentMany answer) = IsBatchAnswer refused answer
 IsSentMany refused reply = ⊥
 
--- It is what `reset_streams` answers where it is refused so.
+-- It is what `reset_streams` answers if it is refused so.
 abbrev pub IsReset : Option ResetRefusal → Reply → Type 0
 IsReset refusal (Reset answer) = reset_refusal_in answer ≡ refusal
 IsReset refusal reply = ⊥
 
--- It is what `get_next_message` answers where these are ready.
+-- It is what `get_next_message` answers if these are ready.
 abbrev pub IsTaken : List MessageContent → Reply → Type 0
 IsTaken ready (Taken message) = IsFirst ready message
 IsTaken ready reply = ⊥

@@ -8,8 +8,8 @@ use Rattle.dcsctp_machine.specs.Sockets.{Both}
 use Rattle.dcsctp_socket.specs.SocketView.{SocketView, fresh_socket}
 use Rattle.dcsctp_machine.specs.Schedule.{ActContent}
 
--- A socket, and all that it ever showed, oldest first: its events, the packets among them, the pairs that it
--- drew, and its association at the start and after each act of either side.
+-- A socket, and all that it ever showed, oldest first: its events, the packets among them, and the pairs that it drew. Also its
+-- association at the start and after each act of either side.
 pub record SideShown (R : Type 0) : Type 0 where
   pub socket : SocketView R
   -- those that the socket was made with
@@ -19,7 +19,7 @@ pub record SideShown (R : Type 0) : Type 0 where
   pub pairs : List Pair
   pub associations : List (Option Association)
 
--- two of these, what happened to them, oldest first, and whether a growth was refused
+-- two of these, what happened to them, oldest first, and whether an allocation failed
 pub record WorldView (R : Type 0) : Type 0 where
   pub sides : Both (SideShown R)
   pub acts : List ActContent

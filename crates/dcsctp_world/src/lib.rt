@@ -1,9 +1,9 @@
 //! Two sockets in one place: what happens to them, and what they show.
 //!
-//! A `World` applies steps one after another. A step is a call of one socket's user, or the delivery of
-//! a packet that the other socket emitted: any of them, at any moment, as often as the schedule says. So
-//! a list of steps says what a network between two sockets may do: lose, repeat, delay and reorder. What
-//! no such network does, as handing in bytes that no socket emitted, comes by an act from outside.
+//! A `World` applies steps one after another. A step is a call of one socket's user, or the delivery of a
+//! packet that the other socket emitted. Any packet may be delivered, at any moment, as often as the schedule
+//! says. So a list of steps says what a network between two sockets may do: lose, repeat, delay and reorder.
+//! What no such network does, such as handing in bytes that no socket emitted, is an act from outside.
 #![tactic(auto)]
 
 mod act;

@@ -46,8 +46,8 @@ pub struct WatchedSocket<R> {
     pub associations: Vec<Option<Association>>,
 }
 
-// Keeps an event, and its packet where it is one. The one error is want of memory; the packet alone may
-// have been kept then.
+// Keeps an event, and its packet if it is one. `Err`: an allocation failed; the packet alone may have been
+// kept.
 fn keep_event(
     events: &mut Vec<SocketEvent>,
     packets: &mut Vec<Vec<u8>>,
@@ -63,8 +63,8 @@ fn keep_event(
     Ok(())
 }
 
-// Takes all events that wait in the socket, and keeps them. The one error is want of memory; a front
-// part of them has been kept then.
+// Takes all events that wait in the socket, and keeps them. `Err`: an allocation failed; the first of them
+// have been kept.
 fn take_events<R: Rng + Drop>(
     socket: &mut Socket<R>,
     events: &mut Vec<SocketEvent>,
@@ -125,8 +125,8 @@ fn make_call<R: Rng + Drop>(socket: &mut Socket<R>, call: &Call) -> Result<Reply
     }
 }
 
-// The user sends a copy of the message. The errors are those of the call, and `SocketFault::OutOfMemory` where
-// the copy finds no room.
+// The user sends a copy of the message. The errors are those of the call, and `SocketFault::OutOfMemory` if
+// the copy can't be allocated.
 fn send<R: Rng + Drop>(
     socket: &mut Socket<R>,
     message: &Message,
@@ -144,7 +144,7 @@ fn send<R: Rng + Drop>(
     Ok(Reply::Sent(answer))
 }
 
-// The same of several messages.
+// The same for several messages.
 fn send_many<R: Rng + Drop>(
     socket: &mut Socket<R>,
     messages: &Vec<Message>,
@@ -178,7 +178,7 @@ fn reset_streams<R: Rng + Drop>(
     Ok(Reply::Reset(answer))
 }
 
-// The user takes a message. The one error is that the socket had failed.
+// The user takes a message. `Err`: the socket had failed.
 fn take_message<R: Rng + Drop>(socket: &mut Socket<R>) -> Result<Reply, SocketFault>
     ensures call { Called (UserTurns socket.old.view.endpoint take_call)
         (IsCallReply socket.old.view.endpoint take_call)
@@ -203,7 +203,7 @@ fn packet_numbered(packets: &[Vec<u8>], number: usize) -> Option<&Vec<u8>>
 }
 
 impl<R: Rng + Drop> WatchedSocket<R> {
-    /// A socket that was just made. The one error is `SocketFault::OutOfMemory`.
+    /// A socket that was just made.
     pub fn new(
         alloc: Global,
         name: &str,
@@ -227,8 +227,8 @@ impl<R: Rng + Drop> WatchedSocket<R> {
         })
     }
 
-    // Keeps what the last call brought: its events and the pairs that it drew. The one error is want of
-    // memory; a front part of them has been kept then.
+    // Keeps what the last call brought: its events and the pairs that it drew. `Err`: an allocation failed;
+    // the first of them have been kept.
     fn keep_all(&mut self) -> Result<(), AllocError>
         ensures { CollectsAll (shown self.old) result (shown self.new) }
     {
@@ -237,8 +237,8 @@ impl<R: Rng + Drop> WatchedSocket<R> {
         Ok(())
     }
 
-    // The user calls. The errors are those of the call, and `SocketFault::OutOfMemory` where what it
-    // brought finds no room.
+    // The user calls. The errors are those of the call, and `SocketFault::OutOfMemory` if what it brought
+    // can't be kept.
     fn call(&mut self, call: &Call) -> Result<Reply, SocketFault>
         requires { self.old.socket.view.events ≡ [] }
         ensures { Works (UserTurns self.old.socket.view.endpoint (call_content call.now))
@@ -261,7 +261,7 @@ impl<R: Rng + Drop> WatchedSocket<R> {
         Ok(Reply::Done)
     }
 
-    // Hands over the packet of this number, where there is one. The errors are as those of `call`.
+    // Hands over the packet of this number, if there is one. The errors are as those of `call`.
     fn deliver(&mut self, packets: &[Vec<u8>], number: usize) -> Result<Reply, SocketFault>
         requires { self.old.socket.view.events ≡ [] }
         ensures { Works (DeliveryTurns self.old.socket.view.endpoint (numbered number
@@ -274,9 +274,9 @@ impl<R: Rng + Drop> WatchedSocket<R> {
         }
     }
 
-    /// Works an act at this side, where the other has emitted these packets. `SocketFault::OutOfMemory`
-    /// says that a growth was refused, in the socket or here; a front part of what the act brings may
-    /// have been kept then. `SocketFault::Failed` says that the socket had failed; nothing changes then.
+    /// Handles an act at this side, where the other has emitted these packets. `SocketFault::OutOfMemory`: an
+    /// allocation failed, in the socket or here; the first part of what the act brings may have been kept.
+    /// `SocketFault::Failed`: the socket had failed, and nothing has changed.
     pub fn work(&mut self, packets: &[Vec<u8>], act: &Act) -> Result<Reply, SocketFault>
         requires { self.old.socket.view.events ≡ [] }
         ensures { Works (TurnsOfAct self.old.socket.view.endpoint (packet_bytes packets.now) (act_content act.now))
@@ -289,7 +289,7 @@ impl<R: Rng + Drop> WatchedSocket<R> {
         }
     }
 
-    /// Keeps the association as it is now. The one error is want of memory; nothing was kept then.
+    /// Keeps the association as it is now. `Err`: an allocation failed, and nothing was kept.
     pub fn keep_association(&mut self) -> Result<(), AllocError>
         ensures { Notes (shown self.old) result (shown self.new) }
     {

@@ -12,10 +12,9 @@ use std::marker::Model;
 /// Two sockets, with all that happened to them and all that they ever showed.
 ///
 /// Each takes the other's packets only by a step that delivers one, and other bytes only by an act from
-/// outside. Where memory runs out in a call the
-/// call answers `SocketFault::OutOfMemory`; the world has failed from here on, and each later call that
-/// applies something answers `SocketFault::Failed` and changes nothing. What the world shows begins
-/// then with what it showed before the call that failed.
+/// outside. If an allocation fails in a call, the call returns `SocketFault::OutOfMemory`, and the world has
+/// failed from here on. Each later call that applies something returns `SocketFault::Failed` and changes
+/// nothing. What the world shows then starts with what it showed before the call that failed.
 pub struct World<R> {
     a: WatchedSocket<R>,
     b: WatchedSocket<R>,
@@ -62,7 +61,7 @@ ghost use Rattle.dcsctp_world.specs.Agreement.{Agrees, HandshakeConnects};
 ghost use Rattle.dcsctp_world.specs.Acts.{MovesSide, WorksAct, Applies, Runs};
 ghost use Rattle.dcsctp_world.specs.Parts.{packet_bytes, shown, both, world_of};
 
-// Works an act at its side. The errors are those of `WatchedSocket::work`; the other side stays.
+// Handles an act at its side. The errors are those of `WatchedSocket::work`; the other side is unchanged.
 fn move_side<R: Rng + Drop>(
     a: &mut WatchedSocket<R>,
     b: &mut WatchedSocket<R>,
@@ -84,8 +83,8 @@ fn move_side<R: Rng + Drop>(
     }
 }
 
-// Works an act, and keeps it and what comes of it. The errors are those of `move_side`, and want of
-// memory for an association or the act, which isn't kept then.
+// Handles an act, and keeps it and its outcome. The errors are those of `move_side`, and
+// `SocketFault::OutOfMemory` if an association or the act can't be kept.
 fn work<R: Rng + Drop>(
     a: &mut WatchedSocket<R>,
     b: &mut WatchedSocket<R>,
@@ -107,8 +106,7 @@ fn work<R: Rng + Drop>(
 impl<R: Rng + Drop> World<R> {
     /// Makes two closed sockets with these options; random words come from a generator for each.
     ///
-    /// The options have to be valid, which `Options::is_valid` tells. The one error is
-    /// `SocketFault::OutOfMemory`.
+    /// The options have to be valid, which `Options::is_valid` tells.
     pub fn new(
         alloc: Global,
         a: &Options,
@@ -156,13 +154,13 @@ impl<R: Rng + Drop> World<R> {
         }
     }
 
-    /// Applies a step: the call is made, or the packet is handed over; all events are taken from the
+    /// Applies a step: the call is made, or the packet is handed over. Then all events are taken from the
     /// socket, and what they show is kept.
     ///
-    /// It answers `Reply::NoCall` where the number of a delivery names no packet, which changes no
-    /// socket, and else `Reply::Done`. Over all that was applied so far the two sockets agree, as `run`
-    /// says. The errors are `SocketFault::OutOfMemory`, where a growth of a socket or of the world was
-    /// refused, and `SocketFault::Failed`, where one was before.
+    /// Returns `Reply::NoCall` if the number of a delivery names no packet, which changes no socket, and else
+    /// `Reply::Done`. Over all that was applied so far the two sockets agree, as `run` says. The errors are
+    /// `SocketFault::OutOfMemory`, if an allocation failed for a socket or the world, and
+    /// `SocketFault::Failed`, if one failed before.
     pub fn apply(&mut self, step: &Step) -> Result<Reply, SocketFault>
         ensures call { Applies (step_act (step_content step.now)) self.old result self.new }
         ensures agreement { OnOk result (Agrees (options_of self.old) self.new) }
@@ -182,11 +180,11 @@ impl<R: Rng + Drop> World<R> {
         }
     }
 
-    /// Applies an act from outside: the bytes are handed to the socket, whatever they say; all events are
-    /// taken from it, and what they show is kept. It answers `Reply::Done`.
+    /// Applies an act from outside: the bytes are handed to the socket, whatever they say. Then all events
+    /// are taken from it, and what they show is kept. Returns `Reply::Done`.
     ///
-    /// From here on `is_honest` is false, and the agreement of the two sockets is promised no more than
-    /// it was up to here. What `run` says of one socket holds on. The errors are those of `apply`.
+    /// From here on `is_honest` is false, and the agreement of the two sockets is promised only up to here.
+    /// What `run` says of one socket still holds. The errors are those of `apply`.
     pub fn outside(&mut self, outside: Outside) -> Result<Reply, SocketFault>
         ensures call { Applies (outside_act (outside_content outside)) self.old result self.new }
         ensures agreement { OnOk result (Agrees (options_of self.old) self.new) }
@@ -196,18 +194,18 @@ impl<R: Rng + Drop> World<R> {
         self.apply_act(Act::Outside(outside))
     }
 
-    /// Applies steps one after another, up to the first that fails. The errors are those of `apply`;
-    /// where a growth was refused, what follows holds of the steps before it.
+    /// Applies steps one after another, up to the first that fails. The errors are those of `apply`; if an
+    /// allocation failed, what is promised holds of the steps before it.
     ///
-    /// Over every schedule that loses, repeats, delays and reorders packets the two sockets agree, as
-    /// long as no act comes from outside, which `is_honest` tells: where no side drew a verification
-    /// tag twice, which `pairs` shows, each OnConnected finds that the other side holds, or held, the
-    /// crossed association with what the two have in common. Whatever bytes come from outside, each
-    /// holding connects at most once, the numbers of requests to reset streams go up by one, and each
-    /// request that was accepted is performed at most once (RFC 6525, section 4.1); an own request ends
+    /// Over every schedule that loses, repeats, delays and reorders packets the two sockets agree. That has
+    /// two premises: no act comes from outside, which `is_honest` tells, and no side draws a verification tag
+    /// twice, which `pairs` shows. When one side reports OnConnected, its peer has, or had, the matching
+    /// association, with what the two have in common. The rest holds whatever bytes come from outside. In one
+    /// lifetime an association connects at most once, and the numbers of requests to reset streams go up by
+    /// one. Each request that was accepted is performed at most once (RFC 6525, section 4.1). A request ends
     /// by an answer with its number (section 5.2.7). The four packets of a handshake, delivered in turn,
-    /// connect two fresh sockets that fit each other (RFC 9260, section 5.1). And a socket that awaits an
-    /// INIT ACK or a COOKIE ACK has T1 running, so it will send again.
+    /// connect two fresh sockets that fit each other (RFC 9260, section 5.1). A socket that awaits an INIT
+    /// ACK or a COOKIE ACK has T1 running, so it will send again.
     pub fn run(&mut self, steps: &[Step]) -> Result<(), SocketFault>
         ensures call { Runs (map step_content steps.now) self.old result self.new }
         ensures agreement { OnOk result (Agrees (options_of self.old) self.new) }
@@ -234,58 +232,57 @@ impl<R: Rng + Drop> World<R> {
         }
     }
 
-    /// All that was applied, in order. It takes no memory.
+    /// All that was applied, in order. Allocates nothing.
     pub fn acts(&self) -> &[Act]
         ensures { map act_content result.now ≡ self.now.acts }
     {
         &self.acts
     }
 
-    /// Is each act so far a step, and none from outside? It takes no memory.
+    /// Is each act so far a step, and none from outside? Allocates nothing.
     pub fn is_honest(&self) -> bool
         ensures { IsTrue result ↔ AreHonest self.now.acts }
     {
         are_honest(&self.acts)
     }
 
-    /// The bytes of every packet that this side ever emitted, in order. It takes no memory.
+    /// The bytes of every packet that this side ever emitted, in order. Allocates nothing.
     pub fn packets(&self, side: Side) -> &[Vec<u8>]
         ensures { packet_bytes result.now ≡ (of_side side self.now.sides).packets }
     {
         &self.watched(side).packets
     }
 
-    /// All events of this side, in order. It takes no memory.
+    /// All events of this side, in order. Allocates nothing.
     pub fn events(&self, side: Side) -> &[SocketEvent]
         ensures { map event_content result.now ≡ (of_side side self.now.sides).events }
     {
         &self.watched(side).events
     }
 
-    /// Every pair of a tag and a first TSN that this side drew, in order: own ones, and those of
-    /// answers to an INIT (RFC 9260, section 5.1). It takes no memory.
+    /// The pairs of a tag and a first TSN that this side drew, in order: its own, and those of answers to an
+    /// INIT (RFC 9260, section 5.1). Allocates nothing.
     pub fn pairs(&self, side: Side) -> &[Pair]
         ensures { result.now ≡ (of_side side self.now.sides).pairs }
     {
         &self.watched(side).pairs
     }
 
-    /// What this side's association was at the start and after each act of either side. It takes no
-    /// memory.
+    /// What this side's association was at the start and after each act of either side. Allocates nothing.
     pub fn associations(&self, side: Side) -> &[Option<Association>]
         ensures { result.now ≡ (of_side side self.now.sides).associations }
     {
         &self.watched(side).associations
     }
 
-    /// This side's socket. It takes no memory.
+    /// This side's socket. Allocates nothing.
     pub fn socket(&self, side: Side) -> &Socket<R>
         ensures { result.now ≡ (of_side side self.now.sides).socket }
     {
         &self.watched(side).socket
     }
 
-    /// Was a growth refused in an earlier call? It takes no memory.
+    /// Did an allocation fail in an earlier call? Allocates nothing.
     pub fn has_failed(&self) -> bool
         ensures { result ≡ self.now.failed }
     {

@@ -1,5 +1,5 @@
-//! What the tests of this crate compare by: each ends its test where a comparison fails, and names the
-//! row. A library may end no process, so each crate of tests has these for itself.
+//! What the tests of this crate compare by: each ends its test if a comparison fails, and names the row. A
+//! library may end no process, so each crate of tests has these for itself.
 
 use std::fmt::Debug;
 use std::process::Abort;

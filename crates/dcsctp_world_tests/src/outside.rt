@@ -8,7 +8,7 @@ use dcsctp_world::{Act, Call, Outside, Reply, Side, Step, World};
 use std::alloc::Global;
 use std::process::Abort;
 
-// These bytes are handed to this side from outside. That is never refused.
+// These bytes are handed to this side from outside. That is always accepted.
 fn comes_in(rt: &impl Abort, alloc: Global, world: &mut World<TwoWords>, side: Side, bytes: &[u8]) {
     let mut copy = Vec::new(alloc);
     copy.extend_from_slice(bytes).expect(rt, "no copy");

@@ -25,8 +25,8 @@ const HANDSHAKE_ACTS: [Act; 5] = [
     Act::Step(Step::Deliver(Side::A, 2)),
 ];
 
-// Two sockets, of which A draws tag 7 and first TSN 100, and B tag 9 and first TSN 200; each offers to
-// take packets without a checksum where the method isn't 0.
+// Two sockets, of which A draws tag 7 and first TSN 100, and B tag 9 and first TSN 200. If the method isn't
+// 0, each offers to accept packets without a checksum.
 pub fn new_world(rt: &impl Abort, alloc: Global, method: u32) -> World<TwoWords> {
     let mut options = Options::default();
     options.zero_checksum_alternate_error_detection_method.0 = method;
@@ -42,7 +42,7 @@ pub fn new_world(rt: &impl Abort, alloc: Global, method: u32) -> World<TwoWords>
     World::new(alloc, &options, &options, rng_a, rng_b).expect(rt, "no world")
 }
 
-// Such a world, behind the handshake.
+// Such a world, after the handshake.
 fn world_behind_handshake(rt: &impl Abort, alloc: Global, method: u32) -> World<TwoWords> {
     let mut world = new_world(rt, alloc, method);
     world.run(&HANDSHAKE).expect(rt, "the handshake failed");
@@ -88,7 +88,7 @@ fn sent(rt: &impl Abort, world: &World<TwoWords>, side: Side, first: &[u8], seco
     same(rt, "packet 2", second_kept.as_slice(), second);
 }
 
-// A's events behind the handshake have to come in order, and the packets among them to be kept.
+// A's events after the handshake have to come in order, and the packets among them to be kept.
 fn a_tells_in_order(rt: &impl Abort, world: &World<TwoWords>) {
     let [
         SocketEvent::SendPacket(init),
@@ -212,7 +212,7 @@ fn steps_answer_whether_a_call_was_made(rt: HostRuntime) {
     drop(world);
 }
 
-// Applies a step behind the handshake: both sides have to stay connected.
+// Applies a step after the handshake: both sides have to stay connected.
 fn counts_after(rt: &impl Abort, alloc: Global, name: &str, step: Step, expected: [usize; 3]) {
     let mut world = world_behind_handshake(rt, alloc, 0);
     world.apply(&step).expect(rt, name);
@@ -297,7 +297,7 @@ fn a_side_keeps_what_its_user_sets(rt: HostRuntime) {
     drop(world);
 }
 
-// Is the checksum of this packet of the side written as 0? It stands in bytes 8 to 11.
+// Is the checksum of this packet of the side written as 0? It is in bytes 8 to 11.
 fn has_no_checksum(rt: &impl Abort, world: &World<TwoWords>, side: Side, at: usize) -> bool {
     let packet = world.packets(side).get(at).expect(rt, "no such packet");
     let field = packet.get(8..12).expect(rt, "no whole header");

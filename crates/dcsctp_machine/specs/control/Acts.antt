@@ -25,23 +25,23 @@ pub data Act : Type 0 where
   t1_expires : Bool → Act
   -- the user's shutdown
   shut_down : Act
-  -- a step of it. Here at any time; a socket steps after what may have acknowledged the last data alone.
+  -- a step of it. Here at any time; a socket steps only after what may have acknowledged the last data.
   step_of_shutdown : Act
-  -- T2 expired, or data came while a SHUTDOWN waits for its answer. Here at any time, as often as may be.
+  -- T2 expired, or data came while a SHUTDOWN waits for its answer. Here at any time, any number of times.
   shutdown_repeats : Act
   -- The own end aborts for this reason. Here at any time; a socket does so on the user's close, and later on too many errors.
   abort_with : AbortReason → Act
-  -- The association is handed over to another socket. Here wherever it is Established; a socket wants more (nothing in
-  -- flight, no reset under way).
+  -- The association is handed over to another socket. Here wherever it is Established; a socket requires more (nothing in flight,
+  -- no reset under way).
   hands_over : Act
-  -- a flush, and packets that speak of no association before it: those of timers and of the packet's end. Here of any number
-  -- of packets; a socket sends one at most while its COOKIE ECHO isn't answered.
+  -- a flush, and before it packets that don't concern the association: those of timers and of the packet's end. Here of any
+  -- number of packets; a socket sends one at most while its COOKIE ECHO isn't answered.
   flushes : Act
-  -- The request that is outstanding is sent again. Here at any time, with any last TSN and streams; a socket does it when its
-  -- timer expires, with those that it had.
+  -- The outstanding request is sent again. Here at any time, with any last TSN and streams; a socket does it when its timer
+  -- expires, with those that it had.
   request_again : RequestedReset → Act
 
--- packets that speak of no association, and then a flush
+-- packets that don't concern the association, and then a flush
 abbrev pub sent_by : Held → Choices → Flushed
 sent_by held choices =
     let after : Flushed = flush held.peer.tag held [] choices.filling in
@@ -95,14 +95,14 @@ act_change options core (request_again reset) choices = request_again_change cor
 abbrev pub then_changes : Change → Change → Following → Change
 then_changes first second following = record { core = second.core; effects = first.effects ++ second.effects; following = following }
 
--- A violation counts where a peer is held.
+-- A violation counts if the peer is known.
 abbrev pub violation_change : Core → Choices → Change
 violation_change closed choices = unchanged closed
 violation_change (cookie_wait my) choices = unchanged (cookie_wait my)
 violation_change core choices = abort_call_change core choices.causes choices.fits
 
--- A chunk that speaks of no association: where it breaks the protocol that was negotiated, the association is
--- aborted; else it may acknowledge the last data that a shutdown waits for, be answered, and let data out.
+-- A chunk that doesn't concern the association. If it breaks the negotiated protocol, the association is aborted. Else it may
+-- acknowledge the last data that a shutdown waits for, be answered, and let data be sent.
 abbrev pub plain_change : Core → Bool → Choices → Change
 plain_change core true choices = violation_change core choices
 plain_change core false choices =
@@ -122,8 +122,7 @@ chunk_change options core header shutdown_ack choices = shutdown_ack_change core
 chunk_change options core header (shutdown_complete reflected) choices = shutdown_complete_change core
 chunk_change options core header (plain chunk) choices = plain_change core choices.is_violation choices
 
--- The choices are such that a cookie which is made reads back; where an INIT is answered without one, there is
--- one that would.
+-- The choices are such that a cookie that is made reads back. If an INIT is answered without one, a cookie exists that would.
 abbrev pub MakesCookie : Core → Content → Choices → Type 0
 MakesCookie core (init theirs) choices = IsCookieOf theirs (answering_pair core choices.drawn) choices.cookie
 MakesCookie core content choices = Unit {0}

@@ -1,5 +1,5 @@
--- What a turn of the association takes from the rest of the endpoint. Over every run each of these may be
--- anything, but that a drawn tag is fresh and that a cookie reads back as what its maker put in.
+-- What a turn of the association takes from the rest of the endpoint. In a run each of these may be anything, with two
+-- exceptions. A drawn tag is fresh, and a cookie reads back as what its maker put in.
 use Rattle.std.specs.Prelude.{ℕ, Bool, true, false, Option, None, List, [], map}
 use Rattle.dcsctp_machine.specs.declared.association.Pair.{Pair}
 use Rattle.dcsctp_machine.specs.Cause.{Cause}
@@ -16,17 +16,17 @@ pub record Filling : Type 0 where
   pub is_allowed : Bool
   -- in the first packet, after what its builder holds: SACK, FORWARD-TSN
   pub acknowledgements : List Plain
-  -- the reset that is begun, where a stream is ready for it and the request fits
+  -- the reset that is begun, if a stream is ready for it and the request fits
   pub reset : Option RequestedReset
-  -- the data behind it
+  -- the data after it
   pub data_chunks : List Plain
   -- the packets after the first
   pub further : List (List Plain)
 
 pub record Choices : Type 0 where
-  -- the pair that is drawn, where one is
+  -- the pair that is drawn, if one is
   pub drawn : Pair
-  -- the bytes of the cookie, where one is made
+  -- the bytes of the cookie, if one is made
   pub cookie : List ℕ
   -- the association's tie tag (RFC 9260, section 5.2.2)
   pub tie : ℕ
@@ -36,14 +36,14 @@ pub record Choices : Type 0 where
   pub is_acknowledged : Bool
   -- Has all data come that was sent before a reset was requested?
   pub is_reached : Bool
-  -- Does the chunk break the protocol that was negotiated, and what is said then?
+  -- Does the chunk break the negotiated protocol, and with which text?
   pub is_violation : Bool
   pub causes : List Cause
   -- the cumulative TSN ack of a SHUTDOWN that is sent
   pub tsn : ℕ
-  -- what follows a chunk that speaks of no association
+  -- what follows a chunk that doesn't concern the association
   pub following : Following
-  -- packets that speak of no association, before a flush: HEARTBEAT ACK, ERROR, a fast retransmit
+  -- packets that don't concern the association, before a flush: HEARTBEAT ACK, ERROR, a fast retransmit
   pub plain : List (List Plain)
   pub filling : Filling
 

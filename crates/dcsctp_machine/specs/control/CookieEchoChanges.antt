@@ -17,7 +17,7 @@ use Rattle.dcsctp_machine.specs.control.HandshakeChanges.{new_held}
 -- ---- which case
 
 pub data Resolution : Type 0 where
-  -- No peer is held: the association is made.
+  -- The peer isn't known: the association is made.
   establish_new : Resolution
   -- The peer began anew: both tags are other ones, and the tie tag is the association's.
   restart : Resolution
@@ -25,12 +25,12 @@ pub data Resolution : Type 0 where
   simultaneous_init : Resolution
   -- The cookie is of an attempt that is over.
   discard : Resolution
-  -- The association is the one that is held.
+  -- The association is the existing one.
   maintain_existing : Resolution
   invalid_tag : Resolution
 
--- The table of RFC 9260, section 5.2.4, where a peer is held, by four answers: is the header tag the own tag,
--- is the cookie's peer tag the peer's, is its tie tag the association's, and is it 0?
+-- The table of RFC 9260, section 5.2.4, if the peer is known, by four answers. Is the header tag its own tag, and is the cookie's
+-- peer tag the peer's? Is its tie tag the association's, and is it 0?
 abbrev pub case_by : Bool → Bool → Bool → Bool → Resolution
 case_by false false true zero = restart
 case_by false false false zero = invalid_tag
@@ -39,7 +39,7 @@ case_by false true tie true = discard
 case_by false true tie false = invalid_tag
 case_by true true tie zero = maintain_existing
 
--- Where no peer is held, the header bears the tag that the cookie's maker had chosen.
+-- If the peer isn't known, the header carries the tag that the cookie's maker had chosen.
 abbrev pub case_without_peer : Bool → Resolution
 case_without_peer true = establish_new
 case_without_peer false = invalid_tag
@@ -86,7 +86,7 @@ abbrev pub restart_change : Options → Core → Cookie → Choices → Change
 restart_change options (open_in phase my held) cookie choices = restart_change_where_open options phase my held cookie choices
 restart_change options core cookie choices = new_association_change options cookie choices
 
--- Where its COOKIE ACK is awaited, the association is established; in every phase COOKIE ACK goes out.
+-- While its COOKIE ACK is awaited, the association is established; in every phase COOKIE ACK is sent.
 abbrev pub maintain_change : Core → Cookie → Choices → Change
 maintain_change (cookie_echoed my held echoed) cookie choices =
     let after : Flushed = flush cookie.addressee.tag held (cookie_ack ∷ []) choices.filling in

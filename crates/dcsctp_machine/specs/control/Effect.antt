@@ -18,17 +18,17 @@ pub data Effect : Type 0 where
   draws : Pair → Effect
   -- A packet was emitted.
   sends : Packet → Effect
-  -- From here on this association is held, in place of the one before.
+  -- From here on this is the association, instead of the one before.
   holds : Link → Effect
   -- OnConnected, of this association
   connects : Link → Effect
   -- OnClosed or OnAborted
   ends : Effect
-  -- An own request to reset streams was begun, by its number.
+  -- Its own request to reset streams was begun, by its number.
   begins : ℕ → Effect
-  -- OnStreamsResetPerformed: the own request of this number has ended, under this own pair.
+  -- OnStreamsResetPerformed: its own request of this number has ended, under this own pair.
   completes : Pair → ℕ → Effect
-  -- OnStreamsResetFailed: the own request of this number has ended.
+  -- OnStreamsResetFailed: its own request of this number has ended.
   fails : ℕ → Effect
   -- The peer's request of this number was accepted: it is the next one.
   accepts : ℕ → Effect
@@ -86,7 +86,7 @@ abbrev pub emitted : ℕ → List Content → List Effect
 emitted tag [] = []
 emitted tag (content ∷ contents) = sends (record { tag = tag; contents = content ∷ contents }) ∷ []
 
--- a packet of one chunk, where it fits
+-- a packet of one chunk, if it fits
 abbrev pub emitted_alone : Bool → ℕ → Content → List Effect
 emitted_alone fits tag content = if fits then emitted tag (content ∷ []) else []
 
@@ -94,7 +94,7 @@ emitted_alone fits tag content = if fits then emitted tag (content ∷ []) else 
 abbrev pub link_of : Pair → Held → Link
 link_of my held = record { my = my; peer = held.peer; capabilities = held.capabilities }
 
--- the association that is held, outside CookieWait
+-- the existing association, outside CookieWait
 abbrev pub link_in : Core → Option Link
 link_in closed = None
 link_in (cookie_wait my) = None

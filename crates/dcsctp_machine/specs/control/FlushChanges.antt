@@ -1,5 +1,5 @@
--- A flush: packets under the peer's tag, the first with what its builder holds. What there is to send, how
--- much of it fits and how many packets go out stands in the choices (RFC 9260, section 6.1).
+-- A flush: packets under the peer's tag, the first with what its builder holds. What is to be sent, how much of it fits and how
+-- many packets are sent is in the choices (RFC 9260, section 6.1).
 use Rattle.std.specs.Prelude.{ℕ, Bool, true, false, ◌+◌, ◌%◌, ◌^◌, Option, None, Some, List, [], ◌∷◌, ◌++◌}
 use Rattle.dcsctp_machine.specs.declared.association.Held.{Held}
 use Rattle.dcsctp_machine.specs.Packet.{Plain, Content, re_config}
@@ -11,8 +11,8 @@ use Rattle.dcsctp_machine.specs.control.Choices.{plain_contents, Filling}
 abbrev pub next_number : ℕ → ℕ
 next_number number = (number + 1) % 2 ^ 32
 
--- RE-CONFIG with one Outgoing SSN Reset Request. It answers no request of the peer, and bears its own number
--- where RFC 6525, section 4.1, has the peer's next number less 1.
+-- RE-CONFIG with one Outgoing SSN Reset Request. It answers no request of the peer, and carries its own number where RFC 6525,
+-- section 4.1, has the peer's next number less 1.
 abbrev pub reset_request : ℕ → RequestedReset → Content
 reset_request number reset = re_config (outgoing_reset_request number number reset ∷ [])
 
@@ -26,7 +26,7 @@ abbrev pub further_packets : ℕ → List (List Plain) → List Effect
 further_packets tag [] = []
 further_packets tag (chunks ∷ packets) = emitted tag (plain_contents chunks) ++ further_packets tag packets
 
--- what the first packet has behind the chunks that its builder held
+-- what the first packet has after the chunks that its builder held
 abbrev pub chunks_behind : ℕ → Filling → Option RequestedReset → List Content
 chunks_behind number filling None = plain_contents filling.acknowledgements ++ plain_contents filling.data_chunks
 chunks_behind number filling (Some reset) = plain_contents filling.acknowledgements ++ reset_request number reset ∷ plain_contents filling.data_chunks
@@ -48,7 +48,7 @@ flushed_with tag held front filling (Some reset) =
       effects = begins held.own_next ∷ flush_packets tag held.own_next front filling (Some reset);
     }
 
--- Where no packet is allowed, nothing goes out, and no reset is begun.
+-- If no packet is allowed, nothing is sent, and no reset is begun.
 abbrev pub flush_where : Bool → ℕ → Held → List Content → Filling → Flushed
 flush_where false tag held front filling = record { held = held; effects = [] }
 flush_where true tag held front filling = flushed_with tag held front filling (reset_to_begin held.own_outstanding filling.reset)

@@ -26,8 +26,8 @@ abbrev pub answering_introduction : Options → Introduction → Pair → Introd
 answering_introduction options theirs mine =
     record { pair = mine; offer = answering_offer theirs.offer (offer_of options); window = options.max_receiver_window_buffer_size }
 
--- What an association begins with: the own next number is the own first TSN, and the peer's last number is
--- that before its first TSN, as if it had been answered 'nothing to do' (RFC 6525, section 4.1).
+-- What an association starts with. Its own next number is its own first TSN. The peer's last number is that before its first TSN,
+-- as if it had been answered 'nothing to do' (RFC 6525, section 4.1).
 abbrev pub new_held : Pair → Pair → Capabilities → Held
 new_held my peer capabilities =
     record {
@@ -41,7 +41,7 @@ new_held my peer capabilities =
 
 -- ---- connect
 
--- INIT goes out under tag 0.
+-- INIT is sent under tag 0.
 abbrev pub sends_init : Options → Pair → Bool → List Effect
 sends_init options mine fits = emitted_alone fits 0 (init (introduction_of options mine))
 
@@ -52,19 +52,19 @@ connect_change options core choices = unchanged core
 
 -- ---- INIT
 
--- the pair in the answer: the own one while the handshake is under way, else one that is drawn
+-- the pair in the answer: its own while the handshake is under way, else one that is drawn
 abbrev pub answering_pair : Core → Pair → Pair
 answering_pair closed drawn = drawn
 answering_pair (cookie_wait my) drawn = my
 answering_pair (cookie_echoed my held cookie) drawn = my
 answering_pair (open_in phase my held) drawn = drawn
 
--- The cookie reads as what its maker has to find again.
+-- The cookie reads back as what its maker put in.
 abbrev pub IsCookieOf : Introduction → Pair → List ℕ → Type 0
 IsCookieOf theirs mine bytes =
     (cookie : Cookie) × (cookie_at bytes ≡ Ok cookie) × (cookie.maker ≡ mine) × (cookie.addressee ≡ theirs.pair) × (cookie.offer ≡ theirs.offer)
 
--- INIT ACK goes out under the initiate tag of the INIT.
+-- INIT ACK is sent under the initiate tag of the INIT.
 abbrev pub sends_init_ack : Options → Introduction → Pair → Choices → List Effect
 sends_init_ack options theirs mine choices =
     emitted_alone choices.fits theirs.pair.tag (init_ack (answering_introduction options theirs mine) (Some choices.cookie))
@@ -79,7 +79,7 @@ init_change_where_open options core theirs shutdown_ack_sent held choices =
     record { core = core; effects = emitted held.peer.tag (shutdown_ack ∷ []); following = next_chunk }
 init_change_where_open options core theirs phase held choices = drawn_answer_change options core theirs choices
 
--- The association stays as it is in every phase.
+-- The association is unchanged in every phase.
 abbrev pub init_change : Options → Core → Introduction → Choices → Change
 init_change options closed theirs choices = drawn_answer_change options closed theirs choices
 init_change options (cookie_wait my) theirs choices =
@@ -90,7 +90,7 @@ init_change options (open_in phase my held) theirs choices = init_change_where_o
 
 -- ---- INIT ACK
 
--- COOKIE ECHO goes out under the peer's tag; where it doesn't fit, nothing is sent.
+-- COOKIE ECHO is sent under the peer's tag; if it doesn't fit, nothing is sent.
 abbrev pub echo_change : Pair → Held → List ℕ → Bool → Filling → Change
 echo_change my held cookie false filling = record { core = cookie_echoed my held cookie; effects = []; following = next_chunk }
 echo_change my held cookie true filling =
@@ -101,7 +101,7 @@ echo_change my held cookie true filling =
 abbrev pub held_by_init_ack : Options → Pair → Introduction → Held
 held_by_init_ack options my theirs = new_held my theirs.pair (negotiated (offer_of options) theirs.offer)
 
--- INIT ACK counts in CookieWait alone. One without a cookie ends the association (RFC 9260, section 3.3.3).
+-- INIT ACK counts only in CookieWait. One without a cookie ends the association (RFC 9260, section 3.3.3).
 abbrev pub init_ack_change : Options → Core → Introduction → Option (List ℕ) → Choices → Change
 init_ack_change options (cookie_wait my) theirs None choices =
     ended (emitted_alone choices.fits theirs.pair.tag (abort false (missing_mandatory_parameter (state_cookie_type ∷ []) ∷ [])))
@@ -113,7 +113,7 @@ init_ack_change options core theirs cookie choices = unchanged core
 
 -- ---- COOKIE ACK
 
--- COOKIE ACK counts in CookieEchoed alone (RFC 9260, section 5.2.5).
+-- COOKIE ACK counts only in CookieEchoed (RFC 9260, section 5.2.5).
 abbrev pub cookie_ack_change : Core → Choices → Change
 cookie_ack_change (cookie_echoed my held cookie) choices =
     let after : Flushed = flush held.peer.tag held [] choices.filling in
@@ -128,7 +128,7 @@ t1_again_change options (cookie_wait my) choices = record { core = cookie_wait m
 t1_again_change options (cookie_echoed my held cookie) choices = echo_change my held cookie choices.fits choices.filling
 t1_again_change options core choices = unchanged core
 
--- T1 expired without restarts: the association is given up.
+-- T1 expired with no restart left: the association ends.
 abbrev pub t1_gives_up_change : Core → Change
 t1_gives_up_change (cookie_wait my) = ended []
 t1_gives_up_change (cookie_echoed my held cookie) = ended []

@@ -38,13 +38,12 @@ pub record Answered : Type 0 where
 abbrev pub with_last : Held → ℕ → ReconfigurationResponseResult → Held
 with_last held number result = record held { peer_last = number; peer_result = result }
 
--- An Outgoing SSN Reset Request is performed once all data sent before it has come, and is in progress until
--- then.
+-- An Outgoing SSN Reset Request is performed once all data sent before it is received, and is in progress until then.
 abbrev pub worked : Held → ℕ → Bool → Answered
 worked held number true = record { held = with_last held number SuccessPerformed; result = SuccessPerformed; effects = performs held.peer number ∷ [] }
 worked held number false = record { held = with_last held number InProgress; result = InProgress; effects = [] }
 
--- The last request again is answered as before; one in progress is worked again.
+-- The last request again is answered as before; one in progress is handled again.
 abbrev pub repeated : Held → ReconfigurationResponseResult → Bool → Answered
 repeated held SuccessNothingToDo is_reached = record { held = held; result = SuccessNothingToDo; effects = [] }
 repeated held SuccessPerformed is_reached = record { held = held; result = SuccessPerformed; effects = [] }
@@ -67,8 +66,7 @@ outgoing_by held number is_reached again = repeated held held.peer_result is_rea
 outgoing_by held number is_reached next = accepted number (worked held number is_reached)
 outgoing_by held number is_reached astray = refused held
 
--- No stream is reset for an Incoming SSN Reset Request: it is answered so, also in place of an answer that was
--- in progress.
+-- No stream is reset for an Incoming SSN Reset Request: it is answered by this, even if the answer before was in progress.
 abbrev pub nothing_to_do : Held → ℕ → Answered
 nothing_to_do held number = record { held = with_last held number SuccessNothingToDo; result = SuccessNothingToDo; effects = [] }
 
@@ -84,7 +82,7 @@ pub record Informed : Type 0 where
   pub held : Held
   pub effects : List Effect
 
--- the own request has ended
+-- its own request has ended
 abbrev pub without_outstanding : Held → Held
 without_outstanding held = record held { own_outstanding = None }
 
@@ -115,7 +113,7 @@ informed_where my held number result false = record { held = held; effects = [] 
 
 -- ---- the parameters after one another
 
--- What is left of them. A second Outgoing SSN Reset Request is an error, and nothing goes out.
+-- What is left of them. A second Outgoing SSN Reset Request is an error, and nothing is sent.
 pub record WorkedParameters : Type 0 where
   pub held : Held
   pub effects : List Effect
@@ -129,7 +127,7 @@ after_request number first rest =
 abbrev pub after_answer : Informed → WorkedParameters → WorkedParameters
 after_answer first rest = record rest { effects = first.effects ++ rest.effects }
 
--- the own pair, whether data has come that was sent before, and whether an outgoing request was worked so far
+-- its own pair, whether data has come that was sent before, and whether an outgoing request was handled so far
 abbrev pub work_parameters : Pair → Bool → Bool → Held → List ResetParameter → WorkedParameters
 work_parameters my is_reached has_worked held [] = record { held = held; effects = []; answers = []; is_refused = false }
 work_parameters my is_reached true held (outgoing_reset_request number answered reset ∷ parameters) =
@@ -152,7 +150,7 @@ abbrev pub work_chunk : Pair → Bool → Held → List ResetParameter → Worke
 work_chunk my is_reached held [] = record { held = held; effects = []; answers = []; is_refused = true }
 work_chunk my is_reached held (parameter ∷ parameters) = work_parameters my is_reached false held (parameter ∷ parameters)
 
--- Where there are answers, they go out in a packet of one RE-CONFIG.
+-- If there are answers, they are sent in a packet of one RE-CONFIG.
 abbrev pub answers_emitted : Bool → ℕ → List ResetParameter → List Effect
 answers_emitted fits tag [] = []
 answers_emitted fits tag (answer ∷ answers) = emitted_alone fits tag (re_config (answer ∷ answers))

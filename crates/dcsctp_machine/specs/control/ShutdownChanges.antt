@@ -28,15 +28,15 @@ abbrev pub shutdown_call_change_in : OpenPhase → Pair → Held → ℕ → Boo
 shutdown_call_change_in established my held tsn is_acknowledged = shutdown_step_change_in shutdown_pending my held tsn is_acknowledged
 shutdown_call_change_in phase my held tsn is_acknowledged = unchanged (open_in phase my held)
 
--- The user shuts the association down. One whose COOKIE ACK is awaited never connects then.
+-- The user shuts the association down. One whose COOKIE ACK is awaited will never connect.
 abbrev pub shutdown_call_change : Core → ℕ → Bool → Change
 shutdown_call_change closed tsn is_acknowledged = unchanged closed
 shutdown_call_change (cookie_wait my) tsn is_acknowledged = ended []
 shutdown_call_change (cookie_echoed my held cookie) tsn is_acknowledged = shutdown_step_change_in shutdown_pending my held tsn is_acknowledged
 shutdown_call_change (open_in phase my held) tsn is_acknowledged = shutdown_call_change_in phase my held tsn is_acknowledged
 
--- The association is aborted, by the user, for a violation, or after too many errors; the peer is told where
--- the packet fits (RFC 9260, sections 8.1 and 9.1).
+-- The association is aborted, by the user, for a violation, or after too many errors; the peer is told if the packet fits (RFC
+-- 9260, sections 8.1 and 9.1).
 abbrev pub abort_call_change : Core → List Cause → Bool → Change
 abort_call_change closed causes fits = unchanged closed
 abort_call_change (cookie_wait my) causes fits = ended []
@@ -50,7 +50,7 @@ shutdown_again_change_in shutdown_sent my held tsn = sending_change shutdown_sen
 shutdown_again_change_in shutdown_ack_sent my held tsn = sending_change shutdown_ack_sent my held (shutdown_ack ∷ [])
 shutdown_again_change_in phase my held tsn = unchanged (open_in phase my held)
 
--- SHUTDOWN or SHUTDOWN ACK goes out again.
+-- SHUTDOWN or SHUTDOWN ACK is sent again.
 abbrev pub shutdown_again_change : Core → ℕ → Change
 shutdown_again_change (open_in phase my held) tsn = shutdown_again_change_in phase my held tsn
 shutdown_again_change core tsn = unchanged core
@@ -93,7 +93,7 @@ abbrev pub shutdown_complete_change_in : OpenPhase → Pair → Held → Change
 shutdown_complete_change_in shutdown_ack_sent my held = ended []
 shutdown_complete_change_in phase my held = unchanged (open_in phase my held)
 
--- SHUTDOWN COMPLETE counts where a SHUTDOWN ACK waits for it.
+-- SHUTDOWN COMPLETE counts while a SHUTDOWN ACK waits for it.
 abbrev pub shutdown_complete_change : Core → Change
 shutdown_complete_change (open_in phase my held) = shutdown_complete_change_in phase my held
 shutdown_complete_change core = unchanged core

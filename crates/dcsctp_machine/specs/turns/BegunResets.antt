@@ -16,7 +16,7 @@ pub record BegunReset : Type 0 where
 
 -- ---- which it is
 
--- How many streams a request may name where its chunk has so much room: it has 20 bytes and 2 for each stream, padded to a
+-- How many streams a request may name if its chunk has that much room. It has 20 bytes and 2 for each stream, padded to a
 -- multiple of 4 (RFC 6525, section 4.1).
 abbrev pub streams_within : ℕ → ℕ
 streams_within room = (room - 20) / 4 * 2
@@ -25,7 +25,7 @@ streams_within room = (room - 20) / 4 * 2
 abbrev pub last_assigned_tsn : RetransmissionState → ℕ
 last_assigned_tsn state = (state.next_tsn + (2 ^ 32 - 1)) % 2 ^ 32
 
--- It is begun where none is outstanding, and a stream is to be reset.
+-- It is begun if none is outstanding, and a stream is to be reset.
 abbrev pub begun_where : Option ℕ → ℕ → ℕ → List ℕ → Option BegunReset
 begun_where None number last_tsn (stream ∷ streams) = Some (record { number = number; reset = record { last_tsn = last_tsn; streams = stream ∷ streams } })
 begun_where outstanding number last_tsn streams = None
@@ -51,16 +51,17 @@ begun_effects (Some begun) = begins begun.number ∷ []
 
 -- ---- what is kept of it
 
--- The queue once this was begun: so many of the streams that are ready were handed out, or none where none was begun.
+-- The queue once this was begun: that many of the ready streams were handed out, or none if no reset was begun.
 abbrev pub queue_requesting : ℕ → Option BegunReset → SendQueueState → SendQueueState
 queue_requesting count None queue = queue
 queue_requesting count (Some begun) queue = queue_handing_out count queue
 
--- the reconfiguration timer: each wait is twice the last one, without a bound, and it goes on for good (RFC 6525, section 5.1.1)
+-- the reconfiguration timer: each wait is twice the last one, without a limit, and it never stops by itself (RFC 6525, section
+-- 5.1.1)
 abbrev pub reconfiguration_settings : ℕ → TimerSettings
 reconfiguration_settings rto = record { duration = rto; terms = record { backoff = Exponential; max_restarts = None; max_backoff = None } }
 
--- the retransmission timeout, where there is an association
+-- the retransmission timeout, if there is an association
 abbrev pub rto_of : Option Transfer → ℕ
 rto_of None = 0
 rto_of (Some transfer) = transfer.timeout.rto

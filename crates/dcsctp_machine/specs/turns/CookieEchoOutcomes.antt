@@ -1,4 +1,4 @@
--- The turn of a COOKIE ECHO (RFC 9260, sections 5.1 and 5.2.4). Which case it is stands in control/CookieEchoChanges.
+-- The turn of a COOKIE ECHO (RFC 9260, sections 5.1 and 5.2.4). control/CookieEchoChanges says which case it is.
 use Rattle.std.specs.Prelude.{◌≡◌, ◌==◌, ℕ, min, Bool, None, Some, List, [], ◌∷◌, codes, Result, Ok, Err}
 use Rattle.dcsctp_machine.specs.declared.association.Held.{Held}
 use Rattle.dcsctp_machine.specs.declared.options.Options.{Options}
@@ -52,12 +52,12 @@ refused_restart_outcome e held =
 
 -- ---- one that makes an association
 
--- the peer's window: no more than may wait to be sent
+-- the peer's window: no larger than the send buffer
 abbrev pub window_by_cookie : Options → Cookie → ℕ
 window_by_cookie options cookie = min cookie.window options.max_send_buffer_size
 
--- The association is established, with what belongs to it anew. The heartbeat interval begins anew, and a
--- heartbeat timeout runs on.
+-- The association is established, with what belongs to it anew. The heartbeat interval starts anew, and a heartbeat timeout runs
+-- on.
 abbrev pub established_by : Endpoint → Cookie → SendQueueState → ℕ → Endpoint
 established_by e cookie queue tie =
     record e {
@@ -87,7 +87,7 @@ establish_by flush e cookie queue tie events =
 abbrev pub interleaves : Endpoint → Cookie → Bool
 interleaves e cookie = (held_by_cookie e.options cookie).capabilities.message_interleaving
 
--- What waits to be sent stays as it is where there was no peer; else it begins anew.
+-- What waits to be sent is unchanged if there was no peer; else it starts anew.
 abbrev pub queue_kept : Endpoint → Cookie → SendQueueState
 queue_kept e cookie = record e.below.queue { is_interleaved = interleaves e cookie }
 
@@ -111,7 +111,7 @@ abbrev pub restart_by_where : FlushKind → Endpoint → Cookie → ℕ → Core
 restart_by_where flush e cookie tie (open_in phase mine held) = restart_by_in flush e cookie tie phase held
 restart_by_where flush e cookie tie core = restart_by flush e cookie tie
 
--- ---- one of the association that is held
+-- ---- one of the existing association
 
 abbrev pub acknowledge_by : FlushKind → Endpoint → Held → Cookie → List (Event Emission) → Outcome
 acknowledge_by flush e held cookie events = flush e [] events (held.capabilities.zero_checksum_method.0 == 0) cookie.addressee.tag (cookie_ack ∷ [])
@@ -139,7 +139,7 @@ abbrev pub cookie_echo_by : FlushKind → Endpoint → Core → ℕ → Result C
 cookie_echo_by flush e core header (Err text) word = refused_echo_outcome e text
 cookie_echo_by flush e core header (Ok cookie) word = resolved_by flush e cookie core word (resolve core e.tie header cookie)
 
--- ---- the answers that its flush may get, where there is one
+-- ---- the answers that its flush may get, if there is one
 
 abbrev pub EstablishAnswers : Endpoint → Cookie → SendQueueState → ℕ → List Answer → Type 0
 EstablishAnswers e cookie queue tie answers =
@@ -170,13 +170,13 @@ abbrev pub EchoedAnswers : Endpoint → Core → ℕ → Result Cookie (List ℕ
 EchoedAnswers e core header (Err text) word answers = answers ≡ []
 EchoedAnswers e core header (Ok cookie) word answers = ResolvedAnswers e cookie core word (resolve core e.tie header cookie) answers
 
--- a COOKIE ECHO is worked
+-- a COOKIE ECHO is handled
 abbrev pub CookieEchoTurn : Endpoint → ℕ → List ℕ → Outcome → Type 0
 CookieEchoTurn e header bytes o =
     (word : ℕ) × (answers : List Answer) × EchoedAnswers e e.core header (cookie_at bytes) word answers
     × (o ≡ cookie_echo_by (flush_answered answers) e e.core header (cookie_at bytes) word)
 
--- ---- where nothing waits, as it is so far
+-- ---- if nothing waits, as it is so far
 
 abbrev pub establish_outcome : Endpoint → Cookie → SendQueueState → ℕ → List (Event Emission) → Outcome
 establish_outcome e cookie queue tie events = establish_by flush_outcome e cookie queue tie events

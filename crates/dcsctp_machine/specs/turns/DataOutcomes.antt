@@ -1,4 +1,4 @@
--- The turns of data: what comes in, what acknowledges it, and what goes out (RFC 9260, section 6; RFC 3758; RFC 8260).
+-- The turns of data: what is received, what acknowledges it, and what is sent (RFC 9260, section 6; RFC 3758; RFC 8260).
 use Rattle.std.specs.Prelude.{◌≡◌, ◌≤◌, ◌+◌, ◌-◌, ◌%◌, ◌^◌, ℕ, Bool, true, false, nat_le, Option, None, Some, List, [], ◌∷◌, ◌++◌, codes, if◌then◌else◌}
 use Rattle.std.specs.List.{AllByRecursion}
 use Rattle.dcsctp_wire.specs.Content.{no_user_data, sack_chunk}
@@ -24,7 +24,7 @@ with_tracker e transfer tracker = with_transfer e (record transfer { tracker = t
 
 -- ---- a flush by itself
 
--- What waits goes out to the peer that is held.
+-- What waits is sent to the peer.
 abbrev pub flush_by : Endpoint → Option Held → List Answer → Outcome
 flush_by e None answers = still e
 flush_by e (Some held) answers = flush_of e (draft_to held) answers
@@ -44,8 +44,8 @@ no_user_data_text = codes "Received DATA chunk with no user data"
 abbrev pub not_connected_text : List ℕ
 not_connected_text = codes "Received unexpected commands on socket that is not connected"
 
--- Data without a payload is reported to the user, and to the peer, where one is held, with the cause No User Data (RFC 9260,
--- section 3.3.10.9).
+-- Data without a payload is reported to the user, and to the peer, if it is known, with the cause No User Data (RFC 9260, section
+-- 3.3.10.9).
 abbrev pub no_user_data_outcome : Endpoint → Option Held → ℕ → Outcome
 no_user_data_outcome e None tsn = reports e ProtocolViolation no_user_data_text
 no_user_data_outcome e (Some held) tsn =
@@ -56,7 +56,7 @@ ReceiveTurn e None immediate tsn o = o ≡ reports e NotConnected not_connected_
 ReceiveTurn e (Some transfer) immediate tsn o =
     (left : Transfer) × ReceivesData tsn transfer left × HeedsFlag immediate tsn transfer left × (o ≡ still (with_transfer e left))
 
--- Data with this I flag, TSN and payload comes in.
+-- Data with this I flag, TSN and payload is received.
 abbrev pub DataTurn : Endpoint → Bool → ℕ → List ℕ → Outcome → Type 0
 DataTurn e immediate tsn [] o = o ≡ no_user_data_outcome e (held_in e.core) tsn
 DataTurn e immediate tsn (byte ∷ bytes) o = ReceiveTurn e e.below.transfer immediate tsn o
@@ -76,7 +76,7 @@ no_tcb_text = codes "No TCB"
 abbrev pub last_passed : RetransmissionState → ℕ
 last_passed state = (state.next_tsn + (2 ^ 32 - 1) + (2 ^ 32 - state.outstanding_items % 2 ^ 32)) % 2 ^ 32
 
--- Is its cumulative TSN ack neither behind nor of a TSN that was never sent (RFC 9260, section 6.2.1)?
+-- Is its cumulative TSN ack neither old nor of a TSN that was never sent (RFC 9260, section 6.2.1)?
 abbrev pub is_sack_valid : RetransmissionState → ℕ → Bool
 is_sack_valid state tsn = nat_le (tsns_ahead tsn (last_passed state)) state.outstanding_items
 
@@ -93,12 +93,12 @@ pub record SendsAtOnce (e : Endpoint) (held : Held) (transfer : Transfer) (o : O
   pub rest : left ≡ record transfer { retransmission = left.retransmission }
   pub is : o ≡ goes_out (with_transfer e left) [] (draft_to held).with_checksum (draft_to held).packet.tag (plain_contents chunks)
 
--- One goes out where it waits.
+-- One is sent if it waits.
 abbrev pub FastRetransmits : Bool → Endpoint → Held → Transfer → Outcome → Type 0
 FastRetransmits false e held transfer o = o ≡ still e
 FastRetransmits true e held transfer o = SendsAtOnce e held transfer o
 
--- the endpoint once a SACK was taken into account: what it acknowledges shows that the peer is there
+-- the endpoint once a SACK was taken into account: if it acknowledges something, no error counts
 abbrev pub sack_taken : Endpoint → Transfer → Transfer → Endpoint
 sack_taken e old new = record (with_transfer e new) { error_count = if has_acknowledged old new then 0 else e.error_count }
 
@@ -123,23 +123,23 @@ abbrev pub SackBy : Endpoint → Option Held → Transfer → ℕ → Outcome �
 SackBy e None transfer tsn o = o ≡ still e
 SackBy e (Some held) transfer tsn o = SackWhere (is_sack_valid transfer.retransmission tsn) e held transfer o
 
--- A SACK with this cumulative TSN ack comes in.
+-- A SACK with this cumulative TSN ack is received.
 abbrev pub SackTurn : Endpoint → Option Transfer → ℕ → Outcome → Type 0
 SackTurn e None tsn o = o ≡ reports e NotConnected no_tcb_text
 SackTurn e (Some transfer) tsn o = SackBy e (held_in e.core) transfer tsn o
 
 -- ---- the end of a packet
 
--- a SACK of what came in
+-- a SACK of what was received
 abbrev pub IsSack : Transfer → Plain → Type 0
 IsSack transfer (unworked (sack_chunk sack)) = IsSackOf transfer sack
 IsSack transfer chunk = ⊥
 
--- a packet to the peer that begins with it, where it fits
+-- a packet to the peer that begins with it, if it fits
 abbrev pub acknowledging : Endpoint → Held → Plain → Emission
 acknowledging e held sack = filled (draft_to held) (plain_contents (where_fits (room_in e (draft_to held)) sack))
 
--- Its data is acknowledged at once: a flush that begins with a SACK, where that fits.
+-- Its data is acknowledged at once: a flush that begins with a SACK, if that fits.
 pub record AnswersPacket (e : Endpoint) (held : Held) (transfer : Transfer) (tracker : TrackerState) (o : Outcome) : Type 0 where
   pub sack : Plain
   pub is_sack : IsSack (record transfer { tracker = tracker }) sack
@@ -152,7 +152,7 @@ EndWhere true e (Some held) transfer tracker o = AnswersPacket e held transfer t
 EndWhere true e None transfer tracker o = o ≡ still (with_tracker e transfer tracker)
 EndWhere false e held transfer tracker o = o ≡ still (with_tracker e transfer tracker)
 
--- A packet was worked whole: what came with it is acknowledged now or after a delay (RFC 9260, section 6.2).
+-- All of a packet was handled: its data is acknowledged now or after a delay (RFC 9260, section 6.2).
 abbrev pub EndsBy : Endpoint → Option Transfer → Outcome → Type 0
 EndsBy e None o = o ≡ still e
 EndsBy e (Some transfer) o =
@@ -184,7 +184,7 @@ abbrev pub delay_outcome : Endpoint → Option Transfer → Outcome
 delay_outcome e None = still e
 delay_outcome e (Some transfer) = still (with_tracker e transfer (delay_over transfer.tracker))
 
--- What is in flight is lost: an error is counted, and it goes out again in the flush behind the timers (RFC 9260, section 6.3.3).
+-- What is in flight is lost: an error is counted, and it is sent again in the flush after the timers (RFC 9260, section 6.3.3).
 abbrev pub LossTurn : Endpoint → Option Transfer → Outcome → Type 0
 LossTurn e None o = o ≡ still e
 LossTurn e (Some transfer) o =

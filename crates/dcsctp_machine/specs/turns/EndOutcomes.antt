@@ -14,7 +14,7 @@ use Rattle.dcsctp_machine.specs.control.Effect.{ends}
 use Rattle.dcsctp_machine.specs.Outcome.{Outcome, still, quiet, to_peer, sends, emits}
 use Rattle.dcsctp_machine.specs.Following.{dropped_rest}
 
--- No association, and no timer. What waits to be sent stays, and so does the error count.
+-- No association, and no timer. What waits to be sent is kept, and so is the error count.
 abbrev pub closed_after : Endpoint → Endpoint
 closed_after e = record e { core = closed; tie = 0; outstanding = None; timers = stopped_timers; below = record e.below { transfer = None } }
 
@@ -28,7 +28,7 @@ ended_outcome before event =
       following = dropped_rest;
     }
 
--- The association ends with this event; where there is none, nothing happens.
+-- The association ends with this event; if there is none, nothing happens.
 abbrev pub close_outcome : Endpoint → Core → Event Emission → Outcome
 close_outcome e closed event = still e
 close_outcome e core event = ended_outcome (quiet e [] []) event
@@ -39,7 +39,7 @@ abort_outcome e causes (cookie_echoed my held cookie) = ended_outcome (quiet e [
 abort_outcome e causes (open_in phase my held) = ended_outcome (quiet e [] []) (aborted PeerReported (causes_text causes))
 abort_outcome e causes core = still e
 
--- ---- the own abort
+-- ---- its own abort
 
 -- the event that ends an association which is aborted for this reason
 abbrev pub end_of : AbortReason → Event Emission
@@ -51,13 +51,13 @@ end_of reasons.TooManyErrors = aborted TooManyRetries (reason_text reasons.TooMa
 abbrev pub abort_to : Held → AbortReason → Emission
 abort_to held reason = to_peer held (abort false (causes_of reason))
 
--- The peer is told, where one is held and the packet fits (RFC 9260, sections 8.1 and 9.1).
+-- The peer is told, if it is known and the packet fits (RFC 9260, sections 8.1 and 9.1).
 abbrev pub abort_sent : Endpoint → Core → AbortReason → Outcome
 abort_sent e (cookie_echoed my held cookie) reason = emits e [] (abort_to held reason)
 abort_sent e (open_in phase my held) reason = emits e [] (abort_to held reason)
 abort_sent e core reason = quiet e [] []
 
--- The own end aborts the association; where there is none, nothing happens. Its change is `abort_call_change`.
+-- The own end aborts the association; if there is none, nothing happens. Its change is `abort_call_change`.
 abbrev pub aborting_outcome : Endpoint → Core → AbortReason → Outcome
 aborting_outcome e closed reason = still e
 aborting_outcome e core reason = ended_outcome (abort_sent e core reason) (end_of reason)

@@ -1,5 +1,5 @@
--- A flush: what waits goes out under the peer's tag, at most `max_burst` packets of it (RFC 9260, section 6.1). The transfer
--- layer is asked to fill one packet after another, and the flush is what its answers make of it.
+-- A flush: what waits is sent under the peer's tag, at most `max_burst` packets of it (RFC 9260, section 6.1). The transfer layer
+-- is asked to fill one packet after another, and the flush is what its answers make of it.
 use Rattle.std.specs.Prelude.{◌≡◌, ◌==◌, ◌≤◌, ◌<◌, ◌+◌, ◌-◌, ◌%◌, ◌^◌, min, nat_le, ◌&&◌, ◌||◌, Option, None, Some, ℕ, ℤ, pos, negsuc, suc, zero, Bool, true, false, List, [], ◌∷◌, ◌++◌, map, length, if◌then◌else◌}
 use Rattle.std.specs.List.{AllByRecursion}
 use Rattle.dcsctp_machine.specs.declared.association.Held.{Held}
@@ -19,8 +19,7 @@ use Rattle.dcsctp_wire.specs.Spelling.{chunk_bytes}
 
 -- ---- one packet
 
--- What the user may be told while a packet is filled, and nothing else: an amount that fell to its threshold, and what
--- became of a message.
+-- The only events while a packet is filled: an amount that fell to its threshold, and what became of a message.
 pub data Told : Type 0 where
   amount_is_low : ℕ → Told
   total_amount_is_low : Told
@@ -37,10 +36,9 @@ told_event (message_may_have_expired id) = lifecycle_message_maybe_expired id
 told_event (message_has_expired id) = lifecycle_message_expired id
 told_event (message_ends id) = lifecycle_end id
 
--- What is answered where a packet is to be filled: what goes behind the chunks that it holds, what the user is told, and the
--- endpoint after that.
+-- The answer if a packet is to be filled: what goes after the chunks that it holds, the events, and the endpoint after that.
 pub record Answer : Type 0 where
-  -- in the first packet alone: SACK and FORWARD-TSN, and behind them the request of a stream reset that is begun
+  -- in the first packet alone: SACK and FORWARD-TSN, and after them the request of a stream reset that is begun
   pub acknowledgements : List Plain
   pub begun : Option BegunReset
   pub data_chunks : List Plain
@@ -54,13 +52,13 @@ answer_contents answer = plain_contents answer.acknowledgements ++ (request_cont
 abbrev pub filled : Emission → List Content → Emission
 filled draft chunks = record draft { packet = record draft.packet { contents = draft.packet.contents ++ chunks } }
 
--- The packet goes out behind these events, unless it is empty.
+-- The packet is sent after these events, unless it is empty.
 abbrev pub goes_out : Endpoint → List (Event Emission) → Bool → ℕ → List Content → Outcome
 goes_out e told with_checksum tag [] = quiet e [] told
 goes_out e told with_checksum tag (content ∷ contents) =
     sends e [] told (record { with_checksum = with_checksum; packet = record { tag = tag; contents = content ∷ contents } })
 
--- what comes of one packet that is asked to be filled
+-- the outcome of one packet that is asked to be filled
 abbrev pub asked : Endpoint → Emission → Answer → Outcome
 asked e draft answer =
     noting (begun_effects answer.begun) (goes_out answer.after (map told_event answer.told) draft.with_checksum draft.packet.tag (filled draft (answer_contents answer)).packet.contents)
@@ -71,14 +69,14 @@ asked e draft answer =
 abbrev pub draft_to : Held → Emission
 draft_to held = record { with_checksum = held.capabilities.zero_checksum_method.0 == 0; packet = record { tag = held.peer.tag; contents = [] } }
 
--- The packet after one that went out goes to the same peer, without a checksum where zero checksum was negotiated.
+-- The packet after one that was sent goes to the same peer, without a checksum if zero checksum was negotiated.
 abbrev pub next_draft : Core → Emission → Emission
 next_draft closed draft = record draft { packet = record draft.packet { contents = [] } }
 next_draft (cookie_wait my) draft = record draft { packet = record draft.packet { contents = [] } }
 next_draft (cookie_echoed my held cookie) draft = draft_to held
 next_draft (open_in phase my held) draft = draft_to held
 
--- A flush whose first packet is this, by what its asks were answered.
+-- A flush whose first packet is this, by the answers to its asks.
 abbrev pub flush_of : Endpoint → Emission → List Answer → Outcome
 flush_of e draft [] = still e
 flush_of e draft (answer ∷ answers) =
@@ -97,12 +95,12 @@ packets_allowed (negsuc below) core = 0
 abbrev pub IsWithin : Endpoint → Emission → Type 0
 IsWithin e emission = 12 + contents_len emission.packet.contents ≤ packet_size_limit e.options
 
--- what is answered where nothing waits
+-- what is answered if nothing waits
 abbrev pub nothing_waits : Endpoint → Answer
 nothing_waits e = record { acknowledgements = []; begun = None; data_chunks = []; told = []; after = e }
 
--- Which packet of a flush is to be filled: what acknowledges, what gives messages up and what resets streams goes into the
--- first alone.
+-- Which packet of a flush is to be filled: what acknowledges, what abandons messages and what resets streams goes into the first
+-- alone.
 pub data Ask : Type 0 where
   first_ask : Ask
   later_ask : Ask
@@ -111,24 +109,24 @@ pub data Ask : Type 0 where
 abbrev pub room_in : Endpoint → Emission → ℕ
 room_in e draft = packet_size_limit e.options - 12 - contents_len draft.packet.contents
 
--- the chunk, where it fits into so many bytes
+-- the chunk, if it fits into that many bytes
 abbrev pub where_fits : ℕ → Plain → List Plain
 where_fits room chunk = if nat_le (length (chunk_bytes (plain_out chunk))) room then chunk ∷ [] else []
 
--- Is a SACK asked for? One that is delayed goes along where data may follow (RFC 9260, section 6.1).
+-- Is a SACK asked for? A delayed one is sent along if data may follow (RFC 9260, section 6.1).
 abbrev pub wants_sack : Ask → SendQueueState → Transfer → Bool
 wants_sack later_ask queue transfer = false
 wants_sack first_ask queue transfer =
     transfer.tracker.is_acknowledgement_due
     || (transfer.tracker.owes_acknowledgement && (has_data queue || can_send transfer.retransmission))
 
--- a SACK of what came in, with what is left of the receive window (RFC 9260, section 3.3.4)
+-- a SACK of what was received, with what is left of the receive window (RFC 9260, section 3.3.4)
 pub record IsSackOf (transfer : Transfer) (sack : SackContent) : Type 0 where
   pub cumulative : sack.cumulative_tsn_ack ≡ transfer.tracker.cumulative_tsn % 2 ^ 32
   pub window : sack.a_rwnd ≡ transfer.reassembly.remaining_bytes % 2 ^ 32
   pub fits : FitsSack sack
 
--- What acknowledges goes out where it is asked for and fits; all is acknowledged then.
+-- The SACK is sent if it is asked for and fits. Then all received data counts as acknowledged.
 abbrev pub Acknowledges : Bool → ℕ → Transfer → TrackerState → List Plain → Type 0
 Acknowledges false room transfer after chunks = (after ≡ transfer.tracker) × (chunks ≡ [])
 Acknowledges true room transfer after chunks =
@@ -150,12 +148,12 @@ IsData interleaving chunk = ⊥
 abbrev pub FitsPlain : Plain → Type 0
 FitsPlain chunk = FitsChunk (plain_out chunk)
 
--- No FORWARD-TSN goes out again before 200 milliseconds have passed, or the round trip (RFC 3758, section 3.5).
+-- No FORWARD-TSN is sent again before 200 milliseconds have passed, or the round trip (RFC 3758, section 3.5).
 abbrev pub next_forward : Endpoint → Transfer → ℕ
 next_forward e transfer = moment_after e.moment (min 200000000 transfer.timeout.srtt)
 
--- What gives messages up goes out with the first packet, where partial reliability was negotiated, no sooner than it may; whether
--- one is made is the transfer layer's choice.
+-- The FORWARD-TSN goes into the first packet, if partial reliability was negotiated, no sooner than it may. Whether one is made
+-- is the transfer layer's choice.
 pub record GivesUp (ask : Ask) (e : Endpoint) (transfer : Transfer) (after : ℕ) (chunks : List Plain) : Type 0 where
   pub is_made : Bool
   pub later : after ≡ (if is_made then next_forward e transfer else e.no_forward_tsn_before)
@@ -176,8 +174,8 @@ abbrev pub begun_at : Ask → Option Held → ℕ → ℕ → SendQueueState →
 begun_at first_ask held room last_tsn queue = begun_in held room last_tsn queue
 begun_at later_ask held room last_tsn queue = None
 
--- The request of a reset goes into the first packet alone. It is begun behind what gives messages up, which changes nothing where
--- nothing is outstanding and without partial reliability.
+-- The request of a reset goes only into the first packet. It is begun after messages are abandoned; that changes nothing if
+-- nothing is outstanding, or without partial reliability.
 pub record BeginsReset (ask : Ask) (e : Endpoint) (room : ℕ) (transfer : Transfer) (begun : Option BegunReset) : Type 0 where
   pub queue : SendQueueState
   pub retransmission : RetransmissionState
@@ -185,7 +183,7 @@ pub record BeginsReset (ask : Ask) (e : Endpoint) (room : ℕ) (transfer : Trans
   pub idle : transfer.retransmission.outstanding_items ≡ 0 → (queue ≡ e.below.queue) × (retransmission ≡ transfer.retransmission)
   pub is : begun ≡ begun_at ask (held_in e.core) room (last_assigned_tsn retransmission) queue
 
--- What the transfer layer of an association gives: what acknowledges, what gives messages up, and data, which is missing only where
+-- What the transfer layer of an association gives: what acknowledges, what abandons messages, and data, which is missing only if
 -- none can go (RFC 9260, section 6.1).
 pub record Gives (ask : Ask) (e : Endpoint) (draft : Emission) (transfer : Transfer) (answer : Answer) : Type 0 where
   pub left : Transfer
@@ -205,7 +203,7 @@ pub record Gives (ask : Ask) (e : Endpoint) (draft : Emission) (transfer : Trans
   pub timeout : left.timeout ≡ transfer.timeout
   pub reassembly : left.reassembly ≡ transfer.reassembly
 
--- Where the association is idle, nothing happens.
+-- If the association is idle, nothing happens.
 abbrev pub GivesWhere : Bool → Ask → Endpoint → Emission → Transfer → Answer → Type 0
 GivesWhere true ask e draft transfer answer = answer ≡ nothing_waits e
 GivesWhere false ask e draft transfer answer = Gives ask e draft transfer answer
@@ -214,7 +212,7 @@ abbrev pub AnsweredBelow : Ask → Endpoint → Emission → Answer → Option T
 AnsweredBelow ask e draft answer None = answer ≡ nothing_waits e
 AnsweredBelow ask e draft answer (Some transfer) = GivesWhere (is_idle e.below.queue transfer) ask e draft transfer answer
 
--- The heartbeat interval begins anew with data.
+-- The heartbeat interval starts anew with data.
 abbrev pub timers_with : Endpoint → List Plain → Timers
 timers_with e [] = e.timers
 timers_with e (chunk ∷ chunks) = heartbeats_begun e e.timers
@@ -230,8 +228,8 @@ pub record Answered (ask : Ask) (e : Endpoint) (draft : Emission) (answer : Answ
   pub within : IsWithin e draft → IsWithin e (filled draft (answer_contents answer))
   pub by_transfer : AnsweredBelow ask e draft answer e.below.transfer
 
--- The lists of answers that end a flush of so many packets at most: at its limit, or at a packet that is empty after its
--- ask.
+-- The lists of answers that end a flush of at most that many packets. It ends at its limit, or at a packet that is empty after
+-- its ask.
 pub data Answers : Ask → ℕ → Endpoint → Emission → List Answer → Type 0 where
   at_limit : (ask : Ask) (e : Endpoint) (draft : Emission) → Answers ask 0 e draft []
   at_empty : (ask : Ask) (more : ℕ) (e : Endpoint) (draft : Emission) (answer : Answer) → Answered ask e draft answer
@@ -263,7 +261,7 @@ allows_packet (pos zero) = false
 allows_packet (pos (suc more)) = true
 allows_packet (negsuc below) = false
 
--- Where nothing waits its first packet goes out, if it holds a chunk and a packet is allowed.
+-- If nothing waits its first packet is sent, if it holds a chunk and a packet is allowed.
 abbrev pub flush_outcome : FlushKind
 flush_outcome e words events with_checksum tag [] = quiet e words events
 flush_outcome e words events with_checksum tag (content ∷ contents) =
@@ -284,13 +282,13 @@ IsFlushEvent (lifecycle_message_expired id) = Unit {0}
 IsFlushEvent (lifecycle_end id) = Unit {0}
 IsFlushEvent event = ⊥
 
--- At most so many packets, none longer than `mtu`, and nothing else but what the user may be told.
+-- At most that many packets, none longer than `mtu`, and nothing else but what the user may be told.
 pub record KeepsLimits (e : Endpoint) (events : List (Event Emission)) : Type 0 where
   pub packets : length (packets_in events) ≤ packets_allowed e.options.max_burst e.core
   pub sizes : AllByRecursion (IsWithin e) (packets_in events)
   pub others : AllByRecursion IsFlushEvent events
 
--- ---- where nothing waits
+-- ---- if nothing waits
 
 abbrev pub IdleBelow : SendQueueState → Option Transfer → Type 0
 IdleBelow queue None = Unit {0}

@@ -49,8 +49,8 @@ init_ack_for e theirs mine tie =
       window = e.options.max_receiver_window_buffer_size;
     }) (Some (cookie_bytes (cookie_for theirs mine tie)))
 
--- An INIT ACK goes out under the initiate tag of the INIT, without a checksum where zero checksum is
--- negotiated (RFC 9653, section 5.2).
+-- An INIT ACK is sent under the initiate tag of the INIT, without a checksum if zero checksum is negotiated (RFC 9653, section
+-- 5.2).
 abbrev pub init_ack_emission : Endpoint → Introduction → Pair → ℕ → Emission
 init_ack_emission e theirs mine tie =
     record {
@@ -78,9 +78,9 @@ abbrev pub init_outcome_where_open : Endpoint → Introduction → OpenPhase →
 init_outcome_where_open e theirs shutdown_ack_sent held word = emits e [] (to_peer held shutdown_ack)
 init_outcome_where_open e theirs phase held word = renewed_outcome e theirs word
 
--- An INIT is answered with the own pair while a handshake is under way, else with a drawn tag: a closed socket draws
--- the first TSN too, an open association takes one far from its own. Neither is kept. The association stays as it is in
--- every phase. The words are those that come next, drawn or not.
+-- An INIT is answered with its own pair during a handshake, else with a drawn tag. A closed socket also draws the first TSN; an
+-- open association takes one far from its own. Neither is kept. The association is unchanged in every phase. The words are those
+-- that come next, drawn or not.
 abbrev pub init_outcome : Endpoint → Introduction → Core → ℕ → ℕ → Outcome
 init_outcome e theirs closed word next =
     drawing (pair_from word next) (answer_outcome e theirs (U32 word ∷ U32 next ∷ []) (pair_from word next) 0)
@@ -88,13 +88,13 @@ init_outcome e theirs (cookie_wait mine) word next = answer_outcome e theirs [] 
 init_outcome e theirs (cookie_echoed mine held cookie) word next = answer_outcome e theirs [] mine 0
 init_outcome e theirs (open_in phase mine held) word next = init_outcome_where_open e theirs phase held word
 
--- an INIT is worked
+-- an INIT is handled
 abbrev pub InitTurn : Endpoint → Introduction → Outcome → Type 0
 InitTurn e theirs o = (word next : ℕ) × (o ≡ init_outcome e theirs e.core word next)
 
 -- ---- connect
 
--- INIT goes out under tag 0 (RFC 9260, section 8.5.1).
+-- INIT is sent under tag 0 (RFC 9260, section 8.5.1).
 abbrev pub init_emission : Endpoint → Pair → Emission
 init_emission e mine = record { with_checksum = true; packet = record { tag = 0; contents = init (introduction_of e.options mine) ∷ [] } }
 
@@ -161,7 +161,7 @@ awaits_cookie_ack e mine theirs cookie tie =
       };
     }
 
--- COOKIE ECHO goes out under the peer's tag, with a checksum, where it fits; else nothing does.
+-- COOKIE ECHO is sent under the peer's tag, with a checksum, if it fits; else nothing is sent.
 abbrev pub echo_emission : ℕ → List ℕ → Emission
 echo_emission tag cookie = record { with_checksum = true; packet = record { tag = tag; contents = cookie_echo cookie ∷ [] } }
 
@@ -181,7 +181,7 @@ accepted_init_ack_by flush e mine theirs (Some cookie) tie =
 abbrev pub accepted_init_ack_outcome : Endpoint → Pair → Introduction → Option (List ℕ) → ℕ → Outcome
 accepted_init_ack_outcome e mine theirs cookie tie = accepted_init_ack_by flush_outcome e mine theirs cookie tie
 
--- INIT ACK counts in CookieWait alone (RFC 9260, section 5.2.3). The word is the one that comes next, drawn or not. Its change is
+-- INIT ACK counts only in CookieWait (RFC 9260, section 5.2.3). The word is the one that comes next, drawn or not. Its change is
 -- `init_ack_change`.
 abbrev pub init_ack_by : FlushKind → Endpoint → Introduction → Option (List ℕ) → Core → ℕ → Outcome
 init_ack_by flush e theirs cookie (cookie_wait mine) word = accepted_init_ack_by flush e mine theirs cookie word
@@ -190,7 +190,7 @@ init_ack_by flush e theirs cookie core word = still e
 abbrev pub init_ack_outcome : Endpoint → Introduction → Option (List ℕ) → Core → ℕ → Outcome
 init_ack_outcome e theirs cookie core word = init_ack_by flush_outcome e theirs cookie core word
 
--- The answers that its flush may get, where there is one.
+-- The answers that its flush may get, if there is one.
 abbrev pub EchoAnswers : Bool → Endpoint → ℕ → List ℕ → List Answer → Type 0
 EchoAnswers true e tag cookie answers = FlushAnswers e (echo_emission tag cookie) answers
 EchoAnswers false e tag cookie answers = answers ≡ []
@@ -201,7 +201,7 @@ InitAckAnswers e theirs (Some cookie) (cookie_wait mine) word answers =
     EchoAnswers (fits after (echo_emission theirs.pair.tag cookie)) after theirs.pair.tag cookie answers
 InitAckAnswers e theirs cookie core word answers = answers ≡ []
 
--- an INIT ACK is worked
+-- an INIT ACK is handled
 abbrev pub InitAckTurn : Endpoint → Introduction → Option (List ℕ) → Outcome → Type 0
 InitAckTurn e theirs cookie o =
     (word : ℕ) × (answers : List Answer) × InitAckAnswers e theirs cookie e.core word answers
@@ -209,11 +209,11 @@ InitAckTurn e theirs cookie o =
 
 -- ---- COOKIE ACK
 
--- The association is established. T1 is stopped, and the heartbeat interval begins anew.
+-- The association is established. T1 is stopped, and the heartbeat interval starts anew.
 abbrev pub connected_after : Endpoint → Pair → Held → Endpoint
 connected_after e mine held = record e { core = open_in established mine held; timers = heartbeats_begun e (record e.timers { t1 = None }) }
 
--- COOKIE ACK counts in CookieEchoed alone (RFC 9260, section 5.2.5). A flush follows. Its change is `cookie_ack_change`.
+-- COOKIE ACK counts only in CookieEchoed (RFC 9260, section 5.2.5). A flush follows. Its change is `cookie_ack_change`.
 abbrev pub cookie_ack_by : FlushKind → Endpoint → Core → Outcome
 cookie_ack_by flush e (cookie_echoed mine held cookie) =
     noting (connects (link_of mine held) ∷ [])
@@ -227,6 +227,6 @@ abbrev pub CookieAckAnswers : Endpoint → Core → List Answer → Type 0
 CookieAckAnswers e (cookie_echoed mine held cookie) answers = FlushAnswers (connected_after e mine held) (draft_to held) answers
 CookieAckAnswers e core answers = answers ≡ []
 
--- a COOKIE ACK is worked
+-- a COOKIE ACK is handled
 abbrev pub CookieAckTurn : Endpoint → Outcome → Type 0
 CookieAckTurn e o = (answers : List Answer) × CookieAckAnswers e e.core answers × (o ≡ cookie_ack_by (flush_answered answers) e e.core)

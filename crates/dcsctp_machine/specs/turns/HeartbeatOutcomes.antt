@@ -15,8 +15,7 @@ use Rattle.dcsctp_machine.specs.Outcome.{Outcome, still, reports, emits, to_peer
 
 -- ---- the count of errors (RFC 9260, section 8.1)
 
--- One error more, where there is a limit. A count above its limit isn't told apart from the one just above it, nor one that
--- is beyond the greatest number of 32 bits.
+-- One more error, if there is a limit. The count stops one above the limit, and at the greatest number of 32 bits.
 abbrev pub error_counted : Option ℕ → ℕ → ℕ
 error_counted None count = 0
 error_counted (Some limit) count = min (count + 1) (min (limit + 1) (2 ^ 32 - 1))
@@ -28,7 +27,7 @@ is_exhausted (Some limit) count = nat_lt limit count
 
 -- ---- chunks
 
--- A HEARTBEAT of a peer that is held is answered with its parameters, where they fit.
+-- A HEARTBEAT of a known peer is answered with its parameters, if they fit.
 abbrev pub heartbeat_outcome : Endpoint → Core → List ParameterContent → Outcome
 heartbeat_outcome e (cookie_echoed my held cookie) parameters = emits e [] (to_peer held (plain (heartbeat_ack parameters)))
 heartbeat_outcome e (open_in phase my held) parameters = emits e [] (to_peer held (plain (heartbeat_ack parameters)))
@@ -52,7 +51,7 @@ invalid_info_text = codes "Failed to parse HEARTBEAT-ACK; Invalid info parameter
 abbrev pub answered : Endpoint → Endpoint
 answered e = record e { error_count = 0; timers = record e.timers { heartbeat_timeout = None } }
 
--- A HEARTBEAT ACK counts where it bears the present counter.
+-- A HEARTBEAT ACK counts if it carries the present counter.
 abbrev pub heartbeat_ack_outcome : Endpoint → Option ℕ → Outcome
 heartbeat_ack_outcome e None = reports e ParseFailed invalid_info_text
 heartbeat_ack_outcome e (Some counter) = if counter == e.heartbeat_counter then still (answered e) else still e
@@ -73,7 +72,7 @@ heartbeat_timeout_settings options =
 abbrev pub interval_expired : Endpoint → Endpoint
 interval_expired e = record e { timers = record e.timers { heartbeat_interval = expired_of e.moment e.timers.heartbeat_interval } }
 
--- The counter goes up by one, round 2^32, and its answer is awaited.
+-- The counter goes up by one, modulo 2^32, and its answer is awaited.
 abbrev pub beating : Endpoint → Endpoint
 beating e =
     record e {
@@ -88,7 +87,7 @@ heartbeat_emission held counter = to_peer held (plain (heartbeat (heartbeat_info
 abbrev pub beat : Endpoint → Held → Outcome
 beat e held = emits (beating e) [] (heartbeat_emission held (beating e).heartbeat_counter)
 
--- A HEARTBEAT goes out to a peer that is held.
+-- A HEARTBEAT is sent, if the peer is known.
 abbrev pub interval_outcome : Endpoint → Core → Outcome
 interval_outcome e (cookie_echoed my held cookie) = beat (interval_expired e) held
 interval_outcome e (open_in phase my held) = beat (interval_expired e) held

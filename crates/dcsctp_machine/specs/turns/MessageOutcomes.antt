@@ -1,4 +1,4 @@
--- Messages that the user sends: which a socket takes, what is told of one that it refuses, and what goes out.
+-- Messages that the user sends: which a socket takes, the events about one that it refuses, and what is sent.
 use Rattle.std.specs.Prelude.{◌≡◌, ◌==◌, ◌||◌, ◌+◌, ◌++◌, is_none, ℕ, Bool, true, false, Option, None, Some, List, [], ◌∷◌, length, nat_le, nat_lt, codes, if◌then◌else◌}
 use Rattle.std.specs.Option.{option_map}
 use Rattle.dcsctp_machine.specs.declared.kinds.ErrorKind.{ErrorKind}
@@ -35,12 +35,12 @@ is_shutting_down (cookie_wait my) = false
 is_shutting_down (cookie_echoed my held cookie) = false
 is_shutting_down (open_in phase my held) = is_shutting_in phase
 
--- Does as much wait as may wait, in all or on this stream?
+-- Is the send buffer full, in all or for this stream?
 abbrev pub is_full : Options → SendQueueState → ℕ → Bool
 is_full options queue id =
     nat_le options.max_send_buffer_size queue.total_buffered_amount || nat_le options.per_stream_send_queue_limit (queued_stream queue id).buffered_amount
 
--- Why a message of so many bytes is refused on this stream: the first of these that holds.
+-- Why a message of that many bytes is refused on this stream: the first of these that holds.
 abbrev pub message_refusal : Endpoint → ℕ → ℕ → Option MessageRefusal
 message_refusal e id bytes =
     if bytes == 0 then Some empty_payload
@@ -61,14 +61,14 @@ refusal_text (message_too_large bytes limit) = codes "Unable to send too large m
 refusal_text shutting_down = codes "Unable to send message as the socket is shutting down"
 refusal_text resource_exhaustion = codes "Unable to send message as the send queue is full"
 
--- what is told of a message of this name that is refused
+-- the events about a message of this name that is refused
 abbrev pub refusal_events : MessageRefusal → Option ℕ → List (Event Emission)
 refusal_events refusal None = error (refusal_kind refusal) (refusal_text refusal) ∷ []
 refusal_events refusal (Some id) = lifecycle_end id ∷ error (refusal_kind refusal) (refusal_text refusal) ∷ []
 
 -- ---- what the user sends
 
--- a message as the queue takes it: its stream, its bytes, and its name, where it has one
+-- a message as the queue takes it: its stream, its bytes, and its name, if it has one
 pub record Sending : Type 0 where
   pub stream : ℕ
   pub bytes : ℕ
@@ -109,7 +109,7 @@ abbrev pub refused_where : ℕ → Option MessageRefusal → List RefusedMessage
 refused_where place None = []
 refused_where place (Some refusal) = record { place = place; refusal = refusal } ∷ []
 
--- those of these that are refused, in order, where the first has this place
+-- those of these that are refused, in order, if the first has this place
 abbrev pub refused_from : ℕ → Endpoint → List Sending → List RefusedMessage
 refused_from place e [] = []
 refused_from place e (message ∷ messages) =
@@ -120,7 +120,7 @@ abbrev pub takes_any : Endpoint → List Sending → Bool
 takes_any e [] = false
 takes_any e (message ∷ messages) = is_none (message_refusal e message.stream message.bytes) || takes_any (queue_one e message).after messages
 
--- Where one was taken, what waits goes out.
+-- If one was taken, what waits is sent.
 abbrev pub SendAnswers : Bool → Endpoint → List Answer → Type 0
 SendAnswers false e answers = answers ≡ []
 SendAnswers true e answers = AnswersTo e (held_in e.core) answers

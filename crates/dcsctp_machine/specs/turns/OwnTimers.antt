@@ -1,4 +1,4 @@
--- The timers of an association, but for T1, and what comes of each.
+-- The timers of an association, except for T1, and the outcome of each.
 use Rattle.std.specs.Prelude.{◌≡◌}
 use Rattle.dcsctp_machine.specs.Endpoint.{Endpoint, held_in}
 use Rattle.dcsctp_machine.specs.Outcome.{Outcome}
@@ -15,7 +15,7 @@ pub data OwnTimer : Type 0 where
   -- a HEARTBEAT is due, and its answer is awaited no longer (RFC 9260, section 8.3)
   heartbeat_interval : OwnTimer
   heartbeat_timeout : OwnTimer
-  -- an own request to reset streams goes out again (RFC 6525, section 5.1.1)
+  -- its own request to reset streams is sent again (RFC 6525, section 5.1.1)
   reconfiguration : OwnTimer
 
 abbrev pub TimerTurn : Endpoint → OwnTimer → Outcome → Type 0

@@ -1,4 +1,4 @@
--- The turns of chunks that speak of no association: a line for each kind that is told apart.
+-- The turns of chunks that don't concern the association: one line for each kind.
 use Rattle.std.specs.Prelude.{◌≡◌, ◌==◌, ℕ, ◌+◌, ◌-◌, ◌/◌, ◌%◌, Bool, true, false, Option, None, Some, List, [], ◌∷◌, ◌++◌, length, take, nat_le, codes, if◌then◌else◌}
 use Rattle.std.specs.Int.{w16, to_be_bytes}
 use Rattle.std.specs.Fmt.{decimal}
@@ -23,7 +23,7 @@ use Rattle.dcsctp_machine.specs.turns.HeartbeatOutcomes.{heartbeat_outcome, info
 
 -- ---- what breaks the protocol that was negotiated
 
--- DATA, where message interleaving is negotiated or not (RFC 8260, section 2.2.1)
+-- DATA; the flag says whether message interleaving is negotiated (RFC 8260, section 2.2.1)
 abbrev pub data_violation : Bool → Option Violation
 data_violation true = Some DataWithInterleaving
 data_violation false = None
@@ -50,7 +50,7 @@ violation_by capabilities (unworked (forward_tsn_chunk tsn streams)) = forward_t
 violation_by capabilities (unworked (i_forward_tsn_chunk tsn streams)) = i_forward_tsn_violation capabilities.message_interleaving capabilities.partial_reliability
 violation_by capabilities chunk = None
 
--- A violation counts where a peer is held.
+-- A violation counts if the peer is known.
 abbrev pub violation_at : Core → Plain → Option Violation
 violation_at (cookie_echoed my held cookie) chunk = violation_by held.capabilities chunk
 violation_at (open_in phase my held) chunk = violation_by held.capabilities chunk
@@ -62,7 +62,7 @@ violation_at core chunk = None
 abbrev pub is_reported : ℕ → Bool
 is_reported type = type / 64 % 2 == 1
 
--- and its first one that the chunks behind it are worked.
+-- and its first one that the chunks after it are handled.
 abbrev pub after_unknown : ℕ → Following
 after_unknown type = if nat_le 128 type then next_chunk else packet_end
 
@@ -80,7 +80,7 @@ unknown_error e chunk = error_of (unrecognized_chunk_type (take (packet_size_lim
 abbrev pub unknown_report : Endpoint → Held → List ℕ → Emission
 unknown_report e held chunk = to_peer held (plain (unknown_error e chunk))
 
--- The user is told, and so is the peer, where one is held.
+-- The user is told, and so is the peer, if it is known.
 abbrev pub unknown_told : Endpoint → Core → ℕ → List ℕ → Outcome
 unknown_told e (cookie_echoed my held cookie) type chunk = sends e [] (error ParseFailed (unknown_text type) ∷ []) (unknown_report e held chunk)
 unknown_told e (open_in phase my held) type chunk = sends e [] (error ParseFailed (unknown_text type) ∷ []) (unknown_report e held chunk)
@@ -92,7 +92,7 @@ unknown_outcome e core type flags value =
 
 -- ---- an ERROR (RFC 9260, section 3.3.10)
 
--- The user is told the texts of its causes, where a peer is held.
+-- The user is told the texts of its causes, if the peer is known.
 abbrev pub error_outcome : Endpoint → Core → List Cause → Outcome
 error_outcome e (cookie_echoed my held cookie) causes = reports e PeerReported (causes_text causes)
 error_outcome e (open_in phase my held) causes = reports e PeerReported (causes_text causes)
@@ -100,7 +100,8 @@ error_outcome e core causes = still e
 
 -- ---- every kind
 
--- One that breaks the protocol ends the association; those of data and ERROR are told apart; and one that no handler works changes nothing.
+-- A chunk that breaks the protocol ends the association. Data and ERROR have their own outcomes, and a chunk without a handler
+-- changes nothing.
 abbrev pub PlainTurnBy : Endpoint → Plain → Option Violation → Outcome → Type 0
 PlainTurnBy e chunk (Some violation) o = o ≡ aborting_outcome e e.core (reasons.Violation violation)
 PlainTurnBy e (unknown type flags value) None o = o ≡ unknown_outcome e e.core type flags value

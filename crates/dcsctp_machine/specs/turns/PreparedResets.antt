@@ -1,4 +1,5 @@
--- Own streams that the user resets: what a socket refuses, what leaves the send queue, and what goes out (RFC 6525, section 5.1.2).
+-- Its own streams that the user resets: what a socket refuses, what leaves the send queue, and what is sent (RFC 6525, section
+-- 5.1.2).
 use Rattle.std.specs.Prelude.{◌≡◌, ◌==◌, ◌≤◌, ◌-◌, min, nat_le, nat_lt, ◌&&◌, ℕ, Bool, true, false, Option, None, Some, List, [], ◌∷◌, ◌++◌, map, length, if◌then◌else◌}
 use Rattle.dcsctp_machine.specs.declared.association.Held.{Held}
 use Rattle.dcsctp_machine.specs.Transfer.{StreamNumber, QueuedStream, SendQueueState, queued_stream, queue_with}
@@ -10,7 +11,7 @@ use Rattle.dcsctp_machine.specs.turns.DataOutcomes.{FlushTurn}
 -- ---- what is refused
 
 pub data ResetRefusal : Type 0 where
-  -- No association with a peer is held.
+  -- The peer isn't known.
   not_connected : ResetRefusal
   -- Resets of streams weren't negotiated.
   not_supported : ResetRefusal
@@ -34,11 +35,12 @@ is_under_way_on id (Some message) = message.stream == id
 abbrev pub count_under_way_on : ℕ → Option StreamNumber → ℕ
 count_under_way_on id under_way = if is_under_way_on id under_way then 1 else 0
 
--- how many messages of the stream aren't begun
+-- how many messages of the stream haven't been started
 abbrev pub count_not_begun : ℕ → SendQueueState → ℕ
 count_not_begun id queue = (queued_stream queue id).messages - count_under_way_on id queue.under_way
 
--- the stream without so many bytes, and with so many messages at most; none of these is begun any more, and its reset isn't requested yet
+-- the stream without that many bytes, and with at most that many messages. None of these is started any more, and its reset isn't
+-- requested yet
 abbrev pub pausing : ℕ → ℕ → QueuedStream → QueuedStream
 pausing bytes kept stream =
     record stream { buffered_amount = stream.buffered_amount - bytes; messages = min kept stream.messages; is_paused = true; is_handed_out = false }
@@ -48,12 +50,12 @@ abbrev pub with_number : ℕ → List ℕ → List ℕ
 with_number id [] = id ∷ []
 with_number id (first ∷ ids) = if nat_lt first id then first ∷ with_number id ids else id ∷ first ∷ ids
 
--- The stream is ready to be reset where none of its messages is under way.
+-- The stream is ready to be reset if none of its messages is under way.
 abbrev pub ready_with : ℕ → Bool → List ℕ → List ℕ
 ready_with id true ready = ready
 ready_with id false ready = with_number id ready
 
--- the queue where the stream is to be reset, and so many bytes have left it
+-- the queue if the stream is to be reset, and that many bytes have left it
 abbrev pub queue_pausing : ℕ → ℕ → SendQueueState → SendQueueState
 queue_pausing id bytes queue =
     record (queue_with (pausing bytes (count_under_way_on id queue.under_way) (queued_stream queue id)) queue) {
@@ -61,7 +63,7 @@ queue_pausing id bytes queue =
       ready_streams = ready_with id (is_under_way_on id queue.under_way) queue.ready_streams;
     }
 
--- ---- what is told of that
+-- ---- the events about that
 
 -- Has an amount fallen from above its threshold to it or below?
 abbrev pub has_fallen : ℕ → ℕ → ℕ → Bool
@@ -73,12 +75,12 @@ low_told stream bytes total_is_low =
     (if has_fallen stream.low_threshold stream.buffered_amount (stream.buffered_amount - bytes) then amount_is_low stream.stream ∷ [] else [])
     ++ (if total_is_low then total_amount_is_low ∷ [] else [])
 
--- Messages of these names were given up.
+-- Messages of these names were abandoned.
 abbrev pub expired_told : List ℕ → List Told
 expired_told [] = []
 expired_told (name ∷ names) = message_has_expired name ∷ message_ends name ∷ expired_told names
 
--- The messages of a stream that aren't begun are dropped, and it is to be reset.
+-- The messages of a stream that haven't been started are dropped, and it is to be reset.
 pub record Pauses (id : ℕ) (old : SendQueueState) (told : List Told) (new : SendQueueState) : Type 0 where
   -- the bytes of what is dropped, and the names that the user gave to it
   pub bytes : ℕ
@@ -90,7 +92,7 @@ pub record Pauses (id : ℕ) (old : SendQueueState) (told : List Told) (new : Se
   pub named : length names ≤ count_not_begun id old
   pub none : count_not_begun id old ≡ 0 → bytes ≡ 0
 
--- One that is to be reset already stays as it is.
+-- One that is to be reset already is unchanged.
 abbrev pub PreparesWhere : Bool → ℕ → SendQueueState → List Told → SendQueueState → Type 0
 PreparesWhere true id old told new = (told ≡ []) × (new ≡ old)
 PreparesWhere false id old told new = Pauses id old told new
@@ -110,7 +112,7 @@ pub data PreparesAll : List ℕ → SendQueueState → List Told → SendQueueSt
 abbrev pub with_queue : Endpoint → SendQueueState → Endpoint
 with_queue e queue = record e { below = record e.below { queue = queue } }
 
--- The streams are prepared, and then what waits goes out.
+-- The streams are prepared, and then what waits is sent.
 pub record PreparesResets (e : Endpoint) (ids : List ℕ) (o : Outcome) : Type 0 where
   pub queue : SendQueueState
   pub told : List Told
@@ -119,7 +121,7 @@ pub record PreparesResets (e : Endpoint) (ids : List ℕ) (o : Outcome) : Type 0
   pub flushes : FlushTurn (with_queue e queue) flushed
   pub is : o ≡ behind [] (map told_event told) flushed
 
--- Where it is refused, nothing happens.
+-- If it is refused, nothing happens.
 abbrev pub OwnResetsWhere : Option ResetRefusal → Endpoint → List ℕ → Outcome → Type 0
 OwnResetsWhere (Some refusal) e ids o = o ≡ still e
 OwnResetsWhere None e ids o = PreparesResets e ids o

@@ -1,5 +1,5 @@
--- The turn of RE-CONFIG: what the peer asks to be reset, how it is answered, and what it answers (RFC 6525, section 5.2).
--- Which numbers are accepted and what is answered stands in control/ResetChanges (`work_chunk`); here stands what else comes of it.
+-- The turn of RE-CONFIG: what the peer asks to be reset, how it is answered, and what it answers (RFC 6525, section 5.2). Which
+-- numbers are accepted, and with which answer, is in control/ResetChanges (`work_chunk`); the rest is here.
 use Rattle.std.specs.Prelude.{◌≡◌, ◌==◌, ◌^◌, ℕ, Bool, true, false, not, ◌&&◌, nat_lt, Option, None, Some, List, [], ◌∷◌, ◌++◌, codes}
 use Rattle.std.specs.List.{list_any}
 use Rattle.std.specs.Option.{option_map}
@@ -21,7 +21,7 @@ use Rattle.dcsctp_machine.specs.turns.BegunResets.{reconfiguration_settings, rto
 
 -- ---- when a reset is due
 
--- what the first Outgoing SSN Reset Request of a chunk wants: no other is worked
+-- what the first Outgoing SSN Reset Request of a chunk wants: no other is handled
 abbrev pub requested_in : List ResetParameter → Option RequestedReset
 requested_in [] = None
 requested_in (outgoing_reset_request number answered reset ∷ parameters) = Some reset
@@ -33,7 +33,7 @@ requested_in (other_reset_parameter parameter ∷ parameters) = requested_in par
 abbrev pub is_tsn_beyond : ℕ → ℕ → Bool
 is_tsn_beyond tsn other = nat_lt 0 (tsns_ahead tsn other) && nat_lt (tsns_ahead tsn other) (2 ^ 31)
 
--- Has all come that was sent before the reset was requested? Else it is in progress (RFC 6525, section 5.2.2, E2).
+-- Was everything received that was sent before the reset was requested? Else it is in progress (RFC 6525, section 5.2.2, E2).
 abbrev pub is_reached : Option Transfer → Option RequestedReset → Bool
 is_reached (Some transfer) (Some reset) = not (is_tsn_beyond reset.last_tsn transfer.tracker.cumulative_tsn)
 is_reached transfer reset = true
@@ -60,9 +60,9 @@ abbrev pub ResetsBelow : Bool → Option Transfer → Option Transfer → Type 0
 ResetsBelow true (Some old) new = (left : Transfer) × (new ≡ Some left) × ResetsStreams old left
 ResetsBelow has old new = new ≡ old
 
--- ---- the own request
+-- ---- its own request
 
--- the parameters that are worked: those in front of a second Outgoing SSN Reset Request
+-- the parameters that are handled: those in front of a second Outgoing SSN Reset Request
 abbrev pub worked_part : Bool → List ResetParameter → List ResetParameter
 worked_part has_worked [] = []
 worked_part true (outgoing_reset_request number answered reset ∷ parameters) = []
@@ -98,7 +98,7 @@ abbrev pub answered_in : Held → WorkedParameters → List ResetParameter → O
 answered_in held worked parameters =
     own_answer held.own_outstanding worked.held.own_outstanding (in_progress_among held.own_outstanding (worked_part false parameters))
 
--- the streams that the own request resets
+-- the streams that its own request resets
 abbrev pub own_streams : Option OutstandingRequest → List ℕ
 own_streams None = []
 own_streams (Some request) = request.streams
@@ -107,7 +107,7 @@ own_streams (Some request) = request.streams
 abbrev pub waiting : OutstandingRequest → OutstandingRequest
 waiting request = record request { waits_for_retry = true }
 
--- the endpoint once its own request was answered so
+-- the endpoint once its own request got this answer
 abbrev pub own_moved : OwnAnswer → Endpoint → Endpoint
 own_moved unanswered e = e
 own_moved retried e =
@@ -122,9 +122,9 @@ own_moved over e =
       below = record e.below { queue = queue_handed_back e.below.queue };
     }
 
--- ---- what comes of it
+-- ---- its outcome
 
--- what the user is told, where the peer resets these streams and the own request resets those
+-- the events for the user, if the peer resets these streams and its own request resets those
 abbrev pub reset_events : List ℕ → List ℕ → List Effect → List (Event Emission)
 reset_events theirs own [] = []
 reset_events theirs own (performs peer number ∷ effects) = incoming_stream_reset theirs ∷ reset_events theirs own effects
@@ -145,7 +145,7 @@ core_with (cookie_echoed my old cookie) held = cookie_echoed my held cookie
 core_with (open_in phase my old) held = open_in phase my held
 core_with core held = core
 
--- the endpoint once the parameters were worked, with this below its association
+-- the endpoint once the parameters were handled, with this below its association
 abbrev pub resets_worked : Endpoint → OwnAnswer → Held → Option Transfer → Endpoint
 resets_worked e answer held left =
     let moved : Endpoint = own_moved answer e in
@@ -156,12 +156,12 @@ abbrev pub reset_refusal_text : List ResetParameter → List ℕ
 reset_refusal_text [] = codes "RE-CONFIG chunk must have at least one parameter"
 reset_refusal_text (parameter ∷ parameters) = codes "RE-CONFIG chunk must not have multiple Outgoing SSN Reset Request parameters"
 
--- The answers go out in a packet of one RE-CONFIG, where there are some and they fit.
+-- The answers are sent in a packet of one RE-CONFIG, if there are some and they fit.
 abbrev pub responses_outcome : Endpoint → Held → List ResetParameter → Outcome
 responses_outcome e held [] = still e
 responses_outcome e held (response ∷ responses) = emits e [] (to_peer held (re_config (response ∷ responses)))
 
--- Behind what the user is told come the answers, and then a flush; or, where the chunk is an error, neither.
+-- After the events come the answers, and then a flush; if the chunk is an error, neither does.
 abbrev pub responses_by : Bool → Endpoint → List (Event Emission) → Held → List ResetParameter → List ResetParameter → List Answer → Outcome
 responses_by true e told held parameters responses answers = quiet e [] (told ++ error ProtocolViolation (reset_refusal_text parameters) ∷ [])
 responses_by false e told held parameters responses answers =
@@ -187,7 +187,7 @@ pub record WorksResets (e : Endpoint) (my : Pair) (held : Held) (parameters : Li
       (worked_in e my held parameters).answers answers
   pub is : o ≡ resets_by e held (worked_in e my held parameters) parameters left answers
 
--- A RE-CONFIG with these parameters comes in; without a peer nothing happens.
+-- A RE-CONFIG with these parameters is received; without a peer nothing happens.
 abbrev pub ResetTurn : Endpoint → Core → List ResetParameter → Outcome → Type 0
 ResetTurn e (cookie_echoed my held cookie) parameters o = WorksResets e my held parameters o
 ResetTurn e (open_in phase my held) parameters o = WorksResets e my held parameters o

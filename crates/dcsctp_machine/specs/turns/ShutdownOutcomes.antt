@@ -15,7 +15,7 @@ use Rattle.dcsctp_machine.specs.turns.EndOutcomes.{ended_outcome, reflected_outc
 
 -- ---- T2-shutdown
 
--- Each wait is twice the last one, without a bound, and the options say how often a packet is sent again.
+-- Each wait is twice the last one, without a limit, and the options say how often a packet is sent again.
 abbrev pub t2_settings : Options → ℕ → TimerSettings
 t2_settings options rto = record { duration = rto; terms = record { backoff = Exponential; max_restarts = options.max_retransmissions; max_backoff = None } }
 
@@ -29,7 +29,7 @@ t2_goes_on e = record e { timers = record e.timers { t2 = option_map (going_on e
 
 -- ---- what is sent
 
--- the cumulative TSN of what came in, as its field holds it
+-- the cumulative TSN of what was received, as its field holds it
 abbrev pub received_tsn : Option Transfer → ℕ
 received_tsn None = 0
 received_tsn (Some transfer) = transfer.tracker.cumulative_tsn % 2 ^ 32
@@ -54,7 +54,7 @@ shutdown_is_sent e my held = sends_shutdown (t2_begun (phase_at e shutdown_sent 
 abbrev pub shutdown_ack_is_sent : Endpoint → Pair → Held → Outcome
 shutdown_ack_is_sent e my held = sends_shutdown_ack (t2_begun (phase_at e shutdown_ack_sent my held)) held
 
--- Is nothing that was sent still to be acknowledged? What was given up isn't; what waits to be sent isn't looked at.
+-- Is nothing that was sent still to be acknowledged? What was abandoned isn't, and what waits to be sent doesn't count.
 abbrev pub is_all_acknowledged : Option Transfer → Bool
 is_all_acknowledged None = true
 is_all_acknowledged (Some transfer) = transfer.retransmission.unacknowledged_items == 0
@@ -69,7 +69,7 @@ abbrev pub step_outcome : Endpoint → Core → Outcome
 step_outcome e (open_in phase my held) = step_by (is_all_acknowledged e.below.transfer) e phase my held
 step_outcome e core = still e
 
--- The association gets to this phase, and may go on from there.
+-- The association enters this phase, and may go on from there.
 abbrev pub step_from : Endpoint → OpenPhase → Pair → Held → Outcome
 step_from e phase my held = step_by (is_all_acknowledged e.below.transfer) (phase_at e phase my held) phase my held
 
@@ -83,8 +83,8 @@ abbrev pub shut_down_open : Endpoint → OpenPhase → Pair → Held → Outcome
 shut_down_open e established my held = step_from e shutdown_pending my held
 shut_down_open e phase my held = still e
 
--- The user shuts the association down. One that has no peer yet ends; one whose COOKIE ACK is awaited never connects then. Its change
--- is `shutdown_call_change`.
+-- The user shuts the association down. One that has no peer yet ends; one whose COOKIE ACK is awaited will never connect. Its
+-- change is `shutdown_call_change`.
 abbrev pub shut_down_outcome : Endpoint → Core → Outcome
 shut_down_outcome e closed = still e
 shut_down_outcome e (cookie_wait my) = ended_outcome (quiet e [] []) events.closed
@@ -100,7 +100,8 @@ shutdown_outcome_in e shutdown_sent my held = shutdown_ack_is_sent e my held
 shutdown_outcome_in e shutdown_received my held = still e
 shutdown_outcome_in e shutdown_ack_sent my held = shutdown_ack_is_sent e my held
 
--- A SHUTDOWN comes in, from a peer whose COOKIE ACK isn't awaited. Its cumulative TSN ack isn't used. Its change is `shutdown_change`.
+-- A SHUTDOWN is received, from a peer whose COOKIE ACK isn't awaited. Its cumulative TSN ack isn't used. Its change is
+-- `shutdown_change`.
 abbrev pub shutdown_outcome : Endpoint → Core → Outcome
 shutdown_outcome e (open_in phase my held) = shutdown_outcome_in e phase my held
 shutdown_outcome e core = still e
@@ -114,7 +115,7 @@ shutdown_ack_outcome_in e shutdown_sent held header = completed_outcome e held
 shutdown_ack_outcome_in e shutdown_ack_sent held header = completed_outcome e held
 shutdown_ack_outcome_in e phase held header = reflected_outcome e header
 
--- A SHUTDOWN ACK comes in, in a packet of this tag. Its change is `shutdown_ack_change`.
+-- A SHUTDOWN ACK is received, in a packet of this tag. Its change is `shutdown_ack_change`.
 abbrev pub shutdown_ack_outcome : Endpoint → Core → ℕ → Outcome
 shutdown_ack_outcome e (open_in phase my held) header = shutdown_ack_outcome_in e phase held header
 shutdown_ack_outcome e core header = reflected_outcome e header
@@ -123,7 +124,8 @@ abbrev pub shutdown_complete_outcome_in : Endpoint → OpenPhase → Outcome
 shutdown_complete_outcome_in e shutdown_ack_sent = ended_outcome (quiet e [] []) events.closed
 shutdown_complete_outcome_in e phase = still e
 
--- SHUTDOWN COMPLETE counts where a SHUTDOWN ACK waits for it (RFC 9260, section 8.5.1, C). Its change is `shutdown_complete_change`.
+-- SHUTDOWN COMPLETE counts while a SHUTDOWN ACK waits for it (RFC 9260, section 8.5.1, C). Its change is
+-- `shutdown_complete_change`.
 abbrev pub shutdown_complete_outcome : Endpoint → Core → Outcome
 shutdown_complete_outcome e (open_in phase my held) = shutdown_complete_outcome_in e phase
 shutdown_complete_outcome e core = still e
@@ -139,10 +141,10 @@ abbrev pub sent_again : Endpoint → Core → Outcome
 sent_again e (open_in phase my held) = sent_again_in e phase held
 sent_again e core = still e
 
--- T2 has expired with a restart left: SHUTDOWN or SHUTDOWN ACK goes out again. Its change is `shutdown_again_change`.
+-- T2 has expired with a restart left: SHUTDOWN or SHUTDOWN ACK is sent again. Its change is `shutdown_again_change`.
 abbrev pub t2_again_outcome : Endpoint → Outcome
 t2_again_outcome e = sent_again (t2_goes_on e) e.core
 
--- Data comes while a SHUTDOWN waits for its answer: another one goes out, and T2 starts anew.
+-- Data comes while a SHUTDOWN waits for its answer: another one is sent, and T2 starts anew.
 abbrev pub shutdown_repeated : Endpoint → Held → Outcome
 shutdown_repeated e held = sends_shutdown (t2_begun e) held

@@ -15,7 +15,7 @@ use Rattle.dcsctp_machine.specs.turns.HandshakeOutcomes.{init_emission, echo_emi
 abbrev pub t1_goes_on : Endpoint → Endpoint
 t1_goes_on e = record e { timers = record e.timers { t1 = option_map (going_on e.moment) e.timers.t1 } }
 
--- The packet that isn't answered yet goes out again: INIT, or COOKIE ECHO in front of a flush, each where it fits.
+-- The packet that isn't answered yet is sent again: INIT, or COOKIE ECHO in front of a flush, each if it fits.
 abbrev pub again_by : FlushKind → Endpoint → Core → Outcome
 again_by flush e closed = still e
 again_by flush e (cookie_wait mine) = emits e [] (init_emission e mine)
@@ -25,14 +25,14 @@ again_by flush e (open_in phase mine held) = still e
 abbrev pub again_outcome : Endpoint → Core → Outcome
 again_outcome e core = again_by flush_outcome e core
 
--- T1 goes on, and the packet goes out. Its change is `t1_again_change`.
+-- T1 goes on, and the packet is sent. Its change is `t1_again_change`.
 abbrev pub t1_again_by : FlushKind → Endpoint → Core → Outcome
 t1_again_by flush e core = again_by flush (t1_goes_on e) core
 
 abbrev pub t1_again_outcome : Endpoint → Core → Outcome
 t1_again_outcome e core = t1_again_by flush_outcome e core
 
--- The answers that its flush may get, where there is one.
+-- The answers that its flush may get, if there is one.
 abbrev pub AgainAnswers : Endpoint → Core → List Answer → Type 0
 AgainAnswers e (cookie_echoed mine held cookie) answers = EchoAnswers (fits e (echo_emission held.peer.tag cookie)) e held.peer.tag cookie answers
 AgainAnswers e core answers = answers ≡ []
@@ -48,7 +48,7 @@ no_init_ack_text = codes "No INIT_ACK received"
 abbrev pub no_cookie_ack_text : List ℕ
 no_cookie_ack_text = codes "No COOKIE_ACK received"
 
--- The association is given up. Its change is `t1_gives_up_change`.
+-- The association ends. Its change is `t1_gives_up_change`.
 abbrev pub t1_gives_up_outcome : Endpoint → Core → Outcome
 t1_gives_up_outcome e closed = still e
 t1_gives_up_outcome e (cookie_wait mine) = ended_outcome (quiet e [] []) (aborted TooManyRetries no_init_ack_text)

@@ -1,11 +1,11 @@
--- What the transfer layer makes of what it is told. Which data it holds and how far it reaches is its own; what stands here is
--- what the rest of a socket relies on.
+-- What the transfer layer does with its inputs. Which data it has, and how far it got, is its own affair; here is what the rest
+-- of a socket relies on.
 use Rattle.std.specs.Prelude.{◌≡◌, ◌≤◌, ℕ, ◌+◌, ◌-◌, ◌*◌, ◌%◌, ◌^◌, Bool, true, false, not, ◌&&◌, ◌||◌, nat_le, nat_lt, None, IsSome, List, [], ◌∷◌, ◌++◌}
 use Rattle.dcsctp_machine.specs.Event.{Event, lifecycle_message_delivered, lifecycle_end}
 use Rattle.dcsctp_machine.specs.Packet.{Emission}
 use Rattle.dcsctp_machine.specs.Transfer.{MessageContent, TrackerState, ReassemblyState, Transfer}
 
--- ---- data that comes in
+-- ---- data that is received
 
 -- Is nine tenths of the receive window in use, or more? Then data is dropped.
 abbrev pub is_above_watermark : ReassemblyState → Bool
@@ -15,18 +15,18 @@ is_above_watermark state = nat_le (9 * state.window) (10 * (state.window - state
 abbrev pub tsns_ahead : ℕ → ℕ → ℕ
 tsns_ahead tsn other = (tsn + (2 ^ 32 - other % 2 ^ 32)) % 2 ^ 32
 
--- May data with this TSN be taken? It is at most 65,535 ahead of the cumulative TSN, or behind it.
+-- Is data with this TSN accepted? It has to be at most 65,535 ahead of the cumulative TSN, or before it.
 abbrev pub is_tsn_valid : TrackerState → ℕ → Bool
 is_tsn_valid state tsn =
     state.has_numbers_left && (nat_le (tsns_ahead tsn state.cumulative_tsn) 65535 || nat_le (2 ^ 31) (tsns_ahead tsn state.cumulative_tsn))
 
--- What waits to be taken by the user stays, and more may come behind it.
+-- What waits to be taken by the user stays, and more may come after it.
 pub record GainsMessages (old new : ReassemblyState) : Type 0 where
   pub more : List MessageContent
   pub messages : new.messages ≡ old.messages ++ more
   pub window : new.window ≡ old.window
 
--- A TSN was taken, and is to be acknowledged. Nothing of what goes out has changed.
+-- A TSN was accepted, and is to be acknowledged. The sending side is unchanged.
 pub record TakesTsn (old new : Transfer) : Type 0 where
   pub retransmission : new.retransmission ≡ old.retransmission
   pub timeout : new.timeout ≡ old.timeout
@@ -34,28 +34,28 @@ pub record TakesTsn (old new : Transfer) : Type 0 where
   pub delay : new.tracker.delayed_acknowledgement ≡ None
   pub reassembly : GainsMessages old.reassembly new.reassembly
 
--- The TSN is taken, or nothing changes.
+-- The TSN is accepted, or nothing changes.
 abbrev pub TakesWhere : Bool → Transfer → Transfer → Type 0
 TakesWhere true old new = TakesTsn old new
 TakesWhere false old new = new ≡ old
 
--- DATA or I-DATA with this TSN came in: it is dropped where the window is nearly used up, and where its TSN is too far ahead
--- (RFC 9260, sections 6.2 and 6.5).
+-- DATA or I-DATA with this TSN was received. It is dropped if the window is nearly used up, and if its TSN is too far ahead (RFC
+-- 9260, sections 6.2 and 6.5).
 abbrev pub ReceivesData : ℕ → Transfer → Transfer → Type 0
 ReceivesData tsn old new = TakesWhere (not (is_above_watermark old.reassembly) && is_tsn_valid old.tracker tsn) old new
 
--- Data with the I flag is acknowledged at once, where it is taken (RFC 9260, section 6.2).
+-- Data with the I flag is acknowledged at once, if it is accepted (RFC 9260, section 6.2).
 abbrev pub HeedsFlag : Bool → ℕ → Transfer → Transfer → Type 0
 HeedsFlag immediate tsn old new =
     immediate ≡ true → is_above_watermark old.reassembly ≡ false → is_tsn_valid old.tracker tsn ≡ true → new.tracker.is_acknowledgement_due ≡ true
 
--- FORWARD-TSN or I-FORWARD-TSN with this new cumulative TSN came in (RFC 3758, section 3.6).
+-- FORWARD-TSN or I-FORWARD-TSN with this new cumulative TSN was received (RFC 3758, section 3.6).
 abbrev pub MovesForward : ℕ → Transfer → Transfer → Type 0
 MovesForward tsn old new = TakesWhere (is_tsn_valid old.tracker tsn) old new
 
 -- ---- acknowledging it
 
--- A packet was worked whole: what isn't acknowledged at once is so after a delay (RFC 9260, section 6.2).
+-- All of a packet was handled: what isn't acknowledged at once is so after a delay (RFC 9260, section 6.2).
 pub record EndsPacket (old new : TrackerState) : Type 0 where
   pub cumulative_tsn : new.cumulative_tsn ≡ old.cumulative_tsn
   pub numbers : new.has_numbers_left ≡ old.has_numbers_left
@@ -64,7 +64,7 @@ pub record EndsPacket (old new : TrackerState) : Type 0 where
   pub nothing : old.owes_acknowledgement ≡ false → new ≡ old
   pub delayed : old.owes_acknowledgement ≡ true → old.is_acknowledgement_due ≡ false → IsSome new.delayed_acknowledgement
 
--- all that came in is acknowledged
+-- all that was received is acknowledged
 abbrev pub acknowledged : TrackerState → TrackerState
 acknowledged state = record state { delayed_acknowledgement = None; is_acknowledgement_due = false; owes_acknowledgement = false }
 
@@ -74,12 +74,12 @@ delay_over state = record state { delayed_acknowledgement = None; is_acknowledge
 
 -- ---- what is acknowledged
 
--- what is told of messages with a name that were delivered
+-- the events about messages with a name that were delivered
 abbrev pub delivered_events : List ℕ → List (Event Emission)
 delivered_events [] = []
 delivered_events (id ∷ ids) = lifecycle_message_delivered id ∷ lifecycle_end id ∷ delivered_events ids
 
--- A SACK was taken into account (RFC 9260, section 6.2.1). Which messages end by it is told.
+-- A SACK was taken into account (RFC 9260, section 6.2.1). The events say which messages end by it.
 pub record TakesSack (old new : Transfer) : Type 0 where
   pub next_tsn : new.retransmission.next_tsn ≡ old.retransmission.next_tsn
   pub partial_reliability : new.retransmission.partial_reliability ≡ old.retransmission.partial_reliability
@@ -90,7 +90,7 @@ pub record TakesSack (old new : Transfer) : Type 0 where
   pub tracker : new.tracker ≡ old.tracker
   pub reassembly : new.reassembly ≡ old.reassembly
 
--- Does it acknowledge an item that no SACK has acknowledged before? One that was given up counts, too: whoever acknowledges a
+-- Does it acknowledge an item that no SACK has acknowledged before? One that was abandoned counts, too: whoever acknowledges a
 -- FORWARD-TSN is there (RFC 9260, section 8.1).
 abbrev pub has_acknowledged : Transfer → Transfer → Bool
 has_acknowledged old new = nat_lt new.retransmission.never_acknowledged_items old.retransmission.never_acknowledged_items

@@ -1,4 +1,4 @@
-//! Messages among the items: where they lie, and the end of one that is given up (RFC 3758, section 3.5).
+//! Messages among the items: where they lie, and the end of one that is abandoned (RFC 3758, section 3.5).
 
 ghost use Rattle.std.specs.Prelude.{◌≡◌, ◌<◌, ◌+◌, ◌^◌};
 ghost use Rattle.dcsctp_send_outstanding.specs.Messages.{IsEndOf};
@@ -17,9 +17,9 @@ impl Outstanding {
     ghost use Rattle.dcsctp_send_streams.specs.Telling.{contents};
     ghost use Rattle.dcsctp_send_queue.specs.Calls.{StopsDiscarding};
 
-    /// Drops what waits in the queue of the message of the item at the place. Where there was some, an
-    /// abandoned item without a payload stands for the end of the message. `begins_after_reset` says whether
-    /// streams were reset since the last item was added.
+    /// Drops the rest of the item's message that waits in the queue. If there was some, an abandoned item
+    /// without a payload stands for the end of the message. `begins_after_reset` says whether streams were
+    /// reset since the last item was added.
     pub fn discard_rest(
         &mut self,
         events: &mut Events,
@@ -47,7 +47,7 @@ impl Outstanding {
         Ok(())
     }
 
-    /// The places of the message of the item at this place: the first, and the one behind the last. A message
+    /// The places of the message of the item at this place: the first, and the one after the last. A message
     /// lies on consecutive TSNs, since the send queue ends one before it begins another.
     pub fn message_places(&self, place: usize) -> (usize, usize)
         requires { place < length self.now.items }
@@ -56,7 +56,7 @@ impl Outstanding {
         (self.message_start(place), self.message_end(place))
     }
 
-    // Does the item at the place bear the message?
+    // Does the item at the place carry the message?
     fn bears(&self, place: usize, message_id: u64) -> bool
         requires { place < length self.now.items }
         ensures { AtPlace self.now.items place (λ item. result ≡ (item.fragment.message_id == message_id)) }
@@ -80,7 +80,7 @@ impl Outstanding {
         0
     }
 
-    // The place behind the last of the message.
+    // The place after the last of the message.
     fn message_end(&self, place: usize) -> usize
         requires { place < length self.now.items }
         ensures { EndsMessage place result self.now.items }
@@ -98,7 +98,7 @@ impl Outstanding {
     }
 }
 
-// The end of an abandoned message, which never goes out.
+// The end of an abandoned message, which never is sent.
 fn end_of_message(alloc: Global, item: &Item, now: SocketTime, begins_after_reset: bool) -> Item
     ensures { IsEndOf now begins_after_reset item.now result }
 {

@@ -14,7 +14,7 @@ impl Outstanding {
     ghost use Rattle.dcsctp_send_outstanding.specs.Reports.{IsWithin, Names, IsNewlyAcknowledged, IsLast};
     ghost use Rattle.dcsctp_send_outstanding.specs.NamedPlaces.{AreSettledBetween, BlocksAreSettled};
 
-    // The place, where its item is neither acknowledged nor abandoned.
+    // The place, if its item is neither acknowledged nor abandoned.
     fn unacknowledged_at(&self, place: usize) -> Option<usize>
         requires { place < length self.now.items }
         ensures { IsLast (λ k item. IsWithin place (place + 1) k × (is_unacknowledged item.progress.state ≡ true)) self.now.items result }
@@ -75,8 +75,8 @@ impl Outstanding {
         if start < limit { Some(limit - 1) } else { None }
     }
 
-    /// The last place with an item that the SACK acknowledges and none before did: among the first ones, so
-    /// many, and those that its blocks name.
+    /// The last place with an item that the SACK acknowledges and none before did: among that many first ones
+    /// and those that its blocks name.
     pub fn newest_reported(&self, count: usize, blocks: &[GapAckBlock]) -> Option<usize>
         requires { count ≤ length self.now.items }
         ensures { IsLast (IsNewlyAcknowledged count blocks.now) self.now.items result }
@@ -121,7 +121,7 @@ impl Outstanding {
         self.keep_named(count, blocks);
     }
 
-    // Keeps the places that the blocks name, whose items are settled, in place of those that were kept.
+    // Keeps the places that the blocks name, whose items are settled, instead of those that were kept.
     fn keep_named(&mut self, count: usize, blocks: &[GapAckBlock])
         requires count { count < 2 ^ 31 }
         requires settled { BlocksAreSettled count blocks.now self.old.items }
@@ -134,7 +134,7 @@ impl Outstanding {
         }
     }
 
-    // Forgets which places were named, and gives the room for them back where the flag says so.
+    // Forgets which places were named, and gives the room for them back if the flag says so.
     fn forget_named(&mut self, gives_back: bool)
         ensures { self.new ≡ self.old }
     {
@@ -157,7 +157,7 @@ impl Outstanding {
     }
 }
 
-// The places that the block names: the first, and the one behind the last.
+// The places that the block names: the first, and the one after the last.
 fn places_of(count: usize, block: GapAckBlock) -> (usize, usize)
     requires { count < 2 ^ 31 }
     ensures { (result.0 ≡ count + block.start - 1) × (result.1 ≡ count + block.end) }

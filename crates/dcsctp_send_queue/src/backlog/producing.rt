@@ -45,8 +45,8 @@ impl Backlog {
         }
     }
 
-    /// Has messages interleaved from now on, or not. Where that is new, other numbers count than before, and
-    /// the message under way takes the next one of its stream: so no other message has the same.
+    /// Sets whether messages are interleaved from now on. If that is new, other numbers count than before.
+    /// The message under way then takes the next one of its stream, so that no other message has the same.
     pub fn interleave(&mut self, enabled: bool)
         requires { CanGoOn self.old.streams self.old.under_way }
         ensures whole { self.new ≡ numbered_for enabled self.old }
@@ -84,7 +84,7 @@ impl Backlog {
         });
     }
 
-    // Is the oldest message of the stream too old to be begun?
+    // Is the oldest message of the stream too old to be started?
     fn is_front_expired(&self, place: usize, now: SocketTime) -> bool
         requires { place < length self.now.streams }
         ensures { (message : Waiting) → front_of (stream_at self.now.streams place).messages ≡ Some message → result ≡ is_expired now message }
@@ -95,8 +95,8 @@ impl Backlog {
         }
     }
 
-    /// The place of the stream whose turn it is, once the messages in front that are too old to be begun
-    /// are dropped; none where no message can be begun.
+    /// The place of the stream whose turn it is. Messages in front that are too old to be started are dropped
+    /// first. `None` if no message can be started.
     pub fn next_unexpired(
         &mut self,
         events: &mut Events,
@@ -153,8 +153,8 @@ impl Backlog {
         }
     }
 
-    /// Drops what is left of the message under way, if it is the one of this name and stream, and
-    /// answers whether it was.
+    /// Drops what is left of the message under way, if it is the one of this name and stream, and returns
+    /// whether it was.
     pub fn discard(
         &mut self,
         events: &mut Events,
@@ -205,8 +205,8 @@ impl Backlog {
         Ok(Some(data))
     }
 
-    /// Takes the first fragment, of at most `max` bytes, of the message that is next in turn; none where
-    /// no message can be begun.
+    /// Takes the first fragment, of at most `max` bytes, of the message that is next in turn; none if no
+    /// message can be started.
     #[inline(always)]
     pub fn begin_next(
         &mut self,
@@ -230,7 +230,7 @@ impl Backlog {
         Ok(Some(data))
     }
 
-    // Takes a fragment of so many bytes, which isn't the last.
+    // Takes a fragment of that many bytes, which isn't the last.
     #[inline(always)]
     fn produce_part(
         &mut self,

@@ -18,7 +18,7 @@ impl Backlog {
     ghost use Rattle.dcsctp_send_queue.specs.Backlog.{CanGoOn, begun, changed, ready_streams, is_ready};
     ghost use Rattle.dcsctp_send_queue.specs.Resets.{prepared, prepare_events, IsUsedAtMost, handing_out};
 
-    /// Drops the messages of the stream that aren't begun, and pauses it.
+    /// Drops the messages of the stream that haven't been started, and pauses it.
     pub fn pause(&mut self, events: &mut Events, place: usize) -> Result<(), AllocError>
         requires { place < length self.old.streams }
         ensures ok { OnOk result (self.new ≡ after_pause place self.old) }
@@ -35,7 +35,7 @@ impl Backlog {
         Ok(())
     }
 
-    /// Drops the messages of the stream that aren't begun, and pauses it, where it isn't paused yet.
+    /// Drops the messages of the stream that haven't been started, and pauses it, if it isn't paused yet.
     pub fn prepare(&mut self, events: &mut Events, stream_id: StreamId) -> Result<(), AllocError>
         ensures ok { OnOk result (self.new ≡ prepared stream_id.0 self.old) }
         ensures told { OnOk result (contents events.new ≡ contents events.old ++ prepare_events stream_id.0 self.old) }

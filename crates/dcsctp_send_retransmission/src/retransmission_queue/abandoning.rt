@@ -1,4 +1,4 @@
-//! Giving messages up, and telling the peer (RFC 3758, section 3.5; RFC 8260, section 2.3.1).
+//! Abandoning messages, and telling the peer (RFC 3758, section 3.5; RFC 8260, section 2.3.1).
 
 ghost use Rattle.std.specs.Prelude.{◌≡◌, ◌++◌, true, OnOk, OnErr};
 ghost use Rattle.dcsctp_send_streams.specs.Telling.{contents, TellsFront};
@@ -20,7 +20,7 @@ impl RetransmissionQueue {
     ghost use Rattle.dcsctp_send_retransmission.specs.States.{RefusesUpAt, RefusesClosing, GivesUpAt, Closes, stage};
     ghost use Rattle.dcsctp_send_retransmission.specs.GivingUp.{GivesUpDue, GivesUpIf};
 
-    // Is the message of the item at the place to be given up in place of being sent again?
+    // Is the message of the item at the place to be abandoned instead of being sent again?
     pub(super) fn is_to_be_given_up(&self, place: usize, now: SocketTime) -> bool
         requires { place < length self.now.outstanding.items }
         ensures { AtPlace self.now.outstanding.items place (λ item. result ≡ is_due now self.now.partial_reliability item) }
@@ -28,7 +28,7 @@ impl RetransmissionQueue {
         self.partial_reliability && is_lost_for_good(self.outstanding.item(place), now)
     }
 
-    // Gives up the message of the item at the place, with what waits of it in the send queue.
+    // Abandons the message of the item at the place, with what waits of it in the send queue.
     pub(super) fn give_up(
         &mut self,
         events: &mut Events,
@@ -48,8 +48,8 @@ impl RetransmissionQueue {
         Ok(())
     }
 
-    // Tells that a message was given up whose last item is at the place; or drops what waits of it in the send
-    // queue, where it wasn't fully sent.
+    // Reports that the message whose last item is at the place was abandoned. If it wasn't fully sent, drops
+    // what waits of it in the send queue.
     fn close_message(
         &mut self,
         events: &mut Events,
@@ -74,11 +74,11 @@ impl RetransmissionQueue {
             .discard_rest(events, queue, now, place, self.reset_begun)
     }
 
-    /// Is a FORWARD-TSN due at the moment `now`? That is so where partial reliability was negotiated and the
-    /// first item that is outstanding was given up. First what is lost is given up, as `get_chunks_to_send` does,
-    /// up to the first item that is awaited still.
+    /// Is a FORWARD-TSN due at the moment `now`? Yes if partial reliability was negotiated and the first
+    /// outstanding item was abandoned. First what is lost is abandoned, as `get_chunks_to_send` does, up to
+    /// the first item that is still awaited.
     ///
-    /// `Err`: memory was refused. Some messages may have been given up.
+    /// `Err`: an allocation failed. Some messages may have been abandoned.
     pub fn should_send_forward_tsn(
         &mut self,
         events: &mut Events,
@@ -95,7 +95,7 @@ impl RetransmissionQueue {
         Ok(self.is_first_abandoned())
     }
 
-    // Gives up what is due, from the first item on up to one that is awaited still.
+    // Abandons what is due, from the first item on up to one that is still awaited.
     fn give_up_first(
         &mut self,
         events: &mut Events,
@@ -113,7 +113,7 @@ impl RetransmissionQueue {
         Ok(())
     }
 
-    // Gives up the message of the item at the place, where it is to be.
+    // Abandons the message of the item at the place, if it is to be.
     fn give_up_if_due(
         &mut self,
         events: &mut Events,
@@ -130,7 +130,7 @@ impl RetransmissionQueue {
         self.give_up(events, queue, now, place)
     }
 
-    // Was the item at the place neither acknowledged nor given up?
+    // Was the item at the place neither acknowledged nor abandoned?
     fn is_awaited(&self, place: usize) -> bool
         requires { place < length self.now.outstanding.items }
         ensures { AtPlace self.now.outstanding.items place (λ item. result ≡ is_unacknowledged item.progress.state) }
@@ -139,7 +139,7 @@ impl RetransmissionQueue {
         item.progress.state.is_unacknowledged()
     }
 
-    /// Was the message of the first item given up?
+    /// Was the message of the first item abandoned?
     pub fn is_first_abandoned(&self) -> bool
         ensures { result ≡ is_first_abandoned self.now.outstanding.items }
     {
@@ -182,7 +182,7 @@ fn is_over(moment: Option<SocketTime>, now: SocketTime) -> bool
     }
 }
 
-// Tells that the peer may have a message or not, where the message has a name.
+// Tells that the peer may have a message or not, if the message has a name.
 fn tell_maybe_expired(events: &mut Events, id: Option<LifecycleId>) -> Result<(), AllocError>
     ensures ok { OnOk result (contents events.new ≡ contents events.old ++ maybe_expired id) }
     ensures err { OnErr result (TellsFront (contents events.old) (maybe_expired id) (contents events.new)) }

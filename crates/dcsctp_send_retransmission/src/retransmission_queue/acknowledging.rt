@@ -24,14 +24,14 @@ impl RetransmissionQueue {
     ghost use Rattle.dcsctp_send_outstanding.specs.Reports.{IsNewlyAcknowledged, IsLast};
     ghost use Rattle.dcsctp_send_retransmission.specs.RoundTrip.{round_trip_at};
 
-    /// Takes a SACK into account, with its blocks in ascending order, apart from each other and from 1 on. TSNs
-    /// that were never sent are passed over (RFC 9260, sections 6.2.1, 6.3 and 7.2).
+    /// Takes a SACK into account, with its blocks in ascending order, apart from each other and from 1 on.
+    /// TSNs that were never sent are skipped (RFC 9260, sections 6.2.1, 6.3 and 7.2).
     ///
     /// An item that a block has reported stays acknowledged, whether later SACKs report it or not. For each
-    /// message whose last item the cumulative TSN passes, unless it was given up, two events tell that it was
-    /// delivered.
+    /// message whose last item the cumulative TSN passes, unless it was abandoned, two events report that it
+    /// was delivered.
     ///
-    /// `Err`: there is no memory for an event. A front part of the events stands, and the queue hasn't changed.
+    /// `Err`: an allocation failed; the first of the events have been added, and the queue is unchanged.
     pub fn handle_sack(
         &mut self,
         events: &mut Events,
@@ -64,7 +64,7 @@ impl RetransmissionQueue {
         })
     }
 
-    // Takes the peer's window from a SACK, and sees to the timer, where the cumulative TSN has passed so many
+    // Takes the peer's window from a SACK, and updates the timer; the cumulative TSN has passed that many
     // items (RFC 9260, section 6.3.2).
     fn settle(&mut self, now: SocketTime, a_rwnd: u32, count: usize)
         ensures { self.new ≡ settled_at now a_rwnd count self.old }
@@ -76,7 +76,7 @@ impl RetransmissionQueue {
         self.keep_timer(now);
     }
 
-    // Tells which messages the peer has, once the first items, so many, are acknowledged.
+    // Tells which messages the peer has, once that many first items are acknowledged.
     fn tell_delivered(&self, events: &mut Events, count: usize) -> Result<(), AllocError>
         requires { count ≤ length self.now.outstanding.items }
         ensures ok { OnOk result (events.new ≡ events.old ++ delivered (take count self.now.outstanding.items)) }
@@ -112,7 +112,7 @@ impl RetransmissionQueue {
         }
     }
 
-    // Acknowledges the first items, so many, and those that the blocks name behind them. Misses count before the
+    // Acknowledges that many first items and those that the blocks name after them. Misses count before the
     // place `limit`, by the newest TSN that is acknowledged now and wasn't before.
     fn acknowledge(
         &mut self,
@@ -163,9 +163,9 @@ impl RetransmissionQueue {
         self.congestion.is_in_fast_recovery() && 0 < count
     }
 
-    // The place before which the SACK reports missing what is in flight: that of the newest item that it
-    // acknowledges, or in fast recovery, where the cumulative TSN moves, of the last that a block names
-    // (RFC 9260, section 7.2.4).
+    // The place before which the SACK reports missing what is in flight. It is that of the newest item that
+    // it acknowledges. In fast recovery, if the cumulative TSN moves, it is that of the last item that a
+    // block names (RFC 9260, section 7.2.4).
     fn miss_limit(&self, count: usize, blocks: &[GapAckBlock], newest: Option<usize>) -> usize
         requires count { count ≤ length self.now.outstanding.items }
         requires newest { IsLast (IsNewlyAcknowledged count blocks.now) self.now.outstanding.items newest }

@@ -23,9 +23,9 @@ impl RetransmissionQueue {
     ghost use Rattle.dcsctp_send_retransmission.specs.Forwarding.{goes_on, entry_limit, Says};
     ghost use Rattle.dcsctp_send_retransmission.specs.Skipping.{Collects, Skips, TakesIn};
 
-    /// What a FORWARD-TSN says, or with interleaving an I-FORWARD-TSN: the last TSN of the row of items that
-    /// were given up, from the first on, and for each stream the last message that is skipped (RFC 3758,
-    /// section 3.5; RFC 8260, section 2.3.1). The row is cut where its streams fill a packet, and where streams
+    /// What a FORWARD-TSN says, or with interleaving an I-FORWARD-TSN (RFC 3758, section 3.5; RFC 8260,
+    /// section 2.3.1). It has the last TSN of the row of abandoned items at the front. For each stream it has
+    /// the last message that is skipped. The row ends early if its streams fill a packet, or where streams
     /// were reset.
     pub fn create_forward_tsn(&self) -> Result<ForwardTsn, AllocError>
         ensures { IfOk result (λ chunk. Says self.now chunk) }
@@ -43,8 +43,8 @@ impl RetransmissionQueue {
         })
     }
 
-    // Collects the last numbers of the row by stream, ordered and unordered messages apart, and answers how long
-    // the row is.
+    // Collects the last numbers of the row by stream, ordered and unordered messages apart, and returns how
+    // long the row is.
     fn skip(&self, numbers: &mut BTreeMap<(u16, bool), LastNumbers>) -> Result<usize, AllocError>
         requires { numbers.old.entries ≡ [] }
         ensures { IfOk result (λ count. Skips self.now count numbers.new.entries) }
@@ -77,7 +77,7 @@ impl RetransmissionQueue {
         self.interleaving || !fragment.is_unordered
     }
 
-    // How many entries a packet can bear, at least one.
+    // How many entries a packet can carry, at least one.
     fn entry_limit(&self) -> usize
         ensures { result ≡ entry_limit self.now.interleaving self.now.congestion.mtu }
     {
@@ -85,7 +85,7 @@ impl RetransmissionQueue {
         (self.congestion.mtu.saturating_sub(20) / size).max(1)
     }
 
-    // Takes the numbers of the item at the place in, unless there is no room for them.
+    // Adds the numbers of the item at the place, unless there is no room for them.
     fn take_in(
         &self,
         numbers: &mut BTreeMap<(u16, bool), LastNumbers>,

@@ -40,7 +40,7 @@ impl RetransmissionQueue {
         Ok(())
     }
 
-    // Puts the first marked chunk into the packet, where there is one, the windows allow it and it fits.
+    // Puts the first marked chunk into the packet, if there is one, the windows allow it and it fits.
     fn send_one_again(
         &mut self,
         events: &mut Events,
@@ -64,7 +64,7 @@ impl RetransmissionQueue {
         }
     }
 
-    // Sends the chunk at the place again, where it fits into the packet.
+    // Sends the chunk at the place again, if it fits into the packet.
     fn send_again_at(&mut self, place: usize, packet: &mut Packet) -> Result<bool, AllocError>
         requires { place < length self.old.outstanding.items }
         ensures fills { Fills self.old packet.old self.new packet.new }
@@ -96,7 +96,8 @@ impl RetransmissionQueue {
         self.outstanding.next_marked()
     }
 
-    // The place of the first chunk that is to be sent again. Messages that may not be sent again are given up.
+    // The place of the first chunk that is to be sent again. Messages that may not be sent again are
+    // abandoned.
     fn next_to_send_again(
         &mut self,
         events: &mut Events,
@@ -119,21 +120,21 @@ impl RetransmissionQueue {
         Ok(None)
     }
 
-    /// Do chunks wait that were found lost and are to go out at once, whatever the congestion window is
-    /// (RFC 9260, section 7.2.4)?
+    /// Do chunks wait that were found lost and are to be sent at once, whatever the congestion window is (RFC
+    /// 9260, section 7.2.4)?
     pub fn has_data_to_be_fast_retransmitted(&self) -> bool
         ensures { result ≡ (self.now.fast_retransmit_due && nat_lt 0 (marked_items self.now.outstanding.items)) }
     {
         self.fast_retransmit_due && 0 < self.outstanding.marked_items()
     }
 
-    /// The TSNs of the chunks that go out at once into a packet with so many bytes of room: the first of those
-    /// that are to be sent again, as many as fit. Those that are left go with `get_chunks_to_send`, and so does
-    /// one that may be given up, with all behind it.
+    /// The TSNs of the chunks that are sent at once, in a packet with that many bytes of room. They are the
+    /// first of those that are to be sent again, as many as fit. The others are left to `get_chunks_to_send`.
+    /// So is one that may be abandoned, with all after it.
     ///
-    /// The retransmission timer starts anew where the first item that is outstanding is among them.
+    /// The retransmission timer starts anew if the first item that is outstanding is among them.
     ///
-    /// `Err`: memory was refused. What was sent is outstanding.
+    /// `Err`: an allocation failed. What was sent is outstanding.
     pub fn get_chunks_for_fast_retransmit(
         &mut self,
         now: SocketTime,
@@ -153,7 +154,7 @@ impl RetransmissionQueue {
         Ok(packet.tsns)
     }
 
-    // Sees to the timer, which starts anew where the first item was sent again.
+    // Restarts the timer if the first item was sent again.
     fn time_again(&mut self, now: SocketTime, restarts: bool)
         ensures { self.new ≡ record self.old { timer = timer_with now self.old.outstanding.items (restarted restarts self.old.timer) } }
     {
@@ -163,8 +164,8 @@ impl RetransmissionQueue {
         self.keep_timer(now);
     }
 
-    // Puts marked chunks into the packet, the first ones first, while they fit, up to one that is to be given up.
-    // Is the first item that is outstanding among them?
+    // Puts marked chunks into the packet, the first ones first, while they fit, up to one that is to be
+    // abandoned. Is the first item that is outstanding among them?
     fn send_again_at_once(
         &mut self,
         now: SocketTime,

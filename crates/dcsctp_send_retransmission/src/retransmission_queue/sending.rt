@@ -19,15 +19,15 @@ impl RetransmissionQueue {
     ghost use Rattle.dcsctp_send_retransmission.specs.States.{stage, StepNew, Goes, GoesFilling, TriesPacket, SendsPacket};
     ghost use Rattle.dcsctp_send_retransmission.specs.Sending.{Keeps, Fills, Sends};
 
-    /// The TSNs of the chunks that go into a packet with so many bytes of room: those that are sent again, and
-    /// then, where none is left of these, new ones from the queue. A chunk goes where it fits and
+    /// The TSNs of the chunks that go into a packet with that many bytes of room. First come those that are
+    /// sent again; then, if none of these is left, new ones from the queue. A chunk is sent if it fits and
     /// `can_send_data`. The retransmission timer runs from then on.
     ///
-    /// A message that would be sent again more often than it may, or that has expired, is given up in place of
-    /// that, where partial reliability was negotiated (RFC 3758, section 3.5).
+    /// A message that would be sent again more often than it may, or that has expired, is abandoned instead,
+    /// if partial reliability was negotiated (RFC 3758, section 3.5).
     ///
-    /// `Err`: memory was refused. What was sent or taken from the queue is outstanding, and is sent again once
-    /// the timer expires.
+    /// `Err`: an allocation failed. What was sent or taken from the queue is outstanding, and is sent again
+    /// once the timer expires.
     pub fn get_chunks_to_send(
         &mut self,
         events: &mut Events,
@@ -56,7 +56,7 @@ impl RetransmissionQueue {
         tsns
     }
 
-    // Fills a packet, into which nothing was put yet, and answers the TSNs of its chunks.
+    // Fills a packet, into which nothing was put yet, and returns the TSNs of its chunks.
     fn fill_packet(
         &mut self,
         events: &mut Events,
@@ -126,7 +126,7 @@ impl RetransmissionQueue {
         Ok(())
     }
 
-    // Puts a new chunk with at most so many bytes of payload into the packet, where the queue gives one.
+    // Puts a new chunk with at most that many bytes of payload into the packet, if the queue gives one.
     #[inline(always)]
     fn send_one_new(
         &mut self,
@@ -163,7 +163,7 @@ impl RetransmissionQueue {
         }
     }
 
-    // The greatest payload of a chunk that fits into so many bytes; 0 where none fits.
+    // The greatest payload of a chunk that fits into that many bytes; 0 if none fits.
     fn payload_room(&self, room: usize) -> usize
         ensures value { result ≡ (min room 65532 - self.now.outstanding.header) / 4 * 4 }
         ensures none { result ≡ 0 → room < self.now.outstanding.header + 4 }

@@ -1,4 +1,4 @@
-//! The texts of error causes (RFC 9260, section 3.3.10), as a user is told them.
+//! The texts of error causes (RFC 9260, section 3.3.10), as the user sees them.
 
 ghost use Rattle.std.specs.Prelude.{◌≡◌, ◌++◌, ◌<◌, map, string_bytes, OnOk, IfOk};
 ghost use Rattle.dcsctp_wire.specs.Content.{cause_content};

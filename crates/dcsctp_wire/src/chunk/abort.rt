@@ -5,7 +5,7 @@ use crate::cause::ErrorCause;
 /// What an ABORT says: its T bit, the lowest of the flags, and its value, which is error causes.
 #[derive(Debug, Drop)]
 pub struct AbortChunk<'a> {
-    /// The T bit: does the packet bear the tag of the packets that its sender got?
+    /// The T bit: does the packet carry the tag of the packets that its sender got?
     pub tag_reflected: bool,
 
     /// Why, in their order.

@@ -8,7 +8,7 @@ ghost use Rattle.dcsctp_wire.specs.CleanBlocks.{blocks_in, is_range, IsRange, Be
 use super::{GapAckBlock, SackChunk};
 use std::alloc::{AllocError, Global};
 
-// Does it name a TSN, and none but such behind the cumulative one?
+// Does it name a TSN, and only TSNs after the cumulative one?
 fn is_range(block: GapAckBlock) -> bool
     ensures { result ≡ is_range block }
 {
@@ -43,7 +43,8 @@ fn touches(first: GapAckBlock, second: GapAckBlock) -> bool
     u32::from(second.start) <= u32::from(first.end) + 1
 }
 
-// Adds a block to these, of which `current` is the last and doesn't begin behind it. The answer is the last block then.
+// Adds a block to these, of which `current` is the last and doesn't begin after it. Returns the block that is
+// last then.
 fn add_block(
     joined: &mut Vec<GapAckBlock>,
     current: GapAckBlock,
@@ -64,7 +65,7 @@ fn add_block(
     Ok(block)
 }
 
-// Joins the blocks that touch, where they ascend.
+// Joins the blocks that touch, if they ascend.
 fn join_blocks(alloc: Global, ascending: &[GapAckBlock]) -> Result<Vec<GapAckBlock>, AllocError>
     requires ranges { All IsRange ascending.now }
     requires ascending { IsNonDecreasingBy (λ block. block.start) ascending.now }
@@ -82,11 +83,11 @@ fn join_blocks(alloc: Global, ascending: &[GapAckBlock]) -> Result<Vec<GapAckBlo
     Ok(joined)
 }
 
-/// The gap ack blocks of a SACK in order, whatever order the peer gave them in: ascending, with at least one
-/// TSN missing between two of them (RFC 9260, section 3.3.4).
+/// The gap ack blocks of a SACK in ascending order, whatever their order in the chunk (RFC 9260, section
+/// 3.3.4). Between two of them at least one TSN is missing.
 ///
-/// A block that begins at 0, or ends before it begins, is left out. Of a SACK without blocks no memory is
-/// taken; else the one error is that there is none.
+/// A block that begins at 0, or ends before it begins, is left out. For a SACK without blocks nothing is
+/// allocated.
 pub fn clean_sack(alloc: Global, sack: &SackChunk<'_>) -> Result<Vec<GapAckBlock>, AllocError>
     ensures { IfOk result (λ blocks. AreCleaned (blocks_in sack.now.gap_ack_blocks.now) blocks.items) }
 {

@@ -99,7 +99,7 @@ impl<'a> IForwardTsnChunk<'a> {
     }
 }
 
-/// The FORWARD-TSN of this value, where its streams are whole.
+/// The FORWARD-TSN of this value, if its streams are whole.
 #[tactic(auto, unfolding(crate::specs::Fields::forward_tsn_in))]
 pub(super) fn read_forward_tsn(value: &[u8]) -> Option<Chunk<'_>>
     ensures { option_map chunk_content result ≡ forward_tsn_in value.now }
@@ -113,7 +113,7 @@ pub(super) fn read_forward_tsn(value: &[u8]) -> Option<Chunk<'_>>
     }))
 }
 
-/// The I-FORWARD-TSN of this value, where its streams are whole.
+/// The I-FORWARD-TSN of this value, if its streams are whole.
 #[tactic(auto, unfolding(crate::specs::Fields::i_forward_tsn_in))]
 pub(super) fn read_i_forward_tsn(value: &[u8]) -> Option<Chunk<'_>>
     ensures { option_map chunk_content result ≡ i_forward_tsn_in value.now }

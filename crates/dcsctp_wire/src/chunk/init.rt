@@ -9,7 +9,7 @@ use crate::packet::PacketError;
 use crate::parameter::{Parameter, read_parameters};
 use std::alloc::Global;
 
-/// The smallest receive window that is taken, in bytes (RFC 9260, section 3.3.2).
+/// The smallest receive window that is accepted, in bytes (RFC 9260, section 3.3.2).
 const MIN_A_RWND: u32 = 1500;
 
 /// What an INIT or INIT ACK says.
@@ -24,7 +24,7 @@ const MIN_A_RWND: u32 = 1500;
 /// | 16 | | parameters |
 #[derive(Debug, Drop)]
 pub struct InitChunk<'a> {
-    /// The verification tag that packets to the sender of this chunk bear.
+    /// The verification tag that packets to the sender of this chunk carry.
     pub initiate_tag: u32,
 
     /// The sender's receive window in bytes.
@@ -47,9 +47,9 @@ pub struct InitChunk<'a> {
 ///
 /// # Errors
 ///
-/// `Malformed` where the value is cut off, where the tag or a number of streams is 0, where the window
-/// is below 1,500 bytes, and where no parameters follow. `OutOfMemory` where the list of parameters
-/// can't grow.
+/// `Malformed` if the value is cut off, if the tag or a number of streams is 0, or if the window is below
+/// 1,500 bytes. So it is if the bytes after the fields aren't parameters. `OutOfMemory` if the list of
+/// parameters can't grow.
 pub(super) fn read_init(alloc: Global, value: &[u8]) -> Result<InitChunk<'_>, PacketError>
     ensures found { IfOk result (λ chunk. IsInitValue (init_content chunk) value.now) }
     ensures malformed { IsErrOf result PacketError.Malformed

@@ -78,7 +78,7 @@ impl<'a> SackChunk<'a> {
     }
 }
 
-/// The SACK of this value, where it is long enough for its blocks and duplicates.
+/// The SACK of this value, if it is long enough for its blocks and duplicates.
 #[tactic(auto, unfolding(crate::specs::Fields::sack_in))]
 pub(super) fn read_sack(value: &[u8]) -> Option<Chunk<'_>>
     ensures { option_map chunk_content result ≡ sack_in value.now }

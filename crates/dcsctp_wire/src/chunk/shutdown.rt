@@ -19,11 +19,11 @@ pub struct ShutdownChunk {
 /// What a SHUTDOWN COMPLETE says: the T bit, the lowest of the flags.
 #[derive(Clone, Copy, Debug)]
 pub struct ShutdownCompleteChunk {
-    /// The T bit: does the packet bear the tag of the packets that its sender got?
+    /// The T bit: does the packet carry the tag of the packets that its sender got?
     pub tag_reflected: bool,
 }
 
-/// The SHUTDOWN of this value, where it is long enough for a TSN.
+/// The SHUTDOWN of this value, if it is long enough for a TSN.
 #[tactic(auto, unfolding(crate::specs::Fields::shutdown_in))]
 pub(super) fn read_shutdown(value: &[u8]) -> Option<Chunk<'_>>
     ensures { option_map chunk_content result ≡ shutdown_in value.now }

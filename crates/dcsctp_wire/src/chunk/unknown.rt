@@ -1,4 +1,4 @@
-//! A chunk of a type that is none of the others, which is read by its header alone (RFC 9260, section 3.2).
+//! A chunk of any other type, of which only the header is read (RFC 9260, section 3.2).
 
 /// A chunk's type, flags and value.
 #[derive(Clone, Copy, Debug)]

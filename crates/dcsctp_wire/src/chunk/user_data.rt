@@ -51,7 +51,7 @@ pub struct DataChunk<'a> {
     /// The payload protocol identifier.
     pub ppid: u32,
 
-    /// The user data. A sender leaves none out; a reader takes a chunk without any.
+    /// The user data. A sender always has some; a reader accepts a chunk without any.
     pub payload: &'a [u8],
 }
 
@@ -82,7 +82,7 @@ pub struct IDataChunk<'a> {
     /// With the B bit the payload protocol identifier, without it the number of the fragment.
     pub ppid_or_fsn: u32,
 
-    /// The user data. A sender leaves none out; a reader takes a chunk without any.
+    /// The user data. A sender always has some; a reader accepts a chunk without any.
     pub payload: &'a [u8],
 }
 
@@ -109,7 +109,7 @@ fn flags_from(flags: u8) -> DataFlags
     }
 }
 
-/// The DATA chunk of these flags and this value, where it is long enough for its fields.
+/// The DATA chunk of these flags and this value, if it is long enough for its fields.
 #[tactic(auto, unfolding(crate::specs::Fields::data_in))]
 pub(super) fn read_data(flags: u8, value: &[u8]) -> Option<Chunk<'_>>
     ensures { option_map chunk_content result ≡ data_in flags value.now }
@@ -127,7 +127,7 @@ pub(super) fn read_data(flags: u8, value: &[u8]) -> Option<Chunk<'_>>
     }))
 }
 
-/// The I-DATA chunk of these flags and this value, where it is long enough for its fields.
+/// The I-DATA chunk of these flags and this value, if it is long enough for its fields.
 #[tactic(auto, unfolding(crate::specs::Fields::i_data_in))]
 pub(super) fn read_i_data(flags: u8, value: &[u8]) -> Option<Chunk<'_>>
     ensures { option_map chunk_content result ≡ i_data_in flags value.now }
