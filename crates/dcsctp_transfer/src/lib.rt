@@ -11,7 +11,7 @@ mod sacks;
 mod sending;
 mod transfer;
 
-pub use dcsctp_receive_reassembly::{Data, Numbering, SkippedTo};
+pub use dcsctp_receive::{Data, Numbering, SkippedTo};
 pub use queued_messages::QueuedMessages;
 pub use sacks::HandledSack;
 pub use transfer::Transfer;

@@ -2,7 +2,7 @@
 
 use dcsctp_api::{Message, SendOptions};
 use dcsctp_machine::{Options, SocketTime, StreamId};
-use dcsctp_send_queue::SendQueue;
+use dcsctp_send::SendQueue;
 use std::alloc::{AllocError, Global};
 use std::marker::Model;
 

@@ -16,7 +16,7 @@ ghost use Rattle.dcsctp_machine.specs.turns.TransferMoves.{
 use crate::transfer::Transfer;
 use dcsctp_api::Message;
 use dcsctp_machine::SocketTime;
-use dcsctp_receive_reassembly::{Data, SkippedTo};
+use dcsctp_receive::{Data, SkippedTo};
 use std::alloc::AllocError;
 
 impl Transfer {

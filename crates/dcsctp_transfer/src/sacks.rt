@@ -8,7 +8,7 @@ ghost use Rattle.dcsctp_transfer.specs.Sacks.{HandlesSack, LosesWhere};
 use crate::transfer::Transfer;
 use dcsctp_api::Events;
 use dcsctp_machine::SocketTime;
-use dcsctp_send_retransmission::HandleSackResult;
+use dcsctp_send::HandleSackResult;
 use dcsctp_wire::{SackChunk, clean_sack};
 use std::alloc::AllocError;
 use std::time::Duration;

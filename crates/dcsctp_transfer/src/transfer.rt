@@ -1,10 +1,8 @@
 //! What belongs to an association: what is in flight, and what was received.
 
 use dcsctp_machine::{Capabilities, Options};
-use dcsctp_receive_reassembly::ReassemblyQueue;
-use dcsctp_receive_tracker::DataTracker;
-use dcsctp_send_retransmission::RetransmissionQueue;
-use dcsctp_send_timer::RetransmissionTimeout;
+use dcsctp_receive::{DataTracker, ReassemblyQueue};
+use dcsctp_send::{RetransmissionQueue, RetransmissionTimeout};
 use std::alloc::Global;
 use std::marker::Model;
 

@@ -1,6 +1,6 @@
 //! A link that loses, doubles and reorders what goes by it, as its seed says.
 
-use dcsctp_receive_reassembly::{Data, SkippedTo};
+use dcsctp_receive::{Data, SkippedTo};
 use dcsctp_wire::GapAckBlock;
 use rand_core::{Rng, SeedableRng};
 use rand_xoshiro::Xoshiro256PlusPlus;

@@ -4,8 +4,7 @@ use crate::link::{Link, Parcel};
 use crate::messages::Messages;
 use crate::sender::at;
 use dcsctp_api::Options;
-use dcsctp_receive_reassembly::{Data, ReassemblyQueue, SkippedTo};
-use dcsctp_receive_tracker::DataTracker;
+use dcsctp_receive::{Data, DataTracker, ReassemblyQueue, SkippedTo};
 use dcsctp_wire::clean_sack;
 use std::alloc::{AllocError, Global};
 use std::process::Abort;
@@ -39,7 +38,7 @@ impl Receiver {
     }
 
     // Handles data.
-    fn work_data(&mut self, tsn: u32, data: Data) -> Result<(), AllocError> {
+    fn receive_data(&mut self, tsn: u32, data: Data) -> Result<(), AllocError> {
         let is_open = !self.queue.is_full() && !self.queue.is_above_watermark();
         if is_open && self.tracker.is_tsn_valid(tsn) && self.tracker.observe(tsn, false)? {
             self.queue.add(tsn, data)?;
@@ -48,7 +47,7 @@ impl Receiver {
     }
 
     // Handles a FORWARD-TSN.
-    fn work_forward(&mut self, tsn: u32, skipped: &[SkippedTo]) -> Result<(), AllocError> {
+    fn receive_forward_tsn(&mut self, tsn: u32, skipped: &[SkippedTo]) -> Result<(), AllocError> {
         if self.tracker.is_tsn_valid(tsn) && self.tracker.handle_forward_tsn(tsn) {
             self.queue.handle_forward_tsn(tsn, skipped)?;
         }
@@ -56,10 +55,10 @@ impl Receiver {
     }
 
     // Handles what was received.
-    fn work(&mut self, parcel: Parcel) -> Result<(), AllocError> {
+    fn receive_parcel(&mut self, parcel: Parcel) -> Result<(), AllocError> {
         match parcel {
-            Parcel::Data { tsn, data } => self.work_data(tsn, data),
-            Parcel::Forward { tsn, skipped } => self.work_forward(tsn, skipped.as_slice()),
+            Parcel::Data { tsn, data } => self.receive_data(tsn, data),
+            Parcel::Forward { tsn, skipped } => self.receive_forward_tsn(tsn, skipped.as_slice()),
             Parcel::Sack { .. } => Ok(()),
         }
     }
@@ -84,13 +83,13 @@ impl Receiver {
     }
 
     // Handles a packet with what was received, and acknowledges it if that is due.
-    fn work_packet(
+    fn receive_packet(
         &mut self,
         outgoing: &mut Link,
         now: u64,
         parcel: Parcel,
     ) -> Result<(), AllocError> {
-        self.work(parcel)?;
+        self.receive_parcel(parcel)?;
         self.tracker.observe_packet_end(at(now));
         self.acknowledge(outgoing, now)
     }
@@ -115,7 +114,7 @@ impl Receiver {
     ) -> Result<(), AllocError> {
         for _ in 0..incoming.len() {
             if let Some(parcel) = incoming.take(now) {
-                self.work_packet(outgoing, now, parcel)?;
+                self.receive_packet(outgoing, now, parcel)?;
                 self.take_messages(rt, messages);
             }
         }
