@@ -16,20 +16,18 @@ use Rattle.dcsctp_machine.specs.declared.message.Message.{Message}
 use Rattle.dcsctp_core.specs.Errors.{ErrorCount}
 use Rattle.dcsctp_core.specs.declared.context.Context.{Context}
 use Rattle.dcsctp_core.specs.declared.state.State.{State}
-use Rattle.dcsctp_core.specs.declared.state.State.TheVariants.{CookieEchoed, Open}
-use Rattle.dcsctp_core.specs.declared.state.CookieEchoState.{CookieEchoState}
-use Rattle.dcsctp_core.specs.declared.state.OpenState.{OpenState}
 use Rattle.dcsctp_core.specs.declared.transmission_control_block.TransmissionControlBlock.{TransmissionControlBlock}
 use Rattle.std.specs.declared.alloc.AllocError.{AllocError}
 use Rattle.dcsctp_machine.specs.Event.{Event}
 use Rattle.dcsctp_transfer.specs.Sacks.{HandlesSack}
 use Rattle.dcsctp_transfer.specs.declared.sacks.HandledSack.{HandledSack}
-use Rattle.dcsctp_core.specs.View.{View, transfer_of, endpoint_of, view_of, Moves}
+use Rattle.dcsctp_core.specs.View.{View, tcb_of, transfer_of, endpoint_of, view_of, Moves}
 use Rattle.dcsctp_core.specs.Handling.{TakesIn}
 use Rattle.dcsctp_core.specs.Timing.{is_timer_due, ExpiryTurn, ExpiresAlways}
 use Rattle.dcsctp_core.specs.Flushing.{state_with}
 use Rattle.dcsctp_core.specs.Below.{ChangesBelow, ChangesWhere, SacksBelow, TakesFirst, TakesReady}
 use Rattle.dcsctp_core.proofs.FirstLemmas.{endpoint_with}
+use Rattle.dcsctp_core.proofs.LendingLemmas.{found, nobody, lent, left_with}
 
 pub below_view : {R : Type 0} (old : Context R) (state : State) (transfer after : Transfer) → transfer_of old.state ≡ Some transfer → state ≡ state_with old.state after
     → view_of (record old { state = state }) ≡ record (view_of old) { endpoint = with_transfer (endpoint_of old) after }
@@ -110,16 +108,10 @@ loss_not_due stream old state b answer waits changes =
 
 -- ---- a SACK
 
-pub sacks_echoed : (tsn : ℕ) (old : State) (echoed : CookieEchoState) (after : Transfer) (told telling : List (Event (List ℕ))) (result : Result HandledSack AllocError) → old ≡ CookieEchoed echoed
-    → HandlesSack tsn echoed.tcb.transfer told after telling result
-    → SacksBelow tsn (transfer_of old) old told (CookieEchoed (record echoed { tcb = record echoed.tcb { transfer = after } })) telling result
-sacks_echoed tsn old echoed after told telling result is h =
-    subst (λ (s : State). SacksBelow tsn (transfer_of s) s told (CookieEchoed (record echoed { tcb = record echoed.tcb { transfer = after } })) telling result) (sym is) (after, refl, h)
-
-pub sacks_open : (tsn : ℕ) (old : State) (opened : OpenState) (after : Transfer) (told telling : List (Event (List ℕ))) (result : Result HandledSack AllocError) → old ≡ Open opened
-    → HandlesSack tsn opened.tcb.transfer told after telling result → SacksBelow tsn (transfer_of old) old told (Open (record opened { tcb = record opened.tcb { transfer = after } })) telling result
-sacks_open tsn old opened after told telling result is h =
-    subst (λ (s : State). SacksBelow tsn (transfer_of s) s told (Open (record opened { tcb = record opened.tcb { transfer = after } })) telling result) (sym is) (after, refl, h)
+pub sacks_lent : (tsn : ℕ) (old : State) (tcb : TransmissionControlBlock) (after : Transfer) (told telling : List (Event (List ℕ))) (result : Result HandledSack AllocError) → Some tcb ≡ tcb_of old
+    → HandlesSack tsn tcb.transfer told after telling result → SacksBelow tsn (transfer_of old) old told (left_with old tcb after) telling result
+sacks_lent tsn old tcb after told telling result holds h =
+    subst (λ (f : Option Transfer). SacksBelow tsn f old told (left_with old tcb after) telling result) (sym (found old tcb holds)) (after, lent old tcb after holds, h)
 
 -- ---- a message that is taken
 
@@ -144,20 +136,13 @@ takes_first (Some message) old new first left window none = (
   first,
 )
 
-pub takes_echoed : (old : State) (echoed : CookieEchoState) (after : Transfer) (result : Option Message) → old ≡ CookieEchoed echoed
-    → IfSome result (λ message. echoed.tcb.transfer.reassembly.messages ≡ message_content message ∷ after.reassembly.messages)
-    → IfSome result (λ message. WithoutFirst echoed.tcb.transfer after) → echoed.tcb.transfer.reassembly.remaining_bytes ≤ after.reassembly.remaining_bytes
-    → IfNone result ((echoed.tcb.transfer.reassembly.messages ≡ []) × (after ≡ echoed.tcb.transfer))
-    → TakesReady (transfer_of old) old result (CookieEchoed (record echoed { tcb = record echoed.tcb { transfer = after } }))
-takes_echoed old echoed after result is first left window none =
-    subst (λ (s : State). TakesReady (transfer_of s) s result (CookieEchoed (record echoed { tcb = record echoed.tcb { transfer = after } }))) (sym is)
-    (after, refl, takes_first result echoed.tcb.transfer after first left window none)
+pub takes_lent : (old : State) (tcb : TransmissionControlBlock) (after : Transfer) (result : Option Message) → Some tcb ≡ tcb_of old
+    → IfSome result (λ message. tcb.transfer.reassembly.messages ≡ message_content message ∷ after.reassembly.messages)
+    → IfSome result (λ message. WithoutFirst tcb.transfer after) → tcb.transfer.reassembly.remaining_bytes ≤ after.reassembly.remaining_bytes
+    → IfNone result ((tcb.transfer.reassembly.messages ≡ []) × (after ≡ tcb.transfer)) → TakesReady (transfer_of old) old result (left_with old tcb after)
+takes_lent old tcb after result holds first left window none =
+    subst (λ (f : Option Transfer). TakesReady f old result (left_with old tcb after)) (sym (found old tcb holds))
+    (after, lent old tcb after holds, takes_first result tcb.transfer after first left window none)
 
-pub takes_open : (old : State) (opened : OpenState) (after : Transfer) (result : Option Message) → old ≡ Open opened
-    → IfSome result (λ message. opened.tcb.transfer.reassembly.messages ≡ message_content message ∷ after.reassembly.messages)
-    → IfSome result (λ message. WithoutFirst opened.tcb.transfer after) → opened.tcb.transfer.reassembly.remaining_bytes ≤ after.reassembly.remaining_bytes
-    → IfNone result ((opened.tcb.transfer.reassembly.messages ≡ []) × (after ≡ opened.tcb.transfer))
-    → TakesReady (transfer_of old) old result (Open (record opened { tcb = record opened.tcb { transfer = after } }))
-takes_open old opened after result is first left window none =
-    subst (λ (s : State). TakesReady (transfer_of s) s result (Open (record opened { tcb = record opened.tcb { transfer = after } }))) (sym is)
-    (after, refl, takes_first result opened.tcb.transfer after first left window none)
+pub takes_nobody : (old : State) → None ≡ tcb_of old → TakesReady (transfer_of old) old None old
+takes_nobody old none = subst (λ (f : Option Transfer). TakesReady f old None old) (sym (nobody old none)) (refl, refl)

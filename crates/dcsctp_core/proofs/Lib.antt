@@ -7,6 +7,7 @@ pub mod FillLemmas
 pub mod FirstLemmas
 pub mod FlushLemmas
 pub mod ForwardLemmas
+pub mod LendingLemmas
 pub mod LoopLemmas
 pub mod Moving
 pub mod ResetLemmas

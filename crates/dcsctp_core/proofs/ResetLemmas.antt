@@ -9,10 +9,10 @@ use Rattle.dcsctp_wire.specs.Spelling.{chunk_bytes}
 use Rattle.dcsctp_machine.specs.Packet.{chunk_out}
 use Rattle.dcsctp_machine.specs.Reconfiguration.{RequestedReset}
 use Rattle.dcsctp_machine.specs.control.FlushChanges.{reset_request}
-use Rattle.dcsctp_machine.specs.turns.BegunResets.{streams_within, stream_field, BegunReset, last_assigned_tsn, begun_where, rto_of, held_begun, core_asking, after_begun}
+use Rattle.dcsctp_machine.specs.turns.BegunResets.{streams_within, stream_field, BegunReset, last_assigned_tsn, begun_in, begun_where, rto_of, held_begun, core_asking, after_begun}
 use Rattle.dcsctp_machine.proofs.AnswerLemmas.{request_len}
 use Rattle.std.proofs.lemmas.Bool.Decides.{nat_tests}
-use Rattle.dcsctp_core.specs.Resetting.{IsStream, StartsReset, BeginsReset, request_begun, timer_begun, BeginsIn, BeginsBelow}
+use Rattle.dcsctp_core.specs.Resetting.{IsStream, StartsReset, BeginsReset, request_begun, timer_begun, Begins, BeginsIn, BeginsBelow}
 use Rattle.std.specs.List.{AllByRecursion}
 use Rattle.std.specs.Prelude.{is_some}
 use Rattle.std.specs.declared.alloc.AllocError.{AllocError}
@@ -20,7 +20,10 @@ use Rattle.dcsctp_wire_build.specs.Building.{Building, bytes_remaining}
 use Rattle.dcsctp_machine.specs.Transfer.{QueuedStream, SendQueueState, handing, queue_handing_out, is_none_ready, Transfer}
 use Rattle.dcsctp_core.specs.declared.transmission_control_block.ResetRequest.{ResetRequest}
 use Rattle.dcsctp_core.specs.declared.transmission_control_block.TransmissionControlBlock.{TransmissionControlBlock}
-use Rattle.dcsctp_core.specs.View.{number_of, held_of, core_of, phase_in, tie_of, t1_of, t2_of, outstanding_of, reconfiguration_of, transfer_of, endpoint_of, view_of, View}
+use Rattle.dcsctp_core.specs.Reconfiguring.{tcb_changed}
+use Rattle.dcsctp_core.proofs.LendingLemmas.{within, found}
+use Rattle.dcsctp_core.proofs.LoopLemmas.{held_by_tcb}
+use Rattle.dcsctp_core.specs.View.{number_of, tcb_of, held_of, core_of, phase_in, tie_of, t1_of, t2_of, outstanding_of, reconfiguration_of, transfer_of, endpoint_of, view_of, View}
 use Rattle.dcsctp_machine.specs.declared.association.Pair.{Pair}
 use Rattle.dcsctp_machine.specs.declared.association.Held.{Held}
 use Rattle.dcsctp_machine.specs.Endpoint.{Endpoint, Core, cookie_echoed, open_in, OpenPhase, OutstandingRequest, RunningTimer}
@@ -254,3 +257,28 @@ pub tries_reset : {R : Type 0} (old new : Context R) (state : State) (queue : Se
 tries_reset {R = R} old new state queue packet filled (Ok done) same h =
     subst (λ (v : View R). BeginsAt (transfer_of old.state) (view_of old) packet v filled) (sym same) (begun_below old (transfer_of old.state) state queue packet filled refl h)
 tries_reset {R = R} old new state queue packet filled (Err error) same h = ap (λ (v : View R). v.events) same
+
+-- ---- where the association was lent
+
+begins_in : (now : ℕ) (begun : Option BegunReset) (state : State) (tcb after : TransmissionControlBlock) → Some tcb ≡ tcb_of state → Begins now begun tcb after
+    → BeginsIn now begun state (tcb_changed (λ _. after) state)
+begins_in now begun Closed tcb after holds begins = refl
+begins_in now begun (CookieWait wait) tcb after holds begins = refl
+begins_in now begun (CookieEchoed echoed) tcb after holds begins = (after, subst (λ (t : TransmissionControlBlock). Begins now begun t after) (within holds) begins, refl)
+begins_in now begun (Open opened) tcb after holds begins = (after, subst (λ (t : TransmissionControlBlock). Begins now begun t after) (within holds) begins, refl)
+
+pub begins_lent : {R : Type 0} (old : Context R) (tcb after : TransmissionControlBlock) (queue : SendQueueState) (packet filled : Building) (result : Result (Unit {0}) AllocError) → Some tcb ≡ tcb_of old.state
+    → OnOk result (BeginsReset old.moment old.send_queue tcb packet queue after filled)
+    → OnOk result (BeginsBelow old.moment (transfer_of old.state) old.send_queue old.state packet queue (tcb_changed (λ _. after) old.state) filled)
+begins_lent old tcb after queue packet filled (Err error) holds h = h
+begins_lent old tcb after queue packet filled (Ok done) holds h =
+    let room = bytes_remaining packet in
+    let last = last_assigned_tsn tcb.transfer.retransmission in
+    subst (λ (f : Option Transfer). BeginsBelow old.moment f old.send_queue old.state packet queue (tcb_changed (λ _. after) old.state) filled) (sym (found old.state tcb holds))
+    (record {
+      begun = h.begun;
+      is = h.is ∙ ap (λ (held : Option Held). begun_in held room last old.send_queue) (sym (held_by_tcb old.state tcb holds));
+      begins = begins_in old.moment h.begun old.state tcb after holds h.begins;
+      packet_is = h.packet_is;
+      hands_out = h.hands_out;
+    })

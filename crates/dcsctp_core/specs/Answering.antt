@@ -4,8 +4,6 @@ use Rattle.std.specs.Option.{option_map}
 use Rattle.dcsctp_machine.specs.Endpoint.{started}
 use Rattle.dcsctp_send_timer.specs.Timer.{TimerModel}
 use Rattle.dcsctp_machine.specs.turns.BegunResets.{reconfiguration_settings}
-use Rattle.dcsctp_core.specs.declared.state.State.{State}
-use Rattle.dcsctp_core.specs.declared.state.State.TheVariants.{Closed, CookieWait, CookieEchoed, Open}
 use Rattle.dcsctp_core.specs.declared.transmission_control_block.ResetRequest.{ResetRequest}
 use Rattle.dcsctp_core.specs.declared.transmission_control_block.TransmissionControlBlock.{TransmissionControlBlock}
 
@@ -20,12 +18,6 @@ pub record Retries (now : ℕ) (old new : TransmissionControlBlock) : Type 0 whe
   pub timer : TimerModel
   pub runs : timer.running ≡ started now (reconfiguration_settings old.transfer.timeout.rto)
   pub is : new ≡ record old { reset_request = option_map (delayed timer) old.reset_request }
-
-abbrev pub RetriesIn : ℕ → State → State → Type 0
-RetriesIn now Closed new = new ≡ Closed
-RetriesIn now (CookieWait wait) new = new ≡ CookieWait wait
-RetriesIn now (CookieEchoed echoed) new = (tcb : TransmissionControlBlock) × Retries now echoed.tcb tcb × (new ≡ CookieEchoed (record echoed { tcb = tcb }))
-RetriesIn now (Open opened) new = (tcb : TransmissionControlBlock) × Retries now opened.tcb tcb × (new ≡ Open (record opened { tcb = tcb }))
 
 -- ---- it has ended
 

@@ -19,7 +19,7 @@ use Rattle.dcsctp_transfer.specs.Filling.{TellsMore, FillsPacket, may_give, Ackn
 use Rattle.dcsctp_transfer.specs.Forwarding.{Forwards}
 use Rattle.dcsctp_core.specs.declared.context.Context.{Context}
 use Rattle.dcsctp_core.specs.declared.state.State.{State}
-use Rattle.dcsctp_core.specs.declared.state.State.TheVariants.{Closed, CookieWait, CookieEchoed, Open}
+use Rattle.dcsctp_core.specs.Reconfiguring.{tcb_changed}
 use Rattle.dcsctp_core.specs.View.{View, core_of, endpoint_of, view_of, transfer_of, Moves}
 
 -- a packet of these chunks that is being built, under this tag
@@ -45,10 +45,7 @@ packet_for options draft = packet_of options draft.with_checksum draft.packet.ta
 
 -- the state with this below its association, if the peer is known
 abbrev pub state_with : State → Transfer → State
-state_with Closed transfer = Closed
-state_with (CookieWait wait) transfer = CookieWait wait
-state_with (CookieEchoed echoed) transfer = CookieEchoed (record echoed { tcb = record echoed.tcb { transfer = transfer } })
-state_with (Open opened) transfer = Open (record opened { tcb = record opened.tcb { transfer = transfer } })
+state_with state transfer = tcb_changed (λ tcb. record tcb { transfer = transfer }) state
 
 -- A packet was filled with data, if the peer is known; whether any went in is the result.
 abbrev pub FillsBelow : Option Transfer → SendQueueState → List (Event (List ℕ)) → Building → State → State → SendQueueState → List (Event (List ℕ)) → Building → Bool → Type 0

@@ -4,6 +4,7 @@ pub mod Drawing
 pub mod Errors
 pub mod Flushing
 pub mod Handling
+pub mod Lending
 pub mod Phases
 pub mod Reconfiguring
 pub mod Resetting

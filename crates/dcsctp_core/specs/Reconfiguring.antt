@@ -8,6 +8,7 @@ use Rattle.dcsctp_core.specs.declared.state.State.TheVariants.{Closed, CookieWai
 use Rattle.dcsctp_core.specs.declared.transmission_control_block.ResetRequest.{ResetRequest}
 use Rattle.dcsctp_core.specs.declared.transmission_control_block.TransmissionControlBlock.{TransmissionControlBlock}
 use Rattle.dcsctp_core.specs.Timing.{timer_after}
+use Rattle.dcsctp_core.specs.View.{tcb_of, own_request}
 
 -- Is a request outstanding that the peer didn't answer?
 abbrev pub is_unanswered : Option ResetRequest → Bool
@@ -32,10 +33,7 @@ reconfiguration_told moment tcb = record tcb { reset_request = option_map (reque
 
 -- the outstanding request
 abbrev pub request_in : State → Option ResetRequest
-request_in Closed = None
-request_in (CookieWait wait) = None
-request_in (CookieEchoed echoed) = echoed.tcb.reset_request
-request_in (Open opened) = opened.tcb.reset_request
+request_in state = own_request (tcb_of state)
 
 -- the state with its association as this makes it
 abbrev pub tcb_changed : (TransmissionControlBlock → TransmissionControlBlock) → State → State

@@ -98,11 +98,12 @@ established_from (CookieWait wait) = CookieWait wait
 established_from (CookieEchoed echoed) = Open (record { phase = phases.Established; tcb = echoed.tcb })
 established_from (Open opened) = Open opened
 
+abbrev pub tie_in : Option TransmissionControlBlock → ℕ
+tie_in None = 0
+tie_in (Some tcb) = tcb.tie_tag
+
 abbrev pub tie_of : State → ℕ
-tie_of Closed = 0
-tie_of (CookieWait wait) = 0
-tie_of (CookieEchoed echoed) = echoed.tcb.tie_tag
-tie_of (Open opened) = opened.tcb.tie_tag
+tie_of state = tie_in (tcb_of state)
 
 abbrev pub t1_of : State → Option RunningTimer
 t1_of Closed = None
@@ -117,17 +118,15 @@ t2_of (CookieEchoed echoed) = None
 t2_of (Open opened) = t2_in opened.phase
 
 -- our outstanding request, and the timer by which it is sent again
+abbrev pub own_request : Option TransmissionControlBlock → Option ResetRequest
+own_request None = None
+own_request (Some tcb) = tcb.reset_request
+
 abbrev pub outstanding_of : State → Option OutstandingRequest
-outstanding_of Closed = None
-outstanding_of (CookieWait wait) = None
-outstanding_of (CookieEchoed echoed) = request_of echoed.tcb.reset_request
-outstanding_of (Open opened) = request_of opened.tcb.reset_request
+outstanding_of state = request_of (own_request (tcb_of state))
 
 abbrev pub reconfiguration_of : State → Option RunningTimer
-reconfiguration_of Closed = None
-reconfiguration_of (CookieWait wait) = None
-reconfiguration_of (CookieEchoed echoed) = timer_of echoed.tcb.reset_request
-reconfiguration_of (Open opened) = timer_of opened.tcb.reset_request
+reconfiguration_of state = timer_of (own_request (tcb_of state))
 
 -- An association that was just made, with this peer and this tie tag.
 pub record IsNew (options : Options) (own : Pair) (peer : Peer) (tie : ℕ) (tcb : TransmissionControlBlock) : Type 0 where
@@ -138,11 +137,12 @@ pub record IsNew (options : Options) (own : Pair) (peer : Peer) (tie : ℕ) (tcb
   pub tie_tag : tcb.tie_tag ≡ tie
   pub transfer : tcb.transfer ≡ new_transfer options peer.capabilities own.first_tsn peer.pair.first_tsn peer.a_rwnd
 
+abbrev pub transfer_in : Option TransmissionControlBlock → Option Transfer
+transfer_in None = None
+transfer_in (Some tcb) = Some tcb.transfer
+
 abbrev pub transfer_of : State → Option Transfer
-transfer_of Closed = None
-transfer_of (CookieWait wait) = None
-transfer_of (CookieEchoed echoed) = Some echoed.tcb.transfer
-transfer_of (Open opened) = Some opened.tcb.transfer
+transfer_of state = transfer_in (tcb_of state)
 
 -- What isn't kept in the parts is as in a socket that was just made.
 abbrev pub endpoint_of : {R : Type 0} → Context R → Endpoint

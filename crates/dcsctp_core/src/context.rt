@@ -310,7 +310,10 @@ impl<R: Rng> Context<R> {
     pub fn expire_retransmission(&mut self) -> bool
         ensures { ExpiresAlways R.stream (own_timer retransmission) self.old result self.new }
     {
-        if self.state.expire_retransmission(self.moment) {
+        let Some(tcb) = self.state.tcb_mut() else {
+            return false;
+        };
+        if tcb.transfer.expire_retransmission(self.moment) {
             self.tx_error_counter.increment();
             return true;
         }
@@ -325,10 +328,13 @@ impl<R: Rng> Context<R> {
         ensures left { view_of self.new ≡ where_expired result (request_over (endpoint_of self.old)
             (outstanding_of self.old.state)) (view_of self.old) }
     {
-        if !self.state.expire_reconfiguration(self.moment) {
+        let Some(tcb) = self.state.tcb_mut() else {
+            return false;
+        };
+        if !tcb.expire_reconfiguration(self.moment) {
             return false;
         }
-        if self.state.end_retry() {
+        if tcb.end_retry() {
             self.tx_error_counter.increment();
         }
         true

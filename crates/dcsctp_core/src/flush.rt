@@ -1,16 +1,17 @@
 //! A flush: what waits is sent, in as many packets as are allowed (RFC 9260, section 6.1).
 
-ghost use Rattle.std.specs.Prelude.{◌≡◌, ◌||◌, IsOk};
+ghost use Rattle.std.specs.Prelude.{◌≡◌, ◌||◌, false, Some, IsOk};
 ghost use Rattle.dcsctp_machine.specs.Transfer.{has_data};
 ghost use Rattle.dcsctp_machine.specs.turns.FlushOutcomes.{packets_allowed, first_ask, later_ask};
 ghost use Rattle.dcsctp_core.specs.View.{core_of, transfer_of, endpoint_of, view_of};
 ghost use Rattle.dcsctp_core.specs.Below.{AtOnceAt};
-ghost use Rattle.dcsctp_core.specs.Flushing.{Flushes, FurtherAt, AsksWith, FillsWith, TriesForward, forward_where, TriesReset, TriesData, HasNoData, HasNoReset, can_send_below, SendsUnlessEmpty, KeepsSize};
+ghost use Rattle.dcsctp_core.specs.Flushing.{Flushes, FurtherAt, AsksWith, FillsWith, TriesForward, forward_where, TriesReset, TriesData, HasNoData, HasNoReset, NeedsNone, can_send_below, SendsUnlessEmpty, KeepsSize};
 ghost use Rattle.dcsctp_core.specs.Handling.{TakesOne, FlushAt};
 
 use crate::context::Context;
 use crate::state::State;
 use dcsctp_api::{Options, SocketEvent, SocketTime};
+use dcsctp_transfer::{QueuedMessages, Transfer};
 use dcsctp_wire_build::SctpPacketBuilder;
 use rand_core::Rng;
 use std::alloc::AllocError;
@@ -30,6 +31,16 @@ fn packets_allowed(options: &Options, state: &State) -> u32
     }
 }
 
+// May anything go into the first packet of a flush: a SACK, a FORWARD-TSN, the request of a reset, or data? A
+// delayed SACK is sent along if data may follow.
+#[inline(always)]
+fn may_fill_first(transfer: &Transfer, queue: &QueuedMessages) -> bool
+    ensures { result ≡ false → NeedsNone first_ask queue.now (Some transfer.now) }
+{
+    let may_follow = queue.has_data_to_send() || transfer.can_send_data();
+    transfer.may_fill_first(queue, may_follow) || queue.has_streams_ready_to_be_reset()
+}
+
 impl<R: Rng> Context<R> {
     /// A flush: what waits is sent under the peer's tag, if the peer is known.
     ///
@@ -37,17 +48,15 @@ impl<R: Rng> Context<R> {
     pub fn send_buffered_packets(&mut self) -> Result<(), AllocError>
         ensures { TakesOne R.stream FlushAt self.old result self.new }
     {
+        let Some(tcb) = self.state.tcb() else {
+            return Ok(());
+        };
         // So that hardly a packet is made that would stay empty.
-        if !self.state.may_fill_first(&self.send_queue) {
+        if !may_fill_first(&tcb.transfer, &self.send_queue) {
             return Ok(());
         }
-        match self.state.tcb() {
-            None => {}
-            Some(tcb) => {
-                let packet = tcb.new_packet(self.alloc, &self.options)?;
-                self.send_buffered_packets_with(packet)?;
-            }
-        }
+        let packet = tcb.new_packet(self.alloc, &self.options)?;
+        self.send_buffered_packets_with(packet)?;
         Ok(())
     }
 
@@ -78,17 +87,15 @@ impl<R: Rng> Context<R> {
     pub fn send_at_once(&mut self) -> Result<(), AllocError>
         ensures { TakesOne R.stream AtOnceAt self.old result self.new }
     {
-        if !self.state.has_data_at_once() {
+        let Some(tcb) = self.state.tcb_mut() else {
+            return Ok(());
+        };
+        if !tcb.transfer.has_data_at_once() {
             return Ok(());
         }
-        match self.state.tcb() {
-            None => {}
-            Some(tcb) => {
-                let mut packet = tcb.new_packet(self.alloc, &self.options)?;
-                self.state.fill_at_once(self.moment, &mut packet)?;
-                self.send_unless_empty(packet)?;
-            }
-        }
+        let mut packet = tcb.new_packet(self.alloc, &self.options)?;
+        tcb.transfer.fill_at_once(self.moment, &mut packet)?;
+        self.send_unless_empty(packet)?;
         Ok(())
     }
 
@@ -98,12 +105,12 @@ impl<R: Rng> Context<R> {
     {
         let mut left = allowed;
         while 0 < left {
-            if !self.state.may_fill(&self.send_queue) {
-                return Ok(());
-            }
             let Some(tcb) = self.state.tcb() else {
                 return Ok(());
             };
+            if !tcb.transfer.may_fill(&self.send_queue) {
+                return Ok(());
+            }
             let packet = tcb.new_packet(self.alloc, &self.options)?;
             if !self.send_later(packet)? {
                 return Ok(());
@@ -148,8 +155,10 @@ impl<R: Rng> Context<R> {
         ensures turn { TriesReset packet.old self.old result self.new packet.new }
         ensures idle { HasNoReset self.old.send_queue (transfer_of self.old.state) → IsOk result }
     {
-        self.state
-            .begin_reset(self.alloc, self.moment, &mut self.send_queue, packet)
+        let Some(tcb) = self.state.tcb_mut() else {
+            return Ok(());
+        };
+        tcb.begin_reset(self.alloc, self.moment, &mut self.send_queue, packet)
     }
 
     // Puts a FORWARD-TSN into a packet if messages were abandoned, no sooner after the last one than it may
@@ -161,7 +170,10 @@ impl<R: Rng> Context<R> {
         if self.moment < self.no_forward_tsn_before {
             return Ok(());
         }
-        let next = self.state.forward_tsn(
+        let Some(tcb) = self.state.tcb_mut() else {
+            return Ok(());
+        };
+        let next = tcb.transfer.forward_tsn(
             &mut self.events,
             &mut self.send_queue,
             self.moment,
@@ -188,7 +200,11 @@ impl<R: Rng> Context<R> {
     fn may_send_data(&self) -> bool
         ensures { result ≡ (has_data self.now.send_queue || can_send_below (transfer_of self.now.state)) }
     {
-        self.send_queue.has_data_to_send() || self.state.can_send_data()
+        let can_send = match self.state.tcb() {
+            None => false,
+            Some(tcb) => tcb.transfer.can_send_data(),
+        };
+        self.send_queue.has_data_to_send() || can_send
     }
 
     // Puts data into a later packet.
@@ -203,7 +219,10 @@ impl<R: Rng> Context<R> {
         ensures turn { TriesData packet.old self.old result self.new packet.new }
         ensures idle { HasNoData self.old.send_queue (transfer_of self.old.state) → IsOk result }
     {
-        let has_some = self.state.fill_packet(
+        let Some(tcb) = self.state.tcb_mut() else {
+            return Ok(());
+        };
+        let has_some = tcb.transfer.fill_packet(
             &mut self.events,
             &mut self.send_queue,
             self.moment,

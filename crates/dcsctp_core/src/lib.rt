@@ -1,6 +1,7 @@
 //! The core of a socket: its state, and what all handlers share.
 #![tactic(auto)]
 
+mod acknowledging;
 mod answering;
 mod context;
 mod ending;
@@ -11,7 +12,6 @@ mod phases;
 mod reconfiguration;
 mod resetting;
 mod state;
-mod transferring;
 mod transmission_control_block;
 mod tx_error_counter;
 

@@ -12,11 +12,8 @@ ghost use Rattle.dcsctp_machine.specs.Packet.{chunk_out};
 ghost use Rattle.dcsctp_machine.specs.Transfer.{is_none_ready};
 ghost use Rattle.dcsctp_machine.specs.control.FlushChanges.{reset_request};
 ghost use Rattle.dcsctp_machine.specs.turns.BegunResets.{streams_within, reconfiguration_settings};
-ghost use Rattle.dcsctp_core.specs.Resetting.{AddsRequest, HasRoom, IsStream, StartsReset, BeginsReset, BeginsBelow, reset_of};
-ghost use Rattle.dcsctp_core.specs.Flushing.{HasNoReset};
-ghost use Rattle.dcsctp_core.specs.View.{transfer_of};
+ghost use Rattle.dcsctp_core.specs.Resetting.{AddsRequest, HasRoom, IsStream, StartsReset, BeginsReset, reset_of};
 
-use crate::state::State;
 use crate::transmission_control_block::{ResetRequest, TransmissionControlBlock};
 use dcsctp_api::{SocketTime, StreamId};
 use dcsctp_send_timer::{BackoffAlgorithm, Timer};
@@ -159,26 +156,5 @@ impl TransmissionControlBlock {
             return Ok(());
         }
         self.start_ssn_reset_request(alloc, now, streams, packet)
-    }
-}
-
-impl State {
-    /// Begins a reset of our streams, if no other is outstanding, one is ready for it and its request fits
-    /// into the packet (RFC 6525, section 5.1.2).
-    pub(crate) fn begin_reset(
-        &mut self,
-        alloc: Global,
-        now: SocketTime,
-        queue: &mut QueuedMessages,
-        packet: &mut SctpPacketBuilder,
-    ) -> Result<(), AllocError>
-        ensures ok { OnOk result (BeginsBelow now (transfer_of self.old) queue.old self.old packet.old queue.new self.new packet.new) }
-        ensures idle { HasNoReset queue.old (transfer_of self.old) → IsOk result }
-    {
-        match self {
-            State::Closed | State::CookieWait(_) => Ok(()),
-            State::CookieEchoed(echoed) => echoed.tcb.begin_reset(alloc, now, queue, packet),
-            State::Open(opened) => opened.tcb.begin_reset(alloc, now, queue, packet),
-        }
     }
 }

@@ -159,7 +159,9 @@ impl State {
     ghost use Rattle.dcsctp_api.specs.Calls.{socket_state_of, is_closed};
     ghost use Rattle.std.specs.Option.{option_map};
     ghost use Rattle.dcsctp_send_timer.specs.Timer.{running_deadline};
+    ghost use Rattle.std.specs.Borrow.{sem};
     ghost use Rattle.dcsctp_core.specs.View.{core_of, tcb_of, t1_of, established_from};
+    ghost use Rattle.dcsctp_core.specs.Lending.{LendsTcb};
     ghost use Rattle.dcsctp_core.specs.Timing.{expiry_of, t1_told};
 
     /// The association, once the peer is known; `None` before. Allocates nothing.
@@ -170,6 +172,18 @@ impl State {
             State::Closed | State::CookieWait(_) => None,
             State::CookieEchoed(echoed) => Some(&echoed.tcb),
             State::Open(opened) => Some(&opened.tcb),
+        }
+    }
+
+    /// The same, to be changed in place. Allocates nothing.
+    pub fn tcb_mut(&mut self) -> Option<&mut TransmissionControlBlock>
+        ensures* writes_back { sem 𝓛 (LendsTcb self.entry result) }
+        ensures tcb { option_map (λ tcb. tcb.now) result ≡ tcb_of self.old }
+    {
+        match self {
+            State::Closed | State::CookieWait(_) => None,
+            State::CookieEchoed(echoed) => Some(&mut echoed.tcb),
+            State::Open(opened) => Some(&mut opened.tcb),
         }
     }
 

@@ -128,8 +128,8 @@ impl TransmissionControlBlock {
         Ok(builder.write_checksum(!self.capabilities.zero_checksum_enabled()))
     }
 
-    // The number of our outstanding request, if one is.
-    pub(crate) fn outstanding_number(&self) -> Option<u32>
+    /// The number of our outstanding request, if there is one. Allocates nothing.
+    pub fn outstanding_number(&self) -> Option<u32>
         ensures { result ≡ number_of self.now.reset_request }
     {
         match &self.reset_request {

@@ -3,19 +3,22 @@ use Rattle.std.proofs.Common.{◌≡◌, ◌==◌, ◌&&◌, not, ℕ, suc, Bool
 use Rattle.std.specs.Prelude.{is_some}
 use Rattle.std.proofs.lemmas.Bool.Decides.{nat_tests}
 use Rattle.std.proofs.lemmas.List.{append-nil}
+use Rattle.std.specs.Prelude.{OnOk}
+use Rattle.std.specs.declared.alloc.AllocError.{AllocError}
 use Rattle.rand_core.specs.Stream.{Stream}
 use Rattle.dcsctp_machine.specs.declared.kinds.ErrorKind.TheVariants.{NotConnected}
 use Rattle.dcsctp_machine.specs.Transfer.{Transfer}
 use Rattle.dcsctp_machine.specs.Endpoint.{Endpoint, held_in}
 use Rattle.dcsctp_machine.specs.Outcome.{Outcome, still, reports}
-use Rattle.dcsctp_machine.specs.turns.TransferMoves.{is_above_watermark, is_tsn_valid, TakesWhere, HeedsFlag, MovesForward, delay_over}
+use Rattle.dcsctp_machine.specs.turns.TransferMoves.{is_above_watermark, is_tsn_valid, TakesWhere, HeedsFlag, ReceivesData, MovesForward, delay_over}
 use Rattle.dcsctp_machine.specs.turns.DataOutcomes.{with_transfer, no_user_data_outcome, not_connected_text, ReceiveTurn, DataTurn, ForwardTurn}
 use Rattle.dcsctp_core.specs.declared.context.Context.{Context}
-use Rattle.dcsctp_core.specs.declared.state.State.{State}
-use Rattle.dcsctp_core.specs.View.{View, transfer_of, endpoint_of, view_of, Moves}
+use Rattle.dcsctp_core.specs.View.{View, tcb_of, transfer_of, endpoint_of, view_of, Moves}
 use Rattle.dcsctp_core.specs.Handling.{Tries, Takes, report_turn, TakesIn, CutIn, TakesOne}
-use Rattle.dcsctp_core.specs.Below.{ChangesBelow, Receives}
-use Rattle.dcsctp_core.proofs.BelowLemmas.{below_moves, same_view}
+use Rattle.dcsctp_core.specs.declared.transmission_control_block.TransmissionControlBlock.{TransmissionControlBlock}
+use Rattle.dcsctp_core.specs.Below.{Receives}
+use Rattle.dcsctp_core.proofs.BelowLemmas.{below_moves}
+use Rattle.dcsctp_core.proofs.LendingLemmas.{found, nobody, lent, left_with}
 use Rattle.dcsctp_core.proofs.Moving.{moves_still}
 use Rattle.dcsctp_core_data.specs.Data.{DataAt, ForwardAt, no_user_data_turn}
 use Rattle.dcsctp_core_data.proofs.TakingLemmas.{takes_one, tries_one, cut_before}
@@ -78,49 +81,53 @@ no_peer e None immediate tsn none = refl
 no_peer e (Some transfer) immediate tsn none = absurd (cc)
 
 pub not_connected : {R E : Type 0} (stream : R → Stream) (old : Context R) (result : Result (Unit {0}) E) (new : Context R) (immediate : Bool) (tsn : ℕ) (payload : List ℕ)
-    → (length payload == 0) ≡ false → is_some (transfer_of old.state) ≡ false → Tries stream (report_turn NotConnected not_connected_text) old result new
+    → (length payload == 0) ≡ false → None ≡ tcb_of old.state → Tries stream (report_turn NotConnected not_connected_text) old result new
     → TakesOne stream (DataAt immediate tsn payload) old result new
 not_connected stream old result new immediate tsn [] some none h = absurd (cc)
 not_connected stream old result new immediate tsn (byte ∷ bytes) some none h =
-    tries_one stream (report_turn NotConnected not_connected_text) (DataAt immediate tsn (byte ∷ bytes)) old result new (no_peer (endpoint_of old) (transfer_of old.state) immediate tsn none) h
+    tries_one stream (report_turn NotConnected not_connected_text) (DataAt immediate tsn (byte ∷ bytes)) old result new (no_peer (endpoint_of old) (transfer_of old.state) immediate tsn (ap is_some (nobody old.state none))) h
 
-received : {R : Type 0} (stream : R → Stream) (old : Context R) (state : State) (found : Option Transfer) (immediate : Bool) (tsn byte : ℕ) (bytes : List ℕ) → transfer_of old.state ≡ found → is_some found ≡ true
-    → ChangesBelow (Receives immediate tsn) found old.state state → TakesIn stream (DataAt immediate tsn (byte ∷ bytes)) (view_of old) (view_of (record old { state = state }))
-received stream old state None immediate tsn byte bytes holds some changes = absurd (cc)
-received stream old state (Some transfer) immediate tsn byte bytes holds some changes =
+received : {R : Type 0} (stream : R → Stream) (old : Context R) (tcb : TransmissionControlBlock) (after : Transfer) (immediate : Bool) (tsn byte : ℕ) (bytes : List ℕ) → Some tcb ≡ tcb_of old.state
+    → Receives immediate tsn tcb.transfer after → TakesIn stream (DataAt immediate tsn (byte ∷ bytes)) (view_of old) (view_of (record old { state = left_with old.state tcb after }))
+received stream old tcb after immediate tsn byte bytes holds receives =
     let e : Endpoint = endpoint_of old in
-    let o : Outcome = still (with_transfer e changes.0) in
+    let o : Outcome = still (with_transfer e after) in
     record {
       outcome = o;
-      turn = subst (λ (f : Option Transfer). ReceiveTurn e f immediate tsn o) (sym holds) (changes.0, changes.2.0, changes.2.1, refl);
-      moves = below_moves stream old state transfer changes.0 holds changes.1;
+      turn = subst (λ (f : Option Transfer). ReceiveTurn e f immediate tsn o) (sym (found old.state tcb holds)) (after, receives.0, receives.1, refl);
+      moves = below_moves stream old (left_with old.state tcb after) tcb.transfer after (found old.state tcb holds) (lent old.state tcb after holds);
     }
 
-pub data_received : {R : Type 0} (stream : R → Stream) (old : Context R) (state : State) (immediate : Bool) (tsn : ℕ) (payload : List ℕ) → (length payload == 0) ≡ false
-    → is_some (transfer_of old.state) ≡ true → ChangesBelow (Receives immediate tsn) (transfer_of old.state) old.state state
-    → TakesIn stream (DataAt immediate tsn payload) (view_of old) (view_of (record old { state = state }))
-data_received stream old state immediate tsn [] some held changes = absurd (cc)
-data_received stream old state immediate tsn (byte ∷ bytes) some held changes = received stream old state (transfer_of old.state) immediate tsn byte bytes refl held changes
+pub data_worked : {R : Type 0} (stream : R → Stream) (old new : Context R) (tcb : TransmissionControlBlock) (after : Transfer) (result : Result (Unit {0}) AllocError) (immediate : Bool) (tsn : ℕ) (payload : List ℕ)
+    → view_of new ≡ view_of (record old { state = left_with old.state tcb after }) → (length payload == 0) ≡ false → Some tcb ≡ tcb_of old.state
+    → OnOk result (ReceivesData tsn tcb.transfer after) → OnOk result (HeedsFlag immediate tsn tcb.transfer after) → TakesOne stream (DataAt immediate tsn payload) old result new
+data_worked stream old new tcb after result immediate tsn [] same some holds receives heeds = absurd (cc)
+data_worked {R = R} stream old new tcb after (Ok done) immediate tsn (byte ∷ bytes) same some holds receives heeds =
+    subst (λ (v : View R). TakesIn stream (DataAt immediate tsn (byte ∷ bytes)) (view_of old) v) (sym same) (received stream old tcb after immediate tsn byte bytes holds (receives, heeds))
+data_worked {R = R} stream old new tcb after (Err error) immediate tsn (byte ∷ bytes) same some holds receives heeds =
+    subst (λ (v : View R). CutIn (DataAt immediate tsn (byte ∷ bytes)) (view_of old) v.events) (sym same) (data_cut (view_of old) immediate tsn (byte ∷ bytes))
 
 -- ---- what the peer gave up
 
-forwarded : {R : Type 0} (stream : R → Stream) (old : Context R) (state : State) (found : Option Transfer) (tsn : ℕ) → transfer_of old.state ≡ found
-    → ChangesBelow (MovesForward tsn) found old.state state → TakesIn stream (ForwardAt tsn) (view_of old) (view_of (record old { state = state }))
-forwarded {R = R} stream old state None tsn holds changes =
-    record {
-      outcome = still (endpoint_of old);
-      turn = subst (λ (f : Option Transfer). ForwardTurn (endpoint_of old) f tsn (still (endpoint_of old))) (sym holds) refl;
-      moves = subst (λ (v : View R). Moves stream (view_of old) (still (endpoint_of old)) v) (sym (same_view old state changes)) (moves_still stream (view_of old));
-    }
-forwarded stream old state (Some transfer) tsn holds changes =
+pub forward_unasked : {R : Type 0} (stream : R → Stream) (old : Context R) (tsn : ℕ) → None ≡ tcb_of old.state → TakesIn stream (ForwardAt tsn) (view_of old) (view_of old)
+forward_unasked stream old tsn none =
     let e : Endpoint = endpoint_of old in
-    let o : Outcome = still (with_transfer e changes.0) in
+    record { outcome = still e; turn = subst (λ (f : Option Transfer). ForwardTurn e f tsn (still e)) (sym (nobody old.state none)) refl; moves = moves_still stream (view_of old) }
+
+forwarded : {R : Type 0} (stream : R → Stream) (old : Context R) (tcb : TransmissionControlBlock) (after : Transfer) (tsn : ℕ) → Some tcb ≡ tcb_of old.state → MovesForward tsn tcb.transfer after
+    → TakesIn stream (ForwardAt tsn) (view_of old) (view_of (record old { state = left_with old.state tcb after }))
+forwarded stream old tcb after tsn holds moves =
+    let e : Endpoint = endpoint_of old in
+    let o : Outcome = still (with_transfer e after) in
     record {
       outcome = o;
-      turn = subst (λ (f : Option Transfer). ForwardTurn e f tsn o) (sym holds) (changes.0, changes.2, refl);
-      moves = below_moves stream old state transfer changes.0 holds changes.1;
+      turn = subst (λ (f : Option Transfer). ForwardTurn e f tsn o) (sym (found old.state tcb holds)) (after, moves, refl);
+      moves = below_moves stream old (left_with old.state tcb after) tcb.transfer after (found old.state tcb holds) (lent old.state tcb after holds);
     }
 
-pub forward_taken : {R : Type 0} (stream : R → Stream) (old : Context R) (state : State) (tsn : ℕ) → ChangesBelow (MovesForward tsn) (transfer_of old.state) old.state state
-    → TakesIn stream (ForwardAt tsn) (view_of old) (view_of (record old { state = state }))
-forward_taken stream old state tsn changes = forwarded stream old state (transfer_of old.state) tsn refl changes
+pub forward_worked : {R : Type 0} (stream : R → Stream) (old new : Context R) (tcb : TransmissionControlBlock) (after : Transfer) (result : Result (Unit {0}) AllocError) (tsn : ℕ)
+    → view_of new ≡ view_of (record old { state = left_with old.state tcb after }) → Some tcb ≡ tcb_of old.state → OnOk result (MovesForward tsn tcb.transfer after) → TakesOne stream (ForwardAt tsn) old result new
+forward_worked {R = R} stream old new tcb after (Ok done) tsn same holds moves =
+    subst (λ (v : View R). TakesIn stream (ForwardAt tsn) (view_of old) v) (sym same) (forwarded stream old tcb after tsn holds moves)
+forward_worked {R = R} stream old new tcb after (Err error) tsn same holds moves =
+    subst (λ (v : View R). CutIn (ForwardAt tsn) (view_of old) v.events) (sym same) (forward_cut (view_of old) tsn)

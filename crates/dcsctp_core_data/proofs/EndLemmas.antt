@@ -1,5 +1,5 @@
 -- The end of a packet: what came with it is acknowledged.
-use Rattle.std.proofs.Common.{◌≡◌, ◌==◌, ◌&&◌, ◌||◌, ◌+◌, ◌-◌, ◌≤◌, ◌%◌, ◌^◌, ℕ, Bool, true, false, Option, None, Some, Result, Ok, Err, List, [], ◌∷◌, ◌++◌, map, refl, sym, ap, subst, ◌∙◌, arith}
+use Rattle.std.proofs.Common.{◌≡◌, ◌==◌, if◌then◌else◌, ◌&&◌, ◌||◌, ◌+◌, ◌-◌, ◌≤◌, ◌%◌, ◌^◌, ℕ, Bool, true, false, Option, None, Some, Result, Ok, Err, List, [], ◌∷◌, ◌++◌, map, refl, sym, ap, subst, ◌∙◌, arith}
 use Rattle.rand_core.specs.Stream.{Stream}
 use Rattle.dcsctp_wire_build.specs.Building.{Building}
 use Rattle.dcsctp_wire.specs.Content.{SackContent, sack_chunk}
@@ -11,8 +11,8 @@ use Rattle.dcsctp_machine.specs.Transfer.{TrackerState, Transfer}
 use Rattle.dcsctp_machine.specs.Endpoint.{Endpoint, held_in}
 use Rattle.dcsctp_machine.specs.Outcome.{Outcome, still}
 use Rattle.dcsctp_machine.specs.turns.FlushOutcomes.{Answer, draft_to, flush_of, first_ask, packets_allowed}
-use Rattle.dcsctp_machine.specs.turns.TransferMoves.{acknowledged}
-use Rattle.dcsctp_machine.specs.turns.DataOutcomes.{with_transfer, with_tracker, IsSack, acknowledging, AnswersPacket, EndWhere, EndsBy}
+use Rattle.dcsctp_machine.specs.turns.TransferMoves.{acknowledged, delay_over}
+use Rattle.dcsctp_machine.specs.turns.DataOutcomes.{with_transfer, with_tracker, delay_outcome, IsSack, acknowledging, AnswersPacket, EndWhere, EndsBy}
 use Rattle.dcsctp_machine.proofs.AnswerLemmas.{any_answers}
 use Rattle.dcsctp_transfer.specs.Filling.{with_chunk, is_sack_wanted, Acknowledges}
 use Rattle.dcsctp_api.specs.Calls.{user_event}
@@ -20,6 +20,10 @@ use Rattle.dcsctp_core.specs.declared.context.Context.{Context}
 use Rattle.dcsctp_core.specs.declared.state.State.{State}
 use Rattle.dcsctp_core.specs.declared.transmission_control_block.TransmissionControlBlock.{TransmissionControlBlock}
 use Rattle.dcsctp_core.specs.View.{View, core_of, tcb_of, held_of, transfer_of, endpoint_of, view_of, Moves, CutTurn}
+use Rattle.dcsctp_machine.specs.TimeTurns.{own_timer, has_come, delay_deadline}
+use Rattle.dcsctp_machine.specs.turns.OwnTimers.{acknowledgement_delay}
+use Rattle.dcsctp_core.specs.Timing.{ExpiryTurn, ExpiresAlways}
+use Rattle.dcsctp_core.proofs.LendingLemmas.{found, nobody, lent, kept, left_with}
 use Rattle.dcsctp_core.specs.Handling.{TakesIn, CutIn, TakesOne}
 use Rattle.dcsctp_core.specs.Flushing.{packet_for, empty_packet, state_with, AcknowledgesBelow, Flushes, FlushesBy}
 use Rattle.dcsctp_core.specs.Below.{ChangesBelow, EndsBelow, is_due_below}
@@ -250,3 +254,40 @@ ended stream old state new changes due h = ends_at_once {E = Unit {0}} stream ol
 pub end_cut : {R : Type 0} (stream : R → Stream) (old : Context R) (state : State) (new : Context R) → ChangesBelow EndsBelow (transfer_of old.state) old.state state
     → is_due_below (transfer_of state) ≡ true → CutIn AnswersAt (view_of (record old { state = state })) (view_of new).events → CutIn EndsAt (view_of old) (view_of new).events
 end_cut stream old state new changes due h = ends_at_once {E = Unit {0}} stream old state (Err tt) new changes due h
+
+-- Without an association nothing is acknowledged.
+pub ends_unasked : {R : Type 0} (stream : R → Stream) (old : Context R) → None ≡ tcb_of old.state → TakesIn stream EndsAt (view_of old) (view_of old)
+ends_unasked stream old none =
+    let e : Endpoint = endpoint_of old in
+    record { outcome = still e; turn = subst (λ (f : Option Transfer). EndsBy e f (still e)) (sym (nobody old.state none)) refl; moves = moves_still stream (view_of old) }
+
+-- ---- the delay of an acknowledgement
+
+delay_ended : {R : Type 0} (stream : R → Stream) (old : Context R) (tcb : TransmissionControlBlock) (after : Transfer) → Some tcb ≡ tcb_of old.state
+    → after ≡ record tcb.transfer { tracker = delay_over tcb.transfer.tracker }
+    → TakesIn stream (ExpiryTurn (own_timer acknowledgement_delay)) (view_of old) (view_of (record old { state = left_with old.state tcb after }))
+delay_ended stream old tcb after holds is =
+    let e : Endpoint = endpoint_of old in
+    let o : Outcome = still (with_transfer e after) in
+    record {
+      outcome = o;
+      turn = ap (λ (t : Transfer). still (with_transfer e t)) is ∙ ap (delay_outcome e) (sym (found old.state tcb holds));
+      moves = below_moves stream old (left_with old.state tcb after) tcb.transfer after (found old.state tcb holds) (lent old.state tcb after holds);
+    }
+
+pub delay_told : {R : Type 0} (stream : R → Stream) (old new : Context R) (tcb : TransmissionControlBlock) (after : Transfer) (b : Bool)
+    → view_of new ≡ view_of (record old { state = left_with old.state tcb after }) → Some tcb ≡ tcb_of old.state
+    → b ≡ has_come old.moment tcb.transfer.tracker.delayed_acknowledgement
+    → after ≡ record tcb.transfer { tracker = if b then delay_over tcb.transfer.tracker else tcb.transfer.tracker }
+    → ExpiresAlways stream (own_timer acknowledgement_delay) old b new
+delay_told {R = R} stream old new tcb after true same holds due is = (
+  ap (λ (f : Option Transfer). has_come old.moment (delay_deadline f)) (found old.state tcb holds) ∙ sym due,
+  subst (λ (v : View R). TakesIn stream (ExpiryTurn (own_timer acknowledgement_delay)) (view_of old) v) (sym same) (delay_ended stream old tcb after holds is),
+)
+delay_told stream old new tcb after false same holds due is = (
+  ap (λ (f : Option Transfer). has_come old.moment (delay_deadline f)) (found old.state tcb holds) ∙ sym due,
+  same ∙ same_view old (left_with old.state tcb after) (ap (left_with old.state tcb) is ∙ kept old.state tcb holds),
+)
+
+pub delay_unasked : {R : Type 0} (stream : R → Stream) (old : Context R) → None ≡ tcb_of old.state → ExpiresAlways stream (own_timer acknowledgement_delay) old false old
+delay_unasked stream old none = (ap (λ (f : Option Transfer). has_come old.moment (delay_deadline f)) (nobody old.state none), refl)

@@ -24,8 +24,9 @@ use Rattle.dcsctp_transfer.specs.declared.sacks.HandledSack.{HandledSack}
 use Rattle.dcsctp_transfer.specs.declared.sacks.HandledSack.TheVariants.{Invalid, Valid}
 use Rattle.dcsctp_core.specs.declared.context.Context.{Context}
 use Rattle.dcsctp_core.specs.declared.state.State.{State}
-use Rattle.dcsctp_core.specs.View.{View, core_of, transfer_of, endpoint_of, view_of, Moves, CutTurn}
+use Rattle.dcsctp_core.specs.View.{View, core_of, tcb_of, transfer_of, endpoint_of, view_of, Moves, CutTurn}
 use Rattle.dcsctp_core.specs.Handling.{Tries, report_turn, TakesIn, CutIn, TakesOne}
+use Rattle.dcsctp_core.proofs.LendingLemmas.{nobody}
 use Rattle.dcsctp_core.specs.Flushing.{state_with}
 use Rattle.dcsctp_core.specs.Below.{SacksBelow}
 use Rattle.dcsctp_core.proofs.BelowLemmas.{below_view}
@@ -198,10 +199,10 @@ no_peer : (e : Endpoint) (found : Option Transfer) (tsn : ℕ) → is_some found
 no_peer e None tsn none = refl
 no_peer e (Some transfer) tsn none = absurd (cc)
 
-pub sack_unasked : {R E : Type 0} (stream : R → Stream) (old : Context R) (result : Result (Unit {0}) E) (new : Context R) (tsn : ℕ) → is_some (transfer_of old.state) ≡ false
+pub sack_unasked : {R E : Type 0} (stream : R → Stream) (old : Context R) (result : Result (Unit {0}) E) (new : Context R) (tsn : ℕ) → None ≡ tcb_of old.state
     → Tries stream (report_turn NotConnected no_tcb_text) old result new → TakesOne stream (SackAt tsn) old result new
 sack_unasked stream old result new tsn none h =
-    tries_one stream (report_turn NotConnected no_tcb_text) (SackAt tsn) old result new (no_peer (endpoint_of old) (transfer_of old.state) tsn none) h
+    tries_one stream (report_turn NotConnected no_tcb_text) (SackAt tsn) old result new (no_peer (endpoint_of old) (transfer_of old.state) tsn (ap is_some (nobody old.state none))) h
 
 -- ---- refused while it is taken into account
 

@@ -1,5 +1,6 @@
 //! DATA (RFC 9260, section 3.3.1) and I-DATA (RFC 8260, section 2.1) that are received.
 
+ghost use Rattle.std.specs.Prelude.{◌≡◌};
 ghost use Rattle.dcsctp_core.specs.Handling.{TakesOne};
 ghost use Rattle.dcsctp_core_data.specs.Data.{DataAt};
 
@@ -11,104 +12,116 @@ use dcsctp_wire::{DataChunk, IDataChunk};
 use rand_core::Rng;
 use std::alloc::{AllocError, Global};
 
-// What a DATA chunk carries.
-fn data_of(alloc: Global, chunk: &DataChunk<'_>) -> Result<Data, AllocError> {
-    let numbering = if chunk.flags.is_unordered {
-        Numbering::Unordered
-    } else {
-        Numbering::Ordered { ssn: chunk.ssn }
-    };
-    Ok(Data {
-        stream_id: StreamId(chunk.stream_id),
-        numbering,
-        ppid: PpId(chunk.ppid),
-        payload: Vec::from_slice(alloc, chunk.payload)?,
-        is_beginning: chunk.flags.is_beginning,
-        is_end: chunk.flags.is_end,
-    })
+/// What a DATA or an I-DATA chunk carries: a part of a message under its TSN.
+#[derive(Clone, Copy, Debug)]
+pub struct DataPart<'a> {
+    /// The TSN.
+    pub tsn: u32,
+
+    /// The I flag: is it to be acknowledged at once?
+    pub immediate_ack: bool,
+
+    /// The stream.
+    pub stream_id: StreamId,
+
+    /// How the parts of the message, and the messages of the stream, are put in order.
+    pub numbering: Numbering,
+
+    /// The protocol of the message. A later part of an I-DATA message has none, for which this is 0.
+    pub ppid: PpId,
+
+    /// The bytes.
+    pub payload: &'a [u8],
+
+    /// The B flag: is it the first part of the message?
+    pub is_beginning: bool,
+
+    /// The E flag: is it the last part of the message?
+    pub is_end: bool,
 }
 
-// How the parts of an I-DATA chunk's message are put in order. The first one has the number 0.
-fn interleaved_numbering(chunk: &IDataChunk<'_>) -> Numbering {
-    let mid = chunk.mid;
-    let fsn = if chunk.flags.is_beginning {
-        0
-    } else {
-        chunk.ppid_or_fsn
-    };
-    if chunk.flags.is_unordered {
-        Numbering::InterleavedUnordered { mid, fsn }
-    } else {
-        Numbering::InterleavedOrdered { mid, fsn }
+impl<'a> DataPart<'a> {
+    /// What a DATA chunk carries.
+    pub fn of_data(chunk: &DataChunk<'a>) -> DataPart<'a>
+        ensures tsn { result.tsn ≡ chunk.now.tsn }
+        ensures immediate { result.immediate_ack ≡ chunk.now.flags.immediate_ack }
+        ensures payload { result.payload.now ≡ chunk.now.payload.now }
+    {
+        let numbering = if chunk.flags.is_unordered {
+            Numbering::Unordered
+        } else {
+            Numbering::Ordered { ssn: chunk.ssn }
+        };
+        DataPart {
+            tsn: chunk.tsn,
+            immediate_ack: chunk.flags.immediate_ack,
+            stream_id: StreamId(chunk.stream_id),
+            numbering,
+            ppid: PpId(chunk.ppid),
+            payload: chunk.payload,
+            is_beginning: chunk.flags.is_beginning,
+            is_end: chunk.flags.is_end,
+        }
+    }
+
+    /// What an I-DATA chunk carries. Its first part names the protocol, and has the fragment number 0.
+    pub fn of_i_data(chunk: &IDataChunk<'a>) -> DataPart<'a>
+        ensures tsn { result.tsn ≡ chunk.now.tsn }
+        ensures immediate { result.immediate_ack ≡ chunk.now.flags.immediate_ack }
+        ensures payload { result.payload.now ≡ chunk.now.payload.now }
+    {
+        let mid = chunk.mid;
+        let (ppid, fsn) = if chunk.flags.is_beginning {
+            (chunk.ppid_or_fsn, 0)
+        } else {
+            (0, chunk.ppid_or_fsn)
+        };
+        let numbering = if chunk.flags.is_unordered {
+            Numbering::InterleavedUnordered { mid, fsn }
+        } else {
+            Numbering::InterleavedOrdered { mid, fsn }
+        };
+        DataPart {
+            tsn: chunk.tsn,
+            immediate_ack: chunk.flags.immediate_ack,
+            stream_id: StreamId(chunk.stream_id),
+            numbering,
+            ppid: PpId(ppid),
+            payload: chunk.payload,
+            is_beginning: chunk.flags.is_beginning,
+            is_end: chunk.flags.is_end,
+        }
+    }
+
+    // The same as the reassembly queue keeps it, with a copy of the bytes.
+    fn to_data(self, alloc: Global) -> Result<Data, AllocError> {
+        Ok(Data {
+            stream_id: self.stream_id,
+            numbering: self.numbering,
+            ppid: self.ppid,
+            payload: Vec::from_slice(alloc, self.payload)?,
+            is_beginning: self.is_beginning,
+            is_end: self.is_end,
+        })
     }
 }
 
-// The protocol of an I-DATA chunk, which the first part alone names.
-fn interleaved_ppid(chunk: &IDataChunk<'_>) -> u32 {
-    if chunk.flags.is_beginning {
-        chunk.ppid_or_fsn
-    } else {
-        0
-    }
-}
-
-// What an I-DATA chunk carries.
-fn interleaved_data_of(alloc: Global, chunk: &IDataChunk<'_>) -> Result<Data, AllocError> {
-    let numbering = interleaved_numbering(chunk);
-    let ppid = interleaved_ppid(chunk);
-    Ok(Data {
-        stream_id: StreamId(chunk.stream_id),
-        numbering,
-        ppid: PpId(ppid),
-        payload: Vec::from_slice(alloc, chunk.payload)?,
-        is_beginning: chunk.flags.is_beginning,
-        is_end: chunk.flags.is_end,
-    })
-}
-
-/// Handles DATA: it is stored, and acknowledged when the packet ends (RFC 9260, section 6.2). Data without a
-/// payload is reported to the user and to the peer, and data without an association to the user.
+/// Handles DATA or I-DATA: it is stored, and acknowledged when the packet ends (RFC 9260, section 6.2; RFC
+/// 8260, section 2.2.3). Data without a payload is reported to the user and to the peer, and data without an
+/// association to the user.
 ///
 /// `Err`: an allocation failed; the first of its events may already have been added.
-pub fn handle_data<R: Rng>(
-    context: &mut Context<R>,
-    chunk: &DataChunk<'_>,
-) -> Result<(), AllocError>
-    ensures { TakesOne R.stream (DataAt chunk.now.flags.immediate_ack chunk.now.tsn chunk.now.payload.now)
+pub fn handle_data<R: Rng>(context: &mut Context<R>, part: DataPart<'_>) -> Result<(), AllocError>
+    ensures { TakesOne R.stream (DataAt part.entry.immediate_ack part.entry.tsn part.entry.payload.now)
         context.old result context.new }
 {
-    if chunk.payload.is_empty() {
-        return refuse_empty(context, chunk.tsn);
+    if part.payload.is_empty() {
+        return refuse_empty(context, part.tsn);
     }
-    if !context.state.holds_peer() {
+    let Some(tcb) = context.state.tcb_mut() else {
         return report_not_connected(context);
-    }
-    let data = data_of(context.alloc, chunk)?;
-    context
-        .state
-        .receive_data(chunk.tsn, chunk.flags.immediate_ack, data)?;
-    Ok(())
-}
-
-/// Handles I-DATA, as `handle_data` does DATA (RFC 8260, section 2.2.3).
-///
-/// `Err`: an allocation failed; the first of its events may already have been added.
-pub fn handle_i_data<R: Rng>(
-    context: &mut Context<R>,
-    chunk: &IDataChunk<'_>,
-) -> Result<(), AllocError>
-    ensures { TakesOne R.stream (DataAt chunk.now.flags.immediate_ack chunk.now.tsn chunk.now.payload.now)
-        context.old result context.new }
-{
-    if chunk.payload.is_empty() {
-        return refuse_empty(context, chunk.tsn);
-    }
-    if !context.state.holds_peer() {
-        return report_not_connected(context);
-    }
-    let data = interleaved_data_of(context.alloc, chunk)?;
-    context
-        .state
-        .receive_data(chunk.tsn, chunk.flags.immediate_ack, data)?;
-    Ok(())
+    };
+    let data = part.to_data(context.alloc)?;
+    tcb.transfer
+        .receive_data(part.tsn, part.immediate_ack, data)
 }

@@ -50,11 +50,12 @@ pub fn handle_forward_tsn<R: Rng>(
 ) -> Result<(), AllocError>
     ensures { TakesOne R.stream (ForwardAt chunk.now.new_cumulative_tsn) context.old result context.new }
 {
+    let Some(tcb) = context.state.tcb_mut() else {
+        return Ok(());
+    };
     let skipped = skipped_in(context.alloc, chunk)?;
-    context
-        .state
-        .handle_forward_tsn(chunk.new_cumulative_tsn, &skipped)?;
-    Ok(())
+    tcb.transfer
+        .handle_forward_tsn(chunk.new_cumulative_tsn, &skipped)
 }
 
 /// Handles an I-FORWARD-TSN, as `handle_forward_tsn` does a FORWARD-TSN.
@@ -66,9 +67,10 @@ pub fn handle_i_forward_tsn<R: Rng>(
 ) -> Result<(), AllocError>
     ensures { TakesOne R.stream (ForwardAt chunk.now.new_cumulative_tsn) context.old result context.new }
 {
+    let Some(tcb) = context.state.tcb_mut() else {
+        return Ok(());
+    };
     let skipped = skipped_messages_in(context.alloc, chunk)?;
-    context
-        .state
-        .handle_forward_tsn(chunk.new_cumulative_tsn, &skipped)?;
-    Ok(())
+    tcb.transfer
+        .handle_forward_tsn(chunk.new_cumulative_tsn, &skipped)
 }

@@ -9,7 +9,7 @@ mod refusal;
 mod sack;
 mod timers;
 
-pub use arrival::{handle_data, handle_i_data};
+pub use arrival::{DataPart, handle_data};
 pub use forward::{handle_forward_tsn, handle_i_forward_tsn};
 pub use packet_end::end_packet;
 pub use sack::handle_sack;

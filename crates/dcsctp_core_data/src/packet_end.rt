@@ -31,8 +31,11 @@ fn acknowledge<R: Rng>(context: &mut Context<R>) -> Result<(), AllocError>
 pub fn end_packet<R: Rng>(context: &mut Context<R>) -> Result<(), AllocError>
     ensures { TakesOne R.stream EndsAt context.old result context.new }
 {
-    context.state.end_packet(context.moment);
-    if context.state.is_acknowledgement_due() {
+    let Some(tcb) = context.state.tcb_mut() else {
+        return Ok(());
+    };
+    tcb.transfer.end_packet(context.moment);
+    if tcb.transfer.is_acknowledgement_due() {
         acknowledge(context)?;
     }
     Ok(())

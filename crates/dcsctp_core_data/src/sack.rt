@@ -71,11 +71,11 @@ pub fn handle_sack<R: Rng>(
 ) -> Result<(), AllocError>
     ensures { TakesOne R.stream (SackAt chunk.now.cumulative_tsn_ack) context.old result context.new }
 {
-    if !context.state.holds_peer() {
+    let Some(tcb) = context.state.tcb_mut() else {
         return report_no_tcb(context);
-    }
-    let handled = context
-        .state
+    };
+    let handled = tcb
+        .transfer
         .handle_sack(&mut context.events, context.moment, chunk)?;
     match handled {
         HandledSack::Invalid => {}

@@ -13,7 +13,10 @@ use rand_core::Rng;
 pub fn handle_acknowledgement_delay<R: Rng>(context: &mut Context<R>) -> bool
     ensures { ExpiresAlways R.stream (own_timer acknowledgement_delay) context.old result context.new }
 {
-    context.state.expire_acknowledgement(context.moment)
+    match context.state.tcb_mut() {
+        None => false,
+        Some(tcb) => tcb.transfer.expire_acknowledgement(context.moment),
+    }
 }
 
 /// Advances the retransmission timer to the present moment, and returns whether it expires. What is in flight

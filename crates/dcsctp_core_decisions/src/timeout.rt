@@ -15,21 +15,30 @@ use rand_core::Rng;
 fn acknowledgement_deadline<R: Rng>(context: &Context<R>) -> Option<SocketTime>
     ensures { result ≡ deadline (endpoint_of context.now) (own_timer acknowledgement_delay) }
 {
-    context.state.acknowledgement_deadline()
+    match context.state.tcb() {
+        None => None,
+        Some(tcb) => tcb.transfer.acknowledgement_deadline(),
+    }
 }
 
 // When what is in flight is lost, where something is.
 fn retransmission_deadline<R: Rng>(context: &Context<R>) -> Option<SocketTime>
     ensures { result ≡ deadline (endpoint_of context.now) (own_timer retransmission) }
 {
-    context.state.retransmission_deadline()
+    match context.state.tcb() {
+        None => None,
+        Some(tcb) => tcb.transfer.retransmission_deadline(),
+    }
 }
 
 // When our own request to reset streams is sent again, if one is outstanding.
 fn reconfiguration_deadline<R: Rng>(context: &Context<R>) -> Option<SocketTime>
     ensures { result ≡ deadline (endpoint_of context.now) (own_timer reconfiguration) }
 {
-    context.state.reconfiguration_deadline()
+    match context.state.tcb() {
+        None => None,
+        Some(tcb) => tcb.reconfiguration_deadline(),
+    }
 }
 
 // When a SHUTDOWN or SHUTDOWN ACK that isn't answered is sent again, if one is.

@@ -89,7 +89,10 @@ fn send_abort<R: Rng>(context: &mut Context<R>, reason: AbortReason) -> Result<(
 // Ends the association with the event for this reason. A closed socket is unchanged.
 //
 // `Err`: an allocation failed, and nothing has changed.
-fn end<R: Rng>(context: &mut Context<R>, reason: AbortReason) -> Result<(), AllocError>
+fn close_association<R: Rng>(
+    context: &mut Context<R>,
+    reason: AbortReason,
+) -> Result<(), AllocError>
     ensures { Tries R.stream (close_turn (end_of reason)) context.old result context.new }
 {
     let alloc = context.alloc;
@@ -125,6 +128,6 @@ pub fn abort_association<R: Rng>(
         return Ok(());
     }
     send_abort(context, reason)?;
-    end(context, reason)?;
+    close_association(context, reason)?;
     Ok(())
 }

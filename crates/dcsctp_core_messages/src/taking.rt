@@ -12,5 +12,8 @@ use rand_core::Rng;
 pub fn get_next_message<R: Rng>(context: &mut Context<R>) -> Option<Message>
     ensures { TakesNextOf (view_of context.old) result (view_of context.new) }
 {
-    context.state.get_next_message()
+    match context.state.tcb_mut() {
+        None => None,
+        Some(tcb) => tcb.transfer.get_next_message(),
+    }
 }

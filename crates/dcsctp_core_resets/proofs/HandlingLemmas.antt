@@ -43,12 +43,12 @@ use Rattle.dcsctp_core.proofs.Composing.{behind, Adds, Draws, moves_behind, move
 use Rattle.dcsctp_core_resets.specs.declared.requests.LastRequest.{LastRequest}
 use Rattle.dcsctp_core_resets.specs.declared.requests.Treatment.{Treatment}
 use Rattle.dcsctp_core_resets.specs.declared.requests.Treatment.TheVariants.{Nothing, Deferred, Performed}
-use Rattle.dcsctp_core_resets.specs.declared.requests.WorkedRequests.{WorkedRequests}
+use Rattle.dcsctp_core_resets.specs.declared.requests.HandledRequests.{HandledRequests}
 use Rattle.dcsctp_core_resets.specs.declared.requests.OwnAnswer.TheVariants as own
 use Rattle.dcsctp_core_resets.specs.declared.requests.OwnAnswer as requests
 use Rattle.dcsctp_core_resets.specs.Requests.{reset_parameters, held_with, held_out, held_now, is_performed, treated_events, left_out, own_kind, own_events, told_so, WorksChunk}
 use Rattle.dcsctp_core_resets.proofs.RequestLemmas.{resets_of, has_both}
-use Rattle.dcsctp_core_resets.specs.Resets.{ReConfigAt, last_in, core_asked, asked_at, left_at, is_performed_for, told_for, Treats, core_settled, settled_at, own_told, told_both, told_where, responses_to, responses_turn, FinishAt}
+use Rattle.dcsctp_core_resets.specs.Resets.{ReConfigAt, last_in, WorksFor, core_asked, asked_at, left_at, is_performed_for, told_for, Treats, core_settled, settled_at, own_told, told_both, told_where, responses_to, responses_turn, FinishAt}
 use Rattle.dcsctp_core_resets.proofs.SettlingLemmas.{none_numbered}
 
 -- ---- the answers, and what waits behind them
@@ -263,7 +263,7 @@ finish_by stream old mid (Err fault) new held b parameters responses is holds fi
 
 -- ---- what was decided of the streams
 
-abbrev CarriedAs : {R : Type 0} → WorkedRequests → Option RequestedReset → Context R → View R → Type 0
+abbrev CarriedAs : {R : Type 0} → HandledRequests → Option RequestedReset → Context R → View R → Type 0
 CarriedAs w reset old new =
     (left : Option Transfer) × ResetsBelow (is_performed_for w.treatment reset) (transfer_of old.state) left
     × (new ≡ left_at (settled_at (own_kind w.own) (view_of old)) left (told_where w reset old))
@@ -445,7 +445,7 @@ responses_behind false e told held parameters responses answers =
     ap (λ (events : List (Event Emission)). let o : Outcome = record flush { events = events } in o) (append_assoc told sent.events flush.events)
 
 -- what the parameters make of the numbers, as the code keeps it
-abbrev kept_by : Held → List Effect → WorkedRequests → WorkedParameters
+abbrev kept_by : Held → List Effect → HandledRequests → WorkedParameters
 kept_by held effects w = record { held = held_now held w; effects = effects; answers = reset_parameters w.responses.items; is_refused = w.is_refused }
 
 abbrev WorksBy : Endpoint → Held → List ResetParameter → Outcome → WorkedParameters → Type 0
@@ -458,11 +458,11 @@ works_resets : (e : Endpoint) (my : Pair) (held : Held) (parameters : List Reset
 works_resets e my held parameters o h = record { left = h.0; below = h.1; answers = h.2; allowed = h.3; is = h.4 }
 
 -- what was made of the parameters of a chunk that came in
-abbrev WorkedAt : {R : Type 0} → Context R → List ResetParameter → WorkedRequests → Type 0
-WorkedAt old parameters w = WorksChunk (is_reached (transfer_of old.state) (requested_in parameters)) (last_in old.state) (number_of (request_in old.state)) parameters w
+abbrev WorkedAt : {R : Type 0} → Context R → List ResetParameter → HandledRequests → Type 0
+WorkedAt old parameters w = WorksFor (tcb_of old.state) parameters w
 
 -- What the code keeps is what the machine makes of the parameters.
-kept_is : {R : Type 0} (old : Context R) (p : Peer old.state) (parameters : List ResetParameter) (w : WorkedRequests) (h : WorkedAt old parameters w)
+kept_is : {R : Type 0} (old : Context R) (p : Peer old.state) (parameters : List ResetParameter) (w : HandledRequests) (h : WorkedAt old parameters w)
     → worked_in (endpoint_of old) p.my p.held parameters ≡ kept_by p.held (h.effects p.my p.held) w
 kept_is old p parameters w h =
     ap (work_all p.my (is_reached (transfer_of old.state) (requested_in parameters)) parameters) (sym p.last) ∙ h.whole p.my p.held
@@ -470,7 +470,7 @@ kept_is old p parameters w h =
     work_all : Pair → Bool → List ResetParameter → Held → WorkedParameters
     work_all my reached ps held = work_chunk my reached held ps
 
-wanted_of : {R : Type 0} (old : Context R) (p : Peer old.state) (parameters : List ResetParameter) (w : WorkedRequests) (h : WorkedAt old parameters w) → Wanted w.treatment (requested_in parameters)
+wanted_of : {R : Type 0} (old : Context R) (p : Peer old.state) (parameters : List ResetParameter) (w : HandledRequests) (h : WorkedAt old parameters w) → Wanted w.treatment (requested_in parameters)
 wanted_of old p parameters w h =
     wanted w.treatment (requested_in parameters)
     (λ none. sym (h.treats p.my p.held).has ∙ ap (λ (x : WorkedParameters). has_reset x.effects) (sym (kept_is old p parameters w h))
@@ -483,19 +483,19 @@ kind_none own.InProgress is = absurd (cc)
 kind_none own.Performed is = absurd (cc)
 kind_none own.Failed is = absurd (cc)
 
-pub nobody_asked : {R : Type 0} (old asked : Context R) (w : WorkedRequests) (parameters : List ResetParameter) → WorkedAt old parameters w → view_of asked ≡ asked_at w.last (view_of old)
+pub nobody_asked : {R : Type 0} (old asked : Context R) (w : HandledRequests) (parameters : List ResetParameter) → WorkedAt old parameters w → view_of asked ≡ asked_at w.last (view_of old)
     → outstanding_of asked.state ≡ None → w.own ≡ own.Unanswered
 nobody_asked {R = R} old asked w parameters h here none =
     let before : outstanding_of old.state ≡ None = sym (ap (λ (v : View R). v.endpoint.outstanding) here) ∙ none in
     kind_none w.own (h.own ∙ ap (λ (n : Option ℕ). own_answer n w.outstanding (in_progress_among n (worked_part false parameters))) (none_numbered old.state before))
 
 -- the view once both requests were treated
-abbrev pub carried_view : {R : Type 0} → Context R → WorkedRequests → List ResetParameter → Option Transfer → View R
+abbrev pub carried_view : {R : Type 0} → Context R → HandledRequests → List ResetParameter → Option Transfer → View R
 carried_view old w parameters left =
     left_at (settled_at (own_kind w.own) (asked_at w.last (view_of old))) left (told_both w.is_own_first w.own w.treatment (requested_in parameters) (own_streams (outstanding_of old.state)))
 
 -- the events that were added by then
-abbrev told_by : {R : Type 0} → Context R → WorkedRequests → List ResetParameter → List (Event Emission)
+abbrev told_by : {R : Type 0} → Context R → HandledRequests → List ResetParameter → List (Event Emission)
 told_by old w parameters = told_so w.is_own_first w.own w.treatment (their_streams (requested_in parameters)) (own_streams (outstanding_of old.state))
 
 -- its outcome, from that of what comes behind
@@ -512,24 +512,24 @@ begins_there over e asked core left held is =
     let moved : Endpoint = own_moved over e in ap (λ (c : Core). let x : Endpoint = record moved { core = c; below = record moved.below { transfer = left } } in x) is
 
 -- what is known of the association by then
-core_by : {R : Type 0} (old : Context R) (p : Peer old.state) (parameters : List ResetParameter) (w : WorkedRequests) → WorkedAt old parameters w
+core_by : {R : Type 0} (old : Context R) (p : Peer old.state) (parameters : List ResetParameter) (w : HandledRequests) → WorkedAt old parameters w
     → core_settled (own_kind w.own) (core_asked w.last (core_of old.state)) ≡ core_with (core_of old.state) (held_now p.held w)
 core_by old p parameters w h =
     p.settled (own_kind w.own) w.last
     ∙ ap (λ (n : Option ℕ). core_with (core_of old.state) (held_out n (held_with p.held w.last))) (ap (left_out (own_kind w.own)) (sym p.own) ∙ sym h.left)
 
 -- what becomes of the own request
-kind_by : {R : Type 0} (old : Context R) (p : Peer old.state) (parameters : List ResetParameter) (w : WorkedRequests) (h : WorkedAt old parameters w)
+kind_by : {R : Type 0} (old : Context R) (p : Peer old.state) (parameters : List ResetParameter) (w : HandledRequests) (h : WorkedAt old parameters w)
     → own_kind w.own ≡ answered_in p.held (kept_by p.held (h.effects p.my p.held) w) parameters
 kind_by old p parameters w h = h.own ∙ ap (λ (n : Option ℕ). own_answer n w.outstanding (in_progress_among n (worked_part false parameters))) p.own
 
-endpoint_by : {R : Type 0} (old : Context R) (p : Peer old.state) (parameters : List ResetParameter) (w : WorkedRequests) (h : WorkedAt old parameters w) (left : Option Transfer)
+endpoint_by : {R : Type 0} (old : Context R) (p : Peer old.state) (parameters : List ResetParameter) (w : HandledRequests) (h : WorkedAt old parameters w) (left : Option Transfer)
     → (carried_view old w parameters left).endpoint ≡ resets_worked (endpoint_of old) (answered_in p.held (kept_by p.held (h.effects p.my p.held) w) parameters) (held_now p.held w) left
 endpoint_by old p parameters w h left =
     begins_there (own_kind w.own) (endpoint_of old) (core_asked w.last (core_of old.state)) (core_of old.state) left (held_now p.held w) (core_by old p parameters w h)
     ∙ ap (λ (a : OwnAnswer). resets_worked (endpoint_of old) a (held_now p.held w) left) (kind_by old p parameters w h)
 
-works_by : {R : Type 0} (old : Context R) (p : Peer old.state) (parameters : List ResetParameter) (w : WorkedRequests) (h : WorkedAt old parameters w) (left : Option Transfer) (later : Outcome)
+works_by : {R : Type 0} (old : Context R) (p : Peer old.state) (parameters : List ResetParameter) (w : HandledRequests) (h : WorkedAt old parameters w) (left : Option Transfer) (later : Outcome)
     → ResetsBelow (is_performed_for w.treatment (requested_in parameters)) (transfer_of old.state) left
     → FinishAt (held_now p.held w) w.is_refused parameters (reset_parameters w.responses.items) (carried_view old w parameters left) later
     → WorksBy (endpoint_of old) p.held parameters (all_of (h.effects p.my p.held) (told_by old w parameters) later) (kept_by p.held (h.effects p.my p.held) w)
@@ -552,7 +552,7 @@ works_by old p parameters w h left later below turn =
           ∙ ap (λ (events : List (Event Emission)). let o : Outcome = noting effects (responses_by w.is_refused (resets_worked e (answered_in p.held kept parameters) held left) events held parameters responses turn.0) in o) (sym told),
     )
 
-turn_by : {R : Type 0} (old : Context R) (p : Peer old.state) (parameters : List ResetParameter) (w : WorkedRequests) (h : WorkedAt old parameters w) (left : Option Transfer) (later : Outcome)
+turn_by : {R : Type 0} (old : Context R) (p : Peer old.state) (parameters : List ResetParameter) (w : HandledRequests) (h : WorkedAt old parameters w) (left : Option Transfer) (later : Outcome)
     → ResetsBelow (is_performed_for w.treatment (requested_in parameters)) (transfer_of old.state) left
     → FinishAt (held_now p.held w) w.is_refused parameters (reset_parameters w.responses.items) (carried_view old w parameters left) later
     → ReConfigAt parameters (view_of old) (all_of (h.effects p.my p.held) (told_by old w parameters) later)
@@ -568,7 +568,7 @@ settled_ports unanswered e = refl
 settled_ports retried e = refl
 settled_ports over e = refl
 
-adds_told : {R : Type 0} (old : Context R) (p : Peer old.state) (parameters : List ResetParameter) (w : WorkedRequests) (h : WorkedAt old parameters w) (left : Option Transfer)
+adds_told : {R : Type 0} (old : Context R) (p : Peer old.state) (parameters : List ResetParameter) (w : HandledRequests) (h : WorkedAt old parameters w) (left : Option Transfer)
     → Adds (view_of old) (told_by old w parameters) (carried_view old w parameters left)
 adds_told old p parameters w h left =
     record {
@@ -580,7 +580,7 @@ adds_told old p parameters w h left =
 drawn_behind : (front rest : List Effect) → drawn_in front ≡ [] → drawn_in rest ≡ drawn_in (front ++ rest)
 drawn_behind front rest none = ap (λ (ps : List Pair). ps ++ drawn_in rest) (sym none) ∙ sym (drawn_in-append front rest)
 
-pub reset_done : {R : Type 0} (stream : R → Stream) (old : Context R) (p : Peer old.state) (parameters : List ResetParameter) (w : WorkedRequests) → WorkedAt old parameters w → (left : Option Transfer)
+pub reset_done : {R : Type 0} (stream : R → Stream) (old : Context R) (p : Peer old.state) (parameters : List ResetParameter) (w : HandledRequests) → WorkedAt old parameters w → (left : Option Transfer)
     → ResetsBelow (is_performed_for w.treatment (requested_in parameters)) (transfer_of old.state) left
     → (new : View R) → TakesIn stream (FinishAt (held_now p.held w) w.is_refused parameters (reset_parameters w.responses.items)) (carried_view old w parameters left) new → TakesIn stream (ReConfigAt parameters) (view_of old) new
 reset_done stream old p parameters w h left below new second =
@@ -593,7 +593,7 @@ reset_done stream old p parameters w h left below new second =
           (record { words = sym (append-nil (view_of old).words); pairs = refl; drawn = refl }) second.moves);
     }
 
-pub reset_cut : {R : Type 0} (old : Context R) (p : Peer old.state) (parameters : List ResetParameter) (w : WorkedRequests) → WorkedAt old parameters w → (left : Option Transfer)
+pub reset_cut : {R : Type 0} (old : Context R) (p : Peer old.state) (parameters : List ResetParameter) (w : HandledRequests) → WorkedAt old parameters w → (left : Option Transfer)
     → ResetsBelow (is_performed_for w.treatment (requested_in parameters)) (transfer_of old.state) left
     → (events : List (Event (List ℕ))) → CutIn (FinishAt (held_now p.held w) w.is_refused parameters (reset_parameters w.responses.items)) (carried_view old w parameters left) events
     → CutIn (ReConfigAt parameters) (view_of old) events
@@ -607,7 +607,7 @@ reset_cut old p parameters w h left below events second =
     }
 
 -- by whether a growth was refused
-pub reset_by : {R E : Type 0} (stream : R → Stream) (old mid : Context R) (p : Peer old.state) (parameters : List ResetParameter) (w : WorkedRequests) → WorkedAt old parameters w → (left : Option Transfer)
+pub reset_by : {R E : Type 0} (stream : R → Stream) (old mid : Context R) (p : Peer old.state) (parameters : List ResetParameter) (w : HandledRequests) → WorkedAt old parameters w → (left : Option Transfer)
     → ResetsBelow (is_performed_for w.treatment (requested_in parameters)) (transfer_of old.state) left → view_of mid ≡ carried_view old w parameters left → (result : Result (Unit {0}) E) (new : Context R)
     → TakesOne stream (FinishAt (held_now p.held w) w.is_refused parameters (reset_parameters w.responses.items)) mid result new → TakesOne stream (ReConfigAt parameters) old result new
 reset_by {R = R} stream old mid p parameters w h left below here (Ok done) new second =
@@ -618,7 +618,7 @@ reset_by {R = R} stream old mid p parameters w h left below here (Err fault) new
     (subst (λ (v : View R). CutIn (FinishAt (held_now p.held w) w.is_refused parameters (reset_parameters w.responses.items)) v (view_of new).events) here second)
 
 -- The peer is held still.
-pub still_held : {R : Type 0} (old mid : Context R) (p : Peer old.state) (w : WorkedRequests) (parameters : List ResetParameter) (left : Option Transfer) → WorkedAt old parameters w
+pub still_held : {R : Type 0} (old mid : Context R) (p : Peer old.state) (w : HandledRequests) (parameters : List ResetParameter) (left : Option Transfer) → WorkedAt old parameters w
     → view_of mid ≡ carried_view old w parameters left → held_in (core_of mid.state) ≡ Some (held_now p.held w)
 still_held {R = R} old mid p w parameters left h here =
     ap (λ (v : View R). held_in v.endpoint.core) here ∙ ap held_in (core_by old p parameters w h) ∙ p.keeps (held_now p.held w)
@@ -629,7 +629,7 @@ some_said [] some = absurd (cc)
 some_said (response ∷ responses) some = refl
 
 -- both requests were treated, behind the numbers
-pub carried_so : {R : Type 0} (old asked mid : Context R) (w : WorkedRequests) (reset : Option RequestedReset) (parameters : List ResetParameter) → view_of asked ≡ asked_at w.last (view_of old)
+pub carried_so : {R : Type 0} (old asked mid : Context R) (w : HandledRequests) (reset : Option RequestedReset) (parameters : List ResetParameter) → view_of asked ≡ asked_at w.last (view_of old)
     → reset ≡ requested_in parameters → CarriedAs w reset asked (view_of mid)
     → (left : Option Transfer) × ResetsBelow (is_performed_for w.treatment (requested_in parameters)) (transfer_of old.state) left × (view_of mid ≡ carried_view old w parameters left)
 carried_so {R = R} old asked mid w reset parameters here wanted h =
@@ -654,7 +654,7 @@ told_first e my held parameters o h =
     )
 
 -- Where it was cut before both were told, a front part of what is told was added.
-pub carried_cut : {R : Type 0} (old asked mid : Context R) (p : Peer old.state) (w : WorkedRequests) (reset : Option RequestedReset) (parameters : List ResetParameter) → WorkedAt old parameters w
+pub carried_cut : {R : Type 0} (old asked mid : Context R) (p : Peer old.state) (w : HandledRequests) (reset : Option RequestedReset) (parameters : List ResetParameter) → WorkedAt old parameters w
     → view_of asked ≡ asked_at w.last (view_of old) → reset ≡ requested_in parameters → (count : ℕ) × ((view_of mid).events ≡ (view_of asked).events ++ take count (told_where w reset asked))
     → CutIn (ReConfigAt parameters) (view_of old) (view_of mid).events
 carried_cut {R = R} old asked mid p w reset parameters h here wanted cut =

@@ -20,7 +20,7 @@ use Rattle.dcsctp_core_resets.specs.declared.requests.Treatment.{Treatment}
 use Rattle.dcsctp_core_resets.specs.declared.requests.Treatment.TheVariants.{Nothing}
 use Rattle.dcsctp_core_resets.specs.declared.requests.LastRequest.{LastRequest}
 use Rattle.dcsctp_core_resets.specs.declared.requests.AnsweredRequest.{AnsweredRequest}
-use Rattle.dcsctp_core_resets.specs.declared.requests.WorkedRequests.{WorkedRequests}
+use Rattle.dcsctp_core_resets.specs.declared.requests.HandledRequests.{HandledRequests}
 use Rattle.dcsctp_core_resets.specs.Requests.{said_by, reset_parameters, is_outgoing, held_with, is_performed, treated_events, Treats, AnswersAs, Responds, behind_these, AreResponses, WorksOne, WorksChunk, held_out, own_events, own_kind, own_ended, with_result, with_response, left_out, SameOwn, held_now, told_so, TreatsBoth, Brings, brings_nothing, brings_request, brings_answer}
 use Rattle.std.specs.List.{list_any}
 use Rattle.std.proofs.lemmas.List.Folds.{list_any-append}
@@ -103,10 +103,10 @@ nothing_behind t front rest first second =
 -- ---- one parameter
 
 -- no answer to the own request
-same_own : (w : WorkedRequests) → SameOwn w w
+same_own : (w : HandledRequests) → SameOwn w w
 same_own w = record { outstanding = refl; own = refl; first = refl }
 
-own_then : (a b c : WorkedRequests) → SameOwn a b → SameOwn b c → SameOwn a c
+own_then : (a b c : HandledRequests) → SameOwn a b → SameOwn b c → SameOwn a c
 own_then a b c one two = record { outstanding = two.outstanding ∙ one.outstanding; own = two.own ∙ one.own; first = two.first ∙ one.first }
 
 -- whether an outgoing request was worked so far
@@ -119,7 +119,7 @@ or_one true = refl
 or_one false = refl
 
 -- one that brings nothing
-rests_one : (reached : Bool) (parameter : ResetParameter) (w : WorkedRequests)
+rests_one : (reached : Bool) (parameter : ResetParameter) (w : HandledRequests)
     → in_progress_among w.outstanding (parameter ∷ []) ≡ false → is_outgoing parameter ≡ false
     → ((my : Pair) (base : Held) (rest : List ResetParameter)
     → work_parameters my reached w.has_worked (held_now base w) (parameter ∷ rest) ≡ work_parameters my reached w.has_worked (held_now base w) rest)
@@ -148,7 +148,7 @@ incoming_answers : (outstanding : Option ℕ) (number : ℕ) (streams : List ℕ
 incoming_answers None number streams = refl
 incoming_answers (Some own) number streams = refl
 
-pub other_one : (reached : Bool) (parameter : ParameterContent) (w : WorkedRequests) → WorksOne reached (other_reset_parameter parameter) w w
+pub other_one : (reached : Bool) (parameter : ParameterContent) (w : HandledRequests) → WorksOne reached (other_reset_parameter parameter) w w
 other_one reached parameter w = rests_one reached (other_reset_parameter parameter) w (other_answers w.outstanding parameter) refl (λ my base rest. refl)
 
 -- A response to another request says nothing.
@@ -175,7 +175,7 @@ own_is : (outstanding : Option ℕ) (number : ℕ) → is_outstanding number out
 own_is None number is = absurd (cc)
 own_is (Some own) number is = ap (λ (n : ℕ). Some n) (let same : own ≡ number = grind (arith, nat_tests) in same)
 
-response_whole : (result : ReconfigurationResponseResult) (my : Pair) (reached : Bool) (number : ℕ) (w : WorkedRequests) (base : Held) (rest : List ResetParameter)
+response_whole : (result : ReconfigurationResponseResult) (my : Pair) (reached : Bool) (number : ℕ) (w : HandledRequests) (base : Held) (rest : List ResetParameter)
     → after_answer (informed_by my (held_now base w) number result) (work_parameters my reached w.has_worked (informed_by my (held_now base w) number result).held rest)
     ≡ behind_these (informed_by my (held_now base w) number result).effects [] (work_parameters my reached (with_result result w).has_worked (held_now base (with_result result w)) rest)
 response_whole SuccessNothingToDo my reached number w base rest = refl
@@ -186,7 +186,7 @@ response_whole ErrorRequestAlreadyInProgress my reached number w base rest = ref
 response_whole ErrorBadSequenceNumber my reached number w base rest = refl
 response_whole InProgress my reached number w base rest = refl
 
-result_keeps : (result : ReconfigurationResponseResult) (w : WorkedRequests) → ((with_result result w).responses ≡ w.responses) × ((with_result result w).is_refused ≡ w.is_refused)
+result_keeps : (result : ReconfigurationResponseResult) (w : HandledRequests) → ((with_result result w).responses ≡ w.responses) × ((with_result result w).is_refused ≡ w.is_refused)
 result_keeps SuccessNothingToDo w = (refl, refl)
 result_keeps SuccessPerformed w = (refl, refl)
 result_keeps Denied w = (refl, refl)
@@ -195,7 +195,7 @@ result_keeps ErrorRequestAlreadyInProgress w = (refl, refl)
 result_keeps ErrorBadSequenceNumber w = (refl, refl)
 result_keeps InProgress w = (refl, refl)
 
-result_has : (result : ReconfigurationResponseResult) (w : WorkedRequests) → (with_result result w).has_worked ≡ w.has_worked
+result_has : (result : ReconfigurationResponseResult) (w : HandledRequests) → (with_result result w).has_worked ≡ w.has_worked
 result_has SuccessNothingToDo w = refl
 result_has SuccessPerformed w = refl
 result_has Denied w = refl
@@ -204,7 +204,7 @@ result_has ErrorRequestAlreadyInProgress w = refl
 result_has ErrorBadSequenceNumber w = refl
 result_has InProgress w = refl
 
-response_by : (b : Bool) (reached : Bool) (number : ℕ) (result : ReconfigurationResponseResult) (w : WorkedRequests) → is_outstanding number w.outstanding ≡ b
+response_by : (b : Bool) (reached : Bool) (number : ℕ) (result : ReconfigurationResponseResult) (w : HandledRequests) → is_outstanding number w.outstanding ≡ b
     → WorksOne reached (reconfiguration_response number result) w (with_response b result w)
 response_by false reached number result w is =
     rests_one reached (reconfiguration_response number result) w (another_answers w.outstanding number result is) refl
@@ -223,17 +223,17 @@ response_by true reached number result w is =
           ∙ response_whole result my reached number w base rest;
     }
 
-pub response_one : (reached : Bool) (number : ℕ) (result : ReconfigurationResponseResult) (w new : WorkedRequests) → new ≡ with_response (is_outstanding number w.outstanding) result w
+pub response_one : (reached : Bool) (number : ℕ) (result : ReconfigurationResponseResult) (w new : HandledRequests) → new ≡ with_response (is_outstanding number w.outstanding) result w
     → WorksOne reached (reconfiguration_response number result) w new
 response_one reached number result w new is =
     subst (WorksOne reached (reconfiguration_response number result) w) (sym is) (response_by (is_outstanding number w.outstanding) reached number result w refl)
 
-one_response : (number : ℕ) (answer : ReconfigurationResponseResult) (old new : WorkedRequests) (h : Responds number answer old new) → AreResponses (h.response ∷ [])
+one_response : (number : ℕ) (answer : ReconfigurationResponseResult) (old new : HandledRequests) (h : Responds number answer old new) → AreResponses (h.response ∷ [])
 one_response number answer old new h =
     ap (λ (c : ParameterContent). reset_parameter_content (reset_parameter_in c) ∷ []) h.says ∙ ap (λ (c : ParameterContent). c ∷ []) (sym h.says)
 
 -- it says this
-response_says : (number : ℕ) (answer : ReconfigurationResponseResult) (old new : WorkedRequests) (h : Responds number answer old new)
+response_says : (number : ℕ) (answer : ReconfigurationResponseResult) (old new : HandledRequests) (h : Responds number answer old new)
     → reset_parameters (h.response ∷ []) ≡ reconfiguration_response number answer ∷ []
 response_says number answer old new h = ap (λ (c : ParameterContent). reset_parameter_in c ∷ []) h.says
 
@@ -246,7 +246,7 @@ answered_then my reached has base number a first responses rest h says =
     ∙ ap (λ (result : ReconfigurationResponseResult). behind_these first.effects (reconfiguration_response number result ∷ []) (work_parameters my reached has (held_with base a.last) rest)) h.result
     ∙ ap (λ (rs : List ResetParameter). behind_these first.effects rs (work_parameters my reached has (held_with base a.last) rest)) (sym says)
 
-pub outgoing_one : (reached : Bool) (number answered : ℕ) (reset : RequestedReset) (old between new : WorkedRequests) (a : AnsweredRequest) → old.has_worked ≡ false
+pub outgoing_one : (reached : Bool) (number answered : ℕ) (reset : RequestedReset) (old between new : HandledRequests) (a : AnsweredRequest) → old.has_worked ≡ false
     → ((base : Held) → AnswersAs base a (outgoing_by (held_with base old.last) number reached (place_of old.last.number number)))
     → Responds number a.result old between → new.responses ≡ between.responses → new.last ≡ a.last → new.treatment ≡ a.treatment → new.has_worked ≡ true → SameOwn between new → new.is_refused ≡ between.is_refused
     → WorksOne reached (outgoing_reset_request number answered reset) old new
@@ -277,7 +277,7 @@ incoming_treats held number again = nothing_treats
 incoming_treats held number next = record { has = refl; told = λ theirs own. refl; drawn = refl }
 incoming_treats held number astray = nothing_treats
 
-pub incoming_one : (reached : Bool) (number : ℕ) (streams : List ℕ) (old between new : WorkedRequests) (a : AnsweredRequest)
+pub incoming_one : (reached : Bool) (number : ℕ) (streams : List ℕ) (old between new : HandledRequests) (a : AnsweredRequest)
     → ((base : Held) → AnswersAs base a (incoming_by (held_with base old.last) number (place_of old.last.number number)))
     → Responds number a.result old between → new.responses ≡ between.responses → new.last ≡ a.last → new.treatment ≡ between.treatment → new.has_worked ≡ between.has_worked → SameOwn between new
     → new.is_refused ≡ between.is_refused → WorksOne reached (incoming_reset_request number streams) old new
@@ -313,12 +313,12 @@ not_second has parameter request is first = second_by has (said_by parameter) (a
 
 -- Where the own request stands: as it did, perhaps answered as in progress; or at its end, of which the user is told first, or behind
 -- what became of the peer's request.
-pub data OwnStands (start : Option ℕ) (front : List ResetParameter) (w : WorkedRequests) : Type 0 where
+pub data OwnStands (start : Option ℕ) (front : List ResetParameter) (w : HandledRequests) : Type 0 where
   awaited : w.outstanding ≡ start → own_kind w.own ≡ own_answer start start (in_progress_among start front) → ((streams : List ℕ) → own_events w.own streams ≡ []) → OwnStands start front w
   ended : (number : ℕ) → start ≡ Some number → w.outstanding ≡ None → own_kind w.own ≡ outcomes.over → (w.is_own_first ≡ true) ⊎ (w.has_worked ≡ true) → OwnStands start front w
 
 -- What was made of these, whatever stands behind them.
-pub record Progress (reached : Bool) (last : LastRequest) (start : Option ℕ) (front : List ResetParameter) (w : WorkedRequests) : Type 0 where
+pub record Progress (reached : Bool) (last : LastRequest) (start : Option ℕ) (front : List ResetParameter) (w : HandledRequests) : Type 0 where
   pub effects : Pair → Held → List Effect
   pub are : AreResponses w.responses.items
   pub treats : (my : Pair) (base : Held) → TreatsBoth w (effects my base)
@@ -334,11 +334,11 @@ nothing_asked None = refl
 nothing_asked (Some number) = refl
 
 -- before any parameter
-abbrev pub begun : LastRequest → Option ℕ → Bool → WorkedRequests → WorkedRequests
+abbrev pub begun : LastRequest → Option ℕ → Bool → HandledRequests → HandledRequests
 begun last start refused w =
     record w { last = last; treatment = Nothing; has_worked = false; outstanding = start; own = own.Unanswered; is_own_first = false; is_refused = refused }
 
-pub none_so_far : (reached : Bool) (last : LastRequest) (start : Option ℕ) (refused : Bool) (w : WorkedRequests) → w.responses.items ≡ [] → w ≡ begun last start refused w → Progress reached last start [] w
+pub none_so_far : (reached : Bool) (last : LastRequest) (start : Option ℕ) (refused : Bool) (w : HandledRequests) → w.responses.items ≡ [] → w ≡ begun last start refused w → Progress reached last start [] w
 none_so_far reached last start refused w none is =
     subst (Progress reached last start []) (sym is)
     (record {
@@ -370,14 +370,14 @@ behind_both es fs xs ys rest =
     ∙ ap (λ (all : List ResetParameter). record rest { effects = (es ++ fs) ++ rest.effects; answers = all }) (sym (append_assoc xs ys rest.answers))
 
 -- what the user is told so far, and then nothing more
-told_same : (old new : WorkedRequests) (theirs streams : List ℕ) → SameOwn old new → new.treatment ≡ old.treatment
+told_same : (old new : HandledRequests) (theirs streams : List ℕ) → SameOwn old new → new.treatment ≡ old.treatment
     → told_so new.is_own_first new.own new.treatment theirs streams ≡ told_so old.is_own_first old.own old.treatment theirs streams
 told_same old new theirs streams same is =
     ap (λ (b : Bool). told_so b new.own new.treatment theirs streams) same.first
     ∙ ap (λ (a : OwnAnswer). told_so old.is_own_first a new.treatment theirs streams) same.own
     ∙ ap (λ (t : Treatment). told_so old.is_own_first old.own t theirs streams) is
 
-then_nothing : (old new : WorkedRequests) (es fs : List Effect) → TreatsBoth old es → Treats Nothing fs → SameOwn old new → new.treatment ≡ old.treatment → TreatsBoth new (es ++ fs)
+then_nothing : (old new : HandledRequests) (es fs : List Effect) → TreatsBoth old es → Treats Nothing fs → SameOwn old new → new.treatment ≡ old.treatment → TreatsBoth new (es ++ fs)
 then_nothing old new es fs first second same is =
     record {
       has = has_both es fs ∙ ap (λ (b : Bool). resets_of (has_reset es) b) second.has ∙ resets_alone (has_reset es) ∙ first.has ∙ sym (ap is_performed is);
@@ -400,12 +400,12 @@ joins false own.Failed t theirs streams (inl silent) = absurd (cc)
 joins false own.Failed t theirs streams (inr first) = absurd (cc)
 
 -- Nothing was told of the own request, or that comes first.
-early : (start : Option ℕ) (front : List ResetParameter) (w : WorkedRequests) (streams : List ℕ) → OwnStands start front w → w.has_worked ≡ false → (own_events w.own streams ≡ []) ⊎ (w.is_own_first ≡ true)
+early : (start : Option ℕ) (front : List ResetParameter) (w : HandledRequests) (streams : List ℕ) → OwnStands start front w → w.has_worked ≡ false → (own_events w.own streams ≡ []) ⊎ (w.is_own_first ≡ true)
 early start front w streams (awaited same kind silent) fresh = inl (silent streams)
 early start front w streams (ended number is none kind (inl first)) fresh = inr first
 early start front w streams (ended number is none kind (inr worked)) fresh = absurd (cc)
 
-then_request : (old new : WorkedRequests) (es fs : List Effect) → TreatsBoth old es → old.treatment ≡ Nothing → ((streams : List ℕ) → (own_events old.own streams ≡ []) ⊎ (old.is_own_first ≡ true)) → Treats new.treatment fs
+then_request : (old new : HandledRequests) (es fs : List Effect) → TreatsBoth old es → old.treatment ≡ Nothing → ((streams : List ℕ) → (own_events old.own streams ≡ []) ⊎ (old.is_own_first ≡ true)) → Treats new.treatment fs
     → SameOwn old new → TreatsBoth new (es ++ fs)
 then_request old new es fs first nothing before second same =
     record {
@@ -440,7 +440,7 @@ record Tells (answer : OwnAnswer) (effects : List Effect) : Type 0 where
   told : (theirs streams : List ℕ) → reset_events theirs streams effects ≡ own_events answer streams
   drawn : drawn_in effects ≡ []
 
-then_ended : (old : WorkedRequests) (answer : OwnAnswer) (es fs : List Effect) → TreatsBoth old es → ((streams : List ℕ) → own_events old.own streams ≡ []) → (old.has_worked ≡ false → old.treatment ≡ Nothing)
+then_ended : (old : HandledRequests) (answer : OwnAnswer) (es fs : List Effect) → TreatsBoth old es → ((streams : List ℕ) → own_events old.own streams ≡ []) → (old.has_worked ≡ false → old.treatment ≡ Nothing)
     → Tells answer fs → TreatsBoth (own_ended answer old) (es ++ fs)
 then_ended old answer es fs first silent fresh tells =
     record {
@@ -453,7 +453,7 @@ then_ended old answer es fs first silent fresh tells =
       drawn = drawn_both es fs first.drawn tells.drawn;
     }
 
-then_awaited : (old : WorkedRequests) (es : List Effect) → TreatsBoth old es → ((streams : List ℕ) → own_events old.own streams ≡ []) → TreatsBoth (record old { own = own.InProgress }) (es ++ [])
+then_awaited : (old : HandledRequests) (es : List Effect) → TreatsBoth old es → ((streams : List ℕ) → own_events old.own streams ≡ []) → TreatsBoth (record old { own = own.InProgress }) (es ++ [])
 then_awaited old es first silent =
     record {
       has = ap has_reset (append-nil es) ∙ first.has;
@@ -462,7 +462,7 @@ then_awaited old es first silent =
       drawn = ap drawn_in (append-nil es) ∙ first.drawn;
     }
 
-then_result : (result : ReconfigurationResponseResult) (my : Pair) (held : Held) (number : ℕ) (old : WorkedRequests) (es : List Effect) → TreatsBoth old es → ((streams : List ℕ) → own_events old.own streams ≡ [])
+then_result : (result : ReconfigurationResponseResult) (my : Pair) (held : Held) (number : ℕ) (old : HandledRequests) (es : List Effect) → TreatsBoth old es → ((streams : List ℕ) → own_events old.own streams ≡ [])
     → (old.has_worked ≡ false → old.treatment ≡ Nothing) → TreatsBoth (with_result result old) (es ++ (informed_by my held number result).effects)
 then_result SuccessNothingToDo my held number old es first silent fresh = then_ended old own.Performed es _ first silent fresh (record { has = refl; told = λ theirs streams. refl; drawn = refl })
 then_result SuccessPerformed my held number old es first silent fresh = then_ended old own.Performed es _ first silent fresh (record { has = refl; told = λ theirs streams. refl; drawn = refl })
@@ -475,21 +475,21 @@ then_result InProgress my held number old es first silent fresh = then_awaited o
 -- ---- one more parameter
 
 -- where the own request is awaited, an answer to it comes
-silent_of : (start : Option ℕ) (front : List ResetParameter) (w : WorkedRequests) (number : ℕ) → OwnStands start front w → w.outstanding ≡ Some number → (streams : List ℕ) → own_events w.own streams ≡ []
+silent_of : (start : Option ℕ) (front : List ResetParameter) (w : HandledRequests) (number : ℕ) → OwnStands start front w → w.outstanding ≡ Some number → (streams : List ℕ) → own_events w.own streams ≡ []
 silent_of start front w number (awaited same kind silent) is streams = silent streams
 silent_of start front w number (ended other was none kind first) is streams = absurd (cc)
 
-treats_more : (start : Option ℕ) (front : List ResetParameter) (parameter : ResetParameter) (old new : WorkedRequests) (effects : Pair → Held → List Effect) (my : Pair) (base : Held) (es : List Effect)
+treats_more : (start : Option ℕ) (front : List ResetParameter) (parameter : ResetParameter) (old new : HandledRequests) (effects : Pair → Held → List Effect) (my : Pair) (base : Held) (es : List Effect)
     → TreatsBoth old es → (old.has_worked ≡ false → old.treatment ≡ Nothing) → OwnStands start front old → Brings parameter old new effects → TreatsBoth new (es ++ effects my base)
 treats_more start front parameter old new effects my base es first fresh own (brings_nothing treatment has same treats other) = then_nothing old new es (effects my base) first (treats my base) same treatment
 treats_more start front parameter old new effects my base es first fresh own (brings_request not_yet has same treats other) =
     then_request old new es (effects my base) first (fresh not_yet) (λ streams. early start front old streams own not_yet) (treats my base) same
 treats_more start front parameter old new effects my base es first fresh own (brings_answer number result is awaits now brings) =
-    subst (λ (w : WorkedRequests). TreatsBoth w (es ++ effects my base)) (sym now)
+    subst (λ (w : HandledRequests). TreatsBoth w (es ++ effects my base)) (sym now)
     (subst (λ (fs : List Effect). TreatsBoth (with_result result old) (es ++ fs)) (sym (brings my base))
     (then_result result my (held_now base old) number old es first (silent_of start front old number own awaits) fresh))
 
-result_worked : (result : ReconfigurationResponseResult) (w : WorkedRequests) → ((with_result result w).has_worked ≡ w.has_worked) × ((with_result result w).treatment ≡ w.treatment)
+result_worked : (result : ReconfigurationResponseResult) (w : HandledRequests) → ((with_result result w).has_worked ≡ w.has_worked) × ((with_result result w).treatment ≡ w.treatment)
 result_worked SuccessNothingToDo w = (refl, refl)
 result_worked SuccessPerformed w = (refl, refl)
 result_worked Denied w = (refl, refl)
@@ -498,12 +498,12 @@ result_worked ErrorRequestAlreadyInProgress w = (refl, refl)
 result_worked ErrorBadSequenceNumber w = (refl, refl)
 result_worked InProgress w = (refl, refl)
 
-fresh_more : (parameter : ResetParameter) (old new : WorkedRequests) (effects : Pair → Held → List Effect) → (old.has_worked ≡ false → old.treatment ≡ Nothing) → Brings parameter old new effects
+fresh_more : (parameter : ResetParameter) (old new : HandledRequests) (effects : Pair → Held → List Effect) → (old.has_worked ≡ false → old.treatment ≡ Nothing) → Brings parameter old new effects
     → new.has_worked ≡ false → new.treatment ≡ Nothing
 fresh_more parameter old new effects fresh (brings_nothing treatment has same treats other) is = treatment ∙ fresh (sym has ∙ is)
 fresh_more parameter old new effects fresh (brings_request not_yet has same treats other) is = absurd (cc)
 fresh_more parameter old new effects fresh (brings_answer number result was awaits now brings) is =
-    ap (λ (w : WorkedRequests). w.treatment) now ∙ (result_worked result old).1 ∙ fresh (sym (result_worked result old).0 ∙ sym (ap (λ (w : WorkedRequests). w.has_worked) now) ∙ is)
+    ap (λ (w : HandledRequests). w.treatment) now ∙ (result_worked result old).1 ∙ fresh (sym (result_worked result old).0 ∙ sym (ap (λ (w : HandledRequests). w.has_worked) now) ∙ is)
 
 -- whether it was answered as in progress, with one more
 among_more : (start : Option ℕ) (front : List ResetParameter) (parameter : ResetParameter) → in_progress_among start (parameter ∷ []) ≡ false → in_progress_among start (front ++ parameter ∷ []) ≡ in_progress_among start front
@@ -515,7 +515,7 @@ among_more (Some number) front parameter other =
     or_right true = refl
     or_right false = refl
 
-stays_more : (start : Option ℕ) (front : List ResetParameter) (parameter : ResetParameter) (old new : WorkedRequests) → OwnStands start front old → SameOwn old new → (old.has_worked ≡ true → new.has_worked ≡ true)
+stays_more : (start : Option ℕ) (front : List ResetParameter) (parameter : ResetParameter) (old new : HandledRequests) → OwnStands start front old → SameOwn old new → (old.has_worked ≡ true → new.has_worked ≡ true)
     → in_progress_among old.outstanding (parameter ∷ []) ≡ false → OwnStands start (front ++ parameter ∷ []) new
 stays_more start front parameter old new (awaited is kind silent) same worked other =
     awaited (same.outstanding ∙ is)
@@ -539,7 +539,7 @@ answered_now number front =
     or_true true = refl
     or_true false = refl
 
-by_result : (result : ReconfigurationResponseResult) (number : ℕ) (front : List ResetParameter) (old : WorkedRequests) → old.outstanding ≡ Some number
+by_result : (result : ReconfigurationResponseResult) (number : ℕ) (front : List ResetParameter) (old : HandledRequests) → old.outstanding ≡ Some number
     → OwnStands (Some number) (front ++ reconfiguration_response number result ∷ []) (with_result result old)
 by_result SuccessNothingToDo number front old is = ended number refl refl refl (first_or_worked old.has_worked)
 by_result SuccessPerformed number front old is = ended number refl refl refl (first_or_worked old.has_worked)
@@ -550,11 +550,11 @@ by_result ErrorBadSequenceNumber number front old is = ended number refl refl re
 by_result InProgress number front old is = awaited is (ap (λ (b : Bool). own_answer (Some number) (Some number) b) (sym (answered_now number front))) (λ streams. refl)
 
 -- what the own request was before
-start_of : (start : Option ℕ) (front : List ResetParameter) (w : WorkedRequests) (number : ℕ) → OwnStands start front w → w.outstanding ≡ Some number → start ≡ Some number
+start_of : (start : Option ℕ) (front : List ResetParameter) (w : HandledRequests) (number : ℕ) → OwnStands start front w → w.outstanding ≡ Some number → start ≡ Some number
 start_of start front w number (awaited same kind silent) is = sym same ∙ is
 start_of start front w number (ended other was none kind first) is = absurd (cc)
 
-own_more : (start : Option ℕ) (front : List ResetParameter) (parameter : ResetParameter) (old new : WorkedRequests) (effects : Pair → Held → List Effect) → OwnStands start front old → Brings parameter old new effects
+own_more : (start : Option ℕ) (front : List ResetParameter) (parameter : ResetParameter) (old new : HandledRequests) (effects : Pair → Held → List Effect) → OwnStands start front old → Brings parameter old new effects
     → OwnStands start (front ++ parameter ∷ []) new
 own_more start front parameter old new effects own (brings_nothing treatment has same treats other) = stays_more start front parameter old new own same (λ is. has ∙ is) other
 own_more start front parameter old new effects own (brings_request not_yet has same treats other) = stays_more start front parameter old new own same (λ is. has) other
@@ -585,7 +585,7 @@ none_yet true outgoing is = absurd (cc)
 none_yet false outgoing is = refl
 
 -- One more was worked.
-pub one_more : (reached : Bool) (last : LastRequest) (start : Option ℕ) (front : List ResetParameter) (parameter : ResetParameter) (old new : WorkedRequests)
+pub one_more : (reached : Bool) (last : LastRequest) (start : Option ℕ) (front : List ResetParameter) (parameter : ResetParameter) (old new : HandledRequests)
     → (old.has_worked && is_outgoing parameter) ≡ false → Progress reached last start front old → WorksOne reached parameter old new
     → Progress reached last start (front ++ parameter ∷ []) new
 one_more reached last start front parameter old new first done step =
@@ -609,7 +609,7 @@ one_more reached last start front parameter old new first done step =
     }
 
 -- what became of the own request in the end
-own_at_end : (start : Option ℕ) (front : List ResetParameter) (w : WorkedRequests) → OwnStands start front w → own_kind w.own ≡ own_answer start w.outstanding (in_progress_among start front)
+own_at_end : (start : Option ℕ) (front : List ResetParameter) (w : HandledRequests) → OwnStands start front w → own_kind w.own ≡ own_answer start w.outstanding (in_progress_among start front)
 own_at_end start front w (awaited is kind silent) = kind ∙ ap (λ (o : Option ℕ). own_answer start o (in_progress_among start front)) (sym is)
 own_at_end start front w (ended number is none kind first) =
     kind ∙ ap (λ (o : Option ℕ). own_answer o None (in_progress_among o front)) (sym is) ∙ ap (λ (o : Option ℕ). own_answer start o (in_progress_among start front)) (sym none)
@@ -622,7 +622,7 @@ kind_left outcomes.over None b is = refl
 kind_left outcomes.over (Some number) true is = absurd (cc)
 kind_left outcomes.over (Some number) false is = absurd (cc)
 
-left_at_end : (start : Option ℕ) (front : List ResetParameter) (w : WorkedRequests) → OwnStands start front w → w.outstanding ≡ left_out (own_kind w.own) start
+left_at_end : (start : Option ℕ) (front : List ResetParameter) (w : HandledRequests) → OwnStands start front w → w.outstanding ≡ left_out (own_kind w.own) start
 left_at_end start front w (awaited is kind silent) = is ∙ sym (kind_left (own_kind w.own) start (in_progress_among start front) kind)
 left_at_end start front w (ended number is none kind first) = none ∙ ap (λ (k : outcomes.OwnAnswer). left_out k start) (sym kind)
 
@@ -644,7 +644,7 @@ bring_refused es rs held =
     ap (λ (all : List Effect). record { held = held; effects = all; answers = rs ++ []; is_refused = true }) (append-nil es)
     ∙ ap (λ (all : List ResetParameter). record { held = held; effects = es; answers = all; is_refused = true }) (append-nil rs)
 
-pub all_worked : (reached : Bool) (last : LastRequest) (start : Option ℕ) (parameters : List ResetParameter) (w : WorkedRequests) → Progress reached last start parameters w → is_none parameters ≡ false → w.is_refused ≡ false
+pub all_worked : (reached : Bool) (last : LastRequest) (start : Option ℕ) (parameters : List ResetParameter) (w : HandledRequests) → Progress reached last start parameters w → is_none parameters ≡ false → w.is_refused ≡ false
     → WorksChunk reached last start parameters w
 all_worked reached last start parameters w done some taken =
     record {
@@ -685,7 +685,7 @@ second_part has (incoming_reset_request number streams) rest worked is = absurd 
 second_part has (reconfiguration_response number result) rest worked is = absurd (cc)
 second_part has (other_reset_parameter parameter) rest worked is = absurd (cc)
 
-pub second_worked : (reached : Bool) (last : LastRequest) (start : Option ℕ) (front rest : List ResetParameter) (parameter : ResetParameter) (w v : WorkedRequests) → Progress reached last start front w → w.has_worked ≡ true
+pub second_worked : (reached : Bool) (last : LastRequest) (start : Option ℕ) (front rest : List ResetParameter) (parameter : ResetParameter) (w v : HandledRequests) → Progress reached last start front w → w.has_worked ≡ true
     → is_outgoing parameter ≡ true → v ≡ record w { is_refused = true } → WorksChunk reached last start (front ++ parameter ∷ rest) v
 second_worked reached last start front rest parameter w v done has is here =
     subst (WorksChunk reached last start (front ++ parameter ∷ rest)) (sym here)
@@ -705,7 +705,7 @@ second_worked reached last start front rest parameter w v done has is here =
     })
 
 -- A chunk without parameters is an error too.
-pub none_worked : (reached : Bool) (last : LastRequest) (start : Option ℕ) (w : WorkedRequests) → Progress reached last start [] w → w.is_refused ≡ true → WorksChunk reached last start [] w
+pub none_worked : (reached : Bool) (last : LastRequest) (start : Option ℕ) (w : HandledRequests) → Progress reached last start [] w → w.is_refused ≡ true → WorksChunk reached last start [] w
 none_worked reached last start w done refused =
     record {
       effects = done.effects;
@@ -734,7 +734,7 @@ parameters_split parameters i d lt =
     ∙ ap (λ (ps : List ResetParameter). ps ++ after) (parameters_more parameters i d lt)
     ∙ append_assoc (reset_parameters (take i parameters)) (said_by (get_or parameters i d) ∷ []) after
 
-pub ends_worked : (reached : Bool) (last : LastRequest) (start : Option ℕ) (parameters : List Parameter) (w : WorkedRequests) → Progress reached last start (reset_parameters parameters) w → w.is_refused ≡ nat_eq (length parameters) 0
+pub ends_worked : (reached : Bool) (last : LastRequest) (start : Option ℕ) (parameters : List Parameter) (w : HandledRequests) → Progress reached last start (reset_parameters parameters) w → w.is_refused ≡ nat_eq (length parameters) 0
     → WorksChunk reached last start (reset_parameters parameters) w
 ends_worked reached last start [] w done refused = none_worked reached last start w done refused
 ends_worked reached last start (parameter ∷ parameters) w done refused = all_worked reached last start (reset_parameters (parameter ∷ parameters)) w done refl (refused ∙ grind (arith, nat_tests))

@@ -15,14 +15,16 @@ use Rattle.dcsctp_core.specs.declared.state.State.{State}
 use Rattle.dcsctp_core.specs.declared.transmission_control_block.ResetRequest.{ResetRequest}
 use Rattle.dcsctp_core.specs.declared.transmission_control_block.TransmissionControlBlock.{TransmissionControlBlock}
 use Rattle.dcsctp_core.specs.declared.state.State.TheVariants.{Closed, CookieWait, CookieEchoed, Open}
-use Rattle.dcsctp_core.specs.View.{View, number_of, request_of, timer_of, held_of, phase_in, outstanding_of, transfer_of, view_of}
+use Rattle.dcsctp_core.specs.View.{View, number_of, request_of, own_request, timer_of, held_of, phase_in, tcb_of, outstanding_of, transfer_of, view_of}
 use Rattle.dcsctp_send_timer.specs.Timer.{TimerModel}
-use Rattle.dcsctp_core.specs.Answering.{delayed, Retries, RetriesIn}
-use Rattle.dcsctp_core.specs.Reconfiguring.{request_in}
+use Rattle.dcsctp_core.specs.Answering.{delayed, Retries}
+use Rattle.dcsctp_core.specs.Reconfiguring.{request_in, tcb_changed}
+use Rattle.dcsctp_core.proofs.LendingLemmas.{within}
 use Rattle.dcsctp_core_resets.specs.declared.requests.OwnAnswer.TheVariants as own
-use Rattle.dcsctp_core_resets.specs.declared.requests.WorkedRequests.{WorkedRequests}
+use Rattle.dcsctp_core_resets.specs.declared.requests.LastRequest.{LastRequest}
+use Rattle.dcsctp_core_resets.specs.declared.requests.HandledRequests.{HandledRequests}
 use Rattle.dcsctp_core_resets.specs.Requests.{held_out, own_kind}
-use Rattle.dcsctp_core_resets.specs.Resets.{left_at, settled_at, own_told, event_told, Settles, Tells, is_performed_for, told_for, Treats, told_both, told_where, Carried}
+use Rattle.dcsctp_core_resets.specs.Resets.{RetriesIn, asked_at, left_at, settled_at, own_told, event_told, Settles, Tells, is_performed_for, told_for, Treats, told_both, told_where, Carried}
 
 -- ---- the request that is outstanding
 
@@ -31,10 +33,42 @@ number_none None none = refl
 number_none (Some request) none = absurd (cc)
 
 pub none_numbered : (s : State) → outstanding_of s ≡ None → number_of (request_in s) ≡ None
-none_numbered Closed none = refl
-none_numbered (CookieWait wait) none = refl
-none_numbered (CookieEchoed echoed) none = number_none echoed.tcb.reset_request none
-none_numbered (Open opened) none = number_none opened.tcb.reset_request none
+none_numbered s none = number_none (request_in s) none
+
+-- ---- an association that was lent
+
+pub unchanged_nobody : (change : TransmissionControlBlock → TransmissionControlBlock) (state : State) → None ≡ tcb_of state → state ≡ tcb_changed change state
+unchanged_nobody change Closed none = refl
+unchanged_nobody change (CookieWait wait) none = refl
+unchanged_nobody change (CookieEchoed echoed) none = absurd (cc)
+unchanged_nobody change (Open opened) none = absurd (cc)
+
+pub changed_lent : (change : TransmissionControlBlock → TransmissionControlBlock) (state : State) (tcb after : TransmissionControlBlock) → Some tcb ≡ tcb_of state → after ≡ change tcb
+    → tcb_changed (λ _. after) state ≡ tcb_changed change state
+changed_lent change Closed tcb after holds is = refl
+changed_lent change (CookieWait wait) tcb after holds is = refl
+changed_lent change (CookieEchoed echoed) tcb after holds is = ap (λ (t : TransmissionControlBlock). CookieEchoed (record echoed { tcb = t })) (is ∙ ap change (within holds))
+changed_lent change (Open opened) tcb after holds is = ap (λ (t : TransmissionControlBlock). Open (record opened { tcb = t })) (is ∙ ap change (within holds))
+
+-- ---- the last request of the peer
+
+abbrev asked_of : LastRequest → TransmissionControlBlock → TransmissionControlBlock
+asked_of last tcb = record tcb { last_processed_req_seq_nbr = last.number; last_processed_req_result = last.result }
+
+asked_in : {R : Type 0} (old : Context R) (s : State) (last : LastRequest) → view_of (record old { state = tcb_changed (asked_of last) s }) ≡ asked_at last (view_of (record old { state = s }))
+asked_in old Closed last = refl
+asked_in old (CookieWait wait) last = refl
+asked_in old (CookieEchoed echoed) last = refl
+asked_in old (Open opened) last = refl
+
+pub asked_lent : {R : Type 0} (old : Context R) (tcb : TransmissionControlBlock) (last : LastRequest) → Some tcb ≡ tcb_of old.state
+    → view_of (record old { state = tcb_changed (λ _. asked_of last tcb) old.state }) ≡ asked_at last (view_of old)
+asked_lent old tcb last holds =
+    ap (λ (s : State). view_of (record old { state = s })) (changed_lent (asked_of last) old.state tcb (asked_of last tcb) holds refl)
+    ∙ asked_in old old.state last
+
+pub asked_nobody : {R : Type 0} (old : Context R) (last : LastRequest) → None ≡ tcb_of old.state → view_of old ≡ asked_at last (view_of old)
+asked_nobody old last none = ap (λ (s : State). view_of (record old { state = s })) (unchanged_nobody (asked_of last) old.state none) ∙ asked_in old old.state last
 
 -- ---- it is in progress
 
@@ -86,15 +120,24 @@ open_view {R = R} old opened tcb h some =
 asked_some : (request : Option ResetRequest) → (request_of request ≡ None → own.InProgress ≡ own.Unanswered) → request ≡ None → ⊥
 asked_some request asked none = let never = asked (ap request_of none) in absurd (cc)
 
-retried_view : {R : Type 0} (old : Context R) (s new : State) → RetriesIn old.moment s new → (outstanding_of s ≡ None → own.InProgress ≡ own.Unanswered)
-    → view_of (record old { state = new }) ≡ settled_at retried (view_of (record old { state = s }))
-retried_view old Closed new h asked = let never = asked refl in absurd (cc)
-retried_view old (CookieWait wait) new h asked = let never = asked refl in absurd (cc)
-retried_view old (CookieEchoed echoed) new h asked = ap (λ (s : State). view_of (record old { state = s })) h.2 ∙ echoed_view old echoed h.0 h.1 (asked_some echoed.tcb.reset_request asked)
-retried_view old (Open opened) new h asked = ap (λ (s : State). view_of (record old { state = s })) h.2 ∙ open_view old opened h.0 h.1 (asked_some opened.tcb.reset_request asked)
+retried_view : {R : Type 0} (old : Context R) (s new : State) (tcb : TransmissionControlBlock) → Some tcb ≡ tcb_of s → (after : TransmissionControlBlock) → Retries old.moment tcb after
+    → new ≡ tcb_changed (λ _. after) s → (outstanding_of s ≡ None → own.InProgress ≡ own.Unanswered) → view_of (record old { state = new }) ≡ settled_at retried (view_of (record old { state = s }))
+retried_view old Closed new tcb holds after h is asked = let never = asked refl in absurd (cc)
+retried_view old (CookieWait wait) new tcb holds after h is asked = let never = asked refl in absurd (cc)
+retried_view old (CookieEchoed echoed) new tcb holds after h is asked =
+    ap (λ (s : State). view_of (record old { state = s })) is
+    ∙ echoed_view old echoed after (subst (λ (t : TransmissionControlBlock). Retries old.moment t after) (cc) h) (asked_some echoed.tcb.reset_request asked)
+retried_view old (Open opened) new tcb holds after h is asked =
+    ap (λ (s : State). view_of (record old { state = s })) is
+    ∙ open_view old opened after (subst (λ (t : TransmissionControlBlock). Retries old.moment t after) (cc) h) (asked_some opened.tcb.reset_request asked)
 
-pub retried_settles : {R : Type 0} (old : Context R) (new : State) → RetriesIn old.moment old.state new → Settles own.InProgress old None (record old { state = new })
-retried_settles old new h = λ asked. (retried_view old old.state new h asked, refl)
+retried_by : {R : Type 0} (old : Context R) (new : State) (found : Option TransmissionControlBlock) → found ≡ tcb_of old.state → RetriesIn old.moment found old.state new
+    → Settles own.InProgress old None (record old { state = new })
+retried_by old new None holds h = λ asked. let never = asked (ap (λ (t : Option TransmissionControlBlock). request_of (own_request t)) (sym holds)) in absurd (cc)
+retried_by old new (Some tcb) holds h = λ asked. (retried_view old old.state new tcb holds h.0 h.1 h.2 asked, refl)
+
+pub retried_settles : {R : Type 0} (old : Context R) (new : State) → RetriesIn old.moment (tcb_of old.state) old.state new → Settles own.InProgress old None (record old { state = new })
+retried_settles old new h = retried_by old new (tcb_of old.state) refl h
 
 -- ---- both requests
 
@@ -104,13 +147,13 @@ settled_transfer unanswered v = refl
 settled_transfer retried v = refl
 settled_transfer over v = refl
 
-abbrev Settled : {R : Type 0} → WorkedRequests → Context R → Option SocketEvent → Context R → Type 0
+abbrev Settled : {R : Type 0} → HandledRequests → Context R → Option SocketEvent → Context R → Type 0
 Settled w old told mid = (view_of mid ≡ settled_at (own_kind w.own) (view_of old)) × (event_told told ≡ own_told w.own (own_streams (outstanding_of old.state)))
 
-transfer_same : {R : Type 0} (w : WorkedRequests) (old mid : Context R) (told : Option SocketEvent) → Settled w old told mid → transfer_of mid.state ≡ transfer_of old.state
+transfer_same : {R : Type 0} (w : HandledRequests) (old mid : Context R) (told : Option SocketEvent) → Settled w old told mid → transfer_of mid.state ≡ transfer_of old.state
 transfer_same {R = R} w old mid told h = ap (λ (v : View R). v.endpoint.below.transfer) h.0 ∙ settled_transfer (own_kind w.own) (view_of old)
 
-events_same : {R : Type 0} (w : WorkedRequests) (old mid : Context R) (told : Option SocketEvent) → Settled w old told mid → (view_of mid).events ≡ (view_of old).events
+events_same : {R : Type 0} (w : HandledRequests) (old mid : Context R) (told : Option SocketEvent) → Settled w old told mid → (view_of mid).events ≡ (view_of old).events
 events_same {R = R} w old mid told h = ap (λ (v : View R). v.events) h.0
 
 front_of : (front back : List (Event (List ℕ))) → take (length front) (front ++ back) ≡ front
@@ -118,7 +161,7 @@ front_of [] back = refl
 front_of (first ∷ front) back = ap (λ (es : List (Event (List ℕ))). first ∷ es) (front_of front back)
 
 -- where a growth was refused before the first event
-pub none_told : {R : Type 0} (w : WorkedRequests) (reset : Option RequestedReset) (old mid new : Context R) (told : Option SocketEvent) → Settled w old told mid → (view_of new).events ≡ (view_of mid).events
+pub none_told : {R : Type 0} (w : HandledRequests) (reset : Option RequestedReset) (old mid new : Context R) (told : Option SocketEvent) → Settled w old told mid → (view_of new).events ≡ (view_of mid).events
     → (count : ℕ) × ((view_of new).events ≡ (view_of old).events ++ take count (told_where w reset old))
 none_told w reset old mid new told h same = (0, same ∙ events_same w old mid told h ∙ sym (append-nil (view_of old).events))
 
@@ -128,14 +171,14 @@ one_told old new front back all is told =
     (length front, told ∙ ap (λ (es : List (Event (List ℕ))). old ++ es) (sym (front_of front back)) ∙ ap (λ (es : List (Event (List ℕ))). old ++ take (length front) es) (sym is))
 
 -- both were told
-both_told : {R : Type 0} (w : WorkedRequests) (reset : Option RequestedReset) (old : Context R) (left : Option Transfer) (front back : List (Event (List ℕ))) → told_where w reset old ≡ front ++ back
+both_told : {R : Type 0} (w : HandledRequests) (reset : Option RequestedReset) (old : Context R) (left : Option Transfer) (front back : List (Event (List ℕ))) → told_where w reset old ≡ front ++ back
     → left_at (left_at (settled_at (own_kind w.own) (view_of old)) left front) left back ≡ left_at (settled_at (own_kind w.own) (view_of old)) left (told_where w reset old)
 both_told {R = R} w reset old left front back is =
     let v : View R = settled_at (own_kind w.own) (view_of old) in
     ap (λ (es : List (Event (List ℕ))). let n : View R = record (left_at v left []) { events = es } in n) (append_assoc v.events front back) ∙ ap (λ (es : List (Event (List ℕ))). left_at v left es) (sym is)
 
 -- The own request comes first.
-pub own_first : {R E : Type 0} (w : WorkedRequests) (reset : Option RequestedReset) (old mid between : Context R) (told : Option SocketEvent) (result : Result (Unit {0}) E) (new : Context R) → w.is_own_first ≡ true
+pub own_first : {R E : Type 0} (w : HandledRequests) (reset : Option RequestedReset) (old mid between : Context R) (told : Option SocketEvent) (result : Result (Unit {0}) E) (new : Context R) → w.is_own_first ≡ true
     → Settled w old told mid → view_of between ≡ record (view_of mid) { events = (view_of mid).events ++ event_told told } → Treats w.treatment reset between result new → Carried w reset old result new
 own_first {R = R} w reset old mid between told (Ok done) new first h tells treats =
     let streams : List ℕ = own_streams (outstanding_of old.state) in
@@ -155,7 +198,7 @@ own_first {R = R} w reset old mid between told (Err fault) new first h tells tre
     (treats ∙ ap (λ (v : View R). v.events) tells ∙ ap (λ (es : List (Event (List ℕ))). es ++ event_told told) (events_same w old mid told h) ∙ ap (λ (es : List (Event (List ℕ))). (view_of old).events ++ es) h.1)
 
 -- The peer's comes first.
-pub peer_first : {R E : Type 0} (w : WorkedRequests) (reset : Option RequestedReset) (old mid between : Context R) (told : Option SocketEvent) (left : Option Transfer) (result : Result (Unit {0}) E) (new : Context R) → w.is_own_first ≡ false
+pub peer_first : {R E : Type 0} (w : HandledRequests) (reset : Option RequestedReset) (old mid between : Context R) (told : Option SocketEvent) (left : Option Transfer) (result : Result (Unit {0}) E) (new : Context R) → w.is_own_first ≡ false
     → Settled w old told mid → ResetsBelow (is_performed_for w.treatment reset) (transfer_of mid.state) left → view_of between ≡ left_at (view_of mid) left (told_for w.treatment reset)
     → Tells told between result new → Carried w reset old result new
 peer_first {R = R} w reset old mid between told left (Ok done) new first h below treated tells =

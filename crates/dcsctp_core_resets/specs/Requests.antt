@@ -22,7 +22,7 @@ use Rattle.dcsctp_core_resets.specs.declared.requests.OwnAnswer.{OwnAnswer}
 use Rattle.dcsctp_core_resets.specs.declared.requests.OwnAnswer.TheVariants as own
 use Rattle.dcsctp_core_resets.specs.declared.requests.LastRequest.{LastRequest}
 use Rattle.dcsctp_core_resets.specs.declared.requests.AnsweredRequest.{AnsweredRequest}
-use Rattle.dcsctp_core_resets.specs.declared.requests.WorkedRequests.{WorkedRequests}
+use Rattle.dcsctp_core_resets.specs.declared.requests.HandledRequests.{HandledRequests}
 
 -- ---- parameters
 
@@ -97,10 +97,10 @@ own_kind own.Performed = outcomes.over
 own_kind own.Failed = outcomes.over
 
 -- What was made of parameters, once it has ended so. What it tells comes first if no outgoing request was handled so far.
-abbrev pub own_ended : OwnAnswer → WorkedRequests → WorkedRequests
+abbrev pub own_ended : OwnAnswer → HandledRequests → HandledRequests
 own_ended answer worked = record worked { outstanding = None; own = answer; is_own_first = not worked.has_worked }
 
-abbrev pub with_result : ReconfigurationResponseResult → WorkedRequests → WorkedRequests
+abbrev pub with_result : ReconfigurationResponseResult → HandledRequests → HandledRequests
 with_result SuccessNothingToDo worked = own_ended own.Performed worked
 with_result SuccessPerformed worked = own_ended own.Performed worked
 with_result Denied worked = own_ended own.Failed worked
@@ -110,12 +110,12 @@ with_result ErrorBadSequenceNumber worked = own_ended own.Failed worked
 with_result InProgress worked = record worked { own = own.InProgress }
 
 -- An answer to another request changes nothing.
-abbrev pub with_response : Bool → ReconfigurationResponseResult → WorkedRequests → WorkedRequests
+abbrev pub with_response : Bool → ReconfigurationResponseResult → HandledRequests → HandledRequests
 with_response true result worked = with_result result worked
 with_response false result worked = worked
 
 -- It is as it was.
-pub record SameOwn (old new : WorkedRequests) : Type 0 where
+pub record SameOwn (old new : HandledRequests) : Type 0 where
   pub outstanding : new.outstanding ≡ old.outstanding
   pub own : new.own ≡ old.own
   pub first : new.is_own_first ≡ old.is_own_first
@@ -123,7 +123,7 @@ pub record SameOwn (old new : WorkedRequests) : Type 0 where
 -- ---- the parameters of a chunk
 
 -- One more is answered.
-pub record Responds (number : ℕ) (answer : ReconfigurationResponseResult) (old new : WorkedRequests) : Type 0 where
+pub record Responds (number : ℕ) (answer : ReconfigurationResponseResult) (old new : HandledRequests) : Type 0 where
   pub response : Parameter
   pub says : parameter_content response ≡ reset_parameter_content (reconfiguration_response number answer)
   pub added : new.responses.items ≡ old.responses.items ++ response ∷ []
@@ -142,7 +142,7 @@ abbrev pub AreResponses : List Parameter → Type 0
 AreResponses responses = map reset_parameter_content (reset_parameters responses) ≡ map parameter_content responses
 
 -- what is kept of the association
-abbrev pub held_now : Held → WorkedRequests → Held
+abbrev pub held_now : Held → HandledRequests → Held
 held_now base worked = held_out worked.outstanding (held_with base worked.last)
 
 -- the events about both, in their order
@@ -151,13 +151,13 @@ told_so true answer treatment theirs streams = own_events answer streams ++ trea
 told_so false answer treatment theirs streams = treated_events treatment theirs ++ own_events answer streams
 
 -- That is what the effects of a chunk come to.
-pub record TreatsBoth (worked : WorkedRequests) (effects : List Effect) : Type 0 where
+pub record TreatsBoth (worked : HandledRequests) (effects : List Effect) : Type 0 where
   pub has : has_reset effects ≡ is_performed worked.treatment
   pub told : (theirs streams : List ℕ) → reset_events theirs streams effects ≡ told_so worked.is_own_first worked.own worked.treatment theirs streams
   pub drawn : drawn_in effects ≡ []
 
 -- What a parameter brings: nothing, what becomes of a request of the peer, or what becomes of our own.
-pub data Brings (parameter : ResetParameter) (old new : WorkedRequests) (effects : Pair → Held → List Effect) : Type 0 where
+pub data Brings (parameter : ResetParameter) (old new : HandledRequests) (effects : Pair → Held → List Effect) : Type 0 where
   brings_nothing : new.treatment ≡ old.treatment → new.has_worked ≡ old.has_worked → SameOwn old new → ((my : Pair) (base : Held) → Treats Nothing (effects my base))
       → in_progress_among old.outstanding (parameter ∷ []) ≡ false → Brings parameter old new effects
   brings_request : old.has_worked ≡ false → new.has_worked ≡ true → SameOwn old new → ((my : Pair) (base : Held) → Treats new.treatment (effects my base))
@@ -166,7 +166,7 @@ pub data Brings (parameter : ResetParameter) (old new : WorkedRequests) (effects
       → ((my : Pair) (base : Held) → effects my base ≡ (informed_by my (held_now base old) number result).effects) → Brings parameter old new effects
 
 -- A parameter was handled: whatever comes after it, the machine goes on from what the code keeps.
-pub record WorksOne (reached : Bool) (parameter : ResetParameter) (old new : WorkedRequests) : Type 0 where
+pub record WorksOne (reached : Bool) (parameter : ResetParameter) (old new : HandledRequests) : Type 0 where
   pub effects : Pair → Held → List Effect
   pub responses : List Parameter
   pub are : AreResponses responses
@@ -179,7 +179,7 @@ pub record WorksOne (reached : Bool) (parameter : ResetParameter) (old new : Wor
       ≡ behind_these (effects my base) (reset_parameters responses) (work_parameters my reached new.has_worked (held_now base new) rest)
 
 -- All were handled.
-pub record WorksChunk (reached : Bool) (last : LastRequest) (outstanding : Option ℕ) (parameters : List ResetParameter) (worked : WorkedRequests) : Type 0 where
+pub record WorksChunk (reached : Bool) (last : LastRequest) (outstanding : Option ℕ) (parameters : List ResetParameter) (worked : HandledRequests) : Type 0 where
   pub effects : Pair → Held → List Effect
   pub are : AreResponses worked.responses.items
   pub treats : (my : Pair) (base : Held) → TreatsBoth worked (effects my base)

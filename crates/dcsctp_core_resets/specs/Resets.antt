@@ -12,19 +12,21 @@ use Rattle.dcsctp_machine.specs.Transfer.{Transfer}
 use Rattle.dcsctp_machine.specs.Endpoint.{Endpoint, Core, cookie_echoed, open_in, held_in}
 use Rattle.dcsctp_machine.specs.Outcome.{Outcome, still}
 use Rattle.dcsctp_machine.specs.turns.FlushOutcomes.{Answer}
-use Rattle.dcsctp_machine.specs.turns.ResetOutcomes.{OwnAnswer, unanswered, retried, over, own_moved, own_streams, ResetsBelow, responses_outcome, responses_by, ResponseAnswers, ResetTurn}
+use Rattle.dcsctp_machine.specs.turns.ResetOutcomes.{requested_in, is_reached, OwnAnswer, unanswered, retried, over, own_moved, own_streams, ResetsBelow, responses_outcome, responses_by, ResponseAnswers, ResetTurn}
 use Rattle.dcsctp_core.specs.declared.state.State.{State}
-use Rattle.dcsctp_core.specs.declared.state.State.TheVariants.{Closed, CookieWait, CookieEchoed, Open}
+use Rattle.dcsctp_core.specs.declared.transmission_control_block.TransmissionControlBlock.{TransmissionControlBlock}
 use Rattle.dcsctp_core.specs.declared.context.Context.{Context}
-use Rattle.dcsctp_core.specs.View.{View, core_of, outstanding_of, transfer_of, view_of}
+use Rattle.dcsctp_core.specs.View.{View, core_of, number_of, own_request, outstanding_of, tcb_of, transfer_in, transfer_of, view_of}
+use Rattle.dcsctp_core.specs.Answering.{Retries}
+use Rattle.dcsctp_core.specs.Reconfiguring.{tcb_changed}
 use Rattle.dcsctp_core.specs.Handling.{TakesOne}
 use Rattle.dcsctp_core_resets.specs.declared.requests.LastRequest.{LastRequest}
 use Rattle.dcsctp_core_resets.specs.declared.requests.Treatment.{Treatment}
 use Rattle.dcsctp_core_resets.specs.declared.requests.Treatment.TheVariants.{Performed}
-use Rattle.dcsctp_core_resets.specs.declared.requests.WorkedRequests.{WorkedRequests}
+use Rattle.dcsctp_core_resets.specs.declared.requests.HandledRequests.{HandledRequests}
 use Rattle.dcsctp_core_resets.specs.declared.requests.OwnAnswer.TheVariants as own
 use Rattle.dcsctp_core_resets.specs.declared.requests.OwnAnswer as requests
-use Rattle.dcsctp_core_resets.specs.Requests.{held_with, held_out, own_kind, reset_parameters, AreResponses}
+use Rattle.dcsctp_core_resets.specs.Requests.{held_with, held_out, own_kind, reset_parameters, AreResponses, WorksChunk}
 
 -- A RE-CONFIG with these parameters was received.
 abbrev pub ReConfigAt : {R : Type 0} → List ResetParameter → View R → Outcome → Type 0
@@ -37,11 +39,16 @@ wanted_by request = record { last_tsn = request.sender_last_assigned_tsn; stream
 -- ---- the last request
 
 -- that of the peer
+abbrev pub last_of : Option TransmissionControlBlock → LastRequest
+last_of None = record { number = 0; result = SuccessNothingToDo }
+last_of (Some tcb) = record { number = tcb.last_processed_req_seq_nbr; result = tcb.last_processed_req_result }
+
 abbrev pub last_in : State → LastRequest
-last_in Closed = record { number = 0; result = SuccessNothingToDo }
-last_in (CookieWait wait) = record { number = 0; result = SuccessNothingToDo }
-last_in (CookieEchoed echoed) = record { number = echoed.tcb.last_processed_req_seq_nbr; result = echoed.tcb.last_processed_req_result }
-last_in (Open opened) = record { number = opened.tcb.last_processed_req_seq_nbr; result = opened.tcb.last_processed_req_result }
+last_in state = last_of (tcb_of state)
+
+-- What is made of the parameters of a RE-CONFIG, by the association.
+abbrev pub WorksFor : Option TransmissionControlBlock → List ResetParameter → HandledRequests → Type 0
+WorksFor held parameters worked = WorksChunk (is_reached (transfer_in held) (requested_in parameters)) (last_of held) (number_of (own_request held)) parameters worked
 
 abbrev pub core_asked : LastRequest → Core → Core
 core_asked last (cookie_echoed my held cookie) = cookie_echoed my (held_with held last) cookie
@@ -108,6 +115,11 @@ abbrev pub event_told : Option SocketEvent → List (Event (List ℕ))
 event_told None = []
 event_told (Some event) = event_content event ∷ []
 
+-- The own request is in progress, if the peer is known: it waits, and its timer starts anew.
+abbrev pub RetriesIn : ℕ → Option TransmissionControlBlock → State → State → Type 0
+RetriesIn now None old new = new ≡ old
+RetriesIn now (Some tcb) old new = (after : TransmissionControlBlock) × Retries now tcb after × (new ≡ tcb_changed (λ _. after) old)
+
 -- It was answered so, if one is outstanding, and this is to be told.
 abbrev pub Settles : {R : Type 0} → requests.OwnAnswer → Context R → Option SocketEvent → Context R → Type 0
 Settles answer old told new =
@@ -124,17 +136,17 @@ abbrev pub told_both : Bool → requests.OwnAnswer → Treatment → Option Requ
 told_both true answer treatment reset streams = own_told answer streams ++ told_for treatment reset
 told_both false answer treatment reset streams = told_for treatment reset ++ own_told answer streams
 
-abbrev pub told_where : {R : Type 0} → WorkedRequests → Option RequestedReset → Context R → List (Event (List ℕ))
+abbrev pub told_where : {R : Type 0} → HandledRequests → Option RequestedReset → Context R → List (Event (List ℕ))
 told_where worked reset old = told_both worked.is_own_first worked.own worked.treatment reset (own_streams (outstanding_of old.state))
 
 -- What was decided of both was done; or an allocation failed, and the first of the events were added.
-abbrev pub Carried : {R E : Type 0} → WorkedRequests → Option RequestedReset → Context R → Result (Unit {0}) E → Context R → Type 0
+abbrev pub Carried : {R E : Type 0} → HandledRequests → Option RequestedReset → Context R → Result (Unit {0}) E → Context R → Type 0
 Carried worked reset old (Ok done) new =
     (left : Option Transfer) × ResetsBelow (is_performed_for worked.treatment reset) (transfer_of old.state) left
     × (view_of new ≡ left_at (settled_at (own_kind worked.own) (view_of old)) left (told_where worked reset old))
 Carried worked reset old (Err error) new = (count : ℕ) × ((view_of new).events ≡ (view_of old).events ++ take count (told_where worked reset old))
 
-abbrev pub CarriesOut : {R E : Type 0} → WorkedRequests → Option RequestedReset → Context R → Result (Unit {0}) E → Context R → Type 0
+abbrev pub CarriesOut : {R E : Type 0} → HandledRequests → Option RequestedReset → Context R → Result (Unit {0}) E → Context R → Type 0
 CarriesOut worked reset old result new = (outstanding_of old.state ≡ None → worked.own ≡ own.Unanswered) → Carried worked reset old result new
 
 -- ---- the answers
@@ -153,7 +165,7 @@ FinishAt held refused parameters responses view o =
     (answers : List Answer) × ResponseAnswers refused view.endpoint held responses answers × (o ≡ responses_by refused view.endpoint [] held parameters responses answers)
 
 -- That is so if the peer is known.
-abbrev pub Finishes : {R E : Type 0} → (R → Stream) → List ResetParameter → WorkedRequests → Context R → Result (Unit {0}) E → Context R → Type 0
+abbrev pub Finishes : {R E : Type 0} → (R → Stream) → List ResetParameter → HandledRequests → Context R → Result (Unit {0}) E → Context R → Type 0
 Finishes stream parameters worked old result new =
     AreResponses worked.responses.items → (held : Held) → held_in (core_of old.state) ≡ Some held
     → TakesOne stream (FinishAt held worked.is_refused parameters (reset_parameters worked.responses.items)) old result new

@@ -1,22 +1,23 @@
 //! RE-CONFIG (RFC 6525, sections 3.1 and 5.2) that is received.
 
-ghost use Rattle.std.specs.Prelude.{◌≡◌, OnOk, OnErr, IfOk};
+ghost use Rattle.std.specs.Prelude.{◌≡◌, Some, OnOk, OnErr, IfOk};
 ghost use Rattle.std.specs.Option.{option_map};
 ghost use Rattle.dcsctp_wire.specs.Content.{re_config_chunk};
 ghost use Rattle.std.specs.Prelude.{map};
 ghost use Rattle.dcsctp_machine.specs.Reconfiguration.{reset_parameter_content};
-ghost use Rattle.dcsctp_machine.specs.turns.ResetOutcomes.{requested_in, is_reached, reset_refusal_text, ResetsStreams};
-ghost use Rattle.dcsctp_core.specs.Reconfiguring.{request_in};
-ghost use Rattle.dcsctp_core.specs.View.{number_of, transfer_of, view_of};
+ghost use Rattle.dcsctp_machine.specs.turns.ResetOutcomes.{is_reached, reset_refusal_text, ResetsStreams};
+ghost use Rattle.dcsctp_core.specs.Reconfiguring.{request_in, tcb_changed};
+ghost use Rattle.dcsctp_core.specs.Answering.{request_ended};
+ghost use Rattle.dcsctp_core.specs.View.{tcb_of, transfer_of, view_of};
 ghost use Rattle.dcsctp_core.specs.Below.{ChangesBelow};
 ghost use Rattle.dcsctp_core.specs.Handling.{Emits, TakesOne, Tries, report_turn};
-ghost use Rattle.dcsctp_core_resets.specs.Requests.{AreResponses, WorksChunk, reset_parameters};
-ghost use Rattle.dcsctp_core_resets.specs.Resets.{CarriesOut, Finishes, Performs, ReConfigAt, Settles, Tells, Treats, asked_at, last_in, responses_turn, wanted_by};
+ghost use Rattle.dcsctp_core_resets.specs.Requests.{AreResponses, reset_parameters};
+ghost use Rattle.dcsctp_core_resets.specs.Resets.{CarriesOut, Finishes, Performs, ReConfigAt, RetriesIn, Settles, Tells, Treats, WorksFor, asked_at, responses_turn, wanted_by};
 
 use crate::reading::{requested, streams_of};
-use crate::requests::{LastRequest, OwnAnswer, Treatment, WorkedRequests, work_requests};
-use dcsctp_api::{ErrorKind, ReconfigurationResponseResult, SocketEvent, StreamId};
-use dcsctp_core::{Context, State};
+use crate::requests::{HandledRequests, LastRequest, OwnAnswer, Treatment, handle_requests};
+use dcsctp_api::{ErrorKind, SocketEvent, SocketTime, StreamId};
+use dcsctp_core::{Context, ResetRequest, State, TransmissionControlBlock};
 use dcsctp_wire::{Chunk, OutgoingSsnResetRequestParameter, Parameter, ReConfigChunk};
 use rand_core::Rng;
 use std::alloc::{AllocError, Global};
@@ -28,56 +29,41 @@ const SECOND_REQUEST: &str =
 
 // ---- what is decided
 
-// The last request of the peer.
-fn last_request(state: &State) -> LastRequest
-    ensures { result ≡ last_in state.now }
-{
-    match state.tcb() {
-        None => LastRequest {
-            number: 0,
-            result: ReconfigurationResponseResult::SuccessNothingToDo,
-        },
-        Some(tcb) => LastRequest {
-            number: tcb.last_processed_req_seq_nbr,
-            result: tcb.last_processed_req_result,
-        },
-    }
-}
-
 // Was everything received that the peer had sent before this request (RFC 6525, section 5.2.2, E2)?
-fn is_reached(state: &State, request: Option<OutgoingSsnResetRequestParameter<'_>>) -> bool
-    ensures { result ≡ is_reached (transfer_of state.now) (option_map wanted_by request.entry) }
+fn is_reached(
+    tcb: &TransmissionControlBlock,
+    request: Option<OutgoingSsnResetRequestParameter<'_>>,
+) -> bool
+    ensures { result ≡ is_reached (Some tcb.now.transfer) (option_map wanted_by request.entry) }
 {
     match request {
         None => true,
-        Some(request) => match state {
-            State::Closed | State::CookieWait(_) => true,
-            State::CookieEchoed(echoed) => echoed
-                .tcb
-                .transfer
-                .has_received_up_to(request.sender_last_assigned_tsn),
-            State::Open(opened) => opened
-                .tcb
-                .transfer
-                .has_received_up_to(request.sender_last_assigned_tsn),
-        },
+        Some(request) => tcb
+            .transfer
+            .has_received_up_to(request.sender_last_assigned_tsn),
     }
 }
 
 // What becomes of these parameters.
-fn work(
+fn decide(
     alloc: Global,
-    state: &State,
+    tcb: &TransmissionControlBlock,
     parameters: &[Parameter<'_>],
-) -> Result<WorkedRequests, AllocError>
-    ensures { IfOk result (λ worked. WorksChunk
-        (is_reached (transfer_of state.now) (requested_in (reset_parameters parameters.now)))
-        (last_in state.now) (number_of (request_in state.now)) (reset_parameters parameters.now) worked) }
+) -> Result<HandledRequests, AllocError>
+    ensures { IfOk result (λ worked. WorksFor (Some tcb.now) (reset_parameters parameters.now) worked) }
 {
-    let last = last_request(state);
-    let outstanding = state.outstanding_number();
-    let is_reached = is_reached(state, requested(parameters));
-    work_requests(alloc, last, outstanding, is_reached, parameters)
+    let last = LastRequest {
+        number: tcb.last_processed_req_seq_nbr,
+        result: tcb.last_processed_req_result,
+    };
+    let is_reached = is_reached(tcb, requested(parameters));
+    handle_requests(
+        alloc,
+        last,
+        tcb.outstanding_number(),
+        is_reached,
+        parameters,
+    )
 }
 
 // ---- the streams
@@ -86,15 +72,11 @@ fn work(
 fn keep_last<R: Rng>(context: &mut Context<R>, last: LastRequest)
     ensures { view_of context.new ≡ asked_at last (view_of context.old) }
 {
-    match &mut context.state {
-        State::Closed | State::CookieWait(_) => {}
-        State::CookieEchoed(echoed) => {
-            echoed.tcb.last_processed_req_seq_nbr = last.number;
-            echoed.tcb.last_processed_req_result = last.result;
-        }
-        State::Open(opened) => {
-            opened.tcb.last_processed_req_seq_nbr = last.number;
-            opened.tcb.last_processed_req_result = last.result;
+    match context.state.tcb_mut() {
+        None => {}
+        Some(tcb) => {
+            tcb.last_processed_req_seq_nbr = last.number;
+            tcb.last_processed_req_result = last.result;
         }
     }
 }
@@ -103,10 +85,9 @@ fn keep_last<R: Rng>(context: &mut Context<R>, last: LastRequest)
 fn reset_streams(state: &mut State, streams: &[StreamId]) -> Result<(), AllocError>
     ensures { ChangesBelow ResetsStreams (transfer_of state.old) state.old state.new }
 {
-    match state {
-        State::Closed | State::CookieWait(_) => Ok(()),
-        State::CookieEchoed(echoed) => echoed.tcb.transfer.reset_streams(streams),
-        State::Open(opened) => opened.tcb.transfer.reset_streams(streams),
+    match state.tcb_mut() {
+        None => Ok(()),
+        Some(tcb) => tcb.transfer.reset_streams(streams),
     }
 }
 
@@ -114,10 +95,9 @@ fn reset_streams(state: &mut State, streams: &[StreamId]) -> Result<(), AllocErr
 fn defer_reset(state: &mut State, last_tsn: u32, streams: &[StreamId]) -> Result<(), AllocError>
     ensures { state.new ≡ state.old }
 {
-    match state {
-        State::Closed | State::CookieWait(_) => Ok(()),
-        State::CookieEchoed(echoed) => echoed.tcb.transfer.defer_reset(last_tsn, streams),
-        State::Open(opened) => opened.tcb.transfer.defer_reset(last_tsn, streams),
+    match state.tcb_mut() {
+        None => Ok(()),
+        Some(tcb) => tcb.transfer.defer_reset(last_tsn, streams),
     }
 }
 
@@ -154,7 +134,7 @@ fn defer<R: Rng>(
 
 // Carries out what was decided for the streams that the peer wants reset. `Err`: an allocation failed, and no
 // event was added.
-fn treat<R: Rng>(
+fn carry_out_reset<R: Rng>(
     context: &mut Context<R>,
     request: Option<OutgoingSsnResetRequestParameter<'_>>,
     treatment: Treatment,
@@ -173,6 +153,27 @@ fn treat<R: Rng>(
 
 // ---- our own request
 
+// Our outstanding request is in progress: it waits to be sent again.
+fn retry_reset(state: &mut State, now: SocketTime)
+    ensures { RetriesIn now (tcb_of state.old) state.old state.new }
+{
+    match state.tcb_mut() {
+        None => {}
+        Some(tcb) => tcb.retry_reset(now),
+    }
+}
+
+// Our outstanding request has ended. Returns it, if there was one.
+fn end_reset(state: &mut State) -> Option<ResetRequest>
+    ensures answer { result ≡ request_in state.old }
+    ensures left { state.new ≡ tcb_changed request_ended state.old }
+{
+    match state.tcb_mut() {
+        None => None,
+        Some(tcb) => tcb.end_reset(),
+    }
+}
+
 // The peer has given this answer to our own request (RFC 6525, section 5.2.7). A request that is in progress
 // is sent again later. One that has ended gives its streams back to the send queue; returns the event for it.
 // Allocates nothing.
@@ -182,19 +183,19 @@ fn settle<R: Rng>(context: &mut Context<R>, own: OwnAnswer) -> Option<SocketEven
     match own {
         OwnAnswer::Unanswered => None,
         OwnAnswer::InProgress => {
-            context.state.retry_reset(context.moment);
+            retry_reset(&mut context.state, context.moment);
             None
         }
         OwnAnswer::Performed => {
             context.send_queue.commit_reset_streams();
-            match context.state.end_reset() {
+            match end_reset(&mut context.state) {
                 None => None,
                 Some(request) => Some(SocketEvent::OnStreamsResetPerformed(request.streams)),
             }
         }
         OwnAnswer::Failed => {
             context.send_queue.rollback_reset_streams();
-            match context.state.end_reset() {
+            match end_reset(&mut context.state) {
                 None => None,
                 Some(request) => Some(SocketEvent::OnStreamsResetFailed(request.streams)),
             }
@@ -221,16 +222,16 @@ fn tell<R: Rng>(context: &mut Context<R>, event: Option<SocketEvent>) -> Result<
 fn carry_out<R: Rng>(
     context: &mut Context<R>,
     request: Option<OutgoingSsnResetRequestParameter<'_>>,
-    worked: &WorkedRequests,
+    worked: &HandledRequests,
 ) -> Result<(), AllocError>
     ensures { CarriesOut worked.now (option_map wanted_by request.entry) context.old result context.new }
 {
     let told = settle(context, worked.own);
     if worked.is_own_first {
         tell(context, told)?;
-        return treat(context, request, worked.treatment);
+        return carry_out_reset(context, request, worked.treatment);
     }
-    treat(context, request, worked.treatment)?;
+    carry_out_reset(context, request, worked.treatment)?;
     tell(context, told)
 }
 
@@ -302,10 +303,10 @@ fn respond<R: Rng>(
 
 // Answers the peer, and then sends what waits. A chunk that is an error is reported instead. `Err`: an
 // allocation failed; the first of its events may already have been added.
-fn finish<R: Rng>(
+fn respond_and_flush<R: Rng>(
     context: &mut Context<R>,
     parameters: &[Parameter<'_>],
-    worked: WorkedRequests,
+    worked: HandledRequests,
 ) -> Result<(), AllocError>
     ensures { Finishes R.stream (reset_parameters parameters.now) worked context.old result context.new }
 {
@@ -325,13 +326,13 @@ fn handle_parameters<R: Rng>(
     ensures { TakesOne R.stream (ReConfigAt (reset_parameters parameters.now)) context.old result
         context.new }
 {
-    if !context.state.holds_peer() {
+    let Some(tcb) = context.state.tcb() else {
         return Ok(());
-    }
-    let worked = work(context.alloc, &context.state, parameters)?;
+    };
+    let worked = decide(context.alloc, tcb, parameters)?;
     keep_last(context, worked.last);
     carry_out(context, requested(parameters), &worked)?;
-    finish(context, parameters, worked)
+    respond_and_flush(context, parameters, worked)
 }
 
 /// Handles a RE-CONFIG (RFC 6525, section 5.2). Each request of the peer is answered, in one packet, and a

@@ -77,7 +77,7 @@ pub struct AnsweredRequest {
 
 /// What was made of parameters.
 #[derive(Drop)]
-pub struct WorkedRequests {
+pub struct HandledRequests {
     /// The last request from here on.
     pub last: LastRequest,
 
@@ -118,7 +118,7 @@ fn place_of(last: u32, number: u32) -> Place
 
 // A request of this number is handled: performed if everything was received that was sent before it, else in
 // progress (RFC 6525, section 5.2.2).
-fn worked(number: u32, is_reached: bool) -> AnsweredRequest
+fn perform_or_defer(number: u32, is_reached: bool) -> AnsweredRequest
     ensures { (base : Held) → AnswersAs base result (changes.worked base number is_reached) }
 {
     if is_reached {
@@ -143,7 +143,7 @@ fn repeated(last: LastRequest, is_reached: bool) -> AnsweredRequest
     ensures { (base : Held) → AnswersAs base result (changes.repeated (held_with base last) last.result is_reached) }
 {
     match last.result {
-        ReconfigurationResponseResult::InProgress => worked(last.number, is_reached),
+        ReconfigurationResponseResult::InProgress => perform_or_defer(last.number, is_reached),
         ReconfigurationResponseResult::SuccessNothingToDo
         | ReconfigurationResponseResult::SuccessPerformed
         | ReconfigurationResponseResult::Denied
@@ -175,7 +175,7 @@ fn answer_outgoing(last: LastRequest, number: u32, is_reached: bool) -> Answered
 {
     match place_of(last.number, number) {
         Place::Again => repeated(last, is_reached),
-        Place::Next => worked(number, is_reached),
+        Place::Next => perform_or_defer(number, is_reached),
         Place::Astray => refused(last),
     }
 }
@@ -215,7 +215,7 @@ fn is_outgoing(parameter: &Parameter<'_>) -> bool
     }
 }
 
-impl WorkedRequests {
+impl HandledRequests {
     // Answers a request of this number.
     fn respond(
         &mut self,
@@ -267,7 +267,11 @@ impl WorkedRequests {
     }
 
     // Handles a parameter.
-    fn work(&mut self, is_reached: bool, parameter: &Parameter<'_>) -> Result<(), AllocError>
+    fn handle_parameter(
+        &mut self,
+        is_reached: bool,
+        parameter: &Parameter<'_>,
+    ) -> Result<(), AllocError>
         requires { (self.old.has_worked && is_outgoing (said_by parameter.now)) ≡ false }
         ensures { OnOk result (WorksOne is_reached (said_by parameter.now) self.old self.new) }
     {
@@ -305,16 +309,16 @@ impl WorkedRequests {
 /// Handles the parameters of a RE-CONFIG, up to a second Outgoing SSN Reset Request. A chunk with two is an
 /// error, as is one without any parameter. `is_reached` says whether everything was received that was sent
 /// before the first such request. `outstanding` is the number of our outstanding request, if there is one.
-pub(crate) fn work_requests(
+pub(crate) fn handle_requests(
     alloc: Global,
     last: LastRequest,
     outstanding: Option<u32>,
     is_reached: bool,
     parameters: &[Parameter<'_>],
-) -> Result<WorkedRequests, AllocError>
+) -> Result<HandledRequests, AllocError>
     ensures { IfOk result (λ worked. WorksChunk is_reached last outstanding (reset_parameters parameters.now) worked) }
 {
-    let mut worked = WorkedRequests {
+    let mut worked = HandledRequests {
         last,
         treatment: Treatment::Nothing,
         has_worked: false,
@@ -329,7 +333,7 @@ pub(crate) fn work_requests(
             worked.is_refused = true;
             return Ok(worked);
         }
-        worked.work(is_reached, parameter)?;
+        worked.handle_parameter(is_reached, parameter)?;
     }
     Ok(worked)
 }

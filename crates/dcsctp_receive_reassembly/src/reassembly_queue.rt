@@ -310,7 +310,10 @@ impl ReassemblyQueue {
         self.incoming.reset_streams(streams);
         match self.deferral.take() {
             None => Ok(()),
-            Some(mut deferral) => match work_all(&mut self.incoming, &mut deferral.waiting) {
+            Some(mut deferral) => match handle_all_deferred(
+                &mut self.incoming,
+                &mut deferral.waiting,
+            ) {
                 Ok(()) => Ok(()),
                 Err(error) => {
                     self.deferral = Some(deferral);
@@ -322,7 +325,7 @@ impl ReassemblyQueue {
 }
 
 // Handles data that waited. `Err`: an allocation failed, and nothing has changed.
-fn work_data(incoming: &mut Incoming, tsn: u32, chunk: &Data) -> Result<(), AllocError>
+fn handle_deferred_data(incoming: &mut Incoming, tsn: u32, chunk: &Data) -> Result<(), AllocError>
     requires { held_bytes (incoming_of incoming.old) + length chunk.now.payload.items ≤ incoming.old.queued_bytes }
     ensures ok { OnOk result (TakesData tsn (chunk_of chunk.now) (incoming_of incoming.old) (incoming_of incoming.new)) }
     ensures worked { OnOk result (incoming.new.queued_bytes + held_bytes (incoming_of incoming.old) + length chunk.now.payload.items ≡ incoming.old.queued_bytes + held_bytes (incoming_of incoming.new)) }
@@ -342,7 +345,7 @@ fn work_data(incoming: &mut Incoming, tsn: u32, chunk: &Data) -> Result<(), Allo
 }
 
 // Handles what waited. `Err`: an allocation failed, and nothing has changed.
-fn work(incoming: &mut Incoming, action: &Deferred) -> Result<(), AllocError>
+fn handle_deferred(incoming: &mut Incoming, action: &Deferred) -> Result<(), AllocError>
     requires { held_bytes (incoming_of incoming.old) + waiting_bytes (waiting_of action.now) ≤ incoming.old.queued_bytes }
     ensures ok { OnOk result (Works (waiting_of action.now) (incoming_of incoming.old) (incoming_of incoming.new)) }
     ensures worked { OnOk result (incoming.new.queued_bytes + held_bytes (incoming_of incoming.old) + waiting_bytes (waiting_of action.now) ≡ incoming.old.queued_bytes + held_bytes (incoming_of incoming.new)) }
@@ -350,14 +353,17 @@ fn work(incoming: &mut Incoming, action: &Deferred) -> Result<(), AllocError>
     ensures left { OnErr result (incoming.new.queued_bytes + held_bytes (incoming_of incoming.old) ≡ incoming.old.queued_bytes + held_bytes (incoming_of incoming.new)) }
 {
     match action {
-        Deferred::Data(tsn, chunk) => work_data(incoming, *tsn, chunk),
+        Deferred::Data(tsn, chunk) => handle_deferred_data(incoming, *tsn, chunk),
         Deferred::ForwardTsn(tsn, skipped) => incoming.forward(*tsn, skipped.as_slice()),
     }
 }
 
 // Handles all that waited, in turn. `Err`: an allocation failed for something; that and the rest keep
 // waiting.
-fn work_all(incoming: &mut Incoming, waiting: &mut VecDeque<Deferred>) -> Result<(), AllocError>
+fn handle_all_deferred(
+    incoming: &mut Incoming,
+    waiting: &mut VecDeque<Deferred>,
+) -> Result<(), AllocError>
     requires { incoming.old.queued_bytes ≡ held_bytes (incoming_of incoming.old) + sum_by waiting_bytes (map waiting_of waiting.old.items) }
     ensures ok { OnOk result (WorksAll (map waiting_of waiting.old.items) (incoming_of incoming.old) (incoming_of incoming.new)) }
     ensures err { OnErr result (WorksFront (map waiting_of waiting.old.items) (incoming_of incoming.old) (incoming_of incoming.new) (map waiting_of waiting.new.items)) }
@@ -365,7 +371,7 @@ fn work_all(incoming: &mut Incoming, waiting: &mut VecDeque<Deferred>) -> Result
     ensures none { OnOk result (map waiting_of waiting.new.items ≡ []) }
 {
     while !waiting.is_empty() {
-        work(incoming, &waiting[0])?;
+        handle_deferred(incoming, &waiting[0])?;
         let _ = waiting.pop_front();
     }
     Ok(())

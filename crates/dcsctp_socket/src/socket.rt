@@ -295,7 +295,10 @@ impl<R: Rng + Drop> DcSctpSocket for Socket<R> {
     }
 
     fn messages_ready_count(&self) -> usize {
-        self.context.state.messages_ready_count()
+        match self.context.state.tcb() {
+            None => 0,
+            Some(tcb) => tcb.transfer.messages_ready_count(),
+        }
     }
 
     fn state(&self) -> SocketState {

@@ -1,5 +1,5 @@
 -- Behind the turns of data, COOKIE ACK and RE-CONFIG the next chunk follows.
-use Rattle.std.proofs.Common.{◌≡◌, ℕ, Bool, true, false, cond, Option, None, Some, List, [], ◌∷◌, refl, ap, ◌∙◌}
+use Rattle.std.proofs.Common.{◌≡◌, ℕ, Bool, true, false, cond, Option, None, Some, List, [], ◌∷◌, refl, ap, subst, ◌∙◌}
 use Rattle.dcsctp_machine.specs.declared.association.Pair.{Pair}
 use Rattle.dcsctp_machine.specs.declared.association.Held.{Held}
 use Rattle.dcsctp_machine.specs.Event.{Event}
@@ -14,6 +14,23 @@ use Rattle.dcsctp_machine.specs.turns.FlushOutcomes.{Answer, first_ask, packets_
 use Rattle.dcsctp_machine.specs.turns.HandshakeOutcomes.{connected_after, cookie_ack_by, CookieAckAnswers, CookieAckTurn}
 use Rattle.dcsctp_machine.specs.turns.ResetOutcomes.{responses_outcome, responses_by, ResponseAnswers, worked_in, answered_in, resets_worked, told_of, WorksResets, ResetTurn}
 use Rattle.dcsctp_machine.proofs.FlushKeeps.{flush_keeps}
+use Rattle.rand_core.specs.Stream.{Stream}
+use Rattle.dcsctp_core.specs.View.{View}
+use Rattle.dcsctp_core.specs.Handling.{TakesIn, CutIn}
+use Rattle.dcsctp_core_data.specs.Data.{DataAt}
+
+-- A part that holds what a chunk says is taken as the chunk.
+part_as : (F : Bool → ℕ → List ℕ → Type 0) {a b : Bool} {s t : ℕ} {p q : List ℕ} → a ≡ b → s ≡ t → p ≡ q → F a s p → F b t q
+part_as F {a} {b} {s} {t} {p} {q} flag tsn payload held =
+    subst (λ (x : Bool). F x t q) flag (subst (λ (x : ℕ). F a x q) tsn (subst (λ (x : List ℕ). F a s x) payload held))
+
+pub part_taken : {R : Type 0} (stream : R → Stream) (old new : View R) {a b : Bool} {s t : ℕ} {p q : List ℕ} → a ≡ b → s ≡ t → p ≡ q
+    → TakesIn stream (DataAt a s p) old new → TakesIn stream (DataAt b t q) old new
+part_taken stream old new flag tsn payload taken = part_as (λ x y z. TakesIn stream (DataAt x y z) old new) flag tsn payload taken
+
+pub part_cut : {R : Type 0} (old : View R) (events : List (Event (List ℕ))) {a b : Bool} {s t : ℕ} {p q : List ℕ} → a ≡ b → s ≡ t → p ≡ q
+    → CutIn (DataAt a s p) old events → CutIn (DataAt b t q) old events
+part_cut old events flag tsn payload cut = part_as (λ x y z. CutIn (DataAt x y z) old events) flag tsn payload cut
 
 -- The next chunk follows.
 abbrev pub GoesOn : Outcome → Type 0

@@ -31,7 +31,7 @@ use std::alloc::AllocError;
 
 // Handles the chunks of an admitted packet one after another, until one says that the others aren't handled.
 // Returns whether the end of the packet follows.
-fn work_chunks<R: Rng>(
+fn handle_each_chunk<R: Rng>(
     context: &mut Context<R>,
     packet: &SctpPacket<'_>,
 ) -> Result<bool, AllocError>
@@ -55,7 +55,7 @@ fn handle_chunks<R: Rng>(
 ) -> Result<(), AllocError>
     ensures { WorksChunks R.stream (packet_content packet.now) context.old result context.new }
 {
-    if work_chunks(context, packet)? {
+    if handle_each_chunk(context, packet)? {
         end_packet(context)?;
     }
     Ok(())
@@ -93,7 +93,7 @@ fn handle_whole<R: Rng>(context: &mut Context<R>, packet: &SctpPacket<'_>) -> Re
 }
 
 // Answers a chunk if it is a SHUTDOWN ACK: during a handshake none is awaited.
-fn work_shutdown_ack<R: Rng>(
+fn answer_shutdown_ack<R: Rng>(
     context: &mut Context<R>,
     header_tag: u32,
     chunk: &Chunk<'_>,
@@ -119,7 +119,7 @@ fn handle_shutdown_acks<R: Rng>(
 {
     let header_tag = packet.common_header.verification_tag;
     for chunk in &packet.chunks {
-        work_shutdown_ack(context, header_tag, chunk)?;
+        answer_shutdown_ack(context, header_tag, chunk)?;
     }
     Ok(())
 }

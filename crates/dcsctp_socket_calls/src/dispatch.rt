@@ -10,7 +10,7 @@ ghost use Rattle.dcsctp_socket_calls.specs.Parts.{WorksChunk};
 use crate::unknown::handle_unknown;
 use dcsctp_core::{Context, Following};
 use dcsctp_core_data::{
-    handle_data, handle_forward_tsn, handle_i_data, handle_i_forward_tsn, handle_sack,
+    DataPart, handle_data, handle_forward_tsn, handle_i_forward_tsn, handle_sack,
 };
 use dcsctp_core_ends::{abort_association, handle_abort, handle_error, violation_of};
 use dcsctp_core_handshake::{handle_cookie_ack, handle_cookie_echo, handle_init, handle_init_ack};
@@ -37,12 +37,12 @@ pub(crate) fn handle_chunk<R: Rng>(
             abort_association(context, AbortReason::Violation(violation))?;
             Ok(Following::DroppedRest)
         }
-        None => work_chunk(context, header_tag, chunk),
+        None => dispatch_chunk(context, header_tag, chunk),
     }
 }
 
 // Handles a chunk that breaks nothing.
-fn work_chunk<R: Rng>(
+fn dispatch_chunk<R: Rng>(
     context: &mut Context<R>,
     header_tag: u32,
     chunk: &Chunk<'_>,
@@ -79,11 +79,11 @@ fn work_chunk<R: Rng>(
         Chunk::Unknown(unknown) => handle_unknown(context, unknown),
         Chunk::ShutdownComplete(_) => handle_shutdown_complete(context),
         Chunk::Data(data) => {
-            handle_data(context, data)?;
+            handle_data(context, DataPart::of_data(data))?;
             Ok(Following::NextChunk)
         }
         Chunk::IData(data) => {
-            handle_i_data(context, data)?;
+            handle_data(context, DataPart::of_i_data(data))?;
             Ok(Following::NextChunk)
         }
         Chunk::Sack(sack) => {

@@ -274,10 +274,10 @@ impl<R: Rng + Drop> WatchedSocket<R> {
         }
     }
 
-    /// Handles an act at this side, where the other has emitted these packets. `SocketFault::OutOfMemory`: an
+    /// Performs an act at this side, where the other has emitted these packets. `SocketFault::OutOfMemory`: an
     /// allocation failed, in the socket or here; the first part of what the act brings may have been kept.
     /// `SocketFault::Failed`: the socket had failed, and nothing has changed.
-    pub fn work(&mut self, packets: &[Vec<u8>], act: &Act) -> Result<Reply, SocketFault>
+    pub fn perform(&mut self, packets: &[Vec<u8>], act: &Act) -> Result<Reply, SocketFault>
         requires { self.old.socket.view.events ≡ [] }
         ensures { Works (TurnsOfAct self.old.socket.view.endpoint (packet_bytes packets.now) (act_content act.now))
             (IsReply self.old.socket.view.endpoint (packet_bytes packets.now) (act_content act.now)) (shown self.old) result (shown self.new) }

@@ -73,19 +73,19 @@ fn move_side<R: Rng + Drop>(
 {
     match side_of(act) {
         Side::A => {
-            let reply = a.work(&b.packets, act)?;
+            let reply = a.perform(&b.packets, act)?;
             Ok(reply)
         }
         Side::B => {
-            let reply = b.work(&a.packets, act)?;
+            let reply = b.perform(&a.packets, act)?;
             Ok(reply)
         }
     }
 }
 
-// Handles an act, and keeps it and its outcome. The errors are those of `move_side`, and
+// Performs an act, and keeps it and its outcome. The errors are those of `move_side`, and
 // `SocketFault::OutOfMemory` if an association or the act can't be kept.
-fn work<R: Rng + Drop>(
+fn perform_and_keep<R: Rng + Drop>(
     a: &mut WatchedSocket<R>,
     b: &mut WatchedSocket<R>,
     acts: &mut Vec<Act>,
@@ -145,7 +145,7 @@ impl<R: Rng + Drop> World<R> {
             return Err(SocketFault::Failed);
         }
         socket_laws();
-        match work(&mut self.a, &mut self.b, &mut self.acts, act) {
+        match perform_and_keep(&mut self.a, &mut self.b, &mut self.acts, act) {
             Ok(reply) => Ok(reply),
             Err(_fault) => {
                 self.failed = true;

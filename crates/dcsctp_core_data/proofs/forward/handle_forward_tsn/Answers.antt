@@ -1,18 +1,18 @@
+use Rattle.std.proofs.Common.{refl}
 use Rattle.std.proofs.lemmas.Result.{err_from_is_err_and}
 use Rattle.dcsctp_core.specs.View.{view_of}
-use Rattle.dcsctp_core_data.proofs.ArrivalLemmas.{forward_cut, forward_taken}
+use Rattle.dcsctp_core_data.proofs.ArrivalLemmas.{forward_cut, forward_unasked, forward_worked}
 use Rattle.dcsctp_core_data.proofs.forward.handle_forward_tsn.Goals as goal
+
+pub returns-in_default : goal.returns-in_default
+returns-in_default g c = forward_unasked g.R.Rng.stream c.args.context.now c.args.chunk.now.new_cumulative_tsn c.in_default.ensures.tcb
 
 pub returns-in_err-skipped : goal.returns-in_err-skipped
 returns-in_err-skipped g c =
     rw (err_from_is_err_and c.from_residual.result c.from_residual.ensures.1).1
     (forward_cut (view_of c.args.context.now) c.args.chunk.now.new_cumulative_tsn)
 
-pub returns-in_err-handle_forward_tsn : goal.returns-in_err-handle_forward_tsn
-returns-in_err-handle_forward_tsn g c =
-    rw (err_from_is_err_and c.from_residual-in_err-handle_forward_tsn.result c.from_residual-in_err-handle_forward_tsn.ensures.1).1
-    (forward_cut (view_of c.args.context.now) c.args.chunk.now.new_cumulative_tsn)
-
 pub returns : goal.returns
 returns g c =
-    forward_taken g.R.Rng.stream c.args.context.now c.handle_forward_tsn.new.self c.args.chunk.now.new_cumulative_tsn c.in_ok-handle_forward_tsn.ensures
+    forward_worked g.R.Rng.stream c.args.context.now _ c.in-Some.tcb.now c.handle_forward_tsn.new.self c.handle_forward_tsn.result c.args.chunk.now.new_cumulative_tsn refl
+    c.in-Some.ensures.tcb c.handle_forward_tsn.ensures.ok

@@ -1,5 +1,19 @@
+use Rattle.std.proofs.Common.{None}
+use Rattle.dcsctp_core.proofs.BelowLemmas.{takes_lent, takes_nobody}
+use Rattle.dcsctp_core.proofs.LendingLemmas.{left_with}
 use Rattle.dcsctp_core_messages.proofs.TakingLemmas.{taken_next}
 use Rattle.dcsctp_core_messages.proofs.taking.get_next_message.Goals as goal
 
-pub returns : goal.returns
-returns g c = taken_next c.args.context.now c.get_next_message.new.self c.get_next_message.result c.get_next_message.ensures
+pub returns-in-None : goal.returns-in-None
+returns-in-None g c =
+    let old = c.args.context.now in
+    taken_next old old.state None (takes_nobody old.state c.in-None.ensures.tcb)
+
+pub returns-in-Some : goal.returns-in-Some
+returns-in-Some g c =
+    let old = c.args.context.now in
+    let tcb = c.in-Some.tcb.now in
+    let after = c.get_next_message.new.self in
+    let taken = c.get_next_message.ensures in
+    taken_next old (left_with old.state tcb after) c.get_next_message.result
+    (takes_lent old.state tcb after c.get_next_message.result c.in-Some.ensures.tcb taken.some taken.left taken.window taken.none)

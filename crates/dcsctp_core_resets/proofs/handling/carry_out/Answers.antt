@@ -11,17 +11,17 @@ returns-in_err-tell g c =
 
 pub returns-then-worked : goal.returns-then-worked
 returns-then-worked g c =
-    λ asked. own_first c.args.worked.now (option_map wanted_by c.args.request) c.args.context.now c.settle-told.new.context c.tell.new.context c.settle-told.result c.treat.result c.treat.new.context c.if-worked.true
-    (c.settle-told.ensures asked) c.in_ok-tell.ensures c.treat.ensures
+    λ asked. own_first c.args.worked.now (option_map wanted_by c.args.request) c.args.context.now c.settle-told.new.context c.tell.new.context c.settle-told.result c.carry_out_reset.result c.carry_out_reset.new.context c.if-worked.true
+    (c.settle-told.ensures asked) c.in_ok-tell.ensures c.carry_out_reset.ensures
 
-pub returns-in_err-treat : goal.returns-in_err-treat
-returns-in_err-treat g c =
-    λ asked. rw (err_from_is_err_and c.from_residual-in_err-treat.result c.from_residual-in_err-treat.ensures.1).1
-    (none_told c.args.worked.now (option_map wanted_by c.args.request) c.args.context.now c.settle-told.new.context c.treat-2.new.context c.settle-told.result (c.settle-told.ensures asked) c.in_err-treat.ensures)
+pub returns-in_err-carry_out_reset : goal.returns-in_err-carry_out_reset
+returns-in_err-carry_out_reset g c =
+    λ asked. rw (err_from_is_err_and c.from_residual-in_err-carry_out_reset.result c.from_residual-in_err-carry_out_reset.ensures.1).1
+    (none_told c.args.worked.now (option_map wanted_by c.args.request) c.args.context.now c.settle-told.new.context c.carry_out_reset-2.new.context c.settle-told.result (c.settle-told.ensures asked) c.in_err-carry_out_reset.ensures)
 
 pub returns : goal.returns
 returns g c =
     λ asked.
-    let treated = c.in_ok-treat.ensures in
-    peer_first c.args.worked.now (option_map wanted_by c.args.request) c.args.context.now c.settle-told.new.context c.treat-2.new.context c.settle-told.result treated.0 c.tell-2.result c.tell-2.new.context c.if-worked.false
+    let treated = c.in_ok-carry_out_reset.ensures in
+    peer_first c.args.worked.now (option_map wanted_by c.args.request) c.args.context.now c.settle-told.new.context c.carry_out_reset-2.new.context c.settle-told.result treated.0 c.tell-2.result c.tell-2.new.context c.if-worked.false
     (c.settle-told.ensures asked) treated.1 treated.2 c.tell-2.ensures

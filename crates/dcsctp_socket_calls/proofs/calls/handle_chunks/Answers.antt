@@ -9,16 +9,16 @@ use Rattle.dcsctp_socket_calls.proofs.calls.handle_chunks.Goals as goal
 pub returns-in_ok-end_packet : goal.returns-in_ok-end_packet
 returns-in_ok-end_packet g c =
     let old = view_of c.args.context.now in
-    let mid = view_of c.work_chunks.new.context in
+    let mid = view_of c.handle_each_chunk.new.context in
     let packet = packet_content c.args.packet.now in
     ended g.R.Rng.stream old mid (view_of c.end_packet.new.context) packet
-    (subst (λ (ends : Bool). MoveToEnd g.R.Rng.stream packet old ends mid) c.if-branch.true c.in_ok-work_chunks.ensures) c.in_ok-end_packet.ensures
+    (subst (λ (ends : Bool). MoveToEnd g.R.Rng.stream packet old ends mid) c.if-branch.true c.in_ok-handle_each_chunk.ensures) c.in_ok-end_packet.ensures
 
 pub returns-in_err-end_packet : goal.returns-in_err-end_packet
 returns-in_err-end_packet g c =
     let old = view_of c.args.context.now in
-    let mid = view_of c.work_chunks.new.context in
+    let mid = view_of c.handle_each_chunk.new.context in
     let packet = packet_content c.args.packet.now in
     rw (err_from_is_err_and c.from_residual-in_err-end_packet.result c.from_residual-in_err-end_packet.ensures.1).1
     (ended_cut g.R.Rng.stream old mid packet (view_of c.end_packet.new.context).events
-    (subst (λ (ends : Bool). MoveToEnd g.R.Rng.stream packet old ends mid) c.if-branch.true c.in_ok-work_chunks.ensures) c.in_err-end_packet.ensures)
+    (subst (λ (ends : Bool). MoveToEnd g.R.Rng.stream packet old ends mid) c.if-branch.true c.in_ok-handle_each_chunk.ensures) c.in_err-end_packet.ensures)

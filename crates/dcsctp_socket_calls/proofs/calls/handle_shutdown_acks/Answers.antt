@@ -18,10 +18,10 @@ use Rattle.dcsctp_socket_calls.proofs.calls.handle_shutdown_acks.Goals as goal
 pub loop-chunk-preserved : goal.loop-chunk-preserved
 loop-chunk-preserved g c =
     let done = c.loop-chunk.invariant in
-    let step = c.in_ok-work_shutdown_ack.ensures in
+    let step = c.in_ok-answer_shutdown_ack.ensures in
     let start = view_of c.args.context.now in
     let here = view_of c.loop-chunk.context in
-    let next = view_of c.work_shutdown_ack.new.context in
+    let next = view_of c.answer_shutdown_ack.new.context in
     let tag = c.args.packet.now.common_header.verification_tag in
     let chunks = c.deref-chunk-items.result.now in
     record {
@@ -47,12 +47,12 @@ returns g c =
     }
 
 -- Those before it had their turns.
-pub returns-in_err-work_shutdown_ack : goal.returns-in_err-work_shutdown_ack
-returns-in_err-work_shutdown_ack g c =
+pub returns-in_err-answer_shutdown_ack : goal.returns-in_err-answer_shutdown_ack
+returns-in_err-answer_shutdown_ack g c =
     let done = c.loop-chunk.invariant in
     let start = view_of c.args.context.now in
     let here = view_of c.loop-chunk.context in
-    let next = view_of c.work_shutdown_ack.new.context in
+    let next = view_of c.answer_shutdown_ack.new.context in
     let tag = c.args.packet.now.common_header.verification_tag in
     let chunks = c.deref-chunk-items.result.now in
     let i = c.loop-chunk.chunk-index in
@@ -61,5 +61,5 @@ returns-in_err-work_shutdown_ack g c =
     let are : FirstTurns start.endpoint tag (acks_of c.args.packet.now.chunks.items) done.turns =
     subst (λ (list : List Chunk). FirstTurns start.endpoint tag (acks_of list) done.turns) c.deref-chunk-items.ensures.value (length (acks_of (take i chunks)), first) in
     let cut : AcksCut (packet_content c.args.packet.now) start next.events =
-    record { turns = done.turns; are = are; adds = adds_whole g.R.Rng.stream start here done.turns next.events done.moves (ap (λ (v : View g.row.R.Denot). v.events) c.in_err-work_shutdown_ack.ensures) } in
+    record { turns = done.turns; are = are; adds = adds_whole g.R.Rng.stream start here done.turns next.events done.moves (ap (λ (v : View g.row.R.Denot). v.events) c.in_err-answer_shutdown_ack.ensures) } in
     rw (err_from_is_err_and c.from_residual.result c.from_residual.ensures.1).1 cut

@@ -14,8 +14,8 @@ returns-in_err-reply-in-A g c =
     let fault = c.in_err-reply-in-A.field-0.0 in
     let p = err_from_is_err_and c.from_residual.result c.from_residual.ensures.1 in
     rw (p.1, p.2)
-    (fails_at (act_content c.args.act.now) sides.A fault (both c.args.a.now c.args.b.now) (both c.work.new.self c.args.b.now) (sym c.side_of.ensures ∙ c.in-A.is)
-    (subst (λ (bytes : List (Vec ℕ Global)). Fails (TurnsOfAct c.args.a.now.socket.view.endpoint (packet_bytes bytes) (act_content c.args.act.now)) (shown c.args.a.now) fault (shown c.work.new.self))
+    (fails_at (act_content c.args.act.now) sides.A fault (both c.args.a.now c.args.b.now) (both c.perform.new.self c.args.b.now) (sym c.side_of.ensures ∙ c.in-A.is)
+    (subst (λ (bytes : List (Vec ℕ Global)). Fails (TurnsOfAct c.args.a.now.socket.view.endpoint (packet_bytes bytes) (act_content c.args.act.now)) (shown c.args.a.now) fault (shown c.perform.new.self))
     c.deref.ensures.value c.in_err-reply-in-A.ensures) refl)
 
 pub returns-in_err-reply-in-B : goal.returns-in_err-reply-in-B
@@ -23,6 +23,6 @@ returns-in_err-reply-in-B g c =
     let fault = c.in_err-reply-in-B.field-0.0 in
     let p = err_from_is_err_and c.from_residual-in_err-reply-in-B.result c.from_residual-in_err-reply-in-B.ensures.1 in
     rw (p.1, p.2)
-    (fails_at (act_content c.args.act.now) sides.B fault (both c.args.a.now c.args.b.now) (both c.args.a.now c.work-in-B.new.self) (sym c.side_of.ensures ∙ c.in-B.is)
-    (subst (λ (bytes : List (Vec ℕ Global)). Fails (TurnsOfAct c.args.b.now.socket.view.endpoint (packet_bytes bytes) (act_content c.args.act.now)) (shown c.args.b.now) fault (shown c.work-in-B.new.self))
+    (fails_at (act_content c.args.act.now) sides.B fault (both c.args.a.now c.args.b.now) (both c.args.a.now c.perform-in-B.new.self) (sym c.side_of.ensures ∙ c.in-B.is)
+    (subst (λ (bytes : List (Vec ℕ Global)). Fails (TurnsOfAct c.args.b.now.socket.view.endpoint (packet_bytes bytes) (act_content c.args.act.now)) (shown c.args.b.now) fault (shown c.perform-in-B.new.self))
     c.deref-in-B.ensures.value c.in_err-reply-in-B.ensures) refl)

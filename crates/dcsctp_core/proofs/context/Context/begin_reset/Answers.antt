@@ -1,7 +1,10 @@
-use Rattle.std.proofs.Common.{refl}
-use Rattle.dcsctp_core.proofs.ResetLemmas.{tries_reset}
+use Rattle.std.proofs.Common.{Option, refl, sym, subst}
+use Rattle.dcsctp_core.proofs.ResetLemmas.{tries_reset, begins_lent}
 use Rattle.dcsctp_core.proofs.context.Context.begin_reset.Goals as goal
 
 pub returns-clause-turn : goal.returns-clause-turn
 returns-clause-turn g c =
-    tries_reset c.args.self.now _ c.begin_reset.new.self c.begin_reset.new.queue c.args.packet.now c.begin_reset.new.packet c.begin_reset.result refl c.begin_reset.ensures.ok
+    let old = c.args.self.now in
+    let tcb = c.in-Some.tcb.now in
+    tries_reset old _ _ c.begin_reset.new.queue c.args.packet.now c.begin_reset.new.packet c.begin_reset.result refl
+    (begins_lent old tcb c.begin_reset.new.self c.begin_reset.new.queue c.args.packet.now c.begin_reset.new.packet c.begin_reset.result c.in-Some.ensures.tcb c.begin_reset.ensures.ok)

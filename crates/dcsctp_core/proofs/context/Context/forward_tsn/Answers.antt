@@ -1,10 +1,17 @@
-use Rattle.std.proofs.Common.{arith, refl}
-use Rattle.dcsctp_core.specs.View.{transfer_of, view_of}
+use Rattle.std.proofs.Common.{Option, arith, refl, sym, subst}
+use Rattle.dcsctp_machine.specs.Transfer.{Transfer}
+use Rattle.dcsctp_core.specs.Flushing.{ForwardsAt}
+use Rattle.dcsctp_core.specs.View.{view_of}
 use Rattle.dcsctp_core.proofs.ForwardLemmas.{forwards_below}
+use Rattle.dcsctp_core.proofs.LendingLemmas.{found, lent, left_with}
 use Rattle.dcsctp_core.proofs.context.Context.forward_tsn.Goals as goal
 
 pub returns-clause-turn : goal.returns-clause-turn
 returns-clause-turn g c =
     let old = c.args.self.now in
-    forwards_below old (view_of c.delay_forward_tsn.new.self) (transfer_of old.state) c.forward_tsn.new.self c.forward_tsn.new.queue _ c.in_ok-next.next c.args.packet.now c.forward_tsn.new.packet
-    refl (λ early. absurd (grind arith)) c.delay_forward_tsn.ensures c.in_ok-next.ensures.ok
+    let tcb = c.in-Some.tcb.now in
+    let after = c.forward_tsn.new.self in
+    let is = found old.state tcb c.in-Some.ensures.tcb in
+    subst (λ (f : Option Transfer). ForwardsAt f (view_of old) c.args.packet.now (view_of c.delay_forward_tsn.new.self) c.forward_tsn.new.packet) (sym is)
+    (forwards_below old (view_of c.delay_forward_tsn.new.self) _ (left_with old.state tcb after) c.forward_tsn.new.queue _ c.in_ok-next.next c.args.packet.now c.forward_tsn.new.packet
+    is (λ early. absurd (grind arith)) c.delay_forward_tsn.ensures (after, lent old.state tcb after c.in-Some.ensures.tcb, c.in_ok-next.ensures.ok))

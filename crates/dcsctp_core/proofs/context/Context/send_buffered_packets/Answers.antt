@@ -1,28 +1,35 @@
-use Rattle.std.proofs.Common.{◌∙◌}
+use Rattle.std.proofs.Common.{Option, ◌∙◌, sym, subst}
 use Rattle.std.proofs.lemmas.Result.{err_from_is_err_and}
+use Rattle.dcsctp_machine.specs.Transfer.{Transfer}
+use Rattle.dcsctp_machine.specs.turns.FlushOutcomes.{first_ask}
 use Rattle.dcsctp_core.specs.View.{view_of}
+use Rattle.dcsctp_core.specs.Flushing.{NeedsNone}
+use Rattle.dcsctp_core.proofs.LendingLemmas.{found}
 use Rattle.dcsctp_core.proofs.LoopLemmas.{flush_unmade, flush_no_peer, flush_done, flush_cut_in}
 use Rattle.dcsctp_core.proofs.RestLemmas.{flush_rests}
 use Rattle.dcsctp_core.proofs.context.Context.send_buffered_packets.Goals as goal
 
-pub returns-in_err-packet-in-Some : goal.returns-in_err-packet-in-Some
-returns-in_err-packet-in-Some g c =
+pub returns-in_err-packet : goal.returns-in_err-packet
+returns-in_err-packet g c =
     rw (err_from_is_err_and c.from_residual.result c.from_residual.ensures.1).1
     (flush_unmade c.args.self.now)
 
-pub returns-in_err-send_buffered_packets_with-in-Some : goal.returns-in_err-send_buffered_packets_with-in-Some
-returns-in_err-send_buffered_packets_with-in-Some g c =
-    rw (err_from_is_err_and c.from_residual-in_err-send_buffered_packets_with-in-Some.result c.from_residual-in_err-send_buffered_packets_with-in-Some.ensures.1).1
+pub returns-in_err-send_buffered_packets_with : goal.returns-in_err-send_buffered_packets_with
+returns-in_err-send_buffered_packets_with g c =
+    rw (err_from_is_err_and c.from_residual-in_err-send_buffered_packets_with.result c.from_residual-in_err-send_buffered_packets_with.ensures.1).1
     (flush_cut_in c.args.self.now c.in-Some.tcb.now (view_of c.send_buffered_packets_with.new.self).events c.in-Some.ensures
-    (λ held holds draft is. c.in_err-send_buffered_packets_with-in-Some.ensures draft (c.in_ok-packet-in-Some.ensures ∙ is) held holds))
+    (λ held holds draft is. c.in_err-send_buffered_packets_with.ensures draft (c.in_ok-packet.ensures ∙ is) held holds))
 
-pub returns-in-None : goal.returns-in-None
-returns-in-None g c = flush_no_peer g.R.Rng.stream c.args.self.now c.in-None.ensures
+pub returns-in_default : goal.returns-in_default
+returns-in_default g c = flush_no_peer g.R.Rng.stream c.args.self.now c.in_default.ensures
 
-pub returns-in_ok-send_buffered_packets_with-in-Some : goal.returns-in_ok-send_buffered_packets_with-in-Some
-returns-in_ok-send_buffered_packets_with-in-Some g c =
+pub returns : goal.returns
+returns g c =
     flush_done g.R.Rng.stream c.args.self.now c.in-Some.tcb.now (view_of c.send_buffered_packets_with.new.self) c.in-Some.ensures
-    (λ held holds draft is. c.in_ok-send_buffered_packets_with-in-Some.ensures draft (c.in_ok-packet-in-Some.ensures ∙ is) held holds)
+    (λ held holds draft is. c.in_ok-send_buffered_packets_with.ensures draft (c.in_ok-packet.ensures ∙ is) held holds)
 
 pub returns-then-not-may_fill_first : goal.returns-then-not-may_fill_first
-returns-then-not-may_fill_first g c = flush_rests g.R.Rng.stream c.args.self.now (c.may_fill_first.ensures c.if-not-may_fill_first.true)
+returns-then-not-may_fill_first g c =
+    let old = c.args.self.now in
+    flush_rests g.R.Rng.stream old
+    (subst (λ (f : Option Transfer). NeedsNone first_ask old.send_queue f) (sym (found old.state c.in-Some.tcb.now c.in-Some.ensures)) (c.may_fill_first.ensures c.if-not-may_fill_first.true))

@@ -1,7 +1,10 @@
-use Rattle.std.proofs.Common.{false, refl, arith}
+use Rattle.std.proofs.Common.{Option, false, refl, sym, subst, ◌∙◌, arith}
 use Rattle.std.proofs.lemmas.Result.{err_from_is_err_and}
 use Rattle.dcsctp_machine.specs.turns.FlushOutcomes.{later_ask}
+use Rattle.dcsctp_machine.specs.Transfer.{Transfer}
 use Rattle.dcsctp_core.specs.View.{view_of}
+use Rattle.dcsctp_core.specs.Flushing.{NeedsNone}
+use Rattle.dcsctp_core.proofs.LendingLemmas.{found}
 use Rattle.dcsctp_core.proofs.LoopLemmas.{completes_unmade, completes_none, packet_to, loop_goes_on, loop_ends, loop_cut}
 use Rattle.dcsctp_core.proofs.RestLemmas.{asks_none}
 use Rattle.dcsctp_core.proofs.context.Context.send_further.Goals as goal
@@ -36,5 +39,8 @@ returns g c =
 
 pub returns-then-not-may_fill : goal.returns-then-not-may_fill
 returns-then-not-may_fill g c =
-    λ held holds. loop_ends g.R.Rng.stream held c.args.allowed (view_of c.args.self.now) c.loop-left.left (view_of c.loop-left.self) (view_of c.loop-left.self) false c.loop-left-test.true refl (c.loop-left.invariant held holds)
-    (asks_none g.R.Rng.stream later_ask (view_of c.loop-left.self) held (c.may_fill.ensures c.if-not-may_fill.true))
+    let here = c.loop-left.self in
+    λ held holds. loop_ends g.R.Rng.stream held c.args.allowed (view_of c.args.self.now) c.loop-left.left (view_of here) (view_of here) false c.loop-left-test.true refl (c.loop-left.invariant held holds)
+    (asks_none g.R.Rng.stream later_ask (view_of here) held
+    (subst (λ (f : Option Transfer). NeedsNone later_ask here.send_queue f) (sym (found here.state c.in-Some.tcb.now c.in-Some.ensures))
+    (refl, λ is. absurd (cc), sym c.may_fill.ensures ∙ c.if-not-may_fill.true)))

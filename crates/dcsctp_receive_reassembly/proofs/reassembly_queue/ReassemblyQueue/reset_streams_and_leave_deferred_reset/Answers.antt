@@ -23,11 +23,11 @@ returns-in-None-clause-ok c =
 pub returns-in-Ok-clause-ok : goal.returns-in-Ok-clause-ok
 returns-in-Ok-clause-ok c =
     let some : option_map deferral_of c.self.inside.deferral ≡ Some (deferral_of c.in-Some.deferral) = ap (λ (o : Option Deferral). option_map deferral_of o) (sym c.take.ensures.value ∙ c.in-Some.is) in
-    subst (λ (old : QueueModel). Leaves (stream_numbers c.args.streams.now) old (the_view (record { incoming = c.work_all.new.incoming; max_size = c.self.inside.max_size; deferral = c.take.new.self }))) c.self.view_is
+    subst (λ (old : QueueModel). Leaves (stream_numbers c.args.streams.now) old (the_view (record { incoming = c.handle_all_deferred.new.incoming; max_size = c.self.inside.max_size; deferral = c.take.new.self }))) c.self.view_is
     (record {
       between = incoming_of c.reset_streams.new.self;
       resets = c.reset_streams.ensures.resets;
-      works = subst (λ (o : Option DeferralModel). WorksAll (actions_of o) (incoming_of c.reset_streams.new.self) (incoming_of c.work_all.new.incoming)) (sym some) c.in-Ok.ensures.ok;
+      works = subst (λ (o : Option DeferralModel). WorksAll (actions_of o) (incoming_of c.reset_streams.new.self) (incoming_of c.handle_all_deferred.new.incoming)) (sym some) c.in-Ok.ensures.ok;
       window = refl;
       deferral = ap (λ (o : Option Deferral). option_map deferral_of o) c.take.ensures.after;
     })

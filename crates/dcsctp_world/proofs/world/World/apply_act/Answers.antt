@@ -10,36 +10,36 @@ use Rattle.dcsctp_world.proofs.Applying.{applied_is_run, ran_out_in}
 use Rattle.dcsctp_world.proofs.Agreeing.{world_agrees, handshake_connects}
 use Rattle.dcsctp_world.proofs.world.World.apply_act.Goals as goal
 
-pub work-requires-clause-a : goal.work-requires-clause-a
-work-requires-clause-a g c = ((c.self.invariant c.if-self.false).sides sides.A).waiting
+pub perform_and_keep-requires-clause-a : goal.perform_and_keep-requires-clause-a
+perform_and_keep-requires-clause-a g c = ((c.self.invariant c.if-self.false).sides sides.A).waiting
 
-pub work-requires-clause-b : goal.work-requires-clause-b
-work-requires-clause-b g c = ((c.self.invariant c.if-self.false).sides sides.B).waiting
+pub perform_and_keep-requires-clause-b : goal.perform_and_keep-requires-clause-b
+perform_and_keep-requires-clause-b g c = ((c.self.invariant c.if-self.false).sides sides.B).waiting
 
 pub returns-in-Ok-clause-agreement : goal.returns-in-Ok-clause-agreement
 returns-in-Ok-clause-agreement g c =
-    let new = world_of c.work.new.a c.work.new.b c.work.new.acts.items c.self.inside.failed in
+    let new = world_of c.perform_and_keep.new.a c.perform_and_keep.new.b c.perform_and_keep.new.acts.items c.self.inside.failed in
     world_agrees c.socket_laws.ensures (options_of c.args.self.now) new
     (subst (λ (w : WorldView g.row.R.Denot). IsRun (options_of w) new) c.self.view_is
-    (applied_is_run (act_content c.args.act) c.in-Ok.reply c.self.inside.a c.self.inside.b c.work.new.a c.work.new.b c.self.inside.acts.items c.work.new.acts.items
+    (applied_is_run (act_content c.args.act) c.in-Ok.reply c.self.inside.a c.self.inside.b c.perform_and_keep.new.a c.perform_and_keep.new.b c.self.inside.acts.items c.perform_and_keep.new.acts.items
     c.self.inside.failed c.if-self.false c.self.invariant c.in-Ok.ensures))
 
 pub returns-in-Ok-clause-handshake : goal.returns-in-Ok-clause-handshake
 returns-in-Ok-clause-handshake g c =
-    handshake_connects c.socket_laws.ensures.connect (options_of c.args.self.now) (world_of c.work.new.a c.work.new.b c.work.new.acts.items c.self.inside.failed)
+    handshake_connects c.socket_laws.ensures.connect (options_of c.args.self.now) (world_of c.perform_and_keep.new.a c.perform_and_keep.new.b c.perform_and_keep.new.acts.items c.self.inside.failed)
     (returns-in-Ok-clause-agreement g c).is_run
 
 pub returns-in-Ok-clause-options : goal.returns-in-Ok-clause-options
 returns-in-Ok-clause-options g c =
-    is_run_options (options_of c.args.self.now) (world_of c.work.new.a c.work.new.b c.work.new.acts.items c.self.inside.failed) (returns-in-Ok-clause-agreement g c).is_run
+    is_run_options (options_of c.args.self.now) (world_of c.perform_and_keep.new.a c.perform_and_keep.new.b c.perform_and_keep.new.acts.items c.self.inside.failed) (returns-in-Ok-clause-agreement g c).is_run
 
 pub returns-in-Err-clause-call : goal.returns-in-Err-clause-call
 returns-in-Err-clause-call g c =
-    let new = world_of c.work.new.a c.work.new.b c.work.new.acts.items true in
+    let new = world_of c.perform_and_keep.new.a c.perform_and_keep.new.b c.perform_and_keep.new.acts.items true in
     subst (λ (w : WorldView g.row.R.Denot). RanOut (act_content c.args.act) w new) c.self.view_is
-    (ran_out_in (act_content c.args.act) _ c.self.inside.a c.self.inside.b c.work.new.a c.work.new.b c.self.inside.acts.items c.work.new.acts.items
+    (ran_out_in (act_content c.args.act) _ c.self.inside.a c.self.inside.b c.perform_and_keep.new.a c.perform_and_keep.new.b c.self.inside.acts.items c.perform_and_keep.new.acts.items
     c.self.inside.failed c.if-self.false c.self.invariant c.in-Err.ensures)
 
 pub invariant_of-self : goal.invariant_of-self
 invariant_of-self g c =
-    λ runs. is_run_of_own (options_of c.args.self.now) (world_of c.work.new.a c.work.new.b c.work.new.acts.items c.self.inside.failed) (returns-in-Ok-clause-agreement g c).is_run
+    λ runs. is_run_of_own (options_of c.args.self.now) (world_of c.perform_and_keep.new.a c.perform_and_keep.new.b c.perform_and_keep.new.acts.items c.self.inside.failed) (returns-in-Ok-clause-agreement g c).is_run
