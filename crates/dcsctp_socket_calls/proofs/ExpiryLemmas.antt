@@ -30,7 +30,7 @@ use Rattle.dcsctp_machine.proofs.ControlLemmas.{acts_are_controlled}
 use Rattle.dcsctp_api.specs.Calls.{AddsFront, user_event}
 use Rattle.dcsctp_core.specs.declared.context.Context.{Context}
 use Rattle.dcsctp_core.specs.Handling.{TakesIn, CutIn}
-use Rattle.dcsctp_core.specs.Timing.{is_timer_due, ExpiryTurn, Expires, ExpiresAlways}
+use Rattle.dcsctp_core.specs.Timing.{is_timer_due, ExpiryTurn, Expires}
 use Rattle.dcsctp_core.specs.View.{View, view_of, Moves, MovesAll, CutTurn}
 use Rattle.dcsctp_core.proofs.Moving.{moves_one, moves_then}
 use Rattle.dcsctp_socket_calls.specs.TimeParts.{TurnsMove, TurnsCut, WorksTurns, EndTurns}
@@ -255,48 +255,14 @@ rested_adds {R = R} a b timer timers has_expired events due same cut =
 
 -- ---- both
 
--- has one expired, once this one was told?
-pub any_then : (has before any : Bool) → has ≡ true → any ≡ has → any ≡ (has || before)
-any_then has before any one is = is ∙ one ∙ sym (ap (λ (b : Bool). b || before) one)
-
-pub any_else : (has before any : Bool) → has ≡ false → any ≡ before → any ≡ (has || before)
-any_else has before any none is = is ∙ sym (ap (λ (b : Bool). b || before) none)
-
-then_others : {R E : Type 0} (stream : R → Stream) (old mid new : Context R) (timer : Timer) (timers : List Timer) (before has : Bool) (result : Result (Unit {0}) E)
-    → ExpiresAlways stream timer old has mid → WorksTurns stream (ExpiryTurns timers (has || before)) mid result new
+-- A timer was handled, and then the others.
+pub timer_then : {R E : Type 0} (stream : R → Stream) (old mid new : Context R) (timer : Timer) (timers : List Timer) (before has : Bool) (result : Result (Unit {0}) E)
+    → Expires {E = E} stream timer old (Ok has) mid → WorksTurns stream (ExpiryTurns timers (has || before)) mid result new
     → WorksTurns stream (ExpiryTurns (timer ∷ timers) before) old result new
-then_others stream old mid new timer timers before true (Ok done) told works = expired_moves stream (view_of old) (view_of mid) (view_of new) timer timers before told.0 told.1 works
-then_others stream old mid new timer timers before false (Ok done) told works = rested_moves stream (view_of old) (view_of mid) (view_of new) timer timers before told.0 told.1 works
-then_others stream old mid new timer timers before true (Err error) told works = expired_adds stream (view_of old) (view_of mid) timer timers before (view_of new).events told.0 told.1 works
-then_others stream old mid new timer timers before false (Err error) told works = rested_adds (view_of old) (view_of mid) timer timers before (view_of new).events told.0 told.1 works
-
--- A timer was told, and then the others.
-pub timer_then : {R E : Type 0} (stream : R → Stream) (old mid new : Context R) (timer : Timer) (timers : List Timer) (before has any : Bool) (result : Result (Unit {0}) E)
-    → any ≡ (has || before) → ExpiresAlways stream timer old has mid → WorksTurns stream (ExpiryTurns timers any) mid result new
-    → WorksTurns stream (ExpiryTurns (timer ∷ timers) before) old result new
-timer_then stream old mid new timer timers before has any result is told works =
-    then_others stream old mid new timer timers before has result told (subst (λ (b : Bool). WorksTurns stream (ExpiryTurns timers b) mid result new) is works)
-
-told_always : {R : Type 0} (E : Type 0) (stream : R → Stream) (timer : Timer) (old new : Context R) (has : Bool) → Expires {E = E} stream timer old (Ok has) new → ExpiresAlways stream timer old has new
-told_always E stream timer old new true told = told
-told_always E stream timer old new false told = told
-
--- The same of one whose turn takes memory.
-pub told_then : {R E : Type 0} (F : Type 0) (stream : R → Stream) (old mid new : Context R) (timer : Timer) (timers : List Timer) (before has any : Bool) (result : Result (Unit {0}) E)
-    → any ≡ (has || before) → Expires {E = F} stream timer old (Ok has) mid → WorksTurns stream (ExpiryTurns timers any) mid result new
-    → WorksTurns stream (ExpiryTurns (timer ∷ timers) before) old result new
-told_then F stream old mid new timer timers before has any result is told works =
-    timer_then stream old mid new timer timers before has any result is (told_always F stream timer old mid has told) works
-
-or_none : (b : Bool) → (b || false) ≡ b
-or_none true = refl
-or_none false = refl
-
--- The first timer was told, before which none has expired.
-pub first_then : {R E : Type 0} (stream : R → Stream) (old mid new : Context R) (timer : Timer) (timers : List Timer) (has : Bool) (result : Result (Unit {0}) E)
-    → ExpiresAlways stream timer old has mid → WorksTurns stream (ExpiryTurns timers has) mid result new
-    → WorksTurns stream (ExpiryTurns (timer ∷ timers) false) old result new
-first_then stream old mid new timer timers has result told works = timer_then stream old mid new timer timers false has has result (sym (or_none has)) told works
+timer_then stream old mid new timer timers before true (Ok done) handled works = expired_moves stream (view_of old) (view_of mid) (view_of new) timer timers before handled.0 handled.1 works
+timer_then stream old mid new timer timers before false (Ok done) handled works = rested_moves stream (view_of old) (view_of mid) (view_of new) timer timers before handled.0 handled.1 works
+timer_then stream old mid new timer timers before true (Err error) handled works = expired_adds stream (view_of old) (view_of mid) timer timers before (view_of new).events handled.0 handled.1 works
+timer_then stream old mid new timer timers before false (Err error) handled works = rested_adds (view_of old) (view_of mid) timer timers before (view_of new).events handled.0 handled.1 works
 
 -- ---- what follows the timers
 

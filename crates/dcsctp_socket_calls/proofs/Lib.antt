@@ -9,5 +9,6 @@ mod ExpiryLemmas
 mod MessageLemmas
 mod ResettingLemmas
 mod TimeLemmas
+mod TimerLoop
 mod UnknownLemmas
 mod WholeLemmas

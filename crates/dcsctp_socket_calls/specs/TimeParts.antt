@@ -5,11 +5,24 @@ use Rattle.dcsctp_machine.specs.Settings.{ports_of}
 use Rattle.dcsctp_machine.specs.Event.{Event}
 use Rattle.dcsctp_machine.specs.Endpoint.{Endpoint}
 use Rattle.dcsctp_machine.specs.Turn.{Input}
-use Rattle.dcsctp_machine.specs.TimeTurns.{unless_exhausted, ExpiryTurns, AdvanceTurns}
+use Rattle.dcsctp_machine.specs.TimeTurns.{Timer, t1_timer, own_timer, t2_timer, unless_exhausted, ExpiryTurns, AdvanceTurns}
+use Rattle.dcsctp_machine.specs.turns.OwnTimers.{acknowledgement_delay, retransmission, heartbeat_interval, heartbeat_timeout, reconfiguration}
 use Rattle.dcsctp_machine.specs.CallTurns.{Turned, Turns}
 use Rattle.dcsctp_api.specs.Calls.{AddsFront}
 use Rattle.dcsctp_core.specs.declared.context.Context.{Context}
 use Rattle.dcsctp_core.specs.View.{View, view_of, MovesAll, CallMoves}
+use Rattle.dcsctp_socket_calls.specs.declared.timers.SocketTimer.{SocketTimer}
+use Rattle.dcsctp_socket_calls.specs.declared.timers.SocketTimer.TheVariants.{T1, AcknowledgementDelay, Retransmission, HeartbeatInterval, HeartbeatTimeout, Reconfiguration, T2}
+
+-- a timer of the code, as one of the machine
+abbrev pub timer_in : SocketTimer → Timer
+timer_in T1 = t1_timer
+timer_in AcknowledgementDelay = own_timer acknowledgement_delay
+timer_in Retransmission = own_timer retransmission
+timer_in HeartbeatInterval = own_timer heartbeat_interval
+timer_in HeartbeatTimeout = own_timer heartbeat_timeout
+timer_in Reconfiguration = own_timer reconfiguration
+timer_in T2 = t2_timer
 
 -- The clock was moved, and what was due had its turns.
 pub record TimeMoves {R : Type 0} (stream : R → Stream) (moment : ℕ) (old new : View R) : Type 0 where

@@ -1,12 +1,12 @@
 //! Which timers are due, and what follows them.
 
-ghost use Rattle.std.specs.Prelude.{◌≡◌, false, [], ◌∷◌, IsOk};
-ghost use Rattle.dcsctp_machine.specs.TimeTurns.{t1_timer, own_timer, t2_timer, timers_in, NoneIsDue, ExpiryTurns, DueTurns};
-ghost use Rattle.dcsctp_machine.specs.turns.OwnTimers.{acknowledgement_delay, retransmission, heartbeat_interval, heartbeat_timeout, reconfiguration};
+ghost use Rattle.std.specs.Prelude.{◌≡◌, [], ◌∷◌, IsOk, map};
+ghost use Rattle.dcsctp_machine.specs.TimeTurns.{timers_in, NoneIsDue, DueTurns};
 ghost use Rattle.dcsctp_machine.specs.Turn.{act_input};
 ghost use Rattle.dcsctp_machine.specs.control.Acts.{flushes};
+ghost use Rattle.dcsctp_core.specs.Timing.{Expires};
 ghost use Rattle.dcsctp_core.specs.View.{core_of, endpoint_of};
-ghost use Rattle.dcsctp_socket_calls.specs.TimeParts.{WorksTurns, EndTurns, TurnsBehind};
+ghost use Rattle.dcsctp_socket_calls.specs.TimeParts.{timer_in, WorksTurns, EndTurns, TurnsBehind};
 
 use dcsctp_core::{Context, State};
 use dcsctp_core_data::{handle_acknowledgement_delay, handle_retransmission};
@@ -18,6 +18,31 @@ use dcsctp_core_shutdown::handle_t2;
 use dcsctp_machine::AbortReason;
 use rand_core::Rng;
 use std::alloc::AllocError;
+
+/// A timer of a socket.
+#[derive(Clone, Copy, Debug, PartialEq, Eq)]
+enum SocketTimer {
+    /// An INIT or COOKIE ECHO isn't answered (RFC 9260, section 5.1).
+    T1,
+
+    /// An acknowledgement is delayed (RFC 9260, section 6.2).
+    AcknowledgementDelay,
+
+    /// What is in flight isn't acknowledged, T3-rtx (RFC 9260, section 6.3).
+    Retransmission,
+
+    /// The next HEARTBEAT is due (RFC 9260, section 8.3).
+    HeartbeatInterval,
+
+    /// A HEARTBEAT isn't answered (RFC 9260, section 8.3).
+    HeartbeatTimeout,
+
+    /// Our own request to reset streams isn't answered (RFC 6525, section 5.1.1).
+    Reconfiguration,
+
+    /// A SHUTDOWN or SHUTDOWN ACK isn't answered (RFC 9260, section 9.2).
+    T2,
+}
 
 // Gives up a peer that doesn't answer: aborts the association if too many errors were counted (RFC 9260,
 // section 8.1).
@@ -55,122 +80,38 @@ fn end_where_held<R: Rng>(context: &mut Context<R>) -> Result<(), AllocError>
     Ok(())
 }
 
-// What follows the timers.
-fn end_expiries<R: Rng>(context: &mut Context<R>, has_expired: bool) -> Result<(), AllocError>
-    ensures turns { WorksTurns R.stream (ExpiryTurns [] has_expired) context.old result context.new }
-    ensures waits { has_expired ≡ false → IsOk result }
+// Advances a timer to the present moment, and does what its expiry asks for. Returns whether it has expired.
+fn handle_timer<R: Rng>(context: &mut Context<R>, timer: SocketTimer) -> Result<bool, AllocError>
+    ensures { Expires R.stream (timer_in timer) context.old result context.new }
 {
-    if has_expired {
-        end_where_held(context)?;
+    match timer {
+        SocketTimer::T1 => handle_t1(context),
+        SocketTimer::AcknowledgementDelay => Ok(handle_acknowledgement_delay(context)),
+        SocketTimer::Retransmission => Ok(handle_retransmission(context)),
+        SocketTimer::HeartbeatInterval => handle_heartbeat_interval(context),
+        SocketTimer::HeartbeatTimeout => Ok(handle_heartbeat_timeout(context)),
+        SocketTimer::Reconfiguration => handle_reconfiguration(context),
+        SocketTimer::T2 => handle_t2(context),
     }
-    Ok(())
 }
 
-// Handles T1, and what follows it.
-fn handle_t1_last<R: Rng>(context: &mut Context<R>, has_expired: bool) -> Result<(), AllocError>
-    ensures turns { WorksTurns R.stream (ExpiryTurns (t1_timer ∷ []) has_expired) context.old result
-        context.new }
-    ensures waits { has_expired ≡ false → NoneIsDue (endpoint_of context.old) (t1_timer ∷ [])
-        → IsOk result }
+// The timers that are handled in a phase, in their order.
+fn timers_of(state: &State) -> &'static [SocketTimer]
+    ensures { map timer_in result.now ≡ timers_in (core_of state.now) }
 {
-    let expired = handle_t1(context)?;
-    end_expiries(context, expired || has_expired)
-}
-
-// Handles the timers of an association whose COOKIE ECHO isn't answered, and what follows them.
-fn handle_echoed_timers<R: Rng>(context: &mut Context<R>) -> Result<(), AllocError>
-    ensures turns { WorksTurns R.stream
-        (ExpiryTurns (own_timer acknowledgement_delay ∷ t1_timer ∷ []) false) context.old result
-        context.new }
-    ensures waits { NoneIsDue (endpoint_of context.old)
-        (own_timer acknowledgement_delay ∷ t1_timer ∷ []) → IsOk result }
-{
-    let expired = handle_acknowledgement_delay(context);
-    handle_t1_last(context, expired)
-}
-
-// Handles T2, and what follows all timers.
-fn handle_last_timer<R: Rng>(context: &mut Context<R>, has_expired: bool) -> Result<(), AllocError>
-    ensures turns { WorksTurns R.stream (ExpiryTurns (t2_timer ∷ []) has_expired) context.old result
-        context.new }
-    ensures waits { has_expired ≡ false → NoneIsDue (endpoint_of context.old) (t2_timer ∷ [])
-        → IsOk result }
-{
-    let expired = handle_t2(context)?;
-    end_expiries(context, expired || has_expired)
-}
-
-// Handles the timer of our own request to reset streams, T2, and what follows all timers.
-fn handle_request_timers<R: Rng>(
-    context: &mut Context<R>,
-    has_expired: bool,
-) -> Result<(), AllocError>
-    ensures turns { WorksTurns R.stream (ExpiryTurns (own_timer reconfiguration ∷ t2_timer ∷ [])
-        has_expired) context.old result context.new }
-    ensures waits { has_expired ≡ false → NoneIsDue (endpoint_of context.old)
-        (own_timer reconfiguration ∷ t2_timer ∷ []) → IsOk result }
-{
-    let expired = handle_reconfiguration(context)?;
-    handle_last_timer(context, expired || has_expired)
-}
-
-// Handles the timer of the answer to a HEARTBEAT, and those after it.
-fn handle_answer_timers<R: Rng>(
-    context: &mut Context<R>,
-    has_expired: bool,
-) -> Result<(), AllocError>
-    ensures turns { WorksTurns R.stream (ExpiryTurns (own_timer heartbeat_timeout
-        ∷ own_timer reconfiguration ∷ t2_timer ∷ []) has_expired) context.old result context.new }
-    ensures waits { has_expired ≡ false → NoneIsDue (endpoint_of context.old)
-        (own_timer heartbeat_timeout ∷ own_timer reconfiguration ∷ t2_timer ∷ []) → IsOk result }
-{
-    let expired = handle_heartbeat_timeout(context);
-    handle_request_timers(context, expired || has_expired)
-}
-
-// Handles the timers of HEARTBEATs, and those after them.
-fn handle_heartbeat_timers<R: Rng>(
-    context: &mut Context<R>,
-    has_expired: bool,
-) -> Result<(), AllocError>
-    ensures turns { WorksTurns R.stream (ExpiryTurns (own_timer heartbeat_interval
-        ∷ own_timer heartbeat_timeout ∷ own_timer reconfiguration ∷ t2_timer ∷ []) has_expired)
-        context.old result context.new }
-    ensures waits { has_expired ≡ false → NoneIsDue (endpoint_of context.old)
-        (own_timer heartbeat_interval ∷ own_timer heartbeat_timeout ∷ own_timer reconfiguration
-        ∷ t2_timer ∷ []) → IsOk result }
-{
-    let expired = handle_heartbeat_interval(context)?;
-    handle_answer_timers(context, expired || has_expired)
-}
-
-// Handles the timer of what is in flight, and those after it.
-fn handle_further_timers<R: Rng>(
-    context: &mut Context<R>,
-    has_expired: bool,
-) -> Result<(), AllocError>
-    ensures turns { WorksTurns R.stream (ExpiryTurns (own_timer retransmission
-        ∷ own_timer heartbeat_interval ∷ own_timer heartbeat_timeout ∷ own_timer reconfiguration
-        ∷ t2_timer ∷ []) has_expired) context.old result context.new }
-    ensures waits { has_expired ≡ false → NoneIsDue (endpoint_of context.old)
-        (own_timer retransmission ∷ own_timer heartbeat_interval ∷ own_timer heartbeat_timeout
-        ∷ own_timer reconfiguration ∷ t2_timer ∷ []) → IsOk result }
-{
-    let expired = handle_retransmission(context);
-    handle_heartbeat_timers(context, expired || has_expired)
-}
-
-// Handles the timers of an open association: the delay of an acknowledgement, and those after it.
-fn handle_own_timers<R: Rng>(context: &mut Context<R>) -> Result<(), AllocError>
-    ensures turns { WorksTurns R.stream (ExpiryTurns (own_timer acknowledgement_delay
-        ∷ own_timer retransmission ∷ own_timer heartbeat_interval ∷ own_timer heartbeat_timeout
-        ∷ own_timer reconfiguration ∷ t2_timer ∷ []) false) context.old result context.new }
-    ensures waits { NoneIsDue (endpoint_of context.old) (own_timer acknowledgement_delay
-        ∷ own_timer retransmission ∷ own_timer heartbeat_interval ∷ own_timer heartbeat_timeout
-        ∷ own_timer reconfiguration ∷ t2_timer ∷ []) → IsOk result }
-{
-    let expired = handle_acknowledgement_delay(context);
-    handle_further_timers(context, expired)
+    match state {
+        State::Closed => &[],
+        State::CookieWait(_) => &[SocketTimer::T1],
+        State::CookieEchoed(_) => &[SocketTimer::AcknowledgementDelay, SocketTimer::T1],
+        State::Open(_) => &[
+            SocketTimer::AcknowledgementDelay,
+            SocketTimer::Retransmission,
+            SocketTimer::HeartbeatInterval,
+            SocketTimer::HeartbeatTimeout,
+            SocketTimer::Reconfiguration,
+            SocketTimer::T2,
+        ],
+    }
 }
 
 /// Handles the timers that are due at the present moment (RFC 9260, sections 5.1, 6.2, 6.3.3, 8.3 and 9.2;
@@ -181,11 +122,12 @@ pub(crate) fn handle_timers<R: Rng>(context: &mut Context<R>) -> Result<(), Allo
     ensures waits { NoneIsDue (endpoint_of context.old) (timers_in (core_of context.old.state))
         → IsOk result }
 {
-    match context.state {
-        State::Closed => {}
-        State::CookieWait(_) => handle_t1_last(context, false)?,
-        State::CookieEchoed(_) => handle_echoed_timers(context)?,
-        State::Open(_) => handle_own_timers(context)?,
+    let mut has_expired = false;
+    for timer in timers_of(&context.state) {
+        has_expired |= handle_timer(context, *timer)?;
+    }
+    if has_expired {
+        end_where_held(context)?;
     }
     Ok(())
 }
