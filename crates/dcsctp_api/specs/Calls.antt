@@ -81,7 +81,7 @@ Connects old (Ok done) new = Makes connect old new
 Connects old (Err OutOfMemory) new = FailsWhole old new
 Connects old (Err Failed) new = StaysFailed old new
 
--- The call is one turn; or an allocation failed, and the first of its events may have been added.
+-- The call is one turn; or an allocation failed, and the first of the call's events may have been added.
 abbrev pub Closes : UserView → Result (Unit {0}) SocketFault → UserView → Type 0
 Closes old (Ok done) new = Makes (abort_with CloseCalled) old new
 Closes old (Err OutOfMemory) new = RanOut old (Turns old.endpoint (act_input (abort_with CloseCalled) ∷ [])) new

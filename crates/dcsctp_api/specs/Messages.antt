@@ -45,8 +45,8 @@ IsBatchAnswer refused (Err error) = (refused_in error.0.items ≡ refused) × (r
 abbrev pub IsTurnOf : Input → UserView → UserView → Type 0
 IsTurnOf input old new = (turns : List Turned) × Turns old.endpoint (input ∷ []) turns × Follows old turns new
 
--- The call is one turn, and returns whether the message was refused. Or an allocation failed, and the first of its events may
--- have been added.
+-- The call is one turn, and returns whether the message was refused. Or an allocation failed, and the first of the call's
+-- events may have been added.
 abbrev pub Sends : MessageContent → SendOptions → UserView → Result (Result (Unit {0}) SendError) SocketFault → UserView → Type 0
 Sends message options old (Ok answer) new =
     (refusal_in answer ≡ message_refusal old.endpoint message.stream (length message.payload))

@@ -20,8 +20,8 @@ abbrev pub reset_refusal_in : Result (Unit {0}) ResetStreamsError → Option Res
 reset_refusal_in (Ok done) = None
 reset_refusal_in (Err error) = Some (reset_refusal_of error)
 
--- The call is one turn, and returns whether it was refused. Or an allocation failed, and the first of its events may have been
--- added.
+-- The call is one turn, and returns whether it was refused. Or an allocation failed, and the first of the call's events may have
+-- been added.
 abbrev pub ResetsOwn : List ℕ → UserView → Result (Result (Unit {0}) ResetStreamsError) SocketFault → UserView → Type 0
 ResetsOwn ids old (Ok answer) new = (reset_refusal_in answer ≡ reset_refusal old.endpoint) × IsTurnOf (user_resets ids) old new
 ResetsOwn ids old (Err OutOfMemory) new = RanOut old (Turns old.endpoint (user_resets ids ∷ [])) new

@@ -20,6 +20,11 @@ use dcsctp_machine::{Message, Options, SendOptions, SocketTime, StreamId};
 /// A call that allocates returns `SocketFault::OutOfMemory` if an allocation failed. From then on the socket
 /// has failed: each such call returns `SocketFault::Failed` and changes nothing. Events can still be polled,
 /// and queries still answer.
+///
+/// Where a call says that it allocates nothing, its contract says that it never returns
+/// `SocketFault::OutOfMemory`: it has no `Result`, or a clause makes that `Ok` unless the socket has failed.
+/// No clause says more. The tests in dcsctp_socket_refusal_tests refuse each allocation of an exchange in
+/// turn.
 pub trait DcSctpSocket {
     // What a socket is to its user.
     ghost user_view: { Self → UserView };

@@ -17,7 +17,7 @@ use std::alloc::AllocError;
 /// Resets our own streams: each is prepared in turn, and then what waits is sent. If the peer isn't known, or
 /// resets weren't negotiated, this is refused, and nothing changes.
 ///
-/// `Err`: an allocation failed; the first of its events may already have been added.
+/// `Err`: an allocation failed; the first of the call's events may already have been added.
 pub fn do_reset_streams<R: Rng>(
     context: &mut Context<R>,
     stream_ids: &[StreamId],

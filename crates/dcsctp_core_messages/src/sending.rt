@@ -15,7 +15,7 @@ use std::alloc::AllocError;
 /// Sends a message: it waits after the others of its stream, and what waits is sent if the peer is known. A
 /// refused message is reported, and nothing else changes.
 ///
-/// `Err`: an allocation failed; the first of its events may already have been added.
+/// `Err`: an allocation failed; the first of the call's events may already have been added.
 pub fn do_send<R: Rng>(
     context: &mut Context<R>,
     message: Message,
@@ -36,7 +36,7 @@ pub fn do_send<R: Rng>(
 /// Sends several messages, as `do_send` does one after another. But what waits is sent once, after the last,
 /// if one of them was accepted.
 ///
-/// `Err`: an allocation failed; the first of its events may already have been added.
+/// `Err`: an allocation failed; the first of the call's events may already have been added.
 pub fn do_send_many<R: Rng>(
     context: &mut Context<R>,
     messages: Vec<Message>,

@@ -25,7 +25,7 @@ fn begin_shutdown<R: Rng>(context: &mut Context<R>) -> Result<(), AllocError>
 /// awaited the association ends at once, with OnClosed; one whose COOKIE ACK is awaited will never connect. A
 /// closed socket, and one that is shutting down, are unchanged, and nothing is allocated.
 ///
-/// `Err`: an allocation failed; the first of its events may already have been added.
+/// `Err`: an allocation failed; the first of the call's events may already have been added.
 pub fn do_shutdown<R: Rng>(context: &mut Context<R>) -> Result<(), AllocError>
     ensures turn { Takes R.stream shut_down_turn context.old result context.new }
     ensures closed { is_closed (core_of context.old.state) ≡ true → IsOk result }

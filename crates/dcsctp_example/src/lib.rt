@@ -1,4 +1,5 @@
-//! How a user drives a socket. README and the page of `dcsctp_socket` quote `serve`, `drain` and `say`.
+//! How a user drives a socket. README quotes `serve` and `say`. The page of `dcsctp_socket` has the body of
+//! `serve`, with that of `drain` in it.
 #![tactic(auto)]
 
 ghost use Rattle.std.specs.Prelude.{◌≡◌, [], OnOk, IfOk};

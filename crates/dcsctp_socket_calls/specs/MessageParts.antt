@@ -20,7 +20,8 @@ use Rattle.dcsctp_socket_calls.specs.Parts.{CallMoved, CallCut}
 abbrev pub SendTurns : List Sending → Endpoint → List Turned → Type 0
 SendTurns messages e turns = Turns e (user_sends messages ∷ []) turns
 
--- The message was sent or refused, as the result says; or an allocation failed, and the first of its events may have been added.
+-- The message was sent or refused, as the result says; or an allocation failed, and the first of the call's events may have been
+-- added.
 abbrev pub WorksSend : {R E : Type 0} → (R → Stream) → MessageContent → SendOptions → Context R → Result (Result (Unit {0}) SendError) E → Context R → Type 0
 WorksSend stream message options old (Ok answer) new =
     (refusal_in answer ≡ message_refusal (view_of old).endpoint message.stream (length message.payload))

@@ -15,8 +15,8 @@ use Rattle.dcsctp_socket_calls.specs.Parts.{CallMoved, CallCut}
 abbrev pub ResetTurns : List ℕ → Endpoint → List Turned → Type 0
 ResetTurns ids e turns = Turns e (user_resets ids ∷ []) turns
 
--- The streams were reset or that was refused, as the result says. Or an allocation failed, and the first of its events may have
--- been added.
+-- The streams were reset or that was refused, as the result says. Or an allocation failed, and the first of the call's events may
+-- have been added.
 abbrev pub WorksReset : {R E : Type 0} → (R → Stream) → List ℕ → Context R → Result (Result (Unit {0}) ResetStreamsError) E → Context R → Type 0
 WorksReset stream ids old (Ok answer) new =
     (reset_refusal_in answer ≡ reset_refusal (view_of old).endpoint) × CallMoved stream (ResetTurns ids) (view_of old) (view_of new)

@@ -172,8 +172,8 @@ pub fn connect<R: Rng>(context: &mut Context<R>) -> Result<(), AllocError>
     Ok(())
 }
 
-/// Ends the association at once (RFC 9260, section 9.1). `Err`: an allocation failed; the first of its events
-/// may already have been added.
+/// Ends the association at once (RFC 9260, section 9.1). `Err`: an allocation failed; the first of the call's
+/// events may already have been added.
 pub fn close<R: Rng>(context: &mut Context<R>) -> Result<(), AllocError>
     ensures turn { WorksCall R.stream (ActTurns (abort_with AbortReason.CloseCalled)) context.old result
         context.new }
@@ -184,8 +184,8 @@ pub fn close<R: Rng>(context: &mut Context<R>) -> Result<(), AllocError>
     Ok(())
 }
 
-/// Shuts the association down (RFC 9260, section 9.2). `Err`: an allocation failed; the first of its events
-/// may already have been added.
+/// Shuts the association down (RFC 9260, section 9.2). `Err`: an allocation failed; the first of the call's
+/// events may already have been added.
 pub fn shutdown<R: Rng>(context: &mut Context<R>) -> Result<(), AllocError>
     ensures turn { WorksCall R.stream (ActTurns shut_down) context.old result context.new }
     ensures idle { takes_shutdown (core_of context.old.state) ≡ false → IsOk result }

@@ -13,7 +13,7 @@ use dcsctp_core_messages::{do_reset_streams, do_send, do_send_many};
 use rand_core::Rng;
 use std::alloc::AllocError;
 
-/// Sends a message. `Err`: an allocation failed; the first of its events may already have been added.
+/// Sends a message. `Err`: an allocation failed; the first of the call's events may already have been added.
 pub fn send<R: Rng>(
     context: &mut Context<R>,
     message: Message,
@@ -38,7 +38,8 @@ pub fn send_many<R: Rng>(
     do_send_many(context, messages, options)
 }
 
-/// Resets our own streams. `Err`: an allocation failed; the first of its events may already have been added.
+/// Resets our own streams. `Err`: an allocation failed; the first of the call's events may already have been
+/// added.
 pub fn reset_streams<R: Rng>(
     context: &mut Context<R>,
     stream_ids: &[StreamId],

@@ -115,8 +115,15 @@ fn timers_of(state: &State) -> &'static [SocketTimer]
 }
 
 /// Handles the timers that are due at the present moment (RFC 9260, sections 5.1, 6.2, 6.3.3, 8.3 and 9.2;
-/// RFC 6525, section 5.1.1). During the handshake that is T1, and once the association is open its own
-/// timers. The delay of an acknowledgement runs in both.
+/// RFC 6525, section 5.1.1), in this order:
+///
+/// - in `Closed` none;
+/// - in `CookieWait` T1;
+/// - in `CookieEchoed` the delay of an acknowledgement, and T1. If one has expired, too many errors abort the
+///   association; what waits isn't sent;
+/// - in `Open` the delay of an acknowledgement, the retransmission timer, the heartbeat interval, the answer
+///   to a heartbeat, our own request to reset streams, and T2. If one has expired, too many errors abort the
+///   association; else what waits is sent.
 pub(crate) fn handle_timers<R: Rng>(context: &mut Context<R>) -> Result<(), AllocError>
     ensures turns { WorksTurns R.stream DueTurns context.old result context.new }
     ensures waits { NoneIsDue (endpoint_of context.old) (timers_in (core_of context.old.state))

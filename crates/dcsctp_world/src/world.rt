@@ -61,7 +61,7 @@ ghost use Rattle.dcsctp_world.specs.Agreement.{Agrees, HandshakeConnects};
 ghost use Rattle.dcsctp_world.specs.Acts.{MovesSide, WorksAct, Applies, Runs};
 ghost use Rattle.dcsctp_world.specs.Parts.{packet_bytes, shown, both, world_of};
 
-// Handles an act at its side. The errors are those of `WatchedSocket::work`; the other side is unchanged.
+// Performs an act at its side. The errors are those of `WatchedSocket::perform`; the other side is unchanged.
 fn move_side<R: Rng + Drop>(
     a: &mut WatchedSocket<R>,
     b: &mut WatchedSocket<R>,
