@@ -14,11 +14,11 @@ pub enum Step {
     /// The retransmission timeout is that many milliseconds.
     HasTimeout(u64),
 
-    /// Packets with data of these TSNs are received at the first moment: is each new? A TSN that isn't valid
-    /// is skipped.
+    /// Packets with data of these TSNs, each of which is valid, are received at the first moment: is each
+    /// new?
     Receives(&'static [u32], bool),
 
-    /// Data of this TSN is received, with the I flag or without it. Its packet goes on.
+    /// Data of this TSN, which is valid, is received, with the I flag or without it. Its packet goes on.
     Observes(u32, bool),
 
     /// A FORWARD-TSN of this TSN is received: does it move the cumulative TSN?

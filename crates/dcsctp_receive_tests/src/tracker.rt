@@ -46,9 +46,10 @@ impl Tracker {
         self.received.update_rto(Duration::from_millis(millis));
     }
 
-    // Data of this TSN is received; returns whether it is new. A TSN that isn't valid is skipped.
+    // Data of this TSN is received, which has to be valid; returns whether it is new.
     fn takes(&mut self, row: &mut Row, tsn: u32, immediate_ack: bool) -> bool {
         if !self.received.is_tsn_valid(tsn) {
+            row.same((tsn, "isn't valid"), (tsn, "is valid"));
             return false;
         }
         let is_new = self.received.observe(tsn, immediate_ack);

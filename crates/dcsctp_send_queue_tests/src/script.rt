@@ -13,7 +13,8 @@
 //!     discard S N done N          is the message under way dropped, where it is this one?
 //!     prepare S, commit, roll-back    a reset of streams
 //!     hand-out N [S, ..]          the streams that are handed out, N at most
-//!     reset, interleave           a new association begins; messages are interleaved from now on
+//!     reset                       a new association begins
+//!     interleave, interleave-no-more  messages are interleaved from now on, or no longer
 //!     priority S N, threshold S N     gives the stream a priority or a threshold of its own
 //!     state S NUMBERS             what the queue answers
 //!     tells [EVENT]               the next event, as `Debug` writes it; without one: there is none

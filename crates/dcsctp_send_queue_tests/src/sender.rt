@@ -173,7 +173,7 @@ impl Sender {
     fn discard(&mut self, row: &mut Row, stream: StreamId) {
         match self.queue.discard(&mut self.events, stream, row.number()) {
             Err(_) => row.done(false),
-            Ok(discarded) => row.check("done", discarded as u128),
+            Ok(discarded) => row.answers("done", discarded),
         }
     }
 

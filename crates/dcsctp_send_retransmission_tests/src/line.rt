@@ -194,7 +194,7 @@ impl Line {
             .handle_sack(&mut self.events, moment, cumulative, window, blocks)
         {
             Err(_) => row.done(false),
-            Ok(HandleSackResult::Invalid) => row.check("valid", 0),
+            Ok(HandleSackResult::Invalid) => row.answers("valid", false),
             Ok(
                 HandleSackResult::Valid {
                     rtt,
@@ -203,7 +203,7 @@ impl Line {
             ) => {
                 self.rtt = rtt;
                 self.is_new = reset_error_counter;
-                row.check("valid", 1);
+                row.answers("valid", true);
             }
         }
     }
@@ -216,7 +216,7 @@ impl Line {
             .should_send_forward_tsn(&mut self.events, &mut self.queue, moment)
         {
             Err(_) => row.done(false),
-            Ok(is_due) => row.check("due", is_due as u128),
+            Ok(is_due) => row.answers("due", is_due),
         }
     }
 
@@ -307,7 +307,7 @@ impl Line {
         match keyword {
             "time-out" => {
                 let is_over = self.sent.handle_timeout(at(self.now));
-                row.check("is-over", is_over as u128);
+                row.answers("is-over", is_over);
             }
             "forward" => self.forward(row),
             "skip" => self.skip(row),

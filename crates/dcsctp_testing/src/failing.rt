@@ -15,6 +15,7 @@ impl Takes<&'static str> for Number {
     fn take(&mut self, row: &mut Row, keyword: &'static str) {
         match keyword {
             "begin" => self.0 = row.number(),
+            "zero" => row.answers("so", self.0 == 0),
             _ => row.check("is", self.0 as u128),
         }
     }
@@ -37,12 +38,20 @@ it is 5
 # no number, and what is left over
 begin three
 begin 3
-it has 3";
+it has 3
+# a wrong answer, and none
+begin 3
+zero so 0
+zero so 1
+begin 3
+zero";
 
 const FAULTS: &str = "\
 a wrong number, and what depends on it: row 4, it is 4: is 3 in place of 4
 no number, and what is left over: row 7, begin three: found \"three\" in place of \"a number\"
-no number, and what is left over: row 9, it has 3: left over \"has 3\" in place of \"\"";
+no number, and what is left over: row 9, it has 3: left over \"has 3\" in place of \"\"
+a wrong answer, and none: row 13, zero so 1: so 0 in place of 1
+a wrong answer, and none: row 15, zero: found \"\" in place of \"so\"";
 
 #[test]
 fn a_text_goes_on_where_it_begins_anew(rt: HostRuntime) {

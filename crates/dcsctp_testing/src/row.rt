@@ -131,6 +131,14 @@ impl Row {
         }
     }
 
+    // This number has to follow the name.
+    fn follows(&mut self, name: &'static str, found: u128) {
+        let expected = self.number::<u128>();
+        if found != expected {
+            self.note(name, &found, &expected);
+        }
+    }
+
     /// If this name comes next, this number has to follow it.
     pub fn check(&mut self, name: &'static str, found: u128) {
         let before = self.rest;
@@ -138,10 +146,17 @@ impl Row {
             self.rest = before;
             return;
         }
-        let expected = self.number::<u128>();
-        if found != expected {
-            self.note(name, &found, &expected);
+        self.follows(name, found);
+    }
+
+    /// This name has to come next, and this answer has to follow it: 1 for yes, 0 for no.
+    pub fn answers(&mut self, name: &'static str, found: bool) {
+        let word = self.next();
+        if word != name {
+            self.note("found", &word, &name);
+            return;
         }
+        self.follows(name, found as u128);
     }
 
     /// The same for each of these names, in their order. What the line doesn't name may have any number.
