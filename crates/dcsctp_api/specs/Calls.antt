@@ -7,7 +7,7 @@ use Rattle.dcsctp_machine.specs.declared.ends.AbortReason.TheVariants.{CloseCall
 use Rattle.dcsctp_machine.specs.Event.{Event, event_map}
 use Rattle.dcsctp_machine.specs.Packet.{Emission, emission_bytes}
 use Rattle.dcsctp_machine.specs.Endpoint.{Endpoint, Core, closed, cookie_wait, cookie_echoed, open_in, OpenPhase, established, shutdown_pending, shutdown_sent, shutdown_received, shutdown_ack_sent}
-use Rattle.dcsctp_machine.specs.Transfer.{QueuedStream, queued_stream}
+use Rattle.dcsctp_machine.specs.transfer.Transfer.{QueuedStream, queued_stream}
 use Rattle.dcsctp_machine.specs.Turn.{act_input}
 use Rattle.dcsctp_machine.specs.turns.SettingOutcomes.{Setting, endpoint_with}
 use Rattle.dcsctp_machine.specs.control.Acts.{Act, connect, shut_down, abort_with}

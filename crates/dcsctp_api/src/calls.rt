@@ -5,7 +5,7 @@ ghost use Rattle.dcsctp_api.specs.Calls.{UserView, PollsEvent, HandlesInput, Con
 ghost use Rattle.dcsctp_api.specs.Messages.{Sends, SendsMany, TakesNext, ready_messages};
 ghost use Rattle.dcsctp_api.specs.Resets.{ResetsOwn};
 ghost use Rattle.dcsctp_machine.specs.Ids.{stream_numbers};
-ghost use Rattle.dcsctp_machine.specs.Transfer.{message_content};
+ghost use Rattle.dcsctp_machine.specs.transfer.Transfer.{message_content};
 ghost use Rattle.dcsctp_machine.specs.turns.SettingOutcomes.{stream_priority, stream_low_threshold, longest_message};
 ghost use Rattle.dcsctp_machine.specs.TimeTurns.{Waits, next_moment};
 ghost use Rattle.dcsctp_api.specs.Time.{Advances, OnlyMovesClock};

@@ -5,7 +5,8 @@ use Rattle.rand_core.specs.Stream.{Stream}
 use Rattle.dcsctp_wire_build.specs.Building.{Building, bytes_remaining}
 use Rattle.dcsctp_machine.specs.Event.{Event}
 use Rattle.dcsctp_machine.specs.Packet.{Emission}
-use Rattle.dcsctp_machine.specs.Transfer.{SendQueueState, Transfer, has_data, is_none_ready}
+use Rattle.dcsctp_machine.specs.transfer.Tracker.{is_acknowledgement_due, owes_acknowledgement}
+use Rattle.dcsctp_machine.specs.transfer.Transfer.{SendQueueState, Transfer, has_data, is_none_ready}
 use Rattle.dcsctp_machine.specs.Endpoint.{held_in}
 use Rattle.dcsctp_machine.specs.turns.BegunResets.{streams_within, last_assigned_tsn}
 use Rattle.dcsctp_machine.specs.turns.FlushOutcomes.{Ask, first_ask, later_ask}
@@ -159,7 +160,7 @@ first_returns packet acked given_packet request_packet filled old along state gi
 wants_none : (queue : SendQueueState) (found : Option Transfer) (along : Bool) → (WantsNone found along → ⊥) → IsBusy queue found
 wants_none queue None along some = some tt
 wants_none queue (Some transfer) along some =
-    λ idle. let parts = idle_parts queue transfer idle in some (none (transfer.tracker.is_acknowledgement_due) transfer.tracker.owes_acknowledgement parts.1.1 parts.1.0)
+    λ idle. let parts = idle_parts queue transfer idle in some (none (is_acknowledgement_due transfer.tracker) (owes_acknowledgement transfer.tracker) parts.1.1 parts.1.0)
   where
     none : (due owes : Bool) → due ≡ false → owes ≡ false → (due || (owes && along)) ≡ false
     none due owes a b = ap (λ (x : Bool). x || (owes && along)) a ∙ ap (λ (x : Bool). x && along) b

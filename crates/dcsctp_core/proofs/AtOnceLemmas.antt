@@ -7,7 +7,7 @@ use Rattle.dcsctp_wire.specs.Spelling.{chunk_bytes, header_bytes, packet_bytes_o
 use Rattle.dcsctp_machine.specs.declared.association.Held.{Held}
 use Rattle.dcsctp_machine.specs.Event.{Event}
 use Rattle.dcsctp_machine.specs.Packet.{Plain, unworked, Content, Emission}
-use Rattle.dcsctp_machine.specs.Transfer.{Transfer}
+use Rattle.dcsctp_machine.specs.transfer.Transfer.{Transfer}
 use Rattle.dcsctp_machine.specs.Endpoint.{Endpoint, held_in}
 use Rattle.dcsctp_machine.specs.Outcome.{Outcome, still, sends}
 use Rattle.dcsctp_machine.specs.control.Choices.{plain_contents}

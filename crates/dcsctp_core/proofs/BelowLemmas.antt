@@ -4,7 +4,7 @@ use Rattle.std.proofs.lemmas.List.{append-nil}
 use Rattle.rand_core.specs.Stream.{Stream}
 use Rattle.dcsctp_machine.specs.Settings.{Ports, ports_of}
 use Rattle.dcsctp_api.specs.Calls.{user_event}
-use Rattle.dcsctp_machine.specs.Transfer.{Transfer, ReassemblyState, message_content}
+use Rattle.dcsctp_machine.specs.transfer.Transfer.{Transfer, ReassemblyState, message_content}
 use Rattle.dcsctp_machine.specs.Endpoint.{Endpoint}
 use Rattle.dcsctp_machine.specs.Outcome.{Outcome, still}
 use Rattle.dcsctp_machine.specs.TimeTurns.{own_timer, has_come, loss_deadline}

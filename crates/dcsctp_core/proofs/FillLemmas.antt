@@ -12,12 +12,13 @@ use Rattle.dcsctp_machine.specs.declared.options.Options.{Options}
 use Rattle.dcsctp_machine.specs.Settings.{Ports, ports_of}
 use Rattle.dcsctp_machine.specs.Event.{Event}
 use Rattle.dcsctp_machine.specs.Packet.{Plain, plain, unworked, Content, Emission}
-use Rattle.dcsctp_machine.specs.Transfer.{SendQueueState, TrackerState, Transfer, has_data, can_send, must_give, is_none_ready, is_idle}
+use Rattle.dcsctp_machine.specs.transfer.Tracker.{TrackerState, is_acknowledgement_due, owes_acknowledgement}
+use Rattle.dcsctp_machine.specs.transfer.Transfer.{SendQueueState, Transfer, has_data, can_send, must_give, is_none_ready, is_idle}
 use Rattle.dcsctp_machine.specs.declared.association.Held.{Held}
 use Rattle.dcsctp_machine.specs.Endpoint.{Endpoint, Timers, held_in}
 use Rattle.dcsctp_machine.specs.control.Choices.{plain_contents}
 use Rattle.dcsctp_machine.specs.turns.BegunResets.{BegunReset, stream_field, streams_within, last_assigned_tsn, begun_where, begun_in, request_contents, queue_requesting, after_begun}
-use Rattle.dcsctp_machine.specs.turns.FlushOutcomes.{Told, amount_is_low, total_amount_is_low, message_is_sent, message_may_have_expired, message_has_expired, message_ends, told_event, Answer, answer_contents, filled, Ask, first_ask, later_ask, room_in, where_fits, begun_at, BeginsReset, wants_sack, IsSackOf, IsForward, IsData, FitsPlain, is_none, next_forward, GivesUp, Gives, GivesWhere, AnsweredBelow, timers_with, nothing_waits}
+use Rattle.dcsctp_machine.specs.turns.FlushOutcomes.{Told, amount_is_low, total_amount_is_low, message_is_sent, message_may_have_expired, message_has_expired, message_ends, told_event, Answer, answer_contents, filled, Ask, first_ask, later_ask, room_in, where_fits, begun_at, BeginsReset, wants_sack, IsForward, IsData, FitsPlain, is_none, next_forward, GivesUp, Gives, GivesWhere, AnsweredBelow, timers_with, nothing_waits}
 use Rattle.dcsctp_machine.specs.turns.FlushOutcomes as asks
 use Rattle.dcsctp_api.specs.Calls.{user_event}
 use Rattle.dcsctp_transfer.specs.Filling.{told_content, IsDataChunk, has_chunks, FillsPacket, with_chunk}
@@ -84,12 +85,12 @@ ready_of true r b c d is = absurd (cc)
 -- no stream is to be reset
 pub idle_ready : (queue : SendQueueState) (transfer : Transfer) → is_idle queue transfer ≡ true → is_none_ready queue.ready_streams ≡ true
 idle_ready queue transfer is =
-    ready_of (has_data queue) (is_none_ready queue.ready_streams) (transfer.retransmission.outstanding_items == 0) transfer.tracker.owes_acknowledgement transfer.tracker.is_acknowledgement_due is
+    ready_of (has_data queue) (is_none_ready queue.ready_streams) (transfer.retransmission.outstanding_items == 0) (owes_acknowledgement transfer.tracker) (is_acknowledgement_due transfer.tracker) is
 
 pub idle_parts : (queue : SendQueueState) (transfer : Transfer) → is_idle queue transfer ≡ true
-    → ((has_data queue ≡ false) × (transfer.retransmission.outstanding_items ≡ 0)) × ((transfer.tracker.owes_acknowledgement ≡ false) × (transfer.tracker.is_acknowledgement_due ≡ false))
+    → ((has_data queue ≡ false) × (transfer.retransmission.outstanding_items ≡ 0)) × ((owes_acknowledgement transfer.tracker ≡ false) × (is_acknowledgement_due transfer.tracker ≡ false))
 idle_parts queue transfer is =
-    let parts = parts_of (has_data queue) (is_none_ready queue.ready_streams) (transfer.retransmission.outstanding_items == 0) transfer.tracker.owes_acknowledgement transfer.tracker.is_acknowledgement_due is in
+    let parts = parts_of (has_data queue) (is_none_ready queue.ready_streams) (transfer.retransmission.outstanding_items == 0) (owes_acknowledgement transfer.tracker) (is_acknowledgement_due transfer.tracker) is in
     ((parts.0.0, zero_of transfer.retransmission.outstanding_items parts.0.1), parts.1)
   where
     zero_of : (n : ℕ) → (n == 0) ≡ true → n ≡ 0
@@ -102,7 +103,7 @@ idle_wants : (ask : Ask) (queue : SendQueueState) (transfer : Transfer) → is_i
 idle_wants later_ask queue transfer is = refl
 idle_wants first_ask queue transfer is =
     let parts = idle_parts queue transfer is in
-    wants_by transfer.tracker.is_acknowledgement_due transfer.tracker.owes_acknowledgement (has_data queue || can_send transfer.retransmission) parts.1.0 parts.1.1
+    wants_by (is_acknowledgement_due transfer.tracker) (owes_acknowledgement transfer.tracker) (has_data queue || can_send transfer.retransmission) parts.1.0 parts.1.1
 
 -- ---- an answer out of its parts
 

@@ -8,11 +8,13 @@ use Rattle.dcsctp_wire_build.specs.Building.{Building, bytes_remaining}
 use Rattle.dcsctp_machine.specs.Settings.{ports_of}
 use Rattle.dcsctp_machine.specs.Event.{Event}
 use Rattle.dcsctp_machine.specs.Packet.{Plain, plain, unworked, Content, chunk_out, Emission}
-use Rattle.dcsctp_machine.specs.Transfer.{SendQueueState, RetransmissionState, TimeoutState, Transfer, has_data, is_idle}
-use Rattle.dcsctp_machine.specs.Endpoint.{Endpoint, Core, OutstandingRequest, RunningTimer, started, held_in}
+use Rattle.dcsctp_machine.specs.transfer.Tracker.{sack_of}
+use Rattle.dcsctp_machine.specs.transfer.Transfer.{SendQueueState, RetransmissionState, TimeoutState, Transfer, has_data, is_idle}
+use Rattle.dcsctp_machine.specs.Endpoint.{Endpoint, Core, OutstandingRequest, held_in}
+use Rattle.dcsctp_machine.specs.Timers.{RunningTimer, started}
 use Rattle.dcsctp_machine.specs.control.Choices.{plain_contents}
 use Rattle.dcsctp_machine.specs.turns.BegunResets.{BegunReset, streams_within, last_assigned_tsn, begun_in, request_contents, reconfiguration_settings, rto_of, core_asking, after_begun}
-use Rattle.dcsctp_machine.specs.turns.FlushOutcomes.{Told, told_event, Answer, answer_contents, filled, goes_out, asked, Ask, first_ask, later_ask, room_in, where_fits, wants_sack, IsForward, FitsPlain, GivesUp, Answered, nothing_waits}
+use Rattle.dcsctp_machine.specs.turns.FlushOutcomes.{own_sack, told_event, Answer, answer_contents, filled, goes_out, Ask, first_ask, room_in, where_fits, wants_sack, IsForward, FitsPlain}
 use Rattle.dcsctp_machine.specs.turns.FlushOutcomes as asks
 use Rattle.dcsctp_wire.specs.Content.{ChunkContent, sack_chunk}
 use Rattle.dcsctp_wire.specs.ReadsBack.{FitsChunk}
@@ -116,17 +118,12 @@ acked e draft false transfer mid before packet is h =
       is = h.1 ∙ is ∙ ap (packet_for e.options) (sym nothing);
     }
 acked e draft true transfer mid before packet is h =
-    let sack = h.1 in
+    let sack = sack_of transfer.tracker transfer.reassembly.remaining_bytes in
     record {
-      sacks = where_fits (room_in e draft) (unworked (sack_chunk sack));
-      acknowledges = (
-        ap (λ (t : Transfer). t.tracker) h.0,
-        sack,
-        record { cumulative = h.2.cumulative; window = h.2.window; fits = h.2.fits },
-        refl,
-      );
+      sacks = where_fits (room_in e draft) (own_sack transfer);
+      acknowledges = (ap (λ (t : Transfer). t.tracker) h.0, refl);
       mid_is = h.0 ∙ ap (λ (t : Transfer). record transfer { tracker = t.tracker }) (sym h.0);
-      is = h.3 ∙ ap (λ (b : Building). with_chunk b (sack_chunk sack)) is ∙ chunk_packet e draft (sack_chunk sack);
+      is = h.1 ∙ ap (λ (b : Building). with_chunk b (sack_chunk sack)) is ∙ chunk_packet e draft (sack_chunk sack);
     }
 
 -- the view once what came in is acknowledged

@@ -17,7 +17,7 @@ use Rattle.std.specs.List.{AllByRecursion}
 use Rattle.std.specs.Prelude.{is_some}
 use Rattle.std.specs.declared.alloc.AllocError.{AllocError}
 use Rattle.dcsctp_wire_build.specs.Building.{Building, bytes_remaining}
-use Rattle.dcsctp_machine.specs.Transfer.{QueuedStream, SendQueueState, handing, queue_handing_out, is_none_ready, Transfer}
+use Rattle.dcsctp_machine.specs.transfer.Transfer.{QueuedStream, SendQueueState, handing, queue_handing_out, is_none_ready, Transfer}
 use Rattle.dcsctp_core.specs.declared.transmission_control_block.ResetRequest.{ResetRequest}
 use Rattle.dcsctp_core.specs.declared.transmission_control_block.TransmissionControlBlock.{TransmissionControlBlock}
 use Rattle.dcsctp_core.specs.Reconfiguring.{tcb_changed}
@@ -26,7 +26,8 @@ use Rattle.dcsctp_core.proofs.LoopLemmas.{held_by_tcb}
 use Rattle.dcsctp_core.specs.View.{number_of, tcb_of, held_of, core_of, phase_in, tie_of, t1_of, t2_of, outstanding_of, reconfiguration_of, transfer_of, endpoint_of, view_of, View}
 use Rattle.dcsctp_machine.specs.declared.association.Pair.{Pair}
 use Rattle.dcsctp_machine.specs.declared.association.Held.{Held}
-use Rattle.dcsctp_machine.specs.Endpoint.{Endpoint, Core, cookie_echoed, open_in, OpenPhase, OutstandingRequest, RunningTimer}
+use Rattle.dcsctp_machine.specs.Endpoint.{Endpoint, Core, cookie_echoed, open_in, OpenPhase, OutstandingRequest}
+use Rattle.dcsctp_machine.specs.Timers.{RunningTimer}
 use Rattle.dcsctp_core.specs.declared.state.State.{State}
 use Rattle.dcsctp_core.specs.declared.state.State.TheVariants.{Closed, CookieWait, CookieEchoed, Open}
 use Rattle.dcsctp_core.specs.declared.context.Context.{Context}

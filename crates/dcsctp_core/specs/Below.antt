@@ -10,8 +10,8 @@ use Rattle.dcsctp_machine.specs.Outcome.{Outcome, still}
 use Rattle.dcsctp_machine.specs.turns.DataOutcomes.{FastRetransmits, TakesMessage}
 use Rattle.dcsctp_transfer.specs.Sacks.{HandlesSack, FillsAtOnce}
 use Rattle.dcsctp_transfer.specs.declared.sacks.HandledSack.{HandledSack}
-use Rattle.dcsctp_machine.specs.Transfer.{Transfer, message_content}
-use Rattle.dcsctp_machine.specs.turns.TransferMoves.{ReceivesData, HeedsFlag, EndsPacket, delay_over}
+use Rattle.dcsctp_machine.specs.transfer.Transfer.{Transfer, message_content}
+use Rattle.dcsctp_machine.specs.transfer.Tracker.{after_packet_end, is_acknowledgement_due, delay_over}
 use Rattle.dcsctp_core.specs.declared.state.State.{State}
 use Rattle.dcsctp_core.specs.View.{View}
 use Rattle.dcsctp_core.specs.Flushing.{state_with}
@@ -35,13 +35,9 @@ abbrev pub TakesReady : Option Transfer → State → Option Message → State �
 TakesReady None old result new = (result ≡ None) × (new ≡ old)
 TakesReady (Some transfer) old result new = (after : Transfer) × (new ≡ state_with old after) × TakesFirst result transfer after
 
--- Data with this I flag and TSN was received.
-abbrev pub Receives : Bool → ℕ → Transfer → Transfer → Type 0
-Receives immediate tsn old new = ReceivesData tsn old new × HeedsFlag immediate tsn old new
-
--- All of a packet was handled.
-abbrev pub EndsBelow : Transfer → Transfer → Type 0
-EndsBelow old new = EndsPacket old.tracker new.tracker × (new ≡ record old { tracker = new.tracker })
+-- All of a packet was handled, at this moment.
+abbrev pub EndsBelow : ℕ → Transfer → Transfer → Type 0
+EndsBelow now old new = new ≡ record old { tracker = after_packet_end now old.tracker }
 
 -- The delay of an acknowledgement is over.
 abbrev pub EndsDelay : Transfer → Transfer → Type 0
@@ -73,4 +69,4 @@ AtOnceAt view o = GoesAtOnce view.endpoint (held_in view.endpoint.core) view.end
 -- is an acknowledgement due to the peer, if it is known?
 abbrev pub is_due_below : Option Transfer → Bool
 is_due_below None = false
-is_due_below (Some transfer) = transfer.tracker.is_acknowledgement_due
+is_due_below (Some transfer) = is_acknowledgement_due transfer.tracker

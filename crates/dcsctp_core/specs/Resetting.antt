@@ -1,5 +1,5 @@
 -- Our own reset of streams is begun (RFC 6525, section 5.1.2).
-use Rattle.std.specs.Prelude.{◌≡◌, ◌≤◌, ◌<◌, ◌^◌, ℕ, true, false, Option, None, Some, List, ◌++◌, length, map}
+use Rattle.std.specs.Prelude.{◌≡◌, ◌≤◌, ◌<◌, ◌^◌, ℕ, false, Option, None, Some, List, ◌++◌, length, map}
 use Rattle.std.specs.List.{flat_map, AllByRecursion}
 use Rattle.dcsctp_wire.specs.Spelling.{chunk_bytes}
 use Rattle.dcsctp_wire_build.specs.Building.{Building, bytes_remaining}
@@ -7,8 +7,9 @@ use Rattle.dcsctp_machine.specs.Ids.{stream_numbers}
 use Rattle.dcsctp_machine.specs.Packet.{chunk_out}
 use Rattle.dcsctp_machine.specs.control.FlushChanges.{reset_request}
 use Rattle.dcsctp_machine.specs.Reconfiguration.{RequestedReset}
-use Rattle.dcsctp_machine.specs.Transfer.{SendQueueState, Transfer}
-use Rattle.dcsctp_machine.specs.Endpoint.{OutstandingRequest, RunningTimer, held_in, started}
+use Rattle.dcsctp_machine.specs.transfer.Transfer.{SendQueueState, Transfer}
+use Rattle.dcsctp_machine.specs.Endpoint.{OutstandingRequest, held_in}
+use Rattle.dcsctp_machine.specs.Timers.{RunningTimer, started}
 use Rattle.dcsctp_machine.specs.turns.BegunResets.{BegunReset, streams_within, last_assigned_tsn, begun_in, request_contents, queue_requesting, held_begun, reconfiguration_settings}
 use Rattle.dcsctp_core.specs.declared.state.State.{State}
 use Rattle.dcsctp_core.specs.declared.state.State.TheVariants.{Closed, CookieWait, CookieEchoed, Open}

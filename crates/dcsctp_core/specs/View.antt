@@ -7,8 +7,9 @@ use Rattle.dcsctp_machine.specs.declared.word.Word.{Word}
 use Rattle.dcsctp_machine.specs.declared.word.Word.TheVariants.{U32, U64}
 use Rattle.dcsctp_machine.specs.Event.{Event}
 use Rattle.dcsctp_machine.specs.declared.association.Held.{Held}
-use Rattle.dcsctp_machine.specs.Transfer.{Transfer, new_transfer}
-use Rattle.dcsctp_machine.specs.Endpoint.{Endpoint, Core, closed, cookie_wait, cookie_echoed, open_in, OpenPhase, established, shutdown_pending, shutdown_sent, shutdown_received, shutdown_ack_sent, OutstandingRequest, RunningTimer, stopped_timers, heartbeats_begun, fresh_endpoint}
+use Rattle.dcsctp_machine.specs.transfer.Transfer.{Transfer, new_transfer}
+use Rattle.dcsctp_machine.specs.Endpoint.{Endpoint, Core, closed, cookie_wait, cookie_echoed, open_in, OpenPhase, established, shutdown_pending, shutdown_sent, shutdown_received, shutdown_ack_sent, OutstandingRequest, stopped_timers, heartbeats_begun, fresh_endpoint}
+use Rattle.dcsctp_machine.specs.Timers.{RunningTimer}
 use Rattle.dcsctp_machine.specs.Ids.{stream_numbers}
 use Rattle.dcsctp_machine.specs.Outcome.{Outcome, count_up}
 use Rattle.dcsctp_machine.specs.Following.{next_chunk}

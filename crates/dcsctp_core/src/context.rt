@@ -94,7 +94,7 @@ impl<R: Rng> Context<R> {
     ghost use Rattle.dcsctp_machine.specs.TimeTurns.{own_timer};
     ghost use Rattle.dcsctp_machine.specs.turns.OwnTimers.{heartbeat_interval, heartbeat_timeout, reconfiguration, retransmission};
     ghost use Rattle.dcsctp_machine.specs.turns.HeartbeatOutcomes.{interval_expired, beating, timeout_outcome, answered, is_exhausted};
-    ghost use Rattle.dcsctp_send_timer.specs.Timer.{running_deadline};
+    ghost use Rattle.dcsctp_machine.specs.Timers.{running_deadline};
     ghost use Rattle.dcsctp_core.specs.Timing.{where_expired, is_timer_due, ExpiresAlways};
     ghost use Rattle.dcsctp_core.specs.Reconfiguring.{request_over};
     ghost use Rattle.dcsctp_core.specs.View.{Moves, view_of, endpoint_of, outstanding_of, begun_heartbeats, message_counted, fresh_view, call_start};

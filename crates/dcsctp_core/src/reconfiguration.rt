@@ -2,7 +2,7 @@
 //! 5.1.1).
 
 ghost use Rattle.std.specs.Prelude.{◌≡◌};
-ghost use Rattle.dcsctp_send_timer.specs.Timer.{running_deadline, expires_at};
+ghost use Rattle.dcsctp_machine.specs.Timers.{running_deadline, expires_at};
 ghost use Rattle.dcsctp_core.specs.Reconfiguring.{is_unanswered, without_retry, reconfiguration_told};
 ghost use Rattle.dcsctp_core.specs.View.{timer_of};
 

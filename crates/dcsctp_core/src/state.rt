@@ -158,7 +158,7 @@ impl State {
     ghost use Rattle.dcsctp_machine.specs.Endpoint.{own_tag, association_of};
     ghost use Rattle.dcsctp_api.specs.Calls.{socket_state_of, is_closed};
     ghost use Rattle.std.specs.Option.{option_map};
-    ghost use Rattle.dcsctp_send_timer.specs.Timer.{running_deadline};
+    ghost use Rattle.dcsctp_machine.specs.Timers.{running_deadline};
     ghost use Rattle.std.specs.Borrow.{sem};
     ghost use Rattle.dcsctp_core.specs.View.{core_of, tcb_of, t1_of, established_from};
     ghost use Rattle.dcsctp_core.specs.Lending.{LendsTcb};

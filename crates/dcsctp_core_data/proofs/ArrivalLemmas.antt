@@ -1,5 +1,5 @@
 -- Data and what the peer gave up come in.
-use Rattle.std.proofs.Common.{◌≡◌, ◌==◌, ◌&&◌, not, ℕ, suc, Bool, true, false, Option, None, Some, Result, Ok, Err, List, [], ◌∷◌, length, refl, sym, ap, subst, ◌∙◌, arith}
+use Rattle.std.proofs.Common.{◌≡◌, ◌==◌, ◌&&◌, not, ℕ, suc, Bool, true, false, Option, None, Some, Result, Ok, Err, List, [], ◌∷◌, length, refl, sym, ap, subst, arith}
 use Rattle.std.specs.Prelude.{is_some}
 use Rattle.std.proofs.lemmas.Bool.Decides.{nat_tests}
 use Rattle.std.proofs.lemmas.List.{append-nil}
@@ -7,16 +7,16 @@ use Rattle.std.specs.Prelude.{OnOk}
 use Rattle.std.specs.declared.alloc.AllocError.{AllocError}
 use Rattle.rand_core.specs.Stream.{Stream}
 use Rattle.dcsctp_machine.specs.declared.kinds.ErrorKind.TheVariants.{NotConnected}
-use Rattle.dcsctp_machine.specs.Transfer.{Transfer}
+use Rattle.dcsctp_machine.specs.transfer.Tracker.{is_valid_tsn, is_new_tsn, observed, is_forward, after_forward}
+use Rattle.dcsctp_machine.specs.transfer.Transfer.{ReassemblyState, Transfer}
 use Rattle.dcsctp_machine.specs.Endpoint.{Endpoint, held_in}
 use Rattle.dcsctp_machine.specs.Outcome.{Outcome, still, reports}
-use Rattle.dcsctp_machine.specs.turns.TransferMoves.{is_above_watermark, is_tsn_valid, TakesWhere, HeedsFlag, ReceivesData, MovesForward, delay_over}
+use Rattle.dcsctp_machine.specs.turns.TransferMoves.{is_above_watermark, GainsWhere, ReceivesWhere, ReceivesData, MovesWhere, MovesForward}
 use Rattle.dcsctp_machine.specs.turns.DataOutcomes.{with_transfer, no_user_data_outcome, not_connected_text, ReceiveTurn, DataTurn, ForwardTurn}
 use Rattle.dcsctp_core.specs.declared.context.Context.{Context}
-use Rattle.dcsctp_core.specs.View.{View, tcb_of, transfer_of, endpoint_of, view_of, Moves}
+use Rattle.dcsctp_core.specs.View.{View, tcb_of, transfer_of, endpoint_of, view_of}
 use Rattle.dcsctp_core.specs.Handling.{Tries, Takes, report_turn, TakesIn, CutIn, TakesOne}
 use Rattle.dcsctp_core.specs.declared.transmission_control_block.TransmissionControlBlock.{TransmissionControlBlock}
-use Rattle.dcsctp_core.specs.Below.{Receives}
 use Rattle.dcsctp_core.proofs.BelowLemmas.{below_moves}
 use Rattle.dcsctp_core.proofs.LendingLemmas.{found, nobody, lent, left_with}
 use Rattle.dcsctp_core.proofs.Moving.{moves_still}
@@ -25,26 +25,22 @@ use Rattle.dcsctp_core_data.proofs.TakingLemmas.{takes_one, tries_one, cut_befor
 
 -- ---- what always may come of it
 
-abbrev taken : Bool → Transfer → Transfer
-taken true transfer = record transfer { tracker = delay_over transfer.tracker }
-taken false transfer = transfer
+gains_none : (b : Bool) (state : ReassemblyState) → GainsWhere b state state
+gains_none true state = record { more = []; messages = sym (append-nil state.messages); window = refl }
+gains_none false state = refl
 
-taken_where : (b : Bool) (transfer : Transfer) → TakesWhere b transfer (taken b transfer)
-taken_where true transfer = record { retransmission = refl; timeout = refl; owes = refl; delay = refl; reassembly = record { more = []; messages = sym (append-nil transfer.reassembly.messages); window = refl } }
-taken_where false transfer = refl
-
-taken_due : (b above valid : Bool) (transfer : Transfer) → b ≡ (not above && valid) → above ≡ false → valid ≡ true → (taken b transfer).tracker.is_acknowledgement_due ≡ true
-taken_due true above valid transfer is low near = refl
-taken_due false above valid transfer is low near = absurd (cc)
+any_where : (b : Bool) (tsn : ℕ) (immediate : Bool) (transfer : Transfer) → (left : Transfer) × ReceivesWhere b tsn immediate transfer left
+any_where true tsn immediate transfer = (
+  record transfer { tracker = observed tsn immediate transfer.tracker },
+  record { reassembly = gains_none (is_new_tsn tsn transfer.tracker) transfer.reassembly; rest = refl },
+)
+any_where false tsn immediate transfer = (transfer, refl)
 
 any_received : (e : Endpoint) (found : Option Transfer) (immediate : Bool) (tsn : ℕ) → (o : Outcome) × ReceiveTurn e found immediate tsn o
 any_received e None immediate tsn = (reports e NotConnected not_connected_text, refl)
 any_received e (Some transfer) immediate tsn =
-    let test : Bool = not (is_above_watermark transfer.reassembly) && is_tsn_valid transfer.tracker tsn in
-    let left : Transfer = taken test transfer in (
-      still (with_transfer e left),
-      (left, taken_where test transfer, λ flag low near. taken_due test (is_above_watermark transfer.reassembly) (is_tsn_valid transfer.tracker tsn) transfer refl low near, refl),
-    )
+    let any = any_where (not (is_above_watermark transfer.reassembly) && is_valid_tsn transfer.tracker.cumulative tsn) tsn immediate transfer in
+    (still (with_transfer e any.0), (any.0, any.1, refl))
 
 any_data : (e : Endpoint) (immediate : Bool) (tsn : ℕ) (payload : List ℕ) → (o : Outcome) × DataTurn e immediate tsn payload o
 any_data e immediate tsn [] = (no_user_data_outcome e (held_in e.core) tsn, refl)
@@ -55,11 +51,18 @@ data_cut view immediate tsn payload =
     let any = any_data view.endpoint immediate tsn payload in
     cut_before (DataAt immediate tsn payload) view any.0 any.1
 
+any_moved : (b : Bool) (tsn : ℕ) (transfer : Transfer) → (left : Transfer) × MovesWhere b tsn transfer left
+any_moved true tsn transfer = (
+  record transfer { tracker = after_forward tsn transfer.tracker },
+  record { reassembly = gains_none (is_forward transfer.tracker.cumulative tsn) transfer.reassembly; rest = refl },
+)
+any_moved false tsn transfer = (transfer, refl)
+
 any_forward : (e : Endpoint) (found : Option Transfer) (tsn : ℕ) → (o : Outcome) × ForwardTurn e found tsn o
 any_forward e None tsn = (still e, refl)
 any_forward e (Some transfer) tsn =
-    let left : Transfer = taken (is_tsn_valid transfer.tracker tsn) transfer in
-    (still (with_transfer e left), (left, taken_where (is_tsn_valid transfer.tracker tsn) transfer, refl))
+    let any = any_moved (is_valid_tsn transfer.tracker.cumulative tsn) tsn transfer in
+    (still (with_transfer e any.0), (any.0, any.1, refl))
 
 pub forward_cut : {R : Type 0} (view : View R) (tsn : ℕ) → CutIn (ForwardAt tsn) view view.events
 forward_cut view tsn =
@@ -88,23 +91,23 @@ not_connected stream old result new immediate tsn (byte ∷ bytes) some none h =
     tries_one stream (report_turn NotConnected not_connected_text) (DataAt immediate tsn (byte ∷ bytes)) old result new (no_peer (endpoint_of old) (transfer_of old.state) immediate tsn (ap is_some (nobody old.state none))) h
 
 received : {R : Type 0} (stream : R → Stream) (old : Context R) (tcb : TransmissionControlBlock) (after : Transfer) (immediate : Bool) (tsn byte : ℕ) (bytes : List ℕ) → Some tcb ≡ tcb_of old.state
-    → Receives immediate tsn tcb.transfer after → TakesIn stream (DataAt immediate tsn (byte ∷ bytes)) (view_of old) (view_of (record old { state = left_with old.state tcb after }))
+    → ReceivesData tsn immediate tcb.transfer after → TakesIn stream (DataAt immediate tsn (byte ∷ bytes)) (view_of old) (view_of (record old { state = left_with old.state tcb after }))
 received stream old tcb after immediate tsn byte bytes holds receives =
     let e : Endpoint = endpoint_of old in
     let o : Outcome = still (with_transfer e after) in
     record {
       outcome = o;
-      turn = subst (λ (f : Option Transfer). ReceiveTurn e f immediate tsn o) (sym (found old.state tcb holds)) (after, receives.0, receives.1, refl);
+      turn = subst (λ (f : Option Transfer). ReceiveTurn e f immediate tsn o) (sym (found old.state tcb holds)) (after, receives, refl);
       moves = below_moves stream old (left_with old.state tcb after) tcb.transfer after (found old.state tcb holds) (lent old.state tcb after holds);
     }
 
 pub data_worked : {R : Type 0} (stream : R → Stream) (old new : Context R) (tcb : TransmissionControlBlock) (after : Transfer) (result : Result (Unit {0}) AllocError) (immediate : Bool) (tsn : ℕ) (payload : List ℕ)
     → view_of new ≡ view_of (record old { state = left_with old.state tcb after }) → (length payload == 0) ≡ false → Some tcb ≡ tcb_of old.state
-    → OnOk result (ReceivesData tsn tcb.transfer after) → OnOk result (HeedsFlag immediate tsn tcb.transfer after) → TakesOne stream (DataAt immediate tsn payload) old result new
-data_worked stream old new tcb after result immediate tsn [] same some holds receives heeds = absurd (cc)
-data_worked {R = R} stream old new tcb after (Ok done) immediate tsn (byte ∷ bytes) same some holds receives heeds =
-    subst (λ (v : View R). TakesIn stream (DataAt immediate tsn (byte ∷ bytes)) (view_of old) v) (sym same) (received stream old tcb after immediate tsn byte bytes holds (receives, heeds))
-data_worked {R = R} stream old new tcb after (Err error) immediate tsn (byte ∷ bytes) same some holds receives heeds =
+    → OnOk result (ReceivesData tsn immediate tcb.transfer after) → TakesOne stream (DataAt immediate tsn payload) old result new
+data_worked stream old new tcb after result immediate tsn [] same some holds receives = absurd (cc)
+data_worked {R = R} stream old new tcb after (Ok done) immediate tsn (byte ∷ bytes) same some holds receives =
+    subst (λ (v : View R). TakesIn stream (DataAt immediate tsn (byte ∷ bytes)) (view_of old) v) (sym same) (received stream old tcb after immediate tsn byte bytes holds receives)
+data_worked {R = R} stream old new tcb after (Err error) immediate tsn (byte ∷ bytes) same some holds receives =
     subst (λ (v : View R). CutIn (DataAt immediate tsn (byte ∷ bytes)) (view_of old) v.events) (sym same) (data_cut (view_of old) immediate tsn (byte ∷ bytes))
 
 -- ---- what the peer gave up

@@ -1,25 +1,21 @@
 -- The end of a packet: what came with it is acknowledged.
-use Rattle.std.proofs.Common.{◌≡◌, ◌==◌, if◌then◌else◌, ◌&&◌, ◌||◌, ◌+◌, ◌-◌, ◌≤◌, ◌%◌, ◌^◌, ℕ, Bool, true, false, Option, None, Some, Result, Ok, Err, List, [], ◌∷◌, ◌++◌, map, refl, sym, ap, subst, ◌∙◌, arith}
+use Rattle.std.proofs.Common.{◌≡◌, ◌==◌, if◌then◌else◌, ◌&&◌, ◌||◌, Bool, true, false, Option, None, Some, Result, Ok, Err, refl, sym, ap, subst, ◌∙◌}
 use Rattle.rand_core.specs.Stream.{Stream}
 use Rattle.dcsctp_wire_build.specs.Building.{Building}
-use Rattle.dcsctp_wire.specs.Content.{SackContent, sack_chunk}
+use Rattle.dcsctp_wire.specs.Content.{sack_chunk}
 use Rattle.dcsctp_machine.specs.declared.association.Held.{Held}
-use Rattle.dcsctp_machine.specs.Settings.{Ports, ports_of}
-use Rattle.dcsctp_machine.specs.Event.{Event}
-use Rattle.dcsctp_machine.specs.Packet.{Plain, unworked, Emission}
-use Rattle.dcsctp_machine.specs.Transfer.{TrackerState, Transfer}
+use Rattle.dcsctp_machine.specs.transfer.Tracker.{TrackerState, after_packet_end, is_acknowledgement_due, owes_acknowledgement, delayed_acknowledgement, delay_over, sack_of, sacked}
+use Rattle.dcsctp_machine.specs.transfer.Transfer.{Transfer}
 use Rattle.dcsctp_machine.specs.Endpoint.{Endpoint, held_in}
 use Rattle.dcsctp_machine.specs.Outcome.{Outcome, still}
-use Rattle.dcsctp_machine.specs.turns.FlushOutcomes.{Answer, draft_to, flush_of, first_ask, packets_allowed}
-use Rattle.dcsctp_machine.specs.turns.TransferMoves.{acknowledged, delay_over}
-use Rattle.dcsctp_machine.specs.turns.DataOutcomes.{with_transfer, with_tracker, delay_outcome, IsSack, acknowledging, AnswersPacket, EndWhere, EndsBy}
+use Rattle.dcsctp_machine.specs.turns.FlushOutcomes.{own_sack, draft_to, flush_of, first_ask, packets_allowed}
+use Rattle.dcsctp_machine.specs.turns.DataOutcomes.{with_transfer, with_tracker, delay_outcome, acknowledging, AnswersPacket, EndWhere, EndsBy}
 use Rattle.dcsctp_machine.proofs.AnswerLemmas.{any_answers}
 use Rattle.dcsctp_transfer.specs.Filling.{with_chunk, is_sack_wanted, Acknowledges}
-use Rattle.dcsctp_api.specs.Calls.{user_event}
 use Rattle.dcsctp_core.specs.declared.context.Context.{Context}
 use Rattle.dcsctp_core.specs.declared.state.State.{State}
 use Rattle.dcsctp_core.specs.declared.transmission_control_block.TransmissionControlBlock.{TransmissionControlBlock}
-use Rattle.dcsctp_core.specs.View.{View, core_of, tcb_of, held_of, transfer_of, endpoint_of, view_of, Moves, CutTurn}
+use Rattle.dcsctp_core.specs.View.{View, core_of, tcb_of, held_of, transfer_of, endpoint_of, view_of, Moves}
 use Rattle.dcsctp_machine.specs.TimeTurns.{own_timer, has_come, delay_deadline}
 use Rattle.dcsctp_machine.specs.turns.OwnTimers.{acknowledgement_delay}
 use Rattle.dcsctp_core.specs.Timing.{ExpiryTurn, ExpiresAlways}
@@ -39,43 +35,36 @@ use Rattle.dcsctp_core_data.proofs.TakingLemmas.{cut_before}
 -- ---- a SACK goes first
 
 record Sacked (e : Endpoint) (held : Held) (transfer mid : Transfer) (filled : Building) : Type 0 where
-  sack : Plain
-  is_sack : IsSack transfer sack
-  left : mid ≡ record transfer { tracker = acknowledged transfer.tracker }
-  packet : filled ≡ packet_for e.options (acknowledging e held sack)
+  left : mid ≡ record transfer { tracker = sacked transfer.tracker }
+  packet : filled ≡ packet_for e.options (acknowledging e held (own_sack transfer))
 
-sacked : (e : Endpoint) (held : Held) (transfer mid : Transfer) (packet filled : Building) → packet ≡ packet_for e.options (draft_to held) → Acknowledges true transfer packet mid filled
+sack_put : (e : Endpoint) (held : Held) (transfer mid : Transfer) (packet filled : Building) → packet ≡ packet_for e.options (draft_to held) → Acknowledges true transfer packet mid filled
     → Sacked e held transfer mid filled
-sacked e held transfer mid packet filled is h =
-    let sack : SackContent = h.1 in
-    record {
-      sack = unworked (sack_chunk sack);
-      is_sack = record { cumulative = h.2.cumulative; window = h.2.window; fits = h.2.fits };
-      left = h.0;
-      packet = h.3 ∙ ap (λ (b : Building). with_chunk b (sack_chunk sack)) is ∙ chunk_packet e (draft_to held) (sack_chunk sack);
-    }
+sack_put e held transfer mid packet filled is h =
+    let sack = sack_of transfer.tracker transfer.reassembly.remaining_bytes in
+    record { left = h.0; packet = h.1 ∙ ap (λ (b : Building). with_chunk b (sack_chunk sack)) is ∙ chunk_packet e (draft_to held) (sack_chunk sack) }
 
 -- what the flush does, from the endpoint at which all is acknowledged
-flushed : {R E : Type 0} (stream : R → Stream) (v : View R) (held : Held) (transfer : Transfer) (sack : Plain) (result : Result (Unit {0}) E) (new : Context R)
-    → v.endpoint.below.transfer ≡ Some transfer → held_in v.endpoint.core ≡ Some held → IsSack transfer sack
-    → FlushesBy stream first_ask (packets_allowed v.endpoint.options.max_burst v.endpoint.core) (acknowledging v.endpoint held sack)
-    (record v { endpoint = with_tracker v.endpoint transfer (acknowledged transfer.tracker) }) result (view_of new)
+flushed : {R E : Type 0} (stream : R → Stream) (v : View R) (held : Held) (transfer : Transfer) (result : Result (Unit {0}) E) (new : Context R)
+    → v.endpoint.below.transfer ≡ Some transfer → held_in v.endpoint.core ≡ Some held
+    → FlushesBy stream first_ask (packets_allowed v.endpoint.options.max_burst v.endpoint.core) (acknowledging v.endpoint held (own_sack transfer))
+    (record v { endpoint = with_tracker v.endpoint transfer (sacked transfer.tracker) }) result (view_of new)
     → (old : Context R) → view_of old ≡ v → TakesOne stream AnswersAt old result new
-flushed {R = R} stream v held transfer sack (Ok done) new below holds is_sack f old is =
+flushed {R = R} stream v held transfer (Ok done) new below holds f old is =
     let e : Endpoint = v.endpoint in
-    let o : Outcome = flush_of (with_tracker e transfer (acknowledged transfer.tracker)) (acknowledging e held sack) f.answers in
-    let turn : AnswersPacket e held transfer transfer.tracker o = record { sack = sack; is_sack = is_sack; answers = f.answers; allowed = f.allowed; is = refl } in
+    let o : Outcome = flush_of (with_tracker e transfer (sacked transfer.tracker)) (acknowledging e held (own_sack transfer)) f.answers in
+    let turn : AnswersPacket e held transfer transfer.tracker o = record { answers = f.answers; allowed = f.allowed; is = refl } in
     let here : TakesIn stream AnswersAt v (view_of new) =
     record {
       outcome = o;
       turn = subst (λ (h : Option Held). AnswersBelow e h e.below.transfer o) (sym holds) (subst (λ (t : Option Transfer). AnswersBelow e (Some held) t o) (sym below) turn);
-      moves = moves_from stream v (with_tracker e transfer (acknowledged transfer.tracker)) o (view_of new) refl f.moves;
+      moves = moves_from stream v (with_tracker e transfer (sacked transfer.tracker)) o (view_of new) refl f.moves;
     } in
     subst (λ (x : View R). TakesIn stream AnswersAt x (view_of new)) (sym is) here
-flushed {R = R} stream v held transfer sack (Err error) new below holds is_sack f old is =
+flushed {R = R} stream v held transfer (Err error) new below holds f old is =
     let e : Endpoint = v.endpoint in
-    let o : Outcome = flush_of (with_tracker e transfer (acknowledged transfer.tracker)) (acknowledging e held sack) f.answers in
-    let turn : AnswersPacket e held transfer transfer.tracker o = record { sack = sack; is_sack = is_sack; answers = f.answers; allowed = f.allowed; is = refl } in
+    let o : Outcome = flush_of (with_tracker e transfer (sacked transfer.tracker)) (acknowledging e held (own_sack transfer)) f.answers in
+    let turn : AnswersPacket e held transfer transfer.tracker o = record { answers = f.answers; allowed = f.allowed; is = refl } in
     let here : CutIn AnswersAt v (view_of new).events =
     record {
       outcome = o;
@@ -95,16 +84,16 @@ acknowledged_by {R = R} stream old tcb (Some transfer) state packet filled resul
     let e : Endpoint = endpoint_of old in
     let held : Held = held_of tcb in
     let holds : held_in (core_of old.state) ≡ Some held = held_by_tcb old.state tcb kept in
-    let wanted : is_sack_wanted false transfer ≡ true = ap (λ (b : Bool). b || (transfer.tracker.owes_acknowledgement && false)) due in
+    let wanted : is_sack_wanted false transfer ≡ true = ap (λ (b : Bool). b || (owes_acknowledgement transfer.tracker && false)) due in
     let put : Sacked e held transfer ack.0 filled =
-    sacked e held transfer ack.0 packet filled (packet_to old.options old.state tcb held packet kept holds built) (subst (λ (b : Bool). Acknowledges b transfer packet ack.0 filled) wanted ack.2) in
-    let left : Transfer = record transfer { tracker = acknowledged transfer.tracker } in
+    sack_put e held transfer ack.0 packet filled (packet_to old.options old.state tcb held packet kept holds built) (subst (λ (b : Bool). Acknowledges b transfer packet ack.0 filled) wanted ack.2) in
+    let left : Transfer = record transfer { tracker = sacked transfer.tracker } in
     let view : view_of (record old { state = state }) ≡ record (view_of old) { endpoint = with_transfer e left } =
     below_view old state transfer left found (ack.1 ∙ ap (state_with old.state) put.left) in
-    let f : FlushesBy stream first_ask (packets_allowed old.options.max_burst (core_of state)) (acknowledging e held put.sack) (view_of (record old { state = state })) result (view_of new) =
-    flushes (acknowledging e held put.sack) put.packet held (ap (λ (v : View R). held_in v.endpoint.core) view ∙ holds) in
-    flushed stream (view_of old) held transfer put.sack result new found holds put.is_sack
-    (subst (λ (v : View R). FlushesBy stream first_ask (packets_allowed v.endpoint.options.max_burst v.endpoint.core) (acknowledging e held put.sack) v result (view_of new)) view f)
+    let f : FlushesBy stream first_ask (packets_allowed old.options.max_burst (core_of state)) (acknowledging e held (own_sack transfer)) (view_of (record old { state = state })) result (view_of new) =
+    flushes (acknowledging e held (own_sack transfer)) put.packet held (ap (λ (v : View R). held_in v.endpoint.core) view ∙ holds) in
+    flushed stream (view_of old) held transfer result new found holds
+    (subst (λ (v : View R). FlushesBy stream first_ask (packets_allowed v.endpoint.options.max_burst v.endpoint.core) (acknowledging e held (own_sack transfer)) v result (view_of new)) view f)
     old refl
 
 acknowledges : {R E : Type 0} (stream : R → Stream) (old : Context R) (tcb : TransmissionControlBlock) (state : State) (packet filled : Building) (result : Result (Unit {0}) E) (new : Context R)
@@ -134,36 +123,13 @@ acknowledges_cut stream old tcb state packet filled new kept due built ack flush
 
 -- ---- before its first event
 
-abbrev some_sack : Transfer → SackContent
-some_sack transfer =
-    record { cumulative_tsn_ack = transfer.tracker.cumulative_tsn % 2 ^ 32; a_rwnd = transfer.reassembly.remaining_bytes % 2 ^ 32; gap_ack_blocks = []; duplicate_tsns = [] }
-
 any_answer : (e : Endpoint) (peer : Option Held) (found : Option Transfer) → (o : Outcome) × AnswersBelow e peer found o
 any_answer e None found = (still e, refl)
 any_answer e (Some held) None = (still e, refl)
 any_answer e (Some held) (Some transfer) =
-    let sack : Plain = unworked (sack_chunk (some_sack transfer)) in
-    let after : Endpoint = with_tracker e transfer (acknowledged transfer.tracker) in
-    let some = any_answers first_ask (packets_allowed after.options.max_burst after.core) after (acknowledging e held sack) in (
-      flush_of after (acknowledging e held sack) some.0,
-      record {
-        sack = sack;
-        is_sack = record {
-          cumulative = refl;
-          window = refl;
-          fits = record {
-            cumulative_tsn_ack = omega arith;
-            a_rwnd = omega arith;
-            len_fits = omega arith;
-            blocks = record { whole = refl; entries_in_bytes = tt };
-            duplicates = record { whole = refl; entries_in_bytes = tt };
-          };
-        };
-        answers = some.0;
-        allowed = some.1;
-        is = refl;
-      },
-    )
+    let after : Endpoint = with_tracker e transfer (sacked transfer.tracker) in
+    let some = any_answers first_ask (packets_allowed after.options.max_burst after.core) after (acknowledging e held (own_sack transfer)) in
+    (flush_of after (acknowledging e held (own_sack transfer)) some.0, record { answers = some.0; allowed = some.1; is = refl })
 
 pub answers_cut : {R : Type 0} (view : View R) → CutIn AnswersAt view view.events
 answers_cut view =
@@ -172,7 +138,7 @@ answers_cut view =
 
 -- ---- the whole
 
-end_later : {R : Type 0} (stream : R → Stream) (old : Context R) (state : State) (found : Option Transfer) → transfer_of old.state ≡ found → ChangesBelow EndsBelow found old.state state
+end_later : {R : Type 0} (stream : R → Stream) (old : Context R) (state : State) (found : Option Transfer) → transfer_of old.state ≡ found → ChangesBelow (EndsBelow old.moment) found old.state state
     → is_due_below (transfer_of state) ≡ false → TakesIn stream EndsAt (view_of old) (view_of (record old { state = state }))
 end_later {R = R} stream old state None holds changes waits =
     record {
@@ -182,18 +148,17 @@ end_later {R = R} stream old state None holds changes waits =
     }
 end_later stream old state (Some transfer) holds changes waits =
     let e : Endpoint = endpoint_of old in
-    let after : Transfer = changes.0 in
-    let tracker : TrackerState = after.tracker in
-    let left : Transfer = record transfer { tracker = tracker } in
+    let tracker : TrackerState = after_packet_end old.moment transfer.tracker in
     let o : Outcome = still (with_tracker e transfer tracker) in
-    let due : tracker.is_acknowledgement_due ≡ false = sym (ap is_due_below (ap transfer_of changes.1 ∙ transfer_is old.state transfer after holds)) ∙ waits in
+    let after : state ≡ state_with old.state (record transfer { tracker = tracker }) = changes.1 ∙ ap (state_with old.state) changes.2 in
+    let due : is_acknowledgement_due tracker ≡ false = sym (ap is_due_below (ap transfer_of after ∙ transfer_is old.state transfer (record transfer { tracker = tracker }) holds)) ∙ waits in
     record {
       outcome = o;
-      turn = subst (λ (f : Option Transfer). EndsBy e f o) (sym holds) (tracker, changes.2.0, subst (λ (b : Bool). EndWhere b e (held_in e.core) transfer tracker o) (sym due) refl);
-      moves = below_moves stream old state transfer left holds (changes.1 ∙ ap (state_with old.state) changes.2.1);
+      turn = subst (λ (f : Option Transfer). EndsBy e f o) (sym holds) (subst (λ (b : Bool). EndWhere b e (held_in e.core) transfer tracker o) (sym due) refl);
+      moves = below_moves stream old state transfer (record transfer { tracker = tracker }) holds after;
     }
 
-pub ends_later : {R : Type 0} (stream : R → Stream) (old : Context R) (state : State) → ChangesBelow EndsBelow (transfer_of old.state) old.state state
+pub ends_later : {R : Type 0} (stream : R → Stream) (old : Context R) (state : State) → ChangesBelow (EndsBelow old.moment) (transfer_of old.state) old.state state
     → is_due_below (transfer_of state) ≡ false → TakesIn stream EndsAt (view_of old) (view_of (record old { state = state }))
 ends_later stream old state changes waits = end_later stream old state (transfer_of old.state) refl changes waits
 
@@ -201,7 +166,7 @@ ends_later stream old state changes waits = end_later stream old state (transfer
 answered_by : (e : Endpoint) (peer : Option Held) (transfer : Transfer) (tracker : TrackerState) (o : Outcome)
     → AnswersBelow (with_tracker e transfer tracker) peer (Some (record transfer { tracker = tracker })) o → EndWhere true e peer transfer tracker o
 answered_by e None transfer tracker o h = h
-answered_by e (Some held) transfer tracker o h = record { sack = h.sack; is_sack = h.is_sack; answers = h.answers; allowed = h.allowed; is = h.is }
+answered_by e (Some held) transfer tracker o h = record { answers = h.answers; allowed = h.allowed; is = h.is }
 
 end_now : {R E : Type 0} (stream : R → Stream) (v : View R) (transfer : Transfer) (tracker : TrackerState) (result : Result (Unit {0}) E) (old mid new : Context R)
     → view_of old ≡ v → v.endpoint.below.transfer ≡ Some transfer → view_of mid ≡ record v { endpoint = with_tracker v.endpoint transfer tracker }
@@ -229,29 +194,29 @@ end_now {R = R} stream v transfer tracker (Err error) old mid new is below after
     subst (λ (x : View R). CutIn EndsAt x (view_of new).events) (sym is) all
 
 end_at_once : {R E : Type 0} (stream : R → Stream) (old : Context R) (state : State) (found : Option Transfer) (result : Result (Unit {0}) E) (new : Context R) → transfer_of old.state ≡ found
-    → ChangesBelow EndsBelow found old.state state → is_due_below (transfer_of state) ≡ true → TakesOne stream AnswersAt (record old { state = state }) result new → TakesOne stream EndsAt old result new
+    → ChangesBelow (EndsBelow old.moment) found old.state state → is_due_below (transfer_of state) ≡ true → TakesOne stream AnswersAt (record old { state = state }) result new → TakesOne stream EndsAt old result new
 end_at_once stream old state None result new holds changes due h =
     let none : false ≡ true = sym (ap is_due_below (ap transfer_of changes ∙ holds)) ∙ due in
     absurd (cc)
 end_at_once stream old state (Some transfer) result new holds changes due h =
     let e : Endpoint = endpoint_of old in
-    let after : Transfer = changes.0 in
-    let tracker : TrackerState = after.tracker in
-    let is_due : tracker.is_acknowledgement_due ≡ true = sym (ap is_due_below (ap transfer_of changes.1 ∙ transfer_is old.state transfer after holds)) ∙ due in
+    let tracker : TrackerState = after_packet_end old.moment transfer.tracker in
+    let after : state ≡ state_with old.state (record transfer { tracker = tracker }) = changes.1 ∙ ap (state_with old.state) changes.2 in
+    let is_due : is_acknowledgement_due tracker ≡ true = sym (ap is_due_below (ap transfer_of after ∙ transfer_is old.state transfer (record transfer { tracker = tracker }) holds)) ∙ due in
     end_now stream (view_of old) transfer tracker result old (record old { state = state }) new refl holds
-    (below_view old state transfer (record transfer { tracker = tracker }) holds (changes.1 ∙ ap (state_with old.state) changes.2.1))
-    (λ o answers. (tracker, changes.2.0, subst (λ (b : Bool). EndWhere b e (held_in e.core) transfer tracker o) (sym is_due) answers))
+    (below_view old state transfer (record transfer { tracker = tracker }) holds after)
+    (λ o answers. subst (λ (b : Bool). EndWhere b e (held_in e.core) transfer tracker o) (sym is_due) answers)
     h
 
-ends_at_once : {R E : Type 0} (stream : R → Stream) (old : Context R) (state : State) (result : Result (Unit {0}) E) (new : Context R) → ChangesBelow EndsBelow (transfer_of old.state) old.state state
+ends_at_once : {R E : Type 0} (stream : R → Stream) (old : Context R) (state : State) (result : Result (Unit {0}) E) (new : Context R) → ChangesBelow (EndsBelow old.moment) (transfer_of old.state) old.state state
     → is_due_below (transfer_of state) ≡ true → TakesOne stream AnswersAt (record old { state = state }) result new → TakesOne stream EndsAt old result new
 ends_at_once stream old state result new changes due h = end_at_once stream old state (transfer_of old.state) result new refl changes due h
 
-pub ended : {R : Type 0} (stream : R → Stream) (old : Context R) (state : State) (new : Context R) → ChangesBelow EndsBelow (transfer_of old.state) old.state state
+pub ended : {R : Type 0} (stream : R → Stream) (old : Context R) (state : State) (new : Context R) → ChangesBelow (EndsBelow old.moment) (transfer_of old.state) old.state state
     → is_due_below (transfer_of state) ≡ true → TakesIn stream AnswersAt (view_of (record old { state = state })) (view_of new) → TakesIn stream EndsAt (view_of old) (view_of new)
 ended stream old state new changes due h = ends_at_once {E = Unit {0}} stream old state (Ok tt) new changes due h
 
-pub end_cut : {R : Type 0} (stream : R → Stream) (old : Context R) (state : State) (new : Context R) → ChangesBelow EndsBelow (transfer_of old.state) old.state state
+pub end_cut : {R : Type 0} (stream : R → Stream) (old : Context R) (state : State) (new : Context R) → ChangesBelow (EndsBelow old.moment) (transfer_of old.state) old.state state
     → is_due_below (transfer_of state) ≡ true → CutIn AnswersAt (view_of (record old { state = state })) (view_of new).events → CutIn EndsAt (view_of old) (view_of new).events
 end_cut stream old state new changes due h = ends_at_once {E = Unit {0}} stream old state (Err tt) new changes due h
 
@@ -277,7 +242,7 @@ delay_ended stream old tcb after holds is =
 
 pub delay_told : {R : Type 0} (stream : R → Stream) (old new : Context R) (tcb : TransmissionControlBlock) (after : Transfer) (b : Bool)
     → view_of new ≡ view_of (record old { state = left_with old.state tcb after }) → Some tcb ≡ tcb_of old.state
-    → b ≡ has_come old.moment tcb.transfer.tracker.delayed_acknowledgement
+    → b ≡ has_come old.moment (delayed_acknowledgement tcb.transfer.tracker)
     → after ≡ record tcb.transfer { tracker = if b then delay_over tcb.transfer.tracker else tcb.transfer.tracker }
     → ExpiresAlways stream (own_timer acknowledgement_delay) old b new
 delay_told {R = R} stream old new tcb after true same holds due is = (

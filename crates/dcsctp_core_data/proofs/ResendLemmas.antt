@@ -1,29 +1,26 @@
 -- What was lost goes out at once, and then what waits.
-use Rattle.std.proofs.Common.{◌≡◌, ◌+◌, ℕ, zero, suc, Bool, true, false, Option, None, Some, Result, Ok, Err, List, [], ◌∷◌, ◌++◌, map, take, refl, sym, ap, subst, ◌∙◌}
+use Rattle.std.proofs.Common.{◌≡◌, ◌+◌, ℕ, Bool, true, false, Option, Some, List, [], ◌∷◌, ◌++◌, refl, sym, ap, subst, ◌∙◌}
 use Rattle.std.specs.Prelude.{is_some}
-use Rattle.std.proofs.lemmas.List.{append-nil, map-append}
+use Rattle.std.proofs.lemmas.List.{append-nil}
 use Rattle.rand_core.specs.Stream.{Stream}
 use Rattle.dcsctp_machine.specs.declared.association.Held.{Held}
-use Rattle.dcsctp_machine.specs.declared.options.Options.{Options}
-use Rattle.dcsctp_machine.specs.declared.association.Pair.{Pair}
 use Rattle.dcsctp_machine.specs.declared.word.Word.{Word}
 use Rattle.dcsctp_machine.specs.control.Effect.{Effect, drawn_in}
 use Rattle.dcsctp_machine.specs.Settings.{ports_of}
 use Rattle.dcsctp_machine.specs.Event.{Event}
-use Rattle.dcsctp_machine.specs.Packet.{Content, Emission}
-use Rattle.dcsctp_machine.specs.Transfer.{Transfer}
-use Rattle.dcsctp_machine.specs.Endpoint.{Endpoint, Core, held_in}
-use Rattle.dcsctp_machine.specs.Outcome.{Outcome, still}
+use Rattle.dcsctp_machine.specs.Packet.{Content}
+use Rattle.dcsctp_machine.specs.transfer.Transfer.{Transfer}
+use Rattle.dcsctp_machine.specs.Endpoint.{Endpoint, held_in}
+use Rattle.dcsctp_machine.specs.Outcome.{Outcome}
 use Rattle.dcsctp_machine.specs.control.Choices.{plain_contents}
 use Rattle.dcsctp_machine.specs.turns.FlushOutcomes.{Answer, draft_to, flush_of, first_ask, packets_allowed, goes_out, FlushAnswers}
 use Rattle.dcsctp_machine.specs.turns.DataOutcomes.{with_transfer, FastRetransmits, FlushTurn, flush_by, AnswersTo}
 use Rattle.dcsctp_machine.proofs.AnswerLemmas.{any_answers}
-use Rattle.dcsctp_api.specs.Calls.{user_event}
 use Rattle.dcsctp_core.specs.declared.context.Context.{Context}
 use Rattle.dcsctp_core.specs.declared.state.State.{State}
 use Rattle.dcsctp_core.specs.declared.state.State.TheVariants.{Closed, CookieWait, CookieEchoed, Open}
-use Rattle.dcsctp_core.specs.View.{View, core_of, held_of, transfer_of, endpoint_of, view_of, Drawn, Moves, CutTurn}
-use Rattle.dcsctp_core.specs.Handling.{TakesIn, CutIn, TakesOne, FlushAt}
+use Rattle.dcsctp_core.specs.View.{View, core_of, held_of, transfer_of, endpoint_of, view_of, Drawn, Moves}
+use Rattle.dcsctp_core.specs.Handling.{TakesIn, CutIn, FlushAt}
 use Rattle.dcsctp_core.specs.Below.{GoesAtOnce, AtOnceAt}
 use Rattle.dcsctp_core.proofs.Composing.{behind, Adds, Draws, moves_behind, cut_behind, cut_longer}
 use Rattle.dcsctp_core_data.specs.Sacks.{ResendsBy, Resends, ResendsAt}

@@ -1,5 +1,5 @@
 -- A SACK comes in.
-use Rattle.std.proofs.Common.{◌≡◌, ◌+◌, ℕ, zero, suc, Bool, true, false, if◌then◌else◌, Option, None, Some, Result, Ok, Err, List, [], ◌∷◌, ◌++◌, map, take, length, refl, sym, ap, subst, ◌∙◌, append_assoc, arith}
+use Rattle.std.proofs.Common.{◌≡◌, ◌+◌, ℕ, Bool, true, false, if◌then◌else◌, Option, None, Some, Result, Ok, Err, List, [], ◌∷◌, ◌++◌, map, take, length, refl, sym, ap, subst, ◌∙◌, append_assoc, inl, arith}
 use Rattle.std.specs.Prelude.{is_some}
 use Rattle.std.proofs.lemmas.List.{append-nil, map-append}
 use Rattle.std.specs.declared.alloc.AllocError.{AllocError}
@@ -9,31 +9,29 @@ use Rattle.dcsctp_machine.specs.declared.kinds.ErrorKind.TheVariants.{NotConnect
 use Rattle.dcsctp_machine.specs.Settings.{Ports, ports_of}
 use Rattle.dcsctp_machine.specs.Event.{Event, lifecycle_message_delivered, lifecycle_end}
 use Rattle.dcsctp_machine.specs.Packet.{Emission}
-use Rattle.dcsctp_machine.specs.Transfer.{Transfer}
+use Rattle.dcsctp_machine.specs.transfer.Transfer.{Transfer}
 use Rattle.dcsctp_machine.specs.Endpoint.{Endpoint, held_in}
 use Rattle.dcsctp_machine.specs.Outcome.{Outcome, still, reports}
 use Rattle.dcsctp_machine.specs.turns.FlushOutcomes.{draft_to, flush_of}
-use Rattle.dcsctp_machine.specs.turns.TransferMoves.{TakesSack, has_acknowledged, delivered_events}
+use Rattle.dcsctp_machine.specs.turns.TransferMoves.{TakesSack, delivered_events}
 use Rattle.dcsctp_machine.specs.turns.DataOutcomes.{with_transfer, no_tcb_text, is_sack_valid, sack_taken, AcknowledgesBy, SackWhere, SackBy, SackTurn}
 use Rattle.dcsctp_machine.specs.turns.ShutdownOutcomes.{step_outcome}
 use Rattle.dcsctp_api.specs.Calls.{user_event}
 use Rattle.dcsctp_api.specs.Events.{event_content}
 use Rattle.dcsctp_api.specs.declared.events.SocketEvent.{SocketEvent}
-use Rattle.dcsctp_transfer.specs.Sacks.{HandlesSack, delivered_contents}
-use Rattle.dcsctp_transfer.specs.declared.sacks.HandledSack.{HandledSack}
+use Rattle.dcsctp_transfer.specs.Sacks.{delivered_contents}
 use Rattle.dcsctp_transfer.specs.declared.sacks.HandledSack.TheVariants.{Invalid, Valid}
 use Rattle.dcsctp_core.specs.declared.context.Context.{Context}
 use Rattle.dcsctp_core.specs.declared.state.State.{State}
-use Rattle.dcsctp_core.specs.View.{View, core_of, tcb_of, transfer_of, endpoint_of, view_of, Moves, CutTurn}
+use Rattle.dcsctp_core.specs.View.{View, tcb_of, transfer_of, endpoint_of, view_of, Moves, CutTurn}
 use Rattle.dcsctp_core.specs.Handling.{Tries, report_turn, TakesIn, CutIn, TakesOne}
 use Rattle.dcsctp_core.proofs.LendingLemmas.{nobody}
-use Rattle.dcsctp_core.specs.Flushing.{state_with}
 use Rattle.dcsctp_core.specs.Below.{SacksBelow}
 use Rattle.dcsctp_core.proofs.BelowLemmas.{below_view}
-use Rattle.dcsctp_core.proofs.Composing.{behind, Adds, Draws, moves_behind, moves_as, cut_behind, cut_first}
+use Rattle.dcsctp_core.proofs.Composing.{behind, Adds, moves_behind, moves_as, cut_behind, cut_first}
 use Rattle.dcsctp_core.proofs.Moving.{moves_still}
 use Rattle.dcsctp_core_data.specs.Sacks.{SackAt, ResendsBy, ProceedsBy, Proceeds, ProceedsAt}
-use Rattle.dcsctp_core_data.proofs.TakingLemmas.{tries_one, cut_before}
+use Rattle.dcsctp_core_data.proofs.TakingLemmas.{tries_one}
 use Rattle.dcsctp_core_data.proofs.ResendLemmas.{Below, below_of}
 use Rattle.dcsctp_core_data.proofs.ProceedLemmas.{some_proceeds}
 
@@ -211,7 +209,7 @@ take_front [] ys = refl
 take_front (x ∷ xs) ys = ap (λ zs. x ∷ zs) (take_front xs ys)
 
 same_taken : (transfer : Transfer) → TakesSack transfer transfer
-same_taken transfer = record { next_tsn = refl; partial_reliability = refl; message_interleaving = refl; outstanding = omega arith; unacknowledged = omega arith; never_acknowledged = omega arith; tracker = refl; reassembly = refl }
+same_taken transfer = record { next_tsn = refl; partial_reliability = refl; message_interleaving = refl; outstanding = omega arith; unacknowledged = omega arith; never_acknowledged = omega arith; tracker = inl refl; reassembly = refl }
 
 -- any outcome that tells this
 some_follows : (e : Endpoint) (held : Held) (transfer : Transfer) (ids : List ℕ) → (later : Outcome) × Follows e held transfer ids later

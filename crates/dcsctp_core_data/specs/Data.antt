@@ -1,10 +1,10 @@
 -- What the handlers of data do, as turns of a socket's view (RFC 9260, section 6; RFC 3758; RFC 8260).
-use Rattle.std.specs.Prelude.{◌≡◌, ℕ, Bool, true, Option, None, Some, Result, List, [], ◌∷◌}
+use Rattle.std.specs.Prelude.{◌≡◌, ℕ, Bool, true, Option, Some, Result, List, [], ◌∷◌}
 use Rattle.rand_core.specs.Stream.{Stream}
 use Rattle.dcsctp_wire.specs.Content.{no_user_data}
 use Rattle.dcsctp_machine.specs.declared.association.Held.{Held}
 use Rattle.dcsctp_machine.specs.Packet.{error_of, plain}
-use Rattle.dcsctp_machine.specs.Transfer.{Transfer}
+use Rattle.dcsctp_machine.specs.transfer.Transfer.{Transfer}
 use Rattle.dcsctp_machine.specs.Endpoint.{Endpoint, Core, cookie_echoed, open_in, held_in}
 use Rattle.dcsctp_machine.specs.Outcome.{Outcome, still, emits, to_peer}
 use Rattle.dcsctp_machine.specs.turns.DataOutcomes.{DataTurn, no_user_data_outcome, ForwardTurn, AnswersPacket, EndsBy}

@@ -1,8 +1,8 @@
 -- What the handler of SACK does, as turns of a socket's view (RFC 9260, sections 6.2.1 and 7.2.4).
-use Rattle.std.specs.Prelude.{◌≡◌, ℕ, true, Option, None, Some, Result, List, [], is_some}
+use Rattle.std.specs.Prelude.{◌≡◌, ℕ, true, Option, Some, Result, List, [], is_some}
 use Rattle.rand_core.specs.Stream.{Stream}
 use Rattle.dcsctp_machine.specs.declared.association.Held.{Held}
-use Rattle.dcsctp_machine.specs.Transfer.{Transfer}
+use Rattle.dcsctp_machine.specs.transfer.Transfer.{Transfer}
 use Rattle.dcsctp_machine.specs.Endpoint.{Endpoint, held_in}
 use Rattle.dcsctp_machine.specs.Outcome.{Outcome, still, behind}
 use Rattle.dcsctp_machine.specs.turns.FlushOutcomes.{Answer, draft_to, flush_of, FlushAnswers}

@@ -8,7 +8,7 @@ use Rattle.dcsctp_machine.specs.Settings.{ports_of}
 use Rattle.dcsctp_machine.specs.Cookie.{Cookie}
 use Rattle.dcsctp_machine.specs.Event.{Event, connected, connection_restarted}
 use Rattle.dcsctp_machine.specs.Packet.{Emission, cookie_ack}
-use Rattle.dcsctp_machine.specs.Transfer.{SendQueueState, StreamNumber, begun_again, resumed, queue_after_reset}
+use Rattle.dcsctp_machine.specs.transfer.Transfer.{SendQueueState, StreamNumber, begun_again, resumed, queue_after_reset}
 use Rattle.dcsctp_machine.specs.Endpoint.{Endpoint, held_in}
 use Rattle.dcsctp_machine.specs.Outcome.{Outcome}
 use Rattle.dcsctp_machine.specs.control.Effect.{Effect, holds, connects, link_of}

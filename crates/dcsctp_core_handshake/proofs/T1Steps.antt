@@ -5,7 +5,8 @@ use Rattle.rand_core.specs.Stream.{Stream}
 use Rattle.dcsctp_machine.specs.declared.association.Pair.{Pair}
 use Rattle.dcsctp_machine.specs.declared.association.Held.{Held}
 use Rattle.dcsctp_machine.specs.Event.{Event}
-use Rattle.dcsctp_machine.specs.Endpoint.{Endpoint, Core, cookie_wait, cookie_echoed, RunningTimer, is_due, is_restarted, going_on}
+use Rattle.dcsctp_machine.specs.Endpoint.{Endpoint, Core, cookie_wait, cookie_echoed}
+use Rattle.dcsctp_machine.specs.Timers.{RunningTimer, is_due, is_restarted, going_on}
 use Rattle.dcsctp_machine.specs.Outcome.{Outcome, still, emits}
 use Rattle.dcsctp_machine.specs.TimeTurns.{deadline_of, has_come, has_restart, t1_timer}
 use Rattle.dcsctp_machine.specs.Turn.{ActTurn}
@@ -13,7 +14,7 @@ use Rattle.dcsctp_machine.specs.control.Acts.{t1_expires}
 use Rattle.dcsctp_machine.specs.turns.FlushOutcomes.{Answer, flush_answered}
 use Rattle.dcsctp_machine.specs.turns.HandshakeOutcomes.{init_emission}
 use Rattle.dcsctp_machine.specs.turns.TimerOutcomes.{t1_goes_on, again_by, AgainAnswers, t1_gives_up_outcome}
-use Rattle.dcsctp_send_timer.specs.Timer.{running_after}
+use Rattle.dcsctp_machine.specs.Timers.{running_after}
 use Rattle.dcsctp_core.specs.declared.context.Context.{Context}
 use Rattle.dcsctp_core.specs.declared.expiry.Expiry.TheVariants.{Again, GaveUp}
 use Rattle.dcsctp_core.specs.declared.state.State.{State}

@@ -3,7 +3,8 @@
 ghost use Rattle.std.specs.Prelude.{◌≡◌, false, None, IsOk};
 ghost use Rattle.std.specs.Duration.{as_nanos};
 ghost use Rattle.dcsctp_wire.specs.Content.{init_content};
-ghost use Rattle.dcsctp_machine.specs.Endpoint.{started, t1_settings};
+ghost use Rattle.dcsctp_machine.specs.Endpoint.{t1_settings};
+ghost use Rattle.dcsctp_machine.specs.Timers.{started};
 ghost use Rattle.dcsctp_machine.specs.Packet.{introduction_in, cookie_in};
 ghost use Rattle.dcsctp_machine.specs.turns.HandshakeOutcomes.{implementation_of};
 ghost use Rattle.dcsctp_api.specs.Calls.{is_closed};

@@ -5,7 +5,7 @@ use Rattle.std.proofs.Math.Seq.{take-append_seam}
 use Rattle.rand_core.specs.Stream.{Stream}
 use Rattle.dcsctp_machine.specs.Event.{Event}
 use Rattle.dcsctp_machine.specs.Settings.{ports_of}
-use Rattle.dcsctp_machine.specs.Transfer.{SendQueueState, queued_stream}
+use Rattle.dcsctp_machine.specs.transfer.Transfer.{SendQueueState, queued_stream}
 use Rattle.dcsctp_machine.specs.Endpoint.{Endpoint, held_in}
 use Rattle.dcsctp_machine.specs.Outcome.{Outcome, still, quiet, then_outcome}
 use Rattle.dcsctp_machine.specs.turns.FlushOutcomes.{Told, told_event}

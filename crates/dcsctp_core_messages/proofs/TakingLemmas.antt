@@ -1,7 +1,7 @@
 -- A message that is taken is a turn of the socket's view.
 use Rattle.std.proofs.Common.{◌≡◌, Option, None, Some, List, refl, sym, ap, subst, ◌∙◌}
 use Rattle.dcsctp_machine.specs.declared.message.Message.{Message}
-use Rattle.dcsctp_machine.specs.Transfer.{MessageContent, Transfer}
+use Rattle.dcsctp_machine.specs.transfer.Transfer.{MessageContent, Transfer}
 use Rattle.dcsctp_machine.specs.Endpoint.{Endpoint}
 use Rattle.dcsctp_machine.specs.Outcome.{Outcome, still}
 use Rattle.dcsctp_machine.specs.turns.DataOutcomes.{with_transfer, TakeWhere, TakeTurn}

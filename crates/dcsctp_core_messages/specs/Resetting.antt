@@ -1,7 +1,7 @@
 -- What a reset of our own streams does, as turns of a socket's view.
 use Rattle.std.specs.Prelude.{◌≡◌, ℕ, Result, Ok, Err, List, [], map}
 use Rattle.rand_core.specs.Stream.{Stream}
-use Rattle.dcsctp_machine.specs.Transfer.{SendQueueState}
+use Rattle.dcsctp_machine.specs.transfer.Transfer.{SendQueueState}
 use Rattle.dcsctp_machine.specs.Endpoint.{Endpoint}
 use Rattle.dcsctp_machine.specs.Outcome.{Outcome, quiet}
 use Rattle.dcsctp_machine.specs.turns.FlushOutcomes.{Told, told_event}

@@ -17,7 +17,7 @@ use Rattle.dcsctp_machine.specs.Settings.{Ports, ports_of, packet_size_limit}
 use Rattle.dcsctp_machine.specs.Event.{Event, sent, incoming_stream_reset}
 use Rattle.dcsctp_machine.specs.Packet.{Content, re_config, chunk_out, Emission, emission_bytes}
 use Rattle.dcsctp_machine.specs.Reconfiguration.{RequestedReset, ResetParameter, outgoing_reset_request, incoming_reset_request, reconfiguration_response, other_reset_parameter, reset_parameter_content}
-use Rattle.dcsctp_machine.specs.Transfer.{Transfer}
+use Rattle.dcsctp_machine.specs.transfer.Transfer.{Transfer}
 use Rattle.dcsctp_machine.specs.Endpoint.{Endpoint, Core, cookie_echoed, open_in, OpenPhase, held_in}
 use Rattle.std.specs.Prelude.{if◌then◌else◌}
 use Rattle.dcsctp_machine.specs.Outcome.{Outcome, still, quiet, sends, emits, counted, fits, noting, to_peer}
@@ -46,7 +46,7 @@ use Rattle.dcsctp_core_resets.specs.declared.requests.Treatment.TheVariants.{Not
 use Rattle.dcsctp_core_resets.specs.declared.requests.HandledRequests.{HandledRequests}
 use Rattle.dcsctp_core_resets.specs.declared.requests.OwnAnswer.TheVariants as own
 use Rattle.dcsctp_core_resets.specs.declared.requests.OwnAnswer as requests
-use Rattle.dcsctp_core_resets.specs.Requests.{reset_parameters, held_with, held_out, held_now, is_performed, treated_events, left_out, own_kind, own_events, told_so, WorksChunk}
+use Rattle.dcsctp_core_resets.specs.Requests.{reset_parameters, held_with, held_out, held_now, is_performed, treated_events, left_out, own_kind, own_events, told_so}
 use Rattle.dcsctp_core_resets.proofs.RequestLemmas.{resets_of, has_both}
 use Rattle.dcsctp_core_resets.specs.Resets.{ReConfigAt, last_in, WorksFor, core_asked, asked_at, left_at, is_performed_for, told_for, Treats, core_settled, settled_at, own_told, told_both, told_where, responses_to, responses_turn, FinishAt}
 use Rattle.dcsctp_core_resets.proofs.SettlingLemmas.{none_numbered}

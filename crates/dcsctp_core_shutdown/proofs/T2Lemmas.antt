@@ -1,7 +1,7 @@
 -- What is known of T2 where it goes on.
 use Rattle.std.proofs.Common.{◌≡◌, ℕ, Bool, true, false, Option, None, Some, List, refl, sym, subst}
 use Rattle.dcsctp_machine.specs.Event.{Event}
-use Rattle.dcsctp_machine.specs.Endpoint.{RunningTimer, is_due, is_restarted}
+use Rattle.dcsctp_machine.specs.Timers.{RunningTimer, is_due, is_restarted}
 use Rattle.dcsctp_machine.specs.TimeTurns.{deadline_of, has_come, has_restart, t2_timer, t2_input}
 use Rattle.dcsctp_machine.specs.Turn.{Turn}
 use Rattle.dcsctp_machine.specs.turns.ShutdownOutcomes.{t2_again_outcome}

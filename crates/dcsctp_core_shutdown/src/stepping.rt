@@ -2,7 +2,7 @@
 
 ghost use Rattle.std.specs.Prelude.{◌≡◌, true};
 ghost use Rattle.std.specs.Duration.{as_nanos};
-ghost use Rattle.dcsctp_machine.specs.Endpoint.{started};
+ghost use Rattle.dcsctp_machine.specs.Timers.{started};
 ghost use Rattle.dcsctp_machine.specs.turns.ShutdownOutcomes.{t2_settings};
 ghost use Rattle.dcsctp_core.specs.Handling.{Tries};
 ghost use Rattle.dcsctp_core.specs.View.{core_of};

@@ -1,20 +1,20 @@
 -- An ask that isn't idle may be answered whatever the user was told: where memory is refused while a packet is filled, this is
 -- what completes its turn.
-use Rattle.std.proofs.Common.{◌≡◌, ◌≤◌, ◌+◌, ◌-◌, ◌%◌, ◌^◌, ◌&&◌, ◌==◌, ℕ, zero, suc, Bool, true, false, cond, nat_le, Option, None, Some, List, [], ◌∷◌, ◌++◌, map, length, refl, sym, subst, ap, ◌∙◌, arith, length-append, flat_map, ◌*◌, take}
+use Rattle.std.proofs.Common.{◌≡◌, ◌≤◌, ◌+◌, ◌-◌, ◌&&◌, ◌==◌, ℕ, zero, suc, Bool, true, false, cond, nat_le, Option, None, Some, List, [], ◌∷◌, ◌++◌, map, length, refl, sym, subst, ap, ◌∙◌, arith, length-append, flat_map, ◌*◌, take}
 use Rattle.std.specs.List.{AllByRecursion}
 use Rattle.std.proofs.lemmas.List.{append-nil, length-take, length-replicate, length-map}
 use Rattle.std.proofs.lemmas.Bool.Decides.{nat_tests}
 use Rattle.dcsctp_wire.specs.declared.chunk.user_data.DataFlags.{DataFlags}
-use Rattle.dcsctp_wire.specs.Content.{SackContent, data_chunk, i_data_chunk, sack_chunk, ParameterContent, outgoing_ssn_reset_request}
+use Rattle.dcsctp_wire.specs.Content.{data_chunk, i_data_chunk, ParameterContent, outgoing_ssn_reset_request}
 use Rattle.dcsctp_wire.specs.Spelling.{chunk_bytes, other_bytes, data_fields, i_data_fields, zeros, parameter_value, parameter_len, parameter_bytes, list_bytes}
 use Rattle.dcsctp_machine.specs.Settings.{packet_size_limit}
 use Rattle.dcsctp_machine.specs.Packet.{Plain, unworked, plain_out, Content, chunk_out, Emission}
-use Rattle.dcsctp_machine.specs.Transfer.{SendQueueState, RetransmissionState, TrackerState, Transfer, can_send, has_free_tsn, has_data, least_chunk, must_give, is_idle}
+use Rattle.dcsctp_machine.specs.transfer.Tracker.{TrackerState, sacked}
+use Rattle.dcsctp_machine.specs.transfer.Transfer.{SendQueueState, RetransmissionState, Transfer, can_send, has_free_tsn, has_data, least_chunk, must_give, is_idle}
 use Rattle.dcsctp_machine.specs.Endpoint.{Endpoint, held_in}
 use Rattle.dcsctp_machine.specs.Outcome.{contents_len}
 use Rattle.dcsctp_machine.specs.control.Choices.{plain_contents}
-use Rattle.dcsctp_machine.specs.turns.TransferMoves.{acknowledged}
-use Rattle.dcsctp_machine.specs.turns.FlushOutcomes.{Told, Answer, answer_contents, filled, IsWithin, Ask, room_in, where_fits, wants_sack, Acknowledges, is_none, IsData, FitsPlain, Gives, GivesWhere, Answered, AnsweredBelow, timers_with, nothing_waits, asked, next_draft, later_ask, Answers, at_limit, at_empty, after_packet, first_ask, begun_at}
+use Rattle.dcsctp_machine.specs.turns.FlushOutcomes.{own_sack, Told, Answer, answer_contents, filled, IsWithin, Ask, room_in, where_fits, wants_sack, Acknowledges, is_none, IsData, FitsPlain, Gives, GivesWhere, Answered, AnsweredBelow, timers_with, nothing_waits, asked, next_draft, later_ask, Answers, at_limit, at_empty, after_packet, first_ask, begun_at}
 use Rattle.std.specs.Int.{w16, w32, to_be_bytes}
 use Rattle.dcsctp_wire.specs.Format.{padding_of}
 use Rattle.dcsctp_machine.specs.declared.association.Held.{Held}
@@ -64,40 +64,20 @@ three_within e draft one two three within first second third =
 
 -- ---- an answer
 
--- a SACK of what came in
-abbrev sack_of : Transfer → SackContent
-sack_of transfer =
-    record { cumulative_tsn_ack = transfer.tracker.cumulative_tsn % 2 ^ 32; a_rwnd = transfer.reassembly.remaining_bytes % 2 ^ 32; gap_ack_blocks = []; duplicate_tsns = [] }
-
 abbrev sacks_where : Bool → ℕ → Transfer → List Plain
-sacks_where true room transfer = where_fits room (unworked (sack_chunk (sack_of transfer)))
+sacks_where true room transfer = where_fits room (own_sack transfer)
 sacks_where false room transfer = []
 
 abbrev tracker_where : Bool → Transfer → TrackerState
-tracker_where true transfer = acknowledged transfer.tracker
+tracker_where true transfer = sacked transfer.tracker
 tracker_where false transfer = transfer.tracker
 
 acknowledges_where : (b : Bool) (room : ℕ) (transfer : Transfer) → Acknowledges b room transfer (tracker_where b transfer) (sacks_where b room transfer)
 acknowledges_where false room transfer = (refl, refl)
-acknowledges_where true room transfer = (
-  refl,
-  sack_of transfer,
-  record {
-    cumulative = refl;
-    window = refl;
-    fits = record {
-      cumulative_tsn_ack = omega arith;
-      a_rwnd = omega arith;
-      len_fits = omega arith;
-      blocks = record { whole = refl; entries_in_bytes = tt };
-      duplicates = record { whole = refl; entries_in_bytes = tt };
-    };
-  },
-  refl,
-)
+acknowledges_where true room transfer = (refl, refl)
 
 sacks_len : (b : Bool) (room : ℕ) (transfer : Transfer) → contents_len (plain_contents (sacks_where b room transfer)) ≤ room
-sacks_len true room transfer = where_fits_len room (unworked (sack_chunk (sack_of transfer)))
+sacks_len true room transfer = where_fits_len room (own_sack transfer)
 sacks_len false room transfer = omega arith
 
 -- the least chunk with data

@@ -8,7 +8,8 @@ use Rattle.dcsctp_machine.specs.Settings.{SameOptions}
 use Rattle.dcsctp_machine.specs.Event.{Event, error}
 use Rattle.dcsctp_machine.specs.Packet.{Plain, plain, error_of, Content, Emission}
 use Rattle.dcsctp_wire.specs.Content.{no_user_data}
-use Rattle.dcsctp_machine.specs.Transfer.{MessageContent, TrackerState, Transfer}
+use Rattle.dcsctp_machine.specs.transfer.Transfer.{MessageContent, Transfer}
+use Rattle.dcsctp_machine.specs.transfer.Tracker.{TrackerState, after_packet_end, is_acknowledgement_due, sacked, delay_over}
 use Rattle.dcsctp_machine.specs.Endpoint.{Endpoint, Core, closed, cookie_wait, cookie_echoed, open_in, established, shutdown_pending, shutdown_sent, shutdown_received, shutdown_ack_sent, held_in}
 use Rattle.dcsctp_machine.specs.Following.{next_chunk}
 use Rattle.dcsctp_machine.specs.Outcome.{Outcome, still, quiet, sends, fits, to_peer, behind, then_outcome}
@@ -17,8 +18,7 @@ use Rattle.dcsctp_machine.specs.control.Choices.{Choices, plain_contents}
 use Rattle.dcsctp_machine.specs.control.FlushChanges.{further_packets, flush}
 use Rattle.dcsctp_machine.specs.control.Acts.{flushes, sent_by, flush_change, plain_change}
 use Rattle.dcsctp_machine.specs.Controlled.{Sign, signs_of_events, signs_of_effects, IsControlled, ControlledAct}
-use Rattle.dcsctp_machine.specs.turns.FlushOutcomes.{Answer, told_event, filled, draft_to, flush_of, room_in, where_fits, FlushAnswers, packets_allowed}
-use Rattle.dcsctp_machine.specs.turns.TransferMoves.{acknowledged, delay_over}
+use Rattle.dcsctp_machine.specs.turns.FlushOutcomes.{own_sack, Answer, told_event, filled, draft_to, flush_of, room_in, where_fits, FlushAnswers, packets_allowed}
 use Rattle.dcsctp_machine.specs.turns.HeartbeatOutcomes.{error_counted}
 use Rattle.dcsctp_machine.specs.turns.MessageOutcomes.{MessageRefusal, message_refusal, refusal_events, Sending, queue_by, queue_one, queue_all, takes_any, SendAnswers, send_by, SendTurn}
 use Rattle.dcsctp_machine.specs.turns.PreparedResets.{ResetRefusal, reset_refusal, with_queue, PreparesResets, OwnResetsWhere, OwnResetsTurn}
@@ -134,7 +134,7 @@ no_data_at e core (Some held) tsn holds is = reported_at (fits e (to_peer held (
 
 receive_at : (e : Endpoint) (transfer : Option Transfer) (immediate : Bool) (tsn : ℕ) (o : Outcome) → ReceiveTurn e transfer immediate tsn o → FlushedAt e e.core o
 receive_at e None immediate tsn o turn = flushed_as e e.core o (quiet e [] (error NotConnected not_connected_text ∷ [])) turn (quiet_at e e (error NotConnected not_connected_text ∷ []) e.core refl refl refl)
-receive_at e (Some transfer) immediate tsn o turn = flushed_as e e.core o (still (with_transfer e turn.0)) turn.3 (still_at e (with_transfer e turn.0) e.core refl refl)
+receive_at e (Some transfer) immediate tsn o turn = flushed_as e e.core o (still (with_transfer e turn.0)) turn.2 (still_at e (with_transfer e turn.0) e.core refl refl)
 
 pub data_at : (e : Endpoint) (immediate : Bool) (tsn : ℕ) (payload : List ℕ) (o : Outcome) → DataTurn e immediate tsn payload o → FlushedAt e e.core o
 data_at e immediate tsn [] o turn = flushed_as e e.core o (no_user_data_outcome e (held_in e.core) tsn) turn (no_data_at e e.core (held_in e.core) tsn refl refl)
@@ -206,14 +206,15 @@ front_at e base (open_in phase my own) held front answers holds is same h =
 end_where_at : (b : Bool) (e : Endpoint) (core : Core) (peer : Option Held) (transfer : Transfer) (tracker : TrackerState) (o : Outcome) → held_in core ≡ peer → e.core ≡ core
     → EndWhere b e peer transfer tracker o → FlushedAt e core o
 end_where_at true e core (Some held) transfer tracker o holds is turn =
-    flushed_as e core o (flush_of (with_tracker e transfer (acknowledged tracker)) (acknowledging e held turn.sack) turn.answers) turn.is
-    (front_at e (with_tracker e transfer (acknowledged tracker)) core held (where_fits (room_in e (draft_to held)) turn.sack) turn.answers holds is refl turn.allowed)
+    flushed_as e core o (flush_of (with_tracker e transfer (sacked tracker)) (acknowledging e held (own_sack (record transfer { tracker = tracker }))) turn.answers) turn.is
+    (front_at e (with_tracker e transfer (sacked tracker)) core held (where_fits (room_in e (draft_to held)) (own_sack (record transfer { tracker = tracker }))) turn.answers holds is refl turn.allowed)
 end_where_at true e core None transfer tracker o holds is turn = flushed_as e core o (still (with_tracker e transfer tracker)) turn (still_at e (with_tracker e transfer tracker) core is refl)
 end_where_at false e core peer transfer tracker o holds is turn = flushed_as e core o (still (with_tracker e transfer tracker)) turn (still_at e (with_tracker e transfer tracker) core is refl)
 
 pub end_at : (e : Endpoint) (transfer : Option Transfer) (o : Outcome) → EndsBy e transfer o → FlushedAt e e.core o
 end_at e None o turn = flushed_as e e.core o (still e) turn (still_at e e e.core refl refl)
-end_at e (Some transfer) o turn = end_where_at turn.0.is_acknowledgement_due e e.core (held_in e.core) transfer turn.0 o refl refl turn.2
+end_at e (Some transfer) o turn =
+    let tracker = after_packet_end e.moment transfer.tracker in end_where_at (is_acknowledgement_due tracker) e e.core (held_in e.core) transfer tracker o refl refl turn
 
 -- ---- what the user takes and sends
 

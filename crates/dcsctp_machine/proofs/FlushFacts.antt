@@ -6,7 +6,7 @@ use Rattle.dcsctp_wire.specs.declared.chunk.user_data.DataFlags.{DataFlags}
 use Rattle.dcsctp_wire.specs.Content.{data_chunk}
 use Rattle.dcsctp_machine.specs.Event.{buffered_amount_low, lifecycle_message_fully_sent}
 use Rattle.dcsctp_machine.specs.Packet.{Plain, plain, unworked, cookie_ack, Emission}
-use Rattle.dcsctp_machine.specs.Transfer.{Below}
+use Rattle.dcsctp_machine.specs.transfer.Transfer.{Below}
 use Rattle.dcsctp_machine.specs.Endpoint.{Endpoint, cookie_echoed, open_in, established}
 use Rattle.dcsctp_machine.specs.Following.{next_chunk}
 use Rattle.dcsctp_machine.specs.turns.FlushOutcomes.{Answer, Told, amount_is_low, message_is_sent, flush_of, packets_allowed}

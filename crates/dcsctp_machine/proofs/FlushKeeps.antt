@@ -10,8 +10,9 @@ use Rattle.dcsctp_machine.specs.Settings.{SameOptions}
 use Rattle.dcsctp_machine.specs.Event.{Event, sent, connected, closed, connection_restarted, aborted, error, buffered_amount_low, total_buffered_amount_low, streams_reset_failed, streams_reset_performed, incoming_stream_reset, lifecycle_message_fully_sent, lifecycle_message_maybe_expired, lifecycle_message_expired, lifecycle_message_delivered, lifecycle_end}
 use Rattle.dcsctp_machine.specs.Packet.{Plain, plain, Content, Packet, Emission}
 use Rattle.dcsctp_machine.specs.Reconfiguration.{RequestedReset}
-use Rattle.dcsctp_machine.specs.Transfer.{SendQueueState, Transfer, is_idle}
-use Rattle.dcsctp_machine.specs.Endpoint.{Endpoint, Core, cookie_wait, cookie_echoed, open_in, OpenPhase, held_in, RunningTimer, Timers, started, heartbeat_settings}
+use Rattle.dcsctp_machine.specs.transfer.Transfer.{SendQueueState, Transfer, is_idle}
+use Rattle.dcsctp_machine.specs.Endpoint.{Endpoint, Core, cookie_wait, cookie_echoed, open_in, OpenPhase, held_in, Timers, heartbeat_settings}
+use Rattle.dcsctp_machine.specs.Timers.{RunningTimer, started}
 use Rattle.dcsctp_machine.specs.Endpoint.{closed as closed_core}
 use Rattle.dcsctp_machine.specs.Following.{next_chunk}
 use Rattle.dcsctp_machine.specs.Outcome.{Outcome, still, behind, then_outcome, noting}

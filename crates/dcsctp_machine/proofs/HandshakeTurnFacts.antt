@@ -14,8 +14,10 @@ use Rattle.dcsctp_machine.specs.declared.word.Word.TheVariants.{U32, U64}
 use Rattle.dcsctp_machine.specs.Event.{Event, sent, connected, aborted}
 use Rattle.dcsctp_machine.specs.Cause.{missing_mandatory_parameter}
 use Rattle.dcsctp_machine.specs.Packet.{Introduction, Content, init, cookie_echo, abort, Emission}
-use Rattle.dcsctp_machine.specs.Transfer.{SendQueueState, Transfer}
-use Rattle.dcsctp_machine.specs.Endpoint.{Endpoint, Core, closed, cookie_wait, cookie_echoed, open_in, established, RunningTimer, stopped_timers}
+use Rattle.dcsctp_machine.specs.declared.tracking.AckState.TheVariants.{Idle}
+use Rattle.dcsctp_machine.specs.transfer.Transfer.{SendQueueState, Transfer}
+use Rattle.dcsctp_machine.specs.Endpoint.{Endpoint, Core, closed, cookie_wait, cookie_echoed, open_in, established, stopped_timers}
+use Rattle.dcsctp_machine.specs.Timers.{RunningTimer}
 use Rattle.dcsctp_machine.specs.Following.{next_chunk, dropped_rest}
 use Rattle.dcsctp_machine.specs.control.Effect.{Link, draws, holds, connects, ends}
 use Rattle.dcsctp_machine.specs.turns.EndOutcomes.{closed_after}
@@ -33,6 +35,7 @@ configured options mtu max_burst =
       max_receiver_window_buffer_size = 5242880;
       max_send_buffer_size = 2000000;
       rto_initial = record { secs = 0; nanos = 500_000_000 };
+      delayed_ack_max_timeout = record { secs = 0; nanos = 200_000_000 };
       t1_init_timeout = record { secs = 1; nanos = 0 };
       t1_cookie_timeout = record { secs = 2; nanos = 0 };
       heartbeat_interval = record { secs = 30; nanos = 0 };
@@ -119,7 +122,15 @@ transfer_begun cwnd =
     Some (record {
       retransmission = record { partial_reliability = false; message_interleaving = true; next_tsn = 100; outstanding_items = 0; unacknowledged_items = 0; never_acknowledged_items = 0; marked_items = 0; bytes_in_flight = 0; has_fast_retransmit = false; deadline = None; cwnd = cwnd; rwnd = 1500; packets_retransmitted = 0; bytes_retransmitted = 0 };
       timeout = record { rto = 500_000_000; srtt = 500_000_000 };
-      tracker = record { cumulative_tsn = 199; has_numbers_left = true; delayed_acknowledgement = None; is_acknowledgement_due = false; owes_acknowledgement = false };
+      tracker = record {
+        cumulative = 199;
+        ranges = [];
+        duplicates = [];
+        has_seen_data = false;
+        acknowledgement = Idle;
+        delay = record { running = None; settings = record { duration = 200_000_000; terms = record { backoff = Fixed; max_restarts = Some 0; max_backoff = None } } };
+        longest_delay = 200_000_000;
+      };
       reassembly = record { messages = []; messages_received = 0; window = 5242880; remaining_bytes = 5242880 };
     })
 

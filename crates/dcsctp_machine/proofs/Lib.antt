@@ -41,3 +41,6 @@ pub mod TimerFacts
 pub mod TimerLemmas
 pub mod TurnFacts
 pub mod TurnLemmas
+pub mod TrackerLemmas
+pub mod RangesFacts
+pub mod RangesLemmas

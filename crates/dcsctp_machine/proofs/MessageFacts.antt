@@ -5,7 +5,7 @@ use Rattle.dcsctp_machine.specs.declared.association.Held.{Held}
 use Rattle.dcsctp_machine.specs.declared.association.Pair.{Pair}
 use Rattle.dcsctp_machine.specs.declared.kinds.ErrorKind.TheVariants.{ProtocolViolation}
 use Rattle.dcsctp_machine.specs.Event.{error, lifecycle_end}
-use Rattle.dcsctp_machine.specs.Transfer.{SendQueueState, empty_queue, queue_added}
+use Rattle.dcsctp_machine.specs.transfer.Transfer.{SendQueueState, empty_queue, queue_added}
 use Rattle.dcsctp_machine.specs.Endpoint.{Endpoint, Core, closed, open_in, shutdown_sent}
 use Rattle.dcsctp_machine.specs.turns.MessageOutcomes.{empty_payload, message_too_large, shutting_down, resource_exhaustion, message_refusal, refusal_events}
 

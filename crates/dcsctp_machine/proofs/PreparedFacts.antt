@@ -2,7 +2,7 @@
 use Rattle.std.proofs.Common.{◌≡◌, ℕ, true, false, Option, None, Some, List, [], ◌∷◌, refl}
 use Rattle.dcsctp_machine.specs.declared.association.Held.{Held}
 use Rattle.dcsctp_machine.specs.declared.association.Pair.{Pair}
-use Rattle.dcsctp_machine.specs.Transfer.{StreamNumber, QueuedStream, SendQueueState, has_data}
+use Rattle.dcsctp_machine.specs.transfer.Transfer.{StreamNumber, QueuedStream, SendQueueState, has_data}
 use Rattle.dcsctp_machine.specs.Endpoint.{Endpoint, closed, cookie_wait, open_in, established}
 use Rattle.dcsctp_machine.specs.turns.FlushOutcomes.{amount_is_low, total_amount_is_low, message_has_expired, message_ends}
 use Rattle.dcsctp_machine.specs.turns.PreparedResets.{not_connected, not_supported, reset_refusal, queue_pausing, has_fallen, low_told, expired_told}

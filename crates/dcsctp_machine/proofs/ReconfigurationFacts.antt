@@ -8,7 +8,8 @@ use Rattle.dcsctp_machine.specs.declared.kinds.BackoffAlgorithm.TheVariants.{Exp
 use Rattle.dcsctp_machine.specs.Event.{Event}
 use Rattle.dcsctp_machine.specs.Packet.{re_config, Emission}
 use Rattle.dcsctp_machine.specs.Reconfiguration.{outgoing_reset_request}
-use Rattle.dcsctp_machine.specs.Endpoint.{Endpoint, cookie_wait, open_in, established, OutstandingRequest, RunningTimer, held_in}
+use Rattle.dcsctp_machine.specs.Endpoint.{Endpoint, cookie_wait, open_in, established, OutstandingRequest, held_in}
+use Rattle.dcsctp_machine.specs.Timers.{RunningTimer}
 use Rattle.dcsctp_machine.specs.Following.{next_chunk}
 use Rattle.dcsctp_machine.specs.Outcome.{Outcome, still, quiet}
 use Rattle.dcsctp_machine.specs.TimeTurns.{own_timer, deadline, has_come}

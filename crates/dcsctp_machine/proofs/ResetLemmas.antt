@@ -10,7 +10,7 @@ use Rattle.dcsctp_machine.specs.Settings.{SameOptions}
 use Rattle.dcsctp_machine.specs.Event.{Event, sent, error}
 use Rattle.dcsctp_machine.specs.Packet.{re_config, Packet, Emission}
 use Rattle.dcsctp_machine.specs.Reconfiguration.{ResetParameter, outgoing_reset_request, incoming_reset_request, reconfiguration_response, other_reset_parameter}
-use Rattle.dcsctp_machine.specs.Transfer.{Transfer}
+use Rattle.dcsctp_machine.specs.transfer.Transfer.{Transfer}
 use Rattle.dcsctp_machine.specs.Endpoint.{Endpoint, Core, closed, cookie_wait, cookie_echoed, open_in}
 use Rattle.dcsctp_machine.specs.Outcome.{Outcome, quiet, counted, behind, noting, to_peer}
 use Rattle.dcsctp_machine.specs.Outcome.{fits as fits_mtu, sends as sends_out}

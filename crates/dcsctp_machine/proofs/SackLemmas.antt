@@ -6,7 +6,7 @@ use Rattle.dcsctp_machine.specs.declared.kinds.ErrorKind.TheVariants.{NotConnect
 use Rattle.dcsctp_machine.specs.Settings.{SameOptions}
 use Rattle.dcsctp_machine.specs.Event.{Event, error}
 use Rattle.dcsctp_machine.specs.Packet.{Plain, plain, Content, shutdown, shutdown_ack, Emission}
-use Rattle.dcsctp_machine.specs.Transfer.{Transfer}
+use Rattle.dcsctp_machine.specs.transfer.Transfer.{Transfer}
 use Rattle.dcsctp_machine.specs.Endpoint.{Endpoint, Core, closed, cookie_wait, cookie_echoed, open_in, established, shutdown_pending, shutdown_sent, shutdown_received, shutdown_ack_sent, held_in}
 use Rattle.dcsctp_machine.specs.Following.{next_chunk}
 use Rattle.dcsctp_machine.specs.Outcome.{Outcome, still, quiet, behind}

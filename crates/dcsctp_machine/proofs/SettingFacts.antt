@@ -1,6 +1,6 @@
 -- Outside examples of what the user sets, computed by the definitions.
 use Rattle.std.proofs.Common.{◌≡◌, ℕ, true, false, None, List, [], ◌∷◌, refl}
-use Rattle.dcsctp_machine.specs.Transfer.{QueuedStream, SendQueueState, queued_stream, queue_added, has_data}
+use Rattle.dcsctp_machine.specs.transfer.Transfer.{QueuedStream, SendQueueState, queued_stream, queue_added, has_data}
 use Rattle.dcsctp_machine.specs.Endpoint.{Endpoint}
 use Rattle.dcsctp_machine.specs.turns.SettingOutcomes.{stream_priority, stream_low_threshold, longest_message, set_in_queue, endpoint_with}
 

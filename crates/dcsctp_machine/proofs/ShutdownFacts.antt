@@ -6,8 +6,9 @@ use Rattle.dcsctp_machine.specs.declared.kinds.BackoffAlgorithm.TheVariants.{Exp
 use Rattle.dcsctp_machine.specs.Event.{Event}
 use Rattle.dcsctp_machine.specs.Event as events
 use Rattle.dcsctp_machine.specs.Packet.{Emission, shutdown, shutdown_ack, shutdown_complete}
-use Rattle.dcsctp_machine.specs.Transfer.{Transfer}
-use Rattle.dcsctp_machine.specs.Endpoint.{Endpoint, Core, closed, cookie_wait, cookie_echoed, open_in, OpenPhase, established, shutdown_pending, shutdown_sent, shutdown_received, shutdown_ack_sent, RunningTimer}
+use Rattle.dcsctp_machine.specs.transfer.Transfer.{Transfer}
+use Rattle.dcsctp_machine.specs.Endpoint.{Endpoint, Core, closed, cookie_wait, cookie_echoed, open_in, OpenPhase, established, shutdown_pending, shutdown_sent, shutdown_received, shutdown_ack_sent}
+use Rattle.dcsctp_machine.specs.Timers.{RunningTimer}
 use Rattle.dcsctp_machine.specs.Following.{next_chunk, dropped_rest}
 use Rattle.dcsctp_machine.specs.Outcome.{Outcome, still}
 use Rattle.dcsctp_machine.specs.Turn.{act_input}
@@ -22,7 +23,7 @@ moved transfer items =
     record transfer {
       retransmission = record transfer.retransmission { unacknowledged_items = items };
       timeout = record { rto = 400_000_000; srtt = 100_000_000 };
-      tracker = record transfer.tracker { cumulative_tsn = 2 ^ 32 + 5 };
+      tracker = record transfer.tracker { cumulative = 2 ^ 32 + 5 };
     }
 
 -- a second after the socket was made; two restarts are allowed, and a message waits to be sent

@@ -8,8 +8,9 @@ use Rattle.dcsctp_machine.specs.declared.association.Held.{Held}
 use Rattle.dcsctp_machine.specs.declared.kinds.BackoffAlgorithm.TheVariants.{Fixed, Exponential}
 use Rattle.dcsctp_machine.specs.declared.kinds.ErrorKind.TheVariants.{TooManyRetries}
 use Rattle.dcsctp_machine.specs.Event.{aborted}
-use Rattle.dcsctp_machine.specs.Transfer.{nothing_below}
-use Rattle.dcsctp_machine.specs.Endpoint.{Endpoint, Core, closed, cookie_wait, cookie_echoed, open_in, established, RunningTimer, started, expired, is_due}
+use Rattle.dcsctp_machine.specs.transfer.Transfer.{nothing_below}
+use Rattle.dcsctp_machine.specs.Endpoint.{Endpoint, Core, closed, cookie_wait, cookie_echoed, open_in, established}
+use Rattle.dcsctp_machine.specs.Timers.{RunningTimer, started, expired, is_due}
 use Rattle.dcsctp_machine.specs.control.Acts.{t1_expires, abort_with, flushes}
 use Rattle.dcsctp_machine.specs.declared.ends.AbortReason.TheVariants.{TooManyErrors}
 use Rattle.dcsctp_machine.specs.Turn.{act_input}

@@ -1,6 +1,7 @@
 -- Timers that always run.
 use Rattle.std.specs.Prelude.{Option, None, Some}
-use Rattle.dcsctp_machine.specs.Endpoint.{Core, closed, cookie_wait, cookie_echoed, open_in, RunningTimer}
+use Rattle.dcsctp_machine.specs.Endpoint.{Core, closed, cookie_wait, cookie_echoed, open_in}
+use Rattle.dcsctp_machine.specs.Timers.{RunningTimer}
 
 abbrev pub IsRunning : Option RunningTimer → Type 0
 IsRunning None = ⊥

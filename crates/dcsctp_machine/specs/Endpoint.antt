@@ -1,13 +1,13 @@
 -- What a socket is between two turns (RFC 9260, sections 4 and 5).
-use Rattle.std.specs.Prelude.{◌==◌, ℕ, ◌+◌, ◌-◌, ◌*◌, ◌^◌, min, Bool, true, nat_le, if◌then◌else◌, Option, None, Some, List}
-use Rattle.std.specs.Duration.{max_nanos, as_nanos}
-use Rattle.dcsctp_machine.specs.Transfer.{Below, nothing_below}
+use Rattle.std.specs.Prelude.{◌==◌, ℕ, Bool, if◌then◌else◌, Option, None, Some, List}
+use Rattle.std.specs.Duration.{as_nanos}
+use Rattle.dcsctp_machine.specs.Timers.{TimerSettings, RunningTimer, started}
+use Rattle.dcsctp_machine.specs.transfer.Transfer.{Below, nothing_below}
 use Rattle.dcsctp_machine.specs.declared.association.Pair.{Pair}
 use Rattle.dcsctp_machine.specs.declared.association.Held.{Held}
 use Rattle.dcsctp_machine.specs.declared.association.Association.{Association}
 use Rattle.dcsctp_machine.specs.declared.association.Phase.{Phase}
 use Rattle.dcsctp_machine.specs.declared.association.Phase.TheVariants as phases
-use Rattle.dcsctp_machine.specs.declared.kinds.BackoffAlgorithm.{BackoffAlgorithm}
 use Rattle.dcsctp_machine.specs.declared.kinds.BackoffAlgorithm.TheVariants.{Fixed, Exponential}
 use Rattle.dcsctp_machine.specs.declared.kinds.SctpImplementation.{SctpImplementation}
 use Rattle.dcsctp_machine.specs.declared.kinds.SctpImplementation.TheVariants.{Unknown}
@@ -57,29 +57,6 @@ held_in (cookie_wait my) = None
 held_in (cookie_echoed my held cookie) = Some held
 held_in (open_in phase my held) = Some held
 
--- How a timer goes on once it has expired (RFC 9260, section 6.3.3). Durations are nanoseconds.
-pub record BackoffTerms : Type 0 where
-  pub backoff : BackoffAlgorithm
-  -- how often it goes on after it has expired; None: no limit
-  pub max_restarts : Option ℕ
-  -- the longest that it runs after it has expired; None: no limit
-  pub max_backoff : Option ℕ
-
--- How a timer runs, once it is started.
-pub record TimerSettings : Type 0 where
-  -- how long before it expires first
-  pub duration : ℕ
-  pub terms : BackoffTerms
-
--- A timer of this layer that runs (RFC 9260, sections 5.1, 8.3 and 9.2; RFC 6525, section 5.1).
-pub record RunningTimer : Type 0 where
-  -- the moment at which it expires next, in nanoseconds
-  pub deadline : ℕ
-  -- how long it runs this time, before the limit is applied
-  pub wait : ℕ
-  pub expiries : ℕ
-  pub terms : BackoffTerms
-
 -- A timer that belongs to a phase doesn't run outside it.
 pub record Timers : Type 0 where
   pub t1 : Option RunningTimer
@@ -90,52 +67,6 @@ pub record Timers : Type 0 where
 
 abbrev pub stopped_timers : Timers
 stopped_timers = record { t1 = None; t2 = None; reconfiguration = None; heartbeat_interval = None; heartbeat_timeout = None }
-
--- the moment that comes that much later, or the last one that there is
-abbrev pub moment_after : ℕ → ℕ → ℕ
-moment_after moment duration = min (moment + duration) max_nanos
-
--- A timer that is started at this moment. The bound doesn't cut its first deadline.
-abbrev pub started : ℕ → TimerSettings → Option RunningTimer
-started moment settings =
-    Some (record { deadline = moment_after moment settings.duration; wait = settings.duration; expiries = 0; terms = settings.terms })
-
--- how long a timer runs after it has expired, before the limit is applied: as long as before, or twice as long
-abbrev pub next_wait : BackoffAlgorithm → ℕ → ℕ
-next_wait Fixed wait = wait
-next_wait Exponential wait = min (wait * 2) max_nanos
-
--- no longer than the bound, if there is one
-abbrev pub bounded : Option ℕ → ℕ → ℕ
-bounded None wait = wait
-bounded (Some bound) wait = min wait bound
-
--- May a timer go on that has expired that often?
-abbrev pub goes_on : Option ℕ → ℕ → Bool
-goes_on None expiries = true
-goes_on (Some restarts) expiries = nat_le expiries restarts
-
--- how often it has expired, with this time; the count stops at the greatest number of 64 bits
-abbrev pub next_expiries : ℕ → ℕ
-next_expiries expiries = min (expiries + 1) (2 ^ 64 - 1)
-
--- A timer that has expired at this moment, and goes on. It backs off from the duration that it started with.
-abbrev pub going_on : ℕ → RunningTimer → RunningTimer
-going_on moment timer =
-    let wait = next_wait timer.terms.backoff timer.wait in
-    record timer { deadline = moment_after moment (bounded timer.terms.max_backoff wait); wait = wait; expiries = next_expiries timer.expiries }
-
--- Its deadline has come: a timer expires at no earlier moment.
-abbrev pub is_due : ℕ → RunningTimer → Bool
-is_due moment timer = nat_le timer.deadline moment
-
--- Does it go on once it expires?
-abbrev pub is_restarted : RunningTimer → Bool
-is_restarted timer = goes_on timer.terms.max_restarts (next_expiries timer.expiries)
-
--- What is left of a timer that expires at this moment: it goes on, or, if its restarts are used up, it stops.
-abbrev pub expired : ℕ → RunningTimer → Option RunningTimer
-expired moment timer = if is_restarted timer then Some (going_on moment timer) else None
 
 -- T1-init and T1-cookie: each wait is twice the last one, without a limit. The options say how often a packet is sent again (RFC
 -- 9260, section 5.1).

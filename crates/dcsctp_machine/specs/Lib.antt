@@ -12,7 +12,8 @@ pub mod Reconfiguration
 pub mod Settings
 pub mod Schedule
 pub mod Sockets
-pub mod Transfer
+pub mod Timers
+pub mod transfer
 pub mod control
 pub mod Controlled
 pub mod Past

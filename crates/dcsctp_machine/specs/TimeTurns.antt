@@ -1,10 +1,12 @@
 -- Time: the deadlines that a socket waits for, and what `advance_time` does.
 use Rattle.std.specs.Prelude.{◌≡◌, ◌≤◌, ◌<◌, ℕ, min, max, Bool, true, false, nat_le, if◌then◌else◌, Option, None, Some, List, [], ◌∷◌}
 use Rattle.std.specs.Duration.{max_nanos}
-use Rattle.dcsctp_machine.specs.Endpoint.{Endpoint, Core, closed, cookie_wait, cookie_echoed, open_in, RunningTimer, is_restarted}
+use Rattle.dcsctp_machine.specs.Endpoint.{Endpoint, Core, closed, cookie_wait, cookie_echoed, open_in}
+use Rattle.dcsctp_machine.specs.Timers.{RunningTimer, is_restarted}
 use Rattle.dcsctp_machine.specs.control.Acts.{t1_expires, shutdown_repeats, abort_with, flushes}
 use Rattle.dcsctp_machine.specs.declared.ends.AbortReason.TheVariants.{TooManyErrors}
-use Rattle.dcsctp_machine.specs.Transfer.{Transfer}
+use Rattle.dcsctp_machine.specs.transfer.Tracker.{delayed_acknowledgement}
+use Rattle.dcsctp_machine.specs.transfer.Transfer.{Transfer}
 use Rattle.dcsctp_machine.specs.turns.HeartbeatOutcomes.{is_exhausted}
 use Rattle.dcsctp_machine.specs.turns.OwnTimers.{OwnTimer, acknowledgement_delay, retransmission, heartbeat_interval, heartbeat_timeout, reconfiguration}
 use Rattle.dcsctp_machine.specs.Turn.{Input, act_input, timer_expires, time_passes, clock_at}
@@ -42,7 +44,7 @@ deadline_of (Some timer) = Some timer.deadline
 -- when an acknowledgement is delayed no longer, and when what is in flight is lost
 abbrev pub delay_deadline : Option Transfer → Option ℕ
 delay_deadline None = None
-delay_deadline (Some transfer) = transfer.tracker.delayed_acknowledgement
+delay_deadline (Some transfer) = delayed_acknowledgement transfer.tracker
 
 abbrev pub loss_deadline : Option Transfer → Option ℕ
 loss_deadline None = None

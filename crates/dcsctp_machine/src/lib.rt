@@ -12,6 +12,7 @@ mod message;
 mod options;
 mod schedule;
 mod time;
+mod tracking;
 mod word;
 
 pub use association::{Association, Held, Pair, Phase};
@@ -35,4 +36,5 @@ pub use message::{Message, SendOptions, copied_messages};
 pub use options::Options;
 pub use schedule::{Act, Call, Outside, Side, Step};
 pub use time::SocketTime;
+pub use tracking::{AckState, TsnRange};
 pub use word::Word;

@@ -10,9 +10,10 @@ use Rattle.dcsctp_wire.proofs.Lengths.{length-chunk_bytes}
 use Rattle.dcsctp_machine.specs.declared.association.Held.{Held}
 use Rattle.dcsctp_machine.specs.Packet.{Content, re_config, chunk_out}
 use Rattle.dcsctp_machine.specs.Reconfiguration.{outgoing_reset_request, streams_in}
-use Rattle.dcsctp_machine.specs.Transfer.{SendQueueState}
+use Rattle.dcsctp_machine.specs.transfer.Transfer.{SendQueueState}
 use Rattle.dcsctp_machine.specs.Deadlines.{T1Runs}
-use Rattle.dcsctp_machine.specs.Endpoint.{Endpoint, Core, closed, cookie_wait, cookie_echoed, open_in, held_in, RunningTimer}
+use Rattle.dcsctp_machine.specs.Endpoint.{Endpoint, Core, closed, cookie_wait, cookie_echoed, open_in, held_in}
+use Rattle.dcsctp_machine.specs.Timers.{RunningTimer}
 use Rattle.dcsctp_machine.specs.Outcome.{contents_len}
 use Rattle.dcsctp_machine.specs.control.FlushChanges.{reset_request}
 use Rattle.dcsctp_machine.specs.turns.BegunResets.{BegunReset, stream_field, streams_within, begun_where, begun_in, request_contents, core_asking, after_begun}

@@ -1,24 +1,25 @@
 -- The turns of data leave numbers that fit their fields, and send what is read as itself.
 use Rattle.std.proofs.Common.{◌<◌, ◌^◌, ◌++◌, ℕ, Bool, true, false, cond, Option, None, Some, List, [], ◌∷◌, map, refl, sym, subst, arith}
-use Rattle.dcsctp_wire.specs.Content.{no_user_data, sack_chunk}
+use Rattle.dcsctp_wire.specs.Content.{no_user_data}
 use Rattle.dcsctp_wire.specs.Spelling.{parameters_len}
 use Rattle.dcsctp_machine.specs.declared.association.Held.{Held}
 use Rattle.dcsctp_machine.specs.declared.kinds.ErrorKind.TheVariants.{ProtocolViolation}
 use Rattle.dcsctp_machine.specs.Event.{error}
-use Rattle.dcsctp_machine.specs.Packet.{Plain, plain, unworked, error_of, Content}
-use Rattle.dcsctp_machine.specs.Transfer.{Below, MessageContent, TrackerState, Transfer}
+use Rattle.dcsctp_machine.specs.Packet.{Plain, plain, error_of, Content}
+use Rattle.dcsctp_machine.specs.transfer.Tracker.{TrackerState, after_packet_end, is_acknowledgement_due, sacked, delay_over}
+use Rattle.dcsctp_machine.specs.transfer.Transfer.{Below, MessageContent, Transfer}
 use Rattle.dcsctp_machine.specs.Endpoint.{Endpoint, held_in}
 use Rattle.dcsctp_machine.specs.Outcome.{Outcome, still, quiet, sends, behind, then_outcome, to_peer}
 use Rattle.dcsctp_machine.specs.Outcome.{fits as fits_mtu}
 use Rattle.dcsctp_machine.specs.control.Choices.{plain_contents}
-use Rattle.dcsctp_machine.specs.turns.FlushOutcomes.{Answer, told_event, goes_out, draft_to, flush_of, room_in}
-use Rattle.dcsctp_machine.specs.turns.TransferMoves.{acknowledged, delay_over, delivered_events}
+use Rattle.dcsctp_machine.specs.turns.FlushOutcomes.{own_sack, Answer, told_event, goes_out, draft_to, flush_of, room_in}
+use Rattle.dcsctp_machine.specs.turns.TransferMoves.{delivered_events}
 use Rattle.dcsctp_machine.specs.turns.MessageOutcomes.{MessageRefusal, message_refusal, refusal_events, Sending, queue_by, queue_one, queue_all, takes_any, SendAnswers, send_by, SendTurn}
 use Rattle.dcsctp_machine.specs.turns.PreparedResets.{ResetRefusal, reset_refusal, with_queue, PreparesResets, OwnResetsWhere, OwnResetsTurn}
-use Rattle.dcsctp_machine.specs.turns.DataOutcomes.{TakeWhere, TakeTurn, with_transfer, with_tracker, flush_by, AnswersTo, FlushTurn, no_user_data_text, no_user_data_outcome, ReceiveTurn, DataTurn, ForwardTurn, is_sack_valid, SendsAtOnce, FastRetransmits, sack_taken, AcknowledgesBy, SackWhere, SackBy, SackTurn, IsSack, acknowledging, AnswersPacket, EndWhere, EndsBy, delay_outcome, LossTurn}
+use Rattle.dcsctp_machine.specs.turns.DataOutcomes.{TakeWhere, TakeTurn, with_transfer, with_tracker, flush_by, AnswersTo, FlushTurn, no_user_data_text, no_user_data_outcome, ReceiveTurn, DataTurn, ForwardTurn, is_sack_valid, SendsAtOnce, FastRetransmits, sack_taken, AcknowledgesBy, SackWhere, SackBy, SackTurn, acknowledging, AnswersPacket, EndWhere, EndsBy, delay_outcome, LossTurn}
 use Rattle.dcsctp_machine.specs.Fitting.{AllSent, FitsHeld, FitsEndpoint, IsSendable, Sendable, TurnFits}
 use Rattle.dcsctp_machine.proofs.FlushKeeps.{goes_out_keeps}
-use Rattle.dcsctp_machine_refinement.proofs.FlushFits.{kept_fits, still_fits, data_sendable, where_fits_sendable, sack_sendable, told_sends, goes_out_sends, draft_sendable, flush_fits, behind_fits}
+use Rattle.dcsctp_machine_refinement.proofs.FlushFits.{kept_fits, still_fits, data_sendable, where_fits_sendable, own_sack_sendable, told_sends, goes_out_sends, draft_sendable, flush_fits, behind_fits}
 use Rattle.dcsctp_machine_refinement.proofs.Sent.{all_sent_append}
 use Rattle.dcsctp_machine_refinement.proofs.BegunSends.{FitsPeer, peer_fits}
 use Rattle.dcsctp_machine_refinement.proofs.ShutdownFits.{step_fits}
@@ -65,7 +66,7 @@ no_data_fits e (Some held) tsn h fits number = reported_fits (fits_mtu e (to_pee
 
 receive_fits : (e : Endpoint) (transfer : Option Transfer) (immediate : Bool) (tsn : ℕ) (o : Outcome) → ReceiveTurn e transfer immediate tsn o → FitsEndpoint e → TurnFits o
 receive_fits e None immediate tsn o turn h = subst TurnFits (sym turn) (record { after = h; sends = (tt, tt) })
-receive_fits e (Some transfer) immediate tsn o turn h = subst TurnFits (sym turn.3) (moved_fits e turn.0 h)
+receive_fits e (Some transfer) immediate tsn o turn h = subst TurnFits (sym turn.2) (moved_fits e turn.0 h)
 
 pub data_fits : (e : Endpoint) (immediate : Bool) (tsn : ℕ) (payload : List ℕ) (o : Outcome) → DataTurn e immediate tsn payload o → FitsEndpoint e → tsn < 2 ^ 32 → TurnFits o
 data_fits e immediate tsn [] o turn h number = subst TurnFits (sym turn) (no_data_fits e (held_in e.core) tsn h (peer_fits e.core h.core) number)
@@ -125,17 +126,13 @@ sack_fits e (Some transfer) tsn o turn h = sack_by_fits e (held_in e.core) trans
 
 -- ---- the end of a packet
 
-is_sack_sendable : (transfer : Transfer) (sack : Plain) → IsSack transfer sack → Sendable (plain sack)
-is_sack_sendable transfer (unworked (sack_chunk sack)) is = sack_sendable transfer sack is
-is_sack_sendable transfer chunk is = absurd is
-
 answers_fit : (e : Endpoint) (held : Held) (transfer : Transfer) (tracker : TrackerState) (o : Outcome) → AnswersPacket e held transfer tracker o → FitsEndpoint e → FitsHeld held → TurnFits o
 answers_fit e held transfer tracker o turn h fits =
-    let sack : Sendable (plain turn.sack) = is_sack_sendable (record transfer { tracker = tracker }) turn.sack turn.is_sack in
+    let sack : Plain = own_sack (record transfer { tracker = tracker }) in
     subst TurnFits (sym turn.is)
-    (flush_fits (with_tracker e transfer (acknowledged tracker)) (acknowledging e held turn.sack) turn.answers turn.allowed
-    (transfer_fits e (record transfer { tracker = acknowledged tracker }) h)
-    (record { tag = fits.peer.tag; contents = where_fits_sendable (room_in e (draft_to held)) turn.sack sack }))
+    (flush_fits (with_tracker e transfer (sacked tracker)) (acknowledging e held sack) turn.answers turn.allowed
+    (transfer_fits e (record transfer { tracker = sacked tracker }) h)
+    (record { tag = fits.peer.tag; contents = where_fits_sendable (room_in e (draft_to held)) sack (own_sack_sendable (record transfer { tracker = tracker })) }))
 
 end_where_fits : (b : Bool) (e : Endpoint) (peer : Option Held) (transfer : Transfer) (tracker : TrackerState) (o : Outcome) → EndWhere b e peer transfer tracker o → FitsEndpoint e → FitsPeer peer → TurnFits o
 end_where_fits true e (Some held) transfer tracker o turn h fits = answers_fit e held transfer tracker o turn h fits
@@ -144,7 +141,8 @@ end_where_fits false e peer transfer tracker o turn h fits = subst TurnFits (sym
 
 pub end_fits : (e : Endpoint) (transfer : Option Transfer) (o : Outcome) → EndsBy e transfer o → FitsEndpoint e → TurnFits o
 end_fits e None o turn h = subst TurnFits (sym turn) (still_fits e h)
-end_fits e (Some transfer) o turn h = end_where_fits turn.0.is_acknowledgement_due e (held_in e.core) transfer turn.0 o turn.2 h (peer_fits e.core h.core)
+end_fits e (Some transfer) o turn h =
+    let tracker = after_packet_end e.moment transfer.tracker in end_where_fits (is_acknowledgement_due tracker) e (held_in e.core) transfer tracker o turn h (peer_fits e.core h.core)
 
 -- ---- what the user takes and sends
 

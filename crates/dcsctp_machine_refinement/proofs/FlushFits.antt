@@ -2,19 +2,21 @@
 use Rattle.std.proofs.Common.{◌≡◌, ℕ, ◌<◌, ◌^◌, Bool, true, false, Option, None, Some, List, [], ◌∷◌, ◌++◌, map, length, refl, sym, subst, arith}
 use Rattle.std.specs.Prelude.{nat_le, if◌then◌else◌}
 use Rattle.std.specs.List.{AllByRecursion}
-use Rattle.dcsctp_wire.specs.Content.{SackContent, data_chunk, sack_chunk, i_data_chunk, forward_tsn_chunk, i_forward_tsn_chunk}
+use Rattle.dcsctp_wire.specs.Content.{data_chunk, i_data_chunk, forward_tsn_chunk, i_forward_tsn_chunk}
 use Rattle.dcsctp_wire.specs.Spelling.{chunk_bytes}
 use Rattle.dcsctp_machine.specs.declared.association.Held.{Held}
 use Rattle.dcsctp_machine.specs.declared.word.Word.{Word}
 use Rattle.dcsctp_machine.specs.Settings.{IsValid, FitsOptions}
 use Rattle.dcsctp_machine.specs.Event.{Event, sent}
 use Rattle.dcsctp_machine.specs.Packet.{Plain, unworked, plain, plain_out, Content, Emission, content_in}
-use Rattle.dcsctp_machine.specs.Transfer.{Transfer, TrackerState, is_idle}
+use Rattle.dcsctp_machine.specs.transfer.Transfer.{Transfer, is_idle}
+use Rattle.dcsctp_machine.specs.transfer.Tracker.{TrackerState}
+use Rattle.dcsctp_machine.proofs.TrackerLemmas.{sack_fits}
 use Rattle.dcsctp_machine.specs.Endpoint.{Endpoint, Core, closed, cookie_wait, cookie_echoed, open_in, held_in}
 use Rattle.dcsctp_machine.specs.Outcome.{Outcome, still, behind}
 use Rattle.dcsctp_machine.specs.Deadlines.{T1Runs}
 use Rattle.dcsctp_machine.specs.control.Choices.{plain_contents}
-use Rattle.dcsctp_machine.specs.turns.FlushOutcomes.{Told, amount_is_low, total_amount_is_low, message_is_sent, message_may_have_expired, message_has_expired, message_ends, told_event, Answer, answer_contents, filled, goes_out, asked, draft_to, next_draft, flush_of, Ask, first_ask, later_ask, where_fits, wants_sack, room_in, IsSackOf, Acknowledges, IsForward, IsData, FitsPlain, nothing_waits, Gives, GivesWhere, AnsweredBelow, Answered, Answers, at_limit, at_empty, after_packet, packets_allowed, FlushAnswers, flush_answered}
+use Rattle.dcsctp_machine.specs.turns.FlushOutcomes.{own_sack, Told, amount_is_low, total_amount_is_low, message_is_sent, message_may_have_expired, message_has_expired, message_ends, told_event, Answer, answer_contents, filled, goes_out, asked, draft_to, next_draft, flush_of, Ask, first_ask, later_ask, where_fits, wants_sack, room_in, Acknowledges, IsForward, IsData, FitsPlain, nothing_waits, Gives, GivesWhere, AnsweredBelow, Answered, Answers, at_limit, at_empty, after_packet, packets_allowed, FlushAnswers, flush_answered}
 use Rattle.dcsctp_machine.specs.Fitting.{AllSent, FitsHeld, FitsCore, FitsEndpoint, IsSendable, Sendable, SendablePacket, TurnFits}
 use Rattle.dcsctp_machine.proofs.FlushKeeps.{Keeps, asked_keeps, begun_by, flush_keeps}
 use Rattle.dcsctp_machine_refinement.proofs.Sent.{all_sent_append}
@@ -75,15 +77,15 @@ one_sendable false chunk good = tt
 pub where_fits_sendable : (room : ℕ) (chunk : Plain) → Sendable (plain chunk) → AllByRecursion Sendable (plain_contents (where_fits room chunk))
 where_fits_sendable room chunk good = one_sendable (nat_le (length (chunk_bytes (plain_out chunk))) room) chunk good
 
-pub sack_sendable : (transfer : Transfer) (sack : SackContent) → IsSackOf transfer sack → Sendable (plain (unworked (sack_chunk sack)))
-sack_sendable transfer sack is = record { fits = is.fits; reads = refl; said = tt }
+pub own_sack_sendable : (transfer : Transfer) → Sendable (plain (own_sack transfer))
+own_sack_sendable transfer = record { fits = sack_fits transfer.tracker transfer.reassembly.remaining_bytes; reads = refl; said = tt }
 
 sacks_sendable : (wants : Bool) (room : ℕ) (transfer : Transfer) (after : TrackerState) (chunks : List Plain) → Acknowledges wants room transfer after chunks
     → AllByRecursion Sendable (plain_contents chunks)
 sacks_sendable false room transfer after chunks h = subst (λ (cs : List Plain). AllByRecursion Sendable (plain_contents cs)) (sym h.1) tt
 sacks_sendable true room transfer after chunks h =
-    subst (λ (cs : List Plain). AllByRecursion Sendable (plain_contents cs)) (sym h.3)
-    (where_fits_sendable room (unworked (sack_chunk h.1)) (sack_sendable transfer h.1 h.2))
+    subst (λ (cs : List Plain). AllByRecursion Sendable (plain_contents cs)) (sym h.1)
+    (where_fits_sendable room (own_sack transfer) (own_sack_sendable transfer))
 
 -- chunks one behind another
 plain_sendable : (first second : List Plain) → AllByRecursion Sendable (plain_contents first) → AllByRecursion Sendable (plain_contents second)

@@ -1,9 +1,12 @@
 -- What the end of a packet and a flush are where nothing waits, and nothing that came in is to be acknowledged.
-use Rattle.std.proofs.Common.{◌≡◌, ℕ, zero, suc, Bool, false, Option, None, Some, List, [], ◌∷◌, refl, sym, subst, ap, ◌∙◌}
+use Rattle.std.proofs.Common.{◌≡◌, ℕ, zero, suc, Bool, true, false, Option, None, Some, List, [], ◌∷◌, refl, sym, subst, ap, ◌∙◌}
 use Rattle.std.proofs.lemmas.List.{append-nil}
 use Rattle.dcsctp_machine.specs.Event.{Event}
 use Rattle.dcsctp_machine.specs.Packet.{Content, Emission}
-use Rattle.dcsctp_machine.specs.Transfer.{TrackerState, Transfer}
+use Rattle.dcsctp_machine.specs.declared.tracking.AckState.{AckState}
+use Rattle.dcsctp_machine.specs.declared.tracking.AckState.TheVariants.{Idle, BecomingDelayed, Delayed, Immediate}
+use Rattle.dcsctp_machine.specs.transfer.Tracker.{TrackerState, is_due, delayed_from, after_packet_end, owes_acknowledgement, is_acknowledgement_due}
+use Rattle.dcsctp_machine.specs.transfer.Transfer.{Transfer}
 use Rattle.dcsctp_machine.specs.Endpoint.{Endpoint, held_in}
 use Rattle.dcsctp_machine.specs.Outcome.{Outcome, still}
 use Rattle.dcsctp_machine.specs.turns.DataOutcomes.{with_transfer, EndWhere, EndsBy}
@@ -15,17 +18,24 @@ use Rattle.dcsctp_machine.proofs.FlushKeeps.{next_is_empty}
 -- Nothing that came in is to be acknowledged.
 abbrev pub OwesNothing : Option Transfer → Type 0
 OwesNothing None = Unit {0}
-OwesNothing (Some transfer) = (transfer.tracker.owes_acknowledgement ≡ false) × (transfer.tracker.is_acknowledgement_due ≡ false)
+OwesNothing (Some transfer) = (owes_acknowledgement transfer.tracker ≡ false) × (is_acknowledgement_due transfer.tracker ≡ false)
 
 same_transfer : (e : Endpoint) (transfer : Transfer) → e.below.transfer ≡ Some transfer → with_transfer e transfer ≡ e
 same_transfer e transfer is = ap (λ (t : Option Transfer). record e { below = record e.below { transfer = t } }) (sym is)
 
+-- The end of a packet leaves a tracker that owes nothing.
+ends_in : (moment : ℕ) (tracker : TrackerState) (state : AckState) → is_due state true ≡ false → delayed_from moment tracker state ≡ tracker
+ends_in moment tracker Idle owes = refl
+ends_in moment tracker BecomingDelayed owes = absurd (cc)
+ends_in moment tracker Delayed owes = refl
+ends_in moment tracker Immediate owes = refl
+
 ends_by : (e : Endpoint) (transfer : Option Transfer) (o : Outcome) → e.below.transfer ≡ transfer → OwesNothing transfer → EndsBy e transfer o → o ≡ still e
 ends_by e None o is owes turn = turn
 ends_by e (Some transfer) o is owes turn =
-    let same : turn.0 ≡ transfer.tracker = turn.1.nothing owes.0 in
-    let here : EndWhere transfer.tracker.is_acknowledgement_due e (held_in e.core) transfer transfer.tracker o =
-    subst (λ (tracker : TrackerState). EndWhere tracker.is_acknowledgement_due e (held_in e.core) transfer tracker o) same turn.2 in
+    let same : after_packet_end e.moment transfer.tracker ≡ transfer.tracker = ends_in e.moment transfer.tracker transfer.tracker.acknowledgement owes.0 in
+    let here : EndWhere (is_acknowledgement_due transfer.tracker) e (held_in e.core) transfer transfer.tracker o =
+    subst (λ (tracker : TrackerState). EndWhere (is_acknowledgement_due tracker) e (held_in e.core) transfer tracker o) same turn in
     let stays : o ≡ still (with_transfer e transfer) = subst (λ (b : Bool). EndWhere b e (held_in e.core) transfer transfer.tracker o) owes.1 here in
     stays ∙ ap still (same_transfer e transfer is)
 
@@ -34,11 +44,10 @@ ends_still e o owes turn = ends_by e e.below.transfer o refl owes turn
 
 may_end : (e : Endpoint) (transfer : Option Transfer) → e.below.transfer ≡ transfer → OwesNothing transfer → EndsBy e transfer (still e)
 may_end e None is owes = refl
-may_end e (Some transfer) is owes = (
-  transfer.tracker,
-  record { cumulative_tsn = refl; numbers = refl; due = refl; owes = refl; nothing = λ none. refl; delayed = λ some due. absurd (cc) },
-  subst (λ (b : Bool). EndWhere b e (held_in e.core) transfer transfer.tracker (still e)) (sym owes.1) (ap still (sym (same_transfer e transfer is))),
-)
+may_end e (Some transfer) is owes =
+    let same : after_packet_end e.moment transfer.tracker ≡ transfer.tracker = ends_in e.moment transfer.tracker transfer.tracker.acknowledgement owes.0 in
+    subst (λ (tracker : TrackerState). EndWhere (is_acknowledgement_due tracker) e (held_in e.core) transfer tracker (still e)) (sym same)
+    (subst (λ (b : Bool). EndWhere b e (held_in e.core) transfer transfer.tracker (still e)) (sym owes.1) (ap still (sym (same_transfer e transfer is))))
 
 pub still_ends : (e : Endpoint) → OwesNothing e.below.transfer → EndsBy e e.below.transfer (still e)
 still_ends e owes = may_end e e.below.transfer refl owes

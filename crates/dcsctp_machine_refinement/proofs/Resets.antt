@@ -16,9 +16,10 @@ use Rattle.dcsctp_machine.specs.Settings.{packet_size_limit, IsValid, FitsOption
 use Rattle.dcsctp_machine.specs.Event.{Event}
 use Rattle.dcsctp_machine.specs.Packet.{re_config, Emission}
 use Rattle.dcsctp_machine.specs.Reconfiguration.{ResetParameter, outgoing_reset_request, incoming_reset_request, reconfiguration_response, other_reset_parameter, reset_parameter_content, reset_parameter_in}
-use Rattle.dcsctp_machine.specs.Transfer.{Transfer}
+use Rattle.dcsctp_machine.specs.transfer.Transfer.{Transfer}
 use Rattle.dcsctp_machine.specs.Deadlines.{T1Runs}
-use Rattle.dcsctp_machine.specs.Endpoint.{Endpoint, Core, closed, cookie_wait, cookie_echoed, open_in, RunningTimer}
+use Rattle.dcsctp_machine.specs.Endpoint.{Endpoint, Core, closed, cookie_wait, cookie_echoed, open_in}
+use Rattle.dcsctp_machine.specs.Timers.{RunningTimer}
 use Rattle.dcsctp_machine.specs.Outcome.{Outcome, quiet, sends, to_peer}
 use Rattle.dcsctp_machine.specs.Outcome.{fits as fits_mtu}
 use Rattle.dcsctp_machine.specs.control.Effect.{Effect}

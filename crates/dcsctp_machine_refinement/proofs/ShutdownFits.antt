@@ -5,7 +5,7 @@ use Rattle.dcsctp_machine.specs.declared.association.Pair.{Pair}
 use Rattle.dcsctp_machine.specs.declared.association.Held.{Held}
 use Rattle.dcsctp_machine.specs.Cause.{cookie_received_while_shutting_down}
 use Rattle.dcsctp_machine.specs.Packet.{error_of, Content, shutdown, shutdown_ack, shutdown_complete, plain}
-use Rattle.dcsctp_machine.specs.Transfer.{Transfer}
+use Rattle.dcsctp_machine.specs.transfer.Transfer.{Transfer}
 use Rattle.dcsctp_machine.specs.Endpoint.{Endpoint, Core, closed, cookie_wait, cookie_echoed, open_in, OpenPhase, established, shutdown_pending, shutdown_sent, shutdown_received, shutdown_ack_sent}
 use Rattle.dcsctp_machine.specs.Outcome.{Outcome, sends, to_peer}
 use Rattle.dcsctp_machine.specs.Turn.{BeginTurn}

@@ -5,12 +5,12 @@ use Rattle.dcsctp_machine.specs.declared.association.Held.{Held}
 use Rattle.dcsctp_machine.specs.declared.kinds.ErrorKind.TheVariants.{ProtocolViolation}
 use Rattle.dcsctp_machine.specs.Event.{error}
 use Rattle.dcsctp_machine.specs.Packet.{plain, error_of}
-use Rattle.dcsctp_machine.specs.Transfer.{MessageContent, TrackerState, Transfer}
+use Rattle.dcsctp_machine.specs.transfer.Tracker.{TrackerState, after_packet_end, is_acknowledgement_due, sacked}
+use Rattle.dcsctp_machine.specs.transfer.Transfer.{MessageContent, Transfer}
 use Rattle.dcsctp_machine.specs.Endpoint.{Endpoint, held_in}
 use Rattle.dcsctp_machine.specs.Outcome.{Outcome, quiet, sends, fits, to_peer, behind}
 use Rattle.dcsctp_machine.specs.control.Choices.{plain_contents}
-use Rattle.dcsctp_machine.specs.turns.FlushOutcomes.{Answer, goes_out, draft_to}
-use Rattle.dcsctp_machine.specs.turns.TransferMoves.{acknowledged}
+use Rattle.dcsctp_machine.specs.turns.FlushOutcomes.{own_sack, Answer, goes_out, draft_to}
 use Rattle.dcsctp_machine.specs.turns.MessageOutcomes.{MessageRefusal, message_refusal, Sending, queue_by, queue_one, queue_all, takes_any, SendAnswers, send_by, SendTurn}
 use Rattle.dcsctp_machine.specs.turns.PreparedResets.{ResetRefusal, reset_refusal, with_queue, OwnResetsWhere, OwnResetsTurn}
 use Rattle.dcsctp_machine.specs.turns.DataOutcomes.{with_transfer, with_tracker, flush_by, AnswersTo, FlushTurn, no_user_data_text, no_user_data_outcome, ReceiveTurn, DataTurn, ForwardTurn, is_sack_valid, FastRetransmits, sack_taken, AcknowledgesBy, SackWhere, SackBy, SackTurn, acknowledging, EndWhere, EndsBy, TakeWhere, TakeTurn, delay_outcome, LossTurn}
@@ -40,7 +40,7 @@ no_data_up e (Some held) tsn h = reported_up (fits e (to_peer held (plain (error
 
 receive_up : (e : Endpoint) (transfer : Option Transfer) (immediate : Bool) (tsn : ℕ) (o : Outcome) → ReceiveTurn e transfer immediate tsn o → Up e → UpAfter o
 receive_up e None immediate tsn o turn h = subst UpAfter (sym turn) h
-receive_up e (Some transfer) immediate tsn o turn h = subst UpAfter (sym turn.3) h
+receive_up e (Some transfer) immediate tsn o turn h = subst UpAfter (sym turn.2) h
 
 pub data_up : (e : Endpoint) (immediate : Bool) (tsn : ℕ) (payload : List ℕ) (o : Outcome) → DataTurn e immediate tsn payload o → Up e → UpAfter o
 data_up e immediate tsn [] o turn h = subst UpAfter (sym turn) (no_data_up e (held_in e.core) tsn h)
@@ -82,13 +82,14 @@ sack_up e (Some transfer) tsn o turn h = sack_by_up e (held_in e.core) transfer 
 
 end_where_up : (b : Bool) (e : Endpoint) (peer : Option Held) (transfer : Transfer) (tracker : TrackerState) (o : Outcome) → EndWhere b e peer transfer tracker o → Up e → UpAfter o
 end_where_up true e (Some held) transfer tracker o turn h =
-    subst UpAfter (sym turn.is) (flush_up (with_tracker e transfer (acknowledged tracker)) (acknowledging e held turn.sack) turn.answers turn.allowed h)
+    subst UpAfter (sym turn.is) (flush_up (with_tracker e transfer (sacked tracker)) (acknowledging e held (own_sack (record transfer { tracker = tracker }))) turn.answers turn.allowed h)
 end_where_up true e None transfer tracker o turn h = subst UpAfter (sym turn) h
 end_where_up false e peer transfer tracker o turn h = subst UpAfter (sym turn) h
 
 pub end_up : (e : Endpoint) (transfer : Option Transfer) (o : Outcome) → EndsBy e transfer o → Up e → UpAfter o
 end_up e None o turn h = subst UpAfter (sym turn) h
-end_up e (Some transfer) o turn h = end_where_up turn.0.is_acknowledgement_due e (held_in e.core) transfer turn.0 o turn.2 h
+end_up e (Some transfer) o turn h =
+    let tracker = after_packet_end e.moment transfer.tracker in end_where_up (is_acknowledgement_due tracker) e (held_in e.core) transfer tracker o turn h
 
 -- ---- what the user takes and sends
 

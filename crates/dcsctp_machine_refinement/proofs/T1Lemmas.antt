@@ -2,7 +2,8 @@
 use Rattle.std.proofs.Common.{ℕ, true, false, List, [], ◌∷◌, sym, subst}
 use Rattle.dcsctp_machine.specs.Cookie.{cookie_at}
 use Rattle.dcsctp_machine.specs.Packet.{Content, init, init_ack, cookie_echo, cookie_ack, re_config, abort, shutdown, shutdown_ack, shutdown_complete, plain}
-use Rattle.dcsctp_machine.specs.Endpoint.{Endpoint, going_on, fresh_endpoint}
+use Rattle.dcsctp_machine.specs.Endpoint.{Endpoint, fresh_endpoint}
+use Rattle.dcsctp_machine.specs.Timers.{going_on}
 use Rattle.dcsctp_machine.specs.Outcome.{Outcome}
 use Rattle.dcsctp_machine.specs.Turn.{Input, arrival, refusal, packet_begins, chunk_input, packet_ends, act_input, user_sets, user_sends, user_resets, user_takes, timer_expires, time_passes, has_data, ContentTurn, ActTurn}
 use Rattle.dcsctp_machine.specs.turns.TimerOutcomes.{t1_goes_on}

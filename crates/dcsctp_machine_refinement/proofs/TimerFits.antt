@@ -1,7 +1,8 @@
 -- Each turn of T1 leaves numbers that fit their fields, and sends what is read as itself.
 use Rattle.std.proofs.Common.{Bool, true, false, Option, None, Some, List, [], sym, subst, arith}
 use Rattle.std.specs.Option.{option_map}
-use Rattle.dcsctp_machine.specs.Endpoint.{Endpoint, Core, closed, cookie_wait, cookie_echoed, open_in, RunningTimer, going_on}
+use Rattle.dcsctp_machine.specs.Endpoint.{Endpoint, Core, closed, cookie_wait, cookie_echoed, open_in}
+use Rattle.dcsctp_machine.specs.Timers.{RunningTimer, going_on}
 use Rattle.dcsctp_machine.specs.Outcome.{Outcome, fits}
 use Rattle.dcsctp_machine.specs.Turn.{ActTurn}
 use Rattle.dcsctp_machine.specs.control.Acts.{t1_expires}

@@ -8,7 +8,7 @@ use Rattle.std.specs.declared.cmp.Ordering.TheVariants.{Less, Equal, Greater}
 use Rattle.std.specs.Map.{lookup, remove_entry}
 use Rattle.std.proofs.lemmas.List.{map-append, take-map, drop-map}
 use Rattle.std.proofs.lemmas.Bool.Decides.{nat_tests}
-use Rattle.dcsctp_machine.specs.Transfer.{MessageContent}
+use Rattle.dcsctp_machine.specs.transfer.Transfer.{MessageContent}
 use Rattle.dcsctp_receive_entries.specs.Entries.{Ascends, count_up_to, Splits}
 use Rattle.dcsctp_receive_entries.proofs.EntryLemmas.{split_from_none, lookup_at, remove_at, set_at, get_put, put_again, count_within, insert_new}
 use Rattle.dcsctp_receive_reassembly.specs.declared.stream.Taken.{Taken}

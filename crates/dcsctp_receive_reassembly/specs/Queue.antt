@@ -2,7 +2,7 @@
 -- that was sent before it (RFC 6525, section 5.2.2).
 use Rattle.std.specs.Prelude.{◌≡◌, ◌==◌, ℕ, ◌+◌, ◌-◌, ◌^◌, nat_lt, Bool, true, false, ◌&&◌, Option, None, Some, List, [], ◌∷◌, ◌++◌, length, map}
 use Rattle.std.specs.List.{list_any, sum_by}
-use Rattle.dcsctp_machine.specs.Transfer.{ReassemblyState}
+use Rattle.dcsctp_machine.specs.transfer.Transfer.{ReassemblyState}
 use Rattle.dcsctp_receive_reassembly.specs.declared.arrivals.SkippedTo.{SkippedTo}
 use Rattle.dcsctp_receive_reassembly.specs.declared.reassembly_queue.Deferred.{Deferred}
 use Rattle.dcsctp_receive_reassembly.specs.declared.reassembly_queue.Deferred.TheVariants.{Data as DeferredData, ForwardTsn}

@@ -1,7 +1,7 @@
 -- How many bytes the queue holds.
 use Rattle.std.specs.Prelude.{ℕ, ◌+◌, List, length}
 use Rattle.std.specs.List.{sum_by}
-use Rattle.dcsctp_machine.specs.Transfer.{MessageContent}
+use Rattle.dcsctp_machine.specs.transfer.Transfer.{MessageContent}
 use Rattle.dcsctp_receive_reassembly.specs.Held.{runs_bytes, wholes_bytes}
 use Rattle.dcsctp_receive_reassembly.specs.Streams.{StreamModel}
 

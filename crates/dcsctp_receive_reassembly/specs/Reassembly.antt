@@ -4,7 +4,7 @@ use Rattle.std.specs.Prelude.{◌≡◌, ℕ, ◌+◌, ◌-◌, ◌^◌, ◌≤�
 use Rattle.std.specs.BTreeMap.{is_at}
 use Rattle.std.specs.Ordering.{nat_cmp}
 use Rattle.std.specs.Map.{lookup}
-use Rattle.dcsctp_machine.specs.Transfer.{MessageContent, message_content}
+use Rattle.dcsctp_machine.specs.transfer.Transfer.{MessageContent, message_content}
 use Rattle.dcsctp_receive_reassembly.specs.declared.arrivals.Numbering.{Numbering}
 use Rattle.dcsctp_receive_reassembly.specs.declared.arrivals.Numbering.TheVariants.{Ordered, Unordered, InterleavedOrdered, InterleavedUnordered}
 use Rattle.dcsctp_receive_reassembly.specs.declared.stream.Stream.{Stream}

@@ -4,7 +4,7 @@ use Rattle.std.specs.Prelude.{◌≡◌, ◌==◌, ℕ, ◌+◌, not, if◌then�
 use Rattle.std.specs.List.{filter}
 use Rattle.std.specs.BTreeMap.{BTreeMap, get}
 use Rattle.std.specs.Ordering.{nat_cmp}
-use Rattle.dcsctp_machine.specs.Transfer.{MessageContent}
+use Rattle.dcsctp_machine.specs.transfer.Transfer.{MessageContent}
 use Rattle.dcsctp_receive_reassembly.specs.declared.arrivals.SkippedTo.{SkippedTo}
 use Rattle.dcsctp_receive_reassembly.specs.declared.stream.Stream.{Stream}
 use Rattle.dcsctp_receive_reassembly.specs.NamedStreams.{is_named}

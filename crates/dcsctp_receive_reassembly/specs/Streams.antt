@@ -2,7 +2,7 @@
 -- section 3.6). Messages are numbered without wrap.
 use Rattle.std.specs.List.{filter}
 use Rattle.std.specs.Prelude.{◌≡◌, ◌==◌, ℕ, ◌+◌, ◌-◌, ◌^◌, ◌<◌, ◌≤◌, MatchBool, min, max, nat_le, take, drop, slice_get, if◌then◌else◌, not, ◌||◌, Bool, true, false, Option, None, Some, List, [], ◌∷◌, ◌++◌, length, map}
-use Rattle.dcsctp_machine.specs.Transfer.{MessageContent}
+use Rattle.dcsctp_machine.specs.transfer.Transfer.{MessageContent}
 use Rattle.dcsctp_receive_reassembly.specs.declared.arrivals.Data.{Data}
 use Rattle.dcsctp_receive_reassembly.specs.declared.arrivals.SkippedTo.{SkippedTo}
 use Rattle.dcsctp_receive_reassembly.specs.declared.arrivals.SkippedTo.TheVariants.{Ssn, Mid}

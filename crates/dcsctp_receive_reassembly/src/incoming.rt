@@ -6,7 +6,7 @@ ghost use Rattle.std.specs.BTreeMap.{get};
 ghost use Rattle.std.specs.Ordering.{nat_cmp};
 ghost use Rattle.dcsctp_receive_reassembly.specs.Held.{capped};
 ghost use Rattle.dcsctp_receive_reassembly.specs.QueuedBytes.{ready_bytes, streams_bytes};
-ghost use Rattle.dcsctp_machine.specs.Transfer.{message_content};
+ghost use Rattle.dcsctp_machine.specs.transfer.Transfer.{message_content};
 ghost use Rattle.dcsctp_receive_reassembly.specs.Streams.{chunk_of, TakesOnStream};
 ghost use Rattle.dcsctp_receive_reassembly.specs.Reassembly.{
   incoming_of,

@@ -14,7 +14,7 @@ ghost use Rattle.dcsctp_receive_reassembly.specs.Queue.{
   WorksAll,
   WorksFront,
 };
-ghost use Rattle.dcsctp_machine.specs.Transfer.{message_content};
+ghost use Rattle.dcsctp_machine.specs.transfer.Transfer.{message_content};
 ghost use Rattle.dcsctp_receive_reassembly.specs.Streams.{chunk_of};
 
 use crate::arrivals::{Data, SkippedTo};

@@ -10,7 +10,7 @@ ghost use Rattle.dcsctp_receive_reassembly.specs.Held.{capped};
 ghost use Rattle.dcsctp_receive_reassembly.specs.NamedStreams.{is_named};
 ghost use Rattle.dcsctp_receive_reassembly.specs.QueuedBytes.{ready_bytes, stream_bytes, streams_bytes};
 ghost use Rattle.dcsctp_receive_reassembly.specs.Runs.{behind_place};
-ghost use Rattle.dcsctp_machine.specs.Transfer.{message_content};
+ghost use Rattle.dcsctp_machine.specs.transfer.Transfer.{message_content};
 ghost use Rattle.dcsctp_receive_reassembly.specs.Streams.{new_stream, skipped_stream, skipped, skip_deliveries, skip_bytes};
 ghost use Rattle.dcsctp_receive_reassembly.specs.Reassembly.{
   incoming_of,

@@ -8,7 +8,7 @@ ghost use Rattle.std.specs.Ordering.{nat_cmp};
 ghost use Rattle.dcsctp_receive_reassembly.specs.Runs.{run_of, part_of, whole_of};
 ghost use Rattle.dcsctp_receive_reassembly.specs.Held.{capped, runs_bytes, wholes_bytes};
 ghost use Rattle.dcsctp_receive_reassembly.specs.QueuedBytes.{stream_bytes};
-ghost use Rattle.dcsctp_machine.specs.Transfer.{MessageContent, message_content};
+ghost use Rattle.dcsctp_machine.specs.transfer.Transfer.{MessageContent, message_content};
 ghost use Rattle.dcsctp_receive_reassembly.specs.declared.stream.Waiting.{Waiting};
 ghost use Rattle.dcsctp_receive_reassembly.specs.Streams.{stream_of, waits_as, is_waiting, is_due, HoldsPlace, delivered_from, deliveries_from, delivered_as, next_after, ready_with, NothingTaken, WaitsAmong, TakesOrdered, TakesAhead, TakesUnordered, next_past, runs_up_to, skipped, skipped_in_order, skipped_out_of_order, skip_deliveries, skip_bytes, chunk_of, data_part, TakesOnStream, new_stream};
 

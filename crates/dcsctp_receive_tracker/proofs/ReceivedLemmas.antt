@@ -5,8 +5,9 @@ use Rattle.std.proofs.lemmas.Bool.Decides.{nat_tests}
 use Rattle.std.proofs.lemmas.List.{take-append-drop}
 use Rattle.dcsctp_receive_entries.specs.Entries.{entry_before}
 use Rattle.dcsctp_receive_entries.proofs.EntryLemmas.{entry_within}
-use Rattle.dcsctp_receive_tracker.specs.declared.received.TsnRange.{TsnRange}
-use Rattle.dcsctp_receive_tracker.specs.Received.{IsBeyond, IsSpaced, is_in, Adds, Advances, Receives}
+use Rattle.dcsctp_machine.specs.declared.tracking.TsnRange.{TsnRange}
+use Rattle.dcsctp_receive_tracker.specs.Received.{IsSpaced, Adds, Advances, Receives}
+use Rattle.dcsctp_machine.specs.transfer.Ranges.{IsBeyond, is_in}
 
 -- the last number of the last range, or this one where there is none
 abbrev pub end_of : ℕ → List TsnRange → ℕ

@@ -1,7 +1,8 @@
 -- Which TSNs were received (RFC 9260, section 6.2). TSNs are numbered without wrap: the number of a TSN modulo 2^32 is the TSN.
-use Rattle.std.specs.Prelude.{◌≡◌, ◌==◌, ℕ, ◌+◌, ◌<◌, ◌≤◌, nat_le, Bool, false, not, ◌&&◌, ◌||◌, List, [], ◌∷◌, ◌++◌, map, take, drop, suc, slice_get, Option, None, Some}
+use Rattle.std.specs.Prelude.{◌≡◌, ◌==◌, ℕ, ◌≤◌, Bool, false, not, ◌||◌, List, [], ◌∷◌, ◌++◌, map, take, drop, suc, slice_get, Option, None, Some}
 use Rattle.std.specs.BTreeMap.{BTreeMap}
-use Rattle.dcsctp_receive_tracker.specs.declared.received.TsnRange.{TsnRange}
+use Rattle.dcsctp_machine.specs.declared.tracking.TsnRange.{TsnRange}
+use Rattle.dcsctp_machine.specs.transfer.Ranges.{IsBeyond, is_in, is_received}
 
 -- A map holds the ranges. The key of an entry is the first number of a range, and the value is its last.
 abbrev pub range_of : ℕ × ℕ → TsnRange
@@ -11,24 +12,10 @@ range_of entry = record { first = entry.0; last = entry.1 }
 abbrev pub ranges_of : BTreeMap ℕ ℕ → List TsnRange
 ranges_of ranges = map range_of ranges.entries
 
--- Do the ranges ascend, with a number missing between each two, and one between this number and the first of them?
-abbrev pub IsBeyond : ℕ → List TsnRange → Type 0
-IsBeyond number [] = Unit {0}
-IsBeyond number (range ∷ ranges) = (number + 1 < range.first) × (range.first ≤ range.last) × IsBeyond range.last ranges
-
 -- Do the ranges ascend, with a number missing between each two?
 abbrev pub IsSpaced : List TsnRange → Type 0
 IsSpaced [] = Unit {0}
 IsSpaced (range ∷ ranges) = (range.first ≤ range.last) × IsBeyond range.last ranges
-
--- Is the number in one of the ranges?
-abbrev pub is_in : ℕ → List TsnRange → Bool
-is_in number [] = false
-is_in number (range ∷ ranges) = (nat_le range.first number && nat_le number range.last) || is_in number ranges
-
--- Are all up to this number received, or is it in one of the ranges?
-abbrev pub is_received : ℕ → ℕ → List TsnRange → Bool
-is_received cumulative number ranges = nat_le number cumulative || is_in number ranges
 
 -- The entry with this key is taken out.
 abbrev pub Removes : ℕ → List (ℕ × ℕ) → List (ℕ × ℕ) → Type 0

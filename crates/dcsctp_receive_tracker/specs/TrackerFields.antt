@@ -1,7 +1,8 @@
 -- What is true of the fields of a tracker at all times.
 use Rattle.std.specs.Prelude.{◌≤◌, length}
 use Rattle.dcsctp_receive_tracker.specs.declared.data_tracker.DataTracker.TheInside.{Inside}
-use Rattle.dcsctp_receive_tracker.specs.Received.{IsBeyond, ranges_of}
+use Rattle.dcsctp_receive_tracker.specs.Received.{ranges_of}
+use Rattle.dcsctp_machine.specs.transfer.Ranges.{IsBeyond}
 use Rattle.dcsctp_receive_tracker.specs.Acknowledging.{IsWithinReach, RunsOnce, RunsWhereDelayed}
 
 pub record IsKept (tracker : Inside) : Type 0 where

@@ -1,22 +1,17 @@
 //! Which TSNs were received, and when that is acknowledged (RFC 9260, sections 6.2 and 6.7). The association
 //! reports to it each DATA chunk, each FORWARD TSN chunk, each end of a packet and each moment.
 
-ghost use Rattle.std.specs.Prelude.{◌≡◌, ◌<◌, ◌-◌, ◌^◌, ◌≤◌, true, take, length, IfOk};
+ghost use Rattle.std.specs.Prelude.{◌≡◌, ◌<◌, ◌-◌, ◌^◌, ◌≤◌, ◌||◌, not, true, false, take, length, IfOk, OnOk, OnErr};
 ghost use Rattle.std.specs.List.{flat_map};
 ghost use Rattle.std.specs.Duration.{as_nanos};
 ghost use Rattle.std.specs.Int.{w32, to_be_bytes};
-ghost use Rattle.dcsctp_receive_tracker.specs.Received.{ranges_of, IsBeyond};
-ghost use Rattle.dcsctp_receive_tracker.specs.Acknowledging.{
-  number_of,
-  block_bytes,
-  IsWithinReach,
-  acknowledgement_delay,
-  after_arrival,
-  is_due,
-};
+ghost use Rattle.dcsctp_receive_tracker.specs.Received.{ranges_of};
+ghost use Rattle.dcsctp_machine.specs.transfer.Ranges.{IsBeyond};
+ghost use Rattle.dcsctp_receive_tracker.specs.Acknowledging.{IsWithinReach};
+ghost use Rattle.dcsctp_machine.specs.transfer.Tracker.{number_of, block_bytes, acknowledgement_delay, after_arrival, is_due, with_duplicate};
 
 use crate::received::{Received, advance};
-use dcsctp_machine::{BackoffAlgorithm, Options, SocketTime};
+use dcsctp_machine::{AckState, BackoffAlgorithm, Options, SocketTime};
 use dcsctp_send_timer::Timer;
 use dcsctp_wire::SackChunk;
 use std::alloc::{AllocError, Global};
@@ -36,22 +31,6 @@ const MAX_DUPLICATE_TSNS: usize = 20;
 // Past this number of TSNs no TSN is accepted any more. No association lives that long.
 const LAST_CUMULATIVE: u64 = 0xffff_fffe_ffff_ffff;
 
-/// When the data that was received is acknowledged.
-#[derive(Clone, Copy, Debug, PartialEq, Eq)]
-pub enum AckState {
-    /// All is acknowledged.
-    Idle,
-
-    /// Data was received with the packet that is being handled; it may be acknowledged later.
-    BecomingDelayed,
-
-    /// A packet with data waits to be acknowledged, and the timer runs.
-    Delayed,
-
-    /// The next SACK is due at once.
-    Immediate,
-}
-
 // What a packet with new data or a FORWARD TSN leads to: every second one is acknowledged at once, and an
 // urgent one, too (RFC 9260, section 6.2).
 fn after_arrival(state: AckState, is_urgent: bool) -> AckState
@@ -64,6 +43,25 @@ fn after_arrival(state: AckState, is_urgent: bool) -> AckState
         AckState::Idle | AckState::BecomingDelayed => AckState::BecomingDelayed,
         AckState::Delayed | AckState::Immediate => AckState::Immediate,
     }
+}
+
+// Is data to be acknowledged at once? Yes if it came before, has the I flag, is the association's first, or
+// leaves a gap (RFC 9260, sections 5.1, 6.2 and 6.7).
+fn is_urgent(is_new: bool, immediate_ack: bool, has_seen_data: bool, has_gap: bool) -> bool
+    ensures { result ≡ (not is_new || immediate_ack || not has_seen_data || has_gap) }
+{
+    !is_new || immediate_ack || !has_seen_data || has_gap
+}
+
+// Keeps a TSN that came again for the next SACK, if there is room for it.
+fn keep_duplicate(duplicates: &mut Vec<u32>, tsn: u32, is_new: bool) -> Result<(), AllocError>
+    ensures ok { OnOk result (duplicates.new.items ≡ with_duplicate tsn is_new duplicates.old.items) }
+    ensures err { OnErr result ((is_new ≡ false) × (duplicates.new.items ≡ duplicates.old.items)) }
+{
+    if !is_new && duplicates.len() < MAX_DUPLICATE_TSNS {
+        duplicates.push(tsn)?;
+    }
+    Ok(())
 }
 
 // Is a SACK due in this state, or could one go along with other chunks?
@@ -183,9 +181,9 @@ pub struct DataTracker {
 impl Model for DataTracker {
     ghost use Rattle.std.specs.Duration.{as_nanos};
     ghost use Rattle.dcsctp_receive_tracker.specs.Received.{ranges_of};
-    ghost use Rattle.dcsctp_receive_tracker.specs.Acknowledging.{TrackerModel};
+    ghost use Rattle.dcsctp_machine.specs.transfer.Tracker.{TrackerState};
 
-    ghost Value = { TrackerModel };
+    ghost Value = { TrackerState };
 
     ghost use Rattle.dcsctp_receive_tracker.specs.TrackerFields.{IsKept};
 
@@ -203,28 +201,15 @@ impl Model for DataTracker {
 }
 
 impl DataTracker {
-    ghost use Rattle.std.specs.Prelude.{OnOk, OnErr, ◌%◌, []};
-    ghost use Rattle.dcsctp_machine.specs.Transfer.{new_tracker};
-    ghost use Rattle.dcsctp_receive_tracker.specs.Acknowledging.{
-      new_tracker_model,
-      tracker_state,
-      is_valid_tsn,
-      Observes,
-      Forwards,
-      after_packet_end,
-      is_acknowledgement_due,
-      acknowledged,
-      after_moment,
-      stopped,
-      RunsWhereDelayed,
-    };
-    ghost use Rattle.dcsctp_send_timer.specs.Timer.{running_deadline, expires_at};
+    ghost use Rattle.std.specs.Prelude.{◌%◌, []};
+    ghost use Rattle.dcsctp_receive_tracker.specs.Acknowledging.{RunsWhereDelayed};
+    ghost use Rattle.dcsctp_machine.specs.transfer.Tracker.{new_tracker, is_valid_tsn, is_new_tsn, observed, is_forward, after_forward, after_packet_end, is_acknowledgement_due, acknowledged, after_moment, stopped, owes_acknowledgement, with_timeout};
+    ghost use Rattle.dcsctp_machine.specs.Timers.{running_deadline, expires_at};
 
     /// Nothing was received yet, and `peer_initial_tsn` is the TSN that is to come first. The one before it
     /// counts as received (RFC 9260, section 6.2), which is 2^32 - 1 if the first is 0. Allocates nothing.
     pub fn new(alloc: Global, options: &Options, peer_initial_tsn: u32) -> DataTracker
-        ensures whole { result ≡ new_tracker_model options.now peer_initial_tsn }
-        ensures shown { tracker_state result ≡ new_tracker peer_initial_tsn }
+        ensures { result ≡ new_tracker options.now peer_initial_tsn }
     {
         let longest_delay = options.delayed_ack_max_timeout;
         DataTracker {
@@ -273,18 +258,19 @@ impl DataTracker {
     /// `Err`: an allocation failed, and nothing has changed.
     pub fn observe(&mut self, tsn: u32, immediate_ack: bool) -> Result<bool, AllocError>
         requires { is_valid_tsn self.old.cumulative tsn ≡ true }
-        ensures ok { IfOk result (λ is_new. Observes tsn immediate_ack self.old is_new self.new) }
+        ensures is_new { IfOk result (λ is_new. is_new ≡ is_new_tsn tsn self.old) }
+        ensures ok { OnOk result (self.new ≡ observed tsn immediate_ack self.old) }
         ensures err { OnErr result (self.new ≡ self.old) }
     {
         let number = number_of(self.received.cumulative, tsn);
         let is_new = self.received.receive(number)?;
-        if !is_new && self.duplicates.len() < MAX_DUPLICATE_TSNS {
-            self.duplicates.push(tsn)?;
-        }
-        let is_urgent = !is_new
-            || immediate_ack
-            || !self.has_seen_data
-            || !self.received.ranges.is_empty();
+        keep_duplicate(&mut self.duplicates, tsn, is_new)?;
+        let is_urgent = is_urgent(
+            is_new,
+            immediate_ack,
+            self.has_seen_data,
+            !self.received.ranges.is_empty(),
+        );
         self.has_seen_data = true;
         self.acknowledgement = after_arrival(self.acknowledgement, is_urgent);
         self.delay.stop();
@@ -305,7 +291,7 @@ impl DataTracker {
 
     /// Is a SACK due, whatever else is sent?
     pub fn is_acknowledgement_due(&self) -> bool
-        ensures { result ≡ (tracker_state self.now).is_acknowledgement_due }
+        ensures { result ≡ is_acknowledgement_due self.now }
     {
         is_due(self.acknowledgement, false)
     }
@@ -313,7 +299,7 @@ impl DataTracker {
     /// Was data received that isn't acknowledged yet? Then a SACK may go along with other chunks (RFC 9260,
     /// section 6.1).
     pub fn owes_acknowledgement(&self) -> bool
-        ensures { result ≡ (tracker_state self.now).owes_acknowledgement }
+        ensures { result ≡ owes_acknowledgement self.now }
     {
         is_due(self.acknowledgement, true)
     }
@@ -321,7 +307,7 @@ impl DataTracker {
     /// Is a SACK to be sent now? A delayed one counts if other chunks are sent that it can go along with. If
     /// the answer is yes, all counts as acknowledged.
     pub fn should_send_ack(&mut self, also_if_delayed: bool) -> bool
-        ensures answer { result ≡ is_acknowledgement_due also_if_delayed self.old }
+        ensures answer { result ≡ is_due self.old.acknowledgement also_if_delayed }
         ensures left { self.new ≡ acknowledged also_if_delayed self.old }
     {
         let is_due = is_due(self.acknowledgement, also_if_delayed);
@@ -361,7 +347,8 @@ impl DataTracker {
     /// and it is acknowledged as data is. If that isn't beyond the cumulative TSN, a SACK is due at once,
     /// nothing else changes, and the result is `false`.
     pub fn handle_forward_tsn(&mut self, new_cumulative_tsn: u32) -> bool
-        ensures { Forwards new_cumulative_tsn self.old result self.new }
+        ensures moves { result ≡ is_forward self.old.cumulative new_cumulative_tsn }
+        ensures left { self.new ≡ after_forward new_cumulative_tsn self.old }
     {
         let cumulative = self.received.cumulative;
         if cumulative > LAST_CUMULATIVE || number_of(cumulative, new_cumulative_tsn) <= cumulative {
@@ -399,13 +386,7 @@ impl DataTracker {
     /// The retransmission timeout is `rto` from now on. The next delay is the shorter of its half and
     /// `delayed_ack_max_timeout` of the options.
     pub fn update_rto(&mut self, rto: Duration)
-        ensures { self.new ≡ record self.old {
-          delay = record self.old.delay {
-            settings = record self.old.delay.settings {
-              duration = acknowledgement_delay (as_nanos rto) self.old.longest_delay;
-            };
-          };
-        } }
+        ensures { self.new ≡ with_timeout (as_nanos rto) self.old }
     {
         self.delay
             .set_duration(acknowledgement_delay(rto, self.longest_delay));

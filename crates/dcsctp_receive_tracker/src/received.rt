@@ -17,27 +17,12 @@ ghost use Rattle.std.specs.Map.Iter.{deref_pair};
 ghost use Rattle.std.specs.Ordering.{nat_cmp};
 ghost use Rattle.std.specs.BTreeMap.{IsOrdered, get, insert_entry, is_at};
 ghost use Rattle.dcsctp_receive_entries.specs.Entries.{count_up_to, entry_before};
-ghost use Rattle.dcsctp_receive_tracker.specs.Received.{
-  range_of,
-  ranges_of,
-  IsBeyond,
-  IsSpaced,
-  Joins,
-  is_in,
-  Adds,
-  Advances,
-  Receives,
-};
+ghost use Rattle.dcsctp_receive_tracker.specs.Received.{range_of, ranges_of, IsSpaced, Joins, Adds, Advances, Receives};
+ghost use Rattle.dcsctp_machine.specs.transfer.Ranges.{IsBeyond, is_in};
 
+use dcsctp_machine::TsnRange;
 use std::alloc::AllocError;
 use std::collections::BTreeMap;
-
-/// TSNs in a row, by number: all from the first to the last.
-#[derive(Clone, Copy, Debug, Drop)]
-pub struct TsnRange {
-    pub first: u64,
-    pub last: u64,
-}
 
 // The ranges around a number.
 #[derive(Clone, Copy, Drop)]

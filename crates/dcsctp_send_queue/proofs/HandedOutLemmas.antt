@@ -1,6 +1,6 @@
 -- What a socket shows of a queue whose streams are handed out.
 use Rattle.std.proofs.Common.{◌≡◌, ◌==◌, ◌||◌, ℕ, zero, suc, ◌<◌, Bool, true, false, if◌then◌else◌, Option, List, [], ◌∷◌, drop, map, take, refl, sym, ap, ◌∙◌, arith}
-use Rattle.dcsctp_machine.specs.Transfer.{QueuedStream, is_among, handing, queue_handing_out}
+use Rattle.dcsctp_machine.specs.transfer.Transfer.{QueuedStream, is_among, handing, queue_handing_out}
 use Rattle.dcsctp_send_queue.specs.declared.backlog.Backlog.{Backlog}
 use Rattle.dcsctp_send_streams.specs.declared.message.UnderWay.{UnderWay}
 use Rattle.dcsctp_send_streams.specs.declared.stream.Pause.{Pause}

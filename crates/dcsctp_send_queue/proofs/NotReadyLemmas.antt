@@ -1,7 +1,7 @@
 -- How many streams are to be reset, and how many of them are ready for it.
 use Rattle.std.proofs.Common.{◌≡◌, nat_lt, ℕ, zero, suc, ◌+◌, ◌<◌, Bool, true, false, not, if◌then◌else◌, Option, None, Some, Ok, Err, List, [], ◌∷◌, length, refl, sym, ap, arith}
 use Rattle.std.proofs.lemmas.Bool.Decides.{nat_tests}
-use Rattle.dcsctp_machine.specs.Transfer.{is_none_ready}
+use Rattle.dcsctp_machine.specs.transfer.Transfer.{is_none_ready}
 use Rattle.dcsctp_send_streams.specs.declared.message.UnderWay.{UnderWay}
 use Rattle.dcsctp_send_streams.specs.Waiting.{Stream, is_pausing}
 use Rattle.dcsctp_send_streams.specs.Ranking.{stream_at, count_pausing, IsFound, IsAscending}

@@ -1,6 +1,6 @@
 -- The message under way as other numbers count.
 use Rattle.std.proofs.Common.{◌≡◌, ◌∙◌, ◌==◌, ℕ, Bool, true, false, if◌then◌else◌, Option, Some, Ok, List, [], ◌∷◌, set, map, refl, ap}
-use Rattle.dcsctp_machine.specs.Transfer.{QueuedStream}
+use Rattle.dcsctp_machine.specs.transfer.Transfer.{QueuedStream}
 use Rattle.dcsctp_send_queue.specs.declared.backlog.Backlog.{Backlog}
 use Rattle.dcsctp_send_streams.specs.declared.message.UnderWay.{UnderWay}
 use Rattle.dcsctp_send_streams.specs.Waiting.{Stream, unused, counted}

@@ -1,7 +1,7 @@
 -- What a socket shows of a queue in which a stream is prepared to be reset.
 use Rattle.std.proofs.Common.{◌≡◌, ◌==◌, nat_lt, ℕ, zero, suc, ◌-◌, ◌<◌, ◌^◌, min, Bool, true, false, if◌then◌else◌, Option, None, Some, List, [], ◌∷◌, length, drop, refl, sym, ap, ◌∙◌, arith}
 use Rattle.std.proofs.lemmas.List.{length-take}
-use Rattle.dcsctp_machine.specs.Transfer.{QueuedStream, SendQueueState, queued_stream, queue_with}
+use Rattle.dcsctp_machine.specs.transfer.Transfer.{QueuedStream, SendQueueState, queued_stream, queue_with}
 use Rattle.dcsctp_machine.specs.turns.PreparedResets.{is_under_way_on, pausing, with_number, ready_with, queue_pausing}
 use Rattle.dcsctp_send_queue.specs.declared.backlog.Backlog.{Backlog}
 use Rattle.dcsctp_send_streams.specs.declared.message.UnderWay.{UnderWay}

@@ -1,6 +1,6 @@
 -- What a socket shows of a queue that is made ready for another association.
 use Rattle.std.proofs.Common.{◌≡◌, ℕ, Option, None, Some, IfSome, List, [], ◌∷◌, filter, map, refl, sym, ap, ◌∙◌, Bool, true, false, if◌then◌else◌}
-use Rattle.dcsctp_machine.specs.Transfer.{QueuedStream, queued_stream, resumed, queue_with, with_more, queue_after_reset, handed_back, queue_handed_back}
+use Rattle.dcsctp_machine.specs.transfer.Transfer.{QueuedStream, queued_stream, resumed, queue_with, with_more, queue_after_reset, handed_back, queue_handed_back}
 use Rattle.dcsctp_send_queue.specs.declared.backlog.Backlog.{Backlog}
 use Rattle.dcsctp_send_streams.specs.declared.message.UnderWay.{UnderWay}
 use Rattle.dcsctp_send_streams.specs.Waiting.{Stream, unused, begun_anew, raised, committed, rolled_back}

@@ -1,7 +1,7 @@
 -- What a send queue holds, and what a socket shows of it.
 use Rattle.std.specs.Prelude.{◌≡◌, ℕ, ◌==◌, ◌<◌, nat_lt, Bool, true, false, Option, None, Some, List, [], ◌∷◌, length, map, filter, if◌then◌else◌}
 use Rattle.std.specs.List.{list_any}
-use Rattle.dcsctp_machine.specs.Transfer.{StreamNumber, QueuedStream, SendQueueState}
+use Rattle.dcsctp_machine.specs.transfer.Transfer.{StreamNumber, QueuedStream, SendQueueState}
 use Rattle.dcsctp_send_queue.specs.declared.backlog.Backlog.{Backlog}
 use Rattle.dcsctp_send_streams.specs.declared.message.UnderWay.{UnderWay}
 use Rattle.dcsctp_send_streams.specs.declared.stream.Pause.{Pause}

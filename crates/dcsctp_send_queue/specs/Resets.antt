@@ -9,7 +9,7 @@ use Rattle.dcsctp_send_streams.specs.declared.stream.Pause.TheVariants.{Open, Pa
 use Rattle.dcsctp_send_streams.specs.Waiting.{Waiting, Stream, paused, handed_out, begun_anew, raised}
 use Rattle.dcsctp_send_streams.specs.Telling.{low_events, expiries, size_of}
 use Rattle.dcsctp_send_streams.specs.Ranking.{turn_of}
-use Rattle.dcsctp_machine.specs.Transfer.{SendQueueState, queued_stream}
+use Rattle.dcsctp_machine.specs.transfer.Transfer.{SendQueueState, queued_stream}
 use Rattle.dcsctp_machine.specs.turns.PreparedResets.{queue_pausing}
 use Rattle.dcsctp_send_queue.specs.Backlog.{changed, used, stream_of, queue_state}
 use Rattle.dcsctp_send_queue.specs.Leaving.{count_under_way}

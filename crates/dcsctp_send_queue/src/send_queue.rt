@@ -32,7 +32,7 @@ impl Model for SendQueue {
 
 impl SendQueue {
     ghost use Rattle.std.specs.Prelude.{◌≡◌, ◌+◌, ◌-◌, ◌<◌, ◌++◌, vec_len, IfSome, OnOk, OnErr, IfOk, map, take, if◌then◌else◌, false, not};
-    ghost use Rattle.dcsctp_machine.specs.Transfer.{empty_queue, queue_after_reset, queue_handed_back, queue_handing_out, queue_added, has_data, is_none_ready};
+    ghost use Rattle.dcsctp_machine.specs.transfer.Transfer.{empty_queue, queue_after_reset, queue_handed_back, queue_handing_out, queue_added, has_data, is_none_ready};
     ghost use Rattle.dcsctp_machine.specs.turns.SettingOutcomes.{stream_priority, stream_low_threshold, set_in_queue};
     ghost use Rattle.dcsctp_send_streams.specs.Telling.{contents, TellsFront};
     ghost use Rattle.dcsctp_send_streams.specs.Fragment.{HasSize};

@@ -1,7 +1,7 @@
 -- What a user sees of a queue.
 use Rattle.std.proofs.Common.{◌≡◌, ℕ, ◌-◌, ◌==◌, ◌&&◌, ◌||◌, nat_lt, Bool, ap, arith}
 use Rattle.std.proofs.lemmas.Bool.Decides.{nat_tests}
-use Rattle.dcsctp_machine.specs.Transfer.{can_send}
+use Rattle.dcsctp_machine.specs.transfer.Transfer.{can_send}
 use Rattle.dcsctp_send_outstanding.specs.Items.{bytes_in_flight}
 use Rattle.dcsctp_send_retransmission.specs.Queue.{QueueModel, may_send, retransmission_state}
 

@@ -10,7 +10,7 @@ use Rattle.dcsctp_machine.specs.Event.{Event, lifecycle_message_maybe_expired, l
 use Rattle.dcsctp_send_queue.specs.declared.backlog.Backlog.{Backlog}
 use Rattle.dcsctp_send_queue.specs.Calls.{Takes, TakesNone, StopsTaking, StopsDiscarding}
 use Rattle.dcsctp_send_streams.specs.Telling.{contents, TellsFront}
-use Rattle.dcsctp_send_timer.specs.Timer.{TimerModel}
+use Rattle.dcsctp_machine.specs.Timers.{TimerModel}
 use Rattle.dcsctp_send_outstanding.specs.declared.item.Item.{Item}
 use Rattle.dcsctp_send_retransmission.specs.declared.packet.Packet.{Packet}
 use Rattle.dcsctp_send_outstanding.specs.declared.progress.Change.TheVariants.{SendAgain, Abandon}

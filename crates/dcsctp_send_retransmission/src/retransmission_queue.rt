@@ -68,8 +68,8 @@ impl Model for RetransmissionQueue {
 impl RetransmissionQueue {
     ghost use Rattle.std.specs.Prelude.{true, ◌&&◌, IfNone, ◌+◌, ◌-◌, ◌/◌, ◌%◌, ◌^◌, ◌<◌, ◌≤◌, IfSome, length};
     ghost use Rattle.std.specs.Duration.{as_nanos};
-    ghost use Rattle.dcsctp_machine.specs.Transfer.{new_retransmission};
-    ghost use Rattle.dcsctp_send_timer.specs.Timer.{expires_at};
+    ghost use Rattle.dcsctp_machine.specs.transfer.Transfer.{new_retransmission};
+    ghost use Rattle.dcsctp_machine.specs.Timers.{expires_at};
     ghost use Rattle.dcsctp_send_outstanding.specs.Items.{unacknowledged_items};
     ghost use Rattle.dcsctp_send_outstanding.specs.Outstanding.{next_tsn, distance_to, FindsPlaces};
     ghost use Rattle.dcsctp_send_retransmission.specs.Queue.{retransmission_state, new_queue, may_send, queue_at, timer_with};

@@ -1,2 +1,1 @@
 pub mod RetransmissionTimeout
-pub mod Timer

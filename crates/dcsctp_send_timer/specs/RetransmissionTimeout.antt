@@ -2,7 +2,7 @@
 -- whole nanoseconds.
 use Rattle.std.specs.Prelude.{ℕ, ◌+◌, ◌-◌, ◌*◌, ◌/◌, min, max, Option, None, Some, nat_lt, if◌then◌else◌}
 use Rattle.std.specs.Duration.{as_nanos}
-use Rattle.dcsctp_machine.specs.Transfer.{TimeoutState}
+use Rattle.dcsctp_machine.specs.transfer.Transfer.{TimeoutState}
 use Rattle.dcsctp_machine.specs.declared.options.Options.{Options}
 
 -- the bounds that the options set

@@ -103,7 +103,7 @@ impl Model for RetransmissionTimeout {
 }
 
 impl RetransmissionTimeout {
-    ghost use Rattle.dcsctp_machine.specs.Transfer.{new_timeout};
+    ghost use Rattle.dcsctp_machine.specs.transfer.Transfer.{new_timeout};
     ghost use Rattle.dcsctp_send_timer.specs.RetransmissionTimeout.{timeout_state, unmeasured_timeout, timeout_after};
 
     /// The timeout before any round trip was measured: `rto_initial` of the options, which is not cut to

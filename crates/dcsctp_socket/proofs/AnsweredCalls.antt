@@ -1,7 +1,7 @@
 -- Calls, by what their socket answers.
 use Rattle.std.proofs.Common.{◌≡◌, ℕ, Bool, true, false, List, [], ◌∷◌, sym, ap, subst, ◌∙◌, Result, Ok, Err, map}
 use Rattle.rand_core.specs.Stream.{Stream}
-use Rattle.dcsctp_machine.specs.control.Acts.{connect, abort_with}
+use Rattle.dcsctp_machine.specs.control.Acts.{abort_with}
 use Rattle.dcsctp_api.specs.declared.errors.SocketFault.{SocketFault}
 use Rattle.dcsctp_api.specs.Calls.{UserView, Connects, Follows, FailsWhole, Closes, RanOut}
 use Rattle.dcsctp_core.specs.declared.context.Context.{Context}
@@ -10,7 +10,7 @@ use Rattle.dcsctp_socket_calls.specs.Parts.{WorksConnect, CallMoved, CallCut, Ac
 use Rattle.dcsctp_socket.specs.SocketView.{Settles, user_view_of}
 use Rattle.dcsctp_machine.specs.declared.ends.AbortReason.TheVariants.{CloseCalled}
 use Rattle.dcsctp_machine.specs.declared.message.SendOptions.{SendOptions}
-use Rattle.dcsctp_machine.specs.Transfer.{MessageContent}
+use Rattle.dcsctp_machine.specs.transfer.Transfer.{MessageContent}
 use Rattle.dcsctp_machine.specs.Endpoint.{Endpoint}
 use Rattle.dcsctp_machine.specs.CallTurns.{Turned}
 use Rattle.dcsctp_machine.specs.turns.MessageOutcomes.{sending_of}

@@ -5,7 +5,7 @@ use Rattle.dcsctp_machine.specs.declared.association.Held.{Held}
 use Rattle.dcsctp_machine.specs.Event.{Event}
 use Rattle.dcsctp_machine.specs.Packet.{Emission}
 use Rattle.dcsctp_machine.specs.Reconfiguration.{ResetParameter}
-use Rattle.dcsctp_machine.specs.Transfer.{Transfer}
+use Rattle.dcsctp_machine.specs.transfer.Transfer.{Transfer}
 use Rattle.dcsctp_machine.specs.Endpoint.{Endpoint, Core, closed, cookie_wait, cookie_echoed, open_in, held_in}
 use Rattle.dcsctp_machine.specs.Following.{next_chunk}
 use Rattle.dcsctp_machine.specs.Outcome.{Outcome, quiet, sends}
@@ -49,7 +49,7 @@ no_data_goes e (Some held) tsn = sent_goes _ e _
 
 received_goes : (e : Endpoint) (transfer : Option Transfer) (immediate : Bool) (tsn : ℕ) (o : Outcome) → ReceiveTurn e transfer immediate tsn o → GoesOn o
 received_goes e None immediate tsn o is = goes_as o _ is refl
-received_goes e (Some transfer) immediate tsn o turn = goes_as o _ turn.3 refl
+received_goes e (Some transfer) immediate tsn o turn = goes_as o _ turn.2 refl
 
 pub data_goes : (e : Endpoint) (immediate : Bool) (tsn : ℕ) (payload : List ℕ) (o : Outcome) → DataTurn e immediate tsn payload o → GoesOn o
 data_goes e immediate tsn [] o is = goes_as o _ is (no_data_goes e (held_in e.core) tsn)

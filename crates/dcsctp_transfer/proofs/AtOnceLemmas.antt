@@ -4,7 +4,7 @@ use Rattle.std.specs.List.{AllByRecursion, slice_get}
 use Rattle.std.specs.declared.alloc.Global.{Global}
 use Rattle.std.proofs.lemmas.List.Sums.{sum_by-cons}
 use Rattle.dcsctp_wire_build.specs.Building.{Building}
-use Rattle.dcsctp_machine.specs.Transfer.{RetransmissionState, Transfer}
+use Rattle.dcsctp_machine.specs.transfer.Transfer.{RetransmissionState, Transfer}
 use Rattle.dcsctp_api.specs.declared.events.SocketEvent.{SocketEvent}
 use Rattle.dcsctp_send_queue.specs.declared.backlog.Backlog.{Backlog}
 use Rattle.dcsctp_send_outstanding.specs.declared.item.Item.{Item}

@@ -6,7 +6,7 @@ use Rattle.std.specs.List.{AllByRecursion}
 use Rattle.dcsctp_wire.specs.Content.{ChunkContent}
 use Rattle.dcsctp_wire_build.specs.Building.{Building, bytes_remaining}
 use Rattle.dcsctp_machine.specs.Event.{Event}
-use Rattle.dcsctp_machine.specs.Transfer.{SendQueueState, RetransmissionState, Transfer, has_data, must_give}
+use Rattle.dcsctp_machine.specs.transfer.Transfer.{SendQueueState, RetransmissionState, Transfer, has_data, must_give}
 use Rattle.dcsctp_send_queue.specs.declared.backlog.Backlog.{Backlog}
 use Rattle.dcsctp_send_queue.specs.Backlog.{queue_state}
 use Rattle.dcsctp_send_retransmission.specs.Queue.{QueueModel, header_of, retransmission_state}

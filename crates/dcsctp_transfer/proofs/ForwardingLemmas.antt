@@ -10,7 +10,7 @@ use Rattle.dcsctp_wire.proofs.Lengths.{length-chunk_bytes}
 use Rattle.dcsctp_wire_build.specs.Building.{Building}
 use Rattle.dcsctp_machine.specs.Event.{Event}
 use Rattle.dcsctp_machine.specs.Packet.{unworked}
-use Rattle.dcsctp_machine.specs.Transfer.{SendQueueState, RetransmissionState, Transfer}
+use Rattle.dcsctp_machine.specs.transfer.Transfer.{SendQueueState, RetransmissionState, Transfer}
 use Rattle.dcsctp_machine.specs.turns.FlushOutcomes.{IsForward}
 use Rattle.dcsctp_send_queue.specs.Backlog.{queue_state}
 use Rattle.dcsctp_send_outstanding.specs.declared.item.Item.{Item}

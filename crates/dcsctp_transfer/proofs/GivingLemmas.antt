@@ -2,7 +2,7 @@
 use Rattle.std.proofs.Common.{◌≡◌, ◌∙◌, ◌⊎◌, inl, inr, ℕ, suc, ◌+◌, ◌^◌, ◌<◌, ◌≤◌, ◌==◌, ◌&&◌, nat_le, nat_lt, Bool, true, false, Option, None, Some, List, [], length, refl, ap, sym, subst, arith}
 use Rattle.std.specs.List.{slice_get}
 use Rattle.std.proofs.lemmas.Bool.Decides.{nat_tests}
-use Rattle.dcsctp_machine.specs.Transfer.{SendQueueState, RetransmissionState, can_send, least_chunk, has_free_tsn, has_data, must_give}
+use Rattle.dcsctp_machine.specs.transfer.Transfer.{SendQueueState, RetransmissionState, can_send, least_chunk, has_free_tsn, has_data, must_give}
 use Rattle.dcsctp_send_streams.specs.declared.message.UnderWay.{UnderWay}
 use Rattle.dcsctp_send_streams.proofs.NextLemmas.{none_any}
 use Rattle.dcsctp_send_queue.specs.declared.backlog.Backlog.{Backlog}

@@ -2,7 +2,7 @@
 use Rattle.std.proofs.Common.{◌≡◌, ◌∙◌, ℕ, zero, suc, ◌+◌, ◌%◌, ◌^◌, ◌≤◌, not, Bool, true, false, if◌then◌else◌, List, [], ◌∷◌, length, refl, ap, arith}
 use Rattle.std.specs.List.{sum_by}
 use Rattle.std.proofs.lemmas.List.Sums.{sum_by-cons}
-use Rattle.dcsctp_machine.specs.Transfer.{RetransmissionState, Transfer}
+use Rattle.dcsctp_machine.specs.transfer.Transfer.{RetransmissionState, Transfer}
 use Rattle.dcsctp_machine.specs.turns.TransferMoves.{LosesAll}
 use Rattle.dcsctp_send_outstanding.specs.declared.item.Item.{Item}
 use Rattle.dcsctp_send_outstanding.specs.declared.progress.ItemState.{ItemState}

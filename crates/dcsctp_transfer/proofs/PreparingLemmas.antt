@@ -2,7 +2,7 @@
 use Rattle.std.proofs.Common.{◌≡◌, ℕ, ◌-◌, ◌+◌, ◌≤◌, ◌^◌, min, Bool, true, false, if◌then◌else◌, Option, None, Some, Result, Ok, Err, OnOk, OnErr, List, [], ◌∷◌, ◌++◌, length, map, refl, sym, ap, subst, ◌∙◌, arith}
 use Rattle.std.proofs.lemmas.List.{map-append, length-drop}
 use Rattle.dcsctp_machine.specs.Event.{Event, buffered_amount_low, total_buffered_amount_low}
-use Rattle.dcsctp_machine.specs.Transfer.{QueuedStream, SendQueueState, queued_stream}
+use Rattle.dcsctp_machine.specs.transfer.Transfer.{QueuedStream, SendQueueState, queued_stream}
 use Rattle.dcsctp_machine.specs.turns.FlushOutcomes.{Told, amount_is_low, total_amount_is_low}
 use Rattle.dcsctp_machine.specs.turns.PreparedResets.{is_under_way_on, count_not_begun, queue_pausing, low_told, expired_told, Pauses, PreparesWhere, Prepares}
 use Rattle.dcsctp_send_streams.specs.Waiting.{Waiting, Stream}

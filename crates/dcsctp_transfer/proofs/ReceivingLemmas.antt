@@ -1,15 +1,11 @@
 -- What comes in, as the values that are shown tell it.
-use Rattle.std.proofs.Common.{◌≡◌, ◌==◌, ℕ, ◌+◌, ◌-◌, ◌*◌, ◌%◌, ◌^◌, ◌<◌, ◌≤◌, nat_le, nat_lt, not, ◌&&◌, ◌||◌, Bool, true, false, if◌then◌else◌, Result, Ok, Err, OnOk, OnErr, List, [], ◌∷◌, ◌++◌, length, refl, ap, ◌∙◌, append_assoc, arith}
+use Rattle.std.proofs.Common.{◌≡◌, ◌==◌, ℕ, ◌+◌, ◌-◌, ◌*◌, ◌<◌, ◌≤◌, nat_le, nat_lt, not, ◌&&◌, Bool, true, false, if◌then◌else◌, Result, Ok, Err, OnOk, OnErr, List, [], ◌∷◌, ◌++◌, length, refl, ap, ◌∙◌, append_assoc, arith, subst}
 use Rattle.std.proofs.lemmas.Bool.Decides.{nat_tests}
 use Rattle.std.specs.declared.alloc.AllocError.{AllocError}
-use Rattle.dcsctp_machine.specs.Transfer.{MessageContent, RetransmissionState, TimeoutState, Transfer}
+use Rattle.dcsctp_machine.specs.transfer.Transfer.{MessageContent, RetransmissionState, TimeoutState, Transfer}
 use Rattle.dcsctp_machine.specs.turns.TransferMoves as moves
-use Rattle.dcsctp_send_timer.specs.Timer.{TimerModel, running_deadline}
-use Rattle.dcsctp_receive_tracker.specs.Acknowledging as tracking
-use Rattle.dcsctp_receive_tracker.specs.declared.data_tracker.AckState.{AckState}
-use Rattle.dcsctp_receive_tracker.specs.declared.data_tracker.AckState.TheVariants.{Idle, BecomingDelayed, Delayed, Immediate}
-use Rattle.dcsctp_receive_tracker.specs.Acknowledging.{TrackerModel, tracker_state, distance, number_of, has_numbers_left, is_valid_tsn, after_arrival, is_due, stopped, is_urgent, Observes}
-use Rattle.dcsctp_machine.specs.turns.TransferMoves.{is_above_watermark, tsns_ahead, is_tsn_valid, GainsMessages, TakesTsn, TakesWhere, ReceivesData}
+use Rattle.dcsctp_machine.specs.transfer.Tracker.{TrackerState, is_valid_tsn, is_new_tsn, observed, is_forward, after_forward}
+use Rattle.dcsctp_machine.specs.turns.TransferMoves.{is_above_watermark, GainsMessages, ReceivesWhere, ReceivesData, MovesWhere}
 use Rattle.dcsctp_receive_reassembly.specs.declared.arrivals.SkippedTo.{SkippedTo}
 use Rattle.dcsctp_receive_reassembly.specs.declared.arrivals.Numbering.{Numbering}
 use Rattle.dcsctp_receive_reassembly.specs.declared.arrivals.Numbering.TheVariants.{Ordered, Unordered, InterleavedOrdered, InterleavedUnordered}
@@ -31,40 +27,6 @@ watermark_by window bytes = grind (arith, nat_tests)
 -- What is above the watermark by what is left of the window is so by the bytes that are held.
 pub watermark_shown : (queue : QueueModel) → is_above_watermark (reassembly_state queue) ≡ nat_le (9 * queue.max_size) (10 * queued_bytes queue)
 watermark_shown queue = watermark_by queue.max_size (queued_bytes queue)
-
--- ---- TSNs
-
-ahead_is : (tsn cumulative : ℕ) → tsns_ahead tsn (cumulative % 2 ^ 32) ≡ distance cumulative tsn
-ahead_is tsn cumulative =
-    let twice : cumulative % 2 ^ 32 % 2 ^ 32 ≡ cumulative % 2 ^ 32 = omega arith in
-    ap (λ (n : ℕ). (tsn + (2 ^ 32 - n)) % 2 ^ 32) twice
-
-near_by : (cumulative ahead : ℕ) → ahead < 2 ^ 32
-    → (nat_le ahead 65535 || nat_le (2 ^ 31) ahead) ≡ nat_le (if nat_lt ahead (2 ^ 31) then cumulative + ahead else cumulative - (2 ^ 32 - ahead)) (cumulative + 65535)
-near_by cumulative ahead bound = by_side (nat_lt ahead (2 ^ 31)) refl
-  where
-    by_side : (b : Bool) → nat_lt ahead (2 ^ 31) ≡ b
-        → (nat_le ahead 65535 || nat_le (2 ^ 31) ahead) ≡ nat_le (if b then cumulative + ahead else cumulative - (2 ^ 32 - ahead)) (cumulative + 65535)
-    by_side true less = grind (arith, nat_tests)
-    by_side false more = grind (arith, nat_tests)
-
--- a TSN is valid by what is shown where it is so by its number
-pub valid_shown : (tracker : TrackerModel) (tsn : ℕ) → is_tsn_valid (tracker_state tracker) tsn ≡ is_valid_tsn tracker.cumulative tsn
-valid_shown tracker tsn =
-    let bound : distance tracker.cumulative tsn < 2 ^ 32 = omega arith in
-    ap (λ (ahead : ℕ). has_numbers_left tracker.cumulative && (nat_le ahead 65535 || nat_le (2 ^ 31) ahead)) (ahead_is tsn tracker.cumulative)
-    ∙ ap (λ (near : Bool). has_numbers_left tracker.cumulative && near) (near_by tracker.cumulative (distance tracker.cumulative tsn) bound)
-
--- what came in is to be acknowledged
-pub owes_after : (state : AckState) (is_urgent : Bool) → is_due (after_arrival state is_urgent) true ≡ true
-owes_after Idle true = refl
-owes_after BecomingDelayed true = refl
-owes_after Delayed true = refl
-owes_after Immediate true = refl
-owes_after Idle false = refl
-owes_after BecomingDelayed false = refl
-owes_after Delayed false = refl
-owes_after Immediate false = refl
 
 -- ---- messages that become ready
 
@@ -220,48 +182,45 @@ gains_by_answer (Err error) streams old new leaves stays = gains_by_part streams
 -- ---- all of it
 
 -- what is shown of a tracker and a queue beside what goes out
-abbrev shown : RetransmissionState → TimeoutState → TrackerModel → QueueModel → Transfer
+abbrev shown : RetransmissionState → TimeoutState → TrackerState → QueueModel → Transfer
 shown retransmission timeout tracker queue =
-    record { retransmission = retransmission; timeout = timeout; tracker = tracker_state tracker; reassembly = reassembly_state queue }
+    record { retransmission = retransmission; timeout = timeout; tracker = tracker; reassembly = reassembly_state queue }
 
-takes_where : (b : Bool) (old new : Transfer) → b ≡ true → TakesTsn old new → TakesWhere b old new
-takes_where true old new is takes = takes
-takes_where false old new is takes = absurd (cc)
+receives_where : (b : Bool) (tsn : ℕ) (immediate : Bool) (old new : Transfer) → b ≡ true → moves.TakesData tsn immediate old new → ReceivesWhere b tsn immediate old new
+receives_where true tsn immediate old new is takes = takes
+receives_where false tsn immediate old new is takes = absurd (cc)
 
-taken : (retransmission : RetransmissionState) (timeout : TimeoutState) (old_tracker new_tracker : TrackerModel) (old new : QueueModel) (is_urgent : Bool)
-    → new_tracker.acknowledgement ≡ after_arrival old_tracker.acknowledgement is_urgent → new_tracker.delay ≡ stopped old_tracker.delay → GainsReady old new
-    → TakesTsn (shown retransmission timeout old_tracker old) (shown retransmission timeout new_tracker new)
-taken retransmission timeout old_tracker new_tracker old new is_urgent acknowledgement delay gains =
-    record {
-      retransmission = refl;
-      timeout = refl;
-      owes = ap (λ (state : AckState). is_due state true) acknowledgement ∙ owes_after old_tracker.acknowledgement is_urgent;
-      delay = ap (λ (timer : TimerModel). running_deadline timer.running) delay;
-      reassembly = gains_by old new gains.ready gains.window;
-    }
+moves_where : (b : Bool) (tsn : ℕ) (old new : Transfer) → b ≡ true → moves.GoesForward tsn old new → MovesWhere b tsn old new
+moves_where true tsn old new is goes = goes
+moves_where false tsn old new is goes = absurd (cc)
 
-pub data_received : (retransmission : RetransmissionState) (timeout : TimeoutState) (tsn : ℕ) (immediate is_new : Bool) (old_tracker new_tracker : TrackerModel) (old new : QueueModel)
+gains_where : (b : Bool) (old new : QueueModel) → (b ≡ true → GainsReady old new) → (b ≡ false → new ≡ old) → moves.GainsWhere b (reassembly_state old) (reassembly_state new)
+gains_where true old new gains same = let g = gains refl in gains_by old new g.ready g.window
+gains_where false old new gains same = ap reassembly_state (same refl)
+
+pub data_received : (retransmission : RetransmissionState) (timeout : TimeoutState) (tsn : ℕ) (immediate is_new : Bool) (old_tracker new_tracker : TrackerState) (old new : QueueModel)
     → nat_le (9 * old.max_size) (10 * queued_bytes old) ≡ false → is_valid_tsn old_tracker.cumulative tsn ≡ true
-    → Observes tsn immediate old_tracker is_new new_tracker → GainsReady old new
-    → ReceivesData tsn (shown retransmission timeout old_tracker old) (shown retransmission timeout new_tracker new)
-data_received retransmission timeout tsn immediate is_new old_tracker new_tracker old new below valid observes gains =
+    → is_new ≡ is_new_tsn tsn old_tracker → new_tracker ≡ observed tsn immediate old_tracker → (is_new ≡ true → GainsReady old new) → (is_new ≡ false → new ≡ old)
+    → ReceivesData tsn immediate (shown retransmission timeout old_tracker old) (shown retransmission timeout new_tracker new)
+data_received retransmission timeout tsn immediate is_new old_tracker new_tracker old new below valid fresh left gains same =
     let low : is_above_watermark (reassembly_state old) ≡ false = watermark_shown old ∙ below in
-    let near : is_tsn_valid (tracker_state old_tracker) tsn ≡ true = valid_shown old_tracker tsn ∙ valid in
-    let both : (not (is_above_watermark (reassembly_state old)) && is_tsn_valid (tracker_state old_tracker) tsn) ≡ true =
-    ap (λ (b : Bool). not b && is_tsn_valid (tracker_state old_tracker) tsn) low ∙ near in
-    takes_where _ _ _ both (taken retransmission timeout old_tracker new_tracker old new (is_urgent is_new immediate old_tracker new_tracker) observes.acknowledgement observes.delay gains)
+    let both : (not (is_above_watermark (reassembly_state old)) && is_valid_tsn old_tracker.cumulative tsn) ≡ true =
+    ap (λ (b : Bool). not b && is_valid_tsn old_tracker.cumulative tsn) low ∙ valid in
+    receives_where _ tsn immediate _ _ both (record {
+      reassembly = subst (λ (b : Bool). moves.GainsWhere b (reassembly_state old) (reassembly_state new)) fresh (gains_where is_new old new gains same);
+      rest = ap (λ (t : TrackerState). shown retransmission timeout t new) left;
+    })
 
-pub forwards_as : (tsn : ℕ) (old new : TrackerModel) (b : Bool) → b ≡ true → tracking.Forwards tsn old b new → tracking.Forwards tsn old true new
-forwards_as tsn old new true is forwards = forwards
-forwards_as tsn old new false never forwards = absurd (cc)
-
-pub moved_forward : (retransmission : RetransmissionState) (timeout : TimeoutState) (tsn : ℕ) (old_tracker new_tracker : TrackerModel) (old new : QueueModel)
-    → is_valid_tsn old_tracker.cumulative tsn ≡ true → tracking.Forwards tsn old_tracker true new_tracker → GainsReady old new
+pub moved_forward : (retransmission : RetransmissionState) (timeout : TimeoutState) (tsn : ℕ) (goes_on : Bool) (old_tracker new_tracker : TrackerState) (old new : QueueModel)
+    → is_valid_tsn old_tracker.cumulative tsn ≡ true → goes_on ≡ is_forward old_tracker.cumulative tsn → new_tracker ≡ after_forward tsn old_tracker
+    → (goes_on ≡ true → GainsReady old new) → (goes_on ≡ false → new ≡ old)
     → moves.MovesForward tsn (shown retransmission timeout old_tracker old) (shown retransmission timeout new_tracker new)
-moved_forward retransmission timeout tsn old_tracker new_tracker old new valid forwards gains =
-    takes_where _ _ _ (valid_shown old_tracker tsn ∙ valid)
-    (taken retransmission timeout old_tracker new_tracker old new false forwards.1.acknowledgement forwards.1.delay gains)
+moved_forward retransmission timeout tsn goes_on old_tracker new_tracker old new valid goes left gains same =
+    moves_where _ tsn _ _ valid (record {
+      reassembly = subst (λ (b : Bool). moves.GainsWhere b (reassembly_state old) (reassembly_state new)) goes (gains_where goes_on old new gains same);
+      rest = ap (λ (t : TrackerState). shown retransmission timeout t new) left;
+    })
 
-pub streams_reset : (retransmission : RetransmissionState) (timeout : TimeoutState) (tracker : TrackerModel) (old new : QueueModel) → GainsReady old new
+pub streams_reset : (retransmission : RetransmissionState) (timeout : TimeoutState) (tracker : TrackerState) (old new : QueueModel) → GainsReady old new
     → ResetsStreams (shown retransmission timeout tracker old) (shown retransmission timeout tracker new)
 streams_reset retransmission timeout tracker old new gains = record { reassembly = gains_by old new gains.ready gains.window; rest = refl }

@@ -1,5 +1,5 @@
 -- A SACK that is taken into account, as the values that are shown tell it.
-use Rattle.std.proofs.Common.{◌≡◌, ◌∙◌, ℕ, ◌+◌, ◌-◌, ◌%◌, ◌^◌, ◌≤◌, ◌<◌, nat_le, nat_lt, Bool, true, false, if◌then◌else◌, Option, None, Some, List, [], ◌∷◌, ◌++◌, length, drop, refl, ap, sym, arith}
+use Rattle.std.proofs.Common.{◌≡◌, ◌∙◌, ◌⊎◌, inl, inr, subst, ℕ, ◌+◌, ◌-◌, ◌%◌, ◌^◌, ◌≤◌, ◌<◌, nat_le, nat_lt, Bool, true, false, if◌then◌else◌, Option, None, Some, List, [], ◌∷◌, ◌++◌, length, drop, refl, ap, sym, arith}
 use Rattle.std.proofs.lemmas.Bool.Decides.{nat_tests}
 use Rattle.dcsctp_machine.specs.turns.DataOutcomes.{is_sack_valid}
 use Rattle.std.specs.List.{sum_by}
@@ -7,7 +7,8 @@ use Rattle.std.specs.Option.{option_map}
 use Rattle.std.proofs.lemmas.List.{map-append, length-drop}
 use Rattle.dcsctp_wire.specs.declared.chunk.sack.GapAckBlock.{GapAckBlock}
 use Rattle.dcsctp_machine.specs.Event.{Event}
-use Rattle.dcsctp_machine.specs.Transfer.{RetransmissionState, Transfer}
+use Rattle.dcsctp_machine.specs.transfer.Transfer.{RetransmissionState, Transfer}
+use Rattle.dcsctp_machine.specs.transfer.Tracker.{TrackerState, with_timeout}
 use Rattle.dcsctp_machine.specs.turns.TransferMoves.{TakesSack}
 use Rattle.dcsctp_machine.specs.Ids.{lifecycle_number}
 use Rattle.dcsctp_machine.specs.declared.ids.LifecycleId.{LifecycleId}
@@ -25,8 +26,8 @@ use Rattle.dcsctp_send_outstanding.proofs.ItemsLemmas.{counted_bounded, length-c
 use Rattle.dcsctp_send_retransmission.proofs.AnswerLemmas.{miss_adds_none, acknowledge_adds_none, lessened, reported_lessens, dropped_lessens}
 use Rattle.dcsctp_send_retransmission.specs.Telling.{ends_delivery, told_by, told_of, delivered}
 use Rattle.dcsctp_send_retransmission.specs.Queue as queues
-use Rattle.dcsctp_send_retransmission.specs.Queue.{QueueModel, header_of, retransmission_state, with_items, covered, lossy, missed_until, exiting}
-use Rattle.dcsctp_transfer.specs.Sacks.{delivered_contents, TellsDelivered, TellsSome}
+use Rattle.dcsctp_send_retransmission.specs.Queue.{QueueModel, retransmission_state, with_items, covered, lossy, missed_until, exiting}
+use Rattle.dcsctp_transfer.specs.Sacks.{TellsRoundTrip, delivered_contents, TellsDelivered, TellsSome}
 
 -- ---- what is told
 
@@ -162,9 +163,22 @@ sack_keeps now cumulative window blocks old new within takes =
 
 -- ---- what is shown
 
-pub takes_sack : (old between new : Transfer) (before after : QueueModel) → retransmission_state before ≡ old.retransmission → between ≡ record old { retransmission = retransmission_state after } → new ≡ record between { timeout = new.timeout } → Keeps before after → TakesSack old new
-takes_sack old between new before after old_is between_is new_is keeps =
-    let is : new ≡ record old { retransmission = retransmission_state after; timeout = new.timeout } = new_is ∙ ap (λ (t : Transfer). record t { timeout = new.timeout }) between_is in
+-- what telling a round trip leaves
+pub record Told (old new : Transfer) : Type 0 where
+  pub is : new ≡ record old { timeout = new.timeout; tracker = new.tracker }
+  pub tracker : (new.tracker ≡ old.tracker) ⊎ (new.tracker ≡ with_timeout new.timeout.rto old.tracker)
+
+pub told_trip : {A : Type 0} (rtt : Option A) (old new : Transfer) → TellsRoundTrip rtt old new → Told old new
+told_trip None old new h =
+    record { is = h ∙ ap (λ (t : Transfer). record old { timeout = t.timeout; tracker = t.tracker }) (sym h); tracker = inl (ap (λ (t : Transfer). t.tracker) h) }
+told_trip (Some rtt) old new h =
+    let tracker : new.tracker ≡ with_timeout new.timeout.rto old.tracker = ap (λ (t : Transfer). t.tracker) h in
+    record { is = h ∙ ap (λ (t : TrackerState). record old { timeout = new.timeout; tracker = t }) (sym tracker); tracker = inr tracker }
+
+pub takes_sack : (old between new : Transfer) (before after : QueueModel) → retransmission_state before ≡ old.retransmission → between ≡ record old { retransmission = retransmission_state after } → Told between new → Keeps before after → TakesSack old new
+takes_sack old between new before after old_is between_is told keeps =
+    let is : new ≡ record old { retransmission = retransmission_state after; timeout = new.timeout; tracker = new.tracker } =
+    told.is ∙ ap (λ (t : Transfer). record t { timeout = new.timeout; tracker = new.tracker }) between_is in
     let state : new.retransmission ≡ retransmission_state after = ap (λ (t : Transfer). t.retransmission) is in
     record {
       next_tsn = ap (λ (r : RetransmissionState). r.next_tsn) state ∙ (keeps.next_tsn_same ∙ ap (λ (r : RetransmissionState). r.next_tsn) old_is);
@@ -173,17 +187,17 @@ takes_sack old between new before after old_is between_is new_is keeps =
       outstanding = omega (arith, ap (λ (r : RetransmissionState). r.outstanding_items) state, keeps.outstanding, ap (λ (r : RetransmissionState). r.outstanding_items) old_is);
       unacknowledged = omega (arith, ap (λ (r : RetransmissionState). r.unacknowledged_items) state, keeps.unacknowledged, ap (λ (r : RetransmissionState). r.unacknowledged_items) old_is);
       never_acknowledged = omega (arith, ap (λ (r : RetransmissionState). r.never_acknowledged_items) state, keeps.never_acknowledged, ap (λ (r : RetransmissionState). r.never_acknowledged_items) old_is);
-      tracker = ap (λ (t : Transfer). t.tracker) is;
+      tracker = subst (λ (t : TrackerState). (new.tracker ≡ t) ⊎ (new.tracker ≡ with_timeout new.timeout.rto t)) (ap (λ (t : Transfer). t.tracker) between_is) told.tracker;
       reassembly = ap (λ (t : Transfer). t.reassembly) is;
     }
 
 -- whether an item was acknowledged
-pub has_shown : (old between new : Transfer) (before after : QueueModel) (answer : Bool) → retransmission_state before ≡ old.retransmission → between ≡ record old { retransmission = retransmission_state after } → new ≡ record between { timeout = new.timeout }
+pub has_shown : (old between new : Transfer) (before after : QueueModel) (answer : Bool) → retransmission_state before ≡ old.retransmission → between ≡ record old { retransmission = retransmission_state after } → Told between new
     → answer ≡ nat_lt (never_acknowledged_items after.outstanding.items) (never_acknowledged_items before.outstanding.items)
     → answer ≡ nat_lt new.retransmission.never_acknowledged_items old.retransmission.never_acknowledged_items
-has_shown old between new before after answer old_is between_is new_is answers =
+has_shown old between new before after answer old_is between_is told answers =
     let state : new.retransmission ≡ retransmission_state after =
-    ap (λ (t : Transfer). t.retransmission) (new_is ∙ ap (λ (t : Transfer). record t { timeout = new.timeout }) between_is) in
+    ap (λ (t : Transfer). t.retransmission) (told.is ∙ ap (λ (t : Transfer). record t { timeout = new.timeout; tracker = new.tracker }) between_is) in
     answers
     ∙ (ap (λ (r : RetransmissionState). nat_lt (never_acknowledged_items after.outstanding.items) r.never_acknowledged_items) old_is
     ∙ ap (λ (r : RetransmissionState). nat_lt r.never_acknowledged_items old.retransmission.never_acknowledged_items) (sym state))

@@ -59,8 +59,8 @@ pub record HasRest (outstanding : OutstandingModel) (place : ℕ) (tsns : List �
   pub within : sizes ≤ bytes_remaining packet
 
 -- what a SACK in memory says
-abbrev pub sack_of : SelectiveAck → SackContent
-sack_of sack =
+abbrev pub said_by : SelectiveAck → SackContent
+said_by sack =
     record {
       cumulative_tsn_ack = sack.cumulative_tsn_ack;
       a_rwnd = sack.a_rwnd;

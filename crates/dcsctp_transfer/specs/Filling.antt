@@ -1,13 +1,13 @@
 -- How a packet is filled: with data, and with what acknowledges data (RFC 9260, sections 6.1 and 6.2).
-use Rattle.std.specs.Prelude.{◌≡◌, ℕ, ◌%◌, ◌^◌, ◌&&◌, ◌||◌, nat_le, nat_lt, length, if◌then◌else◌, Bool, true, false, List, [], ◌∷◌, ◌++◌, map}
+use Rattle.std.specs.Prelude.{◌≡◌, ℕ, ◌&&◌, ◌||◌, nat_le, nat_lt, length, if◌then◌else◌, Bool, true, false, List, [], ◌∷◌, ◌++◌, map}
 use Rattle.std.specs.List.{AllByRecursion, flat_map}
-use Rattle.dcsctp_wire.specs.Content.{SackContent, ChunkContent, sack_chunk}
-use Rattle.dcsctp_wire.specs.ReadsBack.{FitsSack, FitsChunk}
+use Rattle.dcsctp_wire.specs.Content.{ChunkContent, sack_chunk}
+use Rattle.dcsctp_wire.specs.ReadsBack.{FitsChunk}
 use Rattle.dcsctp_wire.specs.Spelling.{chunk_bytes}
 use Rattle.dcsctp_wire_build.specs.Building.{Building, bytes_remaining}
 use Rattle.dcsctp_machine.specs.Event.{Event, buffered_amount_low, total_buffered_amount_low, lifecycle_message_fully_sent, lifecycle_message_maybe_expired, lifecycle_message_expired, lifecycle_end}
-use Rattle.dcsctp_machine.specs.Transfer.{SendQueueState, RetransmissionState, Transfer, has_data, can_send, must_give}
-use Rattle.dcsctp_machine.specs.turns.TransferMoves.{acknowledged}
+use Rattle.dcsctp_machine.specs.transfer.Transfer.{SendQueueState, RetransmissionState, Transfer, has_data, can_send, must_give}
+use Rattle.dcsctp_machine.specs.transfer.Tracker.{is_acknowledgement_due, owes_acknowledgement, sack_of, sacked}
 use Rattle.dcsctp_machine.specs.turns.FlushOutcomes.{Told, amount_is_low, total_amount_is_low, message_is_sent, message_may_have_expired, message_has_expired, message_ends, IsData}
 use Rattle.dcsctp_machine.specs.Packet.{unworked}
 
@@ -59,13 +59,7 @@ pub record FillsPacket (old : Transfer) (waiting : SendQueueState) (events : Lis
 
 -- Is a SACK to be sent? One that is delayed may go along.
 abbrev pub is_sack_wanted : Bool → Transfer → Bool
-is_sack_wanted along transfer = transfer.tracker.is_acknowledgement_due || (transfer.tracker.owes_acknowledgement && along)
-
--- a SACK of what was received
-pub record IsSackFor (transfer : Transfer) (sack : SackContent) : Type 0 where
-  pub cumulative : sack.cumulative_tsn_ack ≡ transfer.tracker.cumulative_tsn % 2 ^ 32
-  pub window : sack.a_rwnd ≡ transfer.reassembly.remaining_bytes % 2 ^ 32
-  pub fits : FitsSack sack
+is_sack_wanted along transfer = is_acknowledgement_due transfer.tracker || (owes_acknowledgement transfer.tracker && along)
 
 -- the packet with the chunk after the others, if it fits
 abbrev pub with_chunk : Building → ChunkContent → Building
@@ -74,5 +68,5 @@ with_chunk packet chunk = if nat_le (length (chunk_bytes chunk)) (bytes_remainin
 -- A SACK was made, or none was asked for.
 abbrev pub Acknowledges : Bool → Transfer → Building → Transfer → Building → Type 0
 Acknowledges true old packet new filled =
-    (new ≡ record old { tracker = acknowledged old.tracker }) × (sack : SackContent) × IsSackFor old sack × (filled ≡ with_chunk packet (sack_chunk sack))
+    (new ≡ record old { tracker = sacked old.tracker }) × (filled ≡ with_chunk packet (sack_chunk (sack_of old.tracker old.reassembly.remaining_bytes)))
 Acknowledges false old packet new filled = (new ≡ old) × (filled ≡ packet)

@@ -1,7 +1,7 @@
 -- Our own streams that are prepared to be reset (RFC 6525, section 5.1.2).
 use Rattle.std.specs.Prelude.{◌≡◌, ℕ, Result, Ok, Err, List, ◌++◌, map}
 use Rattle.dcsctp_machine.specs.Event.{Event}
-use Rattle.dcsctp_machine.specs.Transfer.{SendQueueState}
+use Rattle.dcsctp_machine.specs.transfer.Transfer.{SendQueueState}
 use Rattle.dcsctp_machine.specs.turns.FlushOutcomes.{Told}
 use Rattle.dcsctp_machine.specs.turns.PreparedResets.{Prepares}
 use Rattle.dcsctp_send_streams.specs.Telling.{TellsFront}

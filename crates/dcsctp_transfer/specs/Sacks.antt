@@ -1,5 +1,5 @@
 -- What a SACK does to an association's data (RFC 9260, sections 6.2.1 and 6.3).
-use Rattle.std.specs.Prelude.{Bool, true, false, Result, Ok, Err, ◌≡◌, ℕ, List, [], ◌∷◌, ◌++◌}
+use Rattle.std.specs.Prelude.{Bool, true, false, Option, None, Some, Result, Ok, Err, ◌≡◌, ℕ, List, [], ◌∷◌, ◌++◌}
 use Rattle.std.specs.List.{AllByRecursion, flat_map}
 use Rattle.dcsctp_wire_build.specs.Building.{Building}
 use Rattle.dcsctp_wire.specs.Content.{ChunkContent}
@@ -9,7 +9,8 @@ use Rattle.dcsctp_machine.specs.turns.DataOutcomes.{is_sack_valid}
 use Rattle.dcsctp_transfer.specs.Filling.{IsDataChunk}
 use Rattle.std.specs.declared.alloc.AllocError.{AllocError}
 use Rattle.dcsctp_machine.specs.Event.{Event, lifecycle_message_delivered, lifecycle_end}
-use Rattle.dcsctp_machine.specs.Transfer.{Transfer}
+use Rattle.dcsctp_machine.specs.transfer.Transfer.{Transfer}
+use Rattle.dcsctp_machine.specs.transfer.Tracker.{with_timeout}
 use Rattle.dcsctp_machine.specs.turns.TransferMoves.{TakesSack, has_acknowledged, LosesAll}
 use Rattle.dcsctp_send_streams.specs.Telling.{TellsFront}
 use Rattle.dcsctp_transfer.specs.declared.sacks.HandledSack.{HandledSack}
@@ -29,6 +30,11 @@ pub record TellsDelivered (before after : List (Event (List ℕ))) : Type 0 wher
 pub record TellsSome (before after : List (Event (List ℕ))) : Type 0 where
   pub ids : List ℕ
   pub tells : TellsFront before (delivered_contents ids) after
+
+-- A round trip was taken into account, if one was measured: the timeout moves, and the tracker is told of it.
+abbrev pub TellsRoundTrip : {A : Type 0} → Option A → Transfer → Transfer → Type 0
+TellsRoundTrip None old new = new ≡ old
+TellsRoundTrip (Some rtt) old new = new ≡ record old { timeout = new.timeout; tracker = with_timeout new.timeout.rto old.tracker }
 
 -- What a SACK with this cumulative TSN ack does, by its result.
 abbrev pub HandlesSack : ℕ → Transfer → List (Event (List ℕ)) → Transfer → List (Event (List ℕ)) → Result HandledSack AllocError → Type 0

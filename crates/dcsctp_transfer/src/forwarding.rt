@@ -5,7 +5,7 @@ ghost use Rattle.std.specs.Prelude.{◌≡◌, ◌≤◌, ◌<◌, ◌^◌, min,
 ghost use Rattle.std.specs.List.{AllByRecursion};
 ghost use Rattle.dcsctp_wire.specs.Content.{chunk_content};
 ghost use Rattle.dcsctp_wire.specs.ReadsBack.{IsByte};
-ghost use Rattle.dcsctp_machine.specs.Endpoint.{moment_after};
+ghost use Rattle.dcsctp_machine.specs.Timers.{moment_after};
 ghost use Rattle.dcsctp_send_streams.specs.Telling.{contents};
 ghost use Rattle.dcsctp_send_retransmission.specs.SkippedBytes.{ReadsAs};
 ghost use Rattle.dcsctp_transfer.specs.Filling.{TellsMore, with_chunk};

@@ -19,7 +19,7 @@ impl Drop for QueuedMessages {
 }
 
 impl Model for QueuedMessages {
-    ghost use Rattle.dcsctp_machine.specs.Transfer.{SendQueueState};
+    ghost use Rattle.dcsctp_machine.specs.transfer.Transfer.{SendQueueState};
     ghost use Rattle.dcsctp_send_queue.specs.Backlog.{queue_state};
 
     ghost Value = { SendQueueState };
@@ -29,7 +29,7 @@ impl Model for QueuedMessages {
 
 impl QueuedMessages {
     ghost use Rattle.std.specs.Prelude.{◌≡◌, ◌<◌, vec_len, OnOk, OnErr};
-    ghost use Rattle.dcsctp_machine.specs.Transfer.{empty_queue, queue_after_reset, queue_added, has_data, queued_stream};
+    ghost use Rattle.dcsctp_machine.specs.transfer.Transfer.{empty_queue, queue_after_reset, queue_added, has_data, queued_stream};
     ghost use Rattle.dcsctp_machine.specs.turns.SettingOutcomes.{stream_priority, stream_low_threshold, set_in_queue};
 
     /// No messages, which are numbered as for no interleaving. Allocates nothing.

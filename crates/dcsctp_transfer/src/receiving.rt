@@ -3,15 +3,8 @@
 
 ghost use Rattle.std.specs.Prelude.{◌≡◌, ◌≤◌, ◌∷◌, [], length, true, false, if◌then◌else◌, OnOk, OnErr, IsSome, IfSome, IfNone};
 ghost use Rattle.dcsctp_machine.specs.TimeTurns.{has_come};
-ghost use Rattle.dcsctp_machine.specs.turns.TransferMoves.{
-  is_above_watermark,
-  is_tsn_valid,
-  ReceivesData,
-  MovesForward,
-  GainsMessages,
-  EndsPacket,
-  delay_over,
-};
+ghost use Rattle.dcsctp_machine.specs.turns.TransferMoves.{ReceivesData, MovesForward, GainsMessages};
+ghost use Rattle.dcsctp_machine.specs.transfer.Tracker.{after_packet_end, is_acknowledgement_due, delayed_acknowledgement, delay_over};
 
 use crate::transfer::Transfer;
 use dcsctp_api::Message;
@@ -33,8 +26,7 @@ impl Transfer {
         immediate_ack: bool,
         chunk: Data,
     ) -> Result<(), AllocError>
-        ensures ok { OnOk result (ReceivesData tsn self.old self.new) }
-        ensures at_once { OnOk result (immediate_ack ≡ true → is_above_watermark self.old.reassembly ≡ false → is_tsn_valid self.old.tracker tsn ≡ true → self.new.tracker.is_acknowledgement_due ≡ true) }
+        ensures ok { OnOk result (ReceivesData tsn immediate_ack self.old self.new) }
         ensures rest { OnErr result ((self.new.retransmission ≡ self.old.retransmission) × (self.new.timeout ≡ self.old.timeout) × GainsMessages self.old.reassembly self.new.reassembly) }
     {
         // A window that is used up is above the watermark, too.
@@ -74,23 +66,21 @@ impl Transfer {
     /// Call it once all of a packet was handled. Received data that needn't be acknowledged at once is
     /// acknowledged after a delay, which runs from now on (RFC 9260, section 6.2).
     pub fn end_packet(&mut self, now: SocketTime)
-        ensures turn { EndsPacket self.old.tracker self.new.tracker }
-        ensures delayed { self.old.tracker.owes_acknowledgement ≡ true → self.old.tracker.is_acknowledgement_due ≡ false → IsSome self.new.tracker.delayed_acknowledgement }
-        ensures left { self.new ≡ record self.old { tracker = self.new.tracker } }
+        ensures { self.new ≡ record self.old { tracker = after_packet_end now self.old.tracker } }
     {
         self.data_tracker.observe_packet_end(now);
     }
 
     /// Is an acknowledgement due, whatever else is sent?
     pub fn is_acknowledgement_due(&self) -> bool
-        ensures { result ≡ self.now.tracker.is_acknowledgement_due }
+        ensures { result ≡ is_acknowledgement_due self.now.tracker }
     {
         self.data_tracker.is_acknowledgement_due()
     }
 
     /// When a delayed acknowledgement is due; none if none is delayed.
     pub fn acknowledgement_deadline(&self) -> Option<SocketTime>
-        ensures { result ≡ self.now.tracker.delayed_acknowledgement }
+        ensures { result ≡ delayed_acknowledgement self.now.tracker }
     {
         self.data_tracker.next_timeout()
     }
@@ -98,7 +88,7 @@ impl Transfer {
     /// Advances the delay of an acknowledgement to `now`, and returns whether it is over. Then the
     /// acknowledgement is due at once; else nothing changes.
     pub fn expire_acknowledgement(&mut self, now: SocketTime) -> bool
-        ensures answer { result ≡ has_come now self.old.tracker.delayed_acknowledgement }
+        ensures answer { result ≡ has_come now (delayed_acknowledgement self.old.tracker) }
         ensures left { self.new ≡ record self.old { tracker = if result then delay_over self.old.tracker else self.old.tracker } }
     {
         self.data_tracker.handle_timeout(now)

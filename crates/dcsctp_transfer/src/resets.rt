@@ -1,9 +1,10 @@
 //! Streams that are reset: those of the peer (RFC 6525, section 5.2.2), and our own ones (section 5.1.2).
 
+ghost use Rattle.dcsctp_machine.specs.transfer.Tracker.{cumulative_tsn};
 ghost use Rattle.std.specs.Prelude.{◌≡◌, not, take, IfOk, OnOk, OnErr};
 ghost use Rattle.std.specs.Duration.{as_nanos};
 ghost use Rattle.dcsctp_machine.specs.Ids.{stream_numbers};
-ghost use Rattle.dcsctp_machine.specs.Transfer.{is_none_ready, queue_handed_back, queue_handing_out};
+ghost use Rattle.dcsctp_machine.specs.transfer.Transfer.{is_none_ready, queue_handed_back, queue_handing_out};
 ghost use Rattle.dcsctp_machine.specs.turns.BegunResets.{last_assigned_tsn};
 ghost use Rattle.dcsctp_machine.specs.turns.ResetOutcomes.{is_tsn_beyond, ResetsStreams};
 ghost use Rattle.dcsctp_send_streams.specs.Telling.{contents};
@@ -19,7 +20,7 @@ impl Transfer {
     /// Was everything received up to this TSN? Which of two TSNs is ahead is decided by serial number
     /// arithmetic (RFC 9260, section 1.6). Allocates nothing.
     pub fn has_received_up_to(&self, tsn: u32) -> bool
-        ensures { result ≡ not (is_tsn_beyond tsn self.now.tracker.cumulative_tsn) }
+        ensures { result ≡ not (is_tsn_beyond tsn (cumulative_tsn self.now.tracker)) }
     {
         let ahead = tsn.wrapping_sub(self.data_tracker.last_cumulative_acked_tsn());
         ahead == 0 || 0x8000_0000 <= ahead

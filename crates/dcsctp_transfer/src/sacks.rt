@@ -3,7 +3,7 @@
 ghost use Rattle.std.specs.Prelude.{◌≡◌};
 ghost use Rattle.dcsctp_send_streams.specs.Telling.{contents};
 ghost use Rattle.dcsctp_machine.specs.TimeTurns.{has_come};
-ghost use Rattle.dcsctp_transfer.specs.Sacks.{HandlesSack, LosesWhere};
+ghost use Rattle.dcsctp_transfer.specs.Sacks.{TellsRoundTrip, HandlesSack, LosesWhere};
 
 use crate::transfer::Transfer;
 use dcsctp_api::Events;
@@ -77,7 +77,7 @@ impl Transfer {
 
     // Takes a round trip into account, if one was measured.
     fn observe_round_trip(&mut self, rtt: Option<Duration>)
-        ensures { self.new ≡ record self.old { timeout = self.new.timeout } }
+        ensures { TellsRoundTrip rtt self.old self.new }
     {
         if let Some(rtt) = rtt {
             self.rto.observe_rto(rtt);

@@ -7,14 +7,14 @@ ghost use Rattle.dcsctp_wire.specs.Content.{data_chunk, i_data_chunk, sack_chunk
 ghost use Rattle.dcsctp_wire.specs.ReadsBack.{IsByte, FitsChunk};
 ghost use Rattle.dcsctp_wire.specs.Spelling.{chunk_bytes};
 ghost use Rattle.dcsctp_wire_build.specs.Building.{bytes_remaining};
-ghost use Rattle.dcsctp_machine.specs.Transfer.{has_data, can_send};
+ghost use Rattle.dcsctp_machine.specs.transfer.Transfer.{has_data, can_send};
 ghost use Rattle.dcsctp_send_streams.specs.Telling.{contents};
 ghost use Rattle.dcsctp_send_outstanding.specs.Items.{chunk_size};
 ghost use Rattle.dcsctp_send_retransmission.specs.Queue.{header_of};
 ghost use Rattle.dcsctp_send_retransmission.specs.Sending.{HandsOut};
 ghost use Rattle.dcsctp_transfer.specs.Filling.{IsDataChunk, TellsMore, FillsPacket, may_give, is_sack_wanted, with_chunk, Acknowledges};
 ghost use Rattle.dcsctp_transfer.specs.Sacks.{FillsAtOnce};
-ghost use Rattle.dcsctp_transfer.specs.Adding.{HasChunkWithin, AddsChunkOf, AddsChunks, sack_of, flags_said, ppid_or_fsn, data_said, i_data_said, chunk_said};
+ghost use Rattle.dcsctp_transfer.specs.Adding.{HasChunkWithin, AddsChunkOf, AddsChunks, said_by, flags_said, ppid_or_fsn, data_said, i_data_said, chunk_said};
 
 use crate::queued_messages::QueuedMessages;
 use crate::transfer::Transfer;
@@ -145,7 +145,7 @@ impl Transfer {
 
 // Puts the SACK into the packet, if it fits.
 fn add_sack(sack: &SelectiveAck, packet: &mut SctpPacketBuilder)
-    ensures added { packet.new ≡ with_chunk packet.old (sack_chunk (sack_of sack.now)) }
+    ensures added { packet.new ≡ with_chunk packet.old (sack_chunk (said_by sack.now)) }
     ensures blocks { AllByRecursion IsByte sack.now.gap_ack_blocks.items }
     ensures duplicates { AllByRecursion IsByte sack.now.duplicate_tsns.items }
 {

@@ -31,10 +31,9 @@ impl Drop for Transfer {
 
 impl Model for Transfer {
     ghost use Rattle.std.specs.Prelude.{◌≡◌};
-    ghost use Rattle.dcsctp_machine.specs.Transfer.{Transfer};
+    ghost use Rattle.dcsctp_machine.specs.transfer.Transfer.{Transfer};
     ghost use Rattle.dcsctp_send_timer.specs.RetransmissionTimeout.{timeout_state};
     ghost use Rattle.dcsctp_send_retransmission.specs.Queue.{retransmission_state, header_of};
-    ghost use Rattle.dcsctp_receive_tracker.specs.Acknowledging.{tracker_state};
     ghost use Rattle.dcsctp_receive_reassembly.specs.Queue.{reassembly_state};
 
     ghost Value = { Transfer };
@@ -42,7 +41,7 @@ impl Model for Transfer {
     ghost view = { λ transfer. record {
       retransmission = retransmission_state transfer.retransmission_queue;
       timeout = timeout_state transfer.rto;
-      tracker = tracker_state transfer.data_tracker;
+      tracker = transfer.data_tracker;
       reassembly = reassembly_state transfer.reassembly_queue;
     } };
 
@@ -51,7 +50,8 @@ impl Model for Transfer {
 
 impl Transfer {
     ghost use Rattle.std.specs.Prelude.{◌≡◌, ◌==◌, ◌%◌, ◌^◌, not};
-    ghost use Rattle.dcsctp_machine.specs.Transfer.{new_transfer};
+    ghost use Rattle.dcsctp_machine.specs.transfer.Transfer.{new_transfer};
+    ghost use Rattle.dcsctp_machine.specs.transfer.Tracker.{cumulative_tsn};
 
     /// Nothing was sent or received yet. `first_tsn` is the first TSN that we send, and `peer_first_tsn` the
     /// first one of the peer. `a_rwnd` is the receive window that the peer announced, in bytes. Allocates
@@ -98,7 +98,7 @@ impl Transfer {
 
     /// The last TSN before the first that is missing (RFC 9260, section 3.3.8).
     pub fn last_cumulative_acked_tsn(&self) -> u32
-        ensures { result ≡ self.now.tracker.cumulative_tsn % 2 ^ 32 }
+        ensures { result ≡ cumulative_tsn self.now.tracker }
     {
         self.data_tracker.last_cumulative_acked_tsn()
     }

@@ -1,10 +1,10 @@
 -- A call that takes a message is a turn.
-use Rattle.std.proofs.Common.{◌≡◌, ℕ, false, Ok, Option, None, Some, List, [], ◌∷◌, refl, sym, ap, subst, ◌∙◌}
+use Rattle.std.proofs.Common.{◌≡◌, false, Ok, Option, None, Some, List, [], ◌∷◌, refl, sym, ap, subst, ◌∙◌}
 use Rattle.std.proofs.lemmas.List.{append-nil}
 use Rattle.dcsctp_machine.specs.declared.message.Message.{Message}
 use Rattle.dcsctp_machine.specs.Schedule.{take_call}
 use Rattle.dcsctp_machine.specs.Sockets.{UserTurns}
-use Rattle.dcsctp_machine.specs.Transfer.{MessageContent, Transfer}
+use Rattle.dcsctp_machine.specs.transfer.Transfer.{MessageContent, Transfer}
 use Rattle.dcsctp_machine.specs.Endpoint.{Endpoint}
 use Rattle.dcsctp_machine.specs.Outcome.{Outcome, still}
 use Rattle.dcsctp_machine.specs.Turn.{user_takes}

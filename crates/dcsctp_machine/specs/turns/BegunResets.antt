@@ -4,8 +4,9 @@ use Rattle.dcsctp_machine.specs.declared.association.Held.{Held}
 use Rattle.dcsctp_machine.specs.declared.kinds.BackoffAlgorithm.TheVariants.{Exponential}
 use Rattle.dcsctp_machine.specs.Packet.{Content}
 use Rattle.dcsctp_machine.specs.Reconfiguration.{RequestedReset}
-use Rattle.dcsctp_machine.specs.Transfer.{RetransmissionState, SendQueueState, queue_handing_out, Transfer}
-use Rattle.dcsctp_machine.specs.Endpoint.{Endpoint, Core, cookie_echoed, open_in, TimerSettings, started}
+use Rattle.dcsctp_machine.specs.transfer.Transfer.{RetransmissionState, SendQueueState, queue_handing_out, Transfer}
+use Rattle.dcsctp_machine.specs.Endpoint.{Endpoint, Core, cookie_echoed, open_in}
+use Rattle.dcsctp_machine.specs.Timers.{TimerSettings, started}
 use Rattle.dcsctp_machine.specs.control.Effect.{Effect, begins}
 use Rattle.dcsctp_machine.specs.control.FlushChanges.{next_number, reset_request}
 

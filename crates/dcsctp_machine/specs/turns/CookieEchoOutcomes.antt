@@ -7,7 +7,7 @@ use Rattle.dcsctp_machine.specs.declared.kinds.ErrorKind.TheVariants.{ParseFaile
 use Rattle.dcsctp_machine.specs.Cookie.{Cookie, cookie_at}
 use Rattle.dcsctp_machine.specs.Event.{Event, sent, connected, connection_restarted, error}
 use Rattle.dcsctp_machine.specs.Packet.{cookie_ack, shutdown_ack, Emission}
-use Rattle.dcsctp_machine.specs.Transfer.{SendQueueState, new_transfer}
+use Rattle.dcsctp_machine.specs.transfer.Transfer.{SendQueueState, new_transfer}
 use Rattle.dcsctp_machine.specs.Endpoint.{Endpoint, Core, cookie_echoed, open_in, OpenPhase, established, shutdown_ack_sent, stopped_timers, heartbeats_begun}
 use Rattle.dcsctp_machine.specs.Outcome.{Outcome, noting, still, counted}
 use Rattle.dcsctp_machine.specs.Following.{dropped_rest}

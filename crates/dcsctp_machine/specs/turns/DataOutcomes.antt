@@ -1,19 +1,20 @@
 -- The turns of data: what is received, what acknowledges it, and what is sent (RFC 9260, section 6; RFC 3758; RFC 8260).
 use Rattle.std.specs.Prelude.{◌≡◌, ◌≤◌, ◌+◌, ◌-◌, ◌%◌, ◌^◌, ℕ, Bool, true, false, nat_le, Option, None, Some, List, [], ◌∷◌, ◌++◌, codes, if◌then◌else◌}
 use Rattle.std.specs.List.{AllByRecursion}
-use Rattle.dcsctp_wire.specs.Content.{no_user_data, sack_chunk}
+use Rattle.dcsctp_wire.specs.Content.{no_user_data}
 use Rattle.dcsctp_machine.specs.declared.association.Held.{Held}
 use Rattle.dcsctp_machine.specs.declared.kinds.ErrorKind.TheVariants.{ProtocolViolation, NotConnected}
 use Rattle.dcsctp_machine.specs.Event.{error}
-use Rattle.dcsctp_machine.specs.Packet.{Plain, unworked, error_of, plain, Emission}
-use Rattle.dcsctp_machine.specs.Transfer.{MessageContent, RetransmissionState, TrackerState, Transfer}
+use Rattle.dcsctp_machine.specs.Packet.{Plain, error_of, plain, Emission}
+use Rattle.dcsctp_machine.specs.transfer.Transfer.{MessageContent, RetransmissionState, Transfer}
+use Rattle.dcsctp_machine.specs.transfer.Tracker.{TrackerState, after_packet_end, is_acknowledgement_due, sacked, delay_over}
 use Rattle.dcsctp_machine.specs.Endpoint.{Endpoint, held_in}
 use Rattle.dcsctp_machine.specs.Outcome.{Outcome, still, reports, emits, behind, to_peer}
 use Rattle.dcsctp_machine.specs.control.Choices.{plain_contents}
-use Rattle.dcsctp_machine.specs.turns.FlushOutcomes.{Answer, goes_out, draft_to, flush_of, room_in, where_fits, IsWithin, IsSackOf, IsData, FitsPlain, filled, FlushAnswers}
+use Rattle.dcsctp_machine.specs.turns.FlushOutcomes.{Answer, goes_out, draft_to, flush_of, room_in, where_fits, IsWithin, own_sack, IsData, FitsPlain, filled, FlushAnswers}
 use Rattle.dcsctp_machine.specs.turns.HeartbeatOutcomes.{error_counted}
 use Rattle.dcsctp_machine.specs.turns.ShutdownOutcomes.{step_outcome}
-use Rattle.dcsctp_machine.specs.turns.TransferMoves.{tsns_ahead, ReceivesData, HeedsFlag, MovesForward, EndsPacket, acknowledged, delay_over, delivered_events, TakesSack, has_acknowledged, LosesAll}
+use Rattle.dcsctp_machine.specs.turns.TransferMoves.{tsns_ahead, ReceivesData, MovesForward, delivered_events, TakesSack, has_acknowledged, LosesAll}
 
 -- with this below its association
 abbrev pub with_transfer : Endpoint → Transfer → Endpoint
@@ -54,7 +55,7 @@ no_user_data_outcome e (Some held) tsn =
 abbrev pub ReceiveTurn : Endpoint → Option Transfer → Bool → ℕ → Outcome → Type 0
 ReceiveTurn e None immediate tsn o = o ≡ reports e NotConnected not_connected_text
 ReceiveTurn e (Some transfer) immediate tsn o =
-    (left : Transfer) × ReceivesData tsn transfer left × HeedsFlag immediate tsn transfer left × (o ≡ still (with_transfer e left))
+    (left : Transfer) × ReceivesData tsn immediate transfer left × (o ≡ still (with_transfer e left))
 
 -- Data with this I flag, TSN and payload is received.
 abbrev pub DataTurn : Endpoint → Bool → ℕ → List ℕ → Outcome → Type 0
@@ -130,22 +131,15 @@ SackTurn e (Some transfer) tsn o = SackBy e (held_in e.core) transfer tsn o
 
 -- ---- the end of a packet
 
--- a SACK of what was received
-abbrev pub IsSack : Transfer → Plain → Type 0
-IsSack transfer (unworked (sack_chunk sack)) = IsSackOf transfer sack
-IsSack transfer chunk = ⊥
-
--- a packet to the peer that begins with it, if it fits
+-- a packet to the peer that begins with this SACK, if it fits
 abbrev pub acknowledging : Endpoint → Held → Plain → Emission
 acknowledging e held sack = filled (draft_to held) (plain_contents (where_fits (room_in e (draft_to held)) sack))
 
 -- Its data is acknowledged at once: a flush that begins with a SACK, if that fits.
 pub record AnswersPacket (e : Endpoint) (held : Held) (transfer : Transfer) (tracker : TrackerState) (o : Outcome) : Type 0 where
-  pub sack : Plain
-  pub is_sack : IsSack (record transfer { tracker = tracker }) sack
   pub answers : List Answer
-  pub allowed : FlushAnswers (with_tracker e transfer (acknowledged tracker)) (acknowledging e held sack) answers
-  pub is : o ≡ flush_of (with_tracker e transfer (acknowledged tracker)) (acknowledging e held sack) answers
+  pub allowed : FlushAnswers (with_tracker e transfer (sacked tracker)) (acknowledging e held (own_sack (record transfer { tracker = tracker }))) answers
+  pub is : o ≡ flush_of (with_tracker e transfer (sacked tracker)) (acknowledging e held (own_sack (record transfer { tracker = tracker }))) answers
 
 abbrev pub EndWhere : Bool → Endpoint → Option Held → Transfer → TrackerState → Outcome → Type 0
 EndWhere true e (Some held) transfer tracker o = AnswersPacket e held transfer tracker o
@@ -156,7 +150,7 @@ EndWhere false e held transfer tracker o = o ≡ still (with_tracker e transfer 
 abbrev pub EndsBy : Endpoint → Option Transfer → Outcome → Type 0
 EndsBy e None o = o ≡ still e
 EndsBy e (Some transfer) o =
-    (tracker : TrackerState) × EndsPacket transfer.tracker tracker × EndWhere tracker.is_acknowledgement_due e (held_in e.core) transfer tracker o
+    let tracker = after_packet_end e.moment transfer.tracker in EndWhere (is_acknowledgement_due tracker) e (held_in e.core) transfer tracker o
 
 -- ---- what the user takes
 

@@ -1,20 +1,21 @@
 -- A flush: what waits is sent under the peer's tag, at most `max_burst` packets of it (RFC 9260, section 6.1). The transfer layer
 -- is asked to fill one packet after another, and the flush is what its answers make of it.
-use Rattle.std.specs.Prelude.{◌≡◌, ◌==◌, ◌≤◌, ◌<◌, ◌+◌, ◌-◌, ◌%◌, ◌^◌, min, nat_le, ◌&&◌, ◌||◌, Option, None, Some, ℕ, ℤ, pos, negsuc, suc, zero, Bool, true, false, List, [], ◌∷◌, ◌++◌, map, length, if◌then◌else◌}
+use Rattle.std.specs.Prelude.{◌≡◌, ◌==◌, ◌≤◌, ◌<◌, ◌+◌, ◌-◌, min, nat_le, ◌&&◌, ◌||◌, Option, None, Some, ℕ, ℤ, pos, negsuc, suc, zero, Bool, true, false, List, [], ◌∷◌, ◌++◌, map, length, if◌then◌else◌}
 use Rattle.std.specs.List.{AllByRecursion}
 use Rattle.dcsctp_machine.specs.declared.association.Held.{Held}
 use Rattle.dcsctp_machine.specs.declared.word.Word.{Word}
 use Rattle.dcsctp_machine.specs.Settings.{packet_size_limit}
 use Rattle.dcsctp_machine.specs.Event.{Event, sent, packets_in, buffered_amount_low, total_buffered_amount_low, lifecycle_message_fully_sent, lifecycle_message_maybe_expired, lifecycle_message_expired, lifecycle_end}
 use Rattle.dcsctp_machine.specs.Packet.{Plain, unworked, plain_out, Content, Emission}
-use Rattle.dcsctp_machine.specs.Transfer.{SendQueueState, has_data, RetransmissionState, TrackerState, can_send, Transfer, must_give, is_idle}
-use Rattle.dcsctp_machine.specs.turns.TransferMoves.{acknowledged}
+use Rattle.dcsctp_machine.specs.transfer.Transfer.{SendQueueState, has_data, RetransmissionState, can_send, Transfer, must_give, is_idle}
+use Rattle.dcsctp_machine.specs.transfer.Tracker.{TrackerState, is_acknowledgement_due, owes_acknowledgement, sack_of, sacked}
 use Rattle.dcsctp_machine.specs.turns.BegunResets.{BegunReset, last_assigned_tsn, begun_in, request_contents, begun_effects, after_begun}
-use Rattle.dcsctp_machine.specs.Endpoint.{Endpoint, Core, closed, cookie_wait, cookie_echoed, open_in, Timers, moment_after, heartbeats_begun, held_in}
+use Rattle.dcsctp_machine.specs.Endpoint.{Endpoint, Core, closed, cookie_wait, cookie_echoed, open_in, Timers, heartbeats_begun, held_in}
+use Rattle.dcsctp_machine.specs.Timers.{moment_after}
 use Rattle.dcsctp_machine.specs.Outcome.{Outcome, contents_len, still, quiet, sends, behind, noting, then_outcome}
 use Rattle.dcsctp_machine.specs.control.Choices.{plain_contents}
-use Rattle.dcsctp_wire.specs.Content.{SackContent, data_chunk, sack_chunk, i_data_chunk, forward_tsn_chunk, i_forward_tsn_chunk}
-use Rattle.dcsctp_wire.specs.ReadsBack.{FitsSack, FitsChunk}
+use Rattle.dcsctp_wire.specs.Content.{data_chunk, sack_chunk, i_data_chunk, forward_tsn_chunk, i_forward_tsn_chunk}
+use Rattle.dcsctp_wire.specs.ReadsBack.{FitsChunk}
 use Rattle.dcsctp_wire.specs.Spelling.{chunk_bytes}
 
 -- ---- one packet
@@ -117,20 +118,17 @@ where_fits room chunk = if nat_le (length (chunk_bytes (plain_out chunk))) room 
 abbrev pub wants_sack : Ask → SendQueueState → Transfer → Bool
 wants_sack later_ask queue transfer = false
 wants_sack first_ask queue transfer =
-    transfer.tracker.is_acknowledgement_due
-    || (transfer.tracker.owes_acknowledgement && (has_data queue || can_send transfer.retransmission))
+    is_acknowledgement_due transfer.tracker
+    || (owes_acknowledgement transfer.tracker && (has_data queue || can_send transfer.retransmission))
 
--- a SACK of what was received, with what is left of the receive window (RFC 9260, section 3.3.4)
-pub record IsSackOf (transfer : Transfer) (sack : SackContent) : Type 0 where
-  pub cumulative : sack.cumulative_tsn_ack ≡ transfer.tracker.cumulative_tsn % 2 ^ 32
-  pub window : sack.a_rwnd ≡ transfer.reassembly.remaining_bytes % 2 ^ 32
-  pub fits : FitsSack sack
+-- the SACK of what was received, with what is left of the receive window (RFC 9260, section 3.3.4)
+abbrev pub own_sack : Transfer → Plain
+own_sack transfer = unworked (sack_chunk (sack_of transfer.tracker transfer.reassembly.remaining_bytes))
 
--- The SACK is sent if it is asked for and fits. Then all received data counts as acknowledged.
+-- It is sent if it is asked for and fits. Then all received data counts as acknowledged.
 abbrev pub Acknowledges : Bool → ℕ → Transfer → TrackerState → List Plain → Type 0
 Acknowledges false room transfer after chunks = (after ≡ transfer.tracker) × (chunks ≡ [])
-Acknowledges true room transfer after chunks =
-    (after ≡ acknowledged transfer.tracker) × (sack : SackContent) × IsSackOf transfer sack × (chunks ≡ where_fits room (unworked (sack_chunk sack)))
+Acknowledges true room transfer after chunks = (after ≡ sacked transfer.tracker) × (chunks ≡ where_fits room (own_sack transfer))
 
 -- a FORWARD-TSN, or with interleaving an I-FORWARD-TSN (RFC 3758, section 3.2; RFC 8260, section 2.3.1)
 abbrev pub IsForward : Bool → Plain → Type 0

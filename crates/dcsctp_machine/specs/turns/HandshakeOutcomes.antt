@@ -15,8 +15,9 @@ use Rattle.dcsctp_machine.specs.Cookie.{Cookie, cookie_bytes}
 use Rattle.dcsctp_machine.specs.Cause.{missing_mandatory_parameter}
 use Rattle.dcsctp_machine.specs.Event.{aborted, connected}
 use Rattle.dcsctp_machine.specs.Packet.{Introduction, Content, init, init_ack, cookie_echo, abort, shutdown_ack, Emission}
-use Rattle.dcsctp_machine.specs.Transfer.{SendQueueState, queue_after_reset, new_transfer, next_tsn_of}
-use Rattle.dcsctp_machine.specs.Endpoint.{Endpoint, Core, closed, cookie_wait, cookie_echoed, open_in, OpenPhase, established, shutdown_ack_sent, heartbeats_begun, started, t1_settings}
+use Rattle.dcsctp_machine.specs.transfer.Transfer.{SendQueueState, queue_after_reset, new_transfer, next_tsn_of}
+use Rattle.dcsctp_machine.specs.Endpoint.{Endpoint, Core, closed, cookie_wait, cookie_echoed, open_in, OpenPhase, established, shutdown_ack_sent, heartbeats_begun, t1_settings}
+use Rattle.dcsctp_machine.specs.Timers.{started}
 use Rattle.dcsctp_machine.specs.Outcome.{Outcome, still, quiet, fits, to_peer, emits, noting, drawing}
 use Rattle.dcsctp_machine.specs.control.Effect.{holds, connects, link_of}
 use Rattle.dcsctp_machine.specs.control.HandshakeChanges.{introduction_of, held_by_init_ack}

@@ -10,7 +10,8 @@ use Rattle.dcsctp_machine.specs.declared.kinds.BackoffAlgorithm.TheVariants.{Fix
 use Rattle.dcsctp_machine.specs.declared.kinds.ErrorKind.TheVariants.{ParseFailed}
 use Rattle.dcsctp_machine.specs.declared.options.Options.{Options}
 use Rattle.dcsctp_machine.specs.Packet.{heartbeat, heartbeat_ack, plain, Emission}
-use Rattle.dcsctp_machine.specs.Endpoint.{Endpoint, Core, cookie_echoed, open_in, RunningTimer, TimerSettings, started, expired}
+use Rattle.dcsctp_machine.specs.Endpoint.{Endpoint, Core, cookie_echoed, open_in}
+use Rattle.dcsctp_machine.specs.Timers.{RunningTimer, TimerSettings, started, expired}
 use Rattle.dcsctp_machine.specs.Outcome.{Outcome, still, reports, emits, to_peer}
 
 -- ---- the count of errors (RFC 9260, section 8.1)

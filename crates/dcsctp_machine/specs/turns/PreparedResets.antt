@@ -2,7 +2,7 @@
 -- 5.1.2).
 use Rattle.std.specs.Prelude.{◌≡◌, ◌==◌, ◌≤◌, ◌-◌, min, nat_le, nat_lt, ◌&&◌, ℕ, Bool, true, false, Option, None, Some, List, [], ◌∷◌, ◌++◌, map, length, if◌then◌else◌}
 use Rattle.dcsctp_machine.specs.declared.association.Held.{Held}
-use Rattle.dcsctp_machine.specs.Transfer.{StreamNumber, QueuedStream, SendQueueState, queued_stream, queue_with}
+use Rattle.dcsctp_machine.specs.transfer.Transfer.{StreamNumber, QueuedStream, SendQueueState, queued_stream, queue_with}
 use Rattle.dcsctp_machine.specs.Endpoint.{Endpoint, held_in}
 use Rattle.dcsctp_machine.specs.Outcome.{Outcome, still, behind}
 use Rattle.dcsctp_machine.specs.turns.FlushOutcomes.{Told, amount_is_low, total_amount_is_low, message_has_expired, message_ends, told_event}

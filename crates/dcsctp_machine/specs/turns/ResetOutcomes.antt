@@ -10,8 +10,10 @@ use Rattle.dcsctp_machine.specs.declared.kinds.ErrorKind.TheVariants.{ProtocolVi
 use Rattle.dcsctp_machine.specs.Event.{Event, error, incoming_stream_reset, streams_reset_failed, streams_reset_performed}
 use Rattle.dcsctp_machine.specs.Packet.{re_config, Emission}
 use Rattle.dcsctp_machine.specs.Reconfiguration.{RequestedReset, ResetParameter, outgoing_reset_request, incoming_reset_request, reconfiguration_response, other_reset_parameter}
-use Rattle.dcsctp_machine.specs.Transfer.{Transfer, queue_handed_back}
-use Rattle.dcsctp_machine.specs.Endpoint.{Endpoint, Core, cookie_echoed, open_in, OutstandingRequest, started}
+use Rattle.dcsctp_machine.specs.transfer.Tracker.{cumulative_tsn}
+use Rattle.dcsctp_machine.specs.transfer.Transfer.{Transfer, queue_handed_back}
+use Rattle.dcsctp_machine.specs.Endpoint.{Endpoint, Core, cookie_echoed, open_in, OutstandingRequest}
+use Rattle.dcsctp_machine.specs.Timers.{started}
 use Rattle.dcsctp_machine.specs.Outcome.{Outcome, still, quiet, emits, behind, noting, to_peer}
 use Rattle.dcsctp_machine.specs.control.Effect.{Effect, completes, fails, performs}
 use Rattle.dcsctp_machine.specs.control.ResetChanges.{WorkedParameters, work_chunk}
@@ -35,7 +37,7 @@ is_tsn_beyond tsn other = nat_lt 0 (tsns_ahead tsn other) && nat_lt (tsns_ahead 
 
 -- Was everything received that was sent before the reset was requested? Else it is in progress (RFC 6525, section 5.2.2, E2).
 abbrev pub is_reached : Option Transfer → Option RequestedReset → Bool
-is_reached (Some transfer) (Some reset) = not (is_tsn_beyond reset.last_tsn transfer.tracker.cumulative_tsn)
+is_reached (Some transfer) (Some reset) = not (is_tsn_beyond reset.last_tsn (cumulative_tsn transfer.tracker))
 is_reached transfer reset = true
 
 -- what the parameters of a chunk make of the numbers, and how they are answered

@@ -1,6 +1,6 @@
 -- What the user sets of a socket, and no packet tells the peer.
 use Rattle.std.specs.Prelude.{ℕ}
-use Rattle.dcsctp_machine.specs.Transfer.{SendQueueState, queued_stream, queue_with}
+use Rattle.dcsctp_machine.specs.transfer.Transfer.{SendQueueState, queued_stream, queue_with}
 use Rattle.dcsctp_machine.specs.Endpoint.{Endpoint}
 use Rattle.dcsctp_machine.specs.Outcome.{Outcome, still}
 

@@ -1,5 +1,5 @@
 -- How an association is shut down, from either end (RFC 9260, section 9.2).
-use Rattle.std.specs.Prelude.{◌==◌, ◌%◌, ◌^◌, ℕ, Bool, true, false, Option, None, Some, []}
+use Rattle.std.specs.Prelude.{◌==◌, ℕ, Bool, true, false, Option, None, Some, []}
 use Rattle.std.specs.Option.{option_map}
 use Rattle.dcsctp_machine.specs.declared.association.Pair.{Pair}
 use Rattle.dcsctp_machine.specs.declared.association.Held.{Held}
@@ -7,8 +7,10 @@ use Rattle.dcsctp_machine.specs.declared.kinds.BackoffAlgorithm.TheVariants.{Exp
 use Rattle.dcsctp_machine.specs.declared.options.Options.{Options}
 use Rattle.dcsctp_machine.specs.Event as events
 use Rattle.dcsctp_machine.specs.Packet.{shutdown, shutdown_ack, shutdown_complete}
-use Rattle.dcsctp_machine.specs.Transfer.{Transfer}
-use Rattle.dcsctp_machine.specs.Endpoint.{Endpoint, Core, closed, cookie_wait, cookie_echoed, open_in, OpenPhase, established, shutdown_pending, shutdown_sent, shutdown_received, shutdown_ack_sent, TimerSettings, started, going_on}
+use Rattle.dcsctp_machine.specs.transfer.Tracker.{cumulative_tsn}
+use Rattle.dcsctp_machine.specs.transfer.Transfer.{Transfer}
+use Rattle.dcsctp_machine.specs.Endpoint.{Endpoint, Core, closed, cookie_wait, cookie_echoed, open_in, OpenPhase, established, shutdown_pending, shutdown_sent, shutdown_received, shutdown_ack_sent}
+use Rattle.dcsctp_machine.specs.Timers.{TimerSettings, started, going_on}
 use Rattle.dcsctp_machine.specs.Outcome.{Outcome, still, quiet, sends, to_peer}
 use Rattle.dcsctp_machine.specs.turns.BegunResets.{rto_of}
 use Rattle.dcsctp_machine.specs.turns.EndOutcomes.{ended_outcome, reflected_outcome}
@@ -32,7 +34,7 @@ t2_goes_on e = record e { timers = record e.timers { t2 = option_map (going_on e
 -- the cumulative TSN of what was received, as its field holds it
 abbrev pub received_tsn : Option Transfer → ℕ
 received_tsn None = 0
-received_tsn (Some transfer) = transfer.tracker.cumulative_tsn % 2 ^ 32
+received_tsn (Some transfer) = cumulative_tsn transfer.tracker
 
 -- SHUTDOWN tells it (RFC 9260, section 3.3.8).
 abbrev pub sends_shutdown : Endpoint → Held → Outcome

@@ -3,7 +3,8 @@ use Rattle.std.specs.Prelude.{◌≡◌, ℕ, codes, List, []}
 use Rattle.std.specs.Option.{option_map}
 use Rattle.dcsctp_machine.specs.declared.kinds.ErrorKind.TheVariants.{TooManyRetries}
 use Rattle.dcsctp_machine.specs.Event.{aborted}
-use Rattle.dcsctp_machine.specs.Endpoint.{Endpoint, Core, closed, cookie_wait, cookie_echoed, open_in, going_on}
+use Rattle.dcsctp_machine.specs.Endpoint.{Endpoint, Core, closed, cookie_wait, cookie_echoed, open_in}
+use Rattle.dcsctp_machine.specs.Timers.{going_on}
 use Rattle.dcsctp_machine.specs.Outcome.{Outcome, still, quiet, fits, emits}
 use Rattle.dcsctp_machine.specs.turns.FlushOutcomes.{Answer, FlushKind, flush_answered, flush_outcome}
 use Rattle.dcsctp_machine.specs.turns.EndOutcomes.{ended_outcome}

@@ -11,7 +11,7 @@ impl Backlog {
     ghost use Rattle.std.specs.Prelude.{◌≡◌, ◌==◌, ◌+◌, ◌-◌, ◌<◌, ◌++◌, length, take, Ok, Err, OnOk, OnErr, IfOk, not};
     ghost use Rattle.dcsctp_send_streams.specs.Waiting.{handed_out};
     ghost use Rattle.dcsctp_machine.specs.Ids.{stream_numbers};
-    ghost use Rattle.dcsctp_machine.specs.Transfer.{is_none_ready};
+    ghost use Rattle.dcsctp_machine.specs.transfer.Transfer.{is_none_ready};
     ghost use Rattle.dcsctp_send_streams.specs.Telling.{contents, TellsFront};
     ghost use Rattle.dcsctp_send_streams.specs.Ranking.{stream_at, count_pausing, IsAscending};
     ghost use Rattle.dcsctp_send_queue.specs.Leaving.{count_under_way, after_pause, pause_events};

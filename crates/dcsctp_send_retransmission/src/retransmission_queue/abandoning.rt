@@ -12,7 +12,7 @@ use std::alloc::AllocError;
 
 impl RetransmissionQueue {
     ghost use Rattle.std.specs.Prelude.{ℕ, List, [], ◌&&◌, ◌+◌, ◌-◌, ◌/◌, ◌<◌, ◌≤◌, IfOk, length};
-    ghost use Rattle.dcsctp_send_timer.specs.Timer.{expires_at};
+    ghost use Rattle.dcsctp_machine.specs.Timers.{expires_at};
     ghost use Rattle.dcsctp_send_outstanding.specs.Items.{is_first_abandoned};
     ghost use Rattle.dcsctp_send_retransmission.specs.Queue.{MayGrow, GivesUp};
     ghost use Rattle.dcsctp_send_outstanding.specs.Messages.{AtPlace};

@@ -1,4 +1,4 @@
-use Rattle.std.proofs.Common.{◌∙◌, sym, ap, refl}
+use Rattle.std.proofs.Common.{◌∙◌, sym, refl}
 use Rattle.std.proofs.lemmas.Result.{err_from_is_err_and}
 use Rattle.dcsctp_core.specs.View.{view_of}
 use Rattle.dcsctp_core_data.proofs.ArrivalLemmas.{empty_refused, not_connected, data_cut, data_worked}
@@ -26,4 +26,4 @@ pub returns : goal.returns
 returns g c =
     let part = c.args.part in
     data_worked g.R.Rng.stream c.args.context.now _ c.in-Some.tcb.now c.receive_data.new.self c.receive_data.result part.immediate_ack part.tsn part.payload.now refl
-    (sym c.is_empty.ensures ∙ c.if-is_empty.false) c.in-Some.ensures.tcb c.receive_data.ensures.ok c.receive_data.ensures.at_once
+    (sym c.is_empty.ensures ∙ c.if-is_empty.false) c.in-Some.ensures.tcb c.receive_data.ensures.ok

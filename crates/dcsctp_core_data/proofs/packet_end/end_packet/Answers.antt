@@ -17,7 +17,7 @@ returns-in_err-acknowledge g c =
     let due : is_due_below (transfer_of (left_with old.state tcb after)) ≡ true = ap is_due_below (left_transfer old.state tcb after c.in-Some.ensures.tcb) ∙ sym c.is_acknowledgement_due.ensures ∙ c.if-is_acknowledgement_due.true in
     rw (err_from_is_err_and c.from_residual.result c.from_residual.ensures.1).1
     (end_cut g.R.Rng.stream old (left_with old.state tcb after) c.acknowledge.new.context
-    (changes_lent EndsBelow old.state tcb after c.in-Some.ensures.tcb (c.end_packet.ensures.turn, c.end_packet.ensures.left)) due (c.in_err-acknowledge.ensures due))
+    (changes_lent (EndsBelow old.moment) old.state tcb after c.in-Some.ensures.tcb c.end_packet.ensures) due (c.in_err-acknowledge.ensures due))
 
 pub returns-in_ok-acknowledge : goal.returns-in_ok-acknowledge
 returns-in_ok-acknowledge g c =
@@ -26,7 +26,7 @@ returns-in_ok-acknowledge g c =
     let after = c.end_packet.new.self in
     let due : is_due_below (transfer_of (left_with old.state tcb after)) ≡ true = ap is_due_below (left_transfer old.state tcb after c.in-Some.ensures.tcb) ∙ sym c.is_acknowledgement_due.ensures ∙ c.if-is_acknowledgement_due.true in
     ended g.R.Rng.stream old (left_with old.state tcb after) c.acknowledge.new.context
-    (changes_lent EndsBelow old.state tcb after c.in-Some.ensures.tcb (c.end_packet.ensures.turn, c.end_packet.ensures.left)) due (c.in_ok-acknowledge.ensures due)
+    (changes_lent (EndsBelow old.moment) old.state tcb after c.in-Some.ensures.tcb c.end_packet.ensures) due (c.in_ok-acknowledge.ensures due)
 
 pub returns-else-is_acknowledgement_due : goal.returns-else-is_acknowledgement_due
 returns-else-is_acknowledgement_due g c =
@@ -35,4 +35,4 @@ returns-else-is_acknowledgement_due g c =
     let after = c.end_packet.new.self in
     let due : is_due_below (transfer_of (left_with old.state tcb after)) ≡ false = ap is_due_below (left_transfer old.state tcb after c.in-Some.ensures.tcb) ∙ sym c.is_acknowledgement_due.ensures ∙ c.if-is_acknowledgement_due.false in
     ends_later g.R.Rng.stream old (left_with old.state tcb after)
-    (changes_lent EndsBelow old.state tcb after c.in-Some.ensures.tcb (c.end_packet.ensures.turn, c.end_packet.ensures.left)) due
+    (changes_lent (EndsBelow old.moment) old.state tcb after c.in-Some.ensures.tcb c.end_packet.ensures) due

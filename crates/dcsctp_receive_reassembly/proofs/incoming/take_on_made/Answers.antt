@@ -1,5 +1,5 @@
 -- The stream that the map lends is the one at the identifier, before and after; the others stay.
-use Rattle.dcsctp_machine.specs.Transfer.{message_content}
+use Rattle.dcsctp_machine.specs.transfer.Transfer.{message_content}
 use Rattle.std.proofs.Common.{◌≡◌, Some, map, arith, ap, subst, sym, ◌∙◌}
 use Rattle.std.specs.Option.{option_copied_mut}
 use Rattle.std.specs.BTreeMap.{get}

@@ -5,7 +5,7 @@ use Rattle.std.specs.BTreeMap.{get}
 use Rattle.std.specs.Ordering.{nat_cmp}
 use Rattle.std.proofs.lemmas.List.{length-map}
 use Rattle.std.proofs.lemmas.List.Sums.{sum_by-append}
-use Rattle.dcsctp_machine.specs.Transfer.{MessageContent, message_content}
+use Rattle.dcsctp_machine.specs.transfer.Transfer.{MessageContent, message_content}
 use Rattle.dcsctp_receive_reassembly.specs.Held.{capped}
 use Rattle.dcsctp_receive_reassembly.specs.QueuedBytes.{stream_bytes, ready_bytes}
 use Rattle.dcsctp_receive_reassembly.specs.Streams.{StreamModel, waits_as, stream_of, skipped_stream, skip_deliveries, skip_bytes}

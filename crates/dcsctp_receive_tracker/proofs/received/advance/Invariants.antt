@@ -1,5 +1,6 @@
 use Rattle.std.proofs.Common.{◌≡◌, ◌≤◌, ℕ, length}
-use Rattle.dcsctp_receive_tracker.specs.Received.{IsSpaced, is_received, ranges_of}
+use Rattle.dcsctp_receive_tracker.specs.Received.{IsSpaced, ranges_of}
+use Rattle.dcsctp_machine.specs.transfer.Ranges.{is_received}
 use Rattle.dcsctp_receive_tracker.proofs.received.advance.Given as goal
 
 abbrev pub invariant-loop-first : goal.invariant-loop-first

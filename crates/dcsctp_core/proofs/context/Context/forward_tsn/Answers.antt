@@ -1,5 +1,5 @@
-use Rattle.std.proofs.Common.{Option, arith, refl, sym, subst}
-use Rattle.dcsctp_machine.specs.Transfer.{Transfer}
+use Rattle.std.proofs.Common.{Option, arith, sym, subst}
+use Rattle.dcsctp_machine.specs.transfer.Transfer.{Transfer}
 use Rattle.dcsctp_core.specs.Flushing.{ForwardsAt}
 use Rattle.dcsctp_core.specs.View.{view_of}
 use Rattle.dcsctp_core.proofs.ForwardLemmas.{forwards_below}

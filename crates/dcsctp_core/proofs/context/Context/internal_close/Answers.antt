@@ -4,7 +4,7 @@ use Rattle.dcsctp_machine.specs.Settings.{ports_of}
 use Rattle.dcsctp_machine.specs.Event.{Event}
 use Rattle.dcsctp_machine.specs.Endpoint.{stopped_timers}
 use Rattle.dcsctp_machine.specs.turns.EndOutcomes.{closed_after}
-use Rattle.dcsctp_send_timer.specs.Timer.{TimerModel}
+use Rattle.dcsctp_machine.specs.Timers.{TimerModel}
 use Rattle.dcsctp_api.specs.Events.{event_content}
 use Rattle.dcsctp_api.specs.declared.events.SocketEvent.{SocketEvent}
 use Rattle.dcsctp_core.specs.View.{core_of, view_of, endpoint_of}

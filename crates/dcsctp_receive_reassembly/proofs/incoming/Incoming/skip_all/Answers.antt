@@ -2,7 +2,7 @@
 use Rattle.std.proofs.Common.{◌≡◌, ◌+◌, ◌≤◌, ◌∷◌, List, map, length, drop, get_or, arith, ap, subst, sym, length-append}
 use Rattle.std.specs.VecDeque.{deque_len, deque_capacity}
 use Rattle.std.proofs.lemmas.List.{drop_more, drop_all, length-map}
-use Rattle.dcsctp_machine.specs.Transfer.{MessageContent, message_content}
+use Rattle.dcsctp_machine.specs.transfer.Transfer.{MessageContent, message_content}
 use Rattle.dcsctp_receive_reassembly.specs.declared.arrivals.SkippedTo.{SkippedTo}
 use Rattle.dcsctp_receive_reassembly.specs.declared.arrivals.SkippedTo.TheVariants.{Ssn}
 use Rattle.dcsctp_receive_reassembly.specs.Streams.{skipped_stream, skip_deliveries}

@@ -1,5 +1,5 @@
 -- The bytes that are kept are counted.
-use Rattle.dcsctp_machine.specs.Transfer.{message_content}
+use Rattle.dcsctp_machine.specs.transfer.Transfer.{message_content}
 use Rattle.std.proofs.Common.{map, length, arith, ap}
 use Rattle.dcsctp_receive_reassembly.specs.Held.{runs_bytes}
 use Rattle.dcsctp_receive_reassembly.specs.QueuedBytes.{ready_bytes, streams_bytes}

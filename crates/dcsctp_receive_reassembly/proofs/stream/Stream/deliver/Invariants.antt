@@ -1,4 +1,4 @@
-use Rattle.dcsctp_machine.specs.Transfer.{message_content}
+use Rattle.dcsctp_machine.specs.transfer.Transfer.{message_content}
 use Rattle.std.proofs.Common.{◌≡◌, ◌+◌, ◌≤◌, ◌++◌, map, length}
 use Rattle.std.specs.VecDeque.{deque_len, deque_capacity}
 use Rattle.std.specs.BTreeMap.{btree_map_len}

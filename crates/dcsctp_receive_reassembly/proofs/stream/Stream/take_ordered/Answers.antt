@@ -1,5 +1,5 @@
 -- The message doesn't wait, so the part is taken.
-use Rattle.dcsctp_machine.specs.Transfer.{message_content}
+use Rattle.dcsctp_machine.specs.transfer.Transfer.{message_content}
 use Rattle.std.proofs.Common.{map, sym, ◌∙◌}
 use Rattle.dcsctp_receive_reassembly.specs.Runs.{part_of}
 use Rattle.dcsctp_receive_reassembly.specs.Streams.{stream_of, TakesOrdered, TakesAhead}

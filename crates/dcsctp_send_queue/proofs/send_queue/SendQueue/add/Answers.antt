@@ -1,5 +1,5 @@
 use Rattle.std.proofs.Common.{◌≡◌, ◌+◌, ◌-◌, ◌%◌, ◌^◌, ℕ, ◌∙◌, ap, sym, min, length, arith}
-use Rattle.dcsctp_machine.specs.Transfer.{queue_added}
+use Rattle.dcsctp_machine.specs.transfer.Transfer.{queue_added}
 use Rattle.dcsctp_send_streams.specs.Waiting.{Waiting, with_message}
 use Rattle.dcsctp_send_queue.specs.declared.backlog.Backlog.{Backlog}
 use Rattle.dcsctp_send_queue.specs.Backlog.{changed, used, queue_state}

@@ -1,5 +1,5 @@
 use Rattle.std.proofs.Common.{List, ◌∙◌, ap}
-use Rattle.dcsctp_machine.specs.Transfer.{queue_handed_back}
+use Rattle.dcsctp_machine.specs.transfer.Transfer.{queue_handed_back}
 use Rattle.dcsctp_send_streams.specs.Waiting.{Stream}
 use Rattle.dcsctp_send_queue.specs.declared.backlog.Backlog.{Backlog}
 use Rattle.dcsctp_send_queue.specs.Backlog.{queue_state}

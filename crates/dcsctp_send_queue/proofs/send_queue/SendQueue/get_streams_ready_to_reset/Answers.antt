@@ -1,7 +1,7 @@
 use Rattle.std.proofs.Common.{◌≡◌, ℕ, List, take, ◌∙◌, ap}
 use Rattle.dcsctp_machine.specs.declared.ids.StreamId.{StreamId}
 use Rattle.dcsctp_machine.specs.Ids.{stream_numbers}
-use Rattle.dcsctp_machine.specs.Transfer.{queue_handing_out}
+use Rattle.dcsctp_machine.specs.transfer.Transfer.{queue_handing_out}
 use Rattle.dcsctp_send_queue.specs.declared.backlog.Backlog.{Backlog}
 use Rattle.dcsctp_send_queue.specs.Backlog.{ready_streams, queue_state}
 use Rattle.dcsctp_send_queue.specs.Resets.{handing_out}

@@ -1,5 +1,5 @@
 use Rattle.std.proofs.Common.{◌∙◌, ap, refl}
-use Rattle.dcsctp_machine.specs.Transfer.{has_data}
+use Rattle.dcsctp_machine.specs.transfer.Transfer.{has_data}
 use Rattle.dcsctp_send_queue.specs.declared.backlog.Backlog.{Backlog}
 use Rattle.dcsctp_send_queue.specs.Backlog.{queue_state}
 use Rattle.dcsctp_send_queue.proofs.QueuedLemmas.{data_shown}

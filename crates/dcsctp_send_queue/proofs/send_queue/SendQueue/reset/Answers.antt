@@ -1,5 +1,5 @@
 use Rattle.std.proofs.Common.{◌≡◌, ◌∙◌, ap, refl}
-use Rattle.dcsctp_machine.specs.Transfer.{queue_after_reset}
+use Rattle.dcsctp_machine.specs.transfer.Transfer.{queue_after_reset}
 use Rattle.dcsctp_send_queue.specs.declared.backlog.Backlog.{Backlog}
 use Rattle.dcsctp_send_queue.specs.Backlog.{queue_state}
 use Rattle.dcsctp_send_queue.specs.Resets.{restarted}

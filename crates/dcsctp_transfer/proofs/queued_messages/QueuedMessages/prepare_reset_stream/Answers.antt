@@ -1,5 +1,5 @@
 use Rattle.std.proofs.Common.{subst}
-use Rattle.dcsctp_machine.specs.Transfer.{SendQueueState}
+use Rattle.dcsctp_machine.specs.transfer.Transfer.{SendQueueState}
 use Rattle.dcsctp_send_streams.specs.Telling.{contents}
 use Rattle.dcsctp_send_queue.specs.Backlog.{queue_state}
 use Rattle.dcsctp_transfer.specs.Preparing.{TriesStream}

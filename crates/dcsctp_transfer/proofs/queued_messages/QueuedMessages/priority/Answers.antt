@@ -1,5 +1,5 @@
 use Rattle.std.proofs.Common.{◌∙◌, sym, ap}
-use Rattle.dcsctp_machine.specs.Transfer.{QueuedStream, SendQueueState, queued_stream}
+use Rattle.dcsctp_machine.specs.transfer.Transfer.{QueuedStream, SendQueueState, queued_stream}
 use Rattle.dcsctp_send_queue.proofs.QueuedLemmas.{queued_is}
 use Rattle.dcsctp_transfer.proofs.queued_messages.QueuedMessages.priority.Goals as goal
 

@@ -1,6 +1,5 @@
 use Rattle.std.proofs.Common.{◌∙◌, ap, sym, ℕ, ◌%◌, ◌^◌}
-use Rattle.dcsctp_machine.specs.Transfer.{Transfer}
-use Rattle.dcsctp_receive_tracker.specs.Acknowledging.{tracker_state}
+use Rattle.dcsctp_machine.specs.transfer.Transfer.{Transfer}
 use Rattle.dcsctp_transfer.proofs.SackLemmas.{gives_wanted}
 use Rattle.dcsctp_transfer.proofs.transfer.Transfer.acknowledge.Goals as goal
 
@@ -8,7 +7,7 @@ pub returns-clause-ok : goal.returns-clause-ok
 returns-clause-ok c =
     gives_wanted c.args.self.now _ c.self.inside.data_tracker c.should_send_ack.new.self c.create_selective_ack.new.self c.args.also_if_delayed c.in_ok-sack.sack c.args.packet.now c.add_sack.new.packet
     (ap (λ (t : Transfer). t.tracker) c.self.view_is)
-    (ap (λ (t : Transfer). record t { tracker = tracker_state c.create_selective_ack.new.self }) c.self.view_is)
+    (ap (λ (t : Transfer). record t { tracker = c.create_selective_ack.new.self }) c.self.view_is)
     (sym c.should_send_ack.ensures.answer ∙ c.if-not-should_send_ack.false)
     c.should_send_ack.ensures.left
     c.in_ok-sack.ensures.ok
@@ -17,8 +16,6 @@ returns-clause-ok c =
       blocks = c.in_ok-sack.ensures.blocks;
       duplicates = c.in_ok-sack.ensures.duplicates;
       few = c.in_ok-sack.ensures.few;
-      blocks_in_bytes = c.add_sack.ensures.blocks;
-      duplicates_in_bytes = c.add_sack.ensures.duplicates;
     })
     (c.in_ok-sack.ensures.window ∙ (ap (λ (n : ℕ). n % 2 ^ 32) c.remaining_bytes-window.ensures.left ∙ ap (λ (t : Transfer). t.reassembly.remaining_bytes % 2 ^ 32) c.self.view_is))
     c.add_sack.ensures.added

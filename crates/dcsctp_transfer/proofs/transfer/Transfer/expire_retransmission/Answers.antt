@@ -1,5 +1,5 @@
 use Rattle.std.proofs.Common.{Bool, if◌then◌else◌, ◌∙◌, ap, sym}
-use Rattle.dcsctp_machine.specs.Transfer.{Transfer}
+use Rattle.dcsctp_machine.specs.transfer.Transfer.{Transfer}
 use Rattle.dcsctp_send_retransmission.specs.Queue.{retransmission_state, queue_after_expiry}
 use Rattle.dcsctp_transfer.proofs.LossLemmas.{loses_where}
 use Rattle.dcsctp_transfer.proofs.transfer.Transfer.expire_retransmission.Goals as goal

@@ -1,5 +1,5 @@
 use Rattle.std.proofs.Common.{ap}
-use Rattle.dcsctp_machine.specs.Transfer.{Transfer}
+use Rattle.dcsctp_machine.specs.transfer.Transfer.{Transfer}
 use Rattle.dcsctp_send_retransmission.specs.Queue.{retransmission_state}
 use Rattle.dcsctp_transfer.proofs.AtOnceLemmas.{header_after, header_refused, fills_at_once}
 use Rattle.dcsctp_transfer.proofs.transfer.Transfer.fill_at_once.Goals as goal

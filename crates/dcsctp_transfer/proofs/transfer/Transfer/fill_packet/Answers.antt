@@ -1,6 +1,6 @@
 use Rattle.std.proofs.Common.{◌∙◌, ap, sym, subst, not, ◌==◌, ℕ, length}
 use Rattle.std.proofs.lemmas.Result.{err_from_is_err_and}
-use Rattle.dcsctp_machine.specs.Transfer.{Transfer}
+use Rattle.dcsctp_machine.specs.transfer.Transfer.{Transfer}
 use Rattle.dcsctp_send_retransmission.specs.Queue.{retransmission_state}
 use Rattle.dcsctp_send_retransmission.specs.Halting.{FillsUp}
 use Rattle.dcsctp_transfer.specs.Adding.{AddsChunks}

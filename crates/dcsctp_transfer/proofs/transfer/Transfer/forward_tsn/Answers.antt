@@ -1,7 +1,7 @@
 use Rattle.std.proofs.Common.{◌∙◌, Bool, None, Some, min, refl, ap, subst}
 use Rattle.std.proofs.lemmas.Result.{err_from_is_err_and}
-use Rattle.dcsctp_machine.specs.Endpoint.{moment_after}
-use Rattle.dcsctp_machine.specs.Transfer.{RetransmissionState, Transfer}
+use Rattle.dcsctp_machine.specs.Timers.{moment_after}
+use Rattle.dcsctp_machine.specs.transfer.Transfer.{RetransmissionState, Transfer}
 use Rattle.dcsctp_send_retransmission.specs.Queue.{retransmission_state}
 use Rattle.dcsctp_transfer.specs.Forwarding.{PutsForward}
 use Rattle.dcsctp_transfer.proofs.ForwardingLemmas.{keeps_due, header_due, tells_due, never_due, forwards_due}

@@ -1,5 +1,5 @@
 use Rattle.std.proofs.Common.{◌∙◌, Option, None, Some, IfNone, ap, sym}
-use Rattle.dcsctp_machine.specs.Transfer.{ReassemblyState, Transfer}
+use Rattle.dcsctp_machine.specs.transfer.Transfer.{ReassemblyState, Transfer}
 use Rattle.dcsctp_receive_reassembly.specs.Queue.{reassembly_state}
 use Rattle.dcsctp_transfer.proofs.transfer.Transfer.get_next_message.Goals as goal
 

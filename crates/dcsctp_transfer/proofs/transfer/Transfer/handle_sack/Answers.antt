@@ -1,10 +1,10 @@
 use Rattle.std.proofs.Common.{◌∙◌, ap, take}
 use Rattle.std.proofs.lemmas.Result.{err_from_is_err_and}
-use Rattle.dcsctp_machine.specs.Transfer.{RetransmissionState, Transfer}
+use Rattle.dcsctp_machine.specs.transfer.Transfer.{RetransmissionState, Transfer}
 use Rattle.dcsctp_send_streams.specs.Telling.{contents}
 use Rattle.dcsctp_send_outstanding.specs.Outstanding.{acknowledged_by}
 use Rattle.dcsctp_send_retransmission.specs.Queue.{retransmission_state}
-use Rattle.dcsctp_transfer.proofs.SacksLemmas.{sack_valid, sack_invalid, told_if_valid, tells_delivered, tells_some, sack_keeps, takes_sack, has_shown}
+use Rattle.dcsctp_transfer.proofs.SacksLemmas.{sack_valid, sack_invalid, told_if_valid, tells_delivered, tells_some, sack_keeps, told_trip, takes_sack, has_shown}
 use Rattle.dcsctp_transfer.proofs.transfer.Transfer.handle_sack.Goals as goal
 
 pub returns-in_err-handled : goal.returns-in_err-handled
@@ -38,9 +38,10 @@ returns c =
     let does = rw c.in-Valid.is at c.in_ok-handled.ensures.turn in
     let old_is = ap (λ (t : Transfer). t.retransmission) c.self.view_is in
     let between_is = ap (λ (t : Transfer). record t { retransmission = retransmission_state c.handle_sack.new.self }) c.self.view_is in
+    let told = told_trip c.in-Valid.rtt _ c.observe_round_trip.new.self c.observe_round_trip.ensures in
     let keeps = sack_keeps c.args.now c.args.sack.now.cumulative_tsn_ack c.args.sack.now.a_rwnd c.deref.result.now queue after does.0 does.1 in (
       sack_valid c.args.self.now queue c.args.sack.now.cumulative_tsn_ack old_is c.in_ok-handled.ensures.start does.0,
-      takes_sack c.args.self.now _ c.observe_round_trip.new.self queue after old_is between_is c.observe_round_trip.ensures keeps,
+      takes_sack c.args.self.now _ c.observe_round_trip.new.self queue after old_is between_is told keeps,
       tells_delivered (take (acknowledged_by queue.outstanding c.args.sack.now.cumulative_tsn_ack) queue.outstanding.items) c.args.events.now c.handle_sack.new.events does.2,
-      has_shown c.args.self.now _ c.observe_round_trip.new.self queue after c.in-Valid.reset_error_counter old_is between_is c.observe_round_trip.ensures does.4,
+      has_shown c.args.self.now _ c.observe_round_trip.new.self queue after c.in-Valid.reset_error_counter old_is between_is told does.4,
     )

@@ -1,10 +1,11 @@
 -- The public values of the transfer layer: what waits to be sent, what is in flight, and what was received.
 use Rattle.std.specs.List.{list_any}
-use Rattle.std.specs.Prelude.{◌==◌, ℕ, ◌+◌, ◌-◌, ◌*◌, ◌%◌, ◌^◌, min, nat_le, nat_lt, not, ◌&&◌, ◌||◌, Bool, true, false, Option, None, Some, is_some, List, [], ◌∷◌, map, take, drop, if◌then◌else◌}
+use Rattle.std.specs.Prelude.{◌==◌, ℕ, ◌+◌, ◌-◌, ◌*◌, ◌^◌, min, nat_le, nat_lt, not, ◌&&◌, ◌||◌, Bool, true, false, Option, None, Some, is_some, List, [], ◌∷◌, map, take, drop, if◌then◌else◌}
 use Rattle.std.specs.Duration.{as_nanos}
 use Rattle.dcsctp_machine.specs.declared.capabilities.Capabilities.{Capabilities}
 use Rattle.dcsctp_machine.specs.declared.message.Message.{Message}
 use Rattle.dcsctp_machine.specs.declared.options.Options.{Options}
+use Rattle.dcsctp_machine.specs.transfer.Tracker.{TrackerState, new_tracker, owes_acknowledgement, is_acknowledgement_due}
 
 -- a number that goes with a stream
 pub record StreamNumber : Type 0 where
@@ -229,29 +230,6 @@ pub record TimeoutState : Type 0 where
 abbrev pub new_timeout : Options → TimeoutState
 new_timeout options = record { rto = as_nanos options.rto_initial; srtt = as_nanos options.rto_initial }
 
--- Which TSNs were received.
-pub record TrackerState : Type 0 where
-  pub cumulative_tsn : ℕ
-  -- An association takes 2^64 - 2^32 TSNs at most.
-  pub has_numbers_left : Bool
-  -- when a delayed acknowledgement is due, if one is
-  pub delayed_acknowledgement : Option ℕ
-  -- Is a SACK due at once?
-  pub is_acknowledgement_due : Bool
-  -- Was data received that isn't acknowledged yet? Then a SACK may go along with other chunks (RFC 9260, section 6.1).
-  pub owes_acknowledgement : Bool
-
--- nothing was received yet
-abbrev pub new_tracker : ℕ → TrackerState
-new_tracker peer_first_tsn =
-    record {
-      cumulative_tsn = (peer_first_tsn + (2 ^ 32 - 1)) % 2 ^ 32;
-      has_numbers_left = true;
-      delayed_acknowledgement = None;
-      is_acknowledgement_due = false;
-      owes_acknowledgement = false;
-    }
-
 -- What was received and not taken.
 pub record ReassemblyState : Type 0 where
   pub messages : List MessageContent
@@ -281,7 +259,7 @@ new_transfer options capabilities first_tsn peer_first_tsn window =
     record {
       retransmission = new_retransmission options capabilities.partial_reliability capabilities.message_interleaving first_tsn window;
       timeout = new_timeout options;
-      tracker = new_tracker peer_first_tsn;
+      tracker = new_tracker options peer_first_tsn;
       reassembly = new_reassembly options;
     }
 
@@ -312,7 +290,7 @@ is_none_ready (stream ∷ streams) = false
 abbrev pub is_idle : SendQueueState → Transfer → Bool
 is_idle queue transfer =
     not (has_data queue) && is_none_ready queue.ready_streams && transfer.retransmission.outstanding_items == 0
-    && not transfer.tracker.owes_acknowledgement && not transfer.tracker.is_acknowledgement_due
+    && not (owes_acknowledgement transfer.tracker) && not (is_acknowledgement_due transfer.tracker)
 
 -- as it is before any association or message
 abbrev pub nothing_below : Options → Below

@@ -1,0 +1,70 @@
+-- What is received from now on, as the machine says it.
+use Rattle.std.proofs.Common.{◌≡◌, ◌==◌, ◌<◌, ◌-◌, ◌^◌, ℕ, nat_lt, Bool, true, false, not, ◌||◌, List, [], ◌∷◌, map, length, refl, sym, ap, ◌∙◌, arith}
+use Rattle.std.specs.Bool.{IsTrue}
+use Rattle.std.proofs.lemmas.Bool.Decides.{nat_tests}
+use Rattle.dcsctp_machine.specs.declared.tracking.TsnRange.{TsnRange}
+use Rattle.dcsctp_machine.specs.transfer.Ranges.{IsBeyond, is_received, received, forwarded}
+use Rattle.dcsctp_machine.specs.transfer.Tracker.{TrackerState, number_of, after_arrival, with_duplicate, has_ranges, stopped, is_new_tsn, is_urgent, observed, has_numbers_left, after_forward}
+use Rattle.dcsctp_machine.proofs.RangesLemmas.{same_numbers, received_beyond, received_members, forwarded_beyond, forwarded_members}
+use Rattle.dcsctp_receive_tracker.specs.Received.{range_of, Receives, Advances}
+
+-- The set determines what is kept of it.
+received_only : (number cumulative reached : ℕ) (old new : List TsnRange) → IsBeyond cumulative old → IsBeyond reached new
+    → ((other : ℕ) → is_received reached other new ≡ (is_received cumulative other old || (other == number)))
+    → (reached ≡ (received number cumulative old).cumulative) × (new ≡ (received number cumulative old).ranges)
+received_only number cumulative reached old new beyond beyond_after members =
+    same_numbers reached (received number cumulative old).cumulative new (received number cumulative old).ranges beyond_after (received_beyond number cumulative old beyond)
+    (λ other. members other ∙ sym (received_members number cumulative old beyond other))
+
+advances_only : (number cumulative reached : ℕ) (old new : List TsnRange) → cumulative < number → IsBeyond cumulative old → IsBeyond reached new
+    → ((other : ℕ) → is_received reached other new ≡ is_received number other old)
+    → (reached ≡ (forwarded number cumulative old).cumulative) × (new ≡ (forwarded number cumulative old).ranges)
+advances_only number cumulative reached old new above beyond beyond_after members =
+    same_numbers reached (forwarded number cumulative old).cumulative new (forwarded number cumulative old).ranges beyond_after (forwarded_beyond number cumulative old beyond)
+    (λ other. members other ∙ sym (forwarded_members number cumulative old above beyond other ∙ grind (arith, nat_tests)))
+
+-- the tracker with these numbers, once data was received
+abbrev observing : ℕ → Bool → Bool → TrackerState → ℕ → List TsnRange → TrackerState
+observing tsn immediate is_new tracker cumulative ranges =
+    record tracker {
+      cumulative = cumulative;
+      ranges = ranges;
+      duplicates = with_duplicate tsn is_new tracker.duplicates;
+      has_seen_data = true;
+      acknowledgement = after_arrival tracker.acknowledgement (is_urgent is_new immediate tracker ranges);
+      delay = stopped tracker.delay;
+    }
+
+pub observes : (tsn : ℕ) (immediate is_new : Bool) (old new : TrackerState) (reached : ℕ) (ranges : List TsnRange) → IsBeyond old.cumulative old.ranges
+    → Receives (number_of old.cumulative tsn) old.cumulative old.ranges is_new reached ranges → new ≡ observing tsn immediate is_new old reached ranges → new ≡ observed tsn immediate old
+observes tsn immediate is_new old new reached ranges beyond takes is =
+    let number = number_of old.cumulative tsn in
+    let only = received_only number old.cumulative reached old.ranges ranges beyond takes.beyond takes.members in
+    is
+    ∙ ap (λ (b : Bool). observing tsn immediate b old reached ranges) takes.answer
+    ∙ ap (λ (n : ℕ). observing tsn immediate (is_new_tsn tsn old) old n ranges) only.0
+    ∙ ap (λ (rs : List TsnRange). observing tsn immediate (is_new_tsn tsn old) old (received number old.cumulative old.ranges).cumulative rs) only.1
+
+-- the same once all up to a TSN counts as received
+abbrev moving : TrackerState → ℕ → List TsnRange → TrackerState
+moving tracker cumulative ranges =
+    record tracker { cumulative = cumulative; ranges = ranges; acknowledgement = after_arrival tracker.acknowledgement false; delay = stopped tracker.delay }
+
+pub moves : (tsn number : ℕ) (old new : TrackerState) (reached : ℕ) (ranges : List TsnRange) → IsBeyond old.cumulative old.ranges → number ≡ number_of old.cumulative tsn
+    → old.cumulative < 2 ^ 64 - 2 ^ 32 → old.cumulative < number → Advances number old.ranges reached ranges → new ≡ moving old reached ranges → new ≡ after_forward tsn old
+moves tsn number old new reached ranges beyond of few above takes is =
+    let above' : old.cumulative < number_of old.cumulative tsn = rw (← of) above in
+    let only = advances_only number old.cumulative reached old.ranges ranges above beyond takes.beyond takes.members in
+    let left : has_numbers_left old.cumulative ≡ true = grind (arith, nat_tests) in
+    let ahead : nat_lt old.cumulative (number_of old.cumulative tsn) ≡ true = grind (arith, nat_tests) in
+    rw (left, ahead) (is
+    ∙ ap (λ (n : ℕ). moving old n ranges) only.0
+    ∙ ap (λ (rs : List TsnRange). moving old (forwarded number old.cumulative old.ranges).cumulative rs) only.1
+    ∙ ap (λ (n : ℕ). moving old (forwarded n old.cumulative old.ranges).cumulative (forwarded n old.cumulative old.ranges).ranges) of)
+
+-- A tracker has ranges unless its map is empty.
+pub has_entries : (is_empty : Bool) (entries : List (ℕ × ℕ)) → (IsTrue is_empty → length entries ≡ 0) × (length entries ≡ 0 → IsTrue is_empty) → has_ranges (map range_of entries) ≡ not is_empty
+has_entries true [] is = refl
+has_entries true (entry ∷ entries) is = absurd (omega (arith, is.0 refl))
+has_entries false [] is = absurd (let empty = is.1 refl in cc)
+has_entries false (entry ∷ entries) is = refl
