@@ -2,7 +2,8 @@
 use Rattle.std.specs.Prelude.{◌≡◌, ℕ, Option, Some, None, Result, Ok, Err, List, [], ◌∷◌, map, length}
 use Rattle.dcsctp_machine.specs.declared.message.Message.{Message}
 use Rattle.dcsctp_machine.specs.declared.message.SendOptions.{SendOptions}
-use Rattle.dcsctp_machine.specs.transfer.Transfer.{MessageContent, message_content, Transfer}
+use Rattle.dcsctp_machine.specs.transfer.Messages.{MessageContent, message_content}
+use Rattle.dcsctp_machine.specs.transfer.Transfer.{Transfer}
 use Rattle.dcsctp_machine.specs.Endpoint.{Endpoint}
 use Rattle.dcsctp_machine.specs.Outcome.{Outcome}
 use Rattle.dcsctp_machine.specs.Turn.{Input, user_sends}
@@ -66,7 +67,7 @@ SendsMany messages options old (Err Failed) new = StaysFailed old new
 
 abbrev pub ready_below : Option Transfer → List MessageContent
 ready_below None = []
-ready_below (Some transfer) = transfer.reassembly.messages
+ready_below (Some transfer) = transfer.reassembly.incoming.ready
 
 -- the messages that are ready to be taken, in order
 abbrev pub ready_messages : Endpoint → List MessageContent

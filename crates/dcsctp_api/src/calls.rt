@@ -5,7 +5,7 @@ ghost use Rattle.dcsctp_api.specs.Calls.{UserView, PollsEvent, HandlesInput, Con
 ghost use Rattle.dcsctp_api.specs.Messages.{Sends, SendsMany, TakesNext, ready_messages};
 ghost use Rattle.dcsctp_api.specs.Resets.{ResetsOwn};
 ghost use Rattle.dcsctp_machine.specs.Ids.{stream_numbers};
-ghost use Rattle.dcsctp_machine.specs.transfer.Transfer.{message_content};
+ghost use Rattle.dcsctp_machine.specs.transfer.Messages.{message_content};
 ghost use Rattle.dcsctp_machine.specs.turns.SettingOutcomes.{stream_priority, stream_low_threshold, longest_message};
 ghost use Rattle.dcsctp_machine.specs.TimeTurns.{Waits, next_moment};
 ghost use Rattle.dcsctp_api.specs.Time.{Advances, OnlyMovesClock};
@@ -146,8 +146,8 @@ pub trait DcSctpSocket {
 
     /// The options that the socket was made with, with the greatest message size as it was set last.
     /// Allocates nothing.
-    fn options(&self) -> &Options
-        ensures { result.now ≡ (user_view self.now).endpoint.options };
+    fn options(&self) -> Options
+        ensures { result ≡ (user_view self.now).endpoint.options };
 
     /// Sets how many bytes a message may have from now on. Allocates nothing, and works on a socket that has
     /// failed, too.

@@ -1,10 +1,12 @@
 -- What changes below an association, as the view tells it.
-use Rattle.std.proofs.Common.{◌≡◌, ℕ, Bool, true, false, Option, None, Some, Result, List, [], ◌++◌, map, refl, sym, ap, subst, ◌∙◌, ◌≤◌, ◌∷◌, IfSome, IfNone}
+use Rattle.std.proofs.Common.{◌≡◌, ℕ, Bool, true, false, Option, None, Some, Result, List, [], ◌++◌, map, refl, sym, ap, subst, ◌∙◌, ◌∷◌, IfSome, IfNone}
 use Rattle.std.proofs.lemmas.List.{append-nil}
 use Rattle.rand_core.specs.Stream.{Stream}
 use Rattle.dcsctp_machine.specs.Settings.{Ports, ports_of}
 use Rattle.dcsctp_api.specs.Calls.{user_event}
-use Rattle.dcsctp_machine.specs.transfer.Transfer.{Transfer, ReassemblyState, message_content}
+use Rattle.dcsctp_machine.specs.transfer.Transfer.{Transfer}
+use Rattle.dcsctp_machine.specs.transfer.Reassembly.{with_ready}
+use Rattle.dcsctp_machine.specs.transfer.Messages.{message_content}
 use Rattle.dcsctp_machine.specs.Endpoint.{Endpoint}
 use Rattle.dcsctp_machine.specs.Outcome.{Outcome, still}
 use Rattle.dcsctp_machine.specs.TimeTurns.{own_timer, has_come, loss_deadline}
@@ -115,34 +117,19 @@ sacks_lent tsn old tcb after told telling result holds h =
 
 -- ---- a message that is taken
 
--- what is left where the first message is taken
-abbrev WithoutFirst : Transfer → Transfer → Type 0
-WithoutFirst old new =
-    new ≡ record old { reassembly = record old.reassembly { messages = new.reassembly.messages; remaining_bytes = new.reassembly.remaining_bytes } }
-
-takes_first : (result : Option Message) (old new : Transfer) → IfSome result (λ message. old.reassembly.messages ≡ message_content message ∷ new.reassembly.messages)
-    → IfSome result (λ message. WithoutFirst old new) → old.reassembly.remaining_bytes ≤ new.reassembly.remaining_bytes
-    → IfNone result ((old.reassembly.messages ≡ []) × (new ≡ old)) → TakesFirst result old new
-takes_first None old new first left window none = none
-takes_first (Some message) old new first left window none = (
-  record {
-    message = message_content message;
-    first = first;
-    received = ap (λ (t : Transfer). t.reassembly.messages_received) left;
-    window = ap (λ (t : Transfer). t.reassembly.window) left;
-    remaining = window;
-    rest = left ∙ ap (λ (r : ReassemblyState). record old { reassembly = r }) (sym (ap (λ (t : Transfer). t.reassembly) left));
-  },
-  first,
-)
+takes_first : (result : Option Message) (old new : Transfer) → IfSome result (λ message. old.reassembly.incoming.ready ≡ message_content message ∷ new.reassembly.incoming.ready)
+    → IfSome result (λ message. new ≡ record old { reassembly = with_ready new.reassembly.incoming.ready old.reassembly })
+    → IfNone result ((old.reassembly.incoming.ready ≡ []) × (new ≡ old)) → TakesFirst result old new
+takes_first None old new first left none = none
+takes_first (Some message) old new first left none = (first, left)
 
 pub takes_lent : (old : State) (tcb : TransmissionControlBlock) (after : Transfer) (result : Option Message) → Some tcb ≡ tcb_of old
-    → IfSome result (λ message. tcb.transfer.reassembly.messages ≡ message_content message ∷ after.reassembly.messages)
-    → IfSome result (λ message. WithoutFirst tcb.transfer after) → tcb.transfer.reassembly.remaining_bytes ≤ after.reassembly.remaining_bytes
-    → IfNone result ((tcb.transfer.reassembly.messages ≡ []) × (after ≡ tcb.transfer)) → TakesReady (transfer_of old) old result (left_with old tcb after)
-takes_lent old tcb after result holds first left window none =
+    → IfSome result (λ message. tcb.transfer.reassembly.incoming.ready ≡ message_content message ∷ after.reassembly.incoming.ready)
+    → IfSome result (λ message. after ≡ record tcb.transfer { reassembly = with_ready after.reassembly.incoming.ready tcb.transfer.reassembly })
+    → IfNone result ((tcb.transfer.reassembly.incoming.ready ≡ []) × (after ≡ tcb.transfer)) → TakesReady (transfer_of old) old result (left_with old tcb after)
+takes_lent old tcb after result holds first left none =
     subst (λ (f : Option Transfer). TakesReady f old result (left_with old tcb after)) (sym (found old tcb holds))
-    (after, lent old tcb after holds, takes_first result tcb.transfer after first left window none)
+    (after, lent old tcb after holds, takes_first result tcb.transfer after first left none)
 
 pub takes_nobody : (old : State) → None ≡ tcb_of old → TakesReady (transfer_of old) old None old
 takes_nobody old none = subst (λ (f : Option Transfer). TakesReady f old None old) (sym (nobody old none)) (refl, refl)

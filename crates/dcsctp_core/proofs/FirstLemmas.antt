@@ -8,6 +8,7 @@ use Rattle.dcsctp_wire_build.specs.Building.{Building, bytes_remaining}
 use Rattle.dcsctp_machine.specs.Settings.{ports_of}
 use Rattle.dcsctp_machine.specs.Event.{Event}
 use Rattle.dcsctp_machine.specs.Packet.{Plain, plain, unworked, Content, chunk_out, Emission}
+use Rattle.dcsctp_machine.specs.transfer.Reassembly.{remaining_bytes}
 use Rattle.dcsctp_machine.specs.transfer.Tracker.{sack_of}
 use Rattle.dcsctp_machine.specs.transfer.Transfer.{SendQueueState, RetransmissionState, TimeoutState, Transfer, has_data, is_idle}
 use Rattle.dcsctp_machine.specs.Endpoint.{Endpoint, Core, OutstandingRequest, held_in}
@@ -118,7 +119,7 @@ acked e draft false transfer mid before packet is h =
       is = h.1 ∙ is ∙ ap (packet_for e.options) (sym nothing);
     }
 acked e draft true transfer mid before packet is h =
-    let sack = sack_of transfer.tracker transfer.reassembly.remaining_bytes in
+    let sack = sack_of transfer.tracker (remaining_bytes transfer.reassembly) in
     record {
       sacks = where_fits (room_in e draft) (own_sack transfer);
       acknowledges = (ap (λ (t : Transfer). t.tracker) h.0, refl);

@@ -30,9 +30,6 @@ pub record Completes {R : Type 0} (stream : R → Stream) (held : Held) (allowed
   pub done : (new : View R) → FlushesFor stream later_ask left here (draft_to held) new → FlushesFor stream later_ask allowed start (draft_to held) new
   pub cut : (events : List (Event (List ℕ))) → FlushCut later_ask left here (draft_to held) events → FlushCut later_ask allowed start (draft_to held) events
 
-pub completes_all : {R : Type 0} (stream : R → Stream) (held : Held) (allowed : ℕ) (start : View R) → held_in start.endpoint.core ≡ Some held → Completes stream held allowed start allowed start
-completes_all stream held allowed start holds = record { core = holds; done = λ new h. h; cut = λ events h. h }
-
 -- one packet more has gone out
 pub completes_on : {R : Type 0} (stream : R → Stream) (held : Held) (allowed : ℕ) (start : View R) (more : ℕ) (here next : View R) (is_sent : Bool) → is_sent ≡ true
     → Completes stream held allowed start (suc more) here → AsksFor stream later_ask here (draft_to held) is_sent next → Completes stream held allowed start more next

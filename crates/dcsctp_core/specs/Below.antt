@@ -7,11 +7,13 @@ use Rattle.dcsctp_machine.specs.declared.message.Message.{Message}
 use Rattle.dcsctp_machine.specs.Event.{Event}
 use Rattle.dcsctp_machine.specs.Endpoint.{Endpoint, held_in}
 use Rattle.dcsctp_machine.specs.Outcome.{Outcome, still}
-use Rattle.dcsctp_machine.specs.turns.DataOutcomes.{FastRetransmits, TakesMessage}
+use Rattle.dcsctp_machine.specs.turns.DataOutcomes.{FastRetransmits}
 use Rattle.dcsctp_transfer.specs.Sacks.{HandlesSack, FillsAtOnce}
 use Rattle.dcsctp_transfer.specs.declared.sacks.HandledSack.{HandledSack}
-use Rattle.dcsctp_machine.specs.transfer.Transfer.{Transfer, message_content}
-use Rattle.dcsctp_machine.specs.transfer.Tracker.{after_packet_end, is_acknowledgement_due, delay_over}
+use Rattle.dcsctp_machine.specs.transfer.Transfer.{Transfer}
+use Rattle.dcsctp_machine.specs.transfer.Messages.{message_content}
+use Rattle.dcsctp_machine.specs.transfer.Reassembly.{with_ready}
+use Rattle.dcsctp_machine.specs.transfer.Tracker.{after_packet_end, is_acknowledgement_due}
 use Rattle.dcsctp_core.specs.declared.state.State.{State}
 use Rattle.dcsctp_core.specs.View.{View}
 use Rattle.dcsctp_core.specs.Flushing.{state_with}
@@ -28,8 +30,10 @@ ChangesWhere false Changes found old new = new ≡ old
 
 -- The first of the messages that are ready is taken, if one is ready.
 abbrev pub TakesFirst : Option Message → Transfer → Transfer → Type 0
-TakesFirst None old new = (old.reassembly.messages ≡ []) × (new ≡ old)
-TakesFirst (Some message) old new = TakesMessage old new × (old.reassembly.messages ≡ message_content message ∷ new.reassembly.messages)
+TakesFirst None old new = (old.reassembly.incoming.ready ≡ []) × (new ≡ old)
+TakesFirst (Some message) old new =
+    (old.reassembly.incoming.ready ≡ message_content message ∷ new.reassembly.incoming.ready)
+    × (new ≡ record old { reassembly = with_ready new.reassembly.incoming.ready old.reassembly })
 
 abbrev pub TakesReady : Option Transfer → State → Option Message → State → Type 0
 TakesReady None old result new = (result ≡ None) × (new ≡ old)
@@ -38,10 +42,6 @@ TakesReady (Some transfer) old result new = (after : Transfer) × (new ≡ state
 -- All of a packet was handled, at this moment.
 abbrev pub EndsBelow : ℕ → Transfer → Transfer → Type 0
 EndsBelow now old new = new ≡ record old { tracker = after_packet_end now old.tracker }
-
--- The delay of an acknowledgement is over.
-abbrev pub EndsDelay : Transfer → Transfer → Type 0
-EndsDelay old new = new ≡ record old { tracker = delay_over old.tracker }
 
 -- A SACK with this cumulative TSN ack was taken into account, if the peer is known.
 abbrev pub SacksBelow : ℕ → Option Transfer → State → List (Event (List ℕ)) → State → List (Event (List ℕ)) → Result HandledSack AllocError → Type 0

@@ -47,12 +47,6 @@ packet_for options draft = packet_of options draft.with_checksum draft.packet.ta
 abbrev pub state_with : State → Transfer → State
 state_with state transfer = tcb_changed (λ tcb. record tcb { transfer = transfer }) state
 
--- A packet was filled with data, if the peer is known; whether any went in is the result.
-abbrev pub FillsBelow : Option Transfer → SendQueueState → List (Event (List ℕ)) → Building → State → State → SendQueueState → List (Event (List ℕ)) → Building → Bool → Type 0
-FillsBelow None waiting events packet old new left telling filled any = (new ≡ old) × (left ≡ waiting) × (telling ≡ events) × (filled ≡ packet) × (any ≡ false)
-FillsBelow (Some transfer) waiting events packet old new left telling filled any =
-    (after : Transfer) × (new ≡ state_with old after) × FillsPacket transfer waiting events packet after left telling filled any
-
 -- What was received is acknowledged, if that is asked for.
 abbrev pub AcknowledgesBelow : Option Transfer → Bool → State → Building → State → Building → Type 0
 AcknowledgesBelow None along old packet new filled = (new ≡ old) × (filled ≡ packet)

@@ -9,7 +9,7 @@ use Rattle.dcsctp_machine.specs.Settings.{packet_size_limit}
 use Rattle.dcsctp_machine.specs.Packet.{Emission}
 use Rattle.dcsctp_machine.specs.Event.{Event, sent, aborted}
 use Rattle.dcsctp_machine.specs.Event as events
-use Rattle.dcsctp_machine.specs.Outcome.{Outcome, still, counted, reports}
+use Rattle.dcsctp_machine.specs.Outcome.{Outcome, counted, reports}
 use Rattle.dcsctp_machine.specs.Following.{next_chunk, packet_end, dropped_rest}
 use Rattle.dcsctp_machine.specs.Following as machine
 use Rattle.dcsctp_machine.specs.Turn.{arrival_outcome}
@@ -91,10 +91,6 @@ WorksOne stream Turn old (Ok next) new = HandlesIn stream Turn (view_of old) nex
 WorksOne stream Turn old (Err error) new = CutIn Turn (view_of old) (view_of new).events
 
 -- ---- the turns of what all handlers share
-
--- Nothing happens.
-abbrev pub still_turn : {R : Type 0} → View R → Outcome
-still_turn view = still view.endpoint
 
 -- What waits is sent.
 abbrev pub FlushAt : {R : Type 0} → View R → Outcome → Type 0

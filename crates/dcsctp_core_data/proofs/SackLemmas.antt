@@ -209,7 +209,7 @@ take_front [] ys = refl
 take_front (x ∷ xs) ys = ap (λ zs. x ∷ zs) (take_front xs ys)
 
 same_taken : (transfer : Transfer) → TakesSack transfer transfer
-same_taken transfer = record { next_tsn = refl; partial_reliability = refl; message_interleaving = refl; outstanding = omega arith; unacknowledged = omega arith; never_acknowledged = omega arith; tracker = inl refl; reassembly = refl }
+same_taken transfer = record { next_tsn = refl; partial_reliability = refl; message_interleaving = refl; outstanding = omega arith; unacknowledged = omega arith; never_acknowledged = omega arith; tracker = inl (refl, refl); reassembly = refl }
 
 -- any outcome that tells this
 some_follows : (e : Endpoint) (held : Held) (transfer : Transfer) (ids : List ℕ) → (later : Outcome) × Follows e held transfer ids later

@@ -1,16 +1,11 @@
 -- Turns that take place, or are cut, from one kind to another.
-use Rattle.std.proofs.Common.{◌≡◌, ℕ, Result, Ok, Err, List, refl, ap, subst}
+use Rattle.std.proofs.Common.{Result, Ok, Err, refl, ap}
 use Rattle.rand_core.specs.Stream.{Stream}
-use Rattle.dcsctp_machine.specs.Event.{Event}
 use Rattle.dcsctp_machine.specs.Outcome.{Outcome}
 use Rattle.dcsctp_core.specs.declared.context.Context.{Context}
-use Rattle.dcsctp_core.specs.View.{View, view_of, CutTurn}
-use Rattle.dcsctp_core.specs.Handling.{Tries, Takes, TakesIn, CutIn, TakesOne}
+use Rattle.dcsctp_core.specs.View.{View, view_of}
+use Rattle.dcsctp_core.specs.Handling.{Tries, Takes, CutIn, TakesOne}
 use Rattle.dcsctp_core.proofs.Composing.{cut_first}
-
--- the one outcome of a turn
-abbrev pub JustThis : {R : Type 0} → (View R → Outcome) → View R → Outcome → Type 0
-JustThis turn view o = o ≡ turn view
 
 pub takes_one : {R E : Type 0} (stream : R → Stream) (turn : View R → Outcome) (Turn : View R → Outcome → Type 0) (old : Context R) (result : Result (Unit {0}) E) (new : Context R)
     → Turn (view_of old) (turn (view_of old)) → Takes stream turn old result new → TakesOne stream Turn old result new

@@ -1,5 +1,5 @@
 -- What the handlers of data do, as turns of a socket's view (RFC 9260, section 6; RFC 3758; RFC 8260).
-use Rattle.std.specs.Prelude.{◌≡◌, ℕ, Bool, true, Option, Some, Result, List, [], ◌∷◌}
+use Rattle.std.specs.Prelude.{◌≡◌, ℕ, true, Option, Some, Result, List, [], ◌∷◌}
 use Rattle.rand_core.specs.Stream.{Stream}
 use Rattle.dcsctp_wire.specs.Content.{no_user_data}
 use Rattle.dcsctp_machine.specs.declared.association.Held.{Held}
@@ -8,14 +8,33 @@ use Rattle.dcsctp_machine.specs.transfer.Transfer.{Transfer}
 use Rattle.dcsctp_machine.specs.Endpoint.{Endpoint, Core, cookie_echoed, open_in, held_in}
 use Rattle.dcsctp_machine.specs.Outcome.{Outcome, still, emits, to_peer}
 use Rattle.dcsctp_machine.specs.turns.DataOutcomes.{DataTurn, no_user_data_outcome, ForwardTurn, AnswersPacket, EndsBy}
+use Rattle.dcsctp_machine.specs.declared.arrivals.SkippedTo.{SkippedTo}
+use Rattle.dcsctp_machine.specs.transfer.Arrivals.{Arrival}
+use Rattle.dcsctp_core_data.specs.declared.arrival.DataPart.{DataPart}
 use Rattle.dcsctp_core.specs.declared.context.Context.{Context}
 use Rattle.dcsctp_core.specs.View.{View, transfer_of}
 use Rattle.dcsctp_core.specs.Handling.{TakesOne}
 use Rattle.dcsctp_core.specs.Below.{is_due_below}
 
--- Data with this I flag, TSN and payload was received.
-abbrev pub DataAt : {R : Type 0} → Bool → ℕ → List ℕ → View R → Outcome → Type 0
-DataAt immediate tsn payload view o = DataTurn view.endpoint immediate tsn payload o
+-- what a DATA or I-DATA chunk carries, as the machine has it
+abbrev pub part_arrival : DataPart → Arrival
+part_arrival part =
+    record {
+      tsn = part.tsn;
+      immediate_ack = part.immediate_ack;
+      chunk = record {
+        stream = part.stream_id.0;
+        numbering = part.numbering;
+        ppid = part.ppid.0;
+        payload = part.payload.now;
+        is_beginning = part.is_beginning;
+        is_end = part.is_end;
+      };
+    }
+
+-- This data was received.
+abbrev pub DataAt : {R : Type 0} → Arrival → View R → Outcome → Type 0
+DataAt arrived view o = DataTurn view.endpoint arrived o
 
 -- The peer is told that its data has no payload, if it is known.
 abbrev pub told_outcome : Endpoint → Core → ℕ → Outcome
@@ -30,9 +49,9 @@ no_user_data_told tsn view = told_outcome view.endpoint view.endpoint.core tsn
 abbrev pub no_user_data_turn : {R : Type 0} → ℕ → View R → Outcome
 no_user_data_turn tsn view = no_user_data_outcome view.endpoint (held_in view.endpoint.core) tsn
 
--- A FORWARD-TSN or I-FORWARD-TSN with this new cumulative TSN was received.
-abbrev pub ForwardAt : {R : Type 0} → ℕ → View R → Outcome → Type 0
-ForwardAt tsn view o = ForwardTurn view.endpoint view.endpoint.below.transfer tsn o
+-- A FORWARD-TSN or I-FORWARD-TSN with this new cumulative TSN was received, which names these messages.
+abbrev pub ForwardAt : {R : Type 0} → ℕ → List SkippedTo → View R → Outcome → Type 0
+ForwardAt tsn entries view o = ForwardTurn view.endpoint view.endpoint.below.transfer tsn entries o
 
 -- All of a packet was handled.
 abbrev pub EndsAt : {R : Type 0} → View R → Outcome → Type 0

@@ -1,8 +1,11 @@
 //! DATA (RFC 9260, section 3.3.1) and I-DATA (RFC 8260, section 2.1) that are received.
 
-ghost use Rattle.std.specs.Prelude.{◌≡◌};
+ghost use Rattle.std.specs.Prelude.{◌≡◌, IfOk};
+ghost use Rattle.dcsctp_wire.specs.Content.{data_content, i_data_content};
+ghost use Rattle.dcsctp_machine.specs.transfer.Arrivals.{data_arrival, i_data_arrival};
+ghost use Rattle.dcsctp_receive_reassembly.specs.Streams.{chunk_of};
 ghost use Rattle.dcsctp_core.specs.Handling.{TakesOne};
-ghost use Rattle.dcsctp_core_data.specs.Data.{DataAt};
+ghost use Rattle.dcsctp_core_data.specs.Data.{part_arrival, DataAt};
 
 use crate::refusal::{refuse_empty, report_not_connected};
 use dcsctp_api::{PpId, StreamId};
@@ -43,9 +46,7 @@ pub struct DataPart<'a> {
 impl<'a> DataPart<'a> {
     /// What a DATA chunk carries.
     pub fn of_data(chunk: &DataChunk<'a>) -> DataPart<'a>
-        ensures tsn { result.tsn ≡ chunk.now.tsn }
-        ensures immediate { result.immediate_ack ≡ chunk.now.flags.immediate_ack }
-        ensures payload { result.payload.now ≡ chunk.now.payload.now }
+        ensures { part_arrival result ≡ data_arrival (data_content chunk.now) }
     {
         let numbering = if chunk.flags.is_unordered {
             Numbering::Unordered
@@ -66,9 +67,7 @@ impl<'a> DataPart<'a> {
 
     /// What an I-DATA chunk carries. Its first part names the protocol, and has the fragment number 0.
     pub fn of_i_data(chunk: &IDataChunk<'a>) -> DataPart<'a>
-        ensures tsn { result.tsn ≡ chunk.now.tsn }
-        ensures immediate { result.immediate_ack ≡ chunk.now.flags.immediate_ack }
-        ensures payload { result.payload.now ≡ chunk.now.payload.now }
+        ensures { part_arrival result ≡ i_data_arrival (i_data_content chunk.now) }
     {
         let mid = chunk.mid;
         let (ppid, fsn) = if chunk.flags.is_beginning {
@@ -94,7 +93,9 @@ impl<'a> DataPart<'a> {
     }
 
     // The same as the reassembly queue keeps it, with a copy of the bytes.
-    fn to_data(self, alloc: Global) -> Result<Data, AllocError> {
+    fn to_data(self, alloc: Global) -> Result<Data, AllocError>
+        ensures { IfOk result (λ made. chunk_of made ≡ (part_arrival self.entry).chunk) }
+    {
         Ok(Data {
             stream_id: self.stream_id,
             numbering: self.numbering,
@@ -112,8 +113,7 @@ impl<'a> DataPart<'a> {
 ///
 /// `Err`: an allocation failed; the first of its events may already have been added.
 pub fn handle_data<R: Rng>(context: &mut Context<R>, part: DataPart<'_>) -> Result<(), AllocError>
-    ensures { TakesOne R.stream (DataAt part.entry.immediate_ack part.entry.tsn part.entry.payload.now)
-        context.old result context.new }
+    ensures { TakesOne R.stream (DataAt (part_arrival part.entry)) context.old result context.new }
 {
     if part.payload.is_empty() {
         return refuse_empty(context, part.tsn);

@@ -1,5 +1,7 @@
 //! FORWARD-TSN (RFC 3758, section 3.6) and I-FORWARD-TSN (RFC 8260, section 2.3.1) that are received.
 
+ghost use Rattle.std.specs.Prelude.{◌≡◌, IfOk};
+ghost use Rattle.dcsctp_machine.specs.transfer.Arrivals.{skipped_in, messages_skipped_in};
 ghost use Rattle.dcsctp_core.specs.Handling.{TakesOne};
 ghost use Rattle.dcsctp_core_data.specs.Data.{ForwardAt};
 
@@ -11,7 +13,9 @@ use rand_core::Rng;
 use std::alloc::{AllocError, Global};
 
 // What a FORWARD-TSN skips.
-fn skipped_in(alloc: Global, chunk: &ForwardTsnChunk<'_>) -> Result<Vec<SkippedTo>, AllocError> {
+fn skipped_in(alloc: Global, chunk: &ForwardTsnChunk<'_>) -> Result<Vec<SkippedTo>, AllocError>
+    ensures { IfOk result (λ skipped. skipped.items ≡ skipped_in chunk.now.skipped_streams.now) }
+{
     let mut skipped = Vec::new(alloc);
     for index in 0..chunk.skipped_stream_count() {
         let entry = chunk.skipped_stream(index);
@@ -27,7 +31,9 @@ fn skipped_in(alloc: Global, chunk: &ForwardTsnChunk<'_>) -> Result<Vec<SkippedT
 fn skipped_messages_in(
     alloc: Global,
     chunk: &IForwardTsnChunk<'_>,
-) -> Result<Vec<SkippedTo>, AllocError> {
+) -> Result<Vec<SkippedTo>, AllocError>
+    ensures { IfOk result (λ skipped. skipped.items ≡ messages_skipped_in chunk.now.skipped_streams.now) }
+{
     let mut skipped = Vec::new(alloc);
     for index in 0..chunk.skipped_stream_count() {
         let entry = chunk.skipped_stream(index);
@@ -48,7 +54,7 @@ pub fn handle_forward_tsn<R: Rng>(
     context: &mut Context<R>,
     chunk: &ForwardTsnChunk<'_>,
 ) -> Result<(), AllocError>
-    ensures { TakesOne R.stream (ForwardAt chunk.now.new_cumulative_tsn) context.old result context.new }
+    ensures { TakesOne R.stream (ForwardAt chunk.now.new_cumulative_tsn (skipped_in chunk.now.skipped_streams.now)) context.old result context.new }
 {
     let Some(tcb) = context.state.tcb_mut() else {
         return Ok(());
@@ -65,7 +71,7 @@ pub fn handle_i_forward_tsn<R: Rng>(
     context: &mut Context<R>,
     chunk: &IForwardTsnChunk<'_>,
 ) -> Result<(), AllocError>
-    ensures { TakesOne R.stream (ForwardAt chunk.now.new_cumulative_tsn) context.old result context.new }
+    ensures { TakesOne R.stream (ForwardAt chunk.now.new_cumulative_tsn (messages_skipped_in chunk.now.skipped_streams.now)) context.old result context.new }
 {
     let Some(tcb) = context.state.tcb_mut() else {
         return Ok(());

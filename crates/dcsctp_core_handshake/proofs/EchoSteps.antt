@@ -13,13 +13,13 @@ use Rattle.dcsctp_machine.specs.Outcome.{Outcome, noting}
 use Rattle.dcsctp_machine.specs.Following.{next_chunk}
 use Rattle.dcsctp_machine.specs.control.Effect.{connects, link_of}
 use Rattle.dcsctp_machine.specs.control.CookieEchoChanges.{Resolution, establish_new, restart, simultaneous_init, discard, maintain_existing, invalid_tag, case_by, case_with_peer, resolve}
-use Rattle.dcsctp_machine.specs.turns.FlushOutcomes.{Answer, FlushAnswers, FlushKind, flush_answered}
+use Rattle.dcsctp_machine.specs.turns.FlushOutcomes.{Answer, FlushAnswers, flush_answered}
 use Rattle.dcsctp_machine.specs.turns.HandshakeOutcomes.{connected_after}
 use Rattle.dcsctp_machine.specs.turns.CookieEchoOutcomes.{maintain_by, resolved_by, cookie_echo_by, discard_outcome, refused_echo_outcome, MaintainAnswers, ResolvedAnswers, EchoedAnswers, CookieEchoTurn}
 use Rattle.dcsctp_core.specs.declared.context.Context.{Context}
 use Rattle.dcsctp_core.specs.declared.following.Following.{Following}
 use Rattle.dcsctp_core.specs.declared.following.Following.TheVariants.{NextChunk, DroppedRest}
-use Rattle.dcsctp_core.specs.View.{View, Moves, view_of, endpoint_of}
+use Rattle.dcsctp_core.specs.View.{View, view_of, endpoint_of}
 use Rattle.dcsctp_core.specs.Drawing.{long_word}
 use Rattle.dcsctp_core.specs.Handling.{TakesIn, CutIn, HandlesIn, WorksOne}
 use Rattle.dcsctp_core.proofs.Composing.{cut_first}
@@ -187,11 +187,6 @@ works_discard stream old header bytes cookie c =
       moves = record { endpoint = m.endpoint; events = m.events; words = m.words; pairs = m.pairs; drawn = m.drawn };
       following = refl;
     }
-
--- with this text
-pub works_refused : {R : Type 0} (stream : R → Stream) (old new : View R) (header : ℕ) (bytes text : List ℕ) → CookieEchoAt header bytes old (refused_echo_outcome old.endpoint text)
-    → Moves stream old (refused_echo_outcome old.endpoint text) new → HandlesIn stream (CookieEchoAt header bytes) old DroppedRest new
-works_refused stream old new header bytes text turn m = record { outcome = refused_echo_outcome old.endpoint text; turn = turn; moves = m; following = refl }
 
 pub refused_cut : {R : Type 0} (old : View R) (es : List (Event (List ℕ))) (header : ℕ) (bytes text : List ℕ) → CookieEchoAt header bytes old (refused_echo_outcome old.endpoint text)
     → es ≡ old.events → CutIn (CookieEchoAt header bytes) old es

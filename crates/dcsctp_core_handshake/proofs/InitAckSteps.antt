@@ -18,16 +18,15 @@ use Rattle.dcsctp_machine.specs.Following.{next_chunk}
 use Rattle.dcsctp_machine.specs.control.Effect.{holds, link_of}
 use Rattle.dcsctp_machine.specs.control.HandshakeChanges.{held_by_init_ack}
 use Rattle.dcsctp_machine.specs.turns.FlushOutcomes.{Answer, first_ask, flush_of, flush_answered, packets_allowed}
-use Rattle.dcsctp_machine.specs.turns.HandshakeOutcomes.{awaits_cookie_ack, echo_emission, send_echo_by, accepted_init_ack_by, init_ack_by, refused_init_ack_outcome, EchoAnswers, InitAckAnswers}
+use Rattle.dcsctp_machine.specs.turns.HandshakeOutcomes.{awaits_cookie_ack, echo_emission, send_echo_by, accepted_init_ack_by, init_ack_by, EchoAnswers, InitAckAnswers}
 use Rattle.dcsctp_machine.specs.turns.TimerOutcomes.{AgainAnswers}
 use Rattle.dcsctp_machine.proofs.AnswerLemmas.{any_answers}
-use Rattle.dcsctp_core.specs.declared.following.Following.TheVariants.{NextChunk, DroppedRest}
+use Rattle.dcsctp_core.specs.declared.following.Following.TheVariants.{NextChunk}
 use Rattle.dcsctp_core.specs.declared.context.Context.{Context}
 use Rattle.dcsctp_core.specs.declared.state.CookieEchoState.{CookieEchoState}
 use Rattle.dcsctp_core.specs.declared.state.OpenState.{OpenState}
 use Rattle.dcsctp_core.specs.declared.state.State.{State}
 use Rattle.dcsctp_core.specs.declared.state.State.TheVariants.{Closed, CookieWait, CookieEchoed, Open}
-use Rattle.dcsctp_core.specs.declared.transmission_control_block.TransmissionControlBlock.{TransmissionControlBlock}
 use Rattle.dcsctp_core.specs.View.{View, Moves, CutTurn, view_of, core_of}
 use Rattle.dcsctp_core.specs.Drawing.{long_word}
 use Rattle.dcsctp_core.specs.Handling.{TakesIn, CutIn, HandlesIn}
@@ -287,18 +286,3 @@ works_accepted_cut stream old es theirs found cookie mine is has t =
       turn = init_ack_turn old theirs found (Some cookie) mine (long_word (stream old.generator)) t.turn.0 t.outcome is has t.turn.1 t.turn.2;
       cut = t.cut;
     }
-
--- one without a cookie
-pub works_refusal : {R : Type 0} (stream : R → Stream) (old new : View R) (theirs : Introduction) (found : Option (List ℕ)) (mine : Pair)
-    → old.endpoint.core ≡ cookie_wait mine → found ≡ None
-    → Moves stream old (refused_init_ack_outcome old.endpoint theirs.pair.tag) new → HandlesIn stream (InitAckAt theirs found) old DroppedRest new
-works_refusal stream old new theirs found mine is has m =
-    let o : Outcome = refused_init_ack_outcome old.endpoint theirs.pair.tag in
-    record { outcome = o; turn = init_ack_turn old theirs found None mine 0 [] o is has refl refl; moves = m; following = refl }
-
-pub works_refusal_cut : {R : Type 0} (old : View R) (es : List (Event (List ℕ))) (theirs : Introduction) (found : Option (List ℕ)) (mine : Pair)
-    → old.endpoint.core ≡ cookie_wait mine → found ≡ None
-    → CutTurn old (refused_init_ack_outcome old.endpoint theirs.pair.tag) es → CutIn (InitAckAt theirs found) old es
-works_refusal_cut old es theirs found mine is has cut =
-    let o : Outcome = refused_init_ack_outcome old.endpoint theirs.pair.tag in
-    record { outcome = o; turn = init_ack_turn old theirs found None mine 0 [] o is has refl refl; cut = cut }

@@ -1,11 +1,10 @@
 -- The steps of a restart: it is refused while a SHUTDOWN ACK waits for its answer.
-use Rattle.std.proofs.Common.{◌≡◌, ◌==◌, ◌≤◌, ℕ, Bool, true, false, not, Option, None, Some, Result, Ok, Err, List, [], ◌∷◌, ◌++◌, length, map, refl, sym, ap, subst, ◌∙◌, arith, append_assoc}
+use Rattle.std.proofs.Common.{◌≡◌, ◌==◌, ◌≤◌, ℕ, Bool, true, false, not, Option, Some, List, [], ◌∷◌, ◌++◌, length, refl, sym, ap, subst, ◌∙◌, arith, append_assoc}
 use Rattle.std.proofs.lemmas.List.{append-nil}
 use Rattle.rand_core.specs.Stream.{Stream}
 use Rattle.dcsctp_wire.specs.Content.{CauseContent, shutdown_ack_chunk, error_chunk, cookie_received_while_shutting_down}
-use Rattle.dcsctp_wire.specs.Spelling.{chunk_bytes, other_bytes, list_bytes, parameter_bytes, parameters_len, header_bytes, packet_bytes_of}
+use Rattle.dcsctp_wire.specs.Spelling.{chunk_bytes, other_bytes, list_bytes, parameter_bytes, parameters_len}
 use Rattle.dcsctp_wire_build.specs.Building.{Building, bytes_remaining}
-use Rattle.dcsctp_machine.specs.declared.association.Pair.{Pair}
 use Rattle.dcsctp_machine.specs.declared.association.Held.{Held}
 use Rattle.dcsctp_machine.specs.declared.kinds.ErrorKind.TheVariants.{WrongSequence}
 use Rattle.dcsctp_machine.specs.declared.options.Options.{Options}
@@ -14,22 +13,19 @@ use Rattle.dcsctp_machine.specs.Cookie.{Cookie}
 use Rattle.dcsctp_machine.specs.Event.{Event, sent, error}
 use Rattle.dcsctp_machine.specs.Packet.{emission_bytes}
 use Rattle.dcsctp_machine.specs.Endpoint.{Endpoint, Core, closed, cookie_wait, cookie_echoed, open_in, established, shutdown_pending, shutdown_sent, shutdown_received, shutdown_ack_sent, held_in}
-use Rattle.dcsctp_machine.specs.Outcome.{Outcome, still, counted, reports}
+use Rattle.dcsctp_machine.specs.Outcome.{Outcome, counted, reports}
 use Rattle.dcsctp_machine.specs.turns.FlushOutcomes.{Answer, FlushKind, flush_answered, is_none}
 use Rattle.dcsctp_machine.specs.turns.CookieEchoOutcomes.{shutting_down_text, shutting_down_emission, refused_restart_outcome, restart_by, restart_by_where, queue_begun, EstablishAnswers, RestartAnswers}
-use Rattle.dcsctp_api.specs.Calls.{user_event}
 use Rattle.dcsctp_core.specs.declared.context.Context.{Context}
-use Rattle.dcsctp_core.specs.declared.following.Following.{Following}
 use Rattle.dcsctp_core.specs.declared.following.Following.TheVariants.{NextChunk, DroppedRest}
 use Rattle.dcsctp_core.specs.declared.transmission_control_block.TransmissionControlBlock.{TransmissionControlBlock}
-use Rattle.dcsctp_core.specs.View.{View, Moves, CutTurn, core_of, tcb_of, held_of, view_of, endpoint_of}
+use Rattle.dcsctp_core.specs.View.{View, Moves, CutTurn, tcb_of, held_of, view_of, endpoint_of}
 use Rattle.dcsctp_core.specs.Drawing.{long_word}
-use Rattle.dcsctp_core.specs.Handling.{TakesIn, CutIn, Handles, HandlesIn, Works, WorksOne, report_turn}
+use Rattle.dcsctp_core.specs.Handling.{TakesIn, Handles, HandlesIn, report_turn}
 use Rattle.dcsctp_core.specs.Flushing.{empty_packet, packet_for, sent_where}
 use Rattle.dcsctp_core.proofs.Composing.{cut_first, cut_after}
-use Rattle.dcsctp_core.proofs.Moving.{moves_still}
 use Rattle.dcsctp_core_handshake.specs.Echoes.{RestartAt, RestartWhereAt, awaits_complete, refused_restart_to, refused_restart_turn}
-use Rattle.dcsctp_core_handshake.proofs.AckSteps.{held_by_tcb, none_by_tcb}
+use Rattle.dcsctp_core_handshake.proofs.AckSteps.{held_by_tcb}
 use Rattle.dcsctp_core_handshake.proofs.FlushSteps.{flush_following}
 
 -- ---- the packet of a refusal: SHUTDOWN ACK and ERROR
@@ -131,12 +127,6 @@ refuses_cut {R = R} old tcb mid es packet is_sent kept packed goes is same =
 pub refusal_unmade : {R : Type 0} (old : View R) (es : List (Event (List ℕ))) → es ≡ old.events → CutTurn old (refused_restart_turn old) es
 refusal_unmade old es same = cut_first old (refused_restart_turn old) es same
 
--- Without a peer nothing happens.
-pub refuses_nobody : {R : Type 0} (stream : R → Stream) (old : Context R) → None ≡ tcb_of old.state → Handles stream (view_of old) (refused_restart_turn (view_of old)) NextChunk (view_of old)
-refuses_nobody stream old none =
-    subst (λ (peer : Option Held). Handles stream (view_of old) (refused_restart_to (endpoint_of old) peer) NextChunk (view_of old)) (sym (none_by_tcb old.state none))
-    (record { moves = moves_still stream (view_of old); following = refl })
-
 -- ---- where an association is open
 
 -- A SHUTDOWN ACK waits: the restart is refused.
@@ -150,17 +140,6 @@ refused_where flush e cookie tie (open_in shutdown_pending mine held) waits = ab
 refused_where flush e cookie tie (open_in shutdown_sent mine held) waits = absurd (cc)
 refused_where flush e cookie tie (open_in shutdown_received mine held) waits = absurd (cc)
 refused_where flush e cookie tie (open_in shutdown_ack_sent mine held) waits = (refl, refl)
-
-refused_turn : {R : Type 0} (stream : R → Stream) (old : View R) (cookie : Cookie) → awaits_complete old.endpoint.core ≡ true → RestartWhereAt stream cookie old (refused_restart_turn old)
-refused_turn stream old cookie waits =
-    let here = refused_where (flush_answered []) old.endpoint cookie (long_word (stream old.generator)) old.endpoint.core waits in ([], here.0, here.1)
-
-pub restarts_refused : {R E : Type 0} (stream : R → Stream) (old : Context R) (result : Result Following E) (new : Context R) (cookie : Cookie) → awaits_complete (core_of old.state) ≡ true
-    → Works stream refused_restart_turn old result new → WorksOne stream (RestartWhereAt stream cookie) old result new
-restarts_refused stream old (Ok next) new cookie waits h =
-    record { outcome = refused_restart_turn (view_of old); turn = refused_turn stream (view_of old) cookie waits; moves = h.moves; following = h.following }
-restarts_refused stream old (Err refusal) new cookie waits cut =
-    record { outcome = refused_restart_turn (view_of old); turn = refused_turn stream (view_of old) cookie waits; cut = cut }
 
 -- None does: the association is made anew.
 anew_where : (flush : FlushKind) (e : Endpoint) (cookie : Cookie) (tie : ℕ) (core : Core) (answers : List Answer) → awaits_complete core ≡ false → EstablishAnswers e cookie (queue_begun e cookie) tie answers
@@ -187,7 +166,3 @@ restarts_anew stream old new cookie waits t =
       moves = t.moves;
       following = ap (λ (o : Outcome). o.following) t.turn.2 ∙ flush_following _ _ t.turn.0;
     }
-
-pub restarts_anew_cut : {R : Type 0} (stream : R → Stream) (old : View R) (es : List (Event (List ℕ))) (cookie : Cookie) → awaits_complete old.endpoint.core ≡ false
-    → CutIn (RestartAt stream cookie) old es → CutIn (RestartWhereAt stream cookie) old es
-restarts_anew_cut stream old es cookie waits t = record { outcome = t.outcome; turn = anew_turn stream old cookie t.outcome waits t.turn; cut = t.cut }

@@ -1,7 +1,7 @@
 -- Messages that are queued or refused, one after another.
 use Rattle.std.proofs.Common.{◌≡◌, ◌||◌, ◌+◌, ℕ, Bool, true, false, Option, None, Some, List, [], ◌∷◌, ◌++◌, refl, sym, ap, subst, ◌∙◌, append_assoc}
 use Rattle.std.specs.Prelude.{is_none}
-use Rattle.std.proofs.lemmas.List.{append-nil, map-append}
+use Rattle.std.proofs.lemmas.List.{append-nil}
 use Rattle.rand_core.specs.Stream.{Stream}
 use Rattle.dcsctp_machine.specs.Event.{Event}
 use Rattle.dcsctp_machine.specs.Settings.{ports_of}
@@ -9,7 +9,7 @@ use Rattle.dcsctp_machine.specs.Endpoint.{Endpoint}
 use Rattle.dcsctp_machine.specs.Outcome.{Outcome, then_outcome}
 use Rattle.dcsctp_machine.specs.turns.MessageOutcomes.{MessageRefusal, message_refusal, Sending, RefusedMessage, refused_where, refused_from, queue_by, queue_one, queue_all, takes_any}
 use Rattle.dcsctp_api.specs.declared.errors.SendError.{SendError}
-use Rattle.dcsctp_api.specs.Messages.{refusal_of, refused_in}
+use Rattle.dcsctp_api.specs.Messages.{refused_in}
 use Rattle.dcsctp_core.specs.View.{View, Moves, CutTurn}
 use Rattle.dcsctp_core.proofs.Composing.{Adds, cut_behind, cut_after, cut_longer}
 use Rattle.dcsctp_core.proofs.FlushLemmas.{moves_next}
@@ -40,20 +40,6 @@ cut_next stream a b o p events same m cut =
     record { count = all.count; added = all.added }
 
 -- ---- one message of some
-
--- it was refused, and noted so
-pub noted_refused : {R : Type 0} (place : ℕ) (message : Sending) (error : SendError) (old new : QueuedAll) (here : View R)
-    → Some (refusal_of error) ≡ message_refusal here.endpoint message.stream message.bytes → new.refused.items ≡ old.refused.items ++ (place, error) ∷ [] → new.has_taken ≡ old.has_taken
-    → NotedAt place (message_refusal here.endpoint message.stream message.bytes) old new
-noted_refused place message error old new here some pushed same =
-    subst (λ (r : Option MessageRefusal). NotedAt place r old new) some
-    (ap refused_in pushed ∙ map-append (λ (e : ℕ × SendError). let named : RefusedMessage = record { place = e.0; refusal = refusal_of e.1 } in named) old.refused.items ((place, error) ∷ []), same)
-
-pub noted_taken : {R : Type 0} (place : ℕ) (message : Sending) (old new : QueuedAll) (here : View R)
-    → None ≡ message_refusal here.endpoint message.stream message.bytes → new.refused.items ≡ old.refused.items → new.has_taken ≡ true
-    → NotedAt place (message_refusal here.endpoint message.stream message.bytes) old new
-noted_taken place message old new here none same taken =
-    subst (λ (r : Option MessageRefusal). NotedAt place r old new) none (same, taken)
 
 -- a growth was refused behind it
 pub one_stopped : {R : Type 0} (stream : R → Stream) (message : Sending) (here next : View R) → Moves stream here (queue_one here.endpoint message) next → CutTurn here (queue_one here.endpoint message) next.events

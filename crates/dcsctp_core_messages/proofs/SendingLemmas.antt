@@ -1,6 +1,5 @@
 -- Messages that are queued, and then a flush where one was taken.
-use Rattle.std.proofs.Common.{◌≡◌, ◌||◌, ℕ, Bool, true, false, Option, None, Some, Result, Ok, Err, List, [], ◌∷◌, refl, sym, ap, subst}
-use Rattle.std.specs.Prelude.{is_none}
+use Rattle.std.proofs.Common.{◌≡◌, ℕ, Bool, true, false, Option, None, Some, Result, Ok, Err, List, [], ◌∷◌, refl, sym, ap, subst}
 use Rattle.rand_core.specs.Stream.{Stream}
 use Rattle.dcsctp_machine.specs.declared.association.Held.{Held}
 use Rattle.dcsctp_machine.specs.Event.{Event}
@@ -8,7 +7,7 @@ use Rattle.dcsctp_machine.specs.Endpoint.{Endpoint, held_in}
 use Rattle.dcsctp_machine.specs.Outcome.{Outcome, still, then_outcome}
 use Rattle.dcsctp_machine.specs.turns.FlushOutcomes.{Answer, draft_to, first_ask, packets_allowed}
 use Rattle.dcsctp_machine.specs.turns.DataOutcomes.{AnswersTo, FlushTurn}
-use Rattle.dcsctp_machine.specs.turns.MessageOutcomes.{MessageRefusal, message_refusal, RefusedMessage, refused_from, Sending, queue_one, queue_all, takes_any, SendAnswers, send_by, SendTurn}
+use Rattle.dcsctp_machine.specs.turns.MessageOutcomes.{RefusedMessage, refused_from, Sending, queue_one, queue_all, takes_any, SendAnswers, send_by, SendTurn}
 use Rattle.dcsctp_machine.proofs.AnswerLemmas.{any_answers}
 use Rattle.dcsctp_api.specs.declared.errors.BatchSendError.{BatchSendError}
 use Rattle.dcsctp_api.specs.Messages.{refused_in, IsBatchAnswer}
@@ -20,7 +19,7 @@ use Rattle.dcsctp_core.proofs.FlushLemmas.{moves_next}
 use Rattle.dcsctp_core.proofs.Moving.{moves_still}
 use Rattle.dcsctp_core_messages.specs.declared.queueing.QueuedAll.{QueuedAll}
 use Rattle.dcsctp_core_messages.specs.Sending.{SendAt, AreQueued, FlushesWhere}
-use Rattle.dcsctp_core_messages.proofs.QueueingLemmas.{one_options, all_options, cut_next}
+use Rattle.dcsctp_core_messages.proofs.QueueingLemmas.{all_options, cut_next}
 
 -- ---- what may follow the messages
 
@@ -96,22 +95,10 @@ send_cut_later stream messages a b events taken m flush =
 
 -- ---- one message
 
-pub one_queued : {R : Type 0} (stream : R → Stream) (message : Sending) (a b : View R) → Moves stream a (queue_one a.endpoint message) b
-    → Moves stream a (queue_all a.endpoint (message ∷ [])) b
-one_queued stream message a b m =
-    let one : Outcome = queue_one a.endpoint message in
-    moves_next stream a b b one (still one.after) (one_options a.endpoint message) m (subst (λ (e : Endpoint). Moves stream b (still e) b) m.endpoint (moves_still stream b))
-
 pub one_cut : {R : Type 0} (message : Sending) (a : View R) (events : List (Event (List ℕ))) → CutTurn a (queue_one a.endpoint message) events → CutIn (SendAt (message ∷ [])) a events
 one_cut message a events cut =
     let one : Outcome = queue_one a.endpoint message in
     send_cut (message ∷ []) a events (cut_longer a one (queue_all a.endpoint (message ∷ [])) [] events refl cut)
-
-pub one_is_taken : (e : Endpoint) (message : Sending) → None ≡ message_refusal e message.stream message.bytes → takes_any e (message ∷ []) ≡ true
-one_is_taken e message none = sym (ap (λ (r : Option MessageRefusal). is_none r || false) none)
-
-pub one_is_refused : (e : Endpoint) (message : Sending) (refusal : MessageRefusal) → Some refusal ≡ message_refusal e message.stream message.bytes → takes_any e (message ∷ []) ≡ false
-one_is_refused e message refusal some = sym (ap (λ (r : Option MessageRefusal). is_none r || false) some)
 
 -- ---- several
 

@@ -1,7 +1,8 @@
 -- A message that is taken is a turn of the socket's view.
 use Rattle.std.proofs.Common.{◌≡◌, Option, None, Some, List, refl, sym, ap, subst, ◌∙◌}
 use Rattle.dcsctp_machine.specs.declared.message.Message.{Message}
-use Rattle.dcsctp_machine.specs.transfer.Transfer.{MessageContent, Transfer}
+use Rattle.dcsctp_machine.specs.transfer.Messages.{MessageContent}
+use Rattle.dcsctp_machine.specs.transfer.Transfer.{Transfer}
 use Rattle.dcsctp_machine.specs.Endpoint.{Endpoint}
 use Rattle.dcsctp_machine.specs.Outcome.{Outcome, still}
 use Rattle.dcsctp_machine.specs.turns.DataOutcomes.{with_transfer, TakeWhere, TakeTurn}
@@ -16,9 +17,9 @@ use Rattle.dcsctp_core_messages.specs.Taking.{TakesNextOf}
 
 -- what a message that is taken, or none, does to what lies below
 record Takes (e : Endpoint) (transfer after : Transfer) (result : Option Message) : Type 0 where
-  first : IsFirst transfer.reassembly.messages result
+  first : IsFirst transfer.reassembly.incoming.ready result
   outcome : Outcome
-  turn : TakeWhere e transfer transfer.reassembly.messages outcome
+  turn : TakeWhere e transfer transfer.reassembly.incoming.ready outcome
   after_is : outcome.after ≡ with_transfer e after
 
 takes_where : (e : Endpoint) (transfer after : Transfer) (result : Option Message) → e ≡ with_transfer e transfer → TakesFirst result transfer after → Takes e transfer after result
@@ -31,9 +32,9 @@ takes_where e transfer after None same h =
     }
 takes_where e transfer after (Some message) same h =
     record {
-      first = (after.reassembly.messages, h.1);
+      first = (after.reassembly.incoming.ready, h.0);
       outcome = still (with_transfer e after);
-      turn = subst (λ (messages : List MessageContent). TakeWhere e transfer messages (still (with_transfer e after))) (sym h.1) (after, h.0, refl);
+      turn = subst (λ (messages : List MessageContent). TakeWhere e transfer messages (still (with_transfer e after))) (sym h.0) (ap (λ (t : Transfer). still (with_transfer e t)) h.1);
       after_is = refl;
     }
 

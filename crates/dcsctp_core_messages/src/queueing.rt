@@ -1,7 +1,7 @@
 //! Messages that enter the send queue, or are refused.
 
 ghost use Rattle.std.specs.Prelude.{◌<◌, vec_len, map};
-ghost use Rattle.dcsctp_machine.specs.transfer.Transfer.{message_content};
+ghost use Rattle.dcsctp_machine.specs.transfer.Messages.{message_content};
 ghost use Rattle.dcsctp_machine.specs.turns.MessageOutcomes.{sending_of};
 ghost use Rattle.dcsctp_core.specs.Handling.{Tries};
 ghost use Rattle.dcsctp_core_messages.specs.Sending.{queued_turn, Queues, QueuesAt, QueuesAll};

@@ -1,7 +1,7 @@
 //! `send` and `send_many` (RFC 9260, section 6.1).
 
 ghost use Rattle.std.specs.Prelude.{map};
-ghost use Rattle.dcsctp_machine.specs.transfer.Transfer.{message_content};
+ghost use Rattle.dcsctp_machine.specs.transfer.Messages.{message_content};
 ghost use Rattle.dcsctp_machine.specs.turns.MessageOutcomes.{sending_of};
 ghost use Rattle.dcsctp_api.specs.Messages.{refused_in, IsBatchAnswer};
 ghost use Rattle.dcsctp_core_messages.specs.Sending.{SendsOne, SendsAll, FlushesWhere};

@@ -1,6 +1,6 @@
 -- A RE-CONFIG comes in: its streams, its answers, and all of its turn.
 use Rattle.std.proofs.Common.{◌≡◌, ◌==◌, ◌+◌, ℕ, nat_le, not, length, arith, Bool, true, false, Option, None, Some, Result, Ok, Err, List, [], ◌∷◌, ◌++◌, map, take, refl, sym, ap, subst, ◌∙◌, append_assoc}
-use Rattle.std.specs.Prelude.{is_some, IsTrue, ◌↔◌, ◌≢◌}
+use Rattle.std.specs.Prelude.{is_some, IsTrue, OnOk, OnErr, ◌↔◌, ◌≢◌}
 use Rattle.std.specs.Option.{option_map}
 use Rattle.std.proofs.lemmas.Bool.Decides.{nat_tests}
 use Rattle.std.proofs.lemmas.List.{append-nil, map-append}
@@ -25,8 +25,9 @@ use Rattle.dcsctp_machine.specs.control.Effect.{Effect, drawn_in}
 use Rattle.dcsctp_machine.specs.control.ResetChanges.{Place, again, next, astray, place_of, Answered, incoming_by, Informed, informed_by, is_outstanding, informed_where, WorkedParameters, work_parameters, work_chunk}
 use Rattle.dcsctp_machine.specs.turns.FlushOutcomes.{is_none, Answer, draft_to, flush_of, first_ask, packets_allowed}
 use Rattle.dcsctp_machine.specs.turns.DataOutcomes.{flush_by, AnswersTo, FlushTurn}
-use Rattle.dcsctp_machine.specs.turns.ResetOutcomes.{requested_in, is_reached, worked_in, OwnAnswer, unanswered, retried, over, own_moved, own_answer, in_progress_among, answered_in, worked_part, own_streams, has_reset, ResetsBelow, ResetsStreams, their_streams, told_of, core_with, resets_worked, reset_refusal_text, responses_outcome, responses_by, ResponseAnswers, resets_by, WorksResets, ResetTurn}
+use Rattle.dcsctp_machine.specs.turns.ResetOutcomes.{requested_in, is_reached, worked_in, OwnAnswer, unanswered, retried, over, own_moved, own_answer, in_progress_among, answered_in, worked_part, own_streams, has_reset, answers_in_progress, ResetsBelow, ResetsStreams, defers_reset, their_streams, told_of, core_with, resets_worked, reset_refusal_text, responses_outcome, responses_by, ResponseAnswers, resets_by, WorksResets, ResetTurn}
 use Rattle.dcsctp_machine.proofs.AnswerLemmas.{any_answers}
+use Rattle.dcsctp_machine.proofs.ReassemblyLemmas.{any_left}
 use Rattle.dcsctp_machine.proofs.TurnLemmas.{drawn_in-append}
 use Rattle.dcsctp_api.specs.Calls.{user_event}
 use Rattle.dcsctp_core.specs.declared.context.Context.{Context}
@@ -46,9 +47,9 @@ use Rattle.dcsctp_core_resets.specs.declared.requests.Treatment.TheVariants.{Not
 use Rattle.dcsctp_core_resets.specs.declared.requests.HandledRequests.{HandledRequests}
 use Rattle.dcsctp_core_resets.specs.declared.requests.OwnAnswer.TheVariants as own
 use Rattle.dcsctp_core_resets.specs.declared.requests.OwnAnswer as requests
-use Rattle.dcsctp_core_resets.specs.Requests.{reset_parameters, held_with, held_out, held_now, is_performed, treated_events, left_out, own_kind, own_events, told_so}
+use Rattle.dcsctp_core_resets.specs.Requests.{reset_parameters, held_with, held_out, held_now, is_performed, is_deferred, treated_events, left_out, own_kind, own_events, told_so}
 use Rattle.dcsctp_core_resets.proofs.RequestLemmas.{resets_of, has_both}
-use Rattle.dcsctp_core_resets.specs.Resets.{ReConfigAt, last_in, WorksFor, core_asked, asked_at, left_at, is_performed_for, told_for, Treats, core_settled, settled_at, own_told, told_both, told_where, responses_to, responses_turn, FinishAt}
+use Rattle.dcsctp_core_resets.specs.Resets.{ReConfigAt, last_in, WorksFor, core_asked, asked_at, left_at, told_for, Defers, DefersTo, Treats, TreatsBelow, core_settled, settled_at, own_told, told_both, told_where, responses_to, responses_turn, FinishAt}
 use Rattle.dcsctp_core_resets.proofs.SettlingLemmas.{none_numbered}
 
 -- ---- the answers, and what waits behind them
@@ -162,39 +163,67 @@ finish_refused {R = R} old new held b parameters responses same =
 
 -- ---- the streams
 
-left_same : (found : Option Transfer) → ResetsBelow false found found
-left_same None = refl
-left_same (Some transfer) = refl
+-- Without a request nothing below changes.
+none_below : (is_performed in_progress : Bool) (found : Option Transfer) → ResetsBelow is_performed in_progress None found found
+none_below true in_progress found = refl
+none_below false true found = refl
+none_below false false found = refl
 
 -- Nothing below has changed, and nothing is told.
 pub untreated : {R : Type 0} (view : View R) → view ≡ left_at view view.endpoint.below.transfer []
 untreated view = ap (λ (es : List (Event (List ℕ))). let v : View _ = record view { events = es } in v) (sym (append-nil view.events))
 
-pub nothing_treated : {R : Type 0} (treatment : Treatment) (reset : Option RequestedReset) (old : Context R) (new : View R) → is_performed_for treatment reset ≡ false → told_for treatment reset ≡ [] → new ≡ view_of old
-    → (left : Option Transfer) × ResetsBelow (is_performed_for treatment reset) (transfer_of old.state) left × (new ≡ left_at (view_of old) left (told_for treatment reset))
+pub nothing_treated : {R : Type 0} (treatment : Treatment) (reset : Option RequestedReset) (old : Context R) (new : View R) → TreatsBelow treatment reset (transfer_of old.state) (transfer_of old.state)
+    → told_for treatment reset ≡ [] → new ≡ view_of old
+    → (left : Option Transfer) × TreatsBelow treatment reset (transfer_of old.state) left × (new ≡ left_at (view_of old) left (told_for treatment reset))
 nothing_treated treatment reset old new none told same = (
   transfer_of old.state,
-  subst (λ (b : Bool). ResetsBelow b (transfer_of old.state) (transfer_of old.state)) (sym none) (left_same (transfer_of old.state)),
+  none,
   same ∙ untreated (view_of old) ∙ ap (left_at (view_of old) (transfer_of old.state)) (sym told),
 )
 
--- Streams were reset below an association.
-performed_by : {R : Type 0} (old : Context R) (state : State) (found : Option Transfer) → transfer_of old.state ≡ found → ChangesBelow ResetsStreams found old.state state
-    → (left : Option Transfer) × ResetsBelow true found left × (view_of (record old { state = state }) ≡ record (view_of old) { endpoint = record (endpoint_of old) { below = record (endpoint_of old).below { transfer = left } } })
-performed_by {R = R} old state None holds changes =
-    (None, refl, same_view old state changes ∙ ap (λ (f : Option Transfer). let v : View R = record (view_of old) { endpoint = record (endpoint_of old) { below = record (endpoint_of old).below { transfer = f } } } in v) holds)
-performed_by old state (Some transfer) holds changes = (Some changes.0, (changes.0, refl, changes.2), below_view old state transfer changes.0 holds changes.1)
+-- the view with this below its association
+abbrev leaving : {R : Type 0} → Context R → Option Transfer → View R
+leaving old left = record (view_of old) { endpoint = record (endpoint_of old) { below = record (endpoint_of old).below { transfer = left } } }
 
-pub performed : {R : Type 0} (old : Context R) (state : State) (events : List (Event (List ℕ))) (reset : RequestedReset) → ChangesBelow ResetsStreams (transfer_of old.state) old.state state
-    → events ≡ (view_of old).events ++ incoming_stream_reset reset.streams ∷ []
-    → (left : Option Transfer) × ResetsBelow true (transfer_of old.state) left × (record (view_of (record old { state = state })) { events = events } ≡ left_at (view_of old) left (incoming_stream_reset reset.streams ∷ []))
-performed {R = R} old state events reset changes told =
-    let h = performed_by old state (transfer_of old.state) refl changes in (
+unheld_view : {R : Type 0} (old : Context R) (state : State) → transfer_of old.state ≡ None → state ≡ old.state → view_of (record old { state = state }) ≡ leaving old None
+unheld_view old state holds same = same_view old state same ∙ ap (leaving old) holds
+
+-- Streams were reset below an association.
+performed_by : {R : Type 0} (old : Context R) (state : State) (reset : RequestedReset) (found : Option Transfer) → transfer_of old.state ≡ found → ChangesBelow (ResetsStreams reset.streams) found old.state state
+    → (left : Option Transfer) × ResetsBelow true false (Some reset) found left × (view_of (record old { state = state }) ≡ leaving old left)
+performed_by old state reset None holds changes = (None, refl, unheld_view old state holds changes)
+performed_by old state reset (Some transfer) holds changes = (Some changes.0, (changes.0, refl, changes.2), below_view old state transfer changes.0 holds changes.1)
+
+pub performed : {R : Type 0} (old : Context R) (state : State) (events : List (Event (List ℕ))) (streams : List ℕ) (reset : RequestedReset) → streams ≡ reset.streams
+    → ChangesBelow (ResetsStreams streams) (transfer_of old.state) old.state state → events ≡ (view_of old).events ++ incoming_stream_reset reset.streams ∷ []
+    → (left : Option Transfer) × ResetsBelow true false (Some reset) (transfer_of old.state) left
+    × (record (view_of (record old { state = state })) { events = events } ≡ left_at (view_of old) left (incoming_stream_reset reset.streams ∷ []))
+performed {R = R} old state events streams reset names changes told =
+    let h = performed_by old state reset (transfer_of old.state) refl (subst (λ (xs : List ℕ). ChangesBelow (ResetsStreams xs) (transfer_of old.state) old.state state) names changes) in (
       h.0,
       h.1,
       ap (λ (v : View R). let w : View R = record v { events = events } in w) h.2
           ∙ ap (λ (es : List (Event (List ℕ))). let w : View R = record (view_of old) { endpoint = record (endpoint_of old) { below = record (endpoint_of old).below { transfer = h.0 } }; events = es } in w) told,
     )
+
+-- Their reset was deferred.
+deferred_below : {R : Type 0} (old : Context R) (state : State) (reset : RequestedReset) (found : Option Transfer) → transfer_of old.state ≡ found → ChangesBelow (DefersTo reset) found old.state state
+    → (left : Option Transfer) × ResetsBelow false true (Some reset) found left × (view_of (record old { state = state }) ≡ leaving old left)
+deferred_below old state reset None holds changes = (None, refl, unheld_view old state holds changes)
+deferred_below old state reset (Some transfer) holds changes = (Some changes.0, ap (λ (t : Transfer). Some t) changes.2, below_view old state transfer changes.0 holds changes.1)
+
+pub deferred : {R E : Type 0} (old : Context R) (state : State) (streams : List ℕ) (reset : RequestedReset) (result : Result (Unit {0}) E) (new : Context R) → view_of new ≡ view_of (record old { state = state })
+    → streams ≡ reset.streams → OnOk result (ChangesBelow (DefersTo (record reset { streams = streams })) (transfer_of old.state) old.state state) → OnErr result (state ≡ old.state)
+    → Defers reset old result new
+deferred {R = R} old state streams reset (Ok done) new here names changes same =
+    let h = deferred_below old state reset (transfer_of old.state) refl
+    (subst (λ (xs : List ℕ). ChangesBelow (DefersTo (record reset { streams = xs })) (transfer_of old.state) old.state state) names changes) in (
+      h.0,
+      h.1,
+      here ∙ h.2 ∙ ap (λ (es : List (Event (List ℕ))). let v : View R = record (leaving old h.0) { events = es } in v) (sym (append-nil (view_of old).events)),
+    )
+deferred old state streams reset (Err fault) new here names changes same = here ∙ same_view old state same
 
 -- ---- one packet of them
 
@@ -265,20 +294,26 @@ finish_by stream old mid (Err fault) new held b parameters responses is holds fi
 
 abbrev CarriedAs : {R : Type 0} → HandledRequests → Option RequestedReset → Context R → View R → Type 0
 CarriedAs w reset old new =
-    (left : Option Transfer) × ResetsBelow (is_performed_for w.treatment reset) (transfer_of old.state) left
+    (left : Option Transfer) × TreatsBelow w.treatment reset (transfer_of old.state) left
     × (new ≡ left_at (settled_at (own_kind w.own) (view_of old)) left (told_where w reset old))
 
 abbrev TreatsAs : {R : Type 0} → Treatment → Option RequestedReset → Context R → View R → Type 0
 TreatsAs treatment reset old new =
-    (left : Option Transfer) × ResetsBelow (is_performed_for treatment reset) (transfer_of old.state) left × (new ≡ left_at (view_of old) left (told_for treatment reset))
+    (left : Option Transfer) × TreatsBelow treatment reset (transfer_of old.state) left × (new ≡ left_at (view_of old) left (told_for treatment reset))
 
 pub treated_none : {R : Type 0} (treatment : Treatment) (old : Context R) → TreatsAs treatment None old (view_of old)
-treated_none Nothing old = nothing_treated Nothing None old (view_of old) refl refl refl
-treated_none Deferred old = nothing_treated Deferred None old (view_of old) refl refl refl
-treated_none Performed old = nothing_treated Performed None old (view_of old) refl refl refl
+treated_none treatment old = nothing_treated treatment None old (view_of old) (none_below (is_performed treatment) (is_deferred treatment) (transfer_of old.state)) (none_told treatment) refl
+  where
+    none_told : (treatment : Treatment) → told_for treatment None ≡ []
+    none_told Nothing = refl
+    none_told Deferred = refl
+    none_told Performed = refl
 
-pub deferred_by : {R E : Type 0} (old : Context R) (result : Result (Unit {0}) E) (new : Context R) (reset : RequestedReset) → view_of new ≡ view_of old → Treats Deferred (Some reset) old result new
-deferred_by old (Ok done) new reset same = nothing_treated Deferred (Some reset) old (view_of new) refl refl same
+pub untouched : {R : Type 0} (old : Context R) (reset : RequestedReset) → TreatsAs Nothing (Some reset) old (view_of old)
+untouched old reset = nothing_treated Nothing (Some reset) old (view_of old) refl refl refl
+
+pub deferred_by : {R E : Type 0} (old : Context R) (result : Result (Unit {0}) E) (new : Context R) (reset : RequestedReset) → Defers reset old result new → Treats Deferred (Some reset) old result new
+deferred_by old (Ok done) new reset h = h
 deferred_by {R = R} old (Err fault) new reset same = ap (λ (v : View R). v.events) same
 
 -- ---- all of it
@@ -344,19 +379,25 @@ rests stream old parameters none = record { outcome = still (endpoint_of old); t
 
 -- ---- where its turn was cut before its first event
 
-left_any : (b : Bool) (found : Option Transfer) → ResetsBelow b found found
-left_any true None = refl
-left_any true (Some transfer) =
-    (transfer, refl, record { reassembly = record { more = []; messages = sym (append-nil transfer.reassembly.messages); window = refl }; rest = refl })
-left_any false None = refl
-left_any false (Some transfer) = refl
+-- Whatever becomes of the streams, there is something that may lie below the association then.
+any_below : (is_performed in_progress : Bool) (reset : Option RequestedReset) (found : Option Transfer) → (left : Option Transfer) × ResetsBelow is_performed in_progress reset found left
+any_below true in_progress None found = (found, refl)
+any_below true in_progress (Some reset) None = (None, refl)
+any_below true in_progress (Some reset) (Some transfer) =
+    let after = any_left reset.streams transfer.reassembly in
+    let new : Transfer = record transfer { reassembly = after.0 } in (Some new, (new, refl, record { reassembly = after.1; rest = refl }))
+any_below false true None found = (found, refl)
+any_below false true (Some reset) None = (None, refl)
+any_below false true (Some reset) (Some transfer) = (Some (defers_reset reset transfer), refl)
+any_below false false reset found = (found, refl)
 
 any_turn : (e : Endpoint) (my : Pair) (held : Held) (parameters : List ResetParameter) → (o : Outcome) × WorksResets e my held parameters o
 any_turn e my held parameters =
     let w : WorkedParameters = worked_in e my held parameters in
-    let some = some_answers w.is_refused (resets_worked e (answered_in held w parameters) w.held e.below.transfer) w.held w.answers in (
-      resets_by e held w parameters e.below.transfer some.0,
-      record { left = e.below.transfer; below = left_any (has_reset w.effects) e.below.transfer; answers = some.0; allowed = some.1; is = refl },
+    let left = any_below (has_reset w.effects) (answers_in_progress w.answers) (requested_in parameters) e.below.transfer in
+    let some = some_answers w.is_refused (resets_worked e (answered_in held w parameters) w.held left.0) w.held w.answers in (
+      resets_by e held w parameters left.0 some.0,
+      record { left = left.0; below = left.1; answers = some.0; allowed = some.1; is = refl },
     )
 
 pub reset_refused : {R : Type 0} (old : Context R) (p : Peer old.state) (parameters : List ResetParameter) (events : List (Event (List ℕ))) → events ≡ (view_of old).events → CutIn (ReConfigAt parameters) (view_of old) events
@@ -404,18 +445,17 @@ chunk_unrequested : (my : Pair) (reached : Bool) (held : Held) (parameters : Lis
 chunk_unrequested my reached held [] none = refl
 chunk_unrequested my reached held (parameter ∷ parameters) none = unrequested my reached false held (parameter ∷ parameters) none
 
--- what was treated is what was wanted
-record Wanted (treatment : Treatment) (reset : Option RequestedReset) : Type 0 where
-  performed : is_performed treatment ≡ is_performed_for treatment reset
-  told : (ports : Ports) → map (user_event ports) (treated_events treatment (their_streams reset)) ≡ told_for treatment reset
+-- What the machine tells of the treatment is what is told.
+abbrev Wanted : Treatment → Option RequestedReset → Type 0
+Wanted treatment reset = (ports : Ports) → map (user_event ports) (treated_events treatment (their_streams reset)) ≡ told_for treatment reset
 
 wanted : (treatment : Treatment) (reset : Option RequestedReset) → (reset ≡ None → is_performed treatment ≡ false) → Wanted treatment reset
 wanted Performed None none = let never : true ≡ false = none refl in absurd (cc)
-wanted Performed (Some reset) none = record { performed = refl; told = λ ports. refl }
-wanted Deferred None none = record { performed = refl; told = λ ports. refl }
-wanted Deferred (Some reset) none = record { performed = refl; told = λ ports. refl }
-wanted Nothing None none = record { performed = refl; told = λ ports. refl }
-wanted Nothing (Some reset) none = record { performed = refl; told = λ ports. refl }
+wanted Performed (Some reset) none = λ ports. refl
+wanted Deferred None none = λ ports. refl
+wanted Deferred (Some reset) none = λ ports. refl
+wanted Nothing None none = λ ports. refl
+wanted Nothing (Some reset) none = λ ports. refl
 
 -- what is told of the own request, and of both
 own_user : (ports : Ports) (answer : requests.OwnAnswer) (streams : List ℕ) → map (user_event ports) (own_events answer streams) ≡ own_told answer streams
@@ -429,10 +469,10 @@ both_user : (ports : Ports) (first : Bool) (answer : requests.OwnAnswer) (treatm
 both_user ports true answer treatment reset streams w =
     map-append (user_event ports) (own_events answer streams) (treated_events treatment (their_streams reset))
     ∙ ap (λ (es : List (Event (List ℕ))). es ++ map (user_event ports) (treated_events treatment (their_streams reset))) (own_user ports answer streams)
-    ∙ ap (λ (es : List (Event (List ℕ))). own_told answer streams ++ es) (w.told ports)
+    ∙ ap (λ (es : List (Event (List ℕ))). own_told answer streams ++ es) (w ports)
 both_user ports false answer treatment reset streams w =
     map-append (user_event ports) (treated_events treatment (their_streams reset)) (own_events answer streams)
-    ∙ ap (λ (es : List (Event (List ℕ))). es ++ map (user_event ports) (own_events answer streams)) (w.told ports)
+    ∙ ap (λ (es : List (Event (List ℕ))). es ++ map (user_event ports) (own_events answer streams)) (w ports)
     ∙ ap (λ (es : List (Event (List ℕ))). told_for treatment reset ++ es) (own_user ports answer streams)
 
 -- behind what the user is told
@@ -450,7 +490,7 @@ kept_by held effects w = record { held = held_now held w; effects = effects; ans
 
 abbrev WorksBy : Endpoint → Held → List ResetParameter → Outcome → WorkedParameters → Type 0
 WorksBy e held parameters o worked =
-    (left : Option Transfer) × ResetsBelow (has_reset worked.effects) e.below.transfer left × (answers : List Answer)
+    (left : Option Transfer) × ResetsBelow (has_reset worked.effects) (answers_in_progress worked.answers) (requested_in parameters) e.below.transfer left × (answers : List Answer)
     × ResponseAnswers worked.is_refused (resets_worked e (answered_in held worked parameters) worked.held left) worked.held worked.answers answers
     × (o ≡ resets_by e held worked parameters left answers)
 
@@ -530,7 +570,7 @@ endpoint_by old p parameters w h left =
     ∙ ap (λ (a : OwnAnswer). resets_worked (endpoint_of old) a (held_now p.held w) left) (kind_by old p parameters w h)
 
 works_by : {R : Type 0} (old : Context R) (p : Peer old.state) (parameters : List ResetParameter) (w : HandledRequests) (h : WorkedAt old parameters w) (left : Option Transfer) (later : Outcome)
-    → ResetsBelow (is_performed_for w.treatment (requested_in parameters)) (transfer_of old.state) left
+    → TreatsBelow w.treatment (requested_in parameters) (transfer_of old.state) left
     → FinishAt (held_now p.held w) w.is_refused parameters (reset_parameters w.responses.items) (carried_view old w parameters left) later
     → WorksBy (endpoint_of old) p.held parameters (all_of (h.effects p.my p.held) (told_by old w parameters) later) (kept_by p.held (h.effects p.my p.held) w)
 works_by old p parameters w h left later below turn =
@@ -543,7 +583,8 @@ works_by old p parameters w h left later below turn =
     let there : here ≡ resets_worked e (answered_in p.held kept parameters) held left = endpoint_by old p parameters w h left in
     let told : told_of e parameters kept.effects ≡ told_by old w parameters = (h.treats p.my p.held).told (their_streams (requested_in parameters)) (own_streams e.outstanding) in (
       left,
-      subst (λ (b : Bool). ResetsBelow b e.below.transfer left) (sym ((h.treats p.my p.held).has ∙ (wanted_of old p parameters w h).performed)) below,
+      subst (λ (b : Bool). ResetsBelow b (answers_in_progress responses) (requested_in parameters) e.below.transfer left) (sym (h.treats p.my p.held).has)
+          (subst (λ (b : Bool). ResetsBelow (is_performed w.treatment) b (requested_in parameters) e.below.transfer left) (sym (h.treats p.my p.held).waits) below),
       turn.0,
       subst (λ (x : Endpoint). ResponseAnswers w.is_refused x held responses turn.0) there turn.1,
       ap (all_of effects (told_by old w parameters)) turn.2
@@ -553,7 +594,7 @@ works_by old p parameters w h left later below turn =
     )
 
 turn_by : {R : Type 0} (old : Context R) (p : Peer old.state) (parameters : List ResetParameter) (w : HandledRequests) (h : WorkedAt old parameters w) (left : Option Transfer) (later : Outcome)
-    → ResetsBelow (is_performed_for w.treatment (requested_in parameters)) (transfer_of old.state) left
+    → TreatsBelow w.treatment (requested_in parameters) (transfer_of old.state) left
     → FinishAt (held_now p.held w) w.is_refused parameters (reset_parameters w.responses.items) (carried_view old w parameters left) later
     → ReConfigAt parameters (view_of old) (all_of (h.effects p.my p.held) (told_by old w parameters) later)
 turn_by old p parameters w h left later below turn =
@@ -581,7 +622,7 @@ drawn_behind : (front rest : List Effect) → drawn_in front ≡ [] → drawn_in
 drawn_behind front rest none = ap (λ (ps : List Pair). ps ++ drawn_in rest) (sym none) ∙ sym (drawn_in-append front rest)
 
 pub reset_done : {R : Type 0} (stream : R → Stream) (old : Context R) (p : Peer old.state) (parameters : List ResetParameter) (w : HandledRequests) → WorkedAt old parameters w → (left : Option Transfer)
-    → ResetsBelow (is_performed_for w.treatment (requested_in parameters)) (transfer_of old.state) left
+    → TreatsBelow w.treatment (requested_in parameters) (transfer_of old.state) left
     → (new : View R) → TakesIn stream (FinishAt (held_now p.held w) w.is_refused parameters (reset_parameters w.responses.items)) (carried_view old w parameters left) new → TakesIn stream (ReConfigAt parameters) (view_of old) new
 reset_done stream old p parameters w h left below new second =
     let told : List (Event Emission) = told_by old w parameters in
@@ -594,7 +635,7 @@ reset_done stream old p parameters w h left below new second =
     }
 
 pub reset_cut : {R : Type 0} (old : Context R) (p : Peer old.state) (parameters : List ResetParameter) (w : HandledRequests) → WorkedAt old parameters w → (left : Option Transfer)
-    → ResetsBelow (is_performed_for w.treatment (requested_in parameters)) (transfer_of old.state) left
+    → TreatsBelow w.treatment (requested_in parameters) (transfer_of old.state) left
     → (events : List (Event (List ℕ))) → CutIn (FinishAt (held_now p.held w) w.is_refused parameters (reset_parameters w.responses.items)) (carried_view old w parameters left) events
     → CutIn (ReConfigAt parameters) (view_of old) events
 reset_cut old p parameters w h left below events second =
@@ -608,7 +649,7 @@ reset_cut old p parameters w h left below events second =
 
 -- by whether a growth was refused
 pub reset_by : {R E : Type 0} (stream : R → Stream) (old mid : Context R) (p : Peer old.state) (parameters : List ResetParameter) (w : HandledRequests) → WorkedAt old parameters w → (left : Option Transfer)
-    → ResetsBelow (is_performed_for w.treatment (requested_in parameters)) (transfer_of old.state) left → view_of mid ≡ carried_view old w parameters left → (result : Result (Unit {0}) E) (new : Context R)
+    → TreatsBelow w.treatment (requested_in parameters) (transfer_of old.state) left → view_of mid ≡ carried_view old w parameters left → (result : Result (Unit {0}) E) (new : Context R)
     → TakesOne stream (FinishAt (held_now p.held w) w.is_refused parameters (reset_parameters w.responses.items)) mid result new → TakesOne stream (ReConfigAt parameters) old result new
 reset_by {R = R} stream old mid p parameters w h left below here (Ok done) new second =
     reset_done stream old p parameters w h left below (view_of new)
@@ -631,13 +672,13 @@ some_said (response ∷ responses) some = refl
 -- both requests were treated, behind the numbers
 pub carried_so : {R : Type 0} (old asked mid : Context R) (w : HandledRequests) (reset : Option RequestedReset) (parameters : List ResetParameter) → view_of asked ≡ asked_at w.last (view_of old)
     → reset ≡ requested_in parameters → CarriedAs w reset asked (view_of mid)
-    → (left : Option Transfer) × ResetsBelow (is_performed_for w.treatment (requested_in parameters)) (transfer_of old.state) left × (view_of mid ≡ carried_view old w parameters left)
+    → (left : Option Transfer) × TreatsBelow w.treatment (requested_in parameters) (transfer_of old.state) left × (view_of mid ≡ carried_view old w parameters left)
 carried_so {R = R} old asked mid w reset parameters here wanted h =
     let below : transfer_of asked.state ≡ transfer_of old.state = ap (λ (v : View R). v.endpoint.below.transfer) here in
     let told : Option RequestedReset → List (Event (List ℕ)) = λ r. told_both w.is_own_first w.own w.treatment r (own_streams (outstanding_of old.state)) in (
       h.0,
-      subst (λ (r : Option RequestedReset). ResetsBelow (is_performed_for w.treatment r) (transfer_of old.state) h.0) wanted
-          (subst (λ (f : Option Transfer). ResetsBelow (is_performed_for w.treatment reset) f h.0) below h.1),
+      subst (λ (r : Option RequestedReset). TreatsBelow w.treatment r (transfer_of old.state) h.0) wanted
+          (subst (λ (f : Option Transfer). TreatsBelow w.treatment reset f h.0) below h.1),
       h.2
           ∙ ap (λ (v : View R). left_at (settled_at (own_kind w.own) v) h.0 (told_both w.is_own_first w.own w.treatment reset (own_streams v.endpoint.outstanding))) here
           ∙ ap (λ (r : Option RequestedReset). left_at (settled_at (own_kind w.own) (asked_at w.last (view_of old))) h.0 (told r)) wanted,

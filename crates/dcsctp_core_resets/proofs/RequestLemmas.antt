@@ -13,15 +13,15 @@ use Rattle.dcsctp_machine.specs.Event.{Event}
 use Rattle.dcsctp_machine.specs.Packet.{Emission}
 use Rattle.dcsctp_machine.specs.Reconfiguration.{RequestedReset, ResetParameter, outgoing_reset_request, incoming_reset_request, reconfiguration_response, other_reset_parameter, reset_parameter_content, reset_parameter_in}
 use Rattle.dcsctp_machine.specs.control.Effect.{Effect, draws, sends, holds, connects, ends, begins, completes, fails, accepts, performs, drawn_in}
-use Rattle.dcsctp_machine.specs.control.ResetChanges.{Place, again, next, astray, place_of, Answered, outgoing_by, incoming_by, Informed, is_outstanding, informed_where, WorkedParameters, after_request, after_answer, work_parameters, work_chunk, informed_by}
+use Rattle.dcsctp_machine.specs.control.ResetChanges.{Place, again, next, astray, place_of, Answered, accepted, outgoing_by, incoming_by, Informed, is_outstanding, informed_where, WorkedParameters, after_request, after_answer, work_parameters, work_chunk, informed_by}
 use Rattle.dcsctp_machine.specs.turns.FlushOutcomes.{is_none}
-use Rattle.dcsctp_machine.specs.turns.ResetOutcomes.{has_reset, reset_events, worked_part, is_in_progress, own_answer, in_progress_among}
+use Rattle.dcsctp_machine.specs.turns.ResetOutcomes.{has_reset, answers_in_progress, reset_events, worked_part, is_in_progress, own_answer, in_progress_among}
 use Rattle.dcsctp_core_resets.specs.declared.requests.Treatment.{Treatment}
 use Rattle.dcsctp_core_resets.specs.declared.requests.Treatment.TheVariants.{Nothing}
 use Rattle.dcsctp_core_resets.specs.declared.requests.LastRequest.{LastRequest}
 use Rattle.dcsctp_core_resets.specs.declared.requests.AnsweredRequest.{AnsweredRequest}
 use Rattle.dcsctp_core_resets.specs.declared.requests.HandledRequests.{HandledRequests}
-use Rattle.dcsctp_core_resets.specs.Requests.{said_by, reset_parameters, is_outgoing, held_with, is_performed, treated_events, Treats, AnswersAs, Responds, behind_these, AreResponses, WorksOne, WorksChunk, held_out, own_events, own_kind, own_ended, with_result, with_response, left_out, SameOwn, held_now, told_so, TreatsBoth, Brings, brings_nothing, brings_request, brings_answer}
+use Rattle.dcsctp_core_resets.specs.Requests.{said_by, reset_parameters, is_outgoing, held_with, is_performed, is_deferred, treated_events, Treats, AnswersAs, Responds, behind_these, AreResponses, WorksOne, WorksChunk, held_out, own_events, own_kind, own_ended, with_result, with_response, left_out, SameOwn, held_now, told_so, TreatsBoth, Brings, brings_nothing, brings_request, brings_answer}
 use Rattle.std.specs.List.{list_any}
 use Rattle.std.proofs.lemmas.List.Folds.{list_any-append}
 use Rattle.dcsctp_wire.specs.declared.reconfiguration.ReconfigurationResponseResult.TheVariants.{SuccessNothingToDo, SuccessPerformed, Denied, ErrorWrongSSN, ErrorRequestAlreadyInProgress, ErrorBadSequenceNumber, InProgress}
@@ -31,8 +31,8 @@ use Rattle.dcsctp_machine.specs.turns.ResetOutcomes as outcomes
 
 -- ---- effects
 
-pub nothing_treats : Treats Nothing []
-nothing_treats = record { has = refl; told = λ theirs own. refl; drawn = refl }
+pub nothing_treats : Treats Nothing [] []
+nothing_treats = record { has = refl; waits = refl; told = λ theirs own. refl; drawn = refl }
 
 -- what effects come to one behind another
 abbrev pub resets_of : Bool → Bool → Bool
@@ -51,6 +51,20 @@ has_both (ends ∷ front) rest = has_both front rest
 has_both (begins number ∷ front) rest = has_both front rest
 has_both (completes my number ∷ front) rest = has_both front rest
 has_both (fails number ∷ front) rest = has_both front rest
+
+-- the same of answers
+pub waits_both : (front rest : List ResetParameter) → answers_in_progress (front ++ rest) ≡ resets_of (answers_in_progress front) (answers_in_progress rest)
+waits_both [] rest = refl
+waits_both (outgoing_reset_request number answered reset ∷ front) rest = waits_both front rest
+waits_both (incoming_reset_request number streams ∷ front) rest = waits_both front rest
+waits_both (other_reset_parameter parameter ∷ front) rest = waits_both front rest
+waits_both (reconfiguration_response number SuccessNothingToDo ∷ front) rest = waits_both front rest
+waits_both (reconfiguration_response number SuccessPerformed ∷ front) rest = waits_both front rest
+waits_both (reconfiguration_response number Denied ∷ front) rest = waits_both front rest
+waits_both (reconfiguration_response number ErrorWrongSSN ∷ front) rest = waits_both front rest
+waits_both (reconfiguration_response number ErrorRequestAlreadyInProgress ∷ front) rest = waits_both front rest
+waits_both (reconfiguration_response number ErrorBadSequenceNumber ∷ front) rest = waits_both front rest
+waits_both (reconfiguration_response number InProgress ∷ front) rest = refl
 
 told_both : (theirs own : List ℕ) (front rest : List Effect) → reset_events theirs own (front ++ rest) ≡ reset_events theirs own front ++ reset_events theirs own rest
 told_both theirs own [] rest = refl
@@ -78,27 +92,21 @@ drawn_both (begins number ∷ front) rest none more = drawn_both front rest none
 drawn_both (completes my number ∷ front) rest none more = drawn_both front rest none more
 drawn_both (fails number ∷ front) rest none more = drawn_both front rest none more
 
--- nothing in front, or nothing behind
-nothing_in_front : (t : Treatment) (front rest : List Effect) → Treats Nothing front → Treats t rest → Treats t (front ++ rest)
-nothing_in_front t front rest first second =
-    record {
-      has = has_both front rest ∙ ap (λ (b : Bool). resets_of b (has_reset rest)) first.has ∙ second.has;
-      told = λ theirs own. told_both theirs own front rest ∙ ap (λ (es : List (Event Emission)). es ++ reset_events theirs own rest) (first.told theirs own) ∙ second.told theirs own;
-      drawn = drawn_both front rest first.drawn second.drawn;
-    }
-
+-- nothing behind
 resets_alone : (b : Bool) → resets_of b false ≡ b
 resets_alone true = refl
 resets_alone false = refl
 
-nothing_behind : (t : Treatment) (front rest : List Effect) → Treats t front → Treats Nothing rest → Treats t (front ++ rest)
-nothing_behind t front rest first second =
-    record {
-      has = has_both front rest ∙ ap (λ (b : Bool). resets_of (has_reset front) b) second.has ∙ resets_alone (has_reset front) ∙ first.has;
-      told = λ theirs own. told_both theirs own front rest ∙ ap (λ (es : List (Event Emission)). reset_events theirs own front ++ es) (second.told theirs own)
-          ∙ append-nil (reset_events theirs own front) ∙ first.told theirs own;
-      drawn = drawn_both front rest first.drawn second.drawn;
-    }
+-- ---- one request
+
+-- that of the peer which is in progress
+pub again_as : (base : Held) (last : LastRequest) (a : AnsweredRequest) (b : Answered) → AnswersAs (held_with base last) a b → AnswersAs base a b
+again_as base last a b h = record { held = h.held; result = h.result; treats = h.treats }
+
+-- one that is accepted
+pub accepted_as : (base : Held) (last : LastRequest) (number : ℕ) (a : AnsweredRequest) (b : Answered) → AnswersAs (held_with base last) a b → AnswersAs base a (accepted number b)
+accepted_as base last number a b h =
+    record { held = h.held; result = h.result; treats = λ n. let t = h.treats n in record { has = t.has; waits = t.waits; told = t.told; drawn = t.drawn } }
 
 -- ---- one parameter
 
@@ -217,7 +225,7 @@ response_by true reached number result w is =
       added = ap (λ rs. rs.items) (result_keeps result w).0 ∙ sym (append-nil w.responses.items);
       refused = (result_keeps result w).1;
       has = result_has result w ∙ or_not w.has_worked false refl;
-      brings = brings_answer number result refl (own_is w.outstanding number is) refl (λ my base. refl);
+      brings = brings_answer number result refl (own_is w.outstanding number is) refl (λ my base. refl) refl;
       whole = λ my base rest.
           ap (λ (b : Bool). let first : Informed = informed_where my (held_now base w) number result b in after_answer first (work_parameters my reached w.has_worked first.held rest)) is
           ∙ response_whole result my reached number w base rest;
@@ -261,7 +269,9 @@ outgoing_one reached number answered reset old between new a fresh answers h res
       added = ap (λ rs. rs.items) responses ∙ h.added;
       refused = refused ∙ h.is_refused;
       has = has ∙ sym (or_one old.has_worked);
-      brings = brings_request fresh has same (λ my base. subst (λ (t : Treatment). Treats t (first base).effects) (sym treatment) (answers (after base)).treats)
+      brings = brings_request fresh has same
+          (λ my base. subst (λ (t : Treatment). Treats t (first base).effects (reset_parameters (h.response ∷ []))) (sym treatment)
+          (subst (Treats a.treatment (first base).effects) (sym (response_says number a.result old between h)) ((answers (after base)).treats number)))
           (outgoing_answers old.outstanding number answered reset);
       whole = λ my base rest.
           ap (λ (b : Bool). work_parameters my reached b (held_with (after base) old.last) (outgoing_reset_request number answered reset ∷ rest)) fresh
@@ -271,11 +281,12 @@ outgoing_one reached number answered reset old between new a fresh answers h res
           ∙ ap (λ (o : Option ℕ). behind_these (first base).effects (reset_parameters (h.response ∷ [])) (work_parameters my reached new.has_worked (held_out o (held_with base new.last)) rest)) (sym same.outstanding);
     }
 
--- No stream is reset for an incoming request.
-incoming_treats : (held : Held) (number : ℕ) (place : Place) → Treats Nothing (incoming_by held number place).effects
-incoming_treats held number again = nothing_treats
-incoming_treats held number next = record { has = refl; told = λ theirs own. refl; drawn = refl }
-incoming_treats held number astray = nothing_treats
+-- No stream is reset for an incoming request, and none is in progress.
+incoming_treats : (held : Held) (number : ℕ) (place : Place)
+    → Treats Nothing (incoming_by held number place).effects (reconfiguration_response number (incoming_by held number place).result ∷ [])
+incoming_treats held number again = record { has = refl; waits = refl; told = λ theirs own. refl; drawn = refl }
+incoming_treats held number next = record { has = refl; waits = refl; told = λ theirs own. refl; drawn = refl }
+incoming_treats held number astray = record { has = refl; waits = refl; told = λ theirs own. refl; drawn = refl }
 
 pub incoming_one : (reached : Bool) (number : ℕ) (streams : List ℕ) (old between new : HandledRequests) (a : AnsweredRequest)
     → ((base : Held) → AnswersAs base a (incoming_by (held_with base old.last) number (place_of old.last.number number)))
@@ -292,7 +303,10 @@ incoming_one reached number streams old between new a answers h responses last t
       added = ap (λ rs. rs.items) responses ∙ h.added;
       refused = refused ∙ h.is_refused;
       has = has ∙ h.has_worked ∙ or_not old.has_worked false refl;
-      brings = brings_nothing (treatment ∙ h.treatment) (has ∙ h.has_worked) same (λ my base. incoming_treats (held_with (after base) old.last) number (place_of old.last.number number))
+      brings = brings_nothing (treatment ∙ h.treatment) (has ∙ h.has_worked) same
+          (λ my base. subst (Treats Nothing (first base).effects)
+          (ap (λ (result : ReconfigurationResponseResult). reconfiguration_response number result ∷ []) (answers (after base)).result ∙ sym (response_says number a.result old between h))
+          (incoming_treats (held_with (after base) old.last) number (place_of old.last.number number)))
           (incoming_answers old.outstanding number streams);
       whole = λ my base rest.
           answered_then my reached old.has_worked (after base) number a (first base) (reset_parameters (h.response ∷ [])) rest (answers (after base)) (response_says number a.result old between h)
@@ -321,7 +335,7 @@ pub data OwnStands (start : Option ℕ) (front : List ResetParameter) (w : Handl
 pub record Progress (reached : Bool) (last : LastRequest) (start : Option ℕ) (front : List ResetParameter) (w : HandledRequests) : Type 0 where
   pub effects : Pair → Held → List Effect
   pub are : AreResponses w.responses.items
-  pub treats : (my : Pair) (base : Held) → TreatsBoth w (effects my base)
+  pub treats : (my : Pair) (base : Held) → TreatsBoth w (effects my base) (reset_parameters w.responses.items)
   pub fresh : w.has_worked ≡ false → w.treatment ≡ Nothing
   pub own : OwnStands start front w
   pub part : (rest : List ResetParameter) → worked_part false (front ++ rest) ≡ front ++ worked_part w.has_worked rest
@@ -344,7 +358,7 @@ none_so_far reached last start refused w none is =
     (record {
       effects = λ my base. [];
       are = ap (λ (ps : List Parameter). map reset_parameter_content (reset_parameters ps)) none ∙ ap (λ (ps : List Parameter). map parameter_content ps) (sym none);
-      treats = λ my base. record { has = refl; told = λ theirs streams. refl; drawn = refl };
+      treats = λ my base. record { has = refl; waits = ap (λ (ps : List Parameter). answers_in_progress (reset_parameters ps)) none; told = λ theirs streams. refl; drawn = refl };
       fresh = λ h. refl;
       own = awaited refl (sym (nothing_asked start)) (λ streams. refl);
       part = λ rest. refl;
@@ -377,10 +391,12 @@ told_same old new theirs streams same is =
     ∙ ap (λ (a : OwnAnswer). told_so old.is_own_first a new.treatment theirs streams) same.own
     ∙ ap (λ (t : Treatment). told_so old.is_own_first old.own t theirs streams) is
 
-then_nothing : (old new : HandledRequests) (es fs : List Effect) → TreatsBoth old es → Treats Nothing fs → SameOwn old new → new.treatment ≡ old.treatment → TreatsBoth new (es ++ fs)
-then_nothing old new es fs first second same is =
+then_nothing : (old new : HandledRequests) (es fs : List Effect) (xs ys : List ResetParameter) → TreatsBoth old es xs → Treats Nothing fs ys → SameOwn old new → new.treatment ≡ old.treatment
+    → TreatsBoth new (es ++ fs) (xs ++ ys)
+then_nothing old new es fs xs ys first second same is =
     record {
       has = has_both es fs ∙ ap (λ (b : Bool). resets_of (has_reset es) b) second.has ∙ resets_alone (has_reset es) ∙ first.has ∙ sym (ap is_performed is);
+      waits = waits_both xs ys ∙ ap (λ (b : Bool). resets_of (answers_in_progress xs) b) second.waits ∙ resets_alone (answers_in_progress xs) ∙ first.waits ∙ sym (ap is_deferred is);
       told = λ theirs streams. told_both theirs streams es fs ∙ ap (λ (xs : List (Event Emission)). reset_events theirs streams es ++ xs) (second.told theirs streams)
           ∙ append-nil (reset_events theirs streams es) ∙ first.told theirs streams ∙ sym (told_same old new theirs streams same is);
       drawn = drawn_both es fs first.drawn second.drawn;
@@ -405,11 +421,12 @@ early start front w streams (awaited same kind silent) fresh = inl (silent strea
 early start front w streams (ended number is none kind (inl first)) fresh = inr first
 early start front w streams (ended number is none kind (inr worked)) fresh = absurd (cc)
 
-then_request : (old new : HandledRequests) (es fs : List Effect) → TreatsBoth old es → old.treatment ≡ Nothing → ((streams : List ℕ) → (own_events old.own streams ≡ []) ⊎ (old.is_own_first ≡ true)) → Treats new.treatment fs
-    → SameOwn old new → TreatsBoth new (es ++ fs)
-then_request old new es fs first nothing before second same =
+then_request : (old new : HandledRequests) (es fs : List Effect) (xs ys : List ResetParameter) → TreatsBoth old es xs → old.treatment ≡ Nothing
+    → ((streams : List ℕ) → (own_events old.own streams ≡ []) ⊎ (old.is_own_first ≡ true)) → Treats new.treatment fs ys → SameOwn old new → TreatsBoth new (es ++ fs) (xs ++ ys)
+then_request old new es fs xs ys first nothing before second same =
     record {
       has = has_both es fs ∙ ap (λ (b : Bool). resets_of b (has_reset fs)) (first.has ∙ ap is_performed nothing) ∙ second.has;
+      waits = waits_both xs ys ∙ ap (λ (b : Bool). resets_of b (answers_in_progress ys)) (first.waits ∙ ap is_deferred nothing) ∙ second.waits;
       told = λ theirs streams.
           told_both theirs streams es fs
           ∙ ap (λ (xs : List (Event Emission)). xs ++ reset_events theirs streams fs) (first.told theirs streams ∙ ap (λ (t : Treatment). told_so old.is_own_first old.own t theirs streams) nothing)
@@ -440,11 +457,12 @@ record Tells (answer : OwnAnswer) (effects : List Effect) : Type 0 where
   told : (theirs streams : List ℕ) → reset_events theirs streams effects ≡ own_events answer streams
   drawn : drawn_in effects ≡ []
 
-then_ended : (old : HandledRequests) (answer : OwnAnswer) (es fs : List Effect) → TreatsBoth old es → ((streams : List ℕ) → own_events old.own streams ≡ []) → (old.has_worked ≡ false → old.treatment ≡ Nothing)
-    → Tells answer fs → TreatsBoth (own_ended answer old) (es ++ fs)
-then_ended old answer es fs first silent fresh tells =
+then_ended : (old : HandledRequests) (answer : OwnAnswer) (es fs : List Effect) (xs : List ResetParameter) → TreatsBoth old es xs → ((streams : List ℕ) → own_events old.own streams ≡ [])
+    → (old.has_worked ≡ false → old.treatment ≡ Nothing) → Tells answer fs → TreatsBoth (own_ended answer old) (es ++ fs) xs
+then_ended old answer es fs xs first silent fresh tells =
     record {
       has = has_both es fs ∙ ap (λ (b : Bool). resets_of (has_reset es) b) tells.has ∙ resets_alone (has_reset es) ∙ first.has;
+      waits = first.waits;
       told = λ theirs streams.
           told_both theirs streams es fs
           ∙ ap (λ (xs : List (Event Emission)). xs ++ reset_events theirs streams fs) (first.told theirs streams)
@@ -453,24 +471,26 @@ then_ended old answer es fs first silent fresh tells =
       drawn = drawn_both es fs first.drawn tells.drawn;
     }
 
-then_awaited : (old : HandledRequests) (es : List Effect) → TreatsBoth old es → ((streams : List ℕ) → own_events old.own streams ≡ []) → TreatsBoth (record old { own = own.InProgress }) (es ++ [])
-then_awaited old es first silent =
+then_awaited : (old : HandledRequests) (es : List Effect) (xs : List ResetParameter) → TreatsBoth old es xs → ((streams : List ℕ) → own_events old.own streams ≡ [])
+    → TreatsBoth (record old { own = own.InProgress }) (es ++ []) xs
+then_awaited old es xs first silent =
     record {
       has = ap has_reset (append-nil es) ∙ first.has;
+      waits = first.waits;
       told = λ theirs streams. ap (reset_events theirs streams) (append-nil es) ∙ first.told theirs streams
           ∙ quietly old.is_own_first old.own old.treatment theirs streams (silent streams) ∙ sym (quietly old.is_own_first own.InProgress old.treatment theirs streams refl);
       drawn = ap drawn_in (append-nil es) ∙ first.drawn;
     }
 
-then_result : (result : ReconfigurationResponseResult) (my : Pair) (held : Held) (number : ℕ) (old : HandledRequests) (es : List Effect) → TreatsBoth old es → ((streams : List ℕ) → own_events old.own streams ≡ [])
-    → (old.has_worked ≡ false → old.treatment ≡ Nothing) → TreatsBoth (with_result result old) (es ++ (informed_by my held number result).effects)
-then_result SuccessNothingToDo my held number old es first silent fresh = then_ended old own.Performed es _ first silent fresh (record { has = refl; told = λ theirs streams. refl; drawn = refl })
-then_result SuccessPerformed my held number old es first silent fresh = then_ended old own.Performed es _ first silent fresh (record { has = refl; told = λ theirs streams. refl; drawn = refl })
-then_result Denied my held number old es first silent fresh = then_ended old own.Failed es _ first silent fresh (record { has = refl; told = λ theirs streams. refl; drawn = refl })
-then_result ErrorWrongSSN my held number old es first silent fresh = then_ended old own.Failed es _ first silent fresh (record { has = refl; told = λ theirs streams. refl; drawn = refl })
-then_result ErrorRequestAlreadyInProgress my held number old es first silent fresh = then_ended old own.Failed es _ first silent fresh (record { has = refl; told = λ theirs streams. refl; drawn = refl })
-then_result ErrorBadSequenceNumber my held number old es first silent fresh = then_ended old own.Failed es _ first silent fresh (record { has = refl; told = λ theirs streams. refl; drawn = refl })
-then_result InProgress my held number old es first silent fresh = then_awaited old es first silent
+then_result : (result : ReconfigurationResponseResult) (my : Pair) (held : Held) (number : ℕ) (old : HandledRequests) (es : List Effect) (xs : List ResetParameter) → TreatsBoth old es xs
+    → ((streams : List ℕ) → own_events old.own streams ≡ []) → (old.has_worked ≡ false → old.treatment ≡ Nothing) → TreatsBoth (with_result result old) (es ++ (informed_by my held number result).effects) xs
+then_result SuccessNothingToDo my held number old es xs first silent fresh = then_ended old own.Performed es _ xs first silent fresh (record { has = refl; told = λ theirs streams. refl; drawn = refl })
+then_result SuccessPerformed my held number old es xs first silent fresh = then_ended old own.Performed es _ xs first silent fresh (record { has = refl; told = λ theirs streams. refl; drawn = refl })
+then_result Denied my held number old es xs first silent fresh = then_ended old own.Failed es _ xs first silent fresh (record { has = refl; told = λ theirs streams. refl; drawn = refl })
+then_result ErrorWrongSSN my held number old es xs first silent fresh = then_ended old own.Failed es _ xs first silent fresh (record { has = refl; told = λ theirs streams. refl; drawn = refl })
+then_result ErrorRequestAlreadyInProgress my held number old es xs first silent fresh = then_ended old own.Failed es _ xs first silent fresh (record { has = refl; told = λ theirs streams. refl; drawn = refl })
+then_result ErrorBadSequenceNumber my held number old es xs first silent fresh = then_ended old own.Failed es _ xs first silent fresh (record { has = refl; told = λ theirs streams. refl; drawn = refl })
+then_result InProgress my held number old es xs first silent fresh = then_awaited old es xs first silent
 
 -- ---- one more parameter
 
@@ -480,14 +500,17 @@ silent_of start front w number (awaited same kind silent) is streams = silent st
 silent_of start front w number (ended other was none kind first) is streams = absurd (cc)
 
 treats_more : (start : Option ℕ) (front : List ResetParameter) (parameter : ResetParameter) (old new : HandledRequests) (effects : Pair → Held → List Effect) (my : Pair) (base : Held) (es : List Effect)
-    → TreatsBoth old es → (old.has_worked ≡ false → old.treatment ≡ Nothing) → OwnStands start front old → Brings parameter old new effects → TreatsBoth new (es ++ effects my base)
-treats_more start front parameter old new effects my base es first fresh own (brings_nothing treatment has same treats other) = then_nothing old new es (effects my base) first (treats my base) same treatment
-treats_more start front parameter old new effects my base es first fresh own (brings_request not_yet has same treats other) =
-    then_request old new es (effects my base) first (fresh not_yet) (λ streams. early start front old streams own not_yet) (treats my base) same
-treats_more start front parameter old new effects my base es first fresh own (brings_answer number result is awaits now brings) =
-    subst (λ (w : HandledRequests). TreatsBoth w (es ++ effects my base)) (sym now)
-    (subst (λ (fs : List Effect). TreatsBoth (with_result result old) (es ++ fs)) (sym (brings my base))
-    (then_result result my (held_now base old) number old es first (silent_of start front old number own awaits) fresh))
+    (xs ys : List ResetParameter) → TreatsBoth old es xs → (old.has_worked ≡ false → old.treatment ≡ Nothing) → OwnStands start front old → Brings parameter old new effects ys
+    → TreatsBoth new (es ++ effects my base) (xs ++ ys)
+treats_more start front parameter old new effects my base es xs ys first fresh own (brings_nothing treatment has same treats other) =
+    then_nothing old new es (effects my base) xs ys first (treats my base) same treatment
+treats_more start front parameter old new effects my base es xs ys first fresh own (brings_request not_yet has same treats other) =
+    then_request old new es (effects my base) xs ys first (fresh not_yet) (λ streams. early start front old streams own not_yet) (treats my base) same
+treats_more start front parameter old new effects my base es xs ys first fresh own (brings_answer number result is awaits now brings none) =
+    subst (λ (w : HandledRequests). TreatsBoth w (es ++ effects my base) (xs ++ ys)) (sym now)
+    (subst (λ (fs : List Effect). TreatsBoth (with_result result old) (es ++ fs) (xs ++ ys)) (sym (brings my base))
+    (subst (TreatsBoth (with_result result old) (es ++ (informed_by my (held_now base old) number result).effects)) (sym (append-nil xs) ∙ ap (λ (more : List ResetParameter). xs ++ more) (sym none))
+    (then_result result my (held_now base old) number old es xs first (silent_of start front old number own awaits) fresh)))
 
 result_worked : (result : ReconfigurationResponseResult) (w : HandledRequests) → ((with_result result w).has_worked ≡ w.has_worked) × ((with_result result w).treatment ≡ w.treatment)
 result_worked SuccessNothingToDo w = (refl, refl)
@@ -498,11 +521,11 @@ result_worked ErrorRequestAlreadyInProgress w = (refl, refl)
 result_worked ErrorBadSequenceNumber w = (refl, refl)
 result_worked InProgress w = (refl, refl)
 
-fresh_more : (parameter : ResetParameter) (old new : HandledRequests) (effects : Pair → Held → List Effect) → (old.has_worked ≡ false → old.treatment ≡ Nothing) → Brings parameter old new effects
-    → new.has_worked ≡ false → new.treatment ≡ Nothing
-fresh_more parameter old new effects fresh (brings_nothing treatment has same treats other) is = treatment ∙ fresh (sym has ∙ is)
-fresh_more parameter old new effects fresh (brings_request not_yet has same treats other) is = absurd (cc)
-fresh_more parameter old new effects fresh (brings_answer number result was awaits now brings) is =
+fresh_more : (parameter : ResetParameter) (old new : HandledRequests) (effects : Pair → Held → List Effect) (answers : List ResetParameter) → (old.has_worked ≡ false → old.treatment ≡ Nothing)
+    → Brings parameter old new effects answers → new.has_worked ≡ false → new.treatment ≡ Nothing
+fresh_more parameter old new effects answers fresh (brings_nothing treatment has same treats other) is = treatment ∙ fresh (sym has ∙ is)
+fresh_more parameter old new effects answers fresh (brings_request not_yet has same treats other) is = absurd (cc)
+fresh_more parameter old new effects answers fresh (brings_answer number result was awaits now brings none) is =
     ap (λ (w : HandledRequests). w.treatment) now ∙ (result_worked result old).1 ∙ fresh (sym (result_worked result old).0 ∙ sym (ap (λ (w : HandledRequests). w.has_worked) now) ∙ is)
 
 -- whether it was answered as in progress, with one more
@@ -554,11 +577,11 @@ start_of : (start : Option ℕ) (front : List ResetParameter) (w : HandledReques
 start_of start front w number (awaited same kind silent) is = sym same ∙ is
 start_of start front w number (ended other was none kind first) is = absurd (cc)
 
-own_more : (start : Option ℕ) (front : List ResetParameter) (parameter : ResetParameter) (old new : HandledRequests) (effects : Pair → Held → List Effect) → OwnStands start front old → Brings parameter old new effects
-    → OwnStands start (front ++ parameter ∷ []) new
-own_more start front parameter old new effects own (brings_nothing treatment has same treats other) = stays_more start front parameter old new own same (λ is. has ∙ is) other
-own_more start front parameter old new effects own (brings_request not_yet has same treats other) = stays_more start front parameter old new own same (λ is. has) other
-own_more start front parameter old new effects own (brings_answer number result is awaits now brings) =
+own_more : (start : Option ℕ) (front : List ResetParameter) (parameter : ResetParameter) (old new : HandledRequests) (effects : Pair → Held → List Effect) (answers : List ResetParameter) → OwnStands start front old
+    → Brings parameter old new effects answers → OwnStands start (front ++ parameter ∷ []) new
+own_more start front parameter old new effects answers own (brings_nothing treatment has same treats other) = stays_more start front parameter old new own same (λ is. has ∙ is) other
+own_more start front parameter old new effects answers own (brings_request not_yet has same treats other) = stays_more start front parameter old new own same (λ is. has) other
+own_more start front parameter old new effects answers own (brings_answer number result is awaits now brings none) =
     subst (OwnStands start (front ++ parameter ∷ [])) (sym now)
     (subst (λ (p : ResetParameter). OwnStands start (front ++ p ∷ []) (with_result result old)) (sym is)
     (subst (λ (o : Option ℕ). OwnStands o (front ++ reconfiguration_response number result ∷ []) (with_result result old)) (sym (start_of start front old number own awaits)) (by_result result number front old awaits)))
@@ -592,9 +615,12 @@ one_more reached last start front parameter old new first done step =
     record {
       effects = λ my base. done.effects my base ++ step.effects my base;
       are = subst AreResponses (sym step.added) (both_responses old.responses.items step.responses done.are step.are);
-      treats = λ my base. treats_more start front parameter old new step.effects my base (done.effects my base) (done.treats my base) done.fresh done.own step.brings;
-      fresh = fresh_more parameter old new step.effects done.fresh step.brings;
-      own = own_more start front parameter old new step.effects done.own step.brings;
+      treats = λ my base.
+          let responses : List ResetParameter = reset_parameters step.responses in
+          subst (TreatsBoth new (done.effects my base ++ step.effects my base)) (sym (said_append old.responses.items step.responses) ∙ ap (λ (ps : List Parameter). reset_parameters ps) (sym step.added))
+          (treats_more start front parameter old new step.effects my base (done.effects my base) (reset_parameters old.responses.items) responses (done.treats my base) done.fresh done.own step.brings);
+      fresh = fresh_more parameter old new step.effects (reset_parameters step.responses) done.fresh step.brings;
+      own = own_more start front parameter old new step.effects (reset_parameters step.responses) done.own step.brings;
       part = λ rest.
           ap (worked_part false) (append_assoc front (parameter ∷ []) rest) ∙ done.part (parameter ∷ rest)
           ∙ ap (λ (ps : List ResetParameter). front ++ ps) (part_one old.has_worked parameter new.has_worked rest first step.has)
@@ -692,7 +718,7 @@ second_worked reached last start front rest parameter w v done has is here =
     (record {
       effects = done.effects;
       are = done.are;
-      treats = λ my base. let t = done.treats my base in record { has = t.has; told = t.told; drawn = t.drawn };
+      treats = λ my base. let t = done.treats my base in record { has = t.has; waits = t.waits; told = t.told; drawn = t.drawn };
       own = own_at_end start front w done.own
           ∙ ap (λ (ps : List ResetParameter). own_answer start w.outstanding (in_progress_among start ps))
           (sym (done.part (parameter ∷ rest) ∙ ap (λ (ps : List ResetParameter). front ++ ps) (second_part w.has_worked parameter rest has is) ∙ append-nil front));

@@ -7,7 +7,7 @@ use Rattle.dcsctp_machine.specs.Reconfiguration.{RequestedReset}
 use Rattle.dcsctp_machine.specs.transfer.Transfer.{Transfer}
 use Rattle.dcsctp_machine.specs.Endpoint.{OutstandingRequest, cookie_echoed, open_in}
 use Rattle.dcsctp_machine.specs.Timers.{RunningTimer}
-use Rattle.dcsctp_machine.specs.turns.ResetOutcomes.{OwnAnswer, unanswered, retried, over, waiting, own_streams, ResetsBelow}
+use Rattle.dcsctp_machine.specs.turns.ResetOutcomes.{OwnAnswer, unanswered, retried, over, waiting, own_streams}
 use Rattle.dcsctp_api.specs.declared.events.SocketEvent.{SocketEvent}
 use Rattle.dcsctp_core.specs.declared.context.Context.{Context}
 use Rattle.dcsctp_core.specs.declared.state.CookieEchoState.{CookieEchoState}
@@ -25,7 +25,7 @@ use Rattle.dcsctp_core_resets.specs.declared.requests.OwnAnswer.TheVariants as o
 use Rattle.dcsctp_core_resets.specs.declared.requests.LastRequest.{LastRequest}
 use Rattle.dcsctp_core_resets.specs.declared.requests.HandledRequests.{HandledRequests}
 use Rattle.dcsctp_core_resets.specs.Requests.{held_out, own_kind}
-use Rattle.dcsctp_core_resets.specs.Resets.{RetriesIn, asked_at, left_at, settled_at, own_told, event_told, Settles, Tells, is_performed_for, told_for, Treats, told_both, told_where, Carried}
+use Rattle.dcsctp_core_resets.specs.Resets.{RetriesIn, asked_at, left_at, settled_at, own_told, event_told, Settles, Tells, told_for, Treats, TreatsBelow, told_both, told_where, Carried}
 
 -- ---- the request that is outstanding
 
@@ -189,7 +189,7 @@ own_first {R = R} w reset old mid between told (Ok done) new first h tells treat
     ∙ ap (λ (es : List (Event (List ℕ))). let n : View R = record (settled_at (own_kind w.own) (view_of old)) { events = (settled_at (own_kind w.own) (view_of old)).events ++ es } in n) h.1 in
     let below : transfer_of between.state ≡ transfer_of old.state = ap (λ (v : View R). v.endpoint.below.transfer) here ∙ settled_transfer (own_kind w.own) (view_of old) in (
       treats.0,
-      subst (λ (f : Option Transfer). ResetsBelow (is_performed_for w.treatment reset) f treats.0) below treats.1,
+      subst (λ (f : Option Transfer). TreatsBelow w.treatment reset f treats.0) below treats.1,
       treats.2 ∙ ap (λ (v : View R). left_at v treats.0 (told_for w.treatment reset)) here ∙ both_told w reset old treats.0 (own_told w.own streams) (told_for w.treatment reset) is,
     )
 own_first {R = R} w reset old mid between told (Err fault) new first h tells treats =
@@ -200,14 +200,14 @@ own_first {R = R} w reset old mid between told (Err fault) new first h tells tre
 
 -- The peer's comes first.
 pub peer_first : {R E : Type 0} (w : HandledRequests) (reset : Option RequestedReset) (old mid between : Context R) (told : Option SocketEvent) (left : Option Transfer) (result : Result (Unit {0}) E) (new : Context R) → w.is_own_first ≡ false
-    → Settled w old told mid → ResetsBelow (is_performed_for w.treatment reset) (transfer_of mid.state) left → view_of between ≡ left_at (view_of mid) left (told_for w.treatment reset)
+    → Settled w old told mid → TreatsBelow w.treatment reset (transfer_of mid.state) left → view_of between ≡ left_at (view_of mid) left (told_for w.treatment reset)
     → Tells told between result new → Carried w reset old result new
 peer_first {R = R} w reset old mid between told left (Ok done) new first h below treated tells =
     let streams : List ℕ = own_streams (outstanding_of old.state) in
     let v : View R = settled_at (own_kind w.own) (view_of old) in
     let is : told_where w reset old ≡ told_for w.treatment reset ++ own_told w.own streams = ap (λ (b : Bool). told_both b w.own w.treatment reset streams) first in (
       left,
-      subst (λ (f : Option Transfer). ResetsBelow (is_performed_for w.treatment reset) f left) (transfer_same w old mid told h) below,
+      subst (λ (f : Option Transfer). TreatsBelow w.treatment reset f left) (transfer_same w old mid told h) below,
       tells ∙ ap (λ (n : View R). let m : View R = record n { events = n.events ++ event_told told } in m) (treated ∙ ap (λ (n : View R). left_at n left (told_for w.treatment reset)) h.0)
           ∙ ap (λ (es : List (Event (List ℕ))). left_at (left_at v left (told_for w.treatment reset)) left es) h.1
           ∙ both_told w reset old left (told_for w.treatment reset) (own_told w.own streams) is,

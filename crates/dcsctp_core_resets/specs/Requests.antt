@@ -12,7 +12,7 @@ use Rattle.dcsctp_machine.specs.Reconfiguration.{ResetParameter, outgoing_reset_
 use Rattle.dcsctp_machine.specs.control.Effect.{Effect, drawn_in}
 use Rattle.dcsctp_machine.specs.control.ResetChanges.{Answered, with_last, informed_by, WorkedParameters, work_parameters, work_chunk}
 use Rattle.dcsctp_machine.specs.control.ResetChanges as changes
-use Rattle.dcsctp_machine.specs.turns.ResetOutcomes.{has_reset, worked_part, own_answer, in_progress_among, reset_events}
+use Rattle.dcsctp_machine.specs.turns.ResetOutcomes.{has_reset, answers_in_progress, worked_part, own_answer, in_progress_among, reset_events}
 use Rattle.dcsctp_machine.specs.turns.ResetOutcomes as outcomes
 use Rattle.dcsctp_core_resets.specs.declared.requests.Place.{Place}
 use Rattle.dcsctp_core_resets.specs.declared.requests.Place.TheVariants.{Again, Next, Astray}
@@ -56,23 +56,29 @@ is_performed Performed = true
 is_performed Deferred = false
 is_performed Nothing = false
 
+abbrev pub is_deferred : Treatment → Bool
+is_deferred Performed = false
+is_deferred Deferred = true
+is_deferred Nothing = false
+
 -- the events for the user, if the peer wants these streams reset
 abbrev pub treated_events : Treatment → List ℕ → List (Event Emission)
 treated_events Performed theirs = incoming_stream_reset theirs ∷ []
 treated_events Deferred theirs = []
 treated_events Nothing theirs = []
 
--- That is what these effects come to.
-pub record Treats (treatment : Treatment) (effects : List Effect) : Type 0 where
+-- That is what these effects and answers come to.
+pub record Treats (treatment : Treatment) (effects : List Effect) (answers : List ResetParameter) : Type 0 where
   pub has : has_reset effects ≡ is_performed treatment
+  pub waits : answers_in_progress answers ≡ is_deferred treatment
   pub told : (theirs own : List ℕ) → reset_events theirs own effects ≡ treated_events treatment theirs
   pub drawn : drawn_in effects ≡ []
 
--- An answer of the code is that of the machine.
+-- An answer of the code is that of the machine, whatever the request's number.
 pub record AnswersAs (base : Held) (a : AnsweredRequest) (b : Answered) : Type 0 where
   pub held : b.held ≡ held_with base a.last
   pub result : b.result ≡ a.result
-  pub treats : Treats a.treatment b.effects
+  pub treats : (number : ℕ) → Treats a.treatment b.effects (reconfiguration_response number a.result ∷ [])
 
 -- ---- our own request
 
@@ -150,20 +156,21 @@ abbrev pub told_so : Bool → OwnAnswer → Treatment → List ℕ → List ℕ 
 told_so true answer treatment theirs streams = own_events answer streams ++ treated_events treatment theirs
 told_so false answer treatment theirs streams = treated_events treatment theirs ++ own_events answer streams
 
--- That is what the effects of a chunk come to.
-pub record TreatsBoth (worked : HandledRequests) (effects : List Effect) : Type 0 where
+-- That is what the effects and answers of a chunk come to.
+pub record TreatsBoth (worked : HandledRequests) (effects : List Effect) (answers : List ResetParameter) : Type 0 where
   pub has : has_reset effects ≡ is_performed worked.treatment
+  pub waits : answers_in_progress answers ≡ is_deferred worked.treatment
   pub told : (theirs streams : List ℕ) → reset_events theirs streams effects ≡ told_so worked.is_own_first worked.own worked.treatment theirs streams
   pub drawn : drawn_in effects ≡ []
 
 -- What a parameter brings: nothing, what becomes of a request of the peer, or what becomes of our own.
-pub data Brings (parameter : ResetParameter) (old new : HandledRequests) (effects : Pair → Held → List Effect) : Type 0 where
-  brings_nothing : new.treatment ≡ old.treatment → new.has_worked ≡ old.has_worked → SameOwn old new → ((my : Pair) (base : Held) → Treats Nothing (effects my base))
-      → in_progress_among old.outstanding (parameter ∷ []) ≡ false → Brings parameter old new effects
-  brings_request : old.has_worked ≡ false → new.has_worked ≡ true → SameOwn old new → ((my : Pair) (base : Held) → Treats new.treatment (effects my base))
-      → in_progress_among old.outstanding (parameter ∷ []) ≡ false → Brings parameter old new effects
+pub data Brings (parameter : ResetParameter) (old new : HandledRequests) (effects : Pair → Held → List Effect) (answers : List ResetParameter) : Type 0 where
+  brings_nothing : new.treatment ≡ old.treatment → new.has_worked ≡ old.has_worked → SameOwn old new → ((my : Pair) (base : Held) → Treats Nothing (effects my base) answers)
+      → in_progress_among old.outstanding (parameter ∷ []) ≡ false → Brings parameter old new effects answers
+  brings_request : old.has_worked ≡ false → new.has_worked ≡ true → SameOwn old new → ((my : Pair) (base : Held) → Treats new.treatment (effects my base) answers)
+      → in_progress_among old.outstanding (parameter ∷ []) ≡ false → Brings parameter old new effects answers
   brings_answer : (number : ℕ) (result : ReconfigurationResponseResult) → parameter ≡ reconfiguration_response number result → old.outstanding ≡ Some number → new ≡ with_result result old
-      → ((my : Pair) (base : Held) → effects my base ≡ (informed_by my (held_now base old) number result).effects) → Brings parameter old new effects
+      → ((my : Pair) (base : Held) → effects my base ≡ (informed_by my (held_now base old) number result).effects) → answers ≡ [] → Brings parameter old new effects answers
 
 -- A parameter was handled: whatever comes after it, the machine goes on from what the code keeps.
 pub record WorksOne (reached : Bool) (parameter : ResetParameter) (old new : HandledRequests) : Type 0 where
@@ -173,7 +180,7 @@ pub record WorksOne (reached : Bool) (parameter : ResetParameter) (old new : Han
   pub added : new.responses.items ≡ old.responses.items ++ responses
   pub refused : new.is_refused ≡ old.is_refused
   pub has : new.has_worked ≡ (old.has_worked || is_outgoing parameter)
-  pub brings : Brings parameter old new effects
+  pub brings : Brings parameter old new effects (reset_parameters responses)
   pub whole : (my : Pair) (base : Held) (rest : List ResetParameter)
       → work_parameters my reached old.has_worked (held_now base old) (parameter ∷ rest)
       ≡ behind_these (effects my base) (reset_parameters responses) (work_parameters my reached new.has_worked (held_now base new) rest)
@@ -182,7 +189,7 @@ pub record WorksOne (reached : Bool) (parameter : ResetParameter) (old new : Han
 pub record WorksChunk (reached : Bool) (last : LastRequest) (outstanding : Option ℕ) (parameters : List ResetParameter) (worked : HandledRequests) : Type 0 where
   pub effects : Pair → Held → List Effect
   pub are : AreResponses worked.responses.items
-  pub treats : (my : Pair) (base : Held) → TreatsBoth worked (effects my base)
+  pub treats : (my : Pair) (base : Held) → TreatsBoth worked (effects my base) (reset_parameters worked.responses.items)
   pub own : own_kind worked.own ≡ own_answer outstanding worked.outstanding (in_progress_among outstanding (worked_part false parameters))
   pub left : worked.outstanding ≡ left_out (own_kind worked.own) outstanding
   pub whole : (my : Pair) (base : Held)

@@ -12,7 +12,7 @@ use Rattle.dcsctp_machine.specs.transfer.Transfer.{Transfer}
 use Rattle.dcsctp_machine.specs.Endpoint.{Endpoint, Core, cookie_echoed, open_in, held_in}
 use Rattle.dcsctp_machine.specs.Outcome.{Outcome, still}
 use Rattle.dcsctp_machine.specs.turns.FlushOutcomes.{Answer}
-use Rattle.dcsctp_machine.specs.turns.ResetOutcomes.{requested_in, is_reached, OwnAnswer, unanswered, retried, over, own_moved, own_streams, ResetsBelow, responses_outcome, responses_by, ResponseAnswers, ResetTurn}
+use Rattle.dcsctp_machine.specs.turns.ResetOutcomes.{requested_in, is_reached, OwnAnswer, unanswered, retried, over, own_moved, own_streams, ResetsBelow, defers_reset, responses_outcome, responses_by, ResponseAnswers, ResetTurn}
 use Rattle.dcsctp_core.specs.declared.state.State.{State}
 use Rattle.dcsctp_core.specs.declared.transmission_control_block.TransmissionControlBlock.{TransmissionControlBlock}
 use Rattle.dcsctp_core.specs.declared.context.Context.{Context}
@@ -26,7 +26,7 @@ use Rattle.dcsctp_core_resets.specs.declared.requests.Treatment.TheVariants.{Per
 use Rattle.dcsctp_core_resets.specs.declared.requests.HandledRequests.{HandledRequests}
 use Rattle.dcsctp_core_resets.specs.declared.requests.OwnAnswer.TheVariants as own
 use Rattle.dcsctp_core_resets.specs.declared.requests.OwnAnswer as requests
-use Rattle.dcsctp_core_resets.specs.Requests.{held_with, held_out, own_kind, reset_parameters, AreResponses, WorksChunk}
+use Rattle.dcsctp_core_resets.specs.Requests.{held_with, held_out, is_performed, is_deferred, own_kind, reset_parameters, AreResponses, WorksChunk}
 
 -- A RE-CONFIG with these parameters was received.
 abbrev pub ReConfigAt : {R : Type 0} → List ResetParameter → View R → Outcome → Type 0
@@ -65,16 +65,24 @@ asked_at last view = record view { endpoint = record view.endpoint { core = core
 abbrev pub left_at : {R : Type 0} → View R → Option Transfer → List (Event (List ℕ)) → View R
 left_at view left events = record view { endpoint = record view.endpoint { below = record view.endpoint.below { transfer = left } }; events = view.events ++ events }
 
+-- What comes on the streams beyond the last TSN waits from now on.
+abbrev pub DefersTo : RequestedReset → Transfer → Transfer → Type 0
+DefersTo reset old new = new ≡ defers_reset reset old
+
 -- The streams were reset, and the user is told; or an allocation failed, and no event was added.
 abbrev pub Performs : {R E : Type 0} → RequestedReset → Context R → Result (Unit {0}) E → Context R → Type 0
 Performs reset old (Ok done) new =
-    (left : Option Transfer) × ResetsBelow true (transfer_of old.state) left × (view_of new ≡ left_at (view_of old) left (incoming_stream_reset reset.streams ∷ []))
+    (left : Option Transfer) × ResetsBelow true false (Some reset) (transfer_of old.state) left × (view_of new ≡ left_at (view_of old) left (incoming_stream_reset reset.streams ∷ []))
 Performs reset old (Err error) new = (view_of new).events ≡ (view_of old).events
 
--- are they, if a request wants it?
-abbrev pub is_performed_for : Treatment → Option RequestedReset → Bool
-is_performed_for Performed (Some reset) = true
-is_performed_for treatment reset = false
+-- They are to be reset later; or an allocation failed, and nothing has changed.
+abbrev pub Defers : {R E : Type 0} → RequestedReset → Context R → Result (Unit {0}) E → Context R → Type 0
+Defers reset old (Ok done) new = (left : Option Transfer) × ResetsBelow false true (Some reset) (transfer_of old.state) left × (view_of new ≡ left_at (view_of old) left [])
+Defers reset old (Err error) new = view_of new ≡ view_of old
+
+-- what becomes of them below the association
+abbrev pub TreatsBelow : Treatment → Option RequestedReset → Option Transfer → Option Transfer → Type 0
+TreatsBelow treatment reset old new = ResetsBelow (is_performed treatment) (is_deferred treatment) reset old new
 
 abbrev pub told_for : Treatment → Option RequestedReset → List (Event (List ℕ))
 told_for Performed (Some reset) = incoming_stream_reset reset.streams ∷ []
@@ -82,7 +90,7 @@ told_for treatment reset = []
 
 abbrev pub Treats : {R E : Type 0} → Treatment → Option RequestedReset → Context R → Result (Unit {0}) E → Context R → Type 0
 Treats treatment reset old (Ok done) new =
-    (left : Option Transfer) × ResetsBelow (is_performed_for treatment reset) (transfer_of old.state) left × (view_of new ≡ left_at (view_of old) left (told_for treatment reset))
+    (left : Option Transfer) × TreatsBelow treatment reset (transfer_of old.state) left × (view_of new ≡ left_at (view_of old) left (told_for treatment reset))
 Treats treatment reset old (Err error) new = (view_of new).events ≡ (view_of old).events
 
 -- ---- our own request
@@ -142,7 +150,7 @@ told_where worked reset old = told_both worked.is_own_first worked.own worked.tr
 -- What was decided of both was done; or an allocation failed, and the first of the events were added.
 abbrev pub Carried : {R E : Type 0} → HandledRequests → Option RequestedReset → Context R → Result (Unit {0}) E → Context R → Type 0
 Carried worked reset old (Ok done) new =
-    (left : Option Transfer) × ResetsBelow (is_performed_for worked.treatment reset) (transfer_of old.state) left
+    (left : Option Transfer) × TreatsBelow worked.treatment reset (transfer_of old.state) left
     × (view_of new ≡ left_at (settled_at (own_kind worked.own) (view_of old)) left (told_where worked reset old))
 Carried worked reset old (Err error) new = (count : ℕ) × ((view_of new).events ≡ (view_of old).events ++ take count (told_where worked reset old))
 

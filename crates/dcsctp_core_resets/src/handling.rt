@@ -4,6 +4,7 @@ ghost use Rattle.std.specs.Prelude.{◌≡◌, Some, OnOk, OnErr, IfOk};
 ghost use Rattle.std.specs.Option.{option_map};
 ghost use Rattle.dcsctp_wire.specs.Content.{re_config_chunk};
 ghost use Rattle.std.specs.Prelude.{map};
+ghost use Rattle.dcsctp_machine.specs.Ids.{stream_numbers};
 ghost use Rattle.dcsctp_machine.specs.Reconfiguration.{reset_parameter_content};
 ghost use Rattle.dcsctp_machine.specs.turns.ResetOutcomes.{is_reached, reset_refusal_text, ResetsStreams};
 ghost use Rattle.dcsctp_core.specs.Reconfiguring.{request_in, tcb_changed};
@@ -12,7 +13,7 @@ ghost use Rattle.dcsctp_core.specs.View.{tcb_of, transfer_of, view_of};
 ghost use Rattle.dcsctp_core.specs.Below.{ChangesBelow};
 ghost use Rattle.dcsctp_core.specs.Handling.{Emits, TakesOne, Tries, report_turn};
 ghost use Rattle.dcsctp_core_resets.specs.Requests.{AreResponses, reset_parameters};
-ghost use Rattle.dcsctp_core_resets.specs.Resets.{CarriesOut, Finishes, Performs, ReConfigAt, RetriesIn, Settles, Tells, Treats, WorksFor, asked_at, responses_turn, wanted_by};
+ghost use Rattle.dcsctp_core_resets.specs.Resets.{CarriesOut, Defers, DefersTo, Finishes, Performs, ReConfigAt, RetriesIn, Settles, Tells, Treats, WorksFor, asked_at, responses_turn, wanted_by};
 
 use crate::reading::{requested, streams_of};
 use crate::requests::{HandledRequests, LastRequest, OwnAnswer, Treatment, handle_requests};
@@ -81,9 +82,10 @@ fn keep_last<R: Rng>(context: &mut Context<R>, last: LastRequest)
     }
 }
 
-// Resets streams of the peer.
+// Resets streams of the peer. `Err`: an allocation failed for something that waited for that.
 fn reset_streams(state: &mut State, streams: &[StreamId]) -> Result<(), AllocError>
-    ensures { ChangesBelow ResetsStreams (transfer_of state.old) state.old state.new }
+    ensures { OnOk result
+        (ChangesBelow (ResetsStreams (stream_numbers streams.now)) (transfer_of state.old) state.old state.new) }
 {
     match state.tcb_mut() {
         None => Ok(()),
@@ -91,9 +93,13 @@ fn reset_streams(state: &mut State, streams: &[StreamId]) -> Result<(), AllocErr
     }
 }
 
-// Lets what comes beyond this TSN on these streams wait until they are reset.
+// Lets what comes beyond this TSN on these streams wait until they are reset. `Err`: an allocation failed, and
+// nothing has changed.
 fn defer_reset(state: &mut State, last_tsn: u32, streams: &[StreamId]) -> Result<(), AllocError>
-    ensures { state.new ≡ state.old }
+    ensures ok { OnOk result (ChangesBelow
+        (DefersTo (record { last_tsn = last_tsn; streams = stream_numbers streams.now })) (transfer_of state.old)
+        state.old state.new) }
+    ensures err { OnErr result (state.new ≡ state.old) }
 {
     match state.tcb_mut() {
         None => Ok(()),
@@ -117,12 +123,12 @@ fn perform<R: Rng>(
     Ok(())
 }
 
-// Lets the reset that a request wants wait.
+// Lets the reset that a request wants wait. `Err`: an allocation failed, and nothing has changed.
 fn defer<R: Rng>(
     context: &mut Context<R>,
     request: &OutgoingSsnResetRequestParameter<'_>,
 ) -> Result<(), AllocError>
-    ensures { view_of context.new ≡ view_of context.old }
+    ensures { Defers (wanted_by request.now) context.old result context.new }
 {
     let streams = streams_of(context.alloc, request)?;
     defer_reset(
@@ -337,8 +343,9 @@ fn handle_parameters<R: Rng>(
 
 /// Handles a RE-CONFIG (RFC 6525, section 5.2). Each request of the peer is answered, in one packet, and a
 /// flush follows. An Outgoing SSN Reset Request with the next number resets its streams once everything that
-/// was sent before it is received. The user is told of that. Until then it is in progress, and is handled
-/// again when it comes again. For an Incoming SSN Reset Request nothing is reset.
+/// was sent before it is received. The user is told of that. Until then it is in progress, what comes on its
+/// streams that was sent after it waits, and it is handled again when it comes again. For an Incoming SSN Reset
+/// Request nothing is reset.
 ///
 /// An answer to our outstanding request ends it (section 5.2.7). Its streams are reset, or aren't, of which
 /// the user is told, and both take messages again. A request that is in progress is sent again later.

@@ -7,7 +7,6 @@ use Rattle.std.proofs.lemmas.Bool.Decides.{nat_tests}
 use Rattle.dcsctp_wire.specs.declared.chunk.user_data.DataFlags.{DataFlags}
 use Rattle.dcsctp_wire.specs.Content.{data_chunk, i_data_chunk, ParameterContent, outgoing_ssn_reset_request}
 use Rattle.dcsctp_wire.specs.Spelling.{chunk_bytes, other_bytes, data_fields, i_data_fields, zeros, parameter_value, parameter_len, parameter_bytes, list_bytes}
-use Rattle.dcsctp_machine.specs.Settings.{packet_size_limit}
 use Rattle.dcsctp_machine.specs.Packet.{Plain, unworked, plain_out, Content, chunk_out, Emission}
 use Rattle.dcsctp_machine.specs.transfer.Tracker.{TrackerState, sacked}
 use Rattle.dcsctp_machine.specs.transfer.Transfer.{SendQueueState, RetransmissionState, Transfer, can_send, has_free_tsn, has_data, least_chunk, must_give, is_idle}
@@ -41,15 +40,6 @@ fits_len false room chunk is = omega arith
 
 where_fits_len : (room : ℕ) (chunk : Plain) → contents_len (plain_contents (where_fits room chunk)) ≤ room
 where_fits_len room chunk = fits_len (nat_le (length (chunk_bytes (plain_out chunk))) room) room chunk refl
-
--- what is put behind a packet as it fits leaves it within its limit
-pub two_within : (e : Endpoint) (draft : Emission) (one two : List Content) → IsWithin e draft → contents_len one ≤ room_in e draft
-    → contents_len two ≤ packet_size_limit e.options - 12 - contents_len (draft.packet.contents ++ one) → IsWithin e (filled draft (one ++ two))
-two_within e draft one two within first second =
-    let all = len_append draft.packet.contents (one ++ two) in
-    let both = len_append one two in
-    let front = len_append draft.packet.contents one in
-    omega (arith, within, first, second, all, both, front)
 
 pub three_within : (e : Endpoint) (draft : Emission) (one two three : List Content) → IsWithin e draft → contents_len one ≤ room_in e draft → contents_len two ≤ room_in e (filled draft one)
     → contents_len three ≤ room_in e (filled draft (one ++ two)) → IsWithin e (filled draft (one ++ (two ++ three)))

@@ -8,7 +8,8 @@ use Rattle.dcsctp_machine.specs.Settings.{SameOptions}
 use Rattle.dcsctp_machine.specs.Event.{Event, error}
 use Rattle.dcsctp_machine.specs.Packet.{Plain, plain, error_of, Content, Emission}
 use Rattle.dcsctp_wire.specs.Content.{no_user_data}
-use Rattle.dcsctp_machine.specs.transfer.Transfer.{MessageContent, Transfer}
+use Rattle.dcsctp_machine.specs.transfer.Messages.{MessageContent}
+use Rattle.dcsctp_machine.specs.transfer.Transfer.{Transfer}
 use Rattle.dcsctp_machine.specs.transfer.Tracker.{TrackerState, after_packet_end, is_acknowledgement_due, sacked, delay_over}
 use Rattle.dcsctp_machine.specs.Endpoint.{Endpoint, Core, closed, cookie_wait, cookie_echoed, open_in, established, shutdown_pending, shutdown_sent, shutdown_received, shutdown_ack_sent, held_in}
 use Rattle.dcsctp_machine.specs.Following.{next_chunk}
@@ -22,7 +23,10 @@ use Rattle.dcsctp_machine.specs.turns.FlushOutcomes.{own_sack, Answer, told_even
 use Rattle.dcsctp_machine.specs.turns.HeartbeatOutcomes.{error_counted}
 use Rattle.dcsctp_machine.specs.turns.MessageOutcomes.{MessageRefusal, message_refusal, refusal_events, Sending, queue_by, queue_one, queue_all, takes_any, SendAnswers, send_by, SendTurn}
 use Rattle.dcsctp_machine.specs.turns.PreparedResets.{ResetRefusal, reset_refusal, with_queue, PreparesResets, OwnResetsWhere, OwnResetsTurn}
-use Rattle.dcsctp_machine.specs.turns.DataOutcomes.{with_transfer, with_tracker, flush_by, AnswersTo, FlushTurn, no_user_data_text, no_user_data_outcome, not_connected_text, ReceiveTurn, DataTurn, ForwardTurn, acknowledging, EndWhere, EndsBy, TakeWhere, TakeTurn, delay_outcome, LossTurn}
+use Rattle.dcsctp_machine.specs.declared.arrivals.SkippedTo.{SkippedTo}
+use Rattle.dcsctp_machine.specs.transfer.Arrivals.{Arrival}
+use Rattle.dcsctp_machine.specs.transfer.Reassembly.{with_ready}
+use Rattle.dcsctp_machine.specs.turns.DataOutcomes.{DataWhere, with_transfer, with_tracker, flush_by, AnswersTo, FlushTurn, no_user_data_text, no_user_data_outcome, not_connected_text, ReceiveTurn, DataTurn, ForwardTurn, acknowledging, EndWhere, EndsBy, TakeWhere, TakeTurn, delay_outcome, LossTurn}
 use Rattle.dcsctp_machine.proofs.ControlHandshake.{no_choices, ControlledAt}
 use Rattle.dcsctp_machine.proofs.FlushKeeps.{IsPeerTag, all_chunks, begun_by, filling_of, flush_effects, IsBegun, flush_is, first_begins, Rebuilds, rebuilds_open, rebuilds_echoed, FlushesTo, flush_controlled, further_then, further_notes_then, told_signs, signs_append}
 use Rattle.dcsctp_machine.specs.turns.BegunResets.{BegunReset, request_contents, begun_effects, held_begun}
@@ -132,17 +136,20 @@ no_data_at : (e : Endpoint) (core : Core) (peer : Option Held) (tsn : ℕ) → h
 no_data_at e core None tsn holds is = quiet_at e e (error ProtocolViolation no_user_data_text ∷ []) core is refl refl
 no_data_at e core (Some held) tsn holds is = reported_at (fits e (to_peer held (plain (error_of (no_user_data tsn ∷ []))))) e core held tsn holds is
 
-receive_at : (e : Endpoint) (transfer : Option Transfer) (immediate : Bool) (tsn : ℕ) (o : Outcome) → ReceiveTurn e transfer immediate tsn o → FlushedAt e e.core o
-receive_at e None immediate tsn o turn = flushed_as e e.core o (quiet e [] (error NotConnected not_connected_text ∷ [])) turn (quiet_at e e (error NotConnected not_connected_text ∷ []) e.core refl refl refl)
-receive_at e (Some transfer) immediate tsn o turn = flushed_as e e.core o (still (with_transfer e turn.0)) turn.2 (still_at e (with_transfer e turn.0) e.core refl refl)
+receive_at : (e : Endpoint) (transfer : Option Transfer) (arrived : Arrival) (o : Outcome) → ReceiveTurn e transfer arrived o → FlushedAt e e.core o
+receive_at e None arrived o turn = flushed_as e e.core o (quiet e [] (error NotConnected not_connected_text ∷ [])) turn (quiet_at e e (error NotConnected not_connected_text ∷ []) e.core refl refl refl)
+receive_at e (Some transfer) arrived o turn = flushed_as e e.core o (still (with_transfer e turn.0)) turn.2 (still_at e (with_transfer e turn.0) e.core refl refl)
 
-pub data_at : (e : Endpoint) (immediate : Bool) (tsn : ℕ) (payload : List ℕ) (o : Outcome) → DataTurn e immediate tsn payload o → FlushedAt e e.core o
-data_at e immediate tsn [] o turn = flushed_as e e.core o (no_user_data_outcome e (held_in e.core) tsn) turn (no_data_at e e.core (held_in e.core) tsn refl refl)
-data_at e immediate tsn (byte ∷ bytes) o turn = receive_at e e.below.transfer immediate tsn o turn
+data_where_at : (e : Endpoint) (arrived : Arrival) (payload : List ℕ) (o : Outcome) → DataWhere e arrived payload o → FlushedAt e e.core o
+data_where_at e arrived [] o turn = flushed_as e e.core o (no_user_data_outcome e (held_in e.core) arrived.tsn) turn (no_data_at e e.core (held_in e.core) arrived.tsn refl refl)
+data_where_at e arrived (byte ∷ bytes) o turn = receive_at e e.below.transfer arrived o turn
 
-pub forward_at : (e : Endpoint) (transfer : Option Transfer) (tsn : ℕ) (o : Outcome) → ForwardTurn e transfer tsn o → FlushedAt e e.core o
-forward_at e None tsn o turn = flushed_as e e.core o (still e) turn (still_at e e e.core refl refl)
-forward_at e (Some transfer) tsn o turn = flushed_as e e.core o (still (with_transfer e turn.0)) turn.2 (still_at e (with_transfer e turn.0) e.core refl refl)
+pub data_at : (e : Endpoint) (arrived : Arrival) (o : Outcome) → DataTurn e arrived o → FlushedAt e e.core o
+data_at e arrived o turn = data_where_at e arrived arrived.chunk.payload o turn
+
+pub forward_at : (e : Endpoint) (transfer : Option Transfer) (tsn : ℕ) (entries : List SkippedTo) (o : Outcome) → ForwardTurn e transfer tsn entries o → FlushedAt e e.core o
+forward_at e None tsn entries o turn = flushed_as e e.core o (still e) turn (still_at e e e.core refl refl)
+forward_at e (Some transfer) tsn entries o turn = flushed_as e e.core o (still (with_transfer e turn.0)) turn.2 (still_at e (with_transfer e turn.0) e.core refl refl)
 
 -- ---- the end of a packet
 
@@ -220,11 +227,12 @@ end_at e (Some transfer) o turn =
 
 take_where_at : (e : Endpoint) (transfer : Transfer) (messages : List MessageContent) (o : Outcome) → TakeWhere e transfer messages o → FlushedAt e e.core o
 take_where_at e transfer [] o turn = flushed_as e e.core o (still e) turn (still_at e e e.core refl refl)
-take_where_at e transfer (message ∷ messages) o turn = flushed_as e e.core o (still (with_transfer e turn.0)) turn.2 (still_at e (with_transfer e turn.0) e.core refl refl)
+take_where_at e transfer (message ∷ messages) o turn =
+    let left = with_transfer e (record transfer { reassembly = with_ready messages transfer.reassembly }) in flushed_as e e.core o (still left) turn (still_at e left e.core refl refl)
 
 pub take_at : (e : Endpoint) (transfer : Option Transfer) (o : Outcome) → TakeTurn e transfer o → FlushedAt e e.core o
 take_at e None o turn = flushed_as e e.core o (still e) turn (still_at e e e.core refl refl)
-take_at e (Some transfer) o turn = take_where_at e transfer transfer.reassembly.messages o turn
+take_at e (Some transfer) o turn = take_where_at e transfer transfer.reassembly.incoming.ready o turn
 
 -- what a list of messages leaves
 record Queues (e : Endpoint) (o : Outcome) : Type 0 where

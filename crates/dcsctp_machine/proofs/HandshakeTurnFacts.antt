@@ -131,7 +131,7 @@ transfer_begun cwnd =
         delay = record { running = None; settings = record { duration = 200_000_000; terms = record { backoff = Fixed; max_restarts = Some 0; max_backoff = None } } };
         longest_delay = 200_000_000;
       };
-      reassembly = record { messages = []; messages_received = 0; window = 5242880; remaining_bytes = 5242880 };
+      reassembly = record { incoming = record { messages_received = 0; ready = []; streams = []; unordered = []; last_tsn_number = 4294967296 }; max_size = 5242880; deferral = None };
     })
 
 -- the association that the two hold

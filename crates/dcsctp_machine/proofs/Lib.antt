@@ -1,5 +1,4 @@
 pub mod AdmissionFacts
-pub mod AdmissionLemmas
 pub mod AlongLemmas
 pub mod AnswerLemmas
 pub mod CallFacts
@@ -44,3 +43,4 @@ pub mod TurnLemmas
 pub mod TrackerLemmas
 pub mod RangesFacts
 pub mod RangesLemmas
+pub mod ReassemblyLemmas

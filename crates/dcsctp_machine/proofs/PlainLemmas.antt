@@ -20,6 +20,7 @@ use Rattle.dcsctp_machine.specs.Following.{next_chunk}
 use Rattle.dcsctp_machine.specs.turns.HeartbeatOutcomes.{heartbeat_outcome, heartbeat_ack_outcome, answered, info_in, counter_of, invalid_info_text}
 use Rattle.dcsctp_wire.specs.Content.{ParameterContent, data_chunk, init_chunk, init_ack_chunk, sack_chunk, heartbeat_chunk, heartbeat_ack_chunk, abort_chunk, shutdown_chunk, shutdown_ack_chunk, error_chunk, cookie_echo_chunk, cookie_ack_chunk, shutdown_complete_chunk, i_data_chunk, re_config_chunk, forward_tsn_chunk, i_forward_tsn_chunk, unknown_chunk}
 use Rattle.dcsctp_wire.specs.Texts.{causes_text}
+use Rattle.dcsctp_machine.specs.transfer.Arrivals.{data_arrival, i_data_arrival, skipped_in, messages_skipped_in}
 use Rattle.dcsctp_machine.proofs.DataLemmas.{flushed_chunk, data_at, forward_at}
 use Rattle.dcsctp_machine.proofs.SackLemmas.{stepped_chunk, sack_at}
 use Rattle.dcsctp_machine.specs.Controlled.{signs_of_events, IsControlled, ControlledChunk}
@@ -194,11 +195,11 @@ plain_by e tag (unknown type flags value) None o is turn = subst (At e tag (unkn
 plain_by e tag (heartbeat parameters) None o is turn = subst (At e tag (heartbeat parameters)) (sym turn) (heartbeat_at e e.core tag parameters refl)
 plain_by e tag (heartbeat_ack parameters) None o is turn =
     subst (At e tag (heartbeat_ack parameters)) (sym turn) (heartbeat_ack_at e e.core tag (heartbeat_ack parameters) (counter_of (info_in parameters)) refl)
-plain_by e tag (unworked (data_chunk chunk)) None o is turn = flushed_chunk e e.core tag (unworked (data_chunk chunk)) o (data_at e chunk.flags.immediate_ack chunk.tsn chunk.payload o turn)
-plain_by e tag (unworked (i_data_chunk chunk)) None o is turn = flushed_chunk e e.core tag (unworked (i_data_chunk chunk)) o (data_at e chunk.flags.immediate_ack chunk.tsn chunk.payload o turn)
+plain_by e tag (unworked (data_chunk chunk)) None o is turn = flushed_chunk e e.core tag (unworked (data_chunk chunk)) o (data_at e (data_arrival chunk) o turn)
+plain_by e tag (unworked (i_data_chunk chunk)) None o is turn = flushed_chunk e e.core tag (unworked (i_data_chunk chunk)) o (data_at e (i_data_arrival chunk) o turn)
 plain_by e tag (unworked (sack_chunk chunk)) None o is turn = stepped_chunk e e.core tag (unworked (sack_chunk chunk)) o (sack_at e e.below.transfer chunk.cumulative_tsn_ack o turn)
-plain_by e tag (unworked (forward_tsn_chunk tsn streams)) None o is turn = flushed_chunk e e.core tag (unworked (forward_tsn_chunk tsn streams)) o (forward_at e e.below.transfer tsn o turn)
-plain_by e tag (unworked (i_forward_tsn_chunk tsn streams)) None o is turn = flushed_chunk e e.core tag (unworked (i_forward_tsn_chunk tsn streams)) o (forward_at e e.below.transfer tsn o turn)
+plain_by e tag (unworked (forward_tsn_chunk tsn streams)) None o is turn = flushed_chunk e e.core tag (unworked (forward_tsn_chunk tsn streams)) o (forward_at e e.below.transfer tsn (skipped_in streams) o turn)
+plain_by e tag (unworked (i_forward_tsn_chunk tsn streams)) None o is turn = flushed_chunk e e.core tag (unworked (i_forward_tsn_chunk tsn streams)) o (forward_at e e.below.transfer tsn (messages_skipped_in streams) o turn)
 plain_by e tag (unworked (error_chunk causes)) None o is turn = subst (At e tag (unworked (error_chunk causes))) (sym turn) (error_at e e.core tag (unworked (error_chunk causes)) causes refl)
 plain_by e tag (unworked (init_chunk chunk)) None o is turn = rests e tag (unworked (init_chunk chunk)) o turn
 plain_by e tag (unworked (init_ack_chunk chunk)) None o is turn = rests e tag (unworked (init_ack_chunk chunk)) o turn

@@ -35,9 +35,6 @@ init_keeps_options e theirs (open_in shutdown_ack_sent mine held) word next = se
 
 -- ---- options
 
-pub same_at_first : (p : Options) → SameOptions p p
-same_at_first p = refl
-
 pub same_after : (p q r : Options) → SameOptions p q → SameOptions q r → SameOptions p r
 same_after p q r first second = second ∙ ap (λ (x : Options). record x { max_message_size = r.max_message_size }) first
 

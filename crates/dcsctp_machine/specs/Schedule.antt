@@ -12,7 +12,7 @@ use Rattle.dcsctp_machine.specs.declared.schedule.Outside.TheVariants as outside
 use Rattle.dcsctp_machine.specs.declared.schedule.Act.{Act}
 use Rattle.dcsctp_machine.specs.declared.schedule.Act.TheVariants as acts
 use Rattle.dcsctp_machine.specs.Ids.{stream_numbers}
-use Rattle.dcsctp_machine.specs.transfer.Transfer.{MessageContent, message_content}
+use Rattle.dcsctp_machine.specs.transfer.Messages.{MessageContent, message_content}
 use Rattle.dcsctp_machine.specs.turns.SettingOutcomes.{Setting, stream_priority, stream_low_threshold, longest_message}
 
 -- a call of a socket's user, with what it hands over

@@ -1,3 +1,10 @@
+pub mod Arrivals
+pub mod Incoming
+pub mod IncomingStreams
+pub mod Messages
+pub mod Numbers
 pub mod Ranges
+pub mod Reassembly
+pub mod Runs
 pub mod Tracker
 pub mod Transfer

@@ -2,6 +2,7 @@
 //! is, and what each input does to it, is defined in `specs/`.
 #![tactic(auto)]
 
+mod arrivals;
 mod association;
 mod capabilities;
 mod ends;
@@ -15,6 +16,7 @@ mod time;
 mod tracking;
 mod word;
 
+pub use arrivals::{Numbering, SkippedTo, Taken};
 pub use association::{Association, Held, Pair, Phase};
 pub use capabilities::Capabilities;
 pub use dcsctp_wire::ReconfigurationResponseResult;

@@ -1,7 +1,7 @@
 //! Messages, and how they are to be sent.
 
 ghost use Rattle.std.specs.Prelude.{◌≡◌, map, IfOk};
-ghost use Rattle.dcsctp_machine.specs.transfer.Transfer.{message_content};
+ghost use Rattle.dcsctp_machine.specs.transfer.Messages.{message_content};
 
 use crate::ids::{LifecycleId, PpId, StreamId};
 use std::alloc::AllocError;

@@ -26,9 +26,6 @@ pub both_more : (newest : Effect) (small large : List Effect) → Within small l
 both_more newest small large w effect (inl e) = inl e
 both_more newest small large w effect (inr h) = inr (w effect h)
 
-pub then_within : (small middle large : List Effect) → Within small middle → Within middle large → Within small large
-then_within small middle large v w effect h = w effect (v effect h)
-
 pub after_within : (effects past : List Effect) → Within past (after_effects effects past)
 after_within [] past effect h = h
 after_within (newest ∷ effects) past effect h = after_within effects (newest ∷ past) effect (inr h)

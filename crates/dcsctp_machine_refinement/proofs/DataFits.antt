@@ -7,7 +7,8 @@ use Rattle.dcsctp_machine.specs.declared.kinds.ErrorKind.TheVariants.{ProtocolVi
 use Rattle.dcsctp_machine.specs.Event.{error}
 use Rattle.dcsctp_machine.specs.Packet.{Plain, plain, error_of, Content}
 use Rattle.dcsctp_machine.specs.transfer.Tracker.{TrackerState, after_packet_end, is_acknowledgement_due, sacked, delay_over}
-use Rattle.dcsctp_machine.specs.transfer.Transfer.{Below, MessageContent, Transfer}
+use Rattle.dcsctp_machine.specs.transfer.Transfer.{Below, Transfer}
+use Rattle.dcsctp_machine.specs.transfer.Messages.{MessageContent}
 use Rattle.dcsctp_machine.specs.Endpoint.{Endpoint, held_in}
 use Rattle.dcsctp_machine.specs.Outcome.{Outcome, still, quiet, sends, behind, then_outcome, to_peer}
 use Rattle.dcsctp_machine.specs.Outcome.{fits as fits_mtu}
@@ -16,7 +17,10 @@ use Rattle.dcsctp_machine.specs.turns.FlushOutcomes.{own_sack, Answer, told_even
 use Rattle.dcsctp_machine.specs.turns.TransferMoves.{delivered_events}
 use Rattle.dcsctp_machine.specs.turns.MessageOutcomes.{MessageRefusal, message_refusal, refusal_events, Sending, queue_by, queue_one, queue_all, takes_any, SendAnswers, send_by, SendTurn}
 use Rattle.dcsctp_machine.specs.turns.PreparedResets.{ResetRefusal, reset_refusal, with_queue, PreparesResets, OwnResetsWhere, OwnResetsTurn}
-use Rattle.dcsctp_machine.specs.turns.DataOutcomes.{TakeWhere, TakeTurn, with_transfer, with_tracker, flush_by, AnswersTo, FlushTurn, no_user_data_text, no_user_data_outcome, ReceiveTurn, DataTurn, ForwardTurn, is_sack_valid, SendsAtOnce, FastRetransmits, sack_taken, AcknowledgesBy, SackWhere, SackBy, SackTurn, acknowledging, AnswersPacket, EndWhere, EndsBy, delay_outcome, LossTurn}
+use Rattle.dcsctp_machine.specs.declared.arrivals.SkippedTo.{SkippedTo}
+use Rattle.dcsctp_machine.specs.transfer.Arrivals.{Arrival}
+use Rattle.dcsctp_machine.specs.transfer.Reassembly.{with_ready}
+use Rattle.dcsctp_machine.specs.turns.DataOutcomes.{DataWhere, TakeWhere, TakeTurn, with_transfer, with_tracker, flush_by, AnswersTo, FlushTurn, no_user_data_text, no_user_data_outcome, ReceiveTurn, DataTurn, ForwardTurn, is_sack_valid, SendsAtOnce, FastRetransmits, sack_taken, AcknowledgesBy, SackWhere, SackBy, SackTurn, acknowledging, AnswersPacket, EndWhere, EndsBy, delay_outcome, LossTurn}
 use Rattle.dcsctp_machine.specs.Fitting.{AllSent, FitsHeld, FitsEndpoint, IsSendable, Sendable, TurnFits}
 use Rattle.dcsctp_machine.proofs.FlushKeeps.{goes_out_keeps}
 use Rattle.dcsctp_machine_refinement.proofs.FlushFits.{kept_fits, still_fits, data_sendable, where_fits_sendable, own_sack_sendable, told_sends, goes_out_sends, draft_sendable, flush_fits, behind_fits}
@@ -64,17 +68,20 @@ no_data_fits : (e : Endpoint) (peer : Option Held) (tsn : ℕ) → FitsEndpoint 
 no_data_fits e None tsn h fits number = record { after = h; sends = (tt, tt) }
 no_data_fits e (Some held) tsn h fits number = reported_fits (fits_mtu e (to_peer held (plain (error_of (no_user_data tsn ∷ []))))) e held tsn h fits number
 
-receive_fits : (e : Endpoint) (transfer : Option Transfer) (immediate : Bool) (tsn : ℕ) (o : Outcome) → ReceiveTurn e transfer immediate tsn o → FitsEndpoint e → TurnFits o
-receive_fits e None immediate tsn o turn h = subst TurnFits (sym turn) (record { after = h; sends = (tt, tt) })
-receive_fits e (Some transfer) immediate tsn o turn h = subst TurnFits (sym turn.2) (moved_fits e turn.0 h)
+receive_fits : (e : Endpoint) (transfer : Option Transfer) (arrived : Arrival) (o : Outcome) → ReceiveTurn e transfer arrived o → FitsEndpoint e → TurnFits o
+receive_fits e None arrived o turn h = subst TurnFits (sym turn) (record { after = h; sends = (tt, tt) })
+receive_fits e (Some transfer) arrived o turn h = subst TurnFits (sym turn.2) (moved_fits e turn.0 h)
 
-pub data_fits : (e : Endpoint) (immediate : Bool) (tsn : ℕ) (payload : List ℕ) (o : Outcome) → DataTurn e immediate tsn payload o → FitsEndpoint e → tsn < 2 ^ 32 → TurnFits o
-data_fits e immediate tsn [] o turn h number = subst TurnFits (sym turn) (no_data_fits e (held_in e.core) tsn h (peer_fits e.core h.core) number)
-data_fits e immediate tsn (byte ∷ bytes) o turn h number = receive_fits e e.below.transfer immediate tsn o turn h
+data_where_fits : (e : Endpoint) (arrived : Arrival) (payload : List ℕ) (o : Outcome) → DataWhere e arrived payload o → FitsEndpoint e → arrived.tsn < 2 ^ 32 → TurnFits o
+data_where_fits e arrived [] o turn h number = subst TurnFits (sym turn) (no_data_fits e (held_in e.core) arrived.tsn h (peer_fits e.core h.core) number)
+data_where_fits e arrived (byte ∷ bytes) o turn h number = receive_fits e e.below.transfer arrived o turn h
 
-pub forward_fits : (e : Endpoint) (transfer : Option Transfer) (tsn : ℕ) (o : Outcome) → ForwardTurn e transfer tsn o → FitsEndpoint e → TurnFits o
-forward_fits e None tsn o turn h = subst TurnFits (sym turn) (still_fits e h)
-forward_fits e (Some transfer) tsn o turn h = subst TurnFits (sym turn.2) (moved_fits e turn.0 h)
+pub data_fits : (e : Endpoint) (arrived : Arrival) (o : Outcome) → DataTurn e arrived o → FitsEndpoint e → arrived.tsn < 2 ^ 32 → TurnFits o
+data_fits e arrived o turn h number = data_where_fits e arrived arrived.chunk.payload o turn h number
+
+pub forward_fits : (e : Endpoint) (transfer : Option Transfer) (tsn : ℕ) (entries : List SkippedTo) (o : Outcome) → ForwardTurn e transfer tsn entries o → FitsEndpoint e → TurnFits o
+forward_fits e None tsn entries o turn h = subst TurnFits (sym turn) (still_fits e h)
+forward_fits e (Some transfer) tsn entries o turn h = subst TurnFits (sym turn.2) (moved_fits e turn.0 h)
 
 -- ---- SACK
 
@@ -148,11 +155,11 @@ end_fits e (Some transfer) o turn h =
 
 take_where_fits : (e : Endpoint) (transfer : Transfer) (messages : List MessageContent) (o : Outcome) → TakeWhere e transfer messages o → FitsEndpoint e → TurnFits o
 take_where_fits e transfer [] o turn h = subst TurnFits (sym turn) (still_fits e h)
-take_where_fits e transfer (message ∷ messages) o turn h = subst TurnFits (sym turn.2) (moved_fits e turn.0 h)
+take_where_fits e transfer (message ∷ messages) o turn h = subst TurnFits (sym turn) (moved_fits e (record transfer { reassembly = with_ready messages transfer.reassembly }) h)
 
 pub take_fits : (e : Endpoint) (transfer : Option Transfer) (o : Outcome) → TakeTurn e transfer o → FitsEndpoint e → TurnFits o
 take_fits e None o turn h = subst TurnFits (sym turn) (still_fits e h)
-take_fits e (Some transfer) o turn h = take_where_fits e transfer transfer.reassembly.messages o turn h
+take_fits e (Some transfer) o turn h = take_where_fits e transfer transfer.reassembly.incoming.ready o turn h
 
 refused_sends_nothing : (refusal : MessageRefusal) (lifecycle : Option ℕ) → AllSent IsSendable (refusal_events refusal lifecycle)
 refused_sends_nothing refusal None = (tt, tt)

@@ -9,6 +9,7 @@ use Rattle.dcsctp_machine.specs.declared.word.Word.{Word}
 use Rattle.dcsctp_machine.specs.Settings.{IsValid, FitsOptions}
 use Rattle.dcsctp_machine.specs.Event.{Event, sent}
 use Rattle.dcsctp_machine.specs.Packet.{Plain, unworked, plain, plain_out, Content, Emission, content_in}
+use Rattle.dcsctp_machine.specs.transfer.Reassembly.{remaining_bytes}
 use Rattle.dcsctp_machine.specs.transfer.Transfer.{Transfer, is_idle}
 use Rattle.dcsctp_machine.specs.transfer.Tracker.{TrackerState}
 use Rattle.dcsctp_machine.proofs.TrackerLemmas.{sack_fits}
@@ -78,7 +79,7 @@ pub where_fits_sendable : (room : ℕ) (chunk : Plain) → Sendable (plain chunk
 where_fits_sendable room chunk good = one_sendable (nat_le (length (chunk_bytes (plain_out chunk))) room) chunk good
 
 pub own_sack_sendable : (transfer : Transfer) → Sendable (plain (own_sack transfer))
-own_sack_sendable transfer = record { fits = sack_fits transfer.tracker transfer.reassembly.remaining_bytes; reads = refl; said = tt }
+own_sack_sendable transfer = record { fits = sack_fits transfer.tracker (remaining_bytes transfer.reassembly); reads = refl; said = tt }
 
 sacks_sendable : (wants : Bool) (room : ℕ) (transfer : Transfer) (after : TrackerState) (chunks : List Plain) → Acknowledges wants room transfer after chunks
     → AllByRecursion Sendable (plain_contents chunks)

@@ -23,6 +23,7 @@ use Rattle.dcsctp_machine.specs.turns.PlainOutcomes.{PlainTurn, PlainTurnBy, vio
 use Rattle.dcsctp_machine.specs.Fitting.{FitsHeld, FitsCore, FitsEndpoint, Sendable, TurnFits}
 use Rattle.dcsctp_machine_refinement.proofs.Aborting.{aborting_fits}
 use Rattle.dcsctp_machine_refinement.proofs.Bytes.{both, in_two}
+use Rattle.dcsctp_machine.specs.transfer.Arrivals.{data_arrival, i_data_arrival, skipped_in, messages_skipped_in}
 use Rattle.dcsctp_machine_refinement.proofs.DataFits.{data_fits, sack_fits, forward_fits}
 use Rattle.dcsctp_machine_refinement.proofs.FlushFits.{still_fits}
 
@@ -111,11 +112,11 @@ plain_by e (unknown type flags value) None o turn h good =
     (unknown_in_bytes type flags value good.fits.type_fits good.fits.flags_fit good.fits.value_in_bytes))
 plain_by e (heartbeat parameters) None o turn h good = subst TurnFits (sym turn) (heartbeat_fits e e.core parameters h h.core good)
 plain_by e (heartbeat_ack parameters) None o turn h good = subst TurnFits (sym turn) (heartbeat_ack_fits e (counter_of (info_in parameters)) h)
-plain_by e (unworked (data_chunk chunk)) None o turn h good = data_fits e chunk.flags.immediate_ack chunk.tsn chunk.payload o turn h good.fits.tsn
-plain_by e (unworked (i_data_chunk chunk)) None o turn h good = data_fits e chunk.flags.immediate_ack chunk.tsn chunk.payload o turn h good.fits.tsn
+plain_by e (unworked (data_chunk chunk)) None o turn h good = data_fits e (data_arrival chunk) o turn h good.fits.tsn
+plain_by e (unworked (i_data_chunk chunk)) None o turn h good = data_fits e (i_data_arrival chunk) o turn h good.fits.tsn
 plain_by e (unworked (sack_chunk chunk)) None o turn h good = sack_fits e e.below.transfer chunk.cumulative_tsn_ack o turn h
-plain_by e (unworked (forward_tsn_chunk tsn streams)) None o turn h good = forward_fits e e.below.transfer tsn o turn h
-plain_by e (unworked (i_forward_tsn_chunk tsn streams)) None o turn h good = forward_fits e e.below.transfer tsn o turn h
+plain_by e (unworked (forward_tsn_chunk tsn streams)) None o turn h good = forward_fits e e.below.transfer tsn (skipped_in streams) o turn h
+plain_by e (unworked (i_forward_tsn_chunk tsn streams)) None o turn h good = forward_fits e e.below.transfer tsn (messages_skipped_in streams) o turn h
 plain_by e (unworked (error_chunk causes)) None o turn h good = subst TurnFits (sym turn) (error_fits e e.core causes h)
 plain_by e (unworked chunk) None o turn h good = subst TurnFits (sym turn) (still_fits e h)
 

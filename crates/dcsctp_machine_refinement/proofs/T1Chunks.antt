@@ -14,6 +14,7 @@ use Rattle.dcsctp_machine.specs.turns.ReconfigurationOutcomes.{reset_again, requ
 use Rattle.dcsctp_machine.specs.Reconfiguration.{RequestedReset}
 use Rattle.dcsctp_machine.specs.control.FlushChanges.{reset_request}
 use Rattle.dcsctp_machine.specs.turns.PlainOutcomes.{PlainTurn, PlainTurnBy, violation_at, is_reported, after_unknown, unknown_bytes, unknown_told, error_outcome}
+use Rattle.dcsctp_machine.specs.transfer.Arrivals.{data_arrival, i_data_arrival, skipped_in, messages_skipped_in}
 use Rattle.dcsctp_machine_refinement.proofs.T1Data.{data_up, forward_up, sack_up, delay_up, loss_up}
 use Rattle.dcsctp_machine_refinement.proofs.T1Turns.{Up, UpAfter, aborting_up}
 
@@ -94,11 +95,11 @@ plain_by e chunk (Some violation) o turn h = subst UpAfter (sym turn) (aborting_
 plain_by e (unknown type flags value) None o turn h = subst UpAfter (sym turn) (unknown_up e e.core type (unknown_bytes type flags value) (is_reported type) h)
 plain_by e (heartbeat parameters) None o turn h = subst UpAfter (sym turn) (heartbeat_up e e.core parameters h)
 plain_by e (heartbeat_ack parameters) None o turn h = subst UpAfter (sym turn) (heartbeat_ack_up e (counter_of (info_in parameters)) h)
-plain_by e (unworked (data_chunk chunk)) None o turn h = data_up e chunk.flags.immediate_ack chunk.tsn chunk.payload o turn h
-plain_by e (unworked (i_data_chunk chunk)) None o turn h = data_up e chunk.flags.immediate_ack chunk.tsn chunk.payload o turn h
+plain_by e (unworked (data_chunk chunk)) None o turn h = data_up e (data_arrival chunk) o turn h
+plain_by e (unworked (i_data_chunk chunk)) None o turn h = data_up e (i_data_arrival chunk) o turn h
 plain_by e (unworked (sack_chunk chunk)) None o turn h = sack_up e e.below.transfer chunk.cumulative_tsn_ack o turn h
-plain_by e (unworked (forward_tsn_chunk tsn streams)) None o turn h = forward_up e e.below.transfer tsn o turn h
-plain_by e (unworked (i_forward_tsn_chunk tsn streams)) None o turn h = forward_up e e.below.transfer tsn o turn h
+plain_by e (unworked (forward_tsn_chunk tsn streams)) None o turn h = forward_up e e.below.transfer tsn (skipped_in streams) o turn h
+plain_by e (unworked (i_forward_tsn_chunk tsn streams)) None o turn h = forward_up e e.below.transfer tsn (messages_skipped_in streams) o turn h
 plain_by e (unworked (error_chunk causes)) None o turn h = subst UpAfter (sym turn) (error_up e e.core causes h)
 plain_by e (unworked chunk) None o turn h = subst UpAfter (sym turn) h
 

@@ -6,14 +6,17 @@ use Rattle.dcsctp_machine.specs.declared.kinds.ErrorKind.TheVariants.{ProtocolVi
 use Rattle.dcsctp_machine.specs.Event.{error}
 use Rattle.dcsctp_machine.specs.Packet.{plain, error_of}
 use Rattle.dcsctp_machine.specs.transfer.Tracker.{TrackerState, after_packet_end, is_acknowledgement_due, sacked}
-use Rattle.dcsctp_machine.specs.transfer.Transfer.{MessageContent, Transfer}
+use Rattle.dcsctp_machine.specs.transfer.Messages.{MessageContent}
+use Rattle.dcsctp_machine.specs.transfer.Transfer.{Transfer}
 use Rattle.dcsctp_machine.specs.Endpoint.{Endpoint, held_in}
 use Rattle.dcsctp_machine.specs.Outcome.{Outcome, quiet, sends, fits, to_peer, behind}
 use Rattle.dcsctp_machine.specs.control.Choices.{plain_contents}
 use Rattle.dcsctp_machine.specs.turns.FlushOutcomes.{own_sack, Answer, goes_out, draft_to}
 use Rattle.dcsctp_machine.specs.turns.MessageOutcomes.{MessageRefusal, message_refusal, Sending, queue_by, queue_one, queue_all, takes_any, SendAnswers, send_by, SendTurn}
 use Rattle.dcsctp_machine.specs.turns.PreparedResets.{ResetRefusal, reset_refusal, with_queue, OwnResetsWhere, OwnResetsTurn}
-use Rattle.dcsctp_machine.specs.turns.DataOutcomes.{with_transfer, with_tracker, flush_by, AnswersTo, FlushTurn, no_user_data_text, no_user_data_outcome, ReceiveTurn, DataTurn, ForwardTurn, is_sack_valid, FastRetransmits, sack_taken, AcknowledgesBy, SackWhere, SackBy, SackTurn, acknowledging, EndWhere, EndsBy, TakeWhere, TakeTurn, delay_outcome, LossTurn}
+use Rattle.dcsctp_machine.specs.declared.arrivals.SkippedTo.{SkippedTo}
+use Rattle.dcsctp_machine.specs.transfer.Arrivals.{Arrival}
+use Rattle.dcsctp_machine.specs.turns.DataOutcomes.{DataWhere, with_transfer, with_tracker, flush_by, AnswersTo, FlushTurn, no_user_data_text, no_user_data_outcome, ReceiveTurn, DataTurn, ForwardTurn, is_sack_valid, FastRetransmits, sack_taken, AcknowledgesBy, SackWhere, SackBy, SackTurn, acknowledging, EndWhere, EndsBy, TakeWhere, TakeTurn, delay_outcome, LossTurn}
 use Rattle.dcsctp_machine.proofs.FlushKeeps.{goes_out_keeps}
 use Rattle.dcsctp_machine_refinement.proofs.T1Shutdown.{step_up}
 use Rattle.dcsctp_machine_refinement.proofs.T1Turns.{Up, UpAfter, kept_up, flush_up}
@@ -38,17 +41,20 @@ no_data_up : (e : Endpoint) (peer : Option Held) (tsn : ℕ) → Up e → UpAfte
 no_data_up e None tsn h = h
 no_data_up e (Some held) tsn h = reported_up (fits e (to_peer held (plain (error_of (no_user_data tsn ∷ []))))) e held tsn h
 
-receive_up : (e : Endpoint) (transfer : Option Transfer) (immediate : Bool) (tsn : ℕ) (o : Outcome) → ReceiveTurn e transfer immediate tsn o → Up e → UpAfter o
-receive_up e None immediate tsn o turn h = subst UpAfter (sym turn) h
-receive_up e (Some transfer) immediate tsn o turn h = subst UpAfter (sym turn.2) h
+receive_up : (e : Endpoint) (transfer : Option Transfer) (arrived : Arrival) (o : Outcome) → ReceiveTurn e transfer arrived o → Up e → UpAfter o
+receive_up e None arrived o turn h = subst UpAfter (sym turn) h
+receive_up e (Some transfer) arrived o turn h = subst UpAfter (sym turn.2) h
 
-pub data_up : (e : Endpoint) (immediate : Bool) (tsn : ℕ) (payload : List ℕ) (o : Outcome) → DataTurn e immediate tsn payload o → Up e → UpAfter o
-data_up e immediate tsn [] o turn h = subst UpAfter (sym turn) (no_data_up e (held_in e.core) tsn h)
-data_up e immediate tsn (byte ∷ bytes) o turn h = receive_up e e.below.transfer immediate tsn o turn h
+data_where_up : (e : Endpoint) (arrived : Arrival) (payload : List ℕ) (o : Outcome) → DataWhere e arrived payload o → Up e → UpAfter o
+data_where_up e arrived [] o turn h = subst UpAfter (sym turn) (no_data_up e (held_in e.core) arrived.tsn h)
+data_where_up e arrived (byte ∷ bytes) o turn h = receive_up e e.below.transfer arrived o turn h
 
-pub forward_up : (e : Endpoint) (transfer : Option Transfer) (tsn : ℕ) (o : Outcome) → ForwardTurn e transfer tsn o → Up e → UpAfter o
-forward_up e None tsn o turn h = subst UpAfter (sym turn) h
-forward_up e (Some transfer) tsn o turn h = subst UpAfter (sym turn.2) h
+pub data_up : (e : Endpoint) (arrived : Arrival) (o : Outcome) → DataTurn e arrived o → Up e → UpAfter o
+data_up e arrived o turn h = data_where_up e arrived arrived.chunk.payload o turn h
+
+pub forward_up : (e : Endpoint) (transfer : Option Transfer) (tsn : ℕ) (entries : List SkippedTo) (o : Outcome) → ForwardTurn e transfer tsn entries o → Up e → UpAfter o
+forward_up e None tsn entries o turn h = subst UpAfter (sym turn) h
+forward_up e (Some transfer) tsn entries o turn h = subst UpAfter (sym turn.2) h
 
 -- ---- SACK
 
@@ -95,11 +101,11 @@ end_up e (Some transfer) o turn h =
 
 take_where_up : (e : Endpoint) (transfer : Transfer) (messages : List MessageContent) (o : Outcome) → TakeWhere e transfer messages o → Up e → UpAfter o
 take_where_up e transfer [] o turn h = subst UpAfter (sym turn) h
-take_where_up e transfer (message ∷ messages) o turn h = subst UpAfter (sym turn.2) h
+take_where_up e transfer (message ∷ messages) o turn h = subst UpAfter (sym turn) h
 
 pub take_up : (e : Endpoint) (transfer : Option Transfer) (o : Outcome) → TakeTurn e transfer o → Up e → UpAfter o
 take_up e None o turn h = subst UpAfter (sym turn) h
-take_up e (Some transfer) o turn h = take_where_up e transfer transfer.reassembly.messages o turn h
+take_up e (Some transfer) o turn h = take_where_up e transfer transfer.reassembly.incoming.ready o turn h
 
 queue_one_up : (e : Endpoint) (message : Sending) (refusal : Option MessageRefusal) → Up e → UpAfter (queue_by e message refusal)
 queue_one_up e message None h = h

@@ -14,7 +14,8 @@ use Rattle.std.specs.Map.{keys_of, lookup, set_value, remove_entry}
 use Rattle.std.specs.Map.Iter.{TakesFirst, TakesLast}
 use Rattle.std.specs.BTreeMap.{insert_entry, is_at}
 use Rattle.std.specs.BTreeMap.Range.{entries_between}
-use Rattle.dcsctp_receive_entries.specs.Entries.{Ascends, count_up_to, entry_before, Splits, Places, HasKey}
+use Rattle.dcsctp_receive_entries.specs.Entries.{Ascends, count_up_to, Splits, Places, HasKey}
+use Rattle.dcsctp_machine.specs.transfer.Runs.{entry_before}
 
 pub cmp_less : (k j : ℕ) → k < j → nat_cmp k j ≡ Less
 cmp_less k j h = sym (nat_cmp_is k j Less h)

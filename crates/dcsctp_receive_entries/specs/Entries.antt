@@ -1,8 +1,9 @@
 -- The entries of a map whose keys are numbers, by their positions in the order of keys.
-use Rattle.std.specs.Prelude.{◌≡◌, ℕ, zero, suc, ◌<◌, ◌≤◌, nat_le, if◌then◌else◌, Option, None, Some, List, [], ◌∷◌, length, slice_get}
+use Rattle.std.specs.Prelude.{◌≡◌, ℕ, suc, ◌<◌, ◌≤◌, nat_le, if◌then◌else◌, Some, List, [], ◌∷◌, length, slice_get}
 use Rattle.std.specs.List.Sorted.{IsStrictlySortedBy}
 use Rattle.std.specs.Map.{keys_of}
 use Rattle.std.specs.Ordering.{nat_cmp}
+use Rattle.dcsctp_machine.specs.transfer.Runs.{entry_before}
 
 -- The keys ascend.
 abbrev pub Ascends : {X : Type 0} → List (ℕ × X) → Type 0
@@ -12,11 +13,6 @@ Ascends es = IsStrictlySortedBy nat_cmp (keys_of es)
 abbrev pub count_up_to : {X : Type 0} → ℕ → List (ℕ × X) → ℕ
 count_up_to k [] = 0
 count_up_to k (e ∷ es) = if nat_le e.0 k then suc (count_up_to k es) else 0
-
--- the entry before a position
-abbrev pub entry_before : {X : Type 0} → ℕ → List X → Option X
-entry_before zero es = None
-entry_before (suc at) es = slice_get es at
 
 -- The keys before a position are smaller than k, and those from there on are greater.
 pub record Splits {X : Type 0} (at k : ℕ) (es : List (ℕ × X)) : Type 0 where

@@ -5,7 +5,8 @@ ghost use Rattle.std.specs.Option.{option_map};
 ghost use Rattle.std.specs.Map.Iter.{deref_pair};
 ghost use Rattle.std.specs.Ordering.{nat_cmp};
 ghost use Rattle.std.specs.BTreeMap.{IsOrdered, get, is_at};
-ghost use Rattle.dcsctp_receive_entries.specs.Entries.{count_up_to, entry_before};
+ghost use Rattle.dcsctp_receive_entries.specs.Entries.{count_up_to};
+ghost use Rattle.dcsctp_machine.specs.transfer.Runs.{entry_before};
 
 use std::alloc::AllocError;
 use std::collections::BTreeMap;

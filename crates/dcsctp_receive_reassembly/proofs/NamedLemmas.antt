@@ -12,7 +12,7 @@ use Rattle.std.proofs.lemmas.Bool.{eqb-true, eq-eqb, ne_eqb}
 use Rattle.dcsctp_machine.specs.declared.ids.StreamId.{StreamId}
 use Rattle.dcsctp_machine.specs.Ids.{stream_numbers}
 use Rattle.dcsctp_receive_reassembly.specs.NamedStreams.{IsSortedFrom}
-use Rattle.dcsctp_receive_reassembly.specs.Queue.{names_stream}
+use Rattle.dcsctp_machine.specs.transfer.Reassembly.{names_stream}
 
 -- one number more
 pub numbers_more : (streams : List StreamId) (i : ℕ) (d : StreamId) (numbers : List ℕ) → i < length streams → numbers ≡ stream_numbers (take i streams) → numbers ++ (get_or streams i d).0 ∷ [] ≡ stream_numbers (take (i + 1) streams)

@@ -3,11 +3,8 @@ use Rattle.std.proofs.Common.{◌≡◌, ℕ, zero, suc, ◌+◌, ◌-◌, Bool,
 use Rattle.std.specs.Prelude.{slice_get, is_some}
 use Rattle.std.proofs.lemmas.List.Sums.{sum_by-append, sum_by-cons, sum_by-take-drop}
 use Rattle.std.proofs.lemmas.List.Concat.{length-flat_map}
-use Rattle.dcsctp_receive_entries.specs.Entries.{entry_before}
-use Rattle.dcsctp_receive_reassembly.specs.declared.runs.Assembled.{Assembled}
-use Rattle.dcsctp_receive_reassembly.specs.declared.runs.Assembled.TheVariants.{Dropped, Kept, Whole as WholeMessage}
-use Rattle.dcsctp_receive_reassembly.specs.Runs.{RunModel, PartModel, AddsPart, AddsAt, merged, run_before, run_behind, following, preceding, follows, precedes, front_end, back_start, chosen, with_part, without_runs}
-use Rattle.dcsctp_receive_reassembly.specs.Held.{payloads_bytes, run_bytes, runs_bytes}
+use Rattle.dcsctp_machine.specs.transfer.Runs.{Assembled, part_dropped, part_kept, message_whole, entry_before, RunModel, PartModel, AddsPart, AddsAt, merged, run_before, run_behind, following, preceding, follows, precedes, front_end, back_start, chosen, with_part, without_runs}
+use Rattle.dcsctp_machine.specs.transfer.Runs.{payloads_bytes, run_bytes, runs_bytes}
 
 abbrev bytes_of : Option RunModel → ℕ
 bytes_of None = 0
@@ -114,16 +111,16 @@ bytes_without at runs part =
 
 -- What the runs have then, and what the message that became whole has, by what became of the part.
 abbrev pub PartCounted : PartModel → List RunModel → Assembled → List RunModel → Type 0
-PartCounted part old Dropped new = runs_bytes new ≡ runs_bytes old
-PartCounted part old Kept new = runs_bytes new ≡ runs_bytes old + length part.payload
-PartCounted part old (WholeMessage whole) new = runs_bytes new + length whole.payload.items ≡ runs_bytes old + length part.payload
+PartCounted part old part_dropped new = runs_bytes new ≡ runs_bytes old
+PartCounted part old part_kept new = runs_bytes new ≡ runs_bytes old + length part.payload
+PartCounted part old (message_whole whole) new = runs_bytes new + length whole.payload ≡ runs_bytes old + length part.payload
 
 counted_at : (at : ℕ) (part : PartModel) (old : List RunModel) (outcome : Assembled) (new : List RunModel) → AddsAt at part old outcome new → PartCounted part old outcome new
-counted_at at part old Dropped new adds = ap runs_bytes adds.1
-counted_at at part old Kept new adds = ap runs_bytes adds.2 ∙ bytes_with_part at old part
-counted_at at part old (WholeMessage whole) new adds =
+counted_at at part old part_dropped new adds = ap runs_bytes adds.1
+counted_at at part old part_kept new adds = ap runs_bytes adds.2 ∙ bytes_with_part at old part
+counted_at at part old (message_whole whole) new adds =
     let left : runs_bytes new ≡ runs_bytes (without_runs (is_some (run_before at old part)) (is_some (run_behind part at old)) at old) = ap runs_bytes adds.3 in
-    let bytes : length whole.payload.items ≡ run_bytes (merged (run_before at old part) part (run_behind part at old)) =
+    let bytes : length whole.payload ≡ run_bytes (merged (run_before at old part) part (run_behind part at old)) =
     ap (λ w. length w.payload) adds.2 ∙ length-flat_map (λ (p : List ℕ). p) (merged (run_before at old part) part (run_behind part at old)).payloads in
     omega (arith, left, bytes, bytes_without at old part)
 

@@ -4,19 +4,18 @@ use Rattle.std.specs.Prelude.{nat_le, nat_lt, not}
 use Rattle.std.specs.List.{filter}
 use Rattle.std.proofs.lemmas.List.Sums.{sum_by-append, sum_by-cons, sum_by-take-drop}
 use Rattle.std.proofs.lemmas.Bool.Decides.{nat_tests}
-use Rattle.dcsctp_machine.specs.transfer.Transfer.{MessageContent}
-use Rattle.dcsctp_receive_reassembly.specs.declared.arrivals.Numbering.{Numbering}
-use Rattle.dcsctp_receive_reassembly.specs.declared.arrivals.Numbering.TheVariants.{Ordered, Unordered, InterleavedOrdered, InterleavedUnordered}
-use Rattle.dcsctp_receive_reassembly.specs.declared.arrivals.SkippedTo.{SkippedTo}
-use Rattle.dcsctp_receive_reassembly.specs.declared.arrivals.SkippedTo.TheVariants.{Ssn, Mid}
-use Rattle.dcsctp_receive_reassembly.specs.declared.runs.Assembled.{Assembled}
-use Rattle.dcsctp_receive_reassembly.specs.declared.runs.Assembled.TheVariants.{Dropped, Kept, Whole as WholeMessage}
-use Rattle.dcsctp_receive_reassembly.specs.declared.stream.Taken.{Taken}
-use Rattle.dcsctp_receive_reassembly.specs.Numbers.{number_near, short_number_near}
-use Rattle.dcsctp_receive_reassembly.specs.Held.{run_bytes, runs_bytes, wholes_bytes}
-use Rattle.dcsctp_receive_reassembly.specs.QueuedBytes.{stream_bytes, ready_bytes}
-use Rattle.dcsctp_receive_reassembly.specs.Runs.{RunModel, PartModel, WholeModel, up_to_place, behind_place, whole_of}
-use Rattle.dcsctp_receive_reassembly.specs.Streams.{StreamModel, ChunkModel, delivered_as, due, not_due, next_after, next_past, deliveries_from, ready_with, TakesWhole, WaitsAmong, OrderedOutcome, TakesOrdered, TakesAhead, is_waiting, UnorderedOutcome, TakesUnordered, TakesInOrder, TakesOutOfOrder, TakesApart, TakesNumbered, TakesOnStream, skipped, skip_deliveries, skip_bytes}
+use Rattle.dcsctp_machine.specs.transfer.Messages.{MessageContent}
+use Rattle.dcsctp_machine.specs.declared.arrivals.Numbering.{Numbering}
+use Rattle.dcsctp_machine.specs.declared.arrivals.Numbering.TheVariants.{Ordered, Unordered, InterleavedOrdered, InterleavedUnordered}
+use Rattle.dcsctp_machine.specs.declared.arrivals.SkippedTo.{SkippedTo}
+use Rattle.dcsctp_machine.specs.declared.arrivals.SkippedTo.TheVariants.{Ssn, Mid}
+use Rattle.dcsctp_machine.specs.declared.arrivals.Taken.{Taken}
+use Rattle.dcsctp_machine.specs.transfer.Numbers.{number_near, short_number_near}
+use Rattle.dcsctp_machine.specs.transfer.Runs.{Assembled, part_dropped, part_kept, message_whole, run_bytes, runs_bytes, wholes_bytes}
+use Rattle.dcsctp_machine.specs.transfer.IncomingStreams.{stream_bytes, ready_bytes}
+use Rattle.dcsctp_machine.specs.transfer.Runs.{RunModel, PartModel, WholeModel, behind_place}
+use Rattle.dcsctp_receive_reassembly.specs.Runs.{up_to_place}
+use Rattle.dcsctp_machine.specs.transfer.IncomingStreams.{StreamModel, ChunkModel, delivered_as, due, not_due, next_after, next_past, deliveries_from, ready_with, TakesWhole, WaitsAmong, OrderedOutcome, TakesOrdered, TakesAhead, is_waiting, UnorderedOutcome, TakesUnordered, TakesInOrder, TakesOutOfOrder, TakesApart, TakesNumbered, TakesOnStream, skipped, skip_deliveries, skip_bytes}
 use Rattle.dcsctp_receive_reassembly.proofs.PartBytes.{PartCounted, part_counted}
 
 abbrev size_of_message : MessageContent → ℕ
@@ -73,22 +72,22 @@ ordered_counted : (part : PartModel) (old : StreamModel) (before : List MessageC
 ordered_counted part old before taken new after takes = go takes.outcome (part_counted part old.ordered takes.outcome new.ordered takes.parts) takes.does
   where
     go : (outcome : Assembled) → PartCounted part old.ordered outcome new.ordered → OrderedOutcome part old before outcome taken new after → Counted (length part.payload) old before taken new after
-    go Dropped counted does =
+    go part_dropped counted does =
         record { kept = omega (arith, does.2.0); bytes = omega (arith, does.2.0, ap stream_bytes does.0, ap ready_bytes does.1) }
-    go Kept counted does =
+    go part_kept counted does =
         record { kept = omega (arith, does.3.0); bytes = omega (arith, counted, does.3.0, ap wholes_bytes does.1, ap ready_bytes does.2, ap runs_bytes takes.unordered.1) }
-    go (WholeMessage whole) counted does =
-        record { kept = omega (arith, does.kept); bytes = omega (arith, counted, does.kept, whole_counted (whole_of whole) old before (length part.payload) taken new after does, ap runs_bytes takes.unordered.1) }
+    go (message_whole whole) counted does =
+        record { kept = omega (arith, does.kept); bytes = omega (arith, counted, does.kept, whole_counted whole old before (length part.payload) taken new after does, ap runs_bytes takes.unordered.1) }
 
 pub unordered_counted : (part : PartModel) (id : ℕ) (old : List RunModel) (before : List MessageContent) (taken : Taken) (new : List RunModel) (after : List MessageContent) → TakesUnordered part (delivered_as id) old before taken new after → (taken.kept_bytes ≤ length part.payload) × (runs_bytes new + ready_bytes after ≡ runs_bytes old + ready_bytes before + taken.kept_bytes)
 unordered_counted part id old before taken new after takes = go takes.outcome (part_counted part old takes.outcome new takes.parts) takes.does
   where
     go : (outcome : Assembled) → PartCounted part old outcome new → UnorderedOutcome part (delivered_as id) before outcome taken after → (taken.kept_bytes ≤ length part.payload) × (runs_bytes new + ready_bytes after ≡ runs_bytes old + ready_bytes before + taken.kept_bytes)
-    go Dropped counted does = (omega (arith, does.1.0), omega (arith, counted, does.1.0, ap ready_bytes does.0))
-    go Kept counted does = (omega (arith, does.1.0), omega (arith, counted, does.1.0, ap ready_bytes does.0))
-    go (WholeMessage whole) counted does = (
+    go part_dropped counted does = (omega (arith, does.1.0), omega (arith, counted, does.1.0, ap ready_bytes does.0))
+    go part_kept counted does = (omega (arith, does.1.0), omega (arith, counted, does.1.0, ap ready_bytes does.0))
+    go (message_whole whole) counted does = (
       omega (arith, does.1),
-      omega (arith, counted, does.1, ap ready_bytes does.0, sum_by-append size_of_message before (delivered_as id (whole_of whole) ∷ []), sum_by-cons size_of_message (delivered_as id (whole_of whole)) []),
+      omega (arith, counted, does.1, ap ready_bytes does.0, sum_by-append size_of_message before (delivered_as id whole ∷ []), sum_by-cons size_of_message (delivered_as id whole) []),
     )
 
 ahead_counted : (part : PartModel) (old : StreamModel) (before : List MessageContent) (taken : Taken) (new : StreamModel) (after : List MessageContent) → TakesAhead part old before taken new after → Counted (length part.payload) old before taken new after

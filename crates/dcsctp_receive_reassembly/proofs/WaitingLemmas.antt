@@ -6,15 +6,16 @@ use Rattle.std.specs.BTreeMap.{BTreeMap, is_at, insert_entry, WritesThrough}
 use Rattle.std.specs.declared.cmp.Ordering.{Ordering}
 use Rattle.std.specs.declared.cmp.Ordering.TheVariants.{Less, Equal, Greater}
 use Rattle.std.specs.Map.{lookup, remove_entry}
-use Rattle.std.proofs.lemmas.List.{map-append, take-map, drop-map}
+use Rattle.std.proofs.lemmas.List.{map-append, take-map, drop-map, length-map}
 use Rattle.std.proofs.lemmas.Bool.Decides.{nat_tests}
-use Rattle.dcsctp_machine.specs.transfer.Transfer.{MessageContent}
+use Rattle.dcsctp_machine.specs.transfer.Messages.{MessageContent}
 use Rattle.dcsctp_receive_entries.specs.Entries.{Ascends, count_up_to, Splits}
 use Rattle.dcsctp_receive_entries.proofs.EntryLemmas.{split_from_none, lookup_at, remove_at, set_at, get_put, put_again, count_within, insert_new}
-use Rattle.dcsctp_receive_reassembly.specs.declared.stream.Taken.{Taken}
+use Rattle.dcsctp_machine.specs.declared.arrivals.Taken.{Taken}
 use Rattle.dcsctp_receive_reassembly.specs.declared.stream.Waiting.{Waiting}
-use Rattle.dcsctp_receive_reassembly.specs.Runs.{PartModel, WholeModel}
-use Rattle.dcsctp_receive_reassembly.specs.Streams.{StreamModel, waits_as, is_waiting, is_due, NumberedBelow, NumberedFrom, IsTurn, WaitsAmong, HoldsPlace, TakesOrdered, TakesAhead, TakesWhole}
+use Rattle.dcsctp_machine.specs.transfer.Runs.{PartModel, WholeModel}
+use Rattle.dcsctp_machine.specs.transfer.IncomingStreams.{StreamModel, is_waiting, is_due, NumberedBelow, NumberedFrom, IsTurn, WaitsAmong, TakesOrdered, TakesAhead, TakesWhole}
+use Rattle.dcsctp_receive_reassembly.specs.Streams.{waits_as, HoldsPlace}
 
 -- ---- the first message that waits
 
@@ -81,6 +82,7 @@ from_at number (suc i) (entry ∷ entries) behind = from_at number i entries beh
 turn_at : (number : ℕ) (entries : List (ℕ × Waiting)) → Splits (count_up_to number entries) number entries → IsTurn (count_up_to number entries) number (map waits_as entries)
 turn_at number entries splits =
     record {
+      within = omega (arith, splits.within, length-map entries waits_as);
       before = λ above. below_at number (count_up_to number entries - 1) entries (λ e is. splits.before (count_up_to number entries - 1) e (omega arith) is);
       behind = from_at number (count_up_to number entries) entries (λ e is. splits.behind (count_up_to number entries) e (omega arith) is);
     }

@@ -5,13 +5,14 @@ use Rattle.std.proofs.lemmas.List.{append_assoc}
 use Rattle.std.proofs.lemmas.List.Sums.{sum_by-cons}
 use Rattle.std.proofs.lemmas.Bool.Decides.{nat_tests}
 use Rattle.dcsctp_receive_reassembly.specs.declared.reassembly_queue.Deferred.{Deferred}
-use Rattle.dcsctp_receive_reassembly.specs.Reassembly.{IncomingModel}
-use Rattle.dcsctp_receive_reassembly.specs.Queue.{WaitingModel, waiting_of, waiting_bytes, Works, WorksAll}
+use Rattle.dcsctp_machine.specs.transfer.Incoming.{IncomingModel}
+use Rattle.dcsctp_machine.specs.transfer.Reassembly.{WaitingModel, waiting_bytes, Handles, HandlesAll}
+use Rattle.dcsctp_receive_reassembly.specs.Queue.{waiting_of}
 
--- one more is worked
-pub WorksAll-more : (done : List WaitingModel) (action : WaitingModel) (old between new : IncomingModel) → WorksAll done old between → Works action between new → WorksAll (done ++ action ∷ []) old new
-WorksAll-more [] action old between new works last = (new, subst (λ (start : IncomingModel). Works action start new) works last, refl)
-WorksAll-more (first ∷ done) action old between new works last = (works.0, works.1, WorksAll-more done action works.0 between new works.2 last)
+-- One more is handled.
+pub HandlesAll-more : (done : List WaitingModel) (action : WaitingModel) (old between new : IncomingModel) → HandlesAll done old between → Handles action between new → HandlesAll (done ++ action ∷ []) old new
+HandlesAll-more [] action old between new works last = (new, subst (λ (start : IncomingModel). Handles action start new) works last, refl)
+HandlesAll-more (first ∷ done) action old between new works last = (works.0, works.1, HandlesAll-more done action works.0 between new works.2 last)
 
 pub above_from : (count : ℕ) → (count == 0) ≡ false → 0 < count
 above_from count is = grind (arith, nat_tests)

@@ -1,10 +1,8 @@
 pub mod Held
 pub mod NamedFields
 pub mod NamedStreams
-pub mod Numbers
 pub mod Queue
 pub mod QueueFields
-pub mod QueuedBytes
 pub mod Reassembly
 pub mod Runs
 pub mod Skipping

@@ -1,14 +1,9 @@
 -- Streams that are named: their numbers in ascending order, for a binary search, or as bits of a table.
 use Rattle.std.specs.Prelude.{◌==◌, ℕ, ◌/◌, ◌%◌, Bool, List, get_or}
-use Rattle.std.specs.List.{list_any}
 use Rattle.std.specs.Int.{bit_at}
 use Rattle.std.specs.Ordering.{nat_cmp}
 use Rattle.std.specs.List.Sorted.{IsSorted, IsPermutation}
 use Rattle.dcsctp_receive_reassembly.specs.declared.named_table.NamedTable.{NamedTable}
-
--- Does the list name the number?
-abbrev pub is_named : List ℕ → ℕ → Bool
-is_named numbers number = list_any (λ named. named == number) numbers
 
 -- Is the bit of the number set? Each word has the bits of 64 numbers.
 abbrev pub marks : NamedTable → ℕ → Bool

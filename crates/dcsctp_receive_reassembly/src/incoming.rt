@@ -5,29 +5,19 @@ ghost use Rattle.std.specs.Prelude.{◌≡◌, ℕ, ◌+◌, ◌^◌, ◌<◌, m
 ghost use Rattle.std.specs.BTreeMap.{get};
 ghost use Rattle.std.specs.Ordering.{nat_cmp};
 ghost use Rattle.dcsctp_receive_reassembly.specs.Held.{capped};
-ghost use Rattle.dcsctp_receive_reassembly.specs.QueuedBytes.{ready_bytes, streams_bytes};
-ghost use Rattle.dcsctp_machine.specs.transfer.Transfer.{message_content};
-ghost use Rattle.dcsctp_receive_reassembly.specs.Streams.{chunk_of, TakesOnStream};
-ghost use Rattle.dcsctp_receive_reassembly.specs.Reassembly.{
-  incoming_of,
-  entry_of,
-  stream_on,
-  Balances,
-  nothing,
-  received_more,
-  KeepsStreams,
-  SameIncoming,
-  TakesUnorderedData,
-  TakesStreamData,
-  TakesChunk,
-  TakesData,
-};
+ghost use Rattle.dcsctp_machine.specs.transfer.IncomingStreams.{ready_bytes, streams_bytes};
+ghost use Rattle.dcsctp_machine.specs.transfer.Messages.{message_content};
+ghost use Rattle.dcsctp_receive_reassembly.specs.Streams.{chunk_of};
+ghost use Rattle.dcsctp_machine.specs.transfer.IncomingStreams.{TakesOnStream};
+ghost use Rattle.dcsctp_receive_reassembly.specs.Reassembly.{incoming_of, entry_of, Balances};
+ghost use Rattle.dcsctp_machine.specs.transfer.Incoming.{stream_on, nothing, received_more, KeepsStreams, SameIncoming, TakesUnorderedData, TakesStreamData, TakesChunk, TakesData};
 
-use crate::arrivals::{Data, Numbering};
+use crate::arrivals::Data;
 use crate::numbers::number_near;
 use crate::runs::Run;
-use crate::stream::{FIRST_NUMBER, Stream, Taken, part_of_data, take_unordered};
+use crate::stream::{FIRST_NUMBER, Stream, part_of_data, take_unordered};
 use dcsctp_api::{Message, StreamId};
+use dcsctp_machine::{Numbering, SkippedTo, Taken};
 use std::alloc::{AllocError, Global};
 use std::collections::{BTreeMap, VecDeque};
 

@@ -25,32 +25,9 @@ ghost use Rattle.std.specs.Option.{option_map};
 ghost use Rattle.std.specs.VecDeque.{deque_capacity};
 ghost use Rattle.std.specs.BTreeMap.{IsOrdered, get, is_at};
 ghost use Rattle.std.specs.Ordering.{nat_cmp};
-ghost use Rattle.dcsctp_receive_entries.specs.Entries.{count_up_to, entry_before};
-ghost use Rattle.dcsctp_receive_reassembly.specs.Runs.{
-  PartModel,
-  run_of,
-  part_of,
-  whole_of,
-  whole_run,
-  lent_run,
-  follows,
-  precedes,
-  following,
-  run_behind,
-  single_run,
-  merged,
-  is_whole,
-  joined_bytes,
-  with_part,
-  without_runs,
-  holds_some,
-  is_held_before,
-  BeginsAt,
-  BeginsIf,
-  HasRoom,
-  IsOfMessage,
-  AddsPart,
-};
+ghost use Rattle.dcsctp_receive_entries.specs.Entries.{count_up_to};
+ghost use Rattle.dcsctp_machine.specs.transfer.Runs.{entry_before, PartModel, whole_run, follows, precedes, following, run_behind, single_run, merged, is_whole, joined_bytes, with_part, without_runs, holds_some, is_held_before, AddsPart};
+ghost use Rattle.dcsctp_receive_reassembly.specs.Runs.{assembled_of, run_of, part_of, whole_of, lent_run, BeginsAt, BeginsIf, HasRoom, IsOfMessage};
 
 use crate::runs::{Assembled, Part, Run, Whole, holds, run_up_to, size_of_run};
 use dcsctp_receive_entries::{entry_behind, put_entry};
@@ -384,7 +361,7 @@ pub fn add_part(
     runs: &mut BTreeMap<u128, Run>,
     part: Part,
 ) -> Result<Assembled, AllocError>
-    ensures ok { IfOk result (λ outcome. AddsPart (part_of part) (map run_of runs.old.entries) outcome (map run_of runs.new.entries)) }
+    ensures ok { IfOk result (λ outcome. AddsPart (part_of part) (map run_of runs.old.entries) (assembled_of outcome) (map run_of runs.new.entries)) }
     ensures number { IfOk result (λ outcome. IsOfMessage part.number outcome) }
     ensures err { OnErr result (map run_of runs.new.entries ≡ map run_of runs.old.entries) }
 {

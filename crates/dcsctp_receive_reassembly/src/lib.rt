@@ -13,5 +13,6 @@ mod runs;
 mod skipping;
 mod stream;
 
-pub use arrivals::{Data, Numbering, SkippedTo};
+pub use arrivals::Data;
+pub use dcsctp_machine::{Numbering, SkippedTo};
 pub use reassembly_queue::ReassemblyQueue;

@@ -3,7 +3,7 @@
 ghost use Rattle.std.specs.Prelude.{◌≡◌, IfOk};
 ghost use Rattle.dcsctp_machine.specs.Ids.{stream_numbers};
 ghost use Rattle.dcsctp_receive_reassembly.specs.NamedStreams.{IsSortedFrom};
-ghost use Rattle.dcsctp_receive_reassembly.specs.Queue.{names_stream};
+ghost use Rattle.dcsctp_machine.specs.transfer.Reassembly.{names_stream};
 
 use dcsctp_api::StreamId;
 use std::alloc::{AllocError, Global};

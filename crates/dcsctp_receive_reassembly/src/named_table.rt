@@ -3,7 +3,8 @@
 
 ghost use Rattle.std.specs.Prelude.{◌≡◌, ◌==◌, ◌||◌, ℕ, false};
 ghost use Rattle.dcsctp_machine.specs.Ids.{stream_numbers};
-ghost use Rattle.dcsctp_receive_reassembly.specs.NamedStreams.{is_named, marks};
+ghost use Rattle.dcsctp_machine.specs.transfer.Incoming.{is_named};
+ghost use Rattle.dcsctp_receive_reassembly.specs.NamedStreams.{marks};
 
 use crate::runs::Numbers;
 use dcsctp_api::StreamId;

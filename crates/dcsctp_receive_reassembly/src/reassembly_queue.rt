@@ -5,23 +5,19 @@
 ghost use Rattle.std.specs.Prelude.{◌≡◌, ◌==◌, ◌+◌, ◌≤◌, true, false, map, length, [], IsOk, OnOk, OnErr, IsSome};
 ghost use Rattle.std.specs.List.{list_any, sum_by};
 ghost use Rattle.dcsctp_machine.specs.Ids.{stream_numbers};
-ghost use Rattle.dcsctp_receive_reassembly.specs.Reassembly.{incoming_of, held_bytes, SameIncoming, TakesData};
-ghost use Rattle.dcsctp_receive_reassembly.specs.Queue.{
-  names_stream,
-  waiting_of,
-  waiting_bytes,
-  Works,
-  WorksAll,
-  WorksFront,
-};
-ghost use Rattle.dcsctp_machine.specs.transfer.Transfer.{message_content};
+ghost use Rattle.dcsctp_receive_reassembly.specs.Reassembly.{incoming_of};
+ghost use Rattle.dcsctp_machine.specs.transfer.Incoming.{held_bytes, SameIncoming, TakesData};
+ghost use Rattle.dcsctp_machine.specs.transfer.Reassembly.{names_stream, waiting_bytes, Handles, HandlesAll, HandlesFront};
+ghost use Rattle.dcsctp_receive_reassembly.specs.Queue.{waiting_of};
+ghost use Rattle.dcsctp_machine.specs.transfer.Messages.{message_content};
 ghost use Rattle.dcsctp_receive_reassembly.specs.Streams.{chunk_of};
 
-use crate::arrivals::{Data, SkippedTo};
+use crate::arrivals::Data;
 use crate::incoming::Incoming;
 use crate::named::NamedStreams;
 use crate::numbers::is_tsn_beyond;
 use dcsctp_api::{Message, StreamId};
+use dcsctp_machine::SkippedTo;
 use std::alloc::{AllocError, Global};
 use std::collections::VecDeque;
 use std::fmt;
@@ -53,10 +49,11 @@ pub struct ReassemblyQueue {
 
 impl Model for ReassemblyQueue {
     ghost use Rattle.std.specs.Option.{option_map};
-    ghost use Rattle.dcsctp_receive_reassembly.specs.Queue.{QueueModel, deferral_of};
+    ghost use Rattle.dcsctp_machine.specs.transfer.Reassembly.{ReassemblyState};
+    ghost use Rattle.dcsctp_receive_reassembly.specs.Queue.{deferral_of};
     ghost use Rattle.dcsctp_receive_reassembly.specs.Reassembly.{incoming_of};
 
-    ghost Value = { QueueModel };
+    ghost Value = { ReassemblyState };
 
     ghost use Rattle.dcsctp_receive_reassembly.specs.QueueFields.{IsCounted};
 
@@ -82,33 +79,12 @@ impl fmt::Debug for ReassemblyQueue {
 
 impl ReassemblyQueue {
     ghost use Rattle.std.specs.Prelude.{◌*◌, nat_le, ◌∷◌, IfSome, IfNone};
-    ghost use Rattle.dcsctp_receive_reassembly.specs.Queue.{
-      new_queue,
-      reassembly_state,
-      queued_bytes,
-      can_count,
-      is_deferred,
-      with_deferred,
-      with_waiting,
-      Takes,
-      Forwards,
-      skipping,
-      is_forward_deferred,
-      SameQueue,
-      entered,
-      Leaves,
-      StaysDeferred,
-    };
+    ghost use Rattle.dcsctp_machine.specs.transfer.Reassembly.{new_reassembly, is_above_watermark, with_ready, queued_bytes, remaining_bytes, can_count, is_deferred, with_deferred, AddsData, SkipsData, with_deferred_forward, is_forward_deferred, deferring, Leaves, StaysDeferred};
+    ghost use Rattle.dcsctp_receive_reassembly.specs.Queue.{SameQueue};
 
     /// Nothing was received yet, and at most `max_size` bytes are kept. Allocates nothing.
     pub fn new(alloc: Global, max_size: usize) -> ReassemblyQueue
-        ensures whole { result ≡ new_queue max_size }
-        ensures shown { reassembly_state result ≡ record {
-          messages = [];
-          messages_received = 0;
-          window = max_size;
-          remaining_bytes = max_size;
-        } }
+        ensures { result ≡ new_reassembly max_size }
     {
         ReassemblyQueue {
             incoming: Incoming::new(alloc),
@@ -120,7 +96,7 @@ impl ReassemblyQueue {
     /// Takes the message that became ready first; none if none is ready. Allocates nothing.
     pub fn get_next_message(&mut self) -> Option<Message>
         ensures some { IfSome result (λ message. self.old.incoming.ready ≡ message_content message ∷ self.new.incoming.ready) }
-        ensures left { IfSome result (λ _. self.new ≡ record self.old { incoming = record self.old.incoming { ready = self.new.incoming.ready } }) }
+        ensures left { IfSome result (λ _. self.new ≡ with_ready self.new.incoming.ready self.old) }
         ensures none { IfNone result ((self.old.incoming.ready ≡ []) × (self.new ≡ self.old)) }
     {
         self.incoming.next_message()
@@ -128,14 +104,14 @@ impl ReassemblyQueue {
 
     /// How many messages are ready to be taken.
     pub fn messages_ready_count(&self) -> usize
-        ensures { result ≡ length (reassembly_state self.now).messages }
+        ensures { result ≡ length self.now.incoming.ready }
     {
         self.incoming.ready.len()
     }
 
     /// How many messages became ready so far. It stops at 2^64 - 1.
     pub fn rx_messages_count(&self) -> u64
-        ensures { result ≡ (reassembly_state self.now).messages_received }
+        ensures { result ≡ self.now.incoming.messages_received }
     {
         self.incoming.messages_received
     }
@@ -143,7 +119,7 @@ impl ReassemblyQueue {
     /// How many more bytes can be kept: the receive window that is announced to the peer (RFC 9260, section
     /// 6.2).
     pub fn remaining_bytes(&self) -> usize
-        ensures left { result ≡ (reassembly_state self.now).remaining_bytes }
+        ensures left { result ≡ remaining_bytes self.now }
         ensures within { result ≤ self.now.max_size }
     {
         self.max_size.saturating_sub(self.incoming.queued_bytes)
@@ -158,7 +134,7 @@ impl ReassemblyQueue {
 
     /// Are nine tenths of the receive window in use, or more?
     pub fn is_above_watermark(&self) -> bool
-        ensures { result ≡ nat_le (9 * self.now.max_size) (10 * queued_bytes self.now) }
+        ensures { result ≡ is_above_watermark self.now }
     {
         9 * (self.max_size as u128) <= 10 * (self.incoming.queued_bytes as u128)
     }
@@ -189,9 +165,8 @@ impl ReassemblyQueue {
     /// Data with which the queue would have 2^64 bytes is dropped. If an allocation fails, the data is
     /// dropped, and nothing else has changed.
     pub fn add(&mut self, tsn: u32, chunk: Data) -> Result<(), AllocError>
-        ensures deferred { can_count (length chunk.payload.items) self.old ≡ true → is_deferred tsn chunk.stream_id.0 self.old.deferral ≡ true → OnOk result (self.new ≡ with_deferred tsn (chunk_of chunk) self.old) }
-        ensures taken { can_count (length chunk.payload.items) self.old ≡ true → is_deferred tsn chunk.stream_id.0 self.old.deferral ≡ false → OnOk result (Takes tsn (chunk_of chunk) self.old self.new) }
-        ensures too_much { can_count (length chunk.payload.items) self.old ≡ false → IsOk result × (self.new ≡ self.old) }
+        ensures ok { OnOk result (AddsData tsn (chunk_of chunk) self.old self.new) }
+        ensures too_much { can_count (length chunk.payload.items) self.old ≡ false → IsOk result }
         ensures err { OnErr result (SameQueue self.old self.new) }
     {
         if !self.can_count(chunk.payload.len()) {
@@ -237,8 +212,7 @@ impl ReassemblyQueue {
         new_cumulative_tsn: u32,
         skipped: &[SkippedTo],
     ) -> Result<(), AllocError>
-        ensures deferred { is_forward_deferred new_cumulative_tsn self.old.deferral ≡ true → OnOk result (self.new ≡ record self.old { deferral = with_waiting (skipping new_cumulative_tsn skipped.now) self.old.deferral }) }
-        ensures worked { is_forward_deferred new_cumulative_tsn self.old.deferral ≡ false → OnOk result (Forwards new_cumulative_tsn skipped.now self.old self.new) }
+        ensures ok { OnOk result (SkipsData new_cumulative_tsn skipped.now self.old self.new) }
         ensures err { OnErr result (SameQueue self.old self.new) }
     {
         if self.is_forward_deferred(new_cumulative_tsn) {
@@ -259,7 +233,7 @@ impl ReassemblyQueue {
 
     // A FORWARD TSN waits for the end of a deferred reset.
     fn defer_forward(&mut self, tsn: u32, skipped: &[SkippedTo]) -> Result<(), AllocError>
-        ensures ok { OnOk result (self.new ≡ record self.old { deferral = with_waiting (skipping tsn skipped.now) self.old.deferral }) }
+        ensures ok { OnOk result (self.new ≡ with_deferred_forward tsn skipped.now self.old) }
         ensures err { OnErr result (self.new ≡ self.old) }
     {
         if let Some(deferral) = &mut self.deferral {
@@ -281,7 +255,7 @@ impl ReassemblyQueue {
         sender_last_assigned_tsn: u32,
         streams: &[StreamId],
     ) -> Result<(), AllocError>
-        ensures ok { OnOk result (self.new ≡ record self.old { deferral = entered sender_last_assigned_tsn (stream_numbers streams.now) self.old.deferral }) }
+        ensures ok { OnOk result (self.new ≡ deferring sender_last_assigned_tsn (stream_numbers streams.now) self.old) }
         ensures err { OnErr result (self.new ≡ self.old) }
     {
         if self.deferral.is_some() {
@@ -348,7 +322,7 @@ fn handle_deferred_data(incoming: &mut Incoming, tsn: u32, chunk: &Data) -> Resu
 // Handles what waited. `Err`: an allocation failed, and nothing has changed.
 fn handle_deferred(incoming: &mut Incoming, action: &Deferred) -> Result<(), AllocError>
     requires { held_bytes (incoming_of incoming.old) + waiting_bytes (waiting_of action.now) ≤ incoming.old.queued_bytes }
-    ensures ok { OnOk result (Works (waiting_of action.now) (incoming_of incoming.old) (incoming_of incoming.new)) }
+    ensures ok { OnOk result (Handles (waiting_of action.now) (incoming_of incoming.old) (incoming_of incoming.new)) }
     ensures worked { OnOk result (incoming.new.queued_bytes + held_bytes (incoming_of incoming.old) + waiting_bytes (waiting_of action.now) ≡ incoming.old.queued_bytes + held_bytes (incoming_of incoming.new)) }
     ensures err { OnErr result (SameIncoming (incoming_of incoming.old) (incoming_of incoming.new)) }
     ensures left { OnErr result (incoming.new.queued_bytes + held_bytes (incoming_of incoming.old) ≡ incoming.old.queued_bytes + held_bytes (incoming_of incoming.new)) }
@@ -366,8 +340,8 @@ fn handle_all_deferred(
     waiting: &mut VecDeque<Deferred>,
 ) -> Result<(), AllocError>
     requires { incoming.old.queued_bytes ≡ held_bytes (incoming_of incoming.old) + sum_by waiting_bytes (map waiting_of waiting.old.items) }
-    ensures ok { OnOk result (WorksAll (map waiting_of waiting.old.items) (incoming_of incoming.old) (incoming_of incoming.new)) }
-    ensures err { OnErr result (WorksFront (map waiting_of waiting.old.items) (incoming_of incoming.old) (incoming_of incoming.new) (map waiting_of waiting.new.items)) }
+    ensures ok { OnOk result (HandlesAll (map waiting_of waiting.old.items) (incoming_of incoming.old) (incoming_of incoming.new)) }
+    ensures err { OnErr result (HandlesFront (map waiting_of waiting.old.items) (incoming_of incoming.old) (incoming_of incoming.new) (map waiting_of waiting.new.items)) }
     ensures bytes { incoming.new.queued_bytes ≡ held_bytes (incoming_of incoming.new) + sum_by waiting_bytes (map waiting_of waiting.new.items) }
     ensures none { OnOk result (map waiting_of waiting.new.items ≡ []) }
 {

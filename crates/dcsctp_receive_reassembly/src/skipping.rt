@@ -7,39 +7,21 @@ ghost use Rattle.std.specs.BTreeMap.{get};
 ghost use Rattle.std.specs.Ordering.{nat_cmp};
 ghost use Rattle.dcsctp_machine.specs.Ids.{stream_numbers};
 ghost use Rattle.dcsctp_receive_reassembly.specs.Held.{capped};
-ghost use Rattle.dcsctp_receive_reassembly.specs.NamedStreams.{is_named};
-ghost use Rattle.dcsctp_receive_reassembly.specs.QueuedBytes.{ready_bytes, stream_bytes, streams_bytes};
-ghost use Rattle.dcsctp_receive_reassembly.specs.Runs.{behind_place};
-ghost use Rattle.dcsctp_machine.specs.transfer.Transfer.{message_content};
-ghost use Rattle.dcsctp_receive_reassembly.specs.Streams.{new_stream, skipped_stream, skipped, skip_deliveries, skip_bytes};
-ghost use Rattle.dcsctp_receive_reassembly.specs.Reassembly.{
-  incoming_of,
-  entry_of,
-  stream_on,
-  Balances,
-  KeepsStreams,
-  SameIncoming,
-};
-ghost use Rattle.dcsctp_receive_reassembly.specs.Skipping.{
-  AllMade,
-  room_for,
-  skipped_on,
-  SkipsOne,
-  SkipsAll,
-  MovesTo,
-  MovesOn,
-  ResetsAll,
-  ResetsEach,
-  ResetsStreams,
-};
+ghost use Rattle.dcsctp_machine.specs.transfer.Incoming.{is_named, stream_on, KeepsStreams, SameIncoming, skipped_on, SkipsOne, SkipsAll, MovesTo, MovesOn, ResetsAll, ResetsEach, ResetsStreams};
+ghost use Rattle.dcsctp_machine.specs.transfer.IncomingStreams.{ready_bytes, stream_bytes, streams_bytes};
+ghost use Rattle.dcsctp_machine.specs.transfer.Runs.{behind_place};
+ghost use Rattle.dcsctp_machine.specs.transfer.Messages.{message_content};
+ghost use Rattle.dcsctp_machine.specs.transfer.IncomingStreams.{new_stream, skipped_stream, skipped, skip_deliveries, skip_bytes};
+ghost use Rattle.dcsctp_receive_reassembly.specs.Reassembly.{incoming_of, entry_of, Balances};
+ghost use Rattle.dcsctp_receive_reassembly.specs.Skipping.{AllMade, room_for};
 
-use crate::arrivals::SkippedTo;
 use crate::incoming::{Incoming, make_stream};
 use crate::named_table::NamedTable;
 use crate::numbers::number_near;
 use crate::runs::{drop_messages, drop_places, size_of_runs};
 use crate::stream::Stream;
 use dcsctp_api::{Message, StreamId};
+use dcsctp_machine::SkippedTo;
 use std::alloc::{AllocError, Global};
 use std::collections::{BTreeMap, VecDeque};
 

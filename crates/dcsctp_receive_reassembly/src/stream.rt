@@ -6,17 +6,20 @@ ghost use Rattle.std.specs.VecDeque.{deque_len, deque_capacity};
 ghost use Rattle.std.specs.BTreeMap.{btree_map_len, get};
 ghost use Rattle.std.specs.Ordering.{nat_cmp};
 ghost use Rattle.dcsctp_receive_reassembly.specs.Runs.{run_of, part_of, whole_of};
-ghost use Rattle.dcsctp_receive_reassembly.specs.Held.{capped, runs_bytes, wholes_bytes};
-ghost use Rattle.dcsctp_receive_reassembly.specs.QueuedBytes.{stream_bytes};
-ghost use Rattle.dcsctp_machine.specs.transfer.Transfer.{MessageContent, message_content};
+ghost use Rattle.dcsctp_receive_reassembly.specs.Held.{capped};
+ghost use Rattle.dcsctp_machine.specs.transfer.Runs.{runs_bytes, wholes_bytes};
+ghost use Rattle.dcsctp_machine.specs.transfer.IncomingStreams.{stream_bytes};
+ghost use Rattle.dcsctp_machine.specs.transfer.Messages.{MessageContent, message_content};
 ghost use Rattle.dcsctp_receive_reassembly.specs.declared.stream.Waiting.{Waiting};
-ghost use Rattle.dcsctp_receive_reassembly.specs.Streams.{stream_of, waits_as, is_waiting, is_due, HoldsPlace, delivered_from, deliveries_from, delivered_as, next_after, ready_with, NothingTaken, WaitsAmong, TakesOrdered, TakesAhead, TakesUnordered, next_past, runs_up_to, skipped, skipped_in_order, skipped_out_of_order, skip_deliveries, skip_bytes, chunk_of, data_part, TakesOnStream, new_stream};
+ghost use Rattle.dcsctp_receive_reassembly.specs.Streams.{stream_of, waits_as, HoldsPlace, chunk_of};
+ghost use Rattle.dcsctp_machine.specs.transfer.IncomingStreams.{is_waiting, is_due, delivered_from, deliveries_from, delivered_as, next_after, ready_with, NothingTaken, WaitsAmong, TakesOrdered, TakesAhead, TakesUnordered, next_past, runs_up_to, skipped, skipped_in_order, skipped_out_of_order, skip_deliveries, skip_bytes, data_part, TakesOnStream, new_stream};
 
-use crate::arrivals::{Data, Numbering, SkippedTo};
+use crate::arrivals::Data;
 use crate::joining::add_part;
 use crate::numbers::{fragment_place, number_near, short_number_from, short_number_near};
 use crate::runs::{Assembled, Part, Run, UpTo, Whole, drop_messages, size_of_runs};
 use dcsctp_api::{Message, PpId, StreamId};
+use dcsctp_machine::{Numbering, SkippedTo, Taken};
 use std::alloc::{AllocError, Global};
 use std::collections::{BTreeMap, VecDeque};
 
@@ -46,16 +49,6 @@ pub struct Stream {
 pub struct Waiting {
     pub ppid: PpId,
     pub payload: Vec<u8>,
-}
-
-/// What became of data that was received.
-#[derive(Clone, Copy)]
-pub struct Taken {
-    /// How many of its bytes are kept.
-    pub kept_bytes: usize,
-
-    /// How many messages became ready.
-    pub ready: usize,
 }
 
 // Nothing was taken.

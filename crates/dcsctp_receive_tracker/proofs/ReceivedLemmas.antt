@@ -3,7 +3,7 @@ use Rattle.std.proofs.Common.{◌≡◌, ◌==◌, ℕ, zero, suc, ◌+◌, ◌<
 use Rattle.std.specs.Prelude.{slice_get}
 use Rattle.std.proofs.lemmas.Bool.Decides.{nat_tests}
 use Rattle.std.proofs.lemmas.List.{take-append-drop}
-use Rattle.dcsctp_receive_entries.specs.Entries.{entry_before}
+use Rattle.dcsctp_machine.specs.transfer.Runs.{entry_before}
 use Rattle.dcsctp_receive_entries.proofs.EntryLemmas.{entry_within}
 use Rattle.dcsctp_machine.specs.declared.tracking.TsnRange.{TsnRange}
 use Rattle.dcsctp_receive_tracker.specs.Received.{IsSpaced, Adds, Advances, Receives}

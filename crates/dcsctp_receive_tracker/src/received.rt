@@ -16,7 +16,8 @@ ghost use Rattle.std.specs.Map.{set_value};
 ghost use Rattle.std.specs.Map.Iter.{deref_pair};
 ghost use Rattle.std.specs.Ordering.{nat_cmp};
 ghost use Rattle.std.specs.BTreeMap.{IsOrdered, get, insert_entry, is_at};
-ghost use Rattle.dcsctp_receive_entries.specs.Entries.{count_up_to, entry_before};
+ghost use Rattle.dcsctp_receive_entries.specs.Entries.{count_up_to};
+ghost use Rattle.dcsctp_machine.specs.transfer.Runs.{entry_before};
 ghost use Rattle.dcsctp_receive_tracker.specs.Received.{range_of, ranges_of, IsSpaced, Joins, Adds, Advances, Receives};
 ghost use Rattle.dcsctp_machine.specs.transfer.Ranges.{IsBeyond, is_in};
 

@@ -14,7 +14,7 @@ use Rattle.dcsctp_send_outstanding.specs.declared.totals.Totals.{Totals}
 use Rattle.dcsctp_send_outstanding.specs.Progress.{is_in_flight, is_marked, is_unacknowledged, changed}
 use Rattle.dcsctp_send_outstanding.specs.Items.{counted, size_of, in_flight_size, unacknowledged_size, unacknowledged_count, never_acknowledged_count, marked_count, marked_items, changed_item, changed_between, cursor_after}
 use Rattle.dcsctp_send_outstanding.specs.NamedPlaces.{AreSettled}
-use Rattle.dcsctp_send_outstanding.specs.Totals.{total_with, total_without, HasOne, HasRoom}
+use Rattle.dcsctp_send_outstanding.specs.Totals.{total_with, total_without, HasRoom}
 use Rattle.dcsctp_send_outstanding.specs.Outstanding.{OutstandingModel, IsSummed, NoneMarkedBefore, NoneMarkedBetween, IsKept, reported}
 
 -- a sum of terms that have a bound
@@ -199,18 +199,6 @@ kept_removed header cursor item items totals named size less named' kept sized i
       });
       scanned = λ k x below is. kept.scanned (suc k) x (omega arith) is;
       settled = settled;
-    }
-
--- the first of some items
-pub has_first : (header cursor : ℕ) (item : Item) (items : List Item) (totals : Totals) (named : NamedPlaces) → IsKept header cursor (item ∷ items) totals named → HasOne item.progress (size_of header item) totals
-has_first header cursor item items totals named kept =
-    let sums = kept.sums in
-    record {
-      in_flight_bytes = let e = sum_by-cons (in_flight_size header) item items in let was = sums.in_flight in omega arith;
-      unacknowledged_bytes = let e = sum_by-cons (unacknowledged_size header) item items in let was = sums.bytes in omega arith;
-      unacknowledged_items = let e = sum_by-cons unacknowledged_count item items in let was = sums.count in omega arith;
-      never_acknowledged_items = let e = sum_by-cons never_acknowledged_count item items in let was = sums.never in omega arith;
-      marked_items = let e = sum_by-cons marked_count item items in let was = sums.marked in omega arith;
     }
 
 pub le_or_lt : (a b : ℕ) → (a ≤ b) ⊎ (b < a)

@@ -9,14 +9,6 @@ use Rattle.dcsctp_send_outstanding.specs.Messages.{AtPlace, StartsMessage, EndsM
 abbrev pub AllBear : ℕ → ℕ → ℕ → List Item → Type 0
 AllBear message_id start end items = (k : ℕ) (item : Item) → start ≤ k → k < end → slice_get items k ≡ Some item → item.fragment.message_id ≡ message_id
 
--- one item
-pub bear_one : (message_id place : ℕ) (items : List Item) (item : Item) → slice_get items place ≡ Some item → item.fragment.message_id ≡ message_id → AllBear message_id place (place + 1) items
-bear_one message_id place items item at is k other from to at_k =
-    let here : k ≡ place = omega arith in
-    let both : slice_get items place ≡ Some other = ap (slice_get items) (sym here) ∙ at_k in
-    let same : item ≡ other = cc in
-    ap (λ (x : Item). x.fragment.message_id) (sym same) ∙ is
-
 -- rows that meet
 pub bear_both : (message_id start between end : ℕ) (items : List Item) → AllBear message_id start between items → AllBear message_id between end items → AllBear message_id start end items
 bear_both message_id start between end items first later k item from to at = grind (arith, first k item from, later k item)

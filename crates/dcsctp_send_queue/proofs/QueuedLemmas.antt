@@ -1,14 +1,13 @@
 -- What a socket shows of a stream that is set, and of the others.
 use Rattle.std.proofs.Common.{◌≡◌, ◌≢◌, ◌==◌, nat_lt, ℕ, zero, suc, ◌+◌, ◌<◌, Bool, true, false, if◌then◌else◌, Option, None, Some, is_some, Err, List, [], ◌∷◌, ◌++◌, length, filter, map, refl, sym, ap, ◌∙◌, arith}
 use Rattle.std.proofs.lemmas.Bool.Decides.{nat_tests}
-use Rattle.dcsctp_machine.specs.transfer.Transfer.{QueuedStream, may_begin, has_data, queue_added, stream_among, with_queued, queued_stream, queue_with}
+use Rattle.dcsctp_machine.specs.transfer.Transfer.{QueuedStream, may_begin, has_data, queue_added, stream_among, with_queued, queued_stream, queue_with, SendQueueState, more_bytes}
 use Rattle.dcsctp_send_queue.specs.declared.backlog.Backlog.{Backlog}
 use Rattle.dcsctp_send_streams.specs.declared.message.UnderWay.{UnderWay}
 use Rattle.dcsctp_send_streams.specs.Waiting.{Waiting, Stream, unused, with_message}
 use Rattle.dcsctp_send_streams.specs.Ranking.{stream_at, turn_if, turn_of, IsFound, IsBelow, IsAscending}
 use Rattle.dcsctp_send_queue.specs.Backlog.{changed, with_stream, is_used, used, found_in, stream_of, queued_of, is_paused, sent_of, is_ready, queue_state}
 use Rattle.dcsctp_machine.specs.transfer.Transfer as shown
-use Rattle.dcsctp_machine.specs.transfer.Transfer.{SendQueueState, more_bytes}
 use Rattle.std.specs.List.{list_any}
 use Rattle.dcsctp_send_streams.specs.declared.stream.Pause.{Pause}
 use Rattle.dcsctp_send_streams.specs.declared.stream.Pause.TheVariants.{Open, Pausing, HandedOut}

@@ -1,5 +1,5 @@
 -- Lemmas on which messages are given up.
-use Rattle.std.proofs.Common.{◌≡◌, ◌∙◌, ◌⊎◌, inl, inr, Result, Ok, Err, OnOk, OnErr, ℕ, zero, suc, ◌+◌, ◌<◌, ◌≤◌, ◌&&◌, Bool, true, false, Some, List, [], ◌∷◌, ◌++◌, length, refl, ap, sym, subst, arith}
+use Rattle.std.proofs.Common.{◌≡◌, ◌∙◌, ◌⊎◌, inl, inr, Ok, Err, ℕ, zero, suc, ◌+◌, ◌<◌, ◌≤◌, ◌&&◌, Bool, true, false, Some, List, [], ◌∷◌, ◌++◌, length, refl, ap, sym, subst, arith}
 use Rattle.std.specs.List.{slice_get}
 use Rattle.std.specs.declared.alloc.AllocError.{AllocError}
 use Rattle.std.proofs.lemmas.Option.{slice_get_within}
@@ -14,7 +14,7 @@ use Rattle.dcsctp_send_outstanding.specs.Messages.{EndsDropped}
 use Rattle.dcsctp_send_outstanding.proofs.ItemsLemmas.{le_or_lt, slice_get_pushed}
 use Rattle.dcsctp_send_retransmission.specs.Queue.{QueueModel, MayGrow, GivesUp}
 use Rattle.dcsctp_send_retransmission.specs.States.{Stage, is_due, Closes, GivesUpAt, Steps, none, more}
-use Rattle.dcsctp_send_retransmission.specs.GivingUp.{NoneAwaitedBefore, NoneDue, GivesUpFirst, StopsGivingUp, GivesUpIf, RefusesAt}
+use Rattle.dcsctp_send_retransmission.specs.GivingUp.{NoneAwaitedBefore, NoneDue, GivesUpFirst, StopsGivingUp, GivesUpIf}
 use Rattle.dcsctp_send_retransmission.proofs.QueueLemmas.{gives_up_grows}
 
 -- ---- items that aren't awaited
@@ -95,10 +95,6 @@ gives_up_at now place old new up =
       to = up.message.1.to;
       is = ap (λ (s : Stage). s.queue) up.is;
     }
-
-pub gives_up_if : {A : Type 0} (r : Result A AllocError) (now place : ℕ) (old new : Stage) → OnOk r (GivesUpAt now place old new) → OnErr r (RefusesAt place old new) → GivesUpIf now place old new true r
-gives_up_if (Ok done) now place old new ok err = ok
-gives_up_if (Err error) now place old new ok err = err
 
 -- no item is lost
 pub if_grows : {A : Type 0} (done : A) (now place : ℕ) (old new : Stage) (due : Bool) → GivesUpIf now place old new due (Ok done) → length old.queue.outstanding.items ≤ length new.queue.outstanding.items
@@ -191,12 +187,3 @@ scanned_to now place initial at item scans settled here awaited k is =
           ]
           | inr behind ↦ let e : true ≡ false = sym awaited ∙ before place item behind here in absurd (cc)
         ]
-
--- all were looked at
-pub scanned_all : (now place : ℕ) (initial at : Stage) → Scans now place initial at → length initial.queue.outstanding.items ≤ place → NoneDue now at.queue
-scanned_all now place initial at scans past k is =
-    let due : true ≡ false = sym is.due ∙ not_due now at.queue.partial_reliability is.item (elim (le_or_lt place k) [
-      | inl from ↦ scans.added k is.item (omega arith) is.at
-      | inr earlier ↦ scans.passed k is.item earlier is.at
-    ]) in
-    absurd (cc)

@@ -13,7 +13,7 @@ use Rattle.dcsctp_send_outstanding.specs.declared.progress.Change.{Change}
 use Rattle.dcsctp_send_outstanding.specs.declared.progress.Change.TheVariants.{SendAgain, Abandon}
 use Rattle.dcsctp_send_outstanding.specs.Progress.{is_marked, changed}
 use Rattle.dcsctp_send_outstanding.specs.Items.{counted, marked_count, marked_items, changed_item, changed_between}
-use Rattle.dcsctp_send_outstanding.specs.Outstanding.{OutstandingModel, next_tsn, IsMarkedAt, MayAddEnd, SendsNext}
+use Rattle.dcsctp_send_outstanding.specs.Outstanding.{OutstandingModel, next_tsn, IsMarkedAt, MayAddEnd}
 use Rattle.dcsctp_send_retransmission.specs.Queue.{QueueModel, GivesUp}
 use Rattle.dcsctp_send_retransmission.specs.declared.packet.Packet.{Packet}
 use Rattle.dcsctp_send_retransmission.specs.Sending.{counted_again, Filled, Fills, none as none_packed}
@@ -112,14 +112,6 @@ goes_again (Ok false) place old between new room left fewer next again =
       inr (inr (waits_for_room place between.outstanding new.outstanding room left next again)),
     )
 goes_again (Err error) place old between new room left fewer next again = tt
-
--- a new item doesn't wait to be sent again
-pub next_marked_same : (now max : ℕ) (old new : OutstandingModel) (tsn : ℕ) → SendsNext now max old new tsn → marked_items new.items ≡ marked_items old.items
-next_marked_same now max old new tsn sends =
-    let items = ap (λ (m : OutstandingModel). marked_items m.items) sends.grows in
-    let all = sum_by_push marked_count old.items sends.item in
-    let zero_more = ap (λ (p : Progress). counted (is_marked p.state) 1) sends.is_first.progress in
-    omega arith
 
 -- counting changes no reason
 pub halts_counted : (size room : ℕ) (queue : QueueModel) → HaltsAgain room queue → HaltsAgain room (counted_again size queue)

@@ -164,16 +164,6 @@ lacks_room queue row item entries listed collects full absent =
           ∙ map_none numbers_of (last_listed queue.interleaving stream unordered row) (sym (collects.numbers stream unordered) ∙ none);
     }
 
-collects_none : (interleaving unordered : Bool) → None ≡ option_map numbers_of (if interleaving || not unordered then None else None)
-collects_none true unordered = refl
-collects_none false true = refl
-collects_none false false = refl
-
--- nothing is collected yet
-pub collects_nothing : (queue : QueueModel) (entries : List ((ℕ × Bool) × LastNumbers)) → entries ≡ [] → Collects queue [] entries
-collects_nothing queue entries empty =
-    rw empty (record { numbers = λ stream unordered. collects_none queue.interleaving unordered; fits = omega arith })
-
 -- ---- the entries of the chunk
 
 apart_from_all : {V : Type 0} (stream : ℕ) (unordered : Bool) (entries : List ((ℕ × Bool) × V)) → AllByRecursion (λ key. key_cmp (stream, unordered) key ≡ Less) (keys_of entries) → entry_for stream unordered entries ≡ None

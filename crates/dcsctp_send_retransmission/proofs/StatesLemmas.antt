@@ -51,10 +51,6 @@ pub stops_trans : (now : ℕ) (Step : Stage → Stage → Type 0) (a b c : Stage
 stops_trans now Step a b c first stops =
     record { at = stops.at; steps = steps_trans Step a b stops.at first stops.steps; queue = stops.queue; refused = stops.refused }
 
-pub goes_trans : {A : Type 0} (r : Result A AllocError) (now : ℕ) (Step : Stage → Stage → Type 0) (a b c : Stage) → Steps Step a b → Goes now Step b c r → Goes now Step a c r
-goes_trans (Ok done) now Step a b c first later = steps_trans Step a b c first later
-goes_trans (Err error) now Step a b c first later = stops_trans now Step a b c first later
-
 -- the first item that waits is sent again, where it fits
 pub goes_at : (r : Result Bool AllocError) (now place : ℕ) (Step : Stage → Stage → Type 0) (start : Stage) (old new : QueueModel) (waiting : Backlog) (events : List SocketEvent) (before after : Packet) (next : IsNextMarked place old.outstanding.items)
     → ((m n : Stage) → m.queue ≡ old → SendsMarked now m n → Step m n)

@@ -10,7 +10,7 @@ use Rattle.dcsctp_socket_calls.specs.Parts.{WorksConnect, CallMoved, CallCut, Ac
 use Rattle.dcsctp_socket.specs.SocketView.{Settles, user_view_of}
 use Rattle.dcsctp_machine.specs.declared.ends.AbortReason.TheVariants.{CloseCalled}
 use Rattle.dcsctp_machine.specs.declared.message.SendOptions.{SendOptions}
-use Rattle.dcsctp_machine.specs.transfer.Transfer.{MessageContent}
+use Rattle.dcsctp_machine.specs.transfer.Messages.{MessageContent}
 use Rattle.dcsctp_machine.specs.Endpoint.{Endpoint}
 use Rattle.dcsctp_machine.specs.CallTurns.{Turned}
 use Rattle.dcsctp_machine.specs.turns.MessageOutcomes.{sending_of}

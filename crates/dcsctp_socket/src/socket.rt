@@ -125,7 +125,7 @@ impl<R: Rng + Drop> DcSctpSocket for Socket<R> {
     ghost use Rattle.dcsctp_api.specs.Messages.{Sends, SendsMany, TakesNext};
     ghost use Rattle.dcsctp_api.specs.Resets.{ResetsOwn};
     ghost use Rattle.dcsctp_machine.specs.Ids.{stream_numbers};
-    ghost use Rattle.dcsctp_machine.specs.transfer.Transfer.{message_content};
+    ghost use Rattle.dcsctp_machine.specs.transfer.Messages.{message_content};
     ghost use Rattle.dcsctp_core.specs.View.{Drawn};
     ghost use Rattle.dcsctp_socket.specs.SocketView.{user_view_of};
 
@@ -305,8 +305,8 @@ impl<R: Rng + Drop> DcSctpSocket for Socket<R> {
         self.context.state.socket_state()
     }
 
-    fn options(&self) -> &Options {
-        &self.context.options
+    fn options(&self) -> Options {
+        self.context.options
     }
 
     fn set_max_message_size(&mut self, max_message_size: usize)

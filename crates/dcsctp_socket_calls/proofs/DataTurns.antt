@@ -1,36 +1,21 @@
 -- Behind the turns of data, COOKIE ACK and RE-CONFIG the next chunk follows.
-use Rattle.std.proofs.Common.{◌≡◌, ℕ, Bool, true, false, cond, Option, None, Some, List, [], ◌∷◌, refl, ap, subst, ◌∙◌}
+use Rattle.std.proofs.Common.{◌≡◌, ℕ, Bool, true, false, cond, Option, None, Some, List, [], ◌∷◌, refl, ap, ◌∙◌}
 use Rattle.dcsctp_machine.specs.declared.association.Pair.{Pair}
 use Rattle.dcsctp_machine.specs.declared.association.Held.{Held}
 use Rattle.dcsctp_machine.specs.Event.{Event}
 use Rattle.dcsctp_machine.specs.Packet.{Emission}
 use Rattle.dcsctp_machine.specs.Reconfiguration.{ResetParameter}
+use Rattle.dcsctp_machine.specs.declared.arrivals.SkippedTo.{SkippedTo}
+use Rattle.dcsctp_machine.specs.transfer.Arrivals.{Arrival}
 use Rattle.dcsctp_machine.specs.transfer.Transfer.{Transfer}
 use Rattle.dcsctp_machine.specs.Endpoint.{Endpoint, Core, closed, cookie_wait, cookie_echoed, open_in, held_in}
 use Rattle.dcsctp_machine.specs.Following.{next_chunk}
 use Rattle.dcsctp_machine.specs.Outcome.{Outcome, quiet, sends}
-use Rattle.dcsctp_machine.specs.turns.DataOutcomes.{no_user_data_outcome, ReceiveTurn, DataTurn, ForwardTurn, is_sack_valid, SackWhere, SackBy, SackTurn}
+use Rattle.dcsctp_machine.specs.turns.DataOutcomes.{no_user_data_outcome, ReceiveTurn, DataWhere, DataTurn, ForwardTurn, is_sack_valid, SackWhere, SackBy, SackTurn}
 use Rattle.dcsctp_machine.specs.turns.FlushOutcomes.{Answer, first_ask, packets_allowed, draft_to, flush_answered}
 use Rattle.dcsctp_machine.specs.turns.HandshakeOutcomes.{connected_after, cookie_ack_by, CookieAckAnswers, CookieAckTurn}
 use Rattle.dcsctp_machine.specs.turns.ResetOutcomes.{responses_outcome, responses_by, ResponseAnswers, worked_in, answered_in, resets_worked, told_of, WorksResets, ResetTurn}
 use Rattle.dcsctp_machine.proofs.FlushKeeps.{flush_keeps}
-use Rattle.rand_core.specs.Stream.{Stream}
-use Rattle.dcsctp_core.specs.View.{View}
-use Rattle.dcsctp_core.specs.Handling.{TakesIn, CutIn}
-use Rattle.dcsctp_core_data.specs.Data.{DataAt}
-
--- A part that holds what a chunk says is taken as the chunk.
-part_as : (F : Bool → ℕ → List ℕ → Type 0) {a b : Bool} {s t : ℕ} {p q : List ℕ} → a ≡ b → s ≡ t → p ≡ q → F a s p → F b t q
-part_as F {a} {b} {s} {t} {p} {q} flag tsn payload held =
-    subst (λ (x : Bool). F x t q) flag (subst (λ (x : ℕ). F a x q) tsn (subst (λ (x : List ℕ). F a s x) payload held))
-
-pub part_taken : {R : Type 0} (stream : R → Stream) (old new : View R) {a b : Bool} {s t : ℕ} {p q : List ℕ} → a ≡ b → s ≡ t → p ≡ q
-    → TakesIn stream (DataAt a s p) old new → TakesIn stream (DataAt b t q) old new
-part_taken stream old new flag tsn payload taken = part_as (λ x y z. TakesIn stream (DataAt x y z) old new) flag tsn payload taken
-
-pub part_cut : {R : Type 0} (old : View R) (events : List (Event (List ℕ))) {a b : Bool} {s t : ℕ} {p q : List ℕ} → a ≡ b → s ≡ t → p ≡ q
-    → CutIn (DataAt a s p) old events → CutIn (DataAt b t q) old events
-part_cut old events flag tsn payload cut = part_as (λ x y z. CutIn (DataAt x y z) old events) flag tsn payload cut
 
 -- The next chunk follows.
 abbrev pub GoesOn : Outcome → Type 0
@@ -47,17 +32,20 @@ no_data_goes : (e : Endpoint) (held : Option Held) (tsn : ℕ) → GoesOn (no_us
 no_data_goes e None tsn = refl
 no_data_goes e (Some held) tsn = sent_goes _ e _
 
-received_goes : (e : Endpoint) (transfer : Option Transfer) (immediate : Bool) (tsn : ℕ) (o : Outcome) → ReceiveTurn e transfer immediate tsn o → GoesOn o
-received_goes e None immediate tsn o is = goes_as o _ is refl
-received_goes e (Some transfer) immediate tsn o turn = goes_as o _ turn.2 refl
+received_goes : (e : Endpoint) (transfer : Option Transfer) (arrived : Arrival) (o : Outcome) → ReceiveTurn e transfer arrived o → GoesOn o
+received_goes e None arrived o is = goes_as o _ is refl
+received_goes e (Some transfer) arrived o turn = goes_as o _ turn.2 refl
 
-pub data_goes : (e : Endpoint) (immediate : Bool) (tsn : ℕ) (payload : List ℕ) (o : Outcome) → DataTurn e immediate tsn payload o → GoesOn o
-data_goes e immediate tsn [] o is = goes_as o _ is (no_data_goes e (held_in e.core) tsn)
-data_goes e immediate tsn (byte ∷ bytes) o turn = received_goes e e.below.transfer immediate tsn o turn
+data_where : (e : Endpoint) (arrived : Arrival) (payload : List ℕ) (o : Outcome) → DataWhere e arrived payload o → GoesOn o
+data_where e arrived [] o is = goes_as o _ is (no_data_goes e (held_in e.core) arrived.tsn)
+data_where e arrived (byte ∷ bytes) o turn = received_goes e e.below.transfer arrived o turn
 
-pub forward_goes : (e : Endpoint) (transfer : Option Transfer) (tsn : ℕ) (o : Outcome) → ForwardTurn e transfer tsn o → GoesOn o
-forward_goes e None tsn o is = goes_as o _ is refl
-forward_goes e (Some transfer) tsn o turn = goes_as o _ turn.2 refl
+pub data_goes : (e : Endpoint) (arrived : Arrival) (o : Outcome) → DataTurn e arrived o → GoesOn o
+data_goes e arrived o turn = data_where e arrived arrived.chunk.payload o turn
+
+pub forward_goes : (e : Endpoint) (transfer : Option Transfer) (tsn : ℕ) (entries : List SkippedTo) (o : Outcome) → ForwardTurn e transfer tsn entries o → GoesOn o
+forward_goes e None tsn entries o is = goes_as o _ is refl
+forward_goes e (Some transfer) tsn entries o turn = goes_as o _ turn.2 refl
 
 sack_where : (valid : Bool) (e : Endpoint) (held : Held) (transfer : Transfer) (o : Outcome) → SackWhere valid e held transfer o → GoesOn o
 sack_where false e held transfer o is = goes_as o _ is refl

@@ -292,11 +292,6 @@ abort_cut stream a inputs events many cut =
       adds = adds_one stream a (abort_turned a.endpoint) events cut;
     }
 
--- Nothing follows.
-pub nothing_moves : {R : Type 0} (stream : R → Stream) (a : View R) → counts_many a ≡ false → TurnsMove stream (EndTurns []) a a
-nothing_moves stream a many =
-    record { turns = []; are = subst (λ (m : Bool). TurnsWhere m [] a.endpoint []) (sym many) tt; moves = moves_none stream a }
-
 -- What waits goes out.
 abbrev flushed : Outcome → Turned
 flushed o = turned (act_input flushes) o

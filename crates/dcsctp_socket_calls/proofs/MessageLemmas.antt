@@ -6,7 +6,7 @@ use Rattle.dcsctp_machine.specs.declared.message.SendOptions.{SendOptions}
 use Rattle.dcsctp_machine.specs.Settings.{ports_of}
 use Rattle.dcsctp_machine.specs.Event.{Event}
 use Rattle.dcsctp_machine.specs.Packet.{Emission}
-use Rattle.dcsctp_machine.specs.transfer.Transfer.{MessageContent}
+use Rattle.dcsctp_machine.specs.transfer.Messages.{MessageContent}
 use Rattle.dcsctp_machine.specs.Outcome.{Outcome}
 use Rattle.dcsctp_machine.specs.Turn.{user_sends}
 use Rattle.dcsctp_machine.specs.turns.MessageOutcomes.{Sending, message_refusal, sending_of, refused_from}

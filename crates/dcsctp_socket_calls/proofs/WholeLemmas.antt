@@ -1,5 +1,5 @@
 -- A packet that is worked whole: the turn that stands before its chunks, they, and its end.
-use Rattle.std.proofs.Common.{◌≡◌, ℕ, Bool, true, false, List, [], ◌∷◌, ◌++◌, refl, sym, ap, subst, ◌∙◌, inl, inr, Result, Ok, Err}
+use Rattle.std.proofs.Common.{◌≡◌, ℕ, Bool, true, false, List, [], ◌∷◌, refl, ap, subst, ◌∙◌, inl, inr, Result, Ok, Err}
 use Rattle.rand_core.specs.Stream.{Stream}
 use Rattle.dcsctp_wire.specs.Content.{PacketContent}
 use Rattle.dcsctp_machine.specs.declared.association.Pair.{Pair}
@@ -8,16 +8,14 @@ use Rattle.dcsctp_machine.specs.Settings.{ports_of}
 use Rattle.dcsctp_machine.specs.Event.{Event}
 use Rattle.dcsctp_machine.specs.Packet.{packet_in}
 use Rattle.dcsctp_machine.specs.Endpoint.{Endpoint, Core, closed, cookie_wait, cookie_echoed, open_in, OpenPhase, established, shutdown_pending, shutdown_sent, shutdown_received, shutdown_ack_sent}
-use Rattle.dcsctp_machine.specs.Outcome.{Outcome, still}
+use Rattle.dcsctp_machine.specs.Outcome.{still}
 use Rattle.dcsctp_machine.specs.Turn.{packet_begins, has_data, BeginTurn}
 use Rattle.dcsctp_machine.specs.CallTurns.{Turned, turned, IsTurn, FirstTurns}
-use Rattle.dcsctp_api.specs.Calls.{AddsFront}
 use Rattle.dcsctp_core.specs.declared.context.Context.{Context}
 use Rattle.dcsctp_core.specs.View.{View, Moves, view_of}
 use Rattle.dcsctp_core.proofs.Moving.{moves_one, moves_then}
 use Rattle.dcsctp_core_shutdown.specs.Shutdown.{where_open, repeated_in}
 use Rattle.dcsctp_socket_calls.specs.Parts.{begun_by, begin_turn, ChunksToEnd, ChunksMove, WholeMoves, ChunksCut, WholeCut, WorksChunks, WorksWhole}
-use Rattle.dcsctp_socket_calls.proofs.CallLemmas.{adds_none}
 use Rattle.dcsctp_socket_calls.proofs.ExpiryLemmas.{adds_behind}
 
 -- ---- what stands before the chunks
@@ -82,11 +80,6 @@ worked_whole stream a b c packet first rest =
       are = (begun_is packet a, subst (λ (e : Endpoint). ChunksToEnd e (packet_in packet) rest.turns) first.endpoint rest.are);
       moves = moves_then stream a b c (begun packet a ∷ []) rest.turns (begun_ports packet a) (moves_one stream a b (begun packet a) first) rest.moves;
     }
-
--- Nothing was added in front of the chunks.
-pub whole_cut_first : {R : Type 0} (packet : PacketContent) (a : View R) (events : List (Event (List ℕ))) → events ≡ a.events → WholeCut packet a events
-whole_cut_first packet a events same =
-    record { turns = []; are = tt; adds = subst (λ (es : List (Event (List ℕ))). AddsFront (ports_of a.endpoint.options) [] a.events es) (sym same) (adds_none (ports_of a.endpoint.options) a.events) }
 
 -- Some of the chunks had their turns behind it.
 pub whole_cut_rest : {R : Type 0} (stream : R → Stream) (a b : View R) (packet : PacketContent) (events : List (Event (List ℕ))) → Moves stream a (begin_turn packet a) b → ChunksCut packet b events

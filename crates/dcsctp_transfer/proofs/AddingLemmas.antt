@@ -1,19 +1,16 @@
 -- Lemmas on chunks that go into a packet: their sizes, and their room.
-use Rattle.std.proofs.Common.{◌≡◌, ◌∙◌, Bool, ℕ, zero, suc, ◌+◌, ◌-◌, ◌^◌, ◌<◌, ◌≤◌, Some, List, [], ◌∷◌, ◌++◌, length, drop, get_or, vec_len, append_assoc, length-append, refl, ap, sym, subst, arith}
-use Rattle.std.specs.List.{AllByRecursion, flat_map, slice_get}
+use Rattle.std.proofs.Common.{◌≡◌, ◌∙◌, Bool, ℕ, zero, suc, ◌+◌, ◌-◌, ◌^◌, ◌<◌, ◌≤◌, List, [], ◌∷◌, ◌++◌, length, drop, get_or, append_assoc, length-append, refl, ap, sym, subst, arith}
+use Rattle.std.specs.List.{AllByRecursion, flat_map}
 use Rattle.std.proofs.lemmas.List.{append-nil}
-use Rattle.std.proofs.lemmas.Option.{slice_get_within}
 use Rattle.std.proofs.lemmas.Grind.{flat_map-append}
 use Rattle.dcsctp_wire.specs.Content.{DataContent, IDataContent, ChunkContent, data_chunk, i_data_chunk}
 use Rattle.dcsctp_wire.specs.ReadsBack.{IsByte, FitsChunk}
 use Rattle.dcsctp_wire.specs.Spelling.{chunk_bytes, data_fields, i_data_fields}
 use Rattle.dcsctp_wire.proofs.Lengths.{length-chunk_bytes, length-data_fields, length-i_data_fields}
 use Rattle.dcsctp_wire_build.specs.Building.{Building, bytes_remaining}
-use Rattle.dcsctp_send_streams.specs.declared.data.DataToSend.{DataToSend}
-use Rattle.dcsctp_send_outstanding.specs.declared.item.Item.{Item}
 use Rattle.dcsctp_send_outstanding.specs.Items.{chunk_size}
-use Rattle.dcsctp_send_outstanding.specs.Outstanding.{OutstandingModel, distance_to, FindsPlaces}
-use Rattle.dcsctp_send_retransmission.specs.Sending.{HasFragment, PackedFrom, HandsOut, none as none_packed, more as more_packed}
+use Rattle.dcsctp_send_outstanding.specs.Outstanding.{OutstandingModel}
+use Rattle.dcsctp_send_retransmission.specs.Sending.{PackedFrom, HandsOut, none as none_packed, more as more_packed}
 use Rattle.dcsctp_transfer.specs.Filling.{IsDataChunk}
 use Rattle.dcsctp_transfer.specs.Adding.{HasChunk, HaveChunks, none, more, HasChunkWithin, AddsChunk, AddsChunkOf, AddsChunks, HasRest}
 
@@ -37,27 +34,6 @@ pub short_enough : (packet : Building) (size header len : ℕ) → packet.size �
 short_enough packet size header len small within is = omega arith
 
 -- ---- the chunk of a TSN
-
--- the place that a TSN leads to
-pub place_found : (outstanding : OutstandingModel) (tsn size : ℕ) → FindsPlaces outstanding → (has : HasChunk outstanding tsn size) → distance_to outstanding tsn ≡ has.place
-place_found outstanding tsn size finds has =
-    ap (distance_to outstanding) has.is ∙ finds has.place (slice_get_within outstanding.items has.place has.item has.at)
-
--- the fragment that is found there is that of the chunk
-pub size_found : (outstanding : OutstandingModel) (tsn size : ℕ) (fragment : DataToSend) → FindsPlaces outstanding → HasChunk outstanding tsn size → HasFragment (distance_to outstanding tsn) fragment outstanding.items → size ≡ chunk_size outstanding.header (vec_len fragment.payload)
-size_found outstanding tsn size fragment finds has found =
-    let here : slice_get outstanding.items has.place ≡ Some found.item = subst (λ (k : ℕ). slice_get outstanding.items k ≡ Some found.item) (place_found outstanding tsn size finds has) found.at in
-    let both : Some has.item ≡ Some found.item = sym has.at ∙ here in
-    let same : has.item ≡ found.item = cc in
-    let bears : has.item.fragment ≡ fragment = ap (λ (i : Item). i.fragment) same ∙ found.is in
-    has.size_is ∙ ap (λ (f : DataToSend). chunk_size outstanding.header (vec_len f.payload)) bears
-
--- there is one
-pub never_lost : (outstanding : OutstandingModel) (tsn size : ℕ) → FindsPlaces outstanding → HasChunk outstanding tsn size → length outstanding.items ≤ distance_to outstanding tsn → ⊥
-never_lost outstanding tsn size finds has past =
-    let within = slice_get_within outstanding.items has.place has.item has.at in
-    let place = place_found outstanding tsn size finds has in
-    omega (arith, within, place, past)
 
 -- ---- the chunks of TSNs
 

@@ -5,6 +5,7 @@ use Rattle.std.specs.Int.{w32, to_be_bytes}
 use Rattle.std.proofs.lemmas.List.{take_all}
 use Rattle.dcsctp_wire.specs.Content.{SackContent, sack_chunk}
 use Rattle.dcsctp_wire_build.specs.Building.{Building}
+use Rattle.dcsctp_machine.specs.transfer.Reassembly.{remaining_bytes}
 use Rattle.dcsctp_machine.specs.transfer.Transfer.{Transfer}
 use Rattle.dcsctp_machine.specs.declared.tracking.AckState.{AckState}
 use Rattle.dcsctp_machine.specs.declared.tracking.AckState.TheVariants.{Idle, BecomingDelayed, Delayed, Immediate}
@@ -51,7 +52,7 @@ pub gives_wanted : (old new : Transfer) (tracker asked after : TrackerState) (al
     → asked ≡ acknowledged along tracker
     → after ≡ record asked { duplicates = [] }
     → Says sack asked
-    → sack.a_rwnd ≡ old.reassembly.remaining_bytes % 2 ^ 32
+    → sack.a_rwnd ≡ (remaining_bytes old.reassembly) % 2 ^ 32
     → filled ≡ with_chunk packet (sack_chunk (said_by sack))
     → Acknowledges (is_sack_wanted along old) old packet new filled
 gives_wanted old new tracker asked after along sack packet filled seen new_is due asked_is after_is says window adds =
@@ -59,9 +60,9 @@ gives_wanted old new tracker asked after along sack packet filled seen new_is du
     ap (λ (t : TrackerState). is_acknowledgement_due t || (owes_acknowledgement t && along)) (sym seen) ∙ (due_by tracker.acknowledgement along ∙ due) in
     let idle : asked ≡ all_acknowledged tracker = asked_is ∙ ap (λ (b : Bool). if b then all_acknowledged tracker else tracker) due in
     let left : after ≡ sacked old.tracker = after_is ∙ (ap (λ (t : TrackerState). record t { duplicates = [] }) idle ∙ ap sacked seen) in
-    let said : said_by sack ≡ sack_of old.tracker old.reassembly.remaining_bytes =
-    says_so sack asked old.reassembly.remaining_bytes window says
-    ∙ (ap (λ (t : TrackerState). sack_of t old.reassembly.remaining_bytes) idle ∙ ap (λ (t : TrackerState). sack_of t old.reassembly.remaining_bytes) seen) in
+    let said : said_by sack ≡ sack_of old.tracker (remaining_bytes old.reassembly) =
+    says_so sack asked (remaining_bytes old.reassembly) window says
+    ∙ (ap (λ (t : TrackerState). sack_of t (remaining_bytes old.reassembly)) idle ∙ ap (λ (t : TrackerState). sack_of t (remaining_bytes old.reassembly)) seen) in
     let gives : Acknowledges true old packet new filled =
     (new_is ∙ ap (λ (t : TrackerState). record old { tracker = t }) left, adds ∙ ap (λ (content : SackContent). with_chunk packet (sack_chunk content)) said) in
     subst (λ (b : Bool). Acknowledges b old packet new filled) (sym wanted) gives

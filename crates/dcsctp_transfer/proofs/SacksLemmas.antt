@@ -166,11 +166,11 @@ sack_keeps now cumulative window blocks old new within takes =
 -- what telling a round trip leaves
 pub record Told (old new : Transfer) : Type 0 where
   pub is : new ≡ record old { timeout = new.timeout; tracker = new.tracker }
-  pub tracker : (new.tracker ≡ old.tracker) ⊎ (new.tracker ≡ with_timeout new.timeout.rto old.tracker)
+  pub tracker : ((new.timeout ≡ old.timeout) × (new.tracker ≡ old.tracker)) ⊎ (new.tracker ≡ with_timeout new.timeout.rto old.tracker)
 
 pub told_trip : {A : Type 0} (rtt : Option A) (old new : Transfer) → TellsRoundTrip rtt old new → Told old new
 told_trip None old new h =
-    record { is = h ∙ ap (λ (t : Transfer). record old { timeout = t.timeout; tracker = t.tracker }) (sym h); tracker = inl (ap (λ (t : Transfer). t.tracker) h) }
+    record { is = h ∙ ap (λ (t : Transfer). record old { timeout = t.timeout; tracker = t.tracker }) (sym h); tracker = inl (ap (λ (t : Transfer). t.timeout) h, ap (λ (t : Transfer). t.tracker) h) }
 told_trip (Some rtt) old new h =
     let tracker : new.tracker ≡ with_timeout new.timeout.rto old.tracker = ap (λ (t : Transfer). t.tracker) h in
     record { is = h ∙ ap (λ (t : TrackerState). record old { timeout = new.timeout; tracker = t }) (sym tracker); tracker = inr tracker }
@@ -187,7 +187,8 @@ takes_sack old between new before after old_is between_is told keeps =
       outstanding = omega (arith, ap (λ (r : RetransmissionState). r.outstanding_items) state, keeps.outstanding, ap (λ (r : RetransmissionState). r.outstanding_items) old_is);
       unacknowledged = omega (arith, ap (λ (r : RetransmissionState). r.unacknowledged_items) state, keeps.unacknowledged, ap (λ (r : RetransmissionState). r.unacknowledged_items) old_is);
       never_acknowledged = omega (arith, ap (λ (r : RetransmissionState). r.never_acknowledged_items) state, keeps.never_acknowledged, ap (λ (r : RetransmissionState). r.never_acknowledged_items) old_is);
-      tracker = subst (λ (t : TrackerState). (new.tracker ≡ t) ⊎ (new.tracker ≡ with_timeout new.timeout.rto t)) (ap (λ (t : Transfer). t.tracker) between_is) told.tracker;
+      tracker =
+          subst (λ (t : Transfer). ((new.timeout ≡ t.timeout) × (new.tracker ≡ t.tracker)) ⊎ (new.tracker ≡ with_timeout new.timeout.rto t.tracker)) between_is told.tracker;
       reassembly = ap (λ (t : Transfer). t.reassembly) is;
     }
 

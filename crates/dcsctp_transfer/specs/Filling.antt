@@ -6,6 +6,7 @@ use Rattle.dcsctp_wire.specs.ReadsBack.{FitsChunk}
 use Rattle.dcsctp_wire.specs.Spelling.{chunk_bytes}
 use Rattle.dcsctp_wire_build.specs.Building.{Building, bytes_remaining}
 use Rattle.dcsctp_machine.specs.Event.{Event, buffered_amount_low, total_buffered_amount_low, lifecycle_message_fully_sent, lifecycle_message_maybe_expired, lifecycle_message_expired, lifecycle_end}
+use Rattle.dcsctp_machine.specs.transfer.Reassembly.{remaining_bytes}
 use Rattle.dcsctp_machine.specs.transfer.Transfer.{SendQueueState, RetransmissionState, Transfer, has_data, can_send, must_give}
 use Rattle.dcsctp_machine.specs.transfer.Tracker.{is_acknowledgement_due, owes_acknowledgement, sack_of, sacked}
 use Rattle.dcsctp_machine.specs.turns.FlushOutcomes.{Told, amount_is_low, total_amount_is_low, message_is_sent, message_may_have_expired, message_has_expired, message_ends, IsData}
@@ -68,5 +69,5 @@ with_chunk packet chunk = if nat_le (length (chunk_bytes chunk)) (bytes_remainin
 -- A SACK was made, or none was asked for.
 abbrev pub Acknowledges : Bool → Transfer → Building → Transfer → Building → Type 0
 Acknowledges true old packet new filled =
-    (new ≡ record old { tracker = sacked old.tracker }) × (filled ≡ with_chunk packet (sack_chunk (sack_of old.tracker old.reassembly.remaining_bytes)))
+    (new ≡ record old { tracker = sacked old.tracker }) × (filled ≡ with_chunk packet (sack_chunk (sack_of old.tracker (remaining_bytes old.reassembly))))
 Acknowledges false old packet new filled = (new ≡ old) × (filled ≡ packet)

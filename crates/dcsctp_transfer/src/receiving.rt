@@ -1,9 +1,12 @@
 //! What is received: data and what the peer skips (RFC 9260, sections 6.2 and 6.5; RFC 3758, section 3.6).
 //! Also when it is acknowledged, and the messages that a user takes.
 
-ghost use Rattle.std.specs.Prelude.{◌≡◌, ◌≤◌, ◌∷◌, [], length, true, false, if◌then◌else◌, OnOk, OnErr, IsSome, IfSome, IfNone};
+ghost use Rattle.std.specs.Prelude.{◌≡◌, ◌∷◌, [], length, true, false, if◌then◌else◌, OnOk, OnErr, IsSome, IfSome, IfNone};
 ghost use Rattle.dcsctp_machine.specs.TimeTurns.{has_come};
-ghost use Rattle.dcsctp_machine.specs.turns.TransferMoves.{ReceivesData, MovesForward, GainsMessages};
+ghost use Rattle.dcsctp_machine.specs.turns.TransferMoves.{ReceivesData, MovesForward};
+ghost use Rattle.dcsctp_machine.specs.transfer.Messages.{message_content};
+ghost use Rattle.dcsctp_machine.specs.transfer.Reassembly.{with_ready};
+ghost use Rattle.dcsctp_receive_reassembly.specs.Streams.{chunk_of};
 ghost use Rattle.dcsctp_machine.specs.transfer.Tracker.{after_packet_end, is_acknowledgement_due, delayed_acknowledgement, delay_over};
 
 use crate::transfer::Transfer;
@@ -26,8 +29,9 @@ impl Transfer {
         immediate_ack: bool,
         chunk: Data,
     ) -> Result<(), AllocError>
-        ensures ok { OnOk result (ReceivesData tsn immediate_ack self.old self.new) }
-        ensures rest { OnErr result ((self.new.retransmission ≡ self.old.retransmission) × (self.new.timeout ≡ self.old.timeout) × GainsMessages self.old.reassembly self.new.reassembly) }
+        ensures ok { OnOk result (ReceivesData (record { tsn = tsn; immediate_ack = immediate_ack; chunk = chunk_of chunk }) self.old self.new) }
+        ensures rest { OnErr result ((self.new.retransmission ≡ self.old.retransmission) × (self.new.timeout ≡ self.old.timeout)) }
+        ensures ready { OnErr result (self.new.reassembly.incoming.ready ≡ self.old.reassembly.incoming.ready) }
     {
         // A window that is used up is above the watermark, too.
         if self.reassembly_queue.is_above_watermark() || !self.data_tracker.is_tsn_valid(tsn) {
@@ -50,8 +54,9 @@ impl Transfer {
         new_cumulative_tsn: u32,
         skipped: &[SkippedTo],
     ) -> Result<(), AllocError>
-        ensures ok { OnOk result (MovesForward new_cumulative_tsn self.old self.new) }
-        ensures rest { OnErr result ((self.new.retransmission ≡ self.old.retransmission) × (self.new.timeout ≡ self.old.timeout) × GainsMessages self.old.reassembly self.new.reassembly) }
+        ensures ok { OnOk result (MovesForward new_cumulative_tsn skipped.now self.old self.new) }
+        ensures rest { OnErr result ((self.new.retransmission ≡ self.old.retransmission) × (self.new.timeout ≡ self.old.timeout)) }
+        ensures ready { OnErr result (self.new.reassembly.incoming.ready ≡ self.old.reassembly.incoming.ready) }
     {
         if !self.data_tracker.is_tsn_valid(new_cumulative_tsn) {
             return Ok(());
@@ -97,26 +102,16 @@ impl Transfer {
     /// Takes the message that became ready first, and gives its bytes back to the receive window; `None` if
     /// none is ready. Allocates nothing.
     pub fn get_next_message(&mut self) -> Option<Message>
-        ensures some { IfSome result (λ message. self.old.reassembly.messages ≡ record {
-          stream = message.stream_id.0;
-          ppid = message.ppid.0;
-          payload = message.payload.items;
-        } ∷ self.new.reassembly.messages) }
-        ensures left { IfSome result (λ _. self.new ≡ record self.old {
-          reassembly = record self.old.reassembly {
-            messages = self.new.reassembly.messages;
-            remaining_bytes = self.new.reassembly.remaining_bytes;
-          };
-        }) }
-        ensures window { self.old.reassembly.remaining_bytes ≤ self.new.reassembly.remaining_bytes }
-        ensures none { IfNone result ((self.old.reassembly.messages ≡ []) × (self.new ≡ self.old)) }
+        ensures some { IfSome result (λ message. self.old.reassembly.incoming.ready ≡ message_content message ∷ self.new.reassembly.incoming.ready) }
+        ensures left { IfSome result (λ _. self.new ≡ record self.old { reassembly = with_ready self.new.reassembly.incoming.ready self.old.reassembly }) }
+        ensures none { IfNone result ((self.old.reassembly.incoming.ready ≡ []) × (self.new ≡ self.old)) }
     {
         self.reassembly_queue.get_next_message()
     }
 
     /// How many messages are ready to be taken.
     pub fn messages_ready_count(&self) -> usize
-        ensures { result ≡ length self.now.reassembly.messages }
+        ensures { result ≡ length self.now.reassembly.incoming.ready }
     {
         self.reassembly_queue.messages_ready_count()
     }

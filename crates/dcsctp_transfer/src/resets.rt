@@ -6,7 +6,7 @@ ghost use Rattle.std.specs.Duration.{as_nanos};
 ghost use Rattle.dcsctp_machine.specs.Ids.{stream_numbers};
 ghost use Rattle.dcsctp_machine.specs.transfer.Transfer.{is_none_ready, queue_handed_back, queue_handing_out};
 ghost use Rattle.dcsctp_machine.specs.turns.BegunResets.{last_assigned_tsn};
-ghost use Rattle.dcsctp_machine.specs.turns.ResetOutcomes.{is_tsn_beyond, ResetsStreams};
+ghost use Rattle.dcsctp_machine.specs.turns.ResetOutcomes.{is_tsn_beyond, defers_reset, ResetsStreams};
 ghost use Rattle.dcsctp_send_streams.specs.Telling.{contents};
 ghost use Rattle.dcsctp_transfer.specs.Preparing.{TriesStream};
 
@@ -32,7 +32,8 @@ impl Transfer {
     ///
     /// `Err`: an allocation failed, and nothing has changed.
     pub fn defer_reset(&mut self, last_tsn: u32, streams: &[StreamId]) -> Result<(), AllocError>
-        ensures { self.new ≡ self.old }
+        ensures ok { OnOk result (self.new ≡ defers_reset (record { last_tsn = last_tsn; streams = stream_numbers streams.now }) self.old) }
+        ensures err { OnErr result (self.new ≡ self.old) }
     {
         self.reassembly_queue
             .enter_deferred_reset(last_tsn, streams)
@@ -44,7 +45,8 @@ impl Transfer {
     /// `Err`: an allocation failed for something that waited. That and what came after it keep waiting, and
     /// the streams are reset.
     pub fn reset_streams(&mut self, streams: &[StreamId]) -> Result<(), AllocError>
-        ensures { ResetsStreams self.old self.new }
+        ensures ok { OnOk result (ResetsStreams (stream_numbers streams.now) self.old self.new) }
+        ensures rest { self.new ≡ record self.old { reassembly = self.new.reassembly } }
     {
         self.reassembly_queue
             .reset_streams_and_leave_deferred_reset(streams)

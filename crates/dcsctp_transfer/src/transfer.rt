@@ -34,7 +34,6 @@ impl Model for Transfer {
     ghost use Rattle.dcsctp_machine.specs.transfer.Transfer.{Transfer};
     ghost use Rattle.dcsctp_send_timer.specs.RetransmissionTimeout.{timeout_state};
     ghost use Rattle.dcsctp_send_retransmission.specs.Queue.{retransmission_state, header_of};
-    ghost use Rattle.dcsctp_receive_reassembly.specs.Queue.{reassembly_state};
 
     ghost Value = { Transfer };
 
@@ -42,7 +41,7 @@ impl Model for Transfer {
       retransmission = retransmission_state transfer.retransmission_queue;
       timeout = timeout_state transfer.rto;
       tracker = transfer.data_tracker;
-      reassembly = reassembly_state transfer.reassembly_queue;
+      reassembly = transfer.reassembly_queue;
     } };
 
     ghost invariant = { λ transfer. transfer.retransmission_queue.outstanding.header ≡ header_of transfer.retransmission_queue.interleaving };

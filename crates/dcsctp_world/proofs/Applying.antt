@@ -70,10 +70,6 @@ moved_extend act reply old moved new moves a b =
     let first : BothExtend old moved = moves_extend act reply old moved moves in
     record { a = side_extends_further old.a moved.a new.a first.a a; b = side_extends_further old.b moved.b new.b first.b b }
 
-world_extends_itself : {R : Type 0} (world : WorldView R) → WorldExtends world world
-world_extends_itself world =
-    record { sides = record { a = side_extends_itself world.sides.a; b = side_extends_itself world.sides.b }; acts = extends_itself world.acts }
-
 world_extends_further : {R : Type 0} (a b c : WorldView R) → WorldExtends a b → WorldExtends b c → WorldExtends a c
 world_extends_further a b c first second =
     record {
@@ -132,10 +128,6 @@ ran_out_in act Failed a b new_a new_b made new_made failed is invariant stays =
     absurd (cc)
 
 -- ---- several steps
-
-pub ran_none : {R : Type 0} (world : WorldView R) → world.failed ≡ false → IsRun (options_of world) world → Ran [] world world
-ran_none world runs h =
-    record { runs = runs; goes_on = runs; acts = sym (append-nil world.acts); extends = world_extends_itself world; options = refl; is_run = h }
 
 ran_more : {R : Type 0} (steps : List StepContent) (step : StepContent) (reply : Reply) (old now new : WorldView R) → Ran steps old now → Applied (step_act step) reply now new
     → IsRun (options_of now) new → options_of new ≡ options_of now → Ran (steps ++ step ∷ []) old new

@@ -68,9 +68,6 @@ with_events-append kept xs ys =
     same_kept (with_events ys (with_events xs kept)) (with_events (xs ++ ys) kept) (append_assoc kept.events xs ys)
     (append_assoc kept.packets (packets_in xs) (packets_in ys) ∙ ap (λ (l : List (List ℕ)). kept.packets ++ l) (sym (packets_in-append xs ys)))
 
-with_no_events : (kept : Kept) → kept ≡ with_events [] kept
-with_no_events kept = same_kept kept (with_events [] kept) (sym (append-nil kept.events)) (sym (append-nil kept.packets))
-
 -- an event that is kept
 module _ (events events' : List SocketEvent) (packets packets' : List (Vec ℕ Global)) where
   added_events : (event : SocketEvent) → events' ≡ events ++ event ∷ [] → map event_content events' ≡ map event_content events ++ event_content event ∷ []

@@ -4,7 +4,8 @@ use Rattle.std.proofs.lemmas.List.{append-nil}
 use Rattle.dcsctp_machine.specs.declared.message.Message.{Message}
 use Rattle.dcsctp_machine.specs.Schedule.{take_call}
 use Rattle.dcsctp_machine.specs.Sockets.{UserTurns}
-use Rattle.dcsctp_machine.specs.transfer.Transfer.{MessageContent, Transfer}
+use Rattle.dcsctp_machine.specs.transfer.Messages.{MessageContent}
+use Rattle.dcsctp_machine.specs.transfer.Transfer.{Transfer}
 use Rattle.dcsctp_machine.specs.Endpoint.{Endpoint}
 use Rattle.dcsctp_machine.specs.Outcome.{Outcome, still}
 use Rattle.dcsctp_machine.specs.Turn.{user_takes}
@@ -22,11 +23,11 @@ still_after e o is = is ∙ ap (λ (x : Outcome). still x.after) (sym is)
 
 quiet_where : (e : Endpoint) (transfer : Transfer) (messages : List MessageContent) (o : Outcome) → TakeWhere e transfer messages o → o ≡ still o.after
 quiet_where e transfer [] o turn = still_after e o turn
-quiet_where e transfer (message ∷ messages) o turn = still_after _ o turn.2
+quiet_where e transfer (message ∷ messages) o turn = still_after _ o turn
 
 quiet : (e : Endpoint) (found : Option Transfer) (o : Outcome) → TakeTurn e found o → o ≡ still o.after
 quiet e None o turn = still_after e o turn
-quiet e (Some transfer) o turn = quiet_where e transfer transfer.reassembly.messages o turn
+quiet e (Some transfer) o turn = quiet_where e transfer transfer.reassembly.incoming.ready o turn
 
 -- ---- the call
 

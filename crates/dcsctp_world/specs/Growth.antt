@@ -11,7 +11,7 @@ use Rattle.dcsctp_api.specs.declared.errors.SocketFault.TheVariants.{OutOfMemory
 use Rattle.dcsctp_api.specs.Calls.{UserView, user_event, Follows}
 use Rattle.dcsctp_api.specs.Messages.{refusal_in, IsBatchAnswer, ready_messages, IsFirst}
 use Rattle.dcsctp_api.specs.Resets.{reset_refusal_in}
-use Rattle.dcsctp_machine.specs.transfer.Transfer.{MessageContent}
+use Rattle.dcsctp_machine.specs.transfer.Messages.{MessageContent}
 use Rattle.dcsctp_machine.specs.turns.MessageOutcomes.{MessageRefusal, message_refusal, sending_of, RefusedMessage, refused_from}
 use Rattle.dcsctp_machine.specs.turns.PreparedResets.{ResetRefusal, reset_refusal}
 use Rattle.dcsctp_world.specs.declared.act.Reply.{Reply}

@@ -3,23 +3,14 @@ use Rattle.std.specs.List.{list_any}
 use Rattle.std.specs.Prelude.{◌==◌, ℕ, ◌+◌, ◌-◌, ◌*◌, ◌^◌, min, nat_le, nat_lt, not, ◌&&◌, ◌||◌, Bool, true, false, Option, None, Some, is_some, List, [], ◌∷◌, map, take, drop, if◌then◌else◌}
 use Rattle.std.specs.Duration.{as_nanos}
 use Rattle.dcsctp_machine.specs.declared.capabilities.Capabilities.{Capabilities}
-use Rattle.dcsctp_machine.specs.declared.message.Message.{Message}
 use Rattle.dcsctp_machine.specs.declared.options.Options.{Options}
+use Rattle.dcsctp_machine.specs.transfer.Reassembly.{ReassemblyState, new_reassembly}
 use Rattle.dcsctp_machine.specs.transfer.Tracker.{TrackerState, new_tracker, owes_acknowledgement, is_acknowledgement_due}
 
 -- a number that goes with a stream
 pub record StreamNumber : Type 0 where
   pub stream : ℕ
   pub number : ℕ
-
--- what a message says: its stream, the protocol of its payload, and its bytes
-pub record MessageContent : Type 0 where
-  pub stream : ℕ
-  pub ppid : ℕ
-  pub payload : List ℕ
-
-abbrev pub message_content : Message → MessageContent
-message_content message = record { stream = message.stream_id.0; ppid = message.ppid.0; payload = message.payload.items }
 
 -- ---- what outlasts an association
 
@@ -230,23 +221,6 @@ pub record TimeoutState : Type 0 where
 abbrev pub new_timeout : Options → TimeoutState
 new_timeout options = record { rto = as_nanos options.rto_initial; srtt = as_nanos options.rto_initial }
 
--- What was received and not taken.
-pub record ReassemblyState : Type 0 where
-  pub messages : List MessageContent
-  pub messages_received : ℕ
-  -- the receive window, and what is left of it, in bytes
-  pub window : ℕ
-  pub remaining_bytes : ℕ
-
-abbrev pub new_reassembly : Options → ReassemblyState
-new_reassembly options =
-    record {
-      messages = [];
-      messages_received = 0;
-      window = options.max_receiver_window_buffer_size;
-      remaining_bytes = options.max_receiver_window_buffer_size;
-    }
-
 pub record Transfer : Type 0 where
   pub retransmission : RetransmissionState
   pub timeout : TimeoutState
@@ -260,7 +234,7 @@ new_transfer options capabilities first_tsn peer_first_tsn window =
       retransmission = new_retransmission options capabilities.partial_reliability capabilities.message_interleaving first_tsn window;
       timeout = new_timeout options;
       tracker = new_tracker options peer_first_tsn;
-      reassembly = new_reassembly options;
+      reassembly = new_reassembly options.max_receiver_window_buffer_size;
     }
 
 -- the TSN that is sent next, if there is an association

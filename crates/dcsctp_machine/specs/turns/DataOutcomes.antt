@@ -1,12 +1,16 @@
 -- The turns of data: what is received, what acknowledges it, and what is sent (RFC 9260, section 6; RFC 3758; RFC 8260).
-use Rattle.std.specs.Prelude.{◌≡◌, ◌≤◌, ◌+◌, ◌-◌, ◌%◌, ◌^◌, ℕ, Bool, true, false, nat_le, Option, None, Some, List, [], ◌∷◌, ◌++◌, codes, if◌then◌else◌}
+use Rattle.std.specs.Prelude.{◌≡◌, ◌+◌, ◌-◌, ◌%◌, ◌^◌, ℕ, Bool, true, false, nat_le, Option, None, Some, List, [], ◌∷◌, ◌++◌, codes, if◌then◌else◌}
 use Rattle.std.specs.List.{AllByRecursion}
 use Rattle.dcsctp_wire.specs.Content.{no_user_data}
 use Rattle.dcsctp_machine.specs.declared.association.Held.{Held}
 use Rattle.dcsctp_machine.specs.declared.kinds.ErrorKind.TheVariants.{ProtocolViolation, NotConnected}
 use Rattle.dcsctp_machine.specs.Event.{error}
 use Rattle.dcsctp_machine.specs.Packet.{Plain, error_of, plain, Emission}
-use Rattle.dcsctp_machine.specs.transfer.Transfer.{MessageContent, RetransmissionState, Transfer}
+use Rattle.dcsctp_machine.specs.transfer.Messages.{MessageContent}
+use Rattle.dcsctp_machine.specs.declared.arrivals.SkippedTo.{SkippedTo}
+use Rattle.dcsctp_machine.specs.transfer.Arrivals.{Arrival}
+use Rattle.dcsctp_machine.specs.transfer.Reassembly.{with_ready}
+use Rattle.dcsctp_machine.specs.transfer.Transfer.{RetransmissionState, Transfer}
 use Rattle.dcsctp_machine.specs.transfer.Tracker.{TrackerState, after_packet_end, is_acknowledgement_due, sacked, delay_over}
 use Rattle.dcsctp_machine.specs.Endpoint.{Endpoint, held_in}
 use Rattle.dcsctp_machine.specs.Outcome.{Outcome, still, reports, emits, behind, to_peer}
@@ -52,21 +56,24 @@ no_user_data_outcome e None tsn = reports e ProtocolViolation no_user_data_text
 no_user_data_outcome e (Some held) tsn =
     behind [] (error ProtocolViolation no_user_data_text ∷ []) (emits e [] (to_peer held (plain (error_of (no_user_data tsn ∷ [])))))
 
-abbrev pub ReceiveTurn : Endpoint → Option Transfer → Bool → ℕ → Outcome → Type 0
-ReceiveTurn e None immediate tsn o = o ≡ reports e NotConnected not_connected_text
-ReceiveTurn e (Some transfer) immediate tsn o =
-    (left : Transfer) × ReceivesData tsn immediate transfer left × (o ≡ still (with_transfer e left))
+abbrev pub ReceiveTurn : Endpoint → Option Transfer → Arrival → Outcome → Type 0
+ReceiveTurn e None arrival o = o ≡ reports e NotConnected not_connected_text
+ReceiveTurn e (Some transfer) arrival o = (left : Transfer) × ReceivesData arrival transfer left × (o ≡ still (with_transfer e left))
 
--- Data with this I flag, TSN and payload is received.
-abbrev pub DataTurn : Endpoint → Bool → ℕ → List ℕ → Outcome → Type 0
-DataTurn e immediate tsn [] o = o ≡ no_user_data_outcome e (held_in e.core) tsn
-DataTurn e immediate tsn (byte ∷ bytes) o = ReceiveTurn e e.below.transfer immediate tsn o
+-- by its payload
+abbrev pub DataWhere : Endpoint → Arrival → List ℕ → Outcome → Type 0
+DataWhere e arrival [] o = o ≡ no_user_data_outcome e (held_in e.core) arrival.tsn
+DataWhere e arrival (byte ∷ bytes) o = ReceiveTurn e e.below.transfer arrival o
+
+-- DATA or I-DATA is received.
+abbrev pub DataTurn : Endpoint → Arrival → Outcome → Type 0
+DataTurn e arrival o = DataWhere e arrival arrival.chunk.payload o
 
 -- ---- FORWARD-TSN and I-FORWARD-TSN
 
-abbrev pub ForwardTurn : Endpoint → Option Transfer → ℕ → Outcome → Type 0
-ForwardTurn e None tsn o = o ≡ still e
-ForwardTurn e (Some transfer) tsn o = (left : Transfer) × MovesForward tsn transfer left × (o ≡ still (with_transfer e left))
+abbrev pub ForwardTurn : Endpoint → Option Transfer → ℕ → List SkippedTo → Outcome → Type 0
+ForwardTurn e None tsn entries o = o ≡ still e
+ForwardTurn e (Some transfer) tsn entries o = (left : Transfer) × MovesForward tsn entries transfer left × (o ≡ still (with_transfer e left))
 
 -- ---- SACK
 
@@ -154,22 +161,14 @@ EndsBy e (Some transfer) o =
 
 -- ---- what the user takes
 
--- The first message that waits is taken.
-pub record TakesMessage (old new : Transfer) : Type 0 where
-  pub message : MessageContent
-  pub first : old.reassembly.messages ≡ message ∷ new.reassembly.messages
-  pub received : new.reassembly.messages_received ≡ old.reassembly.messages_received
-  pub window : new.reassembly.window ≡ old.reassembly.window
-  pub remaining : old.reassembly.remaining_bytes ≤ new.reassembly.remaining_bytes
-  pub rest : new ≡ record old { reassembly = new.reassembly }
-
+-- The first message that is ready is taken. Its bytes count no more.
 abbrev pub TakeWhere : Endpoint → Transfer → List MessageContent → Outcome → Type 0
 TakeWhere e transfer [] o = o ≡ still e
-TakeWhere e transfer (message ∷ messages) o = (left : Transfer) × TakesMessage transfer left × (o ≡ still (with_transfer e left))
+TakeWhere e transfer (message ∷ messages) o = o ≡ still (with_transfer e (record transfer { reassembly = with_ready messages transfer.reassembly }))
 
 abbrev pub TakeTurn : Endpoint → Option Transfer → Outcome → Type 0
 TakeTurn e None o = o ≡ still e
-TakeTurn e (Some transfer) o = TakeWhere e transfer transfer.reassembly.messages o
+TakeTurn e (Some transfer) o = TakeWhere e transfer transfer.reassembly.incoming.ready o
 
 -- ---- timers
 

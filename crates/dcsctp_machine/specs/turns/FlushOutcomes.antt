@@ -8,6 +8,7 @@ use Rattle.dcsctp_machine.specs.Settings.{packet_size_limit}
 use Rattle.dcsctp_machine.specs.Event.{Event, sent, packets_in, buffered_amount_low, total_buffered_amount_low, lifecycle_message_fully_sent, lifecycle_message_maybe_expired, lifecycle_message_expired, lifecycle_end}
 use Rattle.dcsctp_machine.specs.Packet.{Plain, unworked, plain_out, Content, Emission}
 use Rattle.dcsctp_machine.specs.transfer.Transfer.{SendQueueState, has_data, RetransmissionState, can_send, Transfer, must_give, is_idle}
+use Rattle.dcsctp_machine.specs.transfer.Reassembly.{remaining_bytes}
 use Rattle.dcsctp_machine.specs.transfer.Tracker.{TrackerState, is_acknowledgement_due, owes_acknowledgement, sack_of, sacked}
 use Rattle.dcsctp_machine.specs.turns.BegunResets.{BegunReset, last_assigned_tsn, begun_in, request_contents, begun_effects, after_begun}
 use Rattle.dcsctp_machine.specs.Endpoint.{Endpoint, Core, closed, cookie_wait, cookie_echoed, open_in, Timers, heartbeats_begun, held_in}
@@ -123,7 +124,7 @@ wants_sack first_ask queue transfer =
 
 -- the SACK of what was received, with what is left of the receive window (RFC 9260, section 3.3.4)
 abbrev pub own_sack : Transfer → Plain
-own_sack transfer = unworked (sack_chunk (sack_of transfer.tracker transfer.reassembly.remaining_bytes))
+own_sack transfer = unworked (sack_chunk (sack_of transfer.tracker (remaining_bytes transfer.reassembly)))
 
 -- It is sent if it is asked for and fits. Then all received data counts as acknowledged.
 abbrev pub Acknowledges : Bool → ℕ → Transfer → TrackerState → List Plain → Type 0

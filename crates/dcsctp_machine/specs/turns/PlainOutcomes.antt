@@ -18,6 +18,7 @@ use Rattle.dcsctp_machine.specs.Endpoint.{Endpoint, Core, cookie_echoed, open_in
 use Rattle.dcsctp_machine.specs.Following.{Following, next_chunk, packet_end}
 use Rattle.dcsctp_machine.specs.Outcome.{Outcome, still, reports, sends, to_peer}
 use Rattle.dcsctp_machine.specs.turns.EndOutcomes.{aborting_outcome}
+use Rattle.dcsctp_machine.specs.transfer.Arrivals.{data_arrival, i_data_arrival, skipped_in, messages_skipped_in}
 use Rattle.dcsctp_machine.specs.turns.DataOutcomes.{DataTurn, ForwardTurn, SackTurn}
 use Rattle.dcsctp_machine.specs.turns.HeartbeatOutcomes.{heartbeat_outcome, info_in, counter_of, heartbeat_ack_outcome}
 
@@ -107,11 +108,11 @@ PlainTurnBy e chunk (Some violation) o = o ≡ aborting_outcome e e.core (reason
 PlainTurnBy e (unknown type flags value) None o = o ≡ unknown_outcome e e.core type flags value
 PlainTurnBy e (heartbeat parameters) None o = o ≡ heartbeat_outcome e e.core parameters
 PlainTurnBy e (heartbeat_ack parameters) None o = o ≡ heartbeat_ack_outcome e (counter_of (info_in parameters))
-PlainTurnBy e (unworked (data_chunk chunk)) None o = DataTurn e chunk.flags.immediate_ack chunk.tsn chunk.payload o
-PlainTurnBy e (unworked (i_data_chunk chunk)) None o = DataTurn e chunk.flags.immediate_ack chunk.tsn chunk.payload o
+PlainTurnBy e (unworked (data_chunk chunk)) None o = DataTurn e (data_arrival chunk) o
+PlainTurnBy e (unworked (i_data_chunk chunk)) None o = DataTurn e (i_data_arrival chunk) o
 PlainTurnBy e (unworked (sack_chunk chunk)) None o = SackTurn e e.below.transfer chunk.cumulative_tsn_ack o
-PlainTurnBy e (unworked (forward_tsn_chunk tsn streams)) None o = ForwardTurn e e.below.transfer tsn o
-PlainTurnBy e (unworked (i_forward_tsn_chunk tsn streams)) None o = ForwardTurn e e.below.transfer tsn o
+PlainTurnBy e (unworked (forward_tsn_chunk tsn streams)) None o = ForwardTurn e e.below.transfer tsn (skipped_in streams) o
+PlainTurnBy e (unworked (i_forward_tsn_chunk tsn streams)) None o = ForwardTurn e e.below.transfer tsn (messages_skipped_in streams) o
 PlainTurnBy e (unworked (error_chunk causes)) None o = o ≡ error_outcome e e.core causes
 PlainTurnBy e (unworked chunk) None o = o ≡ still e
 

@@ -10,6 +10,7 @@ use Rattle.dcsctp_machine.specs.declared.kinds.ErrorKind.TheVariants.{ProtocolVi
 use Rattle.dcsctp_machine.specs.Event.{Event, error, incoming_stream_reset, streams_reset_failed, streams_reset_performed}
 use Rattle.dcsctp_machine.specs.Packet.{re_config, Emission}
 use Rattle.dcsctp_machine.specs.Reconfiguration.{RequestedReset, ResetParameter, outgoing_reset_request, incoming_reset_request, reconfiguration_response, other_reset_parameter}
+use Rattle.dcsctp_machine.specs.transfer.Reassembly.{deferring, Leaves}
 use Rattle.dcsctp_machine.specs.transfer.Tracker.{cumulative_tsn}
 use Rattle.dcsctp_machine.specs.transfer.Transfer.{Transfer, queue_handed_back}
 use Rattle.dcsctp_machine.specs.Endpoint.{Endpoint, Core, cookie_echoed, open_in, OutstandingRequest}
@@ -18,7 +19,7 @@ use Rattle.dcsctp_machine.specs.Outcome.{Outcome, still, quiet, emits, behind, n
 use Rattle.dcsctp_machine.specs.control.Effect.{Effect, completes, fails, performs}
 use Rattle.dcsctp_machine.specs.control.ResetChanges.{WorkedParameters, work_chunk}
 use Rattle.dcsctp_machine.specs.turns.FlushOutcomes.{Answer, draft_to, flush_of, FlushAnswers}
-use Rattle.dcsctp_machine.specs.turns.TransferMoves.{tsns_ahead, GainsMessages}
+use Rattle.dcsctp_machine.specs.turns.TransferMoves.{tsns_ahead}
 use Rattle.dcsctp_machine.specs.turns.BegunResets.{reconfiguration_settings, rto_of}
 
 -- ---- when a reset is due
@@ -52,15 +53,26 @@ has_reset [] = false
 has_reset (performs peer number ∷ effects) = true
 has_reset (effect ∷ effects) = has_reset effects
 
--- Streams were reset: messages that waited for that may be ready (RFC 6525, section 5.2.2, E4).
-pub record ResetsStreams (old new : Transfer) : Type 0 where
-  pub reassembly : GainsMessages old.reassembly new.reassembly
+-- is the peer's request answered as in progress?
+abbrev pub answers_in_progress : List ResetParameter → Bool
+answers_in_progress [] = false
+answers_in_progress (reconfiguration_response number InProgress ∷ answers) = true
+answers_in_progress (answer ∷ answers) = answers_in_progress answers
+
+-- These streams were reset: messages that waited for that may be ready (RFC 6525, section 5.2.2, E4).
+pub record ResetsStreams (streams : List ℕ) (old new : Transfer) : Type 0 where
+  pub reassembly : Leaves streams old.reassembly new.reassembly
   pub rest : new ≡ record old { reassembly = new.reassembly }
 
--- That is so, or nothing has changed.
-abbrev pub ResetsBelow : Bool → Option Transfer → Option Transfer → Type 0
-ResetsBelow true (Some old) new = (left : Transfer) × (new ≡ Some left) × ResetsStreams old left
-ResetsBelow has old new = new ≡ old
+-- What comes on them beyond the peer's last TSN waits from now on (RFC 6525, section 5.2.2, E2).
+abbrev pub defers_reset : RequestedReset → Transfer → Transfer
+defers_reset reset transfer = record transfer { reassembly = deferring reset.last_tsn reset.streams transfer.reassembly }
+
+-- by the request, and whether it is performed, or in progress
+abbrev pub ResetsBelow : Bool → Bool → Option RequestedReset → Option Transfer → Option Transfer → Type 0
+ResetsBelow true in_progress (Some reset) (Some old) new = (left : Transfer) × (new ≡ Some left) × ResetsStreams reset.streams old left
+ResetsBelow false true (Some reset) (Some old) new = new ≡ Some (defers_reset reset old)
+ResetsBelow is_performed in_progress reset old new = new ≡ old
 
 -- ---- its own request
 
@@ -182,7 +194,8 @@ resets_by e held worked parameters left answers =
 -- Its change is `re_config_change`.
 pub record WorksResets (e : Endpoint) (my : Pair) (held : Held) (parameters : List ResetParameter) (o : Outcome) : Type 0 where
   pub left : Option Transfer
-  pub below : ResetsBelow (has_reset (worked_in e my held parameters).effects) e.below.transfer left
+  pub below : ResetsBelow (has_reset (worked_in e my held parameters).effects) (answers_in_progress (worked_in e my held parameters).answers)
+      (requested_in parameters) e.below.transfer left
   pub answers : List Answer
   pub allowed : ResponseAnswers (worked_in e my held parameters).is_refused
       (resets_worked e (answered_in held (worked_in e my held parameters) parameters) (worked_in e my held parameters).held left) (worked_in e my held parameters).held

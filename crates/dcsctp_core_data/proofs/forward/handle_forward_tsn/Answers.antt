@@ -1,18 +1,20 @@
 use Rattle.std.proofs.Common.{refl}
 use Rattle.std.proofs.lemmas.Result.{err_from_is_err_and}
+use Rattle.dcsctp_machine.specs.transfer.Arrivals.{skipped_in}
 use Rattle.dcsctp_core.specs.View.{view_of}
 use Rattle.dcsctp_core_data.proofs.ArrivalLemmas.{forward_cut, forward_unasked, forward_worked}
 use Rattle.dcsctp_core_data.proofs.forward.handle_forward_tsn.Goals as goal
 
 pub returns-in_default : goal.returns-in_default
-returns-in_default g c = forward_unasked g.R.Rng.stream c.args.context.now c.args.chunk.now.new_cumulative_tsn c.in_default.ensures.tcb
+returns-in_default g c = forward_unasked g.R.Rng.stream c.args.context.now c.args.chunk.now.new_cumulative_tsn (skipped_in c.args.chunk.now.skipped_streams.now) c.in_default.ensures.tcb
 
 pub returns-in_err-skipped : goal.returns-in_err-skipped
 returns-in_err-skipped g c =
     rw (err_from_is_err_and c.from_residual.result c.from_residual.ensures.1).1
-    (forward_cut (view_of c.args.context.now) c.args.chunk.now.new_cumulative_tsn)
+    (forward_cut (view_of c.args.context.now) c.args.chunk.now.new_cumulative_tsn (skipped_in c.args.chunk.now.skipped_streams.now))
 
 pub returns : goal.returns
 returns g c =
-    forward_worked g.R.Rng.stream c.args.context.now _ c.in-Some.tcb.now c.handle_forward_tsn.new.self c.handle_forward_tsn.result c.args.chunk.now.new_cumulative_tsn refl
-    c.in-Some.ensures.tcb c.handle_forward_tsn.ensures.ok
+    forward_worked g.R.Rng.stream c.args.context.now _ c.in-Some.tcb.now c.handle_forward_tsn.new.self c.handle_forward_tsn.result c.args.chunk.now.new_cumulative_tsn (skipped_in c.args.chunk.now.skipped_streams.now) refl
+    c.in-Some.ensures.tcb
+    (rw (← c.in_ok-skipped.ensures, ← c.deref.ensures.value) c.handle_forward_tsn.ensures.ok)

@@ -2,7 +2,7 @@ use Rattle.std.proofs.Common.{◌≡◌, ◌+◌, ◌<◌, ℕ, suc, true, false
 use Rattle.std.specs.Vec.Iter.{into_iter_items, into_iter_len}
 use Rattle.std.proofs.lemmas.Result.{err_from_is_err_and}
 use Rattle.dcsctp_machine.specs.declared.message.Message.{Message}
-use Rattle.dcsctp_machine.specs.transfer.Transfer.{message_content}
+use Rattle.dcsctp_machine.specs.transfer.Messages.{message_content}
 use Rattle.dcsctp_machine.specs.turns.MessageOutcomes.{Sending, sending_of}
 use Rattle.dcsctp_core.specs.View.{view_of}
 use Rattle.dcsctp_core_messages.proofs.QueueingLemmas.{GoesOn, goes_cut, goes_next, goes_done}

@@ -16,4 +16,4 @@ returns-in-Some g c =
     let after = c.get_next_message.new.self in
     let taken = c.get_next_message.ensures in
     taken_next old (left_with old.state tcb after) c.get_next_message.result
-    (takes_lent old.state tcb after c.get_next_message.result c.in-Some.ensures.tcb taken.some taken.left taken.window taken.none)
+    (takes_lent old.state tcb after c.get_next_message.result c.in-Some.ensures.tcb taken.some taken.left taken.none)

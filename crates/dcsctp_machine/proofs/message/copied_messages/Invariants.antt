@@ -1,5 +1,5 @@
 use Rattle.std.proofs.Common.{◌≡◌, take, map}
-use Rattle.dcsctp_machine.specs.transfer.Transfer.{message_content}
+use Rattle.dcsctp_machine.specs.transfer.Messages.{message_content}
 use Rattle.dcsctp_machine.proofs.message.copied_messages.Given as goal
 
 abbrev pub invariant-loop-message : goal.invariant-loop-message

@@ -1,9 +1,9 @@
--- What waited first is worked, and the rest still waits.
+-- What waited first is handled, and the rest still waits.
 use Rattle.std.proofs.Common.{◌≡◌, ◌∷◌, [], ◌++◌, map, arith, sym, ◌∙◌}
 use Rattle.std.specs.VecDeque.{deque_len}
 use Rattle.dcsctp_receive_reassembly.specs.Reassembly.{incoming_of}
 use Rattle.dcsctp_receive_reassembly.specs.Queue.{waiting_of}
-use Rattle.dcsctp_receive_reassembly.proofs.WorkLemmas.{above_from, WorksAll-more, first_of, worked_more, left_bytes}
+use Rattle.dcsctp_receive_reassembly.proofs.WorkLemmas.{above_from, HandlesAll-more, first_of, worked_more, left_bytes}
 use Rattle.dcsctp_receive_reassembly.proofs.reassembly_queue.handle_all_deferred.Goals as goal
 
 pub loop-incoming-preserved-in_ok-handle_deferred : goal.loop-incoming-preserved-in_ok-handle_deferred
@@ -12,7 +12,7 @@ loop-incoming-preserved-in_ok-handle_deferred c =
     record {
       done = c.loop-incoming.invariant.done ++ waiting_of c.index.result.now ∷ [];
       all = worked_more (map waiting_of c.args.waiting.now.items) c.loop-incoming.invariant.done c.index.result.now c.loop-incoming.waiting.items c.pop_front.new.self.items c.loop-incoming.invariant.all next;
-      works = WorksAll-more c.loop-incoming.invariant.done (waiting_of c.index.result.now) (incoming_of c.args.incoming.now) (incoming_of c.loop-incoming.incoming) (incoming_of c.handle_deferred.new.incoming) c.loop-incoming.invariant.works c.in_ok-handle_deferred.ensures.ok;
+      works = HandlesAll-more c.loop-incoming.invariant.done (waiting_of c.index.result.now) (incoming_of c.args.incoming.now) (incoming_of c.loop-incoming.incoming) (incoming_of c.handle_deferred.new.incoming) c.loop-incoming.invariant.works c.in_ok-handle_deferred.ensures.ok;
       bytes = omega (arith, c.loop-incoming.invariant.bytes, c.in_ok-handle_deferred.ensures.worked, left_bytes c.index.result.now c.loop-incoming.waiting.items c.pop_front.new.self.items next);
     }
 
@@ -22,6 +22,6 @@ loop-incoming-preserved-in_ok-handle_deferred-2 c =
     record {
       done = c.loop-incoming.invariant.done ++ waiting_of c.index.result.now ∷ [];
       all = worked_more (map waiting_of c.args.waiting.now.items) c.loop-incoming.invariant.done c.index.result.now c.loop-incoming.waiting.items c.pop_front.new.self.items c.loop-incoming.invariant.all next;
-      works = WorksAll-more c.loop-incoming.invariant.done (waiting_of c.index.result.now) (incoming_of c.args.incoming.now) (incoming_of c.loop-incoming.incoming) (incoming_of c.handle_deferred.new.incoming) c.loop-incoming.invariant.works c.in_ok-handle_deferred.ensures.ok;
+      works = HandlesAll-more c.loop-incoming.invariant.done (waiting_of c.index.result.now) (incoming_of c.args.incoming.now) (incoming_of c.loop-incoming.incoming) (incoming_of c.handle_deferred.new.incoming) c.loop-incoming.invariant.works c.in_ok-handle_deferred.ensures.ok;
       bytes = omega (arith, c.loop-incoming.invariant.bytes, c.in_ok-handle_deferred.ensures.worked, left_bytes c.index.result.now c.loop-incoming.waiting.items c.pop_front.new.self.items next);
     }

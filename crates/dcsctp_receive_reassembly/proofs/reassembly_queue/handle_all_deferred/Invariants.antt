@@ -1,17 +1,19 @@
 use Rattle.std.proofs.Common.{◌≡◌, ◌+◌, ◌++◌, List, map}
 use Rattle.std.specs.List.{sum_by}
 use Rattle.std.specs.VecDeque.{deque_len}
-use Rattle.dcsctp_receive_reassembly.specs.Reassembly.{incoming_of, held_bytes}
-use Rattle.dcsctp_receive_reassembly.specs.Queue.{WaitingModel, waiting_of, waiting_bytes, WorksAll}
+use Rattle.dcsctp_receive_reassembly.specs.Reassembly.{incoming_of}
+use Rattle.dcsctp_machine.specs.transfer.Incoming.{held_bytes}
+use Rattle.dcsctp_machine.specs.transfer.Reassembly.{WaitingModel, waiting_bytes, HandlesAll}
+use Rattle.dcsctp_receive_reassembly.specs.Queue.{waiting_of}
 use Rattle.dcsctp_receive_reassembly.proofs.reassembly_queue.handle_all_deferred.Given as goal
 
--- What was worked so far stood in front of what still waits.
+-- What was handled so far stood in front of what still waits.
 abbrev pub invariant-loop-incoming : goal.invariant-loop-incoming
 invariant-loop-incoming l =
     record {
       done : List WaitingModel;
       all : map waiting_of l.initial.waiting.items ≡ done ++ map waiting_of l.waiting.items;
-      works : WorksAll done (incoming_of l.initial.incoming) (incoming_of l.incoming);
+      works : HandlesAll done (incoming_of l.initial.incoming) (incoming_of l.incoming);
       bytes : l.incoming.queued_bytes ≡ held_bytes (incoming_of l.incoming) + sum_by waiting_bytes (map waiting_of l.waiting.items);
     }
 

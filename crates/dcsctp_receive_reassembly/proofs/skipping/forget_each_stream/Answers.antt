@@ -3,9 +3,9 @@ use Rattle.std.proofs.Common.{◌≡◌, ◌+◌, ◌∷◌, List, map, drop, ge
 use Rattle.std.proofs.lemmas.List.{drop_more}
 use Rattle.dcsctp_machine.specs.declared.ids.StreamId.{StreamId}
 use Rattle.dcsctp_machine.specs.Ids.{stream_numbers}
-use Rattle.dcsctp_receive_reassembly.specs.NamedStreams.{is_named}
-use Rattle.dcsctp_receive_reassembly.specs.Reassembly.{entry_of, stream_on}
-use Rattle.dcsctp_receive_reassembly.specs.Streams.{new_stream}
+use Rattle.dcsctp_machine.specs.transfer.Incoming.{is_named, stream_on}
+use Rattle.dcsctp_receive_reassembly.specs.Reassembly.{entry_of}
+use Rattle.dcsctp_machine.specs.transfer.IncomingStreams.{new_stream}
 use Rattle.dcsctp_receive_reassembly.proofs.SkippingLemmas.{forgotten_step}
 use Rattle.dcsctp_receive_reassembly.proofs.skipping.forget_each_stream.Goals as goal
 

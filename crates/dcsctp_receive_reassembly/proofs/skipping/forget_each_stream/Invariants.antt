@@ -1,10 +1,10 @@
 use Rattle.std.proofs.Common.{◌≡◌, ◌-◌, ◌≤◌, ℕ, map, drop, if◌then◌else◌}
 use Rattle.dcsctp_machine.specs.Ids.{stream_numbers}
 use Rattle.dcsctp_receive_reassembly.specs.Held.{capped}
-use Rattle.dcsctp_receive_reassembly.specs.NamedStreams.{is_named}
-use Rattle.dcsctp_receive_reassembly.specs.QueuedBytes.{streams_bytes}
-use Rattle.dcsctp_receive_reassembly.specs.Reassembly.{entry_of, stream_on}
-use Rattle.dcsctp_receive_reassembly.specs.Streams.{new_stream}
+use Rattle.dcsctp_machine.specs.transfer.Incoming.{is_named, stream_on}
+use Rattle.dcsctp_machine.specs.transfer.IncomingStreams.{streams_bytes}
+use Rattle.dcsctp_receive_reassembly.specs.Reassembly.{entry_of}
+use Rattle.dcsctp_machine.specs.transfer.IncomingStreams.{new_stream}
 use Rattle.dcsctp_receive_reassembly.proofs.skipping.forget_each_stream.Given as goal
 
 -- What the other streams lead to from here, all lead to from the beginning.

@@ -1,4 +1,4 @@
-use Rattle.std.proofs.Common.{map, refl}
+use Rattle.std.proofs.Common.{map, refl, subst}
 use Rattle.std.proofs.lemmas.Result.{err_from_is_err_and}
 use Rattle.dcsctp_wire.specs.Content.{cause_content, parameter_content}
 use Rattle.dcsctp_machine.specs.turns.HeartbeatOutcomes.{counter_of, info_in}
@@ -6,6 +6,8 @@ use Rattle.dcsctp_core_heartbeat.specs.Heartbeats.{heartbeat_turn, heartbeat_ack
 use Rattle.dcsctp_wire.specs.Content.{init_content, data_content, i_data_content, sack_content, data_chunk, i_data_chunk, sack_chunk, forward_tsn_chunk, i_forward_tsn_chunk}
 use Rattle.dcsctp_machine.specs.Packet.{introduction_in, cookie_in, init_ack, cookie_echo, cookie_ack, re_config, shutdown_ack, plain, unworked}
 use Rattle.dcsctp_machine.specs.Packet as machine
+use Rattle.dcsctp_machine.specs.transfer.Arrivals.{Arrival, data_arrival, i_data_arrival, skipped_in, messages_skipped_in}
+use Rattle.dcsctp_core.specs.Handling.{TakesIn, CutIn}
 use Rattle.dcsctp_core.specs.View.{core_of, view_of, endpoint_of}
 use Rattle.dcsctp_core_handshake.specs.Handshake.{InitAckAt, CookieAckAt, CookieEchoAt}
 use Rattle.dcsctp_core_ends.specs.Ends.{abort_turn, error_turn}
@@ -16,7 +18,7 @@ use Rattle.dcsctp_core_data.specs.Data.{DataAt, ForwardAt}
 use Rattle.dcsctp_core_data.specs.Sacks.{SackAt}
 use Rattle.dcsctp_core_resets.specs.Requests.{reset_parameters}
 use Rattle.dcsctp_core_resets.specs.Resets.{ReConfigAt}
-use Rattle.dcsctp_socket_calls.proofs.DataTurns.{part_taken, part_cut, data_goes, forward_goes, sack_goes, cookie_ack_goes, reset_goes}
+use Rattle.dcsctp_socket_calls.proofs.DataTurns.{data_goes, forward_goes, sack_goes, cookie_ack_goes, reset_goes}
 use Rattle.dcsctp_socket_calls.proofs.DispatchLemmas.{none_for, shutdown_worked, shutdown_cut, unknown_is, tries_worked, tries_cut, heartbeat_follows, heartbeat_ack_follows, heartbeat_is, heartbeat_ack_is, error_follows, error_is, plain_at, takes_worked, takes_cut}
 use Rattle.dcsctp_socket_calls.proofs.dispatch.dispatch_chunk.Goals as goal
 
@@ -144,10 +146,10 @@ returns-in_ok-handle_data-in-Data g c =
     let new = c.handle_data.new.context in
     let d = data_content c.in-Data.data in
     rw c.in-Data.is
-    (takes_worked g.R.Rng.stream (view_of old) (view_of new) c.args.header_tag (plain (unworked (data_chunk d))) (DataAt d.flags.immediate_ack d.tsn d.payload)
+    (takes_worked g.R.Rng.stream (view_of old) (view_of new) c.args.header_tag (plain (unworked (data_chunk d))) (DataAt (data_arrival d))
     (λ o turn. plain_at (endpoint_of old) (unworked (data_chunk d)) o (none_for (core_of old.state) _ _ c.in-Data.is c.requires) turn)
-    (λ o turn. data_goes (endpoint_of old) d.flags.immediate_ack d.tsn d.payload o turn)
-    (part_taken g.R.Rng.stream (view_of old) (view_of new) c.of_data.ensures.immediate c.of_data.ensures.tsn c.of_data.ensures.payload c.in_ok-handle_data-in-Data.ensures))
+    (λ o turn. data_goes (endpoint_of old) (data_arrival d) o turn)
+    (subst (λ (x : Arrival). TakesIn g.R.Rng.stream (DataAt x) (view_of old) (view_of new)) c.of_data.ensures c.in_ok-handle_data-in-Data.ensures))
 
 pub returns-in_err-handle_data-in-Data : goal.returns-in_err-handle_data-in-Data
 returns-in_err-handle_data-in-Data g c =
@@ -156,9 +158,9 @@ returns-in_err-handle_data-in-Data g c =
     let d = data_content c.in-Data.data in
     rw c.in-Data.is
     (rw (err_from_is_err_and c.from_residual-in_err-handle_data-in-Data.result c.from_residual-in_err-handle_data-in-Data.ensures.1).1
-    (takes_cut (view_of old) c.args.header_tag (plain (unworked (data_chunk d))) (DataAt d.flags.immediate_ack d.tsn d.payload) (view_of new).events
+    (takes_cut (view_of old) c.args.header_tag (plain (unworked (data_chunk d))) (DataAt (data_arrival d)) (view_of new).events
     (λ o turn. plain_at (endpoint_of old) (unworked (data_chunk d)) o (none_for (core_of old.state) _ _ c.in-Data.is c.requires) turn)
-    (part_cut (view_of old) (view_of new).events c.of_data.ensures.immediate c.of_data.ensures.tsn c.of_data.ensures.payload c.in_err-handle_data-in-Data.ensures)))
+    (subst (λ (x : Arrival). CutIn (DataAt x) (view_of old) (view_of new).events) c.of_data.ensures c.in_err-handle_data-in-Data.ensures)))
 
 pub returns-in_ok-handle_data-in-IData : goal.returns-in_ok-handle_data-in-IData
 returns-in_ok-handle_data-in-IData g c =
@@ -166,10 +168,10 @@ returns-in_ok-handle_data-in-IData g c =
     let new = c.handle_data-in-IData.new.context in
     let d = i_data_content c.in-IData.data in
     rw c.in-IData.is
-    (takes_worked g.R.Rng.stream (view_of old) (view_of new) c.args.header_tag (plain (unworked (i_data_chunk d))) (DataAt d.flags.immediate_ack d.tsn d.payload)
+    (takes_worked g.R.Rng.stream (view_of old) (view_of new) c.args.header_tag (plain (unworked (i_data_chunk d))) (DataAt (i_data_arrival d))
     (λ o turn. plain_at (endpoint_of old) (unworked (i_data_chunk d)) o (none_for (core_of old.state) _ _ c.in-IData.is c.requires) turn)
-    (λ o turn. data_goes (endpoint_of old) d.flags.immediate_ack d.tsn d.payload o turn)
-    (part_taken g.R.Rng.stream (view_of old) (view_of new) c.of_i_data.ensures.immediate c.of_i_data.ensures.tsn c.of_i_data.ensures.payload c.in_ok-handle_data-in-IData.ensures))
+    (λ o turn. data_goes (endpoint_of old) (i_data_arrival d) o turn)
+    (subst (λ (x : Arrival). TakesIn g.R.Rng.stream (DataAt x) (view_of old) (view_of new)) c.of_i_data.ensures c.in_ok-handle_data-in-IData.ensures))
 
 pub returns-in_err-handle_data-in-IData : goal.returns-in_err-handle_data-in-IData
 returns-in_err-handle_data-in-IData g c =
@@ -178,9 +180,9 @@ returns-in_err-handle_data-in-IData g c =
     let d = i_data_content c.in-IData.data in
     rw c.in-IData.is
     (rw (err_from_is_err_and c.from_residual-in_err-handle_data-in-IData.result c.from_residual-in_err-handle_data-in-IData.ensures.1).1
-    (takes_cut (view_of old) c.args.header_tag (plain (unworked (i_data_chunk d))) (DataAt d.flags.immediate_ack d.tsn d.payload) (view_of new).events
+    (takes_cut (view_of old) c.args.header_tag (plain (unworked (i_data_chunk d))) (DataAt (i_data_arrival d)) (view_of new).events
     (λ o turn. plain_at (endpoint_of old) (unworked (i_data_chunk d)) o (none_for (core_of old.state) _ _ c.in-IData.is c.requires) turn)
-    (part_cut (view_of old) (view_of new).events c.of_i_data.ensures.immediate c.of_i_data.ensures.tsn c.of_i_data.ensures.payload c.in_err-handle_data-in-IData.ensures)))
+    (subst (λ (x : Arrival). CutIn (DataAt x) (view_of old) (view_of new).events) c.of_i_data.ensures c.in_err-handle_data-in-IData.ensures)))
 
 pub returns-in_ok-handle_sack-in-Sack : goal.returns-in_ok-handle_sack-in-Sack
 returns-in_ok-handle_sack-in-Sack g c =
@@ -206,9 +208,9 @@ returns-in_ok-handle_forward_tsn-in-ForwardTsn g c =
     let old = c.args.context.now in
     let d = c.in-ForwardTsn.forward_tsn in
     rw c.in-ForwardTsn.is
-    (takes_worked g.R.Rng.stream (view_of old) (view_of c.handle_forward_tsn.new.context) c.args.header_tag (plain (unworked (forward_tsn_chunk d.new_cumulative_tsn d.skipped_streams.now))) (ForwardAt d.new_cumulative_tsn)
+    (takes_worked g.R.Rng.stream (view_of old) (view_of c.handle_forward_tsn.new.context) c.args.header_tag (plain (unworked (forward_tsn_chunk d.new_cumulative_tsn d.skipped_streams.now))) (ForwardAt d.new_cumulative_tsn (skipped_in d.skipped_streams.now))
     (λ o turn. plain_at (endpoint_of old) (unworked (forward_tsn_chunk d.new_cumulative_tsn d.skipped_streams.now)) o (none_for (core_of old.state) _ _ c.in-ForwardTsn.is c.requires) turn)
-    (λ o turn. forward_goes (endpoint_of old) (endpoint_of old).below.transfer d.new_cumulative_tsn o turn) c.in_ok-handle_forward_tsn-in-ForwardTsn.ensures)
+    (λ o turn. forward_goes (endpoint_of old) (endpoint_of old).below.transfer d.new_cumulative_tsn (skipped_in d.skipped_streams.now) o turn) c.in_ok-handle_forward_tsn-in-ForwardTsn.ensures)
 
 pub returns-in_err-handle_forward_tsn-in-ForwardTsn : goal.returns-in_err-handle_forward_tsn-in-ForwardTsn
 returns-in_err-handle_forward_tsn-in-ForwardTsn g c =
@@ -216,7 +218,7 @@ returns-in_err-handle_forward_tsn-in-ForwardTsn g c =
     let d = c.in-ForwardTsn.forward_tsn in
     rw c.in-ForwardTsn.is
     (rw (err_from_is_err_and c.from_residual-in_err-handle_forward_tsn-in-ForwardTsn.result c.from_residual-in_err-handle_forward_tsn-in-ForwardTsn.ensures.1).1
-    (takes_cut (view_of old) c.args.header_tag (plain (unworked (forward_tsn_chunk d.new_cumulative_tsn d.skipped_streams.now))) (ForwardAt d.new_cumulative_tsn) (view_of c.handle_forward_tsn.new.context).events
+    (takes_cut (view_of old) c.args.header_tag (plain (unworked (forward_tsn_chunk d.new_cumulative_tsn d.skipped_streams.now))) (ForwardAt d.new_cumulative_tsn (skipped_in d.skipped_streams.now)) (view_of c.handle_forward_tsn.new.context).events
     (λ o turn. plain_at (endpoint_of old) (unworked (forward_tsn_chunk d.new_cumulative_tsn d.skipped_streams.now)) o (none_for (core_of old.state) _ _ c.in-ForwardTsn.is c.requires) turn)
     c.in_err-handle_forward_tsn-in-ForwardTsn.ensures))
 
@@ -225,9 +227,9 @@ returns-in_ok-handle_i_forward_tsn-in-IForwardTsn g c =
     let old = c.args.context.now in
     let d = c.in-IForwardTsn.forward_tsn in
     rw c.in-IForwardTsn.is
-    (takes_worked g.R.Rng.stream (view_of old) (view_of c.handle_i_forward_tsn.new.context) c.args.header_tag (plain (unworked (i_forward_tsn_chunk d.new_cumulative_tsn d.skipped_streams.now))) (ForwardAt d.new_cumulative_tsn)
+    (takes_worked g.R.Rng.stream (view_of old) (view_of c.handle_i_forward_tsn.new.context) c.args.header_tag (plain (unworked (i_forward_tsn_chunk d.new_cumulative_tsn d.skipped_streams.now))) (ForwardAt d.new_cumulative_tsn (messages_skipped_in d.skipped_streams.now))
     (λ o turn. plain_at (endpoint_of old) (unworked (i_forward_tsn_chunk d.new_cumulative_tsn d.skipped_streams.now)) o (none_for (core_of old.state) _ _ c.in-IForwardTsn.is c.requires) turn)
-    (λ o turn. forward_goes (endpoint_of old) (endpoint_of old).below.transfer d.new_cumulative_tsn o turn) c.in_ok-handle_i_forward_tsn-in-IForwardTsn.ensures)
+    (λ o turn. forward_goes (endpoint_of old) (endpoint_of old).below.transfer d.new_cumulative_tsn (messages_skipped_in d.skipped_streams.now) o turn) c.in_ok-handle_i_forward_tsn-in-IForwardTsn.ensures)
 
 pub returns-in_err-handle_i_forward_tsn-in-IForwardTsn : goal.returns-in_err-handle_i_forward_tsn-in-IForwardTsn
 returns-in_err-handle_i_forward_tsn-in-IForwardTsn g c =
@@ -235,7 +237,7 @@ returns-in_err-handle_i_forward_tsn-in-IForwardTsn g c =
     let d = c.in-IForwardTsn.forward_tsn in
     rw c.in-IForwardTsn.is
     (rw (err_from_is_err_and c.from_residual-in_err-handle_i_forward_tsn-in-IForwardTsn.result c.from_residual-in_err-handle_i_forward_tsn-in-IForwardTsn.ensures.1).1
-    (takes_cut (view_of old) c.args.header_tag (plain (unworked (i_forward_tsn_chunk d.new_cumulative_tsn d.skipped_streams.now))) (ForwardAt d.new_cumulative_tsn) (view_of c.handle_i_forward_tsn.new.context).events
+    (takes_cut (view_of old) c.args.header_tag (plain (unworked (i_forward_tsn_chunk d.new_cumulative_tsn d.skipped_streams.now))) (ForwardAt d.new_cumulative_tsn (messages_skipped_in d.skipped_streams.now)) (view_of c.handle_i_forward_tsn.new.context).events
     (λ o turn. plain_at (endpoint_of old) (unworked (i_forward_tsn_chunk d.new_cumulative_tsn d.skipped_streams.now)) o (none_for (core_of old.state) _ _ c.in-IForwardTsn.is c.requires) turn)
     c.in_err-handle_i_forward_tsn-in-IForwardTsn.ensures))
 

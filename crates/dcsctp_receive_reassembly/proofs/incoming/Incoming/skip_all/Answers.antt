@@ -1,13 +1,14 @@
--- The entry is worked, and then the others.
+-- The entry is handled, and then the others.
 use Rattle.std.proofs.Common.{◌≡◌, ◌+◌, ◌≤◌, ◌∷◌, List, map, length, drop, get_or, arith, ap, subst, sym, length-append}
 use Rattle.std.specs.VecDeque.{deque_len, deque_capacity}
 use Rattle.std.proofs.lemmas.List.{drop_more, drop_all, length-map}
-use Rattle.dcsctp_machine.specs.transfer.Transfer.{MessageContent, message_content}
-use Rattle.dcsctp_receive_reassembly.specs.declared.arrivals.SkippedTo.{SkippedTo}
-use Rattle.dcsctp_receive_reassembly.specs.declared.arrivals.SkippedTo.TheVariants.{Ssn}
-use Rattle.dcsctp_receive_reassembly.specs.Streams.{skipped_stream, skip_deliveries}
-use Rattle.dcsctp_receive_reassembly.specs.Reassembly.{incoming_of, entry_of, stream_on}
-use Rattle.dcsctp_receive_reassembly.specs.Skipping.{AllMade, SkipsAll, room_for}
+use Rattle.dcsctp_machine.specs.transfer.Messages.{MessageContent, message_content}
+use Rattle.dcsctp_machine.specs.declared.arrivals.SkippedTo.{SkippedTo}
+use Rattle.dcsctp_machine.specs.declared.arrivals.SkippedTo.TheVariants.{Ssn}
+use Rattle.dcsctp_machine.specs.transfer.IncomingStreams.{skipped_stream, skip_deliveries}
+use Rattle.dcsctp_receive_reassembly.specs.Reassembly.{incoming_of, entry_of}
+use Rattle.dcsctp_machine.specs.transfer.Incoming.{stream_on, SkipsAll}
+use Rattle.dcsctp_receive_reassembly.specs.Skipping.{AllMade, room_for}
 use Rattle.dcsctp_receive_reassembly.proofs.SkippingLemmas.{AllMade-kept, SkipsAll-step, SkipsAll-none, Balances-both, room_left}
 use Rattle.dcsctp_receive_reassembly.proofs.incoming.Incoming.skip_all.Goals as goal
 

@@ -1,6 +1,7 @@
 use Rattle.std.proofs.Common.{◌≡◌, ◌||◌, ℕ, drop}
 use Rattle.dcsctp_machine.specs.Ids.{stream_numbers}
-use Rattle.dcsctp_receive_reassembly.specs.NamedStreams.{is_named, marks}
+use Rattle.dcsctp_machine.specs.transfer.Incoming.{is_named}
+use Rattle.dcsctp_receive_reassembly.specs.NamedStreams.{marks}
 use Rattle.dcsctp_receive_reassembly.proofs.named_table.NamedTable.of.Given as goal
 
 -- What is marked, with what is left to mark, is all.

@@ -5,17 +5,18 @@ use Rattle.dcsctp_machine.specs.Ids.{stream_numbers}
 use Rattle.dcsctp_receive_reassembly.specs.declared.reassembly_queue.Deferral.{Deferral}
 use Rattle.dcsctp_receive_reassembly.specs.contracts.reassembly_queue.ReassemblyQueue.{the_view}
 use Rattle.dcsctp_receive_reassembly.specs.Reassembly.{incoming_of}
-use Rattle.dcsctp_receive_reassembly.specs.Queue.{QueueModel, DeferralModel, deferral_of, actions_of, Leaves, WorksAll}
+use Rattle.dcsctp_machine.specs.transfer.Reassembly.{ReassemblyState, DeferralModel, actions_of, Leaves, HandlesAll}
+use Rattle.dcsctp_receive_reassembly.specs.Queue.{deferral_of}
 use Rattle.dcsctp_receive_reassembly.proofs.reassembly_queue.ReassemblyQueue.reset_streams_and_leave_deferred_reset.Goals as goal
 
 pub returns-in-None-clause-ok : goal.returns-in-None-clause-ok
 returns-in-None-clause-ok c =
     let none : option_map deferral_of c.self.inside.deferral ≡ None = ap (λ (o : Option Deferral). option_map deferral_of o) (sym c.take.ensures.value ∙ c.in-None.is) in
-    subst (λ (old : QueueModel). Leaves (stream_numbers c.args.streams.now) old (the_view (record { incoming = c.reset_streams.new.self; max_size = c.self.inside.max_size; deferral = c.take.new.self }))) c.self.view_is
+    subst (λ (old : ReassemblyState). Leaves (stream_numbers c.args.streams.now) old (the_view (record { incoming = c.reset_streams.new.self; max_size = c.self.inside.max_size; deferral = c.take.new.self }))) c.self.view_is
     (record {
       between = incoming_of c.reset_streams.new.self;
       resets = c.reset_streams.ensures.resets;
-      works = subst (λ (o : Option DeferralModel). WorksAll (actions_of o) (incoming_of c.reset_streams.new.self) (incoming_of c.reset_streams.new.self)) (sym none) refl;
+      works = subst (λ (o : Option DeferralModel). HandlesAll (actions_of o) (incoming_of c.reset_streams.new.self) (incoming_of c.reset_streams.new.self)) (sym none) refl;
       window = refl;
       deferral = ap (λ (o : Option Deferral). option_map deferral_of o) c.take.ensures.after;
     })
@@ -23,11 +24,11 @@ returns-in-None-clause-ok c =
 pub returns-in-Ok-clause-ok : goal.returns-in-Ok-clause-ok
 returns-in-Ok-clause-ok c =
     let some : option_map deferral_of c.self.inside.deferral ≡ Some (deferral_of c.in-Some.deferral) = ap (λ (o : Option Deferral). option_map deferral_of o) (sym c.take.ensures.value ∙ c.in-Some.is) in
-    subst (λ (old : QueueModel). Leaves (stream_numbers c.args.streams.now) old (the_view (record { incoming = c.handle_all_deferred.new.incoming; max_size = c.self.inside.max_size; deferral = c.take.new.self }))) c.self.view_is
+    subst (λ (old : ReassemblyState). Leaves (stream_numbers c.args.streams.now) old (the_view (record { incoming = c.handle_all_deferred.new.incoming; max_size = c.self.inside.max_size; deferral = c.take.new.self }))) c.self.view_is
     (record {
       between = incoming_of c.reset_streams.new.self;
       resets = c.reset_streams.ensures.resets;
-      works = subst (λ (o : Option DeferralModel). WorksAll (actions_of o) (incoming_of c.reset_streams.new.self) (incoming_of c.handle_all_deferred.new.incoming)) (sym some) c.in-Ok.ensures.ok;
+      works = subst (λ (o : Option DeferralModel). HandlesAll (actions_of o) (incoming_of c.reset_streams.new.self) (incoming_of c.handle_all_deferred.new.incoming)) (sym some) c.in-Ok.ensures.ok;
       window = refl;
       deferral = ap (λ (o : Option Deferral). option_map deferral_of o) c.take.ensures.after;
     })

@@ -4,7 +4,7 @@ use Rattle.std.specs.Prelude.{IsSome}
 use Rattle.std.specs.BTreeMap.{get}
 use Rattle.std.specs.Ordering.{nat_cmp}
 use Rattle.dcsctp_receive_reassembly.specs.declared.runs.Assembled.{Assembled}
-use Rattle.dcsctp_receive_reassembly.specs.Runs.{IsOfMessage, whole_of}
+use Rattle.dcsctp_receive_reassembly.specs.Runs.{IsOfMessage, assembled_of, whole_of}
 use Rattle.dcsctp_receive_reassembly.specs.Streams.{stream_of, HoldsPlace}
 use Rattle.dcsctp_receive_reassembly.proofs.WaitingLemmas.{place_there, takes_waiting}
 use Rattle.dcsctp_receive_reassembly.proofs.stream.Stream.take_ahead.Goals as goal
@@ -19,7 +19,7 @@ returns-in-Ok-Whole-clause-ok c =
     let number : c.in-Ok-Whole.whole.number ≡ c.args.part.number = subst (λ (outcome : Assembled). IsOfMessage c.args.part.number outcome) c.in-Ok-Whole.field-0-is c.in-Ok-Whole.ensures.number in
     λ ready.
     record {
-      outcome = c.in-Ok-Whole.field-0;
+      outcome = assembled_of c.in-Ok-Whole.field-0;
       parts = c.in-Ok-Whole.ensures.ok;
       does =
           rw c.in-Ok-Whole.field-0-is

@@ -1,5 +1,5 @@
 use Rattle.std.proofs.Common.{subst}
-use Rattle.dcsctp_machine.specs.transfer.Transfer.{message_content}
+use Rattle.dcsctp_machine.specs.transfer.Messages.{message_content}
 use Rattle.dcsctp_api.specs.Messages.{Sends}
 use Rattle.dcsctp_core.specs.declared.context.Context.{Context}
 use Rattle.dcsctp_core.specs.View.{view_of}

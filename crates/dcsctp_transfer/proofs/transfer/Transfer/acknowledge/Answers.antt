@@ -1,4 +1,5 @@
 use Rattle.std.proofs.Common.{◌∙◌, ap, sym, ℕ, ◌%◌, ◌^◌}
+use Rattle.dcsctp_machine.specs.transfer.Reassembly.{remaining_bytes}
 use Rattle.dcsctp_machine.specs.transfer.Transfer.{Transfer}
 use Rattle.dcsctp_transfer.proofs.SackLemmas.{gives_wanted}
 use Rattle.dcsctp_transfer.proofs.transfer.Transfer.acknowledge.Goals as goal
@@ -17,5 +18,5 @@ returns-clause-ok c =
       duplicates = c.in_ok-sack.ensures.duplicates;
       few = c.in_ok-sack.ensures.few;
     })
-    (c.in_ok-sack.ensures.window ∙ (ap (λ (n : ℕ). n % 2 ^ 32) c.remaining_bytes-window.ensures.left ∙ ap (λ (t : Transfer). t.reassembly.remaining_bytes % 2 ^ 32) c.self.view_is))
+    (c.in_ok-sack.ensures.window ∙ (ap (λ (n : ℕ). n % 2 ^ 32) c.remaining_bytes-window.ensures.left ∙ ap (λ (t : Transfer). (remaining_bytes t.reassembly) % 2 ^ 32) c.self.view_is))
     c.add_sack.ensures.added

@@ -1,0 +1,10 @@
+use Rattle.std.proofs.Common.{◌≡◌, ◌≤◌, ◌/◌, length}
+use Rattle.dcsctp_machine.specs.transfer.Arrivals.{first_messages_skipped}
+use Rattle.dcsctp_core_data.proofs.forward.skipped_messages_in.Given as goal
+
+abbrev pub invariant-loop-index : goal.invariant-loop-index
+invariant-loop-index l = record {
+  made : l.skipped.items ≡ first_messages_skipped l.index l.chunk.skipped_streams.now;
+  end : l.index-end ≡ length l.chunk.skipped_streams.now / 8;
+  within : l.index ≤ l.index-end;
+}

@@ -1,0 +1,10 @@
+use Rattle.std.proofs.Common.{refl, ap, ◌∙◌}
+use Rattle.dcsctp_machine.specs.Ids.{stream_numbers}
+use Rattle.dcsctp_core_resets.specs.Resets.{wanted_by}
+use Rattle.dcsctp_core_resets.proofs.HandlingLemmas.{deferred}
+use Rattle.dcsctp_core_resets.proofs.handling.defer.Goals as goal
+
+pub returns : goal.returns
+returns g c =
+    deferred c.args.context.now c.defer_reset.new.state _ (wanted_by c.args.request.now) c.defer_reset.result _ refl
+    (ap (λ streams. stream_numbers streams) c.deref.ensures.value ∙ c.in_ok-streams.ensures) c.defer_reset.ensures.ok c.defer_reset.ensures.err
