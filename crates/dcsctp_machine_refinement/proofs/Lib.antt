@@ -24,6 +24,12 @@ mod Sendable
 mod ShutdownFits
 mod Sent
 mod Signs
+mod SizeLemmas
+mod Sizes
+mod SizesChunks
+mod SizesData
+mod SizesShutdown
+mod SizesTurns
 mod SocketsAgree
 mod SocketsAlone
 mod TurnsFit

@@ -22,16 +22,16 @@ use Rattle.dcsctp_machine_refinement.proofs.T1Data.{flush_turn_up, end_up, take_
 -- ---- what may come
 
 -- an act that a call or a timer brings
-abbrev IsMade : Act → Type 0
+abbrev pub IsMade : Act → Type 0
 IsMade hands_over = ⊥
 IsMade (request_again reset) = ⊥
 IsMade act = Unit {0}
 
-abbrev MayBe : Input → Type 0
+abbrev pub MayBe : Input → Type 0
 MayBe (act_input act) = IsMade act
 MayBe input = Unit {0}
 
-these_may_come : MayCome MayBe
+pub these_may_come : MayCome MayBe
 these_may_come =
     record {
       arrives = tt;

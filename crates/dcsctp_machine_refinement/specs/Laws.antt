@@ -2,7 +2,7 @@
 use Rattle.dcsctp_machine_refinement.specs.Agreement.{SocketsAgree}
 use Rattle.dcsctp_machine_refinement.specs.Deadlines.{SocketsRunT1}
 use Rattle.dcsctp_machine_refinement.specs.Handshake.{FittingSocketsConnect}
-use Rattle.dcsctp_machine_refinement.specs.OneSocket.{SocketEffectsInPlace, SocketRequestsEndByAnswers, SocketsTellEnds}
+use Rattle.dcsctp_machine_refinement.specs.OneSocket.{SocketEffectsInPlace, SocketRequestsEndByAnswers, SocketsTellEnds, SocketsKeepSizes}
 
 pub record SocketLaws : Type 0 where
   pub agree : SocketsAgree
@@ -11,3 +11,4 @@ pub record SocketLaws : Type 0 where
   pub answers : SocketRequestsEndByAnswers
   pub ends : SocketsTellEnds
   pub t1 : SocketsRunT1
+  pub sizes : SocketsKeepSizes

@@ -1,11 +1,12 @@
--- What holds of one socket of a run, whatever bytes it is handed, by what its turns noted. It is about the numbers of requests,
--- by what they end, and how its ends are reported.
-use Rattle.std.specs.Prelude.{◌≡◌, ◌≢◌, ℕ, suc, List, [], ◌∷◌}
+-- What holds of one socket of a run, whatever bytes it is handed. It is about the numbers of requests, by what they end, how its
+-- ends are reported, and how long its packets are.
+use Rattle.std.specs.Prelude.{◌≡◌, ◌≢◌, ◌≤◌, ℕ, suc, List, [], ◌∷◌, length}
 use Rattle.std.specs.List.{AllByRecursion}
 use Rattle.dcsctp_wire.specs.declared.reconfiguration.ReconfigurationResponseResult.{ReconfigurationResponseResult}
 use Rattle.dcsctp_machine.specs.declared.association.Pair.{Pair}
 use Rattle.dcsctp_machine.specs.declared.options.Options.{Options}
 use Rattle.dcsctp_machine.specs.declared.schedule.Side.{Side}
+use Rattle.dcsctp_machine.specs.Settings.{packet_size_limit, IsValid}
 use Rattle.dcsctp_machine.specs.control.Effect.{completes, fails}
 use Rattle.dcsctp_machine.specs.Event.{Event, closed, aborted}
 use Rattle.dcsctp_machine.specs.Packet.{Emission}
@@ -14,7 +15,7 @@ use Rattle.dcsctp_machine.specs.Endpoint as machine
 use Rattle.dcsctp_machine.specs.Turn.{Input, chunk_input}
 use Rattle.dcsctp_machine.specs.CallTurns.{Turned, AlongTurns}
 use Rattle.dcsctp_machine.specs.Past.{Has, Each, InPlace}
-use Rattle.dcsctp_machine.specs.Sockets.{Worked, Both, of_side, turns_after, SocketRun}
+use Rattle.dcsctp_machine.specs.Sockets.{Worked, Both, of_side, turns_after, packets_shown, SocketRun}
 use Rattle.dcsctp_machine_agreement.specs.OneSide.{IsSuccess, IsRefusal, HasResponse, parameters_in}
 use Rattle.dcsctp_machine_refinement.specs.Agreement.{AreUsable, noted_past}
 
@@ -59,3 +60,15 @@ abbrev pub SocketsTellEnds : Type 0
 SocketsTellEnds =
     (options : Both Options) (run : List Worked) → SocketRun options run → (side : Side)
     → AlongTurns TellsEnd (fresh_endpoint (of_side side options)) (of_side side (turns_after run))
+
+-- ---- sizes
+
+-- The packet, with its common header of 12 bytes, is no longer than `mtu`, rounded down to a multiple of 4 (RFC 9260, section 3).
+abbrev pub IsWithinLimit : Options → List ℕ → Type 0
+IsWithinLimit options packet = length packet ≤ packet_size_limit options
+
+-- No packet that a socket ever emits is longer, if its options are valid.
+abbrev pub SocketsKeepSizes : Type 0
+SocketsKeepSizes =
+    (options : Both Options) (run : List Worked) → SocketRun options run → (side : Side) → IsValid (of_side side options)
+    → AllByRecursion (IsWithinLimit (of_side side options)) (packets_shown (of_side side options) (of_side side (turns_after run)))

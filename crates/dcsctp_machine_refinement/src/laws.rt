@@ -4,7 +4,7 @@ ghost use Rattle.dcsctp_machine_refinement.specs.Agreement.{SocketsAgree};
 ghost use Rattle.dcsctp_machine_refinement.specs.Deadlines.{SocketsRunT1};
 ghost use Rattle.dcsctp_machine_refinement.specs.Handshake.{FittingSocketsConnect};
 ghost use Rattle.dcsctp_machine_refinement.specs.Laws.{SocketLaws};
-ghost use Rattle.dcsctp_machine_refinement.specs.OneSocket.{SocketEffectsInPlace, SocketRequestsEndByAnswers, SocketsTellEnds};
+ghost use Rattle.dcsctp_machine_refinement.specs.OneSocket.{SocketEffectsInPlace, SocketRequestsEndByAnswers, SocketsTellEnds, SocketsKeepSizes};
 
 use dcsctp_machine::{
     acts_are_controlled, admitted_packets_may_be_worked, answer_keeps_agreement,
@@ -78,6 +78,12 @@ pub fn sockets_run_t1()
     ensures { SocketsRunT1 }
 {}
 
+/// No packet that a socket of a run ever emits is longer than its `mtu`, rounded down to a multiple of 4,
+/// whatever bytes it was handed.
+pub fn sockets_keep_sizes()
+    ensures { SocketsKeepSizes }
+{}
+
 /// All that holds of the sockets of a run: the theorems above.
 pub fn socket_laws()
     ensures { SocketLaws }
@@ -88,4 +94,5 @@ pub fn socket_laws()
     socket_requests_end_by_answers();
     sockets_tell_ends();
     sockets_run_t1();
+    sockets_keep_sizes();
 }

@@ -9,4 +9,5 @@ returns c =
       answers = c.socket_requests_end_by_answers.ensures;
       ends = c.sockets_tell_ends.ensures;
       t1 = c.sockets_run_t1.ensures;
+      sizes = c.sockets_keep_sizes.ensures;
     }
