@@ -19,6 +19,7 @@ pub mod HandshakeFacts
 pub mod HandshakeTurnFacts
 pub mod HeartbeatFacts
 pub mod HeartbeatLemmas
+pub mod InitPacketLemmas
 pub mod LawLemmas
 pub mod LimitLemmas
 pub mod MayBeWorkedLemmas

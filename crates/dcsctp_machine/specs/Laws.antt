@@ -1,11 +1,11 @@
 -- Laws of the definitions, in other words than theirs.
-use Rattle.std.specs.Prelude.{◌≡◌, ◌≤◌, ◌<◌, ◌^◌, ℕ, Ok, Option, List, [], ◌∷◌, ◌++◌, ◌⊎◌}
+use Rattle.std.specs.Prelude.{◌≡◌, ◌≤◌, ◌<◌, ◌^◌, ℕ, Bool, true, false, Ok, Option, None, Some, List, [], ◌∷◌, ◌++◌, ◌⊎◌}
 use Rattle.dcsctp_machine.specs.declared.association.Pair.{Pair}
 use Rattle.dcsctp_machine.specs.declared.capabilities.Capabilities.{Capabilities}
 use Rattle.dcsctp_machine.specs.declared.kinds.ErrorKind.TheVariants.{ParseFailed}
 use Rattle.dcsctp_machine.specs.declared.options.Options.{Options}
 use Rattle.dcsctp_machine.specs.Settings.{IsValid, SameOptions, wire_options}
-use Rattle.dcsctp_machine.specs.Admission.{all_chunks, shutdown_acks_alone, refused, admits, shutdown_acks_in}
+use Rattle.dcsctp_machine.specs.Admission.{all_chunks, shutdown_acks_alone, refused, admits, shutdown_acks_in, is_single_init}
 use Rattle.dcsctp_machine.specs.declared.schedule.Side.{Side}
 use Rattle.dcsctp_machine.specs.Schedule.{ActContent}
 use Rattle.dcsctp_machine.specs.Sockets.{Both, of_side, TurnsOfAct, Worked, SocketRun, turns_after, endpoint_after}
@@ -25,6 +25,9 @@ use Rattle.dcsctp_machine.specs.control.Acts.{Act, shutdown_repeats, act_change,
 use Rattle.dcsctp_machine.specs.control.Choices.{Choices}
 use Rattle.dcsctp_machine.specs.control.ShutdownChanges.{reflected_change}
 use Rattle.dcsctp_machine.specs.Outcome.{Outcome, count_up}
+use Rattle.dcsctp_machine.specs.transfer.Tracker.{is_acknowledgement_due}
+use Rattle.dcsctp_machine.specs.transfer.Transfer.{Transfer}
+use Rattle.dcsctp_machine.specs.turns.BegunResets.{core_asking}
 use Rattle.dcsctp_machine.specs.turns.HandshakeOutcomes.{InitTurn}
 use Rattle.dcsctp_machine.specs.turns.OwnTimers.{OwnTimer, timer_act}
 use Rattle.dcsctp_machine.specs.turns.FlushOutcomes.{Answer, FlushAnswers, flush_of, IsWithin, KeepsLimits}
@@ -87,6 +90,25 @@ pub data AtMostOnePacket : List (Event Emission) → Type 0 where
 -- sections 5.1 and 5.2).
 abbrev pub InitBringsOnePacket : Type 0
 InitBringsOnePacket = (e : Endpoint) (theirs : Introduction) (o : Outcome) → InitTurn e theirs o → CountsSentOnly e o.after × AtMostOnePacket o.events
+
+-- Is an acknowledgement of data due that came earlier?
+abbrev pub is_due_below : Option Transfer → Bool
+is_due_below None = false
+is_due_below (Some transfer) = is_acknowledgement_due transfer.tracker
+
+-- The association is as it was. If an acknowledgement was due, the flush that sends it may have begun an own request to reset
+-- streams: then its number is outstanding, and nothing else of the association has changed (RFC 6525, section 5.1.2).
+pub data StaysAs (is_due : Bool) (old new : Core) : Type 0 where
+  unchanged_core : new ≡ old → StaysAs is_due old new
+  asking_core : is_due ≡ true → new ≡ core_asking old → StaysAs is_due old new
+
+-- Bytes that are a packet of one INIT, or no packet, leave the association as it is, in every phase. So they do where the packet
+-- is refused (RFC 9260, sections 5.2 and 8.5.1).
+abbrev pub InitPacketLeavesAssociation : Type 0
+InitPacketLeavesAssociation =
+    (e : Endpoint) (bytes : List ℕ) (turns : List Turned) → HandleInput e bytes turns
+    → ((packet : PacketContent) → IsPacket (wire_options e.options) packet bytes → is_single_init (packet_in packet).contents ≡ true)
+    → StaysAs (is_due_below e.below.transfer) e.core (after_all e turns).core
 
 -- What a socket announces in an INIT or INIT ACK is read back from it, with a cookie after it or without.
 abbrev pub OfferReadsBack : Type 0

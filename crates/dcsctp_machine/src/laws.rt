@@ -2,7 +2,7 @@
 
 ghost use Rattle.std.specs.Prelude.{◌<◌, ◌^◌};
 ghost use Rattle.dcsctp_machine.specs.Settings.{FitsOptions};
-ghost use Rattle.dcsctp_machine.specs.Laws.{NegotiationIsMutual, AnswerKeepsAgreement, CookieReadsBack, InitLeavesAssociation, InitBringsOnePacket, OfferReadsBack, CapabilitiesHoldOffer, RefusedPacketAddsOneError, AdmittedPacketsMayBeWorked, ChunksAreControlled, ActsAreControlled, TimersAreControlled, PacketsAreControlled, DeliveriesAreControlled, FlushKeepsLimits, SocketsKeepOptions};
+ghost use Rattle.dcsctp_machine.specs.Laws.{NegotiationIsMutual, AnswerKeepsAgreement, CookieReadsBack, InitLeavesAssociation, InitBringsOnePacket, InitPacketLeavesAssociation, OfferReadsBack, CapabilitiesHoldOffer, RefusedPacketAddsOneError, AdmittedPacketsMayBeWorked, ChunksAreControlled, ActsAreControlled, TimersAreControlled, PacketsAreControlled, DeliveriesAreControlled, FlushKeepsLimits, SocketsKeepOptions};
 ghost use Rattle.dcsctp_machine.specs.TimeTurns.{TimePassesQuietly};
 
 use crate::options::Options;
@@ -33,6 +33,13 @@ pub fn init_leaves_association()
 /// phase (RFC 9260, sections 5.1 and 5.2).
 pub fn init_brings_one_packet()
     ensures { InitBringsOnePacket }
+{}
+
+/// A packet of one INIT leaves the association as it is, in every phase, and also where it is refused (RFC
+/// 9260, sections 5.2 and 8.5.1). If an acknowledgement of earlier data was due, it is sent after the chunk.
+/// With it an own request to reset streams may begin.
+pub fn init_packet_leaves_association()
+    ensures { InitPacketLeavesAssociation }
 {}
 
 /// What a socket announces is read back from its INIT or INIT ACK (RFC 9260, section 5.1). An offer is read
