@@ -1,5 +1,6 @@
 -- What a world shows is what a run shows: so its sockets agree.
 use Rattle.std.proofs.Common.{◌≡◌, ◌<◌, ℕ, zero, suc, arith, true, false, Result, Ok, Err, IsErrAnd, take, drop, get_or, length, List, [], ◌∷◌, ◌++◌, map, reverse, refl, sym, ap, subst, ◌∙◌}
+use Rattle.std.specs.List.{AllByRecursion}
 use Rattle.std.proofs.lemmas.List.{map-append, reverse-reverse}
 use Rattle.dcsctp_machine.specs.declared.association.Pair.{Pair}
 use Rattle.dcsctp_machine.specs.declared.options.Options.{Options}
@@ -11,11 +12,12 @@ use Rattle.dcsctp_machine.specs.Settings.{ports_of}
 use Rattle.dcsctp_machine.specs.Endpoint.{Endpoint}
 use Rattle.dcsctp_machine.specs.CallTurns.{Turned, events_of}
 use Rattle.dcsctp_machine.specs.declared.schedule.Side.{Side}
-use Rattle.dcsctp_machine.specs.Sockets.{Worked, Both, turns_after, acts_of}
+use Rattle.dcsctp_machine.specs.Sockets.{Worked, Both, of_side, turns_after, acts_of}
 use Rattle.dcsctp_machine_refinement.specs.Agreement.{HasDistinctTags}
 use Rattle.dcsctp_machine_refinement.specs.Deadlines.{RunsT1}
 use Rattle.dcsctp_machine_refinement.specs.Handshake.{ConnectThroughout, handshake_acts, connections, IsConnected, AreConnected, FittingSocketsConnect}
 use Rattle.dcsctp_machine_refinement.specs.Laws.{SocketLaws}
+use Rattle.dcsctp_machine_refinement.specs.OneSocket.{IsWithinLimit}
 use Rattle.dcsctp_machine.specs.Schedule.{ActContent, step_content, step_act}
 use Rattle.dcsctp_world.specs.Shown.{SideShown, WorldView, options_of}
 use Rattle.dcsctp_world.specs.Run.{SideRuns, IsRun}
@@ -35,6 +37,7 @@ world_agrees law options world h =
       answers = λ side. law.answers options h.steps h.run side;
       ends = λ side. law.ends options h.steps h.run side;
       t1 = λ side. subst RunsT1 (sym (h.sides side).endpoint) (law.t1 options h.steps h.usable h.run side);
+      sizes = λ side. subst (AllByRecursion (IsWithinLimit (of_side side options))) (sym (h.sides side).packets) (law.sizes options h.steps h.run side (h.usable side).valid);
       agree = λ a b. law.agree options h.steps h.usable h.run (record { a = subst HasDistinctTags (h.sides sides.A).pairs a; b = subst HasDistinctTags (h.sides sides.B).pairs b });
     }
 

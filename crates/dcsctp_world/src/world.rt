@@ -205,7 +205,8 @@ impl<R: Rng + Drop> World<R> {
     /// one. Each request that was accepted is performed at most once (RFC 6525, section 4.1). A request ends
     /// by an answer with its number (section 5.2.7). The four packets of a handshake, delivered in turn,
     /// connect two fresh sockets that fit each other (RFC 9260, section 5.1). A socket that awaits an INIT
-    /// ACK or a COOKIE ACK has T1 running, so it will send again.
+    /// ACK or a COOKIE ACK has T1 running, so it will send again. No packet is longer than the `mtu` of its
+    /// side, rounded down to a multiple of 4.
     pub fn run(&mut self, steps: &[Step]) -> Result<(), SocketFault>
         ensures call { Runs (map step_content steps.now) self.old result self.new }
         ensures agreement { OnOk result (Agrees (options_of self.old) self.new) }
