@@ -7,7 +7,8 @@ use Rattle.dcsctp_machine.specs.declared.ends.AbortReason.TheVariants.{CloseCall
 use Rattle.dcsctp_machine.specs.Event.{Event, event_map}
 use Rattle.dcsctp_machine.specs.Packet.{Emission, emission_bytes}
 use Rattle.dcsctp_machine.specs.Endpoint.{Endpoint, Core, closed, cookie_wait, cookie_echoed, open_in, OpenPhase, established, shutdown_pending, shutdown_sent, shutdown_received, shutdown_ack_sent}
-use Rattle.dcsctp_machine.specs.transfer.Transfer.{QueuedStream, queued_stream}
+use Rattle.dcsctp_machine.specs.transfer.SendQueue.{stream_of}
+use Rattle.dcsctp_machine.specs.transfer.SendStreams.{Stream}
 use Rattle.dcsctp_machine.specs.Turn.{act_input}
 use Rattle.dcsctp_machine.specs.turns.SettingOutcomes.{Setting, endpoint_with}
 use Rattle.dcsctp_machine.specs.control.Acts.{Act, connect, shut_down, abort_with}
@@ -115,8 +116,8 @@ Sets setting old (Err OutOfMemory) new = FailsWhole old new
 Sets setting old (Err Failed) new = StaysFailed old new
 
 -- what waits to be sent on this stream, and how it is set
-abbrev pub stream_shown : UserView → ℕ → QueuedStream
-stream_shown view id = queued_stream view.endpoint.below.queue id
+abbrev pub stream_shown : UserView → ℕ → Stream
+stream_shown view id = stream_of view.endpoint.below.queue id
 
 -- The event that was added first is taken, and nothing else changes.
 abbrev pub PollsEvent : UserView → Option SocketEvent → UserView → Type 0

@@ -165,12 +165,12 @@ pub trait DcSctpSocket {
 
     /// The payload bytes that wait to be sent on a stream. Allocates nothing.
     fn buffered_amount(&self, stream_id: StreamId) -> usize
-        ensures { result ≡ (stream_shown (user_view self.now) stream_id.0).buffered_amount };
+        ensures { result ≡ (stream_shown (user_view self.now) stream_id.0).amount };
 
     /// The low threshold of a stream, in bytes. `SocketEvent::OnBufferedAmountLow` is added when its buffered
     /// amount falls from above the threshold to it or below. Allocates nothing.
     fn buffered_amount_low_threshold(&self, stream_id: StreamId) -> usize
-        ensures { result ≡ (stream_shown (user_view self.now) stream_id.0).low_threshold };
+        ensures { result ≡ (stream_shown (user_view self.now) stream_id.0).threshold };
 
     /// Sets the low threshold of a stream, and adds no event. It outlasts an association. A stream that isn't
     /// set has `default_stream_buffered_amount_low_threshold`.

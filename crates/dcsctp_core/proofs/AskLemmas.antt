@@ -3,10 +3,12 @@ use Rattle.std.proofs.Common.{◌≡◌, ◌||◌, ◌&&◌, ℕ, Bool, true, fa
 use Rattle.std.proofs.lemmas.List.{append-nil}
 use Rattle.rand_core.specs.Stream.{Stream}
 use Rattle.dcsctp_wire_build.specs.Building.{Building, bytes_remaining}
+use Rattle.dcsctp_machine.specs.transfer.OwnResets.{ready_streams}
 use Rattle.dcsctp_machine.specs.Event.{Event}
 use Rattle.dcsctp_machine.specs.Packet.{Emission}
 use Rattle.dcsctp_machine.specs.transfer.Tracker.{is_acknowledgement_due, owes_acknowledgement}
-use Rattle.dcsctp_machine.specs.transfer.Transfer.{SendQueueState, Transfer, has_data, is_none_ready}
+use Rattle.dcsctp_machine.specs.transfer.SendQueue.{SendQueueState, has_data}
+use Rattle.dcsctp_machine.specs.transfer.Transfer.{Transfer, is_none_ready}
 use Rattle.dcsctp_machine.specs.Endpoint.{held_in}
 use Rattle.dcsctp_machine.specs.turns.BegunResets.{streams_within, last_assigned_tsn}
 use Rattle.dcsctp_machine.specs.turns.FlushOutcomes.{Ask, first_ask, later_ask}
@@ -88,7 +90,7 @@ forward_leaves {R = R} None old new packet filled forward holds none ready =
     subst (λ (v : View R). HasNoReset v.endpoint.below.queue v.endpoint.below.transfer) (sym forward.0) (subst (HasNoReset old.endpoint.below.queue) holds tt)
 forward_leaves {R = R} (Some transfer) old new packet filled forward holds none ready =
     subst (λ (v : View R). HasNoReset v.endpoint.below.queue v.endpoint.below.transfer) (sym forward.5)
-    (ap (λ (q : SendQueueState). is_none_ready q.ready_streams) (forward.3.idle none.1).2 ∙ ready)
+    (ap (λ (q : SendQueueState). is_none_ready (ready_streams q)) (forward.3.idle none.1).2 ∙ ready)
 
 -- What begins a reset leaves what waits as it is, where no stream is ready.
 begin_stays : {R : Type 0} (found : Option Transfer) (old new : View R) (packet filled : Building) → BeginsAt found old packet new filled → found ≡ old.endpoint.below.transfer

@@ -8,12 +8,14 @@ use Rattle.dcsctp_wire.specs.Content.{ChunkContent}
 use Rattle.dcsctp_wire.specs.ReadsBack.{FitsChunk}
 use Rattle.dcsctp_wire.specs.Spelling.{chunk_bytes}
 use Rattle.dcsctp_wire_build.specs.Building.{Building}
+use Rattle.dcsctp_machine.specs.transfer.OwnResets.{ready_streams}
 use Rattle.dcsctp_machine.specs.declared.options.Options.{Options}
 use Rattle.dcsctp_machine.specs.Settings.{Ports, ports_of}
 use Rattle.dcsctp_machine.specs.Event.{Event}
 use Rattle.dcsctp_machine.specs.Packet.{Plain, plain, unworked, Content, Emission}
 use Rattle.dcsctp_machine.specs.transfer.Tracker.{TrackerState, is_acknowledgement_due, owes_acknowledgement}
-use Rattle.dcsctp_machine.specs.transfer.Transfer.{SendQueueState, Transfer, has_data, can_send, must_give, is_none_ready, is_idle}
+use Rattle.dcsctp_machine.specs.transfer.SendQueue.{SendQueueState, has_data}
+use Rattle.dcsctp_machine.specs.transfer.Transfer.{Transfer, can_send, must_give, is_none_ready, is_idle}
 use Rattle.dcsctp_machine.specs.declared.association.Held.{Held}
 use Rattle.dcsctp_machine.specs.Endpoint.{Endpoint, Timers, held_in}
 use Rattle.dcsctp_machine.specs.control.Choices.{plain_contents}
@@ -83,14 +85,14 @@ ready_of false false b c d is = absurd (cc)
 ready_of true r b c d is = absurd (cc)
 
 -- no stream is to be reset
-pub idle_ready : (queue : SendQueueState) (transfer : Transfer) → is_idle queue transfer ≡ true → is_none_ready queue.ready_streams ≡ true
+pub idle_ready : (queue : SendQueueState) (transfer : Transfer) → is_idle queue transfer ≡ true → is_none_ready (ready_streams queue) ≡ true
 idle_ready queue transfer is =
-    ready_of (has_data queue) (is_none_ready queue.ready_streams) (transfer.retransmission.outstanding_items == 0) (owes_acknowledgement transfer.tracker) (is_acknowledgement_due transfer.tracker) is
+    ready_of (has_data queue) (is_none_ready (ready_streams queue)) (transfer.retransmission.outstanding_items == 0) (owes_acknowledgement transfer.tracker) (is_acknowledgement_due transfer.tracker) is
 
 pub idle_parts : (queue : SendQueueState) (transfer : Transfer) → is_idle queue transfer ≡ true
     → ((has_data queue ≡ false) × (transfer.retransmission.outstanding_items ≡ 0)) × ((owes_acknowledgement transfer.tracker ≡ false) × (is_acknowledgement_due transfer.tracker ≡ false))
 idle_parts queue transfer is =
-    let parts = parts_of (has_data queue) (is_none_ready queue.ready_streams) (transfer.retransmission.outstanding_items == 0) (owes_acknowledgement transfer.tracker) (is_acknowledgement_due transfer.tracker) is in
+    let parts = parts_of (has_data queue) (is_none_ready (ready_streams queue)) (transfer.retransmission.outstanding_items == 0) (owes_acknowledgement transfer.tracker) (is_acknowledgement_due transfer.tracker) is in
     ((parts.0.0, zero_of transfer.retransmission.outstanding_items parts.0.1), parts.1)
   where
     zero_of : (n : ℕ) → (n == 0) ≡ true → n ≡ 0
@@ -127,11 +129,11 @@ packet_is options draft sacks begun chunks told after filled_packet is =
     (sym (body_append front more) ∙ ap body_of (append_assoc draft.packet.contents behind more ∙ ap (λ (cs : List Content). draft.packet.contents ++ cs) (append_assoc (plain_contents sacks) (request_contents begun) more)))
 
 -- Where no stream is ready, no reset is begun.
-pub none_begun : (ask : Ask) (held : Option Held) (room last_tsn : ℕ) (queue : SendQueueState) → is_none_ready queue.ready_streams ≡ true → begun_at ask held room last_tsn queue ≡ None
+pub none_begun : (ask : Ask) (held : Option Held) (room last_tsn : ℕ) (queue : SendQueueState) → is_none_ready (ready_streams queue) ≡ true → begun_at ask held room last_tsn queue ≡ None
 none_begun later_ask held room last_tsn queue none = refl
 none_begun first_ask None room last_tsn queue none = refl
 none_begun first_ask (Some held) room last_tsn queue none =
-    ap (λ (streams : List ℕ). begun_where held.own_outstanding held.own_next last_tsn (map stream_field (take (streams_within room) streams))) (empty queue.ready_streams none)
+    ap (λ (streams : List ℕ). begun_where held.own_outstanding held.own_next last_tsn (map stream_field (take (streams_within room) streams))) (empty (ready_streams queue) none)
     ∙ ap (λ (streams : List ℕ). begun_where held.own_outstanding held.own_next last_tsn (map stream_field streams)) (take_none (streams_within room))
     ∙ nothing held.own_outstanding
   where
@@ -148,7 +150,7 @@ none_begun first_ask (Some held) room last_tsn queue none =
     nothing (Some number) = refl
 
 -- So the queue stays as it is.
-pub requesting_none : (count room last_tsn : ℕ) (held : Option Held) (begun : Option BegunReset) (queue left : SendQueueState) → is_none_ready queue.ready_streams ≡ true
+pub requesting_none : (count room last_tsn : ℕ) (held : Option Held) (begun : Option BegunReset) (queue left : SendQueueState) → is_none_ready (ready_streams queue) ≡ true
     → begun ≡ begun_in held room last_tsn queue → left ≡ queue_requesting count begun queue → left ≡ queue
 requesting_none count room last_tsn held begun queue left none is hands =
     hands ∙ ap (λ (b : Option BegunReset). queue_requesting count b queue) (is ∙ none_begun first_ask held room last_tsn queue none)
@@ -228,7 +230,7 @@ pub record Parts {R : Type 0} (ask : Ask) (old : View R) (draft : Emission) (tra
   pub mid_is : mid ≡ record transfer { tracker = mid.tracker }
   pub gave : Gave ask old.endpoint mid given waits old.events telling later forwards
   pub begins : BeginsReset ask old.endpoint (room_in old.endpoint (filled draft (plain_contents (sacks ++ forwards)))) transfer begun
-  pub untouched : is_none_ready waits.ready_streams ≡ true → handed ≡ waits
+  pub untouched : is_none_ready (ready_streams waits) ≡ true → handed ≡ waits
   pub fills : FillsPacket given handed telling (packet_for old.endpoint.options (filled draft (plain_contents (sacks ++ forwards) ++ request_contents begun))) after left new.events filled_packet any
   pub is : new ≡ record old { endpoint = given_endpoint old.endpoint begun any later left after; events = new.events }
 
@@ -255,10 +257,10 @@ idle_answer ask old draft transfer new filled_packet p idle =
     let none_out : transfer.retransmission.outstanding_items ≡ 0 = parts.0.1 in
     let gave = p.gave.idle (ap (λ (t : Transfer). t.retransmission.outstanding_items) mid ∙ none_out) in
     let given : p.given ≡ transfer = gave.0 ∙ mid in
-    let ready : is_none_ready e.below.queue.ready_streams ≡ true = idle_ready e.below.queue transfer idle in
-    let handed : p.handed ≡ e.below.queue = p.untouched (ap (λ (q : SendQueueState). is_none_ready q.ready_streams) gave.1 ∙ ready) ∙ gave.1 in
+    let ready : is_none_ready (ready_streams e.below.queue) ≡ true = idle_ready e.below.queue transfer idle in
+    let handed : p.handed ≡ e.below.queue = p.untouched (ap (λ (q : SendQueueState). is_none_ready (ready_streams q)) gave.1 ∙ ready) ∙ gave.1 in
     let begun : p.begun ≡ None =
-    p.begins.is ∙ none_begun ask (held_in e.core) _ (last_assigned_tsn p.begins.retransmission) p.begins.queue (ap (λ (q : SendQueueState). is_none_ready q.ready_streams) (p.begins.idle none_out).0 ∙ ready) in
+    p.begins.is ∙ none_begun ask (held_in e.core) _ (last_assigned_tsn p.begins.retransmission) p.begins.queue (ap (λ (q : SendQueueState). is_none_ready (ready_streams q)) (p.begins.idle none_out).0 ∙ ready) in
     let rests = p.fills.idle (ap has_data handed ∙ parts.0.0) (ap (λ (t : Transfer). t.retransmission.outstanding_items) given ∙ none_out) in
     let chunks : p.fills.chunks ≡ [] = no_chunks p.fills.chunks p.any p.fills.answers rests.0 in
     let after : p.after ≡ transfer = rests.1 ∙ given in

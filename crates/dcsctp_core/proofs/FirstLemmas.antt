@@ -10,7 +10,8 @@ use Rattle.dcsctp_machine.specs.Event.{Event}
 use Rattle.dcsctp_machine.specs.Packet.{Plain, plain, unworked, Content, chunk_out, Emission}
 use Rattle.dcsctp_machine.specs.transfer.Reassembly.{remaining_bytes}
 use Rattle.dcsctp_machine.specs.transfer.Tracker.{sack_of}
-use Rattle.dcsctp_machine.specs.transfer.Transfer.{SendQueueState, RetransmissionState, TimeoutState, Transfer, has_data, is_idle}
+use Rattle.dcsctp_machine.specs.transfer.SendQueue.{SendQueueState, has_data}
+use Rattle.dcsctp_machine.specs.transfer.Transfer.{RetransmissionState, TimeoutState, Transfer, is_idle}
 use Rattle.dcsctp_machine.specs.Endpoint.{Endpoint, Core, OutstandingRequest, held_in}
 use Rattle.dcsctp_machine.specs.Timers.{RunningTimer, started}
 use Rattle.dcsctp_machine.specs.control.Choices.{plain_contents}

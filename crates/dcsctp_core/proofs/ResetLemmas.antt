@@ -17,7 +17,9 @@ use Rattle.std.specs.List.{AllByRecursion}
 use Rattle.std.specs.Prelude.{is_some}
 use Rattle.std.specs.declared.alloc.AllocError.{AllocError}
 use Rattle.dcsctp_wire_build.specs.Building.{Building, bytes_remaining}
-use Rattle.dcsctp_machine.specs.transfer.Transfer.{QueuedStream, SendQueueState, handing, queue_handing_out, is_none_ready, Transfer}
+use Rattle.dcsctp_machine.specs.transfer.SendQueue.{SendQueueState}
+use Rattle.dcsctp_machine.specs.transfer.Transfer.{is_none_ready, Transfer}
+use Rattle.dcsctp_machine.specs.transfer.OwnResets.{handing_out, ready_streams, queue_handing_out}
 use Rattle.dcsctp_core.specs.declared.transmission_control_block.ResetRequest.{ResetRequest}
 use Rattle.dcsctp_core.specs.declared.transmission_control_block.TransmissionControlBlock.{TransmissionControlBlock}
 use Rattle.dcsctp_core.specs.Reconfiguring.{tcb_changed}
@@ -91,7 +93,7 @@ begun_is None number last_tsn (stream ∷ streams) none some = refl
 begun_is (Some other) number last_tsn streams none some = absurd (cc)
 
 pub begins_with : (now max : ℕ) (ids : List ℕ) (queue : SendQueueState) (old : TransmissionControlBlock) (packet : Building) (left : SendQueueState) (new : TransmissionControlBlock) (filled : Building)
-    → number_of old.reset_request ≡ None → max ≡ streams_within (bytes_remaining packet) → ids ≡ take max queue.ready_streams → (length ids == 0) ≡ false → left ≡ queue_handing_out max queue
+    → number_of old.reset_request ≡ None → max ≡ streams_within (bytes_remaining packet) → ids ≡ take max (ready_streams queue) → (length ids == 0) ≡ false → left ≡ queue_handing_out max queue
     → StartsReset now ids old packet new filled → BeginsReset now queue old packet left new filled
 begins_with now max ids queue old packet left new filled none is_max is some handed h =
     let last : ℕ = last_assigned_tsn old.transfer.retransmission in
@@ -101,7 +103,7 @@ begins_with now max ids queue old packet left new filled none is_max is some han
       is = ap (λ (b : BegunReset). Some b) h.is
           ∙ begun_is (number_of old.reset_request) number last ids none some
           ∙ ap (λ (streams : List ℕ). begun_where (number_of old.reset_request) number last streams)
-          (sym (fields_same ids h.fit) ∙ ap (map stream_field) (is ∙ ap (λ (n : ℕ). take n queue.ready_streams) is_max));
+          (sym (fields_same ids h.fit) ∙ ap (map stream_field) (is ∙ ap (λ (n : ℕ). take n (ready_streams queue)) is_max));
       begins = h.begins;
       packet_is = h.packet_is;
       hands_out = handed ∙ ap (λ (n : ℕ). queue_handing_out n queue) is_max;
@@ -109,7 +111,7 @@ begins_with now max ids queue old packet left new filled none is_max is some han
 
 pub begins_by : (now max : ℕ) (ids : List ℕ) (queue : SendQueueState) (old : TransmissionControlBlock) (packet : Building) (left : SendQueueState) (new : TransmissionControlBlock) (filled : Building)
     (result : Result (Unit {0}) AllocError)
-    → number_of old.reset_request ≡ None → max ≡ streams_within (bytes_remaining packet) → ids ≡ take max queue.ready_streams → (length ids == 0) ≡ false → left ≡ queue_handing_out max queue
+    → number_of old.reset_request ≡ None → max ≡ streams_within (bytes_remaining packet) → ids ≡ take max (ready_streams queue) → (length ids == 0) ≡ false → left ≡ queue_handing_out max queue
     → OnOk result (StartsReset now ids old packet new filled) → OnOk result (BeginsReset now queue old packet left new filled)
 begins_by now max ids queue old packet left new filled (Ok done) none is_max is some handed h = begins_with now max ids queue old packet left new filled none is_max is some handed h
 begins_by now max ids queue old packet left new filled (Err error) none is_max is some handed h = tt
@@ -123,28 +125,24 @@ none_outstanding (Some request) none = absurd (cc)
 no_member : (stream : ℕ) (streams : List ℕ) → (length (stream ∷ streams) == 0) ≡ true → ⊥
 no_member stream streams none = grind (arith, nat_tests)
 
-same_streams : (streams : List QueuedStream) → map (handing []) streams ≡ streams
-same_streams [] = refl
-same_streams (stream ∷ streams) = ap (λ (rest : List QueuedStream). stream ∷ rest) (same_streams streams)
-
-none_handed : (count : ℕ) (queue : SendQueueState) (ready : List ℕ) → queue.ready_streams ≡ ready → (length (take count ready) == 0) ≡ true → is_none_ready ready ≡ false
+none_handed : (count : ℕ) (queue : SendQueueState) (ready : List ℕ) → (ready_streams queue) ≡ ready → (length (take count ready) == 0) ≡ true → is_none_ready ready ≡ false
     → queue_handing_out count queue ≡ queue
 none_handed count queue [] is none some = absurd (cc)
-none_handed zero queue (stream ∷ ready) is none some = ap (λ (streams : List QueuedStream). record queue { streams = streams }) (same_streams queue.streams)
+none_handed zero queue (stream ∷ ready) is none some = ap (λ (ids : List ℕ). record queue { streams = handing_out (take 0 ids) queue.streams }) is
 none_handed (suc count) queue (stream ∷ ready) is none some = absurd (no_member stream (take count ready) none)
 
 pub begins_none : (now max : ℕ) (ids : List ℕ) (queue : SendQueueState) (old : TransmissionControlBlock) (packet : Building) (left : SendQueueState)
-    → max ≡ streams_within (bytes_remaining packet) → ids ≡ take max queue.ready_streams → (length ids == 0) ≡ true → is_none_ready queue.ready_streams ≡ false
+    → max ≡ streams_within (bytes_remaining packet) → ids ≡ take max (ready_streams queue) → (length ids == 0) ≡ true → is_none_ready (ready_streams queue) ≡ false
     → left ≡ queue_handing_out max queue → BeginsReset now queue old packet left old packet
 begins_none now max ids queue old packet left is_max is none some handed =
-    let empty : (length (take max queue.ready_streams) == 0) ≡ true = subst (λ (ns : List ℕ). (length ns == 0) ≡ true) is none in
+    let empty : (length (take max (ready_streams queue)) == 0) ≡ true = subst (λ (ns : List ℕ). (length ns == 0) ≡ true) is none in
     record {
       begun = None;
       is = sym (ap (λ (streams : List ℕ). begun_where (number_of old.reset_request) old.next_outgoing_reset_req_seq_nbr (last_assigned_tsn old.transfer.retransmission) (map stream_field streams))
-          (ap (λ (n : ℕ). take n queue.ready_streams) (sym is_max) ∙ none_of (take max queue.ready_streams) empty) ∙ begun_none (number_of old.reset_request) _ _);
+          (ap (λ (n : ℕ). take n (ready_streams queue)) (sym is_max) ∙ none_of (take max (ready_streams queue)) empty) ∙ begun_none (number_of old.reset_request) _ _);
       begins = record { held = refl; request = refl; timer = refl; my = refl; tie_tag = refl; transfer = refl };
       packet_is = ap (λ (body : List ℕ). record packet { body = body }) (sym (append-nil packet.body));
-      hands_out = handed ∙ none_handed max queue queue.ready_streams refl empty some;
+      hands_out = handed ∙ none_handed max queue (ready_streams queue) refl empty some;
     }
   where
     none_of : (streams : List ℕ) → (length streams == 0) ≡ true → streams ≡ []

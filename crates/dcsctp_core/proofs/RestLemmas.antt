@@ -1,9 +1,11 @@
 -- A flush for which no packet is made: nothing has to go into one.
 use Rattle.std.proofs.Common.{◌≡◌, ◌==◌, ◌&&◌, ◌||◌, ℕ, zero, suc, Bool, true, false, nat_lt, nat_le, Option, None, Some, [], refl, sym, ap, subst, arith}
 use Rattle.rand_core.specs.Stream.{Stream}
+use Rattle.dcsctp_machine.specs.transfer.OwnResets.{ready_streams}
 use Rattle.dcsctp_machine.specs.declared.association.Held.{Held}
 use Rattle.dcsctp_machine.specs.Packet.{Emission}
-use Rattle.dcsctp_machine.specs.transfer.Transfer.{SendQueueState, RetransmissionState, Transfer, can_send, has_free_tsn, has_data, least_chunk, must_give, is_none_ready, is_idle}
+use Rattle.dcsctp_machine.specs.transfer.SendQueue.{SendQueueState, has_data}
+use Rattle.dcsctp_machine.specs.transfer.Transfer.{RetransmissionState, Transfer, can_send, has_free_tsn, least_chunk, must_give, is_none_ready, is_idle}
 use Rattle.dcsctp_machine.specs.Endpoint.{Endpoint, held_in}
 use Rattle.dcsctp_machine.specs.turns.BegunResets.{last_assigned_tsn}
 use Rattle.dcsctp_machine.specs.turns.DataOutcomes.{flush_by, AnswersTo}
@@ -38,7 +40,7 @@ not_given room queue state is =
     not_all (nat_lt 0 state.marked_items) (can_send state) (state.marked_items == 0) (nat_le (least_chunk state.message_interleaving) room) (has_free_tsn state) (has_data queue) is
 
 -- Nor is a reset begun, where no stream is ready.
-rest_begun : (ask : Ask) (held : Option Held) (room last_tsn : ℕ) (queue : SendQueueState) → (ask ≡ first_ask → is_none_ready queue.ready_streams ≡ true) → None ≡ begun_at ask held room last_tsn queue
+rest_begun : (ask : Ask) (held : Option Held) (room last_tsn : ℕ) (queue : SendQueueState) → (ask ≡ first_ask → is_none_ready (ready_streams queue) ≡ true) → None ≡ begun_at ask held room last_tsn queue
 rest_begun later_ask held room last_tsn queue none = refl
 rest_begun first_ask held room last_tsn queue none = sym (none_begun first_ask held room last_tsn queue (none refl))
 

@@ -4,11 +4,13 @@ use Rattle.std.specs.List.{flat_map}
 use Rattle.rand_core.specs.Stream.{Stream}
 use Rattle.dcsctp_wire_build.specs.Building.{Building, bytes_remaining}
 use Rattle.dcsctp_wire.specs.Spelling.{chunk_bytes, header_bytes, packet_bytes_of}
+use Rattle.dcsctp_machine.specs.transfer.OwnResets.{ready_streams}
 use Rattle.dcsctp_machine.specs.declared.options.Options.{Options}
 use Rattle.dcsctp_machine.specs.Settings.{ports_of, packet_size_limit}
 use Rattle.dcsctp_machine.specs.Event.{Event, sent}
 use Rattle.dcsctp_machine.specs.Packet.{Content, chunk_out, Emission}
-use Rattle.dcsctp_machine.specs.transfer.Transfer.{SendQueueState, Transfer, has_data, can_send, is_none_ready}
+use Rattle.dcsctp_machine.specs.transfer.SendQueue.{SendQueueState, has_data}
+use Rattle.dcsctp_machine.specs.transfer.Transfer.{Transfer, can_send, is_none_ready}
 use Rattle.dcsctp_machine.specs.Endpoint.{Endpoint, Timers, heartbeats_begun, held_in}
 use Rattle.dcsctp_machine.specs.declared.association.Held.{Held}
 use Rattle.dcsctp_machine.specs.Outcome.{counted}
@@ -68,14 +70,14 @@ HasNoData queue (Some transfer) = (has_data queue ≡ false) × (transfer.retran
 -- No stream is ready to be reset, if the peer is known.
 abbrev pub HasNoReset : SendQueueState → Option Transfer → Type 0
 HasNoReset queue None = Unit {0}
-HasNoReset queue (Some transfer) = is_none_ready queue.ready_streams ≡ true
+HasNoReset queue (Some transfer) = is_none_ready (ready_streams queue) ≡ true
 
 -- Nothing has to go into a packet to the peer: neither an acknowledgement nor data. In the first one no request to reset streams
 -- has to go either.
 abbrev pub NeedsNone : Ask → SendQueueState → Option Transfer → Type 0
 NeedsNone ask queue None = Unit {0}
 NeedsNone ask queue (Some transfer) =
-    (wants_sack ask queue transfer ≡ false) × (ask ≡ first_ask → is_none_ready queue.ready_streams ≡ true) × (may_give queue transfer.retransmission ≡ false)
+    (wants_sack ask queue transfer ≡ false) × (ask ≡ first_ask → is_none_ready (ready_streams queue) ≡ true) × (may_give queue transfer.retransmission ≡ false)
 
 -- No SACK is asked for.
 abbrev pub WantsNone : Option Transfer → Bool → Type 0

@@ -1,7 +1,7 @@
 //! A flush: what waits is sent, in as many packets as are allowed (RFC 9260, section 6.1).
 
 ghost use Rattle.std.specs.Prelude.{◌≡◌, ◌||◌, false, Some, IsOk};
-ghost use Rattle.dcsctp_machine.specs.transfer.Transfer.{has_data};
+ghost use Rattle.dcsctp_machine.specs.transfer.SendQueue.{has_data};
 ghost use Rattle.dcsctp_machine.specs.turns.FlushOutcomes.{packets_allowed, first_ask, later_ask};
 ghost use Rattle.dcsctp_core.specs.View.{core_of, transfer_of, endpoint_of, view_of};
 ghost use Rattle.dcsctp_core.specs.Below.{AtOnceAt};

@@ -6,6 +6,7 @@ ghost use Rattle.std.specs.Int.{w16, to_be_bytes};
 ghost use Rattle.std.specs.Duration.{as_nanos};
 ghost use Rattle.dcsctp_wire.specs.Spelling.{chunk_bytes};
 ghost use Rattle.dcsctp_wire_build.specs.Building.{bytes_remaining};
+ghost use Rattle.dcsctp_machine.specs.transfer.OwnResets.{ready_streams};
 ghost use Rattle.dcsctp_machine.specs.Timers.{started};
 ghost use Rattle.dcsctp_machine.specs.Ids.{stream_numbers};
 ghost use Rattle.dcsctp_machine.specs.Packet.{chunk_out};
@@ -145,7 +146,7 @@ impl TransmissionControlBlock {
         packet: &mut SctpPacketBuilder,
     ) -> Result<(), AllocError>
         ensures ok { OnOk result (BeginsReset now queue.old self.old packet.old queue.new self.new packet.new) }
-        ensures idle { is_none_ready queue.old.ready_streams ≡ true → IsOk result }
+        ensures idle { is_none_ready (ready_streams queue.old) ≡ true → IsOk result }
     {
         if self.reset_request.is_some() || !queue.has_streams_ready_to_be_reset() {
             return Ok(());

@@ -1,5 +1,5 @@
 -- The steps of an association that a cookie makes.
-use Rattle.std.proofs.Common.{◌≡◌, ℕ, Bool, Option, None, Some, List, [], ◌∷◌, ◌++◌, map, refl, sym, ap, subst, ◌∙◌}
+use Rattle.std.proofs.Common.{◌≡◌, ℕ, Option, Some, List, [], ◌∷◌, ◌++◌, map, refl, sym, ap, subst, ◌∙◌}
 use Rattle.std.proofs.lemmas.List.{append-nil}
 use Rattle.rand_core.specs.Stream.{Stream, next_u64}
 use Rattle.dcsctp_machine.specs.declared.association.Held.{Held}
@@ -8,13 +8,13 @@ use Rattle.dcsctp_machine.specs.Settings.{ports_of}
 use Rattle.dcsctp_machine.specs.Cookie.{Cookie}
 use Rattle.dcsctp_machine.specs.Event.{Event, connected, connection_restarted}
 use Rattle.dcsctp_machine.specs.Packet.{Emission, cookie_ack}
-use Rattle.dcsctp_machine.specs.transfer.Transfer.{SendQueueState, StreamNumber, begun_again, resumed, queue_after_reset}
+use Rattle.dcsctp_machine.specs.transfer.SendQueue.{SendQueueState, restarted}
 use Rattle.dcsctp_machine.specs.Endpoint.{Endpoint, held_in}
 use Rattle.dcsctp_machine.specs.Outcome.{Outcome}
 use Rattle.dcsctp_machine.specs.control.Effect.{Effect, holds, connects, link_of}
 use Rattle.dcsctp_machine.specs.control.CookieEchoChanges.{held_by_cookie}
 use Rattle.dcsctp_machine.specs.turns.FlushOutcomes.{Answer, first_ask, flush_answered, packets_allowed}
-use Rattle.dcsctp_machine.specs.turns.CookieEchoOutcomes.{established_by, acknowledgement, establish_by, queue_kept, queue_begun, interleaves, EstablishAnswers}
+use Rattle.dcsctp_machine.specs.turns.CookieEchoOutcomes.{established_by, acknowledgement, establish_by, queue_kept, queue_begun, EstablishAnswers}
 use Rattle.dcsctp_machine.proofs.AnswerLemmas.{any_answers}
 use Rattle.dcsctp_api.specs.Calls.{user_event}
 use Rattle.dcsctp_api.specs.declared.events.SocketEvent.{SocketEvent}
@@ -141,17 +141,7 @@ establish_unmade stream old es cookie same =
 -- ---- in place of another
 
 abbrev queue_reset : {R : Type 0} → View R → View R
-queue_reset view = record view { endpoint = record view.endpoint { below = record view.endpoint.below { queue = queue_after_reset view.endpoint.below.queue } } }
-
--- Whether messages are numbered for interleaving is said before or after.
-reset_by : (queue : SendQueueState) (b : Bool) (message : Option StreamNumber)
-    → record (begun_again queue message) { streams = map resumed (begun_again queue message).streams; ready_streams = []; is_interleaved = b }
-    ≡ record (begun_again (record queue { is_interleaved = b }) message) { streams = map resumed (begun_again (record queue { is_interleaved = b }) message).streams; ready_streams = [] }
-reset_by queue b None = refl
-reset_by queue b (Some message) = refl
-
-reset_is : (e : Endpoint) (cookie : Cookie) → record (queue_after_reset e.below.queue) { is_interleaved = interleaves e cookie } ≡ queue_begun e cookie
-reset_is e cookie = reset_by e.below.queue (interleaves e cookie) e.below.queue.under_way
+queue_reset view = record view { endpoint = record view.endpoint { below = record view.endpoint.below { queue = restarted view.endpoint.below.queue } } }
 
 pub replaces : {R : Type 0} (stream : R → Stream) (old mid new : View R) (cookie : Cookie) → mid ≡ queue_reset old
     → TakesIn stream (EstablishAt stream cookie) mid new → TakesIn stream (ReplaceAt stream cookie) old new
@@ -160,7 +150,7 @@ replaces {R = R} stream old mid new cookie is t =
     let m = here.moves in
     record {
       outcome = here.outcome;
-      turn = subst (λ (queue : SendQueueState). AssociationAt stream cookie queue (connected ∷ []) old here.outcome) (reset_is old.endpoint cookie) here.turn;
+      turn = here.turn;
       moves = record { endpoint = m.endpoint; events = m.events; words = m.words; pairs = m.pairs; drawn = m.drawn };
     }
 
@@ -170,7 +160,7 @@ replaces_cut {R = R} stream old mid es cookie is t =
     let here : CutIn (EstablishAt stream cookie) (queue_reset old) es = subst (λ (v : View R). CutIn (EstablishAt stream cookie) v es) is t in
     record {
       outcome = here.outcome;
-      turn = subst (λ (queue : SendQueueState). AssociationAt stream cookie queue (connected ∷ []) old here.outcome) (reset_is old.endpoint cookie) here.turn;
+      turn = here.turn;
       cut = record { count = here.cut.count; added = here.cut.added };
     }
 

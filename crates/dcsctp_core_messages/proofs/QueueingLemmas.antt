@@ -7,7 +7,7 @@ use Rattle.dcsctp_machine.specs.Event.{Event}
 use Rattle.dcsctp_machine.specs.Settings.{ports_of}
 use Rattle.dcsctp_machine.specs.Endpoint.{Endpoint}
 use Rattle.dcsctp_machine.specs.Outcome.{Outcome, then_outcome}
-use Rattle.dcsctp_machine.specs.turns.MessageOutcomes.{MessageRefusal, message_refusal, Sending, RefusedMessage, refused_where, refused_from, queue_by, queue_one, queue_all, takes_any}
+use Rattle.dcsctp_machine.specs.turns.MessageOutcomes.{MessageRefusal, sending_refusal, Sending, RefusedMessage, refused_where, refused_from, queue_by, queue_one, queue_all, takes_any}
 use Rattle.dcsctp_api.specs.declared.errors.SendError.{SendError}
 use Rattle.dcsctp_api.specs.Messages.{refused_in}
 use Rattle.dcsctp_core.specs.View.{View, Moves, CutTurn}
@@ -24,7 +24,7 @@ by_options e message None = refl
 by_options e message (Some refusal) = refl
 
 pub one_options : (e : Endpoint) (message : Sending) → (queue_one e message).after.options ≡ e.options
-one_options e message = by_options e message (message_refusal e message.stream message.bytes)
+one_options e message = by_options e message (sending_refusal e message)
 
 pub all_options : (e : Endpoint) (messages : List Sending) → (queue_all e messages).after.options ≡ e.options
 all_options e [] = refl
@@ -86,7 +86,7 @@ module _ {R : Type 0} (stream : R → Stream) (all : List Sending) (start : View
   or_true true c = refl
   or_true false c = refl
 
-  goes_where : (refusal : Option MessageRefusal) → refusal ≡ message_refusal here.endpoint message.stream message.bytes → (queued_then : QueuedAll) (next : View R)
+  goes_where : (refusal : Option MessageRefusal) → refusal ≡ sending_refusal here.endpoint message → (queued_then : QueuedAll) (next : View R)
       → NotedAt place refusal queued queued_then → Moves stream here (queue_one here.endpoint message) next → GoesOn stream all start (place + 1) queued_then left next
   goes_where None none queued_then next noted m =
       let after : Endpoint = (queue_one here.endpoint message).after in
@@ -123,9 +123,9 @@ module _ {R : Type 0} (stream : R → Stream) (all : List Sending) (start : View
         cuts = next_cuts next m;
       }
 
-  pub goes_next : (queued_then : QueuedAll) (next : View R) → NotedAt place (message_refusal here.endpoint message.stream message.bytes) queued queued_then
+  pub goes_next : (queued_then : QueuedAll) (next : View R) → NotedAt place (sending_refusal here.endpoint message) queued queued_then
       → Moves stream here (queue_one here.endpoint message) next → GoesOn stream all start (place + 1) queued_then left next
-  goes_next queued_then next noted m = goes_where (message_refusal here.endpoint message.stream message.bytes) refl queued_then next noted m
+  goes_next queued_then next noted m = goes_where (sending_refusal here.endpoint message) refl queued_then next noted m
 
   -- a growth was refused within the message
   pub goes_cut : (events : List (Event (List ℕ))) → CutTurn here (queue_one here.endpoint message) events → CutTurn start (queue_all start.endpoint all) events

@@ -1,58 +1,64 @@
 -- Own streams that are prepared to be reset, one after another, and then a flush.
-use Rattle.std.proofs.Common.{◌≡◌, ◌-◌, ℕ, Bool, true, false, Option, None, Some, Result, Ok, Err, List, [], ◌∷◌, ◌++◌, length, map, take, refl, sym, ap, subst, ◌∙◌, arith}
-use Rattle.std.proofs.lemmas.List.{append-nil, map-append}
+use Rattle.std.proofs.Common.{◌≡◌, ℕ, Option, None, Some, Result, Ok, Err, List, [], ◌∷◌, ◌++◌, length, map, take, refl, sym, ap, subst, ◌∙◌}
+use Rattle.std.proofs.lemmas.List.{append-nil}
 use Rattle.std.proofs.Math.Seq.{take-append_seam}
 use Rattle.rand_core.specs.Stream.{Stream}
 use Rattle.dcsctp_machine.specs.Event.{Event}
+use Rattle.dcsctp_machine.specs.Packet.{emission_bytes}
 use Rattle.dcsctp_machine.specs.Settings.{ports_of}
-use Rattle.dcsctp_machine.specs.transfer.Transfer.{SendQueueState, queued_stream}
+use Rattle.dcsctp_api.specs.Calls.{user_event}
+use Rattle.dcsctp_machine.specs.transfer.OwnResets.{prepare_events}
+use Rattle.dcsctp_machine.specs.transfer.SendQueue.{SendQueueState}
+use Rattle.dcsctp_machine.proofs.SendEventLemmas.{prepare_mapped}
 use Rattle.dcsctp_machine.specs.Endpoint.{Endpoint, held_in}
-use Rattle.dcsctp_machine.specs.Outcome.{Outcome, still, quiet, then_outcome}
-use Rattle.dcsctp_machine.specs.turns.FlushOutcomes.{Told, told_event}
+use Rattle.dcsctp_machine.specs.Outcome.{Outcome, still, then_outcome}
 use Rattle.dcsctp_machine.specs.turns.DataOutcomes.{flush_by, FlushTurn}
-use Rattle.dcsctp_machine.specs.turns.PreparedResets.{ResetRefusal, reset_refusal, has_fallen, low_told, queue_pausing, PreparesWhere, PreparesAll, none, more, with_queue, OwnResetsWhere, OwnResetsTurn}
-use Rattle.dcsctp_send_streams.specs.Telling.{contents}
-use Rattle.dcsctp_transfer.specs.Preparing.{PreparesStream, StopsPreparing, TriesStream}
+use Rattle.dcsctp_machine.specs.turns.PreparedResets.{ResetRefusal, reset_refusal, with_queue, OwnResetsWhere, OwnResetsTurn}
+use Rattle.dcsctp_send_streams.specs.Telling.{contents, TellsFront}
+use Rattle.dcsctp_transfer.specs.Preparing.{PreparesStream, TriesStream}
 use Rattle.dcsctp_core.specs.declared.context.Context.{Context}
 use Rattle.dcsctp_core.specs.View.{View, view_of}
 use Rattle.dcsctp_core.specs.Handling.{TakesIn, CutIn, TakesOne, FlushAt}
 use Rattle.dcsctp_core.proofs.Composing.{cut_longer}
-use Rattle.dcsctp_core.proofs.FillLemmas.{told_user}
 use Rattle.dcsctp_core.proofs.FlushLemmas.{moves_next}
 use Rattle.dcsctp_core.proofs.Moving.{moves_still}
-use Rattle.dcsctp_core_messages.specs.Resetting.{PreparesOne, PreparesSome, OneAt, SomeAt, ResetsAt}
+use Rattle.dcsctp_core_messages.specs.Resetting.{prepared_turn, prepared_turns, OneAt, SomeAt, ResetsAt}
 use Rattle.dcsctp_core_messages.proofs.QueueingLemmas.{cut_next}
 use Rattle.dcsctp_core_messages.proofs.SendingLemmas.{any_to}
 
 -- ---- one stream
 
 module _ {R : Type 0} (stream : R → Stream) (id : ℕ) (a : View R) where
+  -- what the user is told of it
+  user_told : prepare_events id a.endpoint.below.queue ≡ map (user_event (ports_of a.endpoint.options)) (prepare_events id a.endpoint.below.queue)
+  user_told = sym (prepare_mapped (emission_bytes (ports_of a.endpoint.options)) id a.endpoint.below.queue)
+
   one_prepared : (left : SendQueueState) (events : List (Event (List ℕ))) → PreparesStream id a.endpoint.below.queue a.events left events
       → TakesIn stream (OneAt id) a (record a { endpoint = with_queue a.endpoint left; events = events })
   one_prepared left events p =
       record {
-        outcome = quiet (with_queue a.endpoint left) [] (map told_event p.told);
-        turn = record { queue = left; told = p.told; prepares = p.prepares; is = refl };
+        outcome = prepared_turn id a.endpoint;
+        turn = refl;
         moves = record {
-          endpoint = refl;
-          events = p.tells ∙ ap (λ (es : List (Event (List ℕ))). a.events ++ es) (told_user (ports_of a.endpoint.options) p.told);
+          endpoint = ap (with_queue a.endpoint) p.left;
+          events = p.tells ∙ ap (λ (es : List (Event (List ℕ))). a.events ++ es) user_told;
           words = sym (append-nil a.words);
           pairs = sym (append-nil a.pairs);
           drawn = refl;
         };
       }
 
-  one_stopped : (events : List (Event (List ℕ))) → StopsPreparing id a.endpoint.below.queue a.events events → CutIn (OneAt id) a events
-  one_stopped events p =
-      let front : List (Event (List ℕ)) = p.tells.front in
+  one_stopped : (events : List (Event (List ℕ))) → TellsFront a.events (prepare_events id a.endpoint.below.queue) events → CutIn (OneAt id) a events
+  one_stopped events tells =
+      let front : List (Event (List ℕ)) = tells.front in
       record {
-        outcome = quiet (with_queue a.endpoint p.left) [] (map told_event p.told);
-        turn = record { queue = p.left; told = p.told; prepares = p.prepares; is = refl };
+        outcome = prepared_turn id a.endpoint;
+        turn = refl;
         cut = record {
           count = length front;
-          added = p.tells.told
+          added = tells.told
               ∙ ap (λ (es : List (Event (List ℕ))). a.events ++ es)
-              (sym (take-append_seam front p.tells.rest) ∙ ap (take (length front)) (sym p.tells.parts ∙ told_user (ports_of a.endpoint.options) p.told));
+              (sym (take-append_seam front tells.rest) ∙ ap (take (length front)) (sym tells.parts ∙ user_told));
         };
       }
 
@@ -63,65 +69,28 @@ tries_one {R = R} stream id old (Ok done) new is tries =
     subst (λ (v : View R). TakesIn stream (OneAt id) (view_of old) v) (sym is) (one_prepared stream id (view_of old) new.send_queue (contents new.events) tries)
 tries_one stream id old (Err error) new is tries = one_stopped stream id (view_of old) (contents new.events) tries
 
--- ---- whatever a stream is, it may be prepared
-
-any_where : (b : Bool) (id : ℕ) (queue : SendQueueState) → (told : List Told) × (left : SendQueueState) × PreparesWhere b id queue told left
-any_where true id queue = ([], queue, (refl, refl))
-any_where false id queue = (
-  low_told (queued_stream queue id) 0 (has_fallen queue.total_low_threshold queue.total_buffered_amount (queue.total_buffered_amount - 0)) ++ [],
-  queue_pausing id 0 queue,
-  record {
-    bytes = 0;
-    names = [];
-    left = refl;
-    tells = refl;
-    named = omega arith;
-    none = λ zero. refl;
-  },
-)
-
-any_all : (ids : List ℕ) (queue : SendQueueState) → (told : List Told) × (left : SendQueueState) × PreparesAll ids queue told left
-any_all [] queue = ([], queue, none queue)
-any_all (id ∷ ids) queue =
-    let first = any_where (queued_stream queue id).is_paused id queue in
-    let rest = any_all ids first.1 in
-    (first.0 ++ rest.0, rest.1, more id ids queue first.1 rest.1 first.0 rest.0 first.2 rest.2)
-
-any_some : (ids : List ℕ) (e : Endpoint) → (o : Outcome) × PreparesSome ids e o
-any_some ids e =
-    let any = any_all ids e.below.queue in
-    (quiet (with_queue e any.1) [] (map told_event any.0), record { queue = any.1; told = any.0; prepares = any.2; is = refl })
-
 -- ---- several
 
-some_more : (id : ℕ) (ids : List ℕ) (e : Endpoint) (o p : Outcome) → PreparesOne id e o → PreparesSome ids o.after p → PreparesSome (id ∷ ids) e (then_outcome o p)
+some_more : (id : ℕ) (ids : List ℕ) (e : Endpoint) (o p : Outcome) → o ≡ prepared_turn id e → p ≡ prepared_turns ids o.after → then_outcome o p ≡ prepared_turns (id ∷ ids) e
 some_more id ids e o p h k =
-    let after : o.after ≡ with_queue e h.queue = ap (λ (x : Outcome). x.after) h.is in
-    record {
-      queue = k.queue;
-      told = h.told ++ k.told;
-      prepares = more id ids e.below.queue h.queue k.queue h.told k.told h.prepares (subst (λ (x : Endpoint). PreparesAll ids x.below.queue k.told k.queue) after k.prepares);
-      is = ap (λ (x : Outcome). then_outcome x p) h.is
-          ∙ (ap (then_outcome (quiet (with_queue e h.queue) [] (map told_event h.told))) (k.is ∙ ap (λ (x : Endpoint). quiet (with_queue x k.queue) [] (map told_event k.told)) after)
-          ∙ ap (quiet (with_queue e k.queue) []) (sym (map-append told_event h.told k.told)));
-    }
+    ap (λ (x : Outcome). then_outcome x p) h ∙ ap (then_outcome (prepared_turn id e)) (k ∙ ap (λ (x : Outcome). prepared_turns ids x.after) h)
 
-one_options : (id : ℕ) (e : Endpoint) (o : Outcome) → PreparesOne id e o → o.after.options ≡ e.options
-one_options id e o h = ap (λ (x : Outcome). x.after.options) h.is
+one_options : (id : ℕ) (e : Endpoint) (o : Outcome) → o ≡ prepared_turn id e → o.after.options ≡ e.options
+one_options id e o h = ap (λ (x : Outcome). x.after.options) h
 
-some_options : (ids : List ℕ) (e : Endpoint) (o : Outcome) → PreparesSome ids e o → o.after.options ≡ e.options
-some_options ids e o h = ap (λ (x : Outcome). x.after.options) h.is
+some_options : (ids : List ℕ) (e : Endpoint) (o : Outcome) → o ≡ prepared_turns ids e → o.after.options ≡ e.options
+some_options ids e o h = ap (λ (x : Outcome). x.after.options) h
 
 none_prepared : {R : Type 0} (stream : R → Stream) (a : View R) → TakesIn stream (SomeAt []) a a
 none_prepared stream a =
-    record { outcome = still a.endpoint; turn = record { queue = a.endpoint.below.queue; told = []; prepares = none a.endpoint.below.queue; is = refl }; moves = moves_still stream a }
+    record { outcome = still a.endpoint; turn = refl; moves = moves_still stream a }
 
 module _ {R : Type 0} (stream : R → Stream) (id : ℕ) (ids : List ℕ) (a b : View R) where
   then_prepared : (c : View R) → TakesIn stream (OneAt id) a b → TakesIn stream (SomeAt ids) b c → TakesIn stream (SomeAt (id ∷ ids)) a c
   then_prepared c h k =
       record {
         outcome = then_outcome h.outcome k.outcome;
-        turn = some_more id ids a.endpoint h.outcome k.outcome h.turn (subst (λ (e : Endpoint). PreparesSome ids e k.outcome) h.moves.endpoint k.turn);
+        turn = some_more id ids a.endpoint h.outcome k.outcome h.turn (k.turn ∙ ap (prepared_turns ids) h.moves.endpoint);
         moves = moves_next stream a b c h.outcome k.outcome (one_options id a.endpoint h.outcome h.turn) h.moves k.moves;
       }
 
@@ -129,17 +98,17 @@ module _ {R : Type 0} (stream : R → Stream) (id : ℕ) (ids : List ℕ) (a b :
   then_stopped events h k =
       record {
         outcome = then_outcome h.outcome k.outcome;
-        turn = some_more id ids a.endpoint h.outcome k.outcome h.turn (subst (λ (e : Endpoint). PreparesSome ids e k.outcome) h.moves.endpoint k.turn);
+        turn = some_more id ids a.endpoint h.outcome k.outcome h.turn (k.turn ∙ ap (prepared_turns ids) h.moves.endpoint);
         cut = cut_next stream a b h.outcome k.outcome events (one_options id a.endpoint h.outcome h.turn) h.moves k.cut;
       }
 
   first_stopped : (events : List (Event (List ℕ))) → CutIn (OneAt id) a events → CutIn (SomeAt (id ∷ ids)) a events
   first_stopped events h =
-      let any = any_some ids h.outcome.after in
+      let rest : Outcome = prepared_turns ids h.outcome.after in
       record {
-        outcome = then_outcome h.outcome any.0;
-        turn = some_more id ids a.endpoint h.outcome any.0 h.turn any.1;
-        cut = cut_longer a h.outcome (then_outcome h.outcome any.0) any.0.events events refl h.cut;
+        outcome = then_outcome h.outcome rest;
+        turn = some_more id ids a.endpoint h.outcome rest h.turn refl;
+        cut = cut_longer a h.outcome (then_outcome h.outcome rest) rest.events events refl h.cut;
       }
 
 -- ---- what is left of some streams
@@ -173,16 +142,13 @@ goes_done stream all start left here is g =
 resets_where : (ids : List ℕ) (e : Endpoint) (refusal : Option ResetRefusal) (o : Outcome) → refusal ≡ reset_refusal e → OwnResetsWhere refusal e ids o → OwnResetsTurn e ids o
 resets_where ids e refusal o is h = subst (λ (r : Option ResetRefusal). OwnResetsWhere r e ids o) is h
 
-flushes_behind : (ids : List ℕ) (e : Endpoint) (o p : Outcome) → None ≡ reset_refusal e → PreparesSome ids e o → FlushTurn o.after p → OwnResetsTurn e ids (then_outcome o p)
+flushes_behind : (ids : List ℕ) (e : Endpoint) (o p : Outcome) → None ≡ reset_refusal e → o ≡ prepared_turns ids e → FlushTurn o.after p → OwnResetsTurn e ids (then_outcome o p)
 flushes_behind ids e o p is h k =
     resets_where ids e None (then_outcome o p) is
     (record {
-      queue = h.queue;
-      told = h.told;
-      prepares = h.prepares;
       flushed = p;
-      flushes = subst (λ (x : Endpoint). FlushTurn x p) (ap (λ (x : Outcome). x.after) h.is) k;
-      is = ap (λ (x : Outcome). then_outcome x p) h.is;
+      flushes = subst (λ (x : Endpoint). FlushTurn x p) (ap (λ (x : Outcome). x.after) h) k;
+      is = ap (λ (x : Outcome). then_outcome x p) h;
     })
 
 any_flush : (e : Endpoint) → (o : Outcome) × FlushTurn e o

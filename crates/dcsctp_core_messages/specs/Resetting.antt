@@ -1,36 +1,29 @@
 -- What a reset of our own streams does, as turns of a socket's view.
-use Rattle.std.specs.Prelude.{◌≡◌, ℕ, Result, Ok, Err, List, [], map}
+use Rattle.std.specs.Prelude.{◌≡◌, ℕ, Result, Ok, Err, List, []}
 use Rattle.rand_core.specs.Stream.{Stream}
-use Rattle.dcsctp_machine.specs.transfer.Transfer.{SendQueueState}
+use Rattle.dcsctp_machine.specs.transfer.OwnResets.{prepared, prepared_all, prepare_events, prepare_all_events}
 use Rattle.dcsctp_machine.specs.Endpoint.{Endpoint}
 use Rattle.dcsctp_machine.specs.Outcome.{Outcome, quiet}
-use Rattle.dcsctp_machine.specs.turns.FlushOutcomes.{Told, told_event}
-use Rattle.dcsctp_machine.specs.turns.PreparedResets.{reset_refusal, Prepares, PreparesAll, with_queue, OwnResetsTurn}
+use Rattle.dcsctp_machine.specs.turns.PreparedResets.{reset_refusal, with_queue, OwnResetsTurn}
 use Rattle.dcsctp_api.specs.declared.errors.ResetStreamsError.{ResetStreamsError}
 use Rattle.dcsctp_api.specs.Resets.{reset_refusal_in}
 use Rattle.dcsctp_core.specs.declared.context.Context.{Context}
 use Rattle.dcsctp_core.specs.View.{View, view_of}
 use Rattle.dcsctp_core.specs.Handling.{TakesIn, CutIn}
 
--- A stream was prepared, and the user was told of it.
-pub record PreparesOne (id : ℕ) (e : Endpoint) (o : Outcome) : Type 0 where
-  pub queue : SendQueueState
-  pub told : List Told
-  pub prepares : Prepares id e.below.queue told queue
-  pub is : o ≡ quiet (with_queue e queue) [] (map told_event told)
+-- the turn in which a stream is prepared
+abbrev pub prepared_turn : ℕ → Endpoint → Outcome
+prepared_turn id e = quiet (with_queue e (prepared id e.below.queue)) [] (prepare_events id e.below.queue)
 
 -- the same for several
-pub record PreparesSome (ids : List ℕ) (e : Endpoint) (o : Outcome) : Type 0 where
-  pub queue : SendQueueState
-  pub told : List Told
-  pub prepares : PreparesAll ids e.below.queue told queue
-  pub is : o ≡ quiet (with_queue e queue) [] (map told_event told)
+abbrev pub prepared_turns : List ℕ → Endpoint → Outcome
+prepared_turns ids e = quiet (with_queue e (prepared_all ids e.below.queue)) [] (prepare_all_events ids e.below.queue)
 
 abbrev pub OneAt : {R : Type 0} → ℕ → View R → Outcome → Type 0
-OneAt id view o = PreparesOne id view.endpoint o
+OneAt id view o = o ≡ prepared_turn id view.endpoint
 
 abbrev pub SomeAt : {R : Type 0} → List ℕ → View R → Outcome → Type 0
-SomeAt ids view o = PreparesSome ids view.endpoint o
+SomeAt ids view o = o ≡ prepared_turns ids view.endpoint
 
 abbrev pub ResetsAt : {R : Type 0} → List ℕ → View R → Outcome → Type 0
 ResetsAt ids view o = OwnResetsTurn view.endpoint ids o

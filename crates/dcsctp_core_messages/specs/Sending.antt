@@ -7,7 +7,7 @@ use Rattle.dcsctp_machine.specs.Ids.{lifecycle_number}
 use Rattle.dcsctp_machine.specs.Event.{Event, lifecycle_end}
 use Rattle.dcsctp_machine.specs.Packet.{Emission}
 use Rattle.dcsctp_machine.specs.Outcome.{Outcome, still, quiet, reports}
-use Rattle.dcsctp_machine.specs.turns.MessageOutcomes.{MessageRefusal, message_refusal, refusal_kind, refusal_text, refusal_events, Sending, message_queued, queue_one, queue_all, refused_from, takes_any, SendTurn}
+use Rattle.dcsctp_machine.specs.turns.MessageOutcomes.{MessageRefusal, sending_refusal, refusal_kind, refusal_text, refusal_events, Sending, message_queued, queue_one, queue_all, refused_from, takes_any, SendTurn}
 use Rattle.dcsctp_api.specs.declared.errors.BatchSendError.{BatchSendError}
 use Rattle.dcsctp_api.specs.declared.errors.SendError.{SendError}
 use Rattle.dcsctp_api.specs.Messages.{refusal_of, refusal_in, refused_in, IsBatchAnswer}
@@ -46,7 +46,7 @@ queued_turn message view = still (message_queued view.endpoint message)
 -- The message was taken or refused; or an allocation failed, and the first of its events may have been added.
 abbrev pub Queues : {R E : Type 0} → (R → Stream) → Sending → Context R → Result (Option SendError) E → Context R → Type 0
 Queues stream message old (Ok refused) new =
-    (option_map refusal_of refused ≡ message_refusal (view_of old).endpoint message.stream message.bytes)
+    (option_map refusal_of refused ≡ sending_refusal (view_of old).endpoint message)
     × Moves stream (view_of old) (queue_one (view_of old).endpoint message) (view_of new)
 Queues stream message old (Err error) new = CutTurn (view_of old) (queue_one (view_of old).endpoint message) (view_of new).events
 
@@ -61,7 +61,7 @@ NotedAt place (Some refusal) old new =
 -- have been added.
 abbrev pub QueuesAt : {R E : Type 0} → (R → Stream) → ℕ → Sending → QueuedAll → Context R → Result (Unit {0}) E → QueuedAll → Context R → Type 0
 QueuesAt stream place message queued old (Ok done) queued_then new =
-    NotedAt place (message_refusal (view_of old).endpoint message.stream message.bytes) queued queued_then
+    NotedAt place (sending_refusal (view_of old).endpoint message) queued queued_then
     × Moves stream (view_of old) (queue_one (view_of old).endpoint message) (view_of new)
 QueuesAt stream place message queued old (Err error) queued_then new = CutTurn (view_of old) (queue_one (view_of old).endpoint message) (view_of new).events
 
@@ -83,7 +83,7 @@ SendAt messages view o = SendTurn view.endpoint messages o
 -- The message was sent or refused; or an allocation failed, and the first of its events may have been added.
 abbrev pub SendsOne : {R E : Type 0} → (R → Stream) → Sending → Context R → Result (Result (Unit {0}) SendError) E → Context R → Type 0
 SendsOne stream message old (Ok answer) new =
-    (refusal_in answer ≡ message_refusal (view_of old).endpoint message.stream message.bytes)
+    (refusal_in answer ≡ sending_refusal (view_of old).endpoint message)
     × TakesIn stream (SendAt (message ∷ [])) (view_of old) (view_of new)
 SendsOne stream message old (Err error) new = CutIn (SendAt (message ∷ [])) (view_of old) (view_of new).events
 

@@ -25,7 +25,7 @@ use Rattle.dcsctp_machine.specs.control.Effect.{Effect, drawn_in}
 use Rattle.dcsctp_machine.specs.control.ResetChanges.{Place, again, next, astray, place_of, Answered, incoming_by, Informed, informed_by, is_outstanding, informed_where, WorkedParameters, work_parameters, work_chunk}
 use Rattle.dcsctp_machine.specs.turns.FlushOutcomes.{is_none, Answer, draft_to, flush_of, first_ask, packets_allowed}
 use Rattle.dcsctp_machine.specs.turns.DataOutcomes.{flush_by, AnswersTo, FlushTurn}
-use Rattle.dcsctp_machine.specs.turns.ResetOutcomes.{requested_in, is_reached, worked_in, OwnAnswer, unanswered, retried, over, own_moved, own_answer, in_progress_among, answered_in, worked_part, own_streams, has_reset, answers_in_progress, ResetsBelow, ResetsStreams, defers_reset, their_streams, told_of, core_with, resets_worked, reset_refusal_text, responses_outcome, responses_by, ResponseAnswers, resets_by, WorksResets, ResetTurn}
+use Rattle.dcsctp_machine.specs.turns.ResetOutcomes.{requested_in, is_reached, worked_in, OwnAnswer, unanswered, retried, was_performed, has_failed, own_moved, own_answer, in_progress_among, answered_in, worked_part, own_streams, has_reset, answers_in_progress, ResetsBelow, ResetsStreams, defers_reset, their_streams, told_of, core_with, resets_worked, reset_refusal_text, responses_outcome, responses_by, ResponseAnswers, resets_by, WorksResets, ResetTurn}
 use Rattle.dcsctp_machine.proofs.AnswerLemmas.{any_answers}
 use Rattle.dcsctp_machine.proofs.ReassemblyLemmas.{any_left}
 use Rattle.dcsctp_machine.proofs.TurnLemmas.{drawn_in-append}
@@ -47,8 +47,8 @@ use Rattle.dcsctp_core_resets.specs.declared.requests.Treatment.TheVariants.{Not
 use Rattle.dcsctp_core_resets.specs.declared.requests.HandledRequests.{HandledRequests}
 use Rattle.dcsctp_core_resets.specs.declared.requests.OwnAnswer.TheVariants as own
 use Rattle.dcsctp_core_resets.specs.declared.requests.OwnAnswer as requests
-use Rattle.dcsctp_core_resets.specs.Requests.{reset_parameters, held_with, held_out, held_now, is_performed, is_deferred, treated_events, left_out, own_kind, own_events, told_so}
-use Rattle.dcsctp_core_resets.proofs.RequestLemmas.{resets_of, has_both}
+use Rattle.dcsctp_core_resets.specs.Requests.{is_completed, reset_parameters, held_with, held_out, held_now, is_performed, is_deferred, treated_events, left_out, own_kind, own_events, told_so}
+use Rattle.dcsctp_core_resets.proofs.RequestLemmas.{completed_is, resets_of, has_both}
 use Rattle.dcsctp_core_resets.specs.Resets.{ReConfigAt, last_in, WorksFor, core_asked, asked_at, left_at, told_for, Defers, DefersTo, Treats, TreatsBelow, core_settled, settled_at, own_told, told_both, told_where, responses_to, responses_turn, FinishAt}
 use Rattle.dcsctp_core_resets.proofs.SettlingLemmas.{none_numbered}
 
@@ -333,13 +333,15 @@ echoed_settled : (my : Pair) (held : Held) (cookie : List ℕ) (answer : OwnAnsw
     → core_settled answer (core_asked last (cookie_echoed my held cookie)) ≡ core_with (cookie_echoed my held cookie) (held_out (left_out answer held.own_outstanding) (held_with held last))
 echoed_settled my held cookie unanswered last = refl
 echoed_settled my held cookie retried last = refl
-echoed_settled my held cookie over last = refl
+echoed_settled my held cookie was_performed last = refl
+echoed_settled my held cookie has_failed last = refl
 
 open_settled : (phase : OpenPhase) (my : Pair) (held : Held) (answer : OwnAnswer) (last : LastRequest)
     → core_settled answer (core_asked last (open_in phase my held)) ≡ core_with (open_in phase my held) (held_out (left_out answer held.own_outstanding) (held_with held last))
 open_settled phase my held unanswered last = refl
 open_settled phase my held retried last = refl
-open_settled phase my held over last = refl
+open_settled phase my held was_performed last = refl
+open_settled phase my held has_failed last = refl
 
 pub peer_of : (state : State) → is_some (transfer_of state) ≡ true → Peer state
 peer_of Closed some = absurd (cc)
@@ -527,7 +529,7 @@ pub nobody_asked : {R : Type 0} (old asked : Context R) (w : HandledRequests) (p
     → outstanding_of asked.state ≡ None → w.own ≡ own.Unanswered
 nobody_asked {R = R} old asked w parameters h here none =
     let before : outstanding_of old.state ≡ None = sym (ap (λ (v : View R). v.endpoint.outstanding) here) ∙ none in
-    kind_none w.own (h.own ∙ ap (λ (n : Option ℕ). own_answer n w.outstanding (in_progress_among n (worked_part false parameters))) (none_numbered old.state before))
+    kind_none w.own (h.own ∙ ap (λ (n : Option ℕ). own_answer n w.outstanding (in_progress_among n (worked_part false parameters)) (is_completed w.own)) (none_numbered old.state before))
 
 -- the view once both requests were treated
 abbrev pub carried_view : {R : Type 0} → Context R → HandledRequests → List ResetParameter → Option Transfer → View R
@@ -548,8 +550,10 @@ begins_there : (answer : OwnAnswer) (e : Endpoint) (asked core : Core) (left : O
 begins_there unanswered e asked core left held is = ap (λ (c : Core). let x : Endpoint = record e { core = c; below = record e.below { transfer = left } } in x) is
 begins_there retried e asked core left held is =
     let moved : Endpoint = own_moved retried e in ap (λ (c : Core). let x : Endpoint = record moved { core = c; below = record moved.below { transfer = left } } in x) is
-begins_there over e asked core left held is =
-    let moved : Endpoint = own_moved over e in ap (λ (c : Core). let x : Endpoint = record moved { core = c; below = record moved.below { transfer = left } } in x) is
+begins_there was_performed e asked core left held is =
+    let moved : Endpoint = own_moved was_performed e in ap (λ (c : Core). let x : Endpoint = record moved { core = c; below = record moved.below { transfer = left } } in x) is
+begins_there has_failed e asked core left held is =
+    let moved : Endpoint = own_moved has_failed e in ap (λ (c : Core). let x : Endpoint = record moved { core = c; below = record moved.below { transfer = left } } in x) is
 
 -- what is known of the association by then
 core_by : {R : Type 0} (old : Context R) (p : Peer old.state) (parameters : List ResetParameter) (w : HandledRequests) → WorkedAt old parameters w
@@ -561,7 +565,12 @@ core_by old p parameters w h =
 -- what becomes of the own request
 kind_by : {R : Type 0} (old : Context R) (p : Peer old.state) (parameters : List ResetParameter) (w : HandledRequests) (h : WorkedAt old parameters w)
     → own_kind w.own ≡ answered_in p.held (kept_by p.held (h.effects p.my p.held) w) parameters
-kind_by old p parameters w h = h.own ∙ ap (λ (n : Option ℕ). own_answer n w.outstanding (in_progress_among n (worked_part false parameters))) p.own
+kind_by old p parameters w h =
+    let effects : List Effect = h.effects p.my p.held in
+    h.own
+    ∙ (ap (λ (n : Option ℕ). own_answer n w.outstanding (in_progress_among n (worked_part false parameters)) (is_completed w.own)) p.own
+    ∙ ap (own_answer p.held.own_outstanding w.outstanding (in_progress_among p.held.own_outstanding (worked_part false parameters)))
+    (sym (completed_is w effects (reset_parameters w.responses.items) (h.treats p.my p.held))))
 
 endpoint_by : {R : Type 0} (old : Context R) (p : Peer old.state) (parameters : List ResetParameter) (w : HandledRequests) (h : WorkedAt old parameters w) (left : Option Transfer)
     → (carried_view old w parameters left).endpoint ≡ resets_worked (endpoint_of old) (answered_in p.held (kept_by p.held (h.effects p.my p.held) w) parameters) (held_now p.held w) left
@@ -607,7 +616,8 @@ turn_by old p parameters w h left later below turn =
 settled_ports : (answer : OwnAnswer) (e : Endpoint) → ports_of (own_moved answer e).options ≡ ports_of e.options
 settled_ports unanswered e = refl
 settled_ports retried e = refl
-settled_ports over e = refl
+settled_ports was_performed e = refl
+settled_ports has_failed e = refl
 
 adds_told : {R : Type 0} (old : Context R) (p : Peer old.state) (parameters : List ResetParameter) (w : HandledRequests) (h : WorkedAt old parameters w) (left : Option Transfer)
     → Adds (view_of old) (told_by old w parameters) (carried_view old w parameters left)

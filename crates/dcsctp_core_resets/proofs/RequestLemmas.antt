@@ -9,19 +9,19 @@ use Rattle.dcsctp_wire.specs.declared.reconfiguration.ReconfigurationResponseRes
 use Rattle.dcsctp_wire.specs.Content.{ParameterContent, parameter_content}
 use Rattle.dcsctp_machine.specs.declared.association.Pair.{Pair}
 use Rattle.dcsctp_machine.specs.declared.association.Held.{Held}
-use Rattle.dcsctp_machine.specs.Event.{Event}
+use Rattle.dcsctp_machine.specs.Event.{Event, streams_reset_performed}
 use Rattle.dcsctp_machine.specs.Packet.{Emission}
 use Rattle.dcsctp_machine.specs.Reconfiguration.{RequestedReset, ResetParameter, outgoing_reset_request, incoming_reset_request, reconfiguration_response, other_reset_parameter, reset_parameter_content, reset_parameter_in}
 use Rattle.dcsctp_machine.specs.control.Effect.{Effect, draws, sends, holds, connects, ends, begins, completes, fails, accepts, performs, drawn_in}
 use Rattle.dcsctp_machine.specs.control.ResetChanges.{Place, again, next, astray, place_of, Answered, accepted, outgoing_by, incoming_by, Informed, is_outstanding, informed_where, WorkedParameters, after_request, after_answer, work_parameters, work_chunk, informed_by}
 use Rattle.dcsctp_machine.specs.turns.FlushOutcomes.{is_none}
-use Rattle.dcsctp_machine.specs.turns.ResetOutcomes.{has_reset, answers_in_progress, reset_events, worked_part, is_in_progress, own_answer, in_progress_among}
+use Rattle.dcsctp_machine.specs.turns.ResetOutcomes.{has_reset, answers_in_progress, reset_events, worked_part, is_in_progress, own_answer, in_progress_among, has_completed}
 use Rattle.dcsctp_core_resets.specs.declared.requests.Treatment.{Treatment}
-use Rattle.dcsctp_core_resets.specs.declared.requests.Treatment.TheVariants.{Nothing}
+use Rattle.dcsctp_core_resets.specs.declared.requests.Treatment.TheVariants.{Nothing, Deferred, Performed}
 use Rattle.dcsctp_core_resets.specs.declared.requests.LastRequest.{LastRequest}
 use Rattle.dcsctp_core_resets.specs.declared.requests.AnsweredRequest.{AnsweredRequest}
 use Rattle.dcsctp_core_resets.specs.declared.requests.HandledRequests.{HandledRequests}
-use Rattle.dcsctp_core_resets.specs.Requests.{said_by, reset_parameters, is_outgoing, held_with, is_performed, is_deferred, treated_events, Treats, AnswersAs, Responds, behind_these, AreResponses, WorksOne, WorksChunk, held_out, own_events, own_kind, own_ended, with_result, with_response, left_out, SameOwn, held_now, told_so, TreatsBoth, Brings, brings_nothing, brings_request, brings_answer}
+use Rattle.dcsctp_core_resets.specs.Requests.{said_by, reset_parameters, is_outgoing, held_with, is_performed, is_deferred, treated_events, Treats, AnswersAs, Responds, behind_these, AreResponses, WorksOne, WorksChunk, held_out, own_events, own_kind, is_completed, own_ended, with_result, with_response, left_out, SameOwn, held_now, told_so, TreatsBoth, Brings, brings_nothing, brings_request, brings_answer}
 use Rattle.std.specs.List.{list_any}
 use Rattle.std.proofs.lemmas.List.Folds.{list_any-append}
 use Rattle.dcsctp_wire.specs.declared.reconfiguration.ReconfigurationResponseResult.TheVariants.{SuccessNothingToDo, SuccessPerformed, Denied, ErrorWrongSSN, ErrorRequestAlreadyInProgress, ErrorBadSequenceNumber, InProgress}
@@ -325,11 +325,18 @@ not_second has parameter request is first = second_by has (said_by parameter) (a
 
 -- ---- the parameters so far
 
+-- has the own request ended?
+abbrev pub has_ended : OwnAnswer → Bool
+has_ended own.Unanswered = false
+has_ended own.InProgress = false
+has_ended own.Performed = true
+has_ended own.Failed = true
+
 -- Where the own request stands: as it did, perhaps answered as in progress; or at its end, of which the user is told first, or behind
 -- what became of the peer's request.
 pub data OwnStands (start : Option ℕ) (front : List ResetParameter) (w : HandledRequests) : Type 0 where
-  awaited : w.outstanding ≡ start → own_kind w.own ≡ own_answer start start (in_progress_among start front) → ((streams : List ℕ) → own_events w.own streams ≡ []) → OwnStands start front w
-  ended : (number : ℕ) → start ≡ Some number → w.outstanding ≡ None → own_kind w.own ≡ outcomes.over → (w.is_own_first ≡ true) ⊎ (w.has_worked ≡ true) → OwnStands start front w
+  awaited : w.outstanding ≡ start → own_kind w.own ≡ own_answer start start (in_progress_among start front) false → ((streams : List ℕ) → own_events w.own streams ≡ []) → OwnStands start front w
+  ended : (number : ℕ) → start ≡ Some number → w.outstanding ≡ None → has_ended w.own ≡ true → (w.is_own_first ≡ true) ⊎ (w.has_worked ≡ true) → OwnStands start front w
 
 -- What was made of these, whatever stands behind them.
 pub record Progress (reached : Bool) (last : LastRequest) (start : Option ℕ) (front : List ResetParameter) (w : HandledRequests) : Type 0 where
@@ -343,7 +350,7 @@ pub record Progress (reached : Bool) (last : LastRequest) (start : Option ℕ) (
       → work_parameters my reached false (held_out start (held_with base last)) (front ++ rest)
       ≡ behind_these (effects my base) (reset_parameters w.responses.items) (work_parameters my reached w.has_worked (held_now base w) rest)
 
-nothing_asked : (start : Option ℕ) → own_answer start start (in_progress_among start []) ≡ outcomes.unanswered
+nothing_asked : (start : Option ℕ) → own_answer start start (in_progress_among start []) false ≡ outcomes.unanswered
 nothing_asked None = refl
 nothing_asked (Some number) = refl
 
@@ -542,10 +549,10 @@ stays_more : (start : Option ℕ) (front : List ResetParameter) (parameter : Res
     → in_progress_among old.outstanding (parameter ∷ []) ≡ false → OwnStands start (front ++ parameter ∷ []) new
 stays_more start front parameter old new (awaited is kind silent) same worked other =
     awaited (same.outstanding ∙ is)
-    (ap own_kind same.own ∙ kind ∙ ap (λ (b : Bool). own_answer start start b) (sym (among_more start front parameter (subst (λ (o : Option ℕ). in_progress_among o (parameter ∷ []) ≡ false) is other))))
+    (ap own_kind same.own ∙ kind ∙ ap (λ (b : Bool). own_answer start start b false) (sym (among_more start front parameter (subst (λ (o : Option ℕ). in_progress_among o (parameter ∷ []) ≡ false) is other))))
     (λ streams. ap (λ (a : OwnAnswer). own_events a streams) same.own ∙ silent streams)
-stays_more start front parameter old new (ended number is none kind (inl first)) same worked other = ended number is (same.outstanding ∙ none) (ap own_kind same.own ∙ kind) (inl (same.first ∙ first))
-stays_more start front parameter old new (ended number is none kind (inr has)) same worked other = ended number is (same.outstanding ∙ none) (ap own_kind same.own ∙ kind) (inr (worked has))
+stays_more start front parameter old new (ended number is none kind (inl first)) same worked other = ended number is (same.outstanding ∙ none) (ap has_ended same.own ∙ kind) (inl (same.first ∙ first))
+stays_more start front parameter old new (ended number is none kind (inr has)) same worked other = ended number is (same.outstanding ∙ none) (ap has_ended same.own ∙ kind) (inr (worked has))
 
 first_or_worked : (b : Bool) → (not b ≡ true) ⊎ (b ≡ true)
 first_or_worked true = inr refl
@@ -570,7 +577,7 @@ by_result Denied number front old is = ended number refl refl refl (first_or_wor
 by_result ErrorWrongSSN number front old is = ended number refl refl refl (first_or_worked old.has_worked)
 by_result ErrorRequestAlreadyInProgress number front old is = ended number refl refl refl (first_or_worked old.has_worked)
 by_result ErrorBadSequenceNumber number front old is = ended number refl refl refl (first_or_worked old.has_worked)
-by_result InProgress number front old is = awaited is (ap (λ (b : Bool). own_answer (Some number) (Some number) b) (sym (answered_now number front))) (λ streams. refl)
+by_result InProgress number front old is = awaited is (ap (λ (b : Bool). own_answer (Some number) (Some number) b false) (sym (answered_now number front))) (λ streams. refl)
 
 -- what the own request was before
 start_of : (start : Option ℕ) (front : List ResetParameter) (w : HandledRequests) (number : ℕ) → OwnStands start front w → w.outstanding ≡ Some number → start ≡ Some number
@@ -634,23 +641,47 @@ one_more reached last start front parameter old new first done step =
           (sym (said_append old.responses.items step.responses) ∙ ap (λ (ps : List Parameter). reset_parameters ps) (sym step.added));
     }
 
+-- While it is outstanding, it is neither performed nor failed.
+still_out : (start : Option ℕ) (b c : Bool) → own_answer start start b false ≡ own_answer start start b c
+still_out None b c = refl
+still_out (Some number) true c = refl
+still_out (Some number) false c = refl
+
+ended_kind : (answer : OwnAnswer) (number : ℕ) (b : Bool) → has_ended answer ≡ true → own_kind answer ≡ own_answer (Some number) None b (is_completed answer)
+ended_kind own.Unanswered number b is = absurd (cc)
+ended_kind own.InProgress number b is = absurd (cc)
+ended_kind own.Performed number b is = refl
+ended_kind own.Failed number b is = refl
+
 -- what became of the own request in the end
-own_at_end : (start : Option ℕ) (front : List ResetParameter) (w : HandledRequests) → OwnStands start front w → own_kind w.own ≡ own_answer start w.outstanding (in_progress_among start front)
-own_at_end start front w (awaited is kind silent) = kind ∙ ap (λ (o : Option ℕ). own_answer start o (in_progress_among start front)) (sym is)
+own_at_end : (start : Option ℕ) (front : List ResetParameter) (w : HandledRequests) → OwnStands start front w → own_kind w.own ≡ own_answer start w.outstanding (in_progress_among start front) (is_completed w.own)
+own_at_end start front w (awaited is kind silent) =
+    kind ∙ (still_out start (in_progress_among start front) (is_completed w.own) ∙ ap (λ (o : Option ℕ). own_answer start o (in_progress_among start front) (is_completed w.own)) (sym is))
 own_at_end start front w (ended number is none kind first) =
-    kind ∙ ap (λ (o : Option ℕ). own_answer o None (in_progress_among o front)) (sym is) ∙ ap (λ (o : Option ℕ). own_answer start o (in_progress_among start front)) (sym none)
+    ended_kind w.own number (in_progress_among (Some number) front) kind
+    ∙ ap (λ (o : Option ℕ). own_answer o None (in_progress_among o front) (is_completed w.own)) (sym is)
+    ∙ ap (λ (o : Option ℕ). own_answer start o (in_progress_among start front) (is_completed w.own)) (sym none)
 
 -- and which is outstanding still
-kind_left : (kind : outcomes.OwnAnswer) (start : Option ℕ) (b : Bool) → kind ≡ own_answer start start b → left_out kind start ≡ start
+kind_left : (kind : outcomes.OwnAnswer) (start : Option ℕ) (b : Bool) → kind ≡ own_answer start start b false → left_out kind start ≡ start
 kind_left outcomes.unanswered start b is = refl
 kind_left outcomes.retried start b is = refl
-kind_left outcomes.over None b is = refl
-kind_left outcomes.over (Some number) true is = absurd (cc)
-kind_left outcomes.over (Some number) false is = absurd (cc)
+kind_left outcomes.was_performed None b is = refl
+kind_left outcomes.was_performed (Some number) true is = absurd (cc)
+kind_left outcomes.was_performed (Some number) false is = absurd (cc)
+kind_left outcomes.has_failed None b is = refl
+kind_left outcomes.has_failed (Some number) true is = absurd (cc)
+kind_left outcomes.has_failed (Some number) false is = absurd (cc)
+
+ended_left : (answer : OwnAnswer) (start : Option ℕ) → has_ended answer ≡ true → None ≡ left_out (own_kind answer) start
+ended_left own.Unanswered start is = absurd (cc)
+ended_left own.InProgress start is = absurd (cc)
+ended_left own.Performed start is = refl
+ended_left own.Failed start is = refl
 
 left_at_end : (start : Option ℕ) (front : List ResetParameter) (w : HandledRequests) → OwnStands start front w → w.outstanding ≡ left_out (own_kind w.own) start
 left_at_end start front w (awaited is kind silent) = is ∙ sym (kind_left (own_kind w.own) start (in_progress_among start front) kind)
-left_at_end start front w (ended number is none kind first) = none ∙ ap (λ (k : outcomes.OwnAnswer). left_out k start) (sym kind)
+left_at_end start front w (ended number is none kind first) = none ∙ ended_left w.own start kind
 
 -- ---- a chunk
 
@@ -677,7 +708,7 @@ all_worked reached last start parameters w done some taken =
       effects = done.effects;
       are = done.are;
       treats = done.treats;
-      own = own_at_end start parameters w done.own ∙ ap (λ (ps : List ResetParameter). own_answer start w.outstanding (in_progress_among start ps)) (sym (whole_part w.has_worked parameters (done.part [])));
+      own = own_at_end start parameters w done.own ∙ ap (λ (ps : List ResetParameter). own_answer start w.outstanding (in_progress_among start ps) (is_completed w.own)) (sym (whole_part w.has_worked parameters (done.part [])));
       left = left_at_end start parameters w done.own;
       whole = λ my base.
           chunk_of my reached (held_out start (held_with base last)) parameters some
@@ -720,7 +751,7 @@ second_worked reached last start front rest parameter w v done has is here =
       are = done.are;
       treats = λ my base. let t = done.treats my base in record { has = t.has; waits = t.waits; told = t.told; drawn = t.drawn };
       own = own_at_end start front w done.own
-          ∙ ap (λ (ps : List ResetParameter). own_answer start w.outstanding (in_progress_among start ps))
+          ∙ ap (λ (ps : List ResetParameter). own_answer start w.outstanding (in_progress_among start ps) (is_completed w.own))
           (sym (done.part (parameter ∷ rest) ∙ ap (λ (ps : List ResetParameter). front ++ ps) (second_part w.has_worked parameter rest has is) ∙ append-nil front));
       left = left_at_end start front w done.own;
       whole = λ my base.
@@ -744,6 +775,51 @@ none_worked reached last start w done refused =
           ∙ bring_refused (done.effects my base) (reset_parameters w.responses.items) (held_now base w)
           ∙ ap (λ (b : Bool). record { held = held_now base w; effects = done.effects my base; answers = reset_parameters w.responses.items; is_refused = b }) (sym refused);
     }
+
+-- ---- whether the own request was performed
+
+-- is the user told so?
+abbrev performed_among : List (Event Emission) → Bool
+performed_among [] = false
+performed_among (streams_reset_performed streams ∷ events) = true
+performed_among (event ∷ events) = performed_among events
+
+completed_told : (theirs own : List ℕ) (es : List Effect) → has_completed es ≡ performed_among (reset_events theirs own es)
+completed_told theirs own [] = refl
+completed_told theirs own (completes my number ∷ es) = refl
+completed_told theirs own (fails number ∷ es) = completed_told theirs own es
+completed_told theirs own (performs peer number ∷ es) = completed_told theirs own es
+completed_told theirs own (accepts number ∷ es) = completed_told theirs own es
+completed_told theirs own (draws pair ∷ es) = completed_told theirs own es
+completed_told theirs own (sends packet ∷ es) = completed_told theirs own es
+completed_told theirs own (holds link ∷ es) = completed_told theirs own es
+completed_told theirs own (connects link ∷ es) = completed_told theirs own es
+completed_told theirs own (ends ∷ es) = completed_told theirs own es
+completed_told theirs own (begins number ∷ es) = completed_told theirs own es
+
+own_performed : (answer : OwnAnswer) (streams : List ℕ) → performed_among (own_events answer streams) ≡ is_completed answer
+own_performed own.Unanswered streams = refl
+own_performed own.InProgress streams = refl
+own_performed own.Performed streams = refl
+own_performed own.Failed streams = refl
+
+none_performed : (t : Treatment) (theirs : List ℕ) → performed_among (treated_events t theirs) ≡ false
+none_performed Performed theirs = refl
+none_performed Deferred theirs = refl
+none_performed Nothing theirs = refl
+
+so_performed : (b : Bool) (answer : OwnAnswer) (t : Treatment) (theirs streams : List ℕ) → performed_among (told_so b answer t theirs streams) ≡ is_completed answer
+so_performed true own.Unanswered t theirs streams = none_performed t theirs
+so_performed true own.InProgress t theirs streams = none_performed t theirs
+so_performed true own.Performed t theirs streams = refl
+so_performed true own.Failed t theirs streams = none_performed t theirs
+so_performed false answer Performed theirs streams = own_performed answer streams
+so_performed false answer Deferred theirs streams = own_performed answer streams
+so_performed false answer Nothing theirs streams = own_performed answer streams
+
+pub completed_is : (w : HandledRequests) (effects : List Effect) (answers : List ResetParameter) → TreatsBoth w effects answers → has_completed effects ≡ is_completed w.own
+completed_is w effects answers treats =
+    completed_told [] [] effects ∙ (ap performed_among (treats.told [] []) ∙ so_performed w.is_own_first w.own w.treatment [] [])
 
 -- ---- the loop
 

@@ -7,7 +7,7 @@ use Rattle.dcsctp_machine.specs.Reconfiguration.{RequestedReset}
 use Rattle.dcsctp_machine.specs.transfer.Transfer.{Transfer}
 use Rattle.dcsctp_machine.specs.Endpoint.{OutstandingRequest, cookie_echoed, open_in}
 use Rattle.dcsctp_machine.specs.Timers.{RunningTimer}
-use Rattle.dcsctp_machine.specs.turns.ResetOutcomes.{OwnAnswer, unanswered, retried, over, waiting, own_streams}
+use Rattle.dcsctp_machine.specs.turns.ResetOutcomes.{OwnAnswer, unanswered, retried, was_performed, has_failed, waiting, own_streams}
 use Rattle.dcsctp_api.specs.declared.events.SocketEvent.{SocketEvent}
 use Rattle.dcsctp_core.specs.declared.context.Context.{Context}
 use Rattle.dcsctp_core.specs.declared.state.CookieEchoState.{CookieEchoState}
@@ -146,7 +146,8 @@ retried_settles old new h = retried_by old new (tcb_of old.state) refl h
 settled_transfer : {R : Type 0} (answer : OwnAnswer) (v : View R) → (settled_at answer v).endpoint.below.transfer ≡ v.endpoint.below.transfer
 settled_transfer unanswered v = refl
 settled_transfer retried v = refl
-settled_transfer over v = refl
+settled_transfer was_performed v = refl
+settled_transfer has_failed v = refl
 
 abbrev Settled : {R : Type 0} → HandledRequests → Context R → Option SocketEvent → Context R → Type 0
 Settled w old told mid = (view_of mid ≡ settled_at (own_kind w.own) (view_of old)) × (event_told told ≡ own_told w.own (own_streams (outstanding_of old.state)))

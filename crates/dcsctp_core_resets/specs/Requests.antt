@@ -93,14 +93,22 @@ own_events own.Failed streams = streams_reset_failed streams ∷ []
 abbrev pub left_out : outcomes.OwnAnswer → Option ℕ → Option ℕ
 left_out outcomes.unanswered outstanding = outstanding
 left_out outcomes.retried outstanding = outstanding
-left_out outcomes.over outstanding = None
+left_out outcomes.was_performed outstanding = None
+left_out outcomes.has_failed outstanding = None
 
 -- what the machine says of it
 abbrev pub own_kind : OwnAnswer → outcomes.OwnAnswer
 own_kind own.Unanswered = outcomes.unanswered
 own_kind own.InProgress = outcomes.retried
-own_kind own.Performed = outcomes.over
-own_kind own.Failed = outcomes.over
+own_kind own.Performed = outcomes.was_performed
+own_kind own.Failed = outcomes.has_failed
+
+-- were its streams reset?
+abbrev pub is_completed : OwnAnswer → Bool
+is_completed own.Unanswered = false
+is_completed own.InProgress = false
+is_completed own.Performed = true
+is_completed own.Failed = false
 
 -- What was made of parameters, once it has ended so. What it tells comes first if no outgoing request was handled so far.
 abbrev pub own_ended : OwnAnswer → HandledRequests → HandledRequests
@@ -190,7 +198,7 @@ pub record WorksChunk (reached : Bool) (last : LastRequest) (outstanding : Optio
   pub effects : Pair → Held → List Effect
   pub are : AreResponses worked.responses.items
   pub treats : (my : Pair) (base : Held) → TreatsBoth worked (effects my base) (reset_parameters worked.responses.items)
-  pub own : own_kind worked.own ≡ own_answer outstanding worked.outstanding (in_progress_among outstanding (worked_part false parameters))
+  pub own : own_kind worked.own ≡ own_answer outstanding worked.outstanding (in_progress_among outstanding (worked_part false parameters)) (is_completed worked.own)
   pub left : worked.outstanding ≡ left_out (own_kind worked.own) outstanding
   pub whole : (my : Pair) (base : Held)
       → work_chunk my reached (held_out outstanding (held_with base last)) parameters

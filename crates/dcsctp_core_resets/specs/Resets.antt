@@ -12,7 +12,7 @@ use Rattle.dcsctp_machine.specs.transfer.Transfer.{Transfer}
 use Rattle.dcsctp_machine.specs.Endpoint.{Endpoint, Core, cookie_echoed, open_in, held_in}
 use Rattle.dcsctp_machine.specs.Outcome.{Outcome, still}
 use Rattle.dcsctp_machine.specs.turns.FlushOutcomes.{Answer}
-use Rattle.dcsctp_machine.specs.turns.ResetOutcomes.{requested_in, is_reached, OwnAnswer, unanswered, retried, over, own_moved, own_streams, ResetsBelow, defers_reset, responses_outcome, responses_by, ResponseAnswers, ResetTurn}
+use Rattle.dcsctp_machine.specs.turns.ResetOutcomes.{requested_in, is_reached, OwnAnswer, unanswered, retried, was_performed, has_failed, own_moved, own_streams, ResetsBelow, defers_reset, responses_outcome, responses_by, ResponseAnswers, ResetTurn}
 use Rattle.dcsctp_core.specs.declared.state.State.{State}
 use Rattle.dcsctp_core.specs.declared.transmission_control_block.TransmissionControlBlock.{TransmissionControlBlock}
 use Rattle.dcsctp_core.specs.declared.context.Context.{Context}
@@ -104,7 +104,8 @@ core_ended core = core
 abbrev pub core_settled : OwnAnswer → Core → Core
 core_settled unanswered core = core
 core_settled retried core = core
-core_settled over core = core_ended core
+core_settled was_performed core = core_ended core
+core_settled has_failed core = core_ended core
 
 -- the view once it was answered so
 abbrev pub settled_at : {R : Type 0} → OwnAnswer → View R → View R

@@ -1,15 +1,17 @@
 -- An ask that isn't idle may be answered whatever the user was told: where memory is refused while a packet is filled, this is
 -- what completes its turn.
-use Rattle.std.proofs.Common.{◌≡◌, ◌≤◌, ◌+◌, ◌-◌, ◌&&◌, ◌==◌, ℕ, zero, suc, Bool, true, false, cond, nat_le, Option, None, Some, List, [], ◌∷◌, ◌++◌, map, length, refl, sym, subst, ap, ◌∙◌, arith, length-append, flat_map, ◌*◌, take}
+use Rattle.std.proofs.Common.{◌≡◌, ◌≤◌, ◌+◌, ◌&&◌, ◌==◌, ℕ, zero, suc, Bool, true, false, cond, nat_le, Option, None, Some, List, [], ◌∷◌, ◌++◌, map, length, refl, sym, subst, ap, ◌∙◌, arith, length-append, flat_map, ◌*◌, take}
 use Rattle.std.specs.List.{AllByRecursion}
 use Rattle.std.proofs.lemmas.List.{append-nil, length-take, length-replicate, length-map}
 use Rattle.std.proofs.lemmas.Bool.Decides.{nat_tests}
 use Rattle.dcsctp_wire.specs.declared.chunk.user_data.DataFlags.{DataFlags}
 use Rattle.dcsctp_wire.specs.Content.{data_chunk, i_data_chunk, ParameterContent, outgoing_ssn_reset_request}
 use Rattle.dcsctp_wire.specs.Spelling.{chunk_bytes, other_bytes, data_fields, i_data_fields, zeros, parameter_value, parameter_len, parameter_bytes, list_bytes}
+use Rattle.dcsctp_machine.specs.transfer.OwnResets.{ready_streams}
 use Rattle.dcsctp_machine.specs.Packet.{Plain, unworked, plain_out, Content, chunk_out, Emission}
 use Rattle.dcsctp_machine.specs.transfer.Tracker.{TrackerState, sacked}
-use Rattle.dcsctp_machine.specs.transfer.Transfer.{SendQueueState, RetransmissionState, Transfer, can_send, has_free_tsn, has_data, least_chunk, must_give, is_idle}
+use Rattle.dcsctp_machine.specs.transfer.SendQueue.{SendQueueState, has_data}
+use Rattle.dcsctp_machine.specs.transfer.Transfer.{RetransmissionState, Transfer, can_send, has_free_tsn, least_chunk, must_give, is_idle}
 use Rattle.dcsctp_machine.specs.Endpoint.{Endpoint, held_in}
 use Rattle.dcsctp_machine.specs.Outcome.{contents_len}
 use Rattle.dcsctp_machine.specs.control.Choices.{plain_contents}
@@ -140,8 +142,8 @@ begun_len (Some other) number last_tsn room (stream ∷ streams) few = omega ari
 begun_in_len : (held : Option Held) (room last_tsn : ℕ) (queue : SendQueueState) → contents_len (request_contents (begun_in held room last_tsn queue)) ≤ room
 begun_in_len None room last_tsn queue = omega arith
 begun_in_len (Some held) room last_tsn queue =
-    let streams : List ℕ = take (streams_within room) queue.ready_streams in
-    let few = length-take (streams_within room) queue.ready_streams in
+    let streams : List ℕ = take (streams_within room) (ready_streams queue) in
+    let few = length-take (streams_within room) (ready_streams queue) in
     let same = length-map streams stream_field in
     begun_len held.own_outstanding held.own_next last_tsn room (map stream_field streams) (omega (arith, few, same))
 

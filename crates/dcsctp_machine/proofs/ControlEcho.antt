@@ -8,7 +8,7 @@ use Rattle.dcsctp_machine.specs.declared.word.Word.TheVariants.{U64}
 use Rattle.dcsctp_machine.specs.Cookie.{Cookie, cookie_at}
 use Rattle.dcsctp_machine.specs.Event.{Event, connected, connection_restarted}
 use Rattle.dcsctp_machine.specs.Packet.{cookie_echo, Emission}
-use Rattle.dcsctp_machine.specs.transfer.Transfer.{SendQueueState}
+use Rattle.dcsctp_machine.specs.transfer.SendQueue.{SendQueueState}
 use Rattle.dcsctp_machine.specs.Endpoint.{Endpoint, Core, closed, cookie_wait, cookie_echoed, open_in, OpenPhase, established, shutdown_pending, shutdown_sent, shutdown_received, shutdown_ack_sent}
 use Rattle.dcsctp_machine.specs.Outcome.{Outcome}
 use Rattle.dcsctp_machine.specs.turns.FlushOutcomes.{Answer, flush_answered}

@@ -1,6 +1,6 @@
 -- Outside examples of what a socket does with a COOKIE ECHO, worked by hand and computed by the definitions: a wrong
 -- rule in specs/ would not check here.
-use Rattle.std.proofs.Common.{◌≡◌, ℕ, true, false, None, List, [], ◌∷◌, refl}
+use Rattle.std.proofs.Common.{◌≡◌, ℕ, false, None, List, [], ◌∷◌, refl}
 use Rattle.std.specs.Prelude.{pos, codes}
 use Rattle.dcsctp_wire.specs.Content.{cookie_received_while_shutting_down, error_chunk}
 use Rattle.dcsctp_machine.specs.declared.association.Pair.{Pair}
@@ -10,12 +10,12 @@ use Rattle.dcsctp_machine.specs.declared.word.Word.TheVariants.{U64}
 use Rattle.dcsctp_machine.specs.Event.{connected, connection_restarted, error}
 use Rattle.dcsctp_machine.specs.Cookie.{Cookie, cookie_at}
 use Rattle.dcsctp_machine.specs.Packet.{cookie_ack, shutdown_ack, plain, unworked}
-use Rattle.dcsctp_machine.specs.transfer.Transfer.{SendQueueState}
+use Rattle.dcsctp_machine.specs.transfer.SendQueue.{SendQueueState}
 use Rattle.dcsctp_machine.specs.Endpoint.{Endpoint, closed, cookie_echoed, open_in, established, shutdown_received, shutdown_ack_sent, stopped_timers}
 use Rattle.dcsctp_machine.specs.Following.{next_chunk, dropped_rest}
 use Rattle.dcsctp_machine.specs.control.Effect.{holds, connects}
 use Rattle.dcsctp_machine.specs.turns.CookieEchoOutcomes.{window_by_cookie, cookie_echo_outcome}
-use Rattle.dcsctp_machine.proofs.HandshakeTurnFacts.{configured, queue, queue_at_start, socket, heartbeats_due, mine, held, transfer_begun, link, packet_of}
+use Rattle.dcsctp_machine.proofs.HandshakeTurnFacts.{configured, queue_renumbered, queue_at_start, socket, heartbeats_due, mine, held, transfer_begun, link, packet_of}
 
 -- made by this socket under tag 7 for the INIT of a peer under tag 9, with this tie tag
 abbrev own_cookie : ℕ → List ℕ
@@ -35,9 +35,9 @@ made e waiting packets_sent =
 
 -- ---- no peer is held
 
--- The message under way goes on. COOKIE ACK has no checksum, as both have the method.
+-- The message under way goes on, under its next number. COOKIE ACK has no checksum, as both have the method.
 echo_where_closed : (e : Endpoint) → cookie_echo_outcome (socket e 1191 (pos 4) closed 4) closed 7 (cookie_at (own_cookie 0)) 55
-    ≡ record { words = U64 55 ∷ []; effects = holds link ∷ connects link ∷ []; after = made e (queue true) 5; events = connected ∷ packet_of false 9 (cookie_ack ∷ []) ∷ []; following = next_chunk }
+    ≡ record { words = U64 55 ∷ []; effects = holds link ∷ connects link ∷ []; after = made e queue_renumbered 5; events = connected ∷ packet_of false 9 (cookie_ack ∷ []) ∷ []; following = next_chunk }
 unfolding cookie_at
 echo_where_closed e = refl
 

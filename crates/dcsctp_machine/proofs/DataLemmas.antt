@@ -19,9 +19,11 @@ use Rattle.dcsctp_machine.specs.control.Choices.{Choices, plain_contents}
 use Rattle.dcsctp_machine.specs.control.FlushChanges.{further_packets, flush}
 use Rattle.dcsctp_machine.specs.control.Acts.{flushes, sent_by, flush_change, plain_change}
 use Rattle.dcsctp_machine.specs.Controlled.{Sign, signs_of_events, signs_of_effects, IsControlled, ControlledAct}
-use Rattle.dcsctp_machine.specs.turns.FlushOutcomes.{own_sack, Answer, told_event, filled, draft_to, flush_of, room_in, where_fits, FlushAnswers, packets_allowed}
+use Rattle.dcsctp_machine.specs.turns.FlushOutcomes.{own_sack, Answer, filled, draft_to, flush_of, room_in, where_fits, FlushAnswers, packets_allowed}
 use Rattle.dcsctp_machine.specs.turns.HeartbeatOutcomes.{error_counted}
-use Rattle.dcsctp_machine.specs.turns.MessageOutcomes.{MessageRefusal, message_refusal, refusal_events, Sending, queue_by, queue_one, queue_all, takes_any, SendAnswers, send_by, SendTurn}
+use Rattle.dcsctp_machine.specs.transfer.OwnResets.{prepared_all, prepare_all_events}
+use Rattle.dcsctp_machine.proofs.SendEventLemmas.{told_prepared}
+use Rattle.dcsctp_machine.specs.turns.MessageOutcomes.{sending_refusal, name_of, MessageRefusal, refusal_events, Sending, queue_by, queue_one, queue_all, takes_any, SendAnswers, send_by, SendTurn}
 use Rattle.dcsctp_machine.specs.turns.PreparedResets.{ResetRefusal, reset_refusal, with_queue, PreparesResets, OwnResetsWhere, OwnResetsTurn}
 use Rattle.dcsctp_machine.specs.declared.arrivals.SkippedTo.{SkippedTo}
 use Rattle.dcsctp_machine.specs.transfer.Arrivals.{Arrival}
@@ -248,13 +250,13 @@ refusal_signs refusal (Some id) = refl
 
 queues_one : (e : Endpoint) (message : Sending) (refusal : Option MessageRefusal) → Queues e (queue_by e message refusal)
 queues_one e message None = record { core = refl; options = refl; words = refl; effects = refl; signs = refl }
-queues_one e message (Some refusal) = record { core = refl; options = refl; words = refl; effects = refl; signs = refusal_signs refusal message.lifecycle }
+queues_one e message (Some refusal) = record { core = refl; options = refl; words = refl; effects = refl; signs = refusal_signs refusal (name_of message) }
 
 queues_all : (e : Endpoint) (messages : List Sending) → Queues e (queue_all e messages)
 queues_all e [] = record { core = refl; options = refl; words = refl; effects = refl; signs = refl }
 queues_all e (message ∷ messages) =
     let first : Outcome = queue_one e message in
-    let one : Queues e first = queues_one e message (message_refusal e message.stream message.bytes) in
+    let one : Queues e first = queues_one e message (sending_refusal e message) in
     let rest : Queues first.after (queue_all first.after messages) = queues_all first.after messages in
     record {
       core = rest.core ∙ one.core;
@@ -296,11 +298,12 @@ send_at e messages o turn =
 
 prepares_at : (e : Endpoint) (ids : List ℕ) (o : Outcome) → PreparesResets e ids o → FlushedAt e e.core o
 prepares_at e ids o turn =
-    let base : Endpoint = with_queue e turn.queue in
+    let base : Endpoint = with_queue e (prepared_all ids e.below.queue) in
     let peer : Option Held = held_in e.core in
-    let events : List (Event Emission) = map told_event turn.told in
+    let events : List (Event Emission) = prepare_all_events ids e.below.queue in
+    let told = told_prepared ids e.below.queue in
     flushed_as e e.core o (behind [] events (flush_by base peer turn.flushes.0)) (turn.is ∙ ap (behind [] events) turn.flushes.2)
-    (sends_to e base e.core peer events turn.flushes.0 refl refl refl (told_signs turn.told) turn.flushes.1)
+    (sends_to e base e.core peer events turn.flushes.0 refl refl refl (ap signs_of_events told.is ∙ told_signs told.told) turn.flushes.1)
 
 resets_where_at : (refusal : Option ResetRefusal) (e : Endpoint) (ids : List ℕ) (o : Outcome) → OwnResetsWhere refusal e ids o → FlushedAt e e.core o
 resets_where_at None e ids o turn = prepares_at e ids o turn

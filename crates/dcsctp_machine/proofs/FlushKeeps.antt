@@ -3,6 +3,7 @@ use Rattle.std.proofs.Common.{◌≡◌, ◌==◌, ℕ, Bool, true, false, Optio
 use Rattle.std.specs.Prelude.{if◌then◌else◌, take}
 use Rattle.std.specs.Duration.{as_nanos}
 use Rattle.std.proofs.lemmas.List.{append-nil, map-append}
+use Rattle.dcsctp_machine.specs.transfer.OwnResets.{ready_streams}
 use Rattle.dcsctp_machine.specs.declared.association.Pair.{Pair}
 use Rattle.dcsctp_machine.specs.declared.association.Held.{Held}
 use Rattle.dcsctp_machine.specs.declared.word.Word.{Word}
@@ -10,10 +11,10 @@ use Rattle.dcsctp_machine.specs.Settings.{SameOptions}
 use Rattle.dcsctp_machine.specs.Event.{Event, sent, connected, closed, connection_restarted, aborted, error, buffered_amount_low, total_buffered_amount_low, streams_reset_failed, streams_reset_performed, incoming_stream_reset, lifecycle_message_fully_sent, lifecycle_message_maybe_expired, lifecycle_message_expired, lifecycle_message_delivered, lifecycle_end}
 use Rattle.dcsctp_machine.specs.Packet.{Plain, plain, Content, Packet, Emission}
 use Rattle.dcsctp_machine.specs.Reconfiguration.{RequestedReset}
-use Rattle.dcsctp_machine.specs.transfer.Transfer.{SendQueueState, Transfer, is_idle}
-use Rattle.dcsctp_machine.specs.Endpoint.{Endpoint, Core, cookie_wait, cookie_echoed, open_in, OpenPhase, held_in, Timers, heartbeat_settings}
+use Rattle.dcsctp_machine.specs.transfer.SendQueue.{SendQueueState}
+use Rattle.dcsctp_machine.specs.transfer.Transfer.{Transfer, is_idle}
+use Rattle.dcsctp_machine.specs.Endpoint.{Endpoint, Core, cookie_wait, cookie_echoed, open_in, OpenPhase, held_in, Timers, heartbeat_settings, closed as closed_core}
 use Rattle.dcsctp_machine.specs.Timers.{RunningTimer, started}
-use Rattle.dcsctp_machine.specs.Endpoint.{closed as closed_core}
 use Rattle.dcsctp_machine.specs.Following.{next_chunk}
 use Rattle.dcsctp_machine.specs.Outcome.{Outcome, still, behind, then_outcome, noting}
 use Rattle.dcsctp_machine.specs.control.Effect.{Effect, begins, emitted, noted}
@@ -288,7 +289,7 @@ first_in held None room last_tsn queue is = tt
 first_in held (Some own) room last_tsn queue is =
     let here : own ≡ held = cc in
     subst (λ (h : Held). IsBegun (begun_in (Some own) room last_tsn queue) h) here
-    (begun_is own own.own_outstanding last_tsn (map stream_field (take (streams_within room) queue.ready_streams)) refl)
+    (begun_is own own.own_outstanding last_tsn (map stream_field (take (streams_within room) (ready_streams queue))) refl)
 
 first_where : (b : Bool) (e : Endpoint) (held : Held) (draft : Emission) (transfer : Transfer) (answer : Answer) → held_in e.core ≡ Some held → GivesWhere b first_ask e draft transfer answer → IsBegun answer.begun held
 first_where true e held draft transfer answer holds h = subst (λ (a : Answer). IsBegun a.begun held) (sym h) tt

@@ -9,7 +9,8 @@ use Rattle.dcsctp_machine.specs.declared.word.Word.TheVariants.{U64}
 use Rattle.dcsctp_machine.specs.Cookie.{Cookie}
 use Rattle.dcsctp_machine.specs.Event.{Event, connected}
 use Rattle.dcsctp_machine.specs.Packet.{Introduction, Content, cookie_ack, Emission}
-use Rattle.dcsctp_machine.specs.transfer.Transfer.{SendQueueState, Transfer}
+use Rattle.dcsctp_machine.specs.transfer.SendQueue.{SendQueueState}
+use Rattle.dcsctp_machine.specs.transfer.Transfer.{Transfer}
 use Rattle.dcsctp_machine.specs.Endpoint.{Endpoint, Core, closed, cookie_wait, cookie_echoed, open_in}
 use Rattle.dcsctp_machine.specs.Outcome.{Outcome, still, quiet, sends, behind, then_outcome, noting, fits}
 use Rattle.dcsctp_machine.specs.control.Effect.{Link, link_of, holds, connects}

@@ -15,7 +15,11 @@ use Rattle.dcsctp_machine.specs.Event.{Event, sent, connected, aborted}
 use Rattle.dcsctp_machine.specs.Cause.{missing_mandatory_parameter}
 use Rattle.dcsctp_machine.specs.Packet.{Introduction, Content, init, cookie_echo, abort, Emission}
 use Rattle.dcsctp_machine.specs.declared.tracking.AckState.TheVariants.{Idle}
-use Rattle.dcsctp_machine.specs.transfer.Transfer.{SendQueueState, Transfer}
+use Rattle.dcsctp_machine.specs.declared.sending.Pause.{Pause}
+use Rattle.dcsctp_machine.specs.declared.sending.Pause.TheVariants.{Open, Pausing}
+use Rattle.dcsctp_machine.specs.transfer.SendStreams.{Waiting, Stream}
+use Rattle.dcsctp_machine.specs.transfer.SendQueue.{SendQueueState}
+use Rattle.dcsctp_machine.specs.transfer.Transfer.{Transfer}
 use Rattle.dcsctp_machine.specs.Endpoint.{Endpoint, Core, closed, cookie_wait, cookie_echoed, open_in, established, stopped_timers}
 use Rattle.dcsctp_machine.specs.Timers.{RunningTimer}
 use Rattle.dcsctp_machine.specs.Following.{next_chunk, dropped_rest}
@@ -47,24 +51,44 @@ configured options mtu max_burst =
       zero_checksum_alternate_error_detection_method = record { 0 = 1 };
     }
 
--- 12 bytes of a message on stream 3 went out, and 30 wait
-abbrev pub queue : Bool → SendQueueState
-queue is_interleaved =
+-- 2 of the 5 bytes of a message on stream 3 went out
+abbrev waiting : Waiting
+waiting =
+    record { message_id = 6; ppid = 53; is_unordered = false; payload = 1 ∷ 2 ∷ 3 ∷ 4 ∷ 5 ∷ []; max_retransmissions = None; expires_at = None; lifecycle = None }
+
+abbrev waits_on : ℕ → ℕ → ℕ → Stream
+waits_on next_ssn next_mid bytes =
+    record { id = 3; priority = 5; threshold = 7; amount = bytes; next_ssn = next_ssn; next_mid = next_mid; next_unordered_mid = 0; pause = Open; messages = waiting ∷ [] }
+
+abbrev nothing_on : Pause → Stream
+nothing_on pause = record { id = 4; priority = 256; threshold = 0; amount = 0; next_ssn = 0; next_mid = 0; next_unordered_mid = 0; pause = pause; messages = [] }
+
+abbrev pub queue : SendQueueState
+queue =
     record {
-      is_interleaved = is_interleaved;
-      total_buffered_amount = 30;
-      total_low_threshold = 0;
-      default_threshold = 0;
+      streams = waits_on 8 0 3 ∷ nothing_on Pausing ∷ [];
+      under_way = Some (record { stream_id = record { 0 = 3 }; ssn = 7; mid = 0; next_fsn = 1; sent = 2 });
+      total_amount = 3;
+      total_threshold = 0;
       default_priority = 256;
-      streams = record { stream = 3; buffered_amount = 30; low_threshold = 7; priority = 5; messages = 1; is_paused = false; is_handed_out = false } ∷ record { stream = 4; buffered_amount = 0; low_threshold = 0; priority = 256; messages = 0; is_paused = true; is_handed_out = false } ∷ [];
-      under_way = Some (record { stream = 3; number = 12 });
-      ready_streams = 4 ∷ [];
+      default_threshold = 0;
+      is_interleaved = false;
+      next_message_id = 7;
+    }
+
+-- and it goes on under the next number, as messages are interleaved
+abbrev pub queue_renumbered : SendQueueState
+queue_renumbered =
+    record queue {
+      streams = waits_on 8 1 3 ∷ nothing_on Pausing ∷ [];
+      under_way = Some (record { stream_id = record { 0 = 3 }; ssn = 8; mid = 0; next_fsn = 1; sent = 2 });
+      is_interleaved = true;
     }
 
 -- and with the message before its first byte again
 abbrev pub queue_at_start : SendQueueState
 queue_at_start =
-    record (queue true) { total_buffered_amount = 42; streams = record { stream = 3; buffered_amount = 42; low_threshold = 7; priority = 5; messages = 1; is_paused = false; is_handed_out = false } ∷ record { stream = 4; buffered_amount = 0; low_threshold = 0; priority = 256; messages = 0; is_paused = false; is_handed_out = false } ∷ []; under_way = None; ready_streams = [] }
+    record queue { streams = waits_on 0 0 5 ∷ nothing_on Open ∷ []; under_way = None; total_amount = 5; is_interleaved = true }
 
 -- 5 seconds after it was made
 abbrev pub socket : Endpoint → ℕ → ℤ → Core → ℕ → Endpoint
@@ -75,7 +99,7 @@ socket e mtu max_burst core packets_sent =
       core = core;
       tie = 77;
       counts = record { packets_received = 3; packets_sent = packets_sent; messages_queued = 5 };
-      below = record { queue = queue false; transfer = None };
+      below = record { queue = queue; transfer = None };
     }
 
 -- T1, just started: it is doubled each time, and goes on eight times

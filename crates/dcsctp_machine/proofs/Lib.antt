@@ -45,3 +45,6 @@ pub mod TrackerLemmas
 pub mod RangesFacts
 pub mod RangesLemmas
 pub mod ReassemblyLemmas
+pub mod SendEventLemmas
+pub mod SendQueueLemmas
+pub mod SendQueueFacts

@@ -5,7 +5,7 @@ use Rattle.dcsctp_machine.specs.declared.association.Held.{Held}
 use Rattle.dcsctp_machine.specs.declared.association.Pair.{Pair}
 use Rattle.dcsctp_machine.specs.declared.kinds.ErrorKind.TheVariants.{ProtocolViolation}
 use Rattle.dcsctp_machine.specs.Event.{error, lifecycle_end}
-use Rattle.dcsctp_machine.specs.transfer.Transfer.{SendQueueState, empty_queue, queue_added}
+use Rattle.dcsctp_machine.specs.transfer.SendQueue.{SendQueueState, empty_queue}
 use Rattle.dcsctp_machine.specs.Endpoint.{Endpoint, Core, closed, open_in, shutdown_sent}
 use Rattle.dcsctp_machine.specs.turns.MessageOutcomes.{empty_payload, message_too_large, shutting_down, resource_exhaustion, message_refusal, refusal_events}
 
@@ -18,9 +18,9 @@ socket e core queue =
       below = record e.below { queue = queue };
     }
 
--- 2,000,000 bytes wait on stream 1
+-- 2,000,000 bytes wait
 full : Endpoint → SendQueueState
-full e = queue_added 1 2000000 (empty_queue e.options)
+full e = record (empty_queue e.options) { total_amount = 2000000 }
 
 one_byte_is_taken : (e : Endpoint) → message_refusal (socket e closed (empty_queue e.options)) 1 1 ≡ None
 unfolding socket

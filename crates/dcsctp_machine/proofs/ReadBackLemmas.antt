@@ -2,7 +2,7 @@
 use Rattle.std.proofs.Common.{◌≡◌, ℕ, Bool, true, false, cond, eqb, Option, Some, None, List, [], ◌∷◌, ◌++◌, refl, subst, ap, ◌∙◌, arith}
 use Rattle.std.proofs.lemmas.Bool.Decides.{nat_tests}
 use Rattle.dcsctp_wire.specs.declared.packet.WireOptions.{WireOptions}
-use Rattle.dcsctp_wire.specs.Content.{ParameterContent, supported_extensions, zero_checksum_acceptable, forward_tsn_supported}
+use Rattle.dcsctp_wire.specs.Content.{ParameterContent, supported_extensions, zero_checksum_acceptable, forward_tsn_supported, PacketContent}
 use Rattle.dcsctp_machine.specs.Offer.{Offer, offer_announced}
 use Rattle.dcsctp_wire.specs.Numbers.{re_config_type, forward_tsn_type, i_data_type, i_forward_tsn_type}
 use Rattle.dcsctp_machine.specs.Packet.{cookie_parameters, packet_in}
@@ -12,7 +12,6 @@ use Rattle.dcsctp_machine.specs.Outcome.{Outcome}
 use Rattle.dcsctp_machine.specs.Turn.{arrival, refusal, unreadable_text, arrival_outcome, refusal_outcome}
 use Rattle.dcsctp_machine.specs.Admission.{Admission, refused, admits}
 use Rattle.dcsctp_machine.specs.CallTurns.{Turned, Turns, AdmittedTurns, HandleInput, unreadable, readable}
-use Rattle.dcsctp_wire.specs.Content.{PacketContent}
 use Rattle.dcsctp_wire.specs.Format.{IsPacket}
 use Rattle.dcsctp_machine.specs.Laws.{OfferReadsBack, CapabilitiesHoldOffer, IsRefused, RefusedPacketAddsOneError}
 

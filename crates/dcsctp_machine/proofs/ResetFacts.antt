@@ -1,7 +1,7 @@
 -- Outside examples of RE-CONFIG that comes in, computed by the definitions.
 use Rattle.std.proofs.Common.{◌≡◌, ◌^◌, ◌-◌, ℕ, true, false, None, Some, [], ◌∷◌, refl}
 use Rattle.dcsctp_wire.specs.declared.reconfiguration.ReconfigurationResponseResult.TheVariants.{SuccessNothingToDo, SuccessPerformed, Denied, ErrorBadSequenceNumber, InProgress}
-use Rattle.dcsctp_wire.specs.Content.{outgoing_ssn_reset_request, incoming_ssn_reset_request, forward_tsn_supported, re_config_chunk}
+use Rattle.dcsctp_wire.specs.Content.{outgoing_ssn_reset_request, forward_tsn_supported, re_config_chunk}
 use Rattle.dcsctp_wire.specs.Content as wire
 use Rattle.dcsctp_machine.specs.declared.association.Pair.{Pair}
 use Rattle.dcsctp_machine.specs.declared.association.Held.{Held}
@@ -13,7 +13,7 @@ use Rattle.dcsctp_machine.specs.Endpoint.{Endpoint, closed, cookie_wait}
 use Rattle.dcsctp_machine.specs.Outcome.{still}
 use Rattle.dcsctp_machine.specs.control.Effect.{accepts, performs}
 use Rattle.dcsctp_machine.specs.control.ResetChanges.{WorkedParameters, work_chunk}
-use Rattle.dcsctp_machine.specs.turns.ResetOutcomes.{requested_in, is_tsn_beyond, unanswered, retried, over, answered_in, reset_events, their_streams, ResetTurn}
+use Rattle.dcsctp_machine.specs.turns.ResetOutcomes.{requested_in, is_tsn_beyond, unanswered, retried, was_performed, has_failed, answered_in, reset_events, their_streams, ResetTurn}
 
 -- ---- what is read
 
@@ -120,14 +120,14 @@ after_answer c answer = work_chunk own true (asking c) (answer ∷ [])
 performed : (c : Capabilities) → reset_events [] (4 ∷ []) (after_answer c (reconfiguration_response 3 SuccessPerformed)).effects ≡ streams_reset_performed (4 ∷ []) ∷ []
 performed c = refl
 
-performed_is_over : (c : Capabilities) → answered_in (asking c) (after_answer c (reconfiguration_response 3 SuccessPerformed)) (reconfiguration_response 3 SuccessPerformed ∷ []) ≡ over
-performed_is_over c = refl
+performed_is_answered : (c : Capabilities) → answered_in (asking c) (after_answer c (reconfiguration_response 3 SuccessPerformed)) (reconfiguration_response 3 SuccessPerformed ∷ []) ≡ was_performed
+performed_is_answered c = refl
 
 denied : (c : Capabilities) → reset_events [] (4 ∷ []) (after_answer c (reconfiguration_response 3 Denied)).effects ≡ streams_reset_failed (4 ∷ []) ∷ []
 denied c = refl
 
-denied_is_over : (c : Capabilities) → answered_in (asking c) (after_answer c (reconfiguration_response 3 Denied)) (reconfiguration_response 3 Denied ∷ []) ≡ over
-denied_is_over c = refl
+denied_is_answered : (c : Capabilities) → answered_in (asking c) (after_answer c (reconfiguration_response 3 Denied)) (reconfiguration_response 3 Denied ∷ []) ≡ has_failed
+denied_is_answered c = refl
 
 in_progress_is_retried : (c : Capabilities) → answered_in (asking c) (after_answer c (reconfiguration_response 3 InProgress)) (reconfiguration_response 3 InProgress ∷ []) ≡ retried
 in_progress_is_retried c = refl

@@ -12,8 +12,7 @@ use Rattle.dcsctp_machine.specs.Packet.{re_config, Packet, Emission}
 use Rattle.dcsctp_machine.specs.Reconfiguration.{ResetParameter, outgoing_reset_request, incoming_reset_request, reconfiguration_response, other_reset_parameter}
 use Rattle.dcsctp_machine.specs.transfer.Transfer.{Transfer}
 use Rattle.dcsctp_machine.specs.Endpoint.{Endpoint, Core, closed, cookie_wait, cookie_echoed, open_in}
-use Rattle.dcsctp_machine.specs.Outcome.{Outcome, quiet, counted, behind, noting, to_peer}
-use Rattle.dcsctp_machine.specs.Outcome.{fits as fits_mtu, sends as sends_out}
+use Rattle.dcsctp_machine.specs.Outcome.{Outcome, quiet, counted, behind, noting, to_peer, fits as fits_mtu, sends as sends_out}
 use Rattle.dcsctp_machine.specs.Following.{next_chunk}
 use Rattle.dcsctp_machine.specs.control.Effect.{Effect, accepts, performs, completes, fails, sends, noted, unchanged}
 use Rattle.dcsctp_machine.specs.control.Choices.{Choices}
@@ -21,7 +20,7 @@ use Rattle.dcsctp_machine.specs.control.FlushChanges.{Flushed, flush}
 use Rattle.dcsctp_machine.specs.control.ResetChanges.{Place, again, next, astray, place_of, Answered, worked, repeated, outgoing_by, incoming_by, Informed, informed_by, is_outstanding, informed_where, WorkedParameters, work_parameters, work_chunk, reset_sent, reset_worked, re_config_change}
 use Rattle.dcsctp_machine.specs.Controlled.{Sign, packet_sent, peer_reset_performed, own_reset_performed, own_reset_failed, signs_of_events, signs_of_effects, IsControlled, ControlledChunk}
 use Rattle.dcsctp_machine.specs.turns.FlushOutcomes.{Answer, draft_to, flush_of, FlushAnswers}
-use Rattle.dcsctp_machine.specs.turns.ResetOutcomes.{requested_in, is_reached, worked_in, OwnAnswer, unanswered, retried, over, answered_in, reset_events, told_of, core_with, resets_worked, reset_refusal_text, responses_by, ResponseAnswers, WorksResets, ResetTurn}
+use Rattle.dcsctp_machine.specs.turns.ResetOutcomes.{requested_in, is_reached, worked_in, OwnAnswer, unanswered, retried, was_performed, has_failed, answered_in, reset_events, told_of, core_with, resets_worked, reset_refusal_text, responses_by, ResponseAnswers, WorksResets, ResetTurn}
 use Rattle.dcsctp_machine.proofs.ControlHandshake.{no_choices, ControlledAt, still_controlled}
 use Rattle.dcsctp_machine.proofs.FlushKeeps.{IsPeerTag, filling_of, flush_effects, Rebuilds, rebuilds_open, rebuilds_echoed, FlushesTo, flush_controlled, signs_append}
 
@@ -276,7 +275,8 @@ pub record KeepsRest (e after : Endpoint) (left : Core) : Type 0 where
 pub worked_keeps : (e : Endpoint) (answer : OwnAnswer) (held : Held) (left : Option Transfer) → KeepsRest e (resets_worked e answer held left) (core_with e.core held)
 worked_keeps e unanswered held left = record { core = refl; options = refl; t1 = refl }
 worked_keeps e retried held left = record { core = refl; options = refl; t1 = refl }
-worked_keeps e over held left = record { core = refl; options = refl; t1 = refl }
+worked_keeps e was_performed held left = record { core = refl; options = refl; t1 = refl }
+worked_keeps e has_failed held left = record { core = refl; options = refl; t1 = refl }
 
 -- by what is held of the peer
 abbrev ResetBy : Endpoint → (Held → Core) → Pair → Held → List ResetParameter → Outcome → Choices → Type 0

@@ -34,7 +34,7 @@ at e core transfer items =
       options = record e.options { max_retransmissions = Some 2 };
       core = core;
       counts = record e.counts { packets_sent = 4 };
-      below = record { queue = queue false; transfer = Some (moved transfer items) };
+      below = record { queue = queue; transfer = Some (moved transfer items) };
     }
 
 -- T2, with its deadline and its wait

@@ -15,7 +15,8 @@ use Rattle.dcsctp_machine.specs.Event.{Event, sent, connected, closed as is_clos
 use Rattle.dcsctp_machine.specs.Offer.{offer_of}
 use Rattle.dcsctp_machine.specs.Cookie.{cookie_bytes, cookie_at}
 use Rattle.dcsctp_machine.specs.Packet.{Introduction, Content, init_ack, shutdown_ack, Emission, emission_bytes}
-use Rattle.dcsctp_machine.specs.transfer.Transfer.{empty_queue, new_retransmission, new_transfer}
+use Rattle.dcsctp_machine.specs.transfer.SendQueue.{empty_queue}
+use Rattle.dcsctp_machine.specs.transfer.Transfer.{new_retransmission, new_transfer}
 use Rattle.dcsctp_machine.specs.Admission.{refused, single_init_text, admits}
 use Rattle.dcsctp_machine.specs.Endpoint.{Endpoint, closed, cookie_wait, cookie_echoed, open_in, established, shutdown_pending, shutdown_sent, shutdown_received, shutdown_ack_sent, association_of, own_tag}
 use Rattle.dcsctp_machine.specs.Outcome.{Outcome}

@@ -8,3 +8,8 @@ pub mod Reassembly
 pub mod Runs
 pub mod Tracker
 pub mod Transfer
+pub mod OwnResets
+pub mod SendEvents
+pub mod SendQueue
+pub mod SendStreams
+pub mod Sending

@@ -12,6 +12,7 @@ mod laws;
 mod message;
 mod options;
 mod schedule;
+mod sending;
 mod time;
 mod tracking;
 mod word;
@@ -38,6 +39,7 @@ pub use laws::{
 pub use message::{Message, SendOptions, copied_messages};
 pub use options::Options;
 pub use schedule::{Act, Call, Outside, Side, Step};
+pub use sending::{Pause, Turn, UnderWay};
 pub use time::SocketTime;
 pub use tracking::{AckState, TsnRange};
 pub use word::Word;

@@ -10,7 +10,8 @@ use Rattle.dcsctp_wire.proofs.Lengths.{length-chunk_bytes}
 use Rattle.dcsctp_machine.specs.declared.association.Held.{Held}
 use Rattle.dcsctp_machine.specs.Packet.{Content, re_config, chunk_out}
 use Rattle.dcsctp_machine.specs.Reconfiguration.{outgoing_reset_request, streams_in}
-use Rattle.dcsctp_machine.specs.transfer.Transfer.{SendQueueState}
+use Rattle.dcsctp_machine.specs.transfer.OwnResets.{ready_streams}
+use Rattle.dcsctp_machine.specs.transfer.SendQueue.{SendQueueState}
 use Rattle.dcsctp_machine.specs.Deadlines.{T1Runs}
 use Rattle.dcsctp_machine.specs.Endpoint.{Endpoint, Core, closed, cookie_wait, cookie_echoed, open_in, held_in}
 use Rattle.dcsctp_machine.specs.Timers.{RunningTimer}
@@ -82,7 +83,7 @@ in_sends : (held : Option Held) (room last_tsn : ℕ) (queue : SendQueueState) �
     → contents_len (request_contents (begun_in held room last_tsn queue)) < 2 ^ 16 → AllByRecursion Sendable (request_contents (begun_in held room last_tsn queue))
 in_sends None room last_tsn queue fits tsn_fits short = tt
 in_sends (Some held) room last_tsn queue fits tsn_fits short =
-    where_sends held.own_outstanding held.own_next last_tsn (take (streams_within room) queue.ready_streams) fits.own_next tsn_fits short
+    where_sends held.own_outstanding held.own_next last_tsn (take (streams_within room) (ready_streams queue)) fits.own_next tsn_fits short
 
 pub begun_sends : (ask : Ask) (held : Option Held) (room last_tsn : ℕ) (queue : SendQueueState) → FitsPeer held → last_tsn < 2 ^ 32 → room < 2 ^ 16
     → AllByRecursion Sendable (request_contents (begun_at ask held room last_tsn queue))

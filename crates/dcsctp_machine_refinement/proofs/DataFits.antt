@@ -1,5 +1,5 @@
 -- The turns of data leave numbers that fit their fields, and send what is read as itself.
-use Rattle.std.proofs.Common.{◌<◌, ◌^◌, ◌++◌, ℕ, Bool, true, false, cond, Option, None, Some, List, [], ◌∷◌, map, refl, sym, subst, arith}
+use Rattle.std.proofs.Common.{◌<◌, ◌^◌, ◌++◌, ℕ, Bool, true, false, cond, Option, None, Some, List, [], ◌∷◌, refl, sym, subst, arith}
 use Rattle.dcsctp_wire.specs.Content.{no_user_data}
 use Rattle.dcsctp_wire.specs.Spelling.{parameters_len}
 use Rattle.dcsctp_machine.specs.declared.association.Held.{Held}
@@ -13,9 +13,11 @@ use Rattle.dcsctp_machine.specs.Endpoint.{Endpoint, held_in}
 use Rattle.dcsctp_machine.specs.Outcome.{Outcome, still, quiet, sends, behind, then_outcome, to_peer}
 use Rattle.dcsctp_machine.specs.Outcome.{fits as fits_mtu}
 use Rattle.dcsctp_machine.specs.control.Choices.{plain_contents}
-use Rattle.dcsctp_machine.specs.turns.FlushOutcomes.{own_sack, Answer, told_event, goes_out, draft_to, flush_of, room_in}
+use Rattle.dcsctp_machine.specs.turns.FlushOutcomes.{own_sack, Answer, goes_out, draft_to, flush_of, room_in}
 use Rattle.dcsctp_machine.specs.turns.TransferMoves.{delivered_events}
-use Rattle.dcsctp_machine.specs.turns.MessageOutcomes.{MessageRefusal, message_refusal, refusal_events, Sending, queue_by, queue_one, queue_all, takes_any, SendAnswers, send_by, SendTurn}
+use Rattle.dcsctp_machine.specs.transfer.OwnResets.{prepared_all, prepare_all_events}
+use Rattle.dcsctp_machine.proofs.SendEventLemmas.{told_prepared}
+use Rattle.dcsctp_machine.specs.turns.MessageOutcomes.{MessageRefusal, sending_refusal, name_of, refusal_events, Sending, queue_by, queue_one, queue_all, takes_any, SendAnswers, send_by, SendTurn}
 use Rattle.dcsctp_machine.specs.turns.PreparedResets.{ResetRefusal, reset_refusal, with_queue, PreparesResets, OwnResetsWhere, OwnResetsTurn}
 use Rattle.dcsctp_machine.specs.declared.arrivals.SkippedTo.{SkippedTo}
 use Rattle.dcsctp_machine.specs.transfer.Arrivals.{Arrival}
@@ -167,7 +169,7 @@ refused_sends_nothing refusal (Some id) = (tt, (tt, tt))
 
 queued_fits : (e : Endpoint) (message : Sending) (refusal : Option MessageRefusal) → FitsEndpoint e → TurnFits (queue_by e message refusal)
 queued_fits e message None h = record { after = record { valid = h.valid; options = h.options; core = h.core; t1 = h.t1 }; sends = tt }
-queued_fits e message (Some refusal) h = record { after = h; sends = refused_sends_nothing refusal message.lifecycle }
+queued_fits e message (Some refusal) h = record { after = h; sends = refused_sends_nothing refusal (name_of message) }
 
 then_fits : (first second : Outcome) → TurnFits first → TurnFits second → TurnFits (then_outcome first second)
 then_fits first second h k = record { after = k.after; sends = all_sent_append IsSendable first.events second.events h.sends k.sends }
@@ -176,7 +178,7 @@ all_queued_fit : (e : Endpoint) (messages : List Sending) → FitsEndpoint e →
 all_queued_fit e [] h = still_fits e h
 all_queued_fit e (message ∷ messages) h =
     let one : Outcome = queue_one e message in
-    let first : TurnFits one = queued_fits e message (message_refusal e message.stream message.bytes) h in
+    let first : TurnFits one = queued_fits e message (sending_refusal e message) h in
     then_fits one (queue_all one.after messages) first (all_queued_fit one.after messages first.after)
 
 send_where_fits : (b : Bool) (e : Endpoint) (answers : List Answer) → SendAnswers b e answers → FitsEndpoint e → TurnFits (send_by b e answers)
@@ -194,9 +196,10 @@ send_fits e messages o turn h =
 
 prepares_fits : (e : Endpoint) (ids : List ℕ) (o : Outcome) → PreparesResets e ids o → FitsEndpoint e → TurnFits o
 prepares_fits e ids o turn h =
-    let base : Endpoint = with_queue e turn.queue in
+    let base : Endpoint = with_queue e (prepared_all ids e.below.queue) in
+    let told = told_prepared ids e.below.queue in
     subst TurnFits (sym turn.is)
-    (behind_fits [] (map told_event turn.told) turn.flushed (told_sends turn.told)
+    (behind_fits [] (prepare_all_events ids e.below.queue) turn.flushed (subst (AllSent IsSendable) (sym told.is) (told_sends told.told))
     (flush_turn_fits base turn.flushed turn.flushes (below_fits e base.below h)))
 
 resets_where_fits : (refusal : Option ResetRefusal) (e : Endpoint) (ids : List ℕ) (o : Outcome) → OwnResetsWhere refusal e ids o → FitsEndpoint e → TurnFits o

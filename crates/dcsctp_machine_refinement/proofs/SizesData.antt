@@ -10,12 +10,14 @@ use Rattle.dcsctp_machine.specs.Packet.{Plain, plain, plain_out, error_of, Conte
 use Rattle.dcsctp_machine.specs.transfer.Arrivals.{Arrival}
 use Rattle.dcsctp_machine.specs.transfer.Tracker.{TrackerState, after_packet_end, is_acknowledgement_due, sacked}
 use Rattle.dcsctp_machine.specs.transfer.Messages.{MessageContent}
+use Rattle.dcsctp_machine.specs.transfer.OwnResets.{prepared_all, prepare_all_events}
+use Rattle.dcsctp_machine.proofs.SendEventLemmas.{told_prepared}
 use Rattle.dcsctp_machine.specs.transfer.Transfer.{Transfer}
 use Rattle.dcsctp_machine.specs.Endpoint.{Endpoint, held_in}
 use Rattle.dcsctp_machine.specs.Outcome.{Outcome, contents_len, to_peer}
 use Rattle.dcsctp_machine.specs.control.Choices.{plain_contents}
 use Rattle.dcsctp_machine.specs.turns.FlushOutcomes.{own_sack, Told, amount_is_low, total_amount_is_low, message_is_sent, message_may_have_expired, message_has_expired, message_ends, told_event, Answer, goes_out, draft_to, flush_of, room_in}
-use Rattle.dcsctp_machine.specs.turns.MessageOutcomes.{MessageRefusal, message_refusal, refusal_events, Sending, queue_by, queue_one, queue_all, takes_any, SendAnswers, send_by, SendTurn}
+use Rattle.dcsctp_machine.specs.turns.MessageOutcomes.{MessageRefusal, refusal_events, Sending, sending_refusal, name_of, queue_by, queue_one, queue_all, takes_any, SendAnswers, send_by, SendTurn}
 use Rattle.dcsctp_machine.specs.turns.PreparedResets.{ResetRefusal, reset_refusal, with_queue, OwnResetsWhere, OwnResetsTurn}
 use Rattle.dcsctp_machine.specs.turns.TransferMoves.{delivered_events}
 use Rattle.dcsctp_machine.specs.turns.DataOutcomes.{DataWhere, with_transfer, with_tracker, flush_by, AnswersTo, FlushTurn, no_user_data_outcome, ReceiveTurn, DataTurn, ForwardTurn, is_sack_valid, SendsAtOnce, FastRetransmits, sack_taken, AcknowledgesBy, SackWhere, SackBy, SackTurn, acknowledging, EndWhere, EndsBy, TakeWhere, TakeTurn, delay_outcome, LossTurn}
@@ -148,12 +150,12 @@ refusal_short limit refusal (Some id) = tt
 
 queued_sizes : (limit : ℕ) (e : Endpoint) (message : Sending) (refusal : Option MessageRefusal) → AtLimit limit e → TurnSizes limit (queue_by e message refusal)
 queued_sizes limit e message None h = (h, tt)
-queued_sizes limit e message (Some refusal) h = (h, refusal_short limit refusal message.lifecycle)
+queued_sizes limit e message (Some refusal) h = (h, refusal_short limit refusal (name_of message))
 
 queue_sizes : (limit : ℕ) (e : Endpoint) (messages : List Sending) → AtLimit limit e → TurnSizes limit (queue_all e messages)
 queue_sizes limit e [] h = (h, tt)
 queue_sizes limit e (message ∷ messages) h =
-    let first : TurnSizes limit (queue_one e message) = queued_sizes limit e message (message_refusal e message.stream message.bytes) h in
+    let first : TurnSizes limit (queue_one e message) = queued_sizes limit e message (sending_refusal e message) h in
     let rest : TurnSizes limit (queue_all (queue_one e message).after messages) = queue_sizes limit (queue_one e message).after messages first.0 in
     (rest.0, short_append limit (queue_one e message).events (queue_all (queue_one e message).after messages).events first.1 rest.1)
 
@@ -181,8 +183,9 @@ told_short limit (message_ends id ∷ told) = told_short limit told
 
 resets_where_sizes : (refusal : Option ResetRefusal) (limit : ℕ) (e : Endpoint) (ids : List ℕ) (o : Outcome) → OwnResetsWhere refusal e ids o → AtLimit limit e → TurnSizes limit o
 resets_where_sizes None limit e ids o turn h =
-    let flushed : TurnSizes limit turn.flushed = flush_turn_sizes limit (with_queue e turn.queue) turn.flushed turn.flushes h in
-    subst (TurnSizes limit) (sym turn.is) (flushed.0, short_append limit (map told_event turn.told) turn.flushed.events (told_short limit turn.told) flushed.1)
+    let told = told_prepared ids e.below.queue in
+    let flushed : TurnSizes limit turn.flushed = flush_turn_sizes limit (with_queue e (prepared_all ids e.below.queue)) turn.flushed turn.flushes h in
+    subst (TurnSizes limit) (sym turn.is) (flushed.0, short_append limit (prepare_all_events ids e.below.queue) turn.flushed.events (subst (AllShort limit) (sym told.is) (told_short limit told.told)) flushed.1)
 resets_where_sizes (Some refusal) limit e ids o turn h = subst (TurnSizes limit) (sym turn) (h, tt)
 
 pub resets_sizes : (limit : ℕ) (e : Endpoint) (ids : List ℕ) (o : Outcome) → OwnResetsTurn e ids o → AtLimit limit e → TurnSizes limit o

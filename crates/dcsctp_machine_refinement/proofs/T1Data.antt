@@ -12,7 +12,8 @@ use Rattle.dcsctp_machine.specs.Endpoint.{Endpoint, held_in}
 use Rattle.dcsctp_machine.specs.Outcome.{Outcome, quiet, sends, fits, to_peer, behind}
 use Rattle.dcsctp_machine.specs.control.Choices.{plain_contents}
 use Rattle.dcsctp_machine.specs.turns.FlushOutcomes.{own_sack, Answer, goes_out, draft_to}
-use Rattle.dcsctp_machine.specs.turns.MessageOutcomes.{MessageRefusal, message_refusal, Sending, queue_by, queue_one, queue_all, takes_any, SendAnswers, send_by, SendTurn}
+use Rattle.dcsctp_machine.specs.transfer.OwnResets.{prepared_all}
+use Rattle.dcsctp_machine.specs.turns.MessageOutcomes.{MessageRefusal, sending_refusal, Sending, queue_by, queue_one, queue_all, takes_any, SendAnswers, send_by, SendTurn}
 use Rattle.dcsctp_machine.specs.turns.PreparedResets.{ResetRefusal, reset_refusal, with_queue, OwnResetsWhere, OwnResetsTurn}
 use Rattle.dcsctp_machine.specs.declared.arrivals.SkippedTo.{SkippedTo}
 use Rattle.dcsctp_machine.specs.transfer.Arrivals.{Arrival}
@@ -114,7 +115,7 @@ queue_one_up e message (Some refusal) h = h
 queue_all_up : (e : Endpoint) (messages : List Sending) → Up e → UpAfter (queue_all e messages)
 queue_all_up e [] h = h
 queue_all_up e (message ∷ messages) h =
-    queue_all_up (queue_one e message).after messages (queue_one_up e message (message_refusal e message.stream message.bytes) h)
+    queue_all_up (queue_one e message).after messages (queue_one_up e message (sending_refusal e message) h)
 
 send_where_up : (b : Bool) (e : Endpoint) (answers : List Answer) → SendAnswers b e answers → Up e → UpAfter (send_by b e answers)
 send_where_up false e answers allowed h = h
@@ -127,7 +128,7 @@ send_up e messages o turn h =
 -- ---- own streams that the user resets
 
 resets_where_up : (refusal : Option ResetRefusal) (e : Endpoint) (ids : List ℕ) (o : Outcome) → OwnResetsWhere refusal e ids o → Up e → UpAfter o
-resets_where_up None e ids o turn h = subst UpAfter (sym turn.is) (flush_turn_up (with_queue e turn.queue) turn.flushed turn.flushes h)
+resets_where_up None e ids o turn h = subst UpAfter (sym turn.is) (flush_turn_up (with_queue e (prepared_all ids e.below.queue)) turn.flushed turn.flushes h)
 resets_where_up (Some refusal) e ids o turn h = subst UpAfter (sym turn) h
 
 pub resets_up : (e : Endpoint) (ids : List ℕ) (o : Outcome) → OwnResetsTurn e ids o → Up e → UpAfter o

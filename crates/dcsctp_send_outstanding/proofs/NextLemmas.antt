@@ -1,16 +1,15 @@
 -- A send queue that has given none.
 use Rattle.std.proofs.Common.{◌≡◌, ℕ, None, List, []}
 use Rattle.dcsctp_machine.specs.Event.{Event}
-use Rattle.dcsctp_send_queue.specs.declared.backlog.Backlog.{Backlog}
-use Rattle.dcsctp_send_queue.specs.Leaving.{Drops, none, more}
-use Rattle.dcsctp_send_queue.specs.Calls.{TakesNone}
+use Rattle.dcsctp_machine.specs.transfer.SendQueue.{SendQueueState}
+use Rattle.dcsctp_machine.specs.transfer.Sending.{Drops, none, more, TakesNone}
 use Rattle.dcsctp_send_outstanding.specs.Next.{HasNone}
 
-idle_after : (now : ℕ) (old queue : Backlog) (events : List (Event (List ℕ))) → Drops now old events queue → old.under_way ≡ None → queue.under_way ≡ None
+idle_after : (now : ℕ) (old queue : SendQueueState) (events : List (Event (List ℕ))) → Drops now old events queue → old.under_way ≡ None → queue.under_way ≡ None
 idle_after now old queue [] none idle = idle
 idle_after now old queue events (more es before place message drops next front expired) idle = idle_after now old before es drops idle
 
 -- the send queue has given none
-pub has_none : (now : ℕ) (old : Backlog) (told : List (Event (List ℕ))) (new : Backlog) (after : List (Event (List ℕ))) → TakesNone now old told new after → HasNone new
+pub has_none : (now : ℕ) (old : SendQueueState) (told : List (Event (List ℕ))) (new : SendQueueState) (after : List (Event (List ℕ))) → TakesNone now old told new after → HasNone new
 has_none now old told new after takes =
     record { idle = idle_after now old new takes.drops.events takes.drops.drops takes.idle; none_left = takes.none_left }

@@ -1,8 +1,8 @@
 -- The items of one message, and what it is to drop the rest of it (RFC 3758, section 3.5).
 use Rattle.std.specs.Prelude.{◌≡◌, ◌+◌, ◌%◌, ◌^◌, ◌<◌, ◌≤◌, ℕ, Bool, true, false, None, Some, List, [], ◌∷◌, ◌++◌, length, slice_get}
 use Rattle.dcsctp_machine.specs.Event.{Event}
-use Rattle.dcsctp_send_queue.specs.declared.backlog.Backlog.{Backlog}
-use Rattle.dcsctp_send_queue.specs.Calls.{DiscardsNamed}
+use Rattle.dcsctp_machine.specs.transfer.SendQueue.{SendQueueState}
+use Rattle.dcsctp_machine.specs.transfer.Sending.{DiscardsNamed}
 use Rattle.dcsctp_send_streams.specs.Fragment.{fragment_of}
 use Rattle.dcsctp_send_outstanding.specs.declared.item.Item.{Item}
 use Rattle.dcsctp_send_outstanding.specs.declared.progress.ItemState.TheVariants.{Abandoned}
@@ -59,7 +59,7 @@ EndsDropped now begins last old new false = new ≡ old
 
 -- What waits of the message in the send queue is dropped. If the flag is set, streams were reset since the last item was added:
 -- the end of the message lies after the reset.
-pub record DropsRest (now : ℕ) (begins : Bool) (last : Item) (old : OutstandingModel) (waiting : Backlog) (told : List (Event (List ℕ))) (new : OutstandingModel) (left : Backlog) (telling : List (Event (List ℕ))) : Type 0 where
+pub record DropsRest (now : ℕ) (begins : Bool) (last : Item) (old : OutstandingModel) (waiting : SendQueueState) (told : List (Event (List ℕ))) (new : OutstandingModel) (left : SendQueueState) (telling : List (Event (List ℕ))) : Type 0 where
   pub is_dropped : Bool
   pub drops : DiscardsNamed waiting last.fragment.stream_id.0 last.fragment.message_id told is_dropped left telling
   pub ends : EndsDropped now begins last old new is_dropped

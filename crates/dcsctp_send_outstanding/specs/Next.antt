@@ -1,7 +1,7 @@
 -- Which item comes next, and when none can.
 use Rattle.std.specs.Prelude.{◌≡◌, ℕ, None, List, []}
-use Rattle.dcsctp_send_queue.specs.declared.backlog.Backlog.{Backlog}
-use Rattle.dcsctp_send_streams.specs.Ranking.{turns_of}
+use Rattle.dcsctp_machine.specs.transfer.SendQueue.{SendQueueState}
+use Rattle.dcsctp_machine.specs.transfer.SendStreams.{turns_of}
 use Rattle.dcsctp_send_outstanding.specs.declared.item.Item.{Item}
 use Rattle.dcsctp_send_outstanding.specs.Outstanding.{NoneMarkedBefore, IsMarkedAt}
 
@@ -11,6 +11,6 @@ pub record IsNextMarked (place : ℕ) (items : List Item) : Type 0 where
   pub first : NoneMarkedBefore place items
 
 -- No message is under way, and none can be started.
-pub record HasNone (waiting : Backlog) : Type 0 where
+pub record HasNone (waiting : SendQueueState) : Type 0 where
   pub idle : waiting.under_way ≡ None
   pub none_left : turns_of waiting.streams ≡ []

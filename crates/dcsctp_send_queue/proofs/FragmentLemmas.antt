@@ -2,10 +2,10 @@
 use Rattle.std.proofs.Common.{◌≡◌, ◌∙◌, ℕ, ◌<◌, length, take, drop, vec_len, ap, arith}
 use Rattle.std.proofs.lemmas.List.{length-take, length-drop}
 use Rattle.dcsctp_send_streams.specs.declared.data.DataToSend.{DataToSend}
-use Rattle.dcsctp_send_streams.specs.declared.message.UnderWay.{UnderWay}
-use Rattle.dcsctp_send_streams.specs.Waiting.{Waiting}
-use Rattle.dcsctp_send_streams.specs.Fragment.{Fragment, fragment_of, fragment, HasSize}
-use Rattle.dcsctp_send_queue.specs.Leaving.{size_produced}
+use Rattle.dcsctp_machine.specs.declared.sending.UnderWay.{UnderWay}
+use Rattle.dcsctp_machine.specs.transfer.SendStreams.{Waiting}
+use Rattle.dcsctp_machine.specs.transfer.Sending.{Fragment, fragment, size_produced}
+use Rattle.dcsctp_send_streams.specs.Fragment.{fragment_of, HasSize}
 
 -- one byte at least where some are left, and at most as many as are asked for
 pub has_size : (part : DataToSend) (message : Waiting) (u : UnderWay) (max : ℕ) → fragment_of part ≡ fragment u message (size_produced max message u) → u.sent < length message.payload → 0 < max → HasSize max part

@@ -3,13 +3,12 @@ use Rattle.std.proofs.Common.{◌≡◌, ◌≢◌, ◌==◌, ◌%◌, nat_le, �
 use Rattle.std.proofs.lemmas.Bool.Decides.{nat_tests}
 use Rattle.std.specs.List.{insert}
 use Rattle.dcsctp_machine.specs.Event.{Event}
-use Rattle.dcsctp_send_queue.specs.declared.backlog.Backlog.{Backlog}
-use Rattle.dcsctp_send_streams.specs.declared.message.UnderWay.{UnderWay}
-use Rattle.dcsctp_send_streams.specs.Waiting.{Waiting, Stream, unused, front_of, counted}
-use Rattle.dcsctp_send_streams.specs.Ranking.{stream_at, IsFound, IsAscending}
-use Rattle.dcsctp_send_queue.specs.Backlog.{changed, with_stream, used, IsUnderWay, CanGoOn}
-use Rattle.dcsctp_send_queue.specs.Calls.{Chooses, IsNamed}
-use Rattle.dcsctp_send_queue.specs.Leaving.{Drops, none, more, reduced, after_part, after_last, produced, is_last}
+use Rattle.dcsctp_machine.specs.transfer.SendQueue.{SendQueueState, changed, with_stream, used}
+use Rattle.dcsctp_machine.specs.declared.sending.UnderWay.{UnderWay}
+use Rattle.dcsctp_machine.specs.transfer.SendStreams.{Waiting, Stream, unused, front_of, counted, stream_at}
+use Rattle.dcsctp_send_streams.specs.Ranking.{IsFound, IsAscending}
+use Rattle.dcsctp_send_queue.specs.Backlog.{IsUnderWay, CanGoOn}
+use Rattle.dcsctp_machine.specs.transfer.Sending.{Chooses, IsNamed, Drops, none, more, reduced, after_part, after_last, produced, is_last}
 use Rattle.dcsctp_send_streams.proofs.StreamLemmas.{stream_at-set, length-set_at}
 use Rattle.dcsctp_send_streams.proofs.NextLemmas.{same_place}
 use Rattle.dcsctp_send_queue.proofs.QueueLemmas.{less_test, not_less_test, changed_at, used_found, lost_after, used_lost, changed_insert, stream_at-either, under_way_set}
@@ -51,7 +50,7 @@ can_go_on-insert streams p s (Some u) can le =
     }
 
 -- drops leave the message under way
-pub drops-under_way : (now : ℕ) (old queue : Backlog) (events : List (Event (List ℕ))) → Drops now old events queue → queue.under_way ≡ old.under_way
+pub drops-under_way : (now : ℕ) (old queue : SendQueueState) (events : List (Event (List ℕ))) → Drops now old events queue → queue.under_way ≡ old.under_way
 drops-under_way now old queue events none = refl
 drops-under_way now old queue events (more told before place message drops next front expired) = drops-under_way now old before told drops
 
@@ -101,7 +100,7 @@ part_at streams p size amount i b false u next message lt is front same some les
       unfinished = less;
     }
 
-pub part_goes : (queue : Backlog) (place size : ℕ) (first : Bool) (u next : UnderWay) (message : Waiting)
+pub part_goes : (queue : SendQueueState) (place size : ℕ) (first : Bool) (u next : UnderWay) (message : Waiting)
     → place < length queue.streams → (stream_at queue.streams place).id ≡ u.stream_id.0 → front_of (stream_at queue.streams place).messages ≡ Some message
     → next.stream_id.0 ≡ u.stream_id.0 → 0 < next.sent → next.sent < length message.payload
     → IsUnderWay (if first then record (reduced place size queue) { streams = set (reduced place size queue).streams place (counted queue.is_interleaved message.is_unordered (stream_at (reduced place size queue).streams place)) } else reduced place size queue).streams next
@@ -113,7 +112,7 @@ part_goes queue place size false u next message lt is front same some less =
 pub not_last : (rest max : ℕ) → nat_le rest max ≡ false → max < rest
 not_last rest max e = grind (arith, nat_tests)
 
-pub produced_goes : (queue : Backlog) (place max : ℕ) (message : Waiting) (u : UnderWay) (b : Bool) → is_last max message u ≡ b
+pub produced_goes : (queue : SendQueueState) (place max : ℕ) (message : Waiting) (u : UnderWay) (b : Bool) → is_last max message u ≡ b
     → place < length queue.streams → (stream_at queue.streams place).id ≡ u.stream_id.0 → front_of (stream_at queue.streams place).messages ≡ Some message → 0 < max
     → CanGoOn (if b then after_last place message u queue else after_part place max message u queue).streams (if b then after_last place message u queue else after_part place max message u queue).under_way
 produced_goes queue place max message u true e lt is front some = tt
@@ -122,19 +121,19 @@ produced_goes queue place max message u false e lt is front some =
     part_goes queue place max (u.sent == 0) u (record u { next_fsn = (u.next_fsn + 1) % 2 ^ 32; sent = u.sent + max }) message lt is front refl (omega arith) (omega (arith, less))
 
 -- the message of a fragment can go on, where it isn't fully sent
-pub can_go_on-produced : (queue : Backlog) (place max : ℕ) (message : Waiting) (u : UnderWay) → place < length queue.streams → (stream_at queue.streams place).id ≡ u.stream_id.0
+pub can_go_on-produced : (queue : SendQueueState) (place max : ℕ) (message : Waiting) (u : UnderWay) → place < length queue.streams → (stream_at queue.streams place).id ≡ u.stream_id.0
     → front_of (stream_at queue.streams place).messages ≡ Some message → 0 < max
     → CanGoOn (produced place max message u queue).streams (produced place max message u queue).under_way
 can_go_on-produced queue place max message u lt is front some = produced_goes queue place max message u (is_last max message u) refl lt is front some
 
 -- the message under way is taken on
-pub chosen_going : (now : ℕ) (old : Backlog) (place : ℕ) (message : Waiting) (u : UnderWay) (w : Option UnderWay) → w ≡ Some u → (stream_at old.streams place).id ≡ u.stream_id.0 → Chooses now old w old place message u
+pub chosen_going : (now : ℕ) (old : SendQueueState) (place : ℕ) (message : Waiting) (u : UnderWay) (w : Option UnderWay) → w ≡ Some u → (stream_at old.streams place).id ≡ u.stream_id.0 → Chooses now old w old place message u
 chosen_going now old place message u w e is = rw e (refl, refl, is)
 
-pub used-found : (queue : Backlog) (p id : ℕ) → IsAscending queue.streams → IsFound queue.streams id (Ok p) → used queue id ≡ queue.streams
+pub used-found : (queue : SendQueueState) (p id : ℕ) → IsAscending queue.streams → IsFound queue.streams id (Ok p) → used queue id ≡ queue.streams
 used-found queue p id ascending found = let e = used_found queue.streams p id ascending found in rw e refl
 
-pub used-lost : (queue : Backlog) (p id : ℕ) → IsFound queue.streams id (Err p) → used queue id ≡ with_stream (unused id queue.default_priority queue.default_threshold) queue.streams
+pub used-lost : (queue : SendQueueState) (p id : ℕ) → IsFound queue.streams id (Err p) → used queue id ≡ with_stream (unused id queue.default_priority queue.default_threshold) queue.streams
 used-lost queue p id lost = let e = used_lost queue.streams p id lost in rw e refl
 
 pub insert-with_stream : (streams : List Stream) (p : ℕ) (u : Stream) → IsFound streams u.id (Err p) → insert streams p u ≡ with_stream u streams
@@ -150,21 +149,21 @@ insert-with_stream (x ∷ xs) (suc p) u lost =
     rw g (ap (λ ts. x ∷ ts) (insert-with_stream xs p u (lost_after x xs p u.id lost)))
 
 -- a stream that is put in, as it is used first
-pub insert-used : (queue : Backlog) (p id : ℕ) → IsFound queue.streams id (Err p) → insert queue.streams p (unused id queue.default_priority queue.default_threshold) ≡ used queue id
+pub insert-used : (queue : SendQueueState) (p id : ℕ) → IsFound queue.streams id (Err p) → insert queue.streams p (unused id queue.default_priority queue.default_threshold) ≡ used queue id
 insert-used queue p id lost = insert-with_stream queue.streams p (unused id queue.default_priority queue.default_threshold) lost ∙ sym (used-lost queue p id lost)
 
 -- a changed stream that is put in, as it is used first
-pub insert-changed : (queue : Backlog) (p id : ℕ) (f : Stream → Stream) → IsFound queue.streams id (Err p) → insert queue.streams p (f (unused id queue.default_priority queue.default_threshold)) ≡ changed id f (used queue id)
+pub insert-changed : (queue : SendQueueState) (p id : ℕ) (f : Stream → Stream) → IsFound queue.streams id (Err p) → insert queue.streams p (f (unused id queue.default_priority queue.default_threshold)) ≡ changed id f (used queue id)
 insert-changed queue p id f lost =
     changed_insert queue.streams p id (unused id queue.default_priority queue.default_threshold) f lost refl ∙ ap (λ ts. changed id f ts) (sym (used-lost queue p id lost))
 
 -- a change of a stream that was used
-pub set-changed : (queue : Backlog) (p id : ℕ) (f : Stream → Stream) → IsAscending queue.streams → IsFound queue.streams id (Ok p) → set queue.streams p (f (stream_at queue.streams p)) ≡ changed id f (used queue id)
+pub set-changed : (queue : SendQueueState) (p id : ℕ) (f : Stream → Stream) → IsAscending queue.streams → IsFound queue.streams id (Ok p) → set queue.streams p (f (stream_at queue.streams p)) ≡ changed id f (used queue id)
 set-changed queue p id f ascending found =
     changed_at queue.streams p id f ascending found ∙ ap (λ ts. changed id f ts) (sym (used-found queue p id ascending found))
 
 -- another message is under way
-pub not_named : (queue : Backlog) (stream message_id p : ℕ) (message : Waiting) → IsAscending queue.streams → IsFound queue.streams stream (Ok p) → front_of (stream_at queue.streams p).messages ≡ Some message → message.message_id ≢ message_id → IsNamed queue stream message_id → ⊥
+pub not_named : (queue : SendQueueState) (stream message_id p : ℕ) (message : Waiting) → IsAscending queue.streams → IsFound queue.streams stream (Ok p) → front_of (stream_at queue.streams p).messages ≡ Some message → message.message_id ≢ message_id → IsNamed queue stream message_id → ⊥
 not_named queue stream message_id p message ascending found front other named =
     let same = same_place queue.streams named.place p ascending named.within found.0 (named.is ∙ sym found.1) in
     let e : Some named.message ≡ Some message = sym named.front ∙ (ap (λ k. front_of (stream_at queue.streams k).messages) same ∙ front) in

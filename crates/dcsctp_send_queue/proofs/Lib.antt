@@ -1,13 +1,9 @@
 pub mod FragmentLemmas
 pub mod FrontLemmas
 pub mod GoingOnLemmas
-pub mod HandedOutLemmas
 pub mod NotReadyLemmas
 pub mod NumberingLemmas
-pub mod PreparedLemmas
 pub mod QueueLemmas
-pub mod QueuedLemmas
 pub mod ReadyLemmas
 pub mod ResetLemmas
-pub mod ShownLemmas
 pub mod WaitingLemmas

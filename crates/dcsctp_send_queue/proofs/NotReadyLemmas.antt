@@ -2,15 +2,20 @@
 use Rattle.std.proofs.Common.{◌≡◌, nat_lt, ℕ, zero, suc, ◌+◌, ◌<◌, Bool, true, false, not, if◌then◌else◌, Option, None, Some, Ok, Err, List, [], ◌∷◌, length, refl, sym, ap, arith}
 use Rattle.std.proofs.lemmas.Bool.Decides.{nat_tests}
 use Rattle.dcsctp_machine.specs.transfer.Transfer.{is_none_ready}
-use Rattle.dcsctp_send_streams.specs.declared.message.UnderWay.{UnderWay}
-use Rattle.dcsctp_send_streams.specs.Waiting.{Stream, is_pausing}
-use Rattle.dcsctp_send_streams.specs.Ranking.{stream_at, count_pausing, IsFound, IsAscending}
+use Rattle.dcsctp_machine.specs.declared.sending.UnderWay.{UnderWay}
+use Rattle.dcsctp_machine.specs.transfer.SendStreams.{Stream, is_pausing, stream_at}
+use Rattle.dcsctp_send_streams.specs.Ranking.{count_pausing, IsFound, IsAscending}
 use Rattle.dcsctp_send_streams.proofs.CountLemmas.{one_pausing, count-cons}
 use Rattle.dcsctp_send_streams.proofs.NextLemmas.{absent_at}
-use Rattle.dcsctp_send_queue.specs.Backlog.{is_under_way, is_ready}
+use Rattle.dcsctp_machine.specs.transfer.OwnResets.{is_under_way, is_ready}
 use Rattle.dcsctp_send_queue.proofs.QueueLemmas.{same_test, other_test, IsBelow-out}
-use Rattle.dcsctp_send_queue.proofs.QueuedLemmas.{ready_ids}
-use Rattle.dcsctp_send_queue.proofs.PreparedLemmas.{ready_here, ready_behind}
+use Rattle.dcsctp_send_queue.proofs.ReadyLemmas.{ready_ids}
+
+ready_here : (w : Option UnderWay) (x : Stream) (xs : List Stream) → is_ready w x ≡ true → ready_ids w (x ∷ xs) ≡ x.id ∷ ready_ids w xs
+ready_here w x xs e = rw e refl
+
+ready_behind : (w : Option UnderWay) (x : Stream) (xs : List Stream) → is_ready w x ≡ false → ready_ids w (x ∷ xs) ≡ ready_ids w xs
+ready_behind w x xs e = rw e refl
 
 -- one more stream, of which no message is under way
 first_counted : (w : Option UnderWay) (x : Stream) (xs : List Stream) (n : ℕ) (b : Bool) → is_under_way x.id w ≡ false → is_pausing x.pause ≡ b → length (ready_ids w xs) + n ≡ count_pausing xs

@@ -2,10 +2,11 @@
 use Rattle.std.proofs.Common.{◌≡◌, ◌≢◌, ◌==◌, nat_lt, ℕ, zero, suc, ◌<◌, ◌≤◌, true, false, Some, Ok, Err, ◌⊎◌, inl, inr, List, [], ◌∷◌, length, set, refl, sym, ap, ◌∙◌, arith}
 use Rattle.std.proofs.lemmas.Bool.Decides.{nat_tests}
 use Rattle.std.specs.List.{insert}
-use Rattle.dcsctp_send_streams.specs.declared.message.UnderWay.{UnderWay}
-use Rattle.dcsctp_send_streams.specs.Waiting.{Waiting, Stream, front_of}
-use Rattle.dcsctp_send_streams.specs.Ranking.{stream_at, IsFound, IsBelow, IsAscending}
-use Rattle.dcsctp_send_queue.specs.Backlog.{changed, with_stream, is_used, found_in, IsUnderWay}
+use Rattle.dcsctp_machine.specs.declared.sending.UnderWay.{UnderWay}
+use Rattle.dcsctp_machine.specs.transfer.SendStreams.{Waiting, Stream, front_of, stream_at}
+use Rattle.dcsctp_send_streams.specs.Ranking.{IsFound, IsBelow, IsAscending}
+use Rattle.dcsctp_machine.specs.transfer.SendQueue.{changed, with_stream, is_used, found_in}
+use Rattle.dcsctp_send_queue.specs.Backlog.{IsUnderWay}
 use Rattle.dcsctp_send_streams.proofs.StreamLemmas.{length-set_at}
 
 pub same_test : (a b : ℕ) → a ≡ b → (a == b) ≡ true

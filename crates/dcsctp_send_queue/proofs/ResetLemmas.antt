@@ -1,15 +1,17 @@
 -- What a reset does to streams.
 use Rattle.std.proofs.Common.{◌≡◌, ◌≢◌, ◌==◌, ℕ, zero, suc, ◌-◌, ◌+◌, ◌^◌, ◌<◌, min, true, false, Option, None, Some, Result, Ok, Err, OnOk, OnErr, ◌⊎◌, inl, inr, List, [], ◌∷◌, length, set, map, take, refl, sym, ap, subst, ◌∙◌, arith}
 use Rattle.std.proofs.lemmas.Bool.Decides.{nat_tests}
+use Rattle.dcsctp_machine.specs.transfer.SendQueue.{SendQueueState, changed, used, stream_of, put_back}
+use Rattle.dcsctp_machine.specs.declared.sending.UnderWay.{UnderWay}
+use Rattle.dcsctp_machine.specs.transfer.SendStreams.{Waiting, Stream, unused, front_of, raised, paused, committed, rolled_back, stream_at}
+use Rattle.dcsctp_machine.specs.declared.sending.Pause.{Pause}
+use Rattle.dcsctp_machine.specs.declared.sending.Pause.TheVariants.{Open, Pausing, HandedOut}
+use Rattle.dcsctp_send_streams.specs.Ranking.{IsFound, IsAscending}
 use Rattle.dcsctp_send_queue.specs.declared.backlog.Backlog.{Backlog}
-use Rattle.dcsctp_send_streams.specs.declared.message.UnderWay.{UnderWay}
-use Rattle.dcsctp_send_streams.specs.Waiting.{Waiting, Stream, unused, front_of, raised, paused, committed, rolled_back}
-use Rattle.dcsctp_send_streams.specs.declared.stream.Pause.{Pause}
-use Rattle.dcsctp_send_streams.specs.declared.stream.Pause.TheVariants.{Open, Pausing, HandedOut}
-use Rattle.dcsctp_send_streams.specs.Ranking.{stream_at, IsFound, IsAscending}
-use Rattle.dcsctp_send_queue.specs.Backlog.{changed, used, stream_of, IsUnderWay, CanGoOn}
-use Rattle.dcsctp_send_queue.specs.Resets.{put_back, prepared_stream, prepared_open, prepared_in, prepare_events_in, is_open, dropped_size}
-use Rattle.dcsctp_send_queue.specs.Leaving.{DropsSome, pause_events, after_pause, size_not_begun, count_under_way, none}
+use Rattle.dcsctp_send_queue.specs.Backlog.{queue_of, IsUnderWay, CanGoOn}
+use Rattle.dcsctp_machine.specs.transfer.OwnResets.{prepared_stream, prepared_open, prepared_in, prepare_events_in, is_open, dropped_size, count_under_way}
+use Rattle.dcsctp_send_queue.specs.Leaving.{DropsSome, pause_events, after_pause, size_not_begun}
+use Rattle.dcsctp_machine.specs.transfer.Sending.{none}
 use Rattle.dcsctp_send_streams.proofs.StreamLemmas.{stream_at-set, length-set_at}
 use Rattle.dcsctp_send_queue.proofs.QueueLemmas.{same_test, other_test, changed_at, found_in-at, stream_at-either, under_way_set}
 use Rattle.dcsctp_send_queue.proofs.GoingOnLemmas.{map_at, map_length}
@@ -48,12 +50,12 @@ pub rolled_back-kept : (s : Stream) → (rolled_back s).messages ≡ s.messages
 rolled_back-kept s = rolled_kept_if s.pause s refl
 
 -- a change of a stream that is used
-pub change_used : (old mid : Backlog) (p id : ℕ) (f : Stream → Stream) (streams : List Stream) → mid ≡ record old { streams = used old id } → IsAscending mid.streams → IsFound mid.streams id (Ok p)
+pub change_used : (old mid : SendQueueState) (p id : ℕ) (f : Stream → Stream) (streams : List Stream) → mid ≡ record old { streams = used old id } → IsAscending mid.streams → IsFound mid.streams id (Ok p)
     → streams ≡ set mid.streams p (f (stream_at mid.streams p)) → record mid { streams = streams } ≡ record old { streams = changed id f (used old id) }
 change_used old mid p id f streams ok ascending found is =
-    ap {A = List Stream} (λ (s : List Stream). record mid { streams = s }) (is ∙ changed_at mid.streams p id f ascending found) ∙ ap {A = Backlog} (λ (q : Backlog). record q { streams = changed id f q.streams }) ok
+    ap {A = List Stream} (λ (s : List Stream). record mid { streams = s }) (is ∙ changed_at mid.streams p id f ascending found) ∙ ap {A = SendQueueState} (λ (q : SendQueueState). record q { streams = changed id f q.streams }) ok
 
-pub put_back_is : (queue : Backlog) (w : Option UnderWay) (u : UnderWay) (streams : List Stream) (total : ℕ) → w ≡ Some u → streams ≡ changed u.stream_id.0 (raised u.sent) queue.streams → total ≡ min (queue.total_amount + u.sent) (2 ^ 64 - 1)
+pub put_back_is : (queue : SendQueueState) (w : Option UnderWay) (u : UnderWay) (streams : List Stream) (total : ℕ) → w ≡ Some u → streams ≡ changed u.stream_id.0 (raised u.sent) queue.streams → total ≡ min (queue.total_amount + u.sent) (2 ^ 64 - 1)
     → record queue { streams = streams; under_way = None; total_amount = total } ≡ put_back w queue
 put_back_is queue w u streams total e es et = rw (e, es, et) refl
 
@@ -61,7 +63,7 @@ pub on_err_map : {P Q : Type 0} {T E : Type 0} (r : Result T E) → (P → Q) �
 on_err_map (Ok v) f h = tt
 on_err_map (Err e) f h = f h
 
-pub stays : (now : ℕ) (old new : Backlog) → new ≡ old → DropsSome now old new
+pub stays : (now : ℕ) (old new : SendQueueState) → new ≡ old → DropsSome now old new
 stays now old new e = record { events = []; drops = rw e none }
 
 pub apart_by : (a b : ℕ) → (a == b) ≡ false → a ≢ b
@@ -83,7 +85,7 @@ paused_set streams p size kept lt =
     set-set streams p s (paused kept (stream_at (set streams p s) p)) ∙ ap (λ x. set streams p (paused kept x)) (stream_at-set streams p s lt)
 
 -- a stream that is paused at its place
-pub paused_is : (queue : Backlog) (p id : ℕ) → IsAscending queue.streams → IsFound queue.streams id (Ok p) → after_pause p queue ≡ prepared_open id queue
+pub paused_is : (queue : SendQueueState) (p id : ℕ) → IsAscending queue.streams → IsFound queue.streams id (Ok p) → after_pause p queue ≡ prepared_open id queue
 paused_is queue p id ascending found =
     let at = found_in-at (unused id queue.default_priority queue.default_threshold) queue.streams p id ascending found in
     let size : size_not_begun p queue ≡ dropped_size id queue = rw (found.1, at) refl in
@@ -97,18 +99,18 @@ pub on_ok_map : {P Q : Type 0} {T E : Type 0} (r : Result T E) → (P → Q) →
 on_ok_map (Ok v) f h = f h
 on_ok_map (Err e) f h = tt
 
-pub open_is : (queue : Backlog) (id : ℕ) → is_open (stream_of queue id).pause ≡ true → prepared_open id queue ≡ prepared_in id queue
+pub open_is : (queue : SendQueueState) (id : ℕ) → is_open (stream_of queue id).pause ≡ true → prepared_open id queue ≡ prepared_in id queue
 open_is queue id e = rw e refl
 
-pub closed_is : (queue : Backlog) (id : ℕ) → is_open (stream_of queue id).pause ≡ false → queue ≡ prepared_in id queue
+pub closed_is : (queue : SendQueueState) (id : ℕ) → is_open (stream_of queue id).pause ≡ false → queue ≡ prepared_in id queue
 closed_is queue id e = rw e refl
 
-pub open_events : (queue : Backlog) (p id : ℕ) → IsAscending queue.streams → IsFound queue.streams id (Ok p) → is_open (stream_of queue id).pause ≡ true → pause_events p queue ≡ prepare_events_in id queue
+pub open_events : (queue : SendQueueState) (p id : ℕ) → IsAscending queue.streams → IsFound queue.streams id (Ok p) → is_open (stream_of queue id).pause ≡ true → pause_events p queue ≡ prepare_events_in id queue
 open_events queue p id ascending found e =
     let at = found_in-at (unused id queue.default_priority queue.default_threshold) queue.streams p id ascending found in
     rw e (rw (at, found.1) refl)
 
-pub closed_events : (queue : Backlog) (id : ℕ) → is_open (stream_of queue id).pause ≡ false → prepare_events_in id queue ≡ []
+pub closed_events : {P : Type 0} (queue : SendQueueState) (id : ℕ) → is_open (stream_of queue id).pause ≡ false → prepare_events_in {P = P} id queue ≡ []
 closed_events queue id e = rw e refl
 
 pub front_kept : (messages : List Waiting) (m : Waiting) → front_of messages ≡ Some m → front_of (take 1 messages) ≡ Some m
@@ -145,7 +147,7 @@ can_go_on-cut streams p s None can same kept = tt
 can_go_on-cut streams p s (Some u) can same kept = pause_at streams p s u can same kept (stream_at-either streams p can.place s can.within)
 
 -- the message under way goes on where its stream is paused
-pub can_go_on-pause : (queue : Backlog) (p : ℕ) → p < length queue.streams → CanGoOn queue.streams queue.under_way → CanGoOn (after_pause p queue).streams (after_pause p queue).under_way
+pub can_go_on-pause : (queue : SendQueueState) (p : ℕ) → p < length queue.streams → CanGoOn queue.streams queue.under_way → CanGoOn (after_pause p queue).streams (after_pause p queue).under_way
 can_go_on-pause queue p lt can =
     let size = size_not_begun p queue in
     let kept = count_under_way (stream_at queue.streams p).id queue.under_way in
@@ -154,8 +156,9 @@ can_go_on-pause queue p lt can =
     subst P (sym same) (can_go_on-cut queue.streams p (prepared_stream size kept (stream_at queue.streams p)) queue.under_way can refl refl)
 
 -- the message under way goes on after a pause, or where memory was wanting
-pub can_go_on-after_pause : {T E : Type 0} (r : Result T E) (old new : Backlog) (p : ℕ) → OnOk r (new ≡ after_pause p old) → OnErr r (new ≡ old) → p < length old.streams → CanGoOn old.streams old.under_way → CanGoOn new.streams new.under_way
-can_go_on-after_pause (Ok v) old new p ok err lt can = rw ok (can_go_on-pause old p lt can)
+pub can_go_on-after_pause : {T E : Type 0} (r : Result T E) (old new : Backlog) (p : ℕ) → OnOk r (queue_of new ≡ after_pause p (queue_of old)) → OnErr r (new ≡ old) → p < length old.streams → CanGoOn old.streams old.under_way → CanGoOn new.streams new.under_way
+can_go_on-after_pause (Ok v) old new p ok err lt can =
+    subst (λ (q : SendQueueState). CanGoOn q.streams q.under_way) (sym ok) (can_go_on-pause (queue_of old) p lt can)
 can_go_on-after_pause (Err e) old new p ok err lt can = rw err can
 
 pub changed_absent : (id : ℕ) (f : Stream → Stream) (streams : List Stream) → ((k : ℕ) → k < length streams → (stream_at streams k).id ≢ id) → changed id f streams ≡ streams

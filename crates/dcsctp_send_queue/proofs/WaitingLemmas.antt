@@ -1,14 +1,15 @@
 -- Messages that wait, and streams by number.
 use Rattle.std.proofs.Common.{◌≡◌, ℕ, zero, suc, ◌-◌, ◌+◌, ◌<◌, Some, Ok, Err, List, [], ◌∷◌, length, set, drop, refl, sym, ap, ◌∙◌, arith}
-use Rattle.dcsctp_send_streams.specs.declared.stream.Pause.{Pause}
-use Rattle.dcsctp_send_streams.specs.declared.stream.Pause.TheVariants.{Open, Pausing, HandedOut}
-use Rattle.dcsctp_send_streams.specs.declared.turns.Turn.{Turn}
-use Rattle.dcsctp_send_streams.specs.Waiting.{Waiting, Stream, front_of, without_front}
-use Rattle.dcsctp_send_streams.specs.Ranking.{stream_at, turn_if, IsNext, IsFound, IsAscending}
-use Rattle.dcsctp_send_queue.specs.declared.backlog.Backlog.{Backlog}
-use Rattle.dcsctp_send_queue.specs.Leaving.{without_rest, HasRest, HasMore}
+use Rattle.dcsctp_machine.specs.declared.sending.Pause.{Pause}
+use Rattle.dcsctp_machine.specs.declared.sending.Pause.TheVariants.{Open, Pausing, HandedOut}
+use Rattle.dcsctp_machine.specs.declared.sending.Turn.{Turn}
+use Rattle.dcsctp_machine.specs.transfer.SendStreams.{Waiting, Stream, front_of, without_front, stream_at, turn_if, IsNext}
+use Rattle.dcsctp_send_streams.specs.Ranking.{IsFound, IsAscending}
+use Rattle.dcsctp_machine.specs.transfer.SendQueue.{SendQueueState}
+use Rattle.dcsctp_machine.specs.transfer.Sending.{without_rest}
+use Rattle.dcsctp_send_queue.specs.Leaving.{HasRest, HasMore}
 use Rattle.dcsctp_send_queue.specs.Backlog.{IsUnderWay}
-use Rattle.dcsctp_send_streams.specs.declared.message.UnderWay.{UnderWay}
+use Rattle.dcsctp_machine.specs.declared.sending.UnderWay.{UnderWay}
 use Rattle.dcsctp_send_streams.proofs.StreamLemmas.{stream_at-set, length-set_at}
 use Rattle.dcsctp_send_streams.proofs.NextLemmas.{same_place, absent_at}
 
@@ -45,7 +46,7 @@ count-same (x ∷ xs) zero s lt is = let g = ap length is in omega (arith, g)
 count-same (x ∷ xs) (suc p) s lt is = let ih = count-same xs p s (omega arith) is in omega (arith, ih)
 
 -- a message fewer waits once one was dropped
-pub count-without_rest : (queue : Backlog) (place sent : ℕ) (message : Waiting) → place < length queue.streams → front_of (stream_at queue.streams place).messages ≡ Some message → count_messages (without_rest place sent message queue).streams + 1 ≡ count_messages queue.streams
+pub count-without_rest : (queue : SendQueueState) (place sent : ℕ) (message : Waiting) → place < length queue.streams → front_of (stream_at queue.streams place).messages ≡ Some message → count_messages (without_rest place sent message queue).streams + 1 ≡ count_messages queue.streams
 count-without_rest queue place sent message lt front =
     let less : Stream = record (stream_at queue.streams place) { amount = (stream_at queue.streams place).amount - (length message.payload - sent) } in
     let at = stream_at-set queue.streams place less lt in

@@ -1,7 +1,7 @@
 //! What a send queue holds, and the steps of its calls.
 
 ghost use Rattle.std.specs.Prelude.{◌≡◌, ◌&&◌};
-ghost use Rattle.dcsctp_send_streams.specs.Telling.{falls_low};
+ghost use Rattle.dcsctp_machine.specs.transfer.SendEvents.{falls_low};
 
 mod producing;
 mod resetting;
@@ -38,13 +38,16 @@ pub struct Backlog {
 }
 
 impl Backlog {
+    ghost use Rattle.dcsctp_send_queue.specs.Backlog.{queue_of, CanGoOn, IsUnderWay};
+    ghost use Rattle.dcsctp_machine.specs.transfer.SendQueue.{has_data, changed, used, put_back, with_threshold, with_priority, may_send};
+    ghost use Rattle.dcsctp_machine.specs.transfer.OwnResets.{with_used, count_under_way};
+    ghost use Rattle.dcsctp_machine.specs.turns.SettingOutcomes.{stream_priority, stream_low_threshold, set_in_queue};
     ghost use Rattle.std.specs.Prelude.{◌≡◌, ◌==◌, ◌+◌, ◌-◌, ◌<◌, ◌++◌, length, Some, None, Ok, Err, OnOk, OnErr, IfOk, IfSome};
-    ghost use Rattle.dcsctp_send_streams.specs.Waiting.{Waiting, unused, front_of, with_message};
+    ghost use Rattle.dcsctp_machine.specs.transfer.SendStreams.{Waiting, unused, front_of, with_message, stream_at};
     ghost use Rattle.dcsctp_send_streams.specs.Telling.{contents, TellsFront};
-    ghost use Rattle.dcsctp_send_streams.specs.Ranking.{stream_at, IsFound, IsAscending};
-    ghost use Rattle.dcsctp_send_queue.specs.Leaving.{reduced, without_rest, drop_events, part_events, HasMore, HasRest, count_under_way};
-    ghost use Rattle.dcsctp_send_queue.specs.Backlog.{CanGoOn, changed, used, IsUnderWay};
-    ghost use Rattle.dcsctp_send_queue.specs.Resets.{put_back, with_threshold, with_priority, may_send};
+    ghost use Rattle.dcsctp_send_streams.specs.Ranking.{IsFound, IsAscending};
+    ghost use Rattle.dcsctp_machine.specs.transfer.Sending.{reduced, without_rest, drop_events, part_events};
+    ghost use Rattle.dcsctp_send_queue.specs.Leaving.{HasMore, HasRest};
 
     /// A stream that was never used.
     pub fn new_stream(&self, stream_id: StreamId) -> OutgoingStream
@@ -60,7 +63,7 @@ impl Backlog {
 
     /// Adds a message after the others of its stream. `Err`: an allocation failed, and nothing has changed.
     pub fn put(&mut self, stream_id: StreamId, message: QueuedMessage) -> Result<(), AllocError>
-        ensures ok { OnOk result (self.new ≡ record self.old { streams = changed stream_id.0 (with_message message) (used self.old stream_id.0) }) }
+        ensures ok { OnOk result (queue_of self.new ≡ record (queue_of self.old) { streams = changed stream_id.0 (with_message message) (used (queue_of self.old) stream_id.0) }) }
         ensures was_ascending { IsAscending self.old.streams }
         ensures can { CanGoOn self.old.streams self.old.under_way → CanGoOn self.new.streams self.new.under_way }
         ensures err { OnErr result (self.new ≡ self.old) }
@@ -82,7 +85,7 @@ impl Backlog {
     /// The place of the stream, which counts as used from now on. `Err`: an allocation failed, and nothing
     /// has changed.
     pub fn use_stream(&mut self, stream_id: StreamId) -> Result<usize, AllocError>
-        ensures ok { OnOk result (self.new ≡ record self.old { streams = used self.old stream_id.0 }) }
+        ensures ok { OnOk result (queue_of self.new ≡ with_used stream_id.0 (queue_of self.old)) }
         ensures place { IfOk result (λ place. IsFound self.new.streams stream_id.0 (Ok place)) }
         ensures ascending { IsAscending self.new.streams }
         ensures was_ascending { IsAscending self.old.streams }
@@ -101,7 +104,7 @@ impl Backlog {
 
     /// Sets the stream's threshold, in bytes. `Err`: an allocation failed, and nothing has changed.
     pub fn set_threshold(&mut self, stream_id: StreamId, bytes: usize) -> Result<(), AllocError>
-        ensures ok { OnOk result (self.new ≡ record self.old { streams = changed stream_id.0 (with_threshold bytes) (used self.old stream_id.0) }) }
+        ensures ok { OnOk result (queue_of self.new ≡ set_in_queue (stream_low_threshold stream_id.0 bytes) (queue_of self.old)) }
         ensures was_ascending { IsAscending self.old.streams }
         ensures can { CanGoOn self.old.streams self.old.under_way → CanGoOn self.new.streams self.new.under_way }
         ensures err { OnErr result (self.new ≡ self.old) }
@@ -113,7 +116,7 @@ impl Backlog {
 
     /// Sets the stream's priority. `Err`: an allocation failed, and nothing has changed.
     pub fn set_priority(&mut self, stream_id: StreamId, priority: u16) -> Result<(), AllocError>
-        ensures ok { OnOk result (self.new ≡ record self.old { streams = changed stream_id.0 (with_priority priority) (used self.old stream_id.0) }) }
+        ensures ok { OnOk result (queue_of self.new ≡ set_in_queue (stream_priority stream_id.0 priority) (queue_of self.old)) }
         ensures was_ascending { IsAscending self.old.streams }
         ensures can { CanGoOn self.old.streams self.old.under_way → CanGoOn self.new.streams self.new.under_way }
         ensures err { OnErr result (self.new ≡ self.old) }
@@ -125,7 +128,7 @@ impl Backlog {
 
     /// Is a message under way, or does one wait on a stream that isn't paused?
     pub fn may_send(&self) -> bool
-        ensures { result ≡ may_send self.now.under_way self.now.streams }
+        ensures { result ≡ has_data (queue_of self.now) }
     {
         match self.under_way {
             Some(_) => true,
@@ -150,8 +153,8 @@ impl Backlog {
     /// Tells which amounts fall to their thresholds if that much leaves the stream.
     pub fn tell_low(&self, events: &mut Events, place: usize, size: usize) -> Result<(), AllocError>
         requires { place < length self.now.streams }
-        ensures ok { OnOk result (contents events.new ≡ contents events.old ++ part_events place size self.now) }
-        ensures err { OnErr result (TellsFront (contents events.old) (part_events place size self.now) (contents events.new)) }
+        ensures ok { OnOk result (contents events.new ≡ contents events.old ++ part_events place size (queue_of self.now)) }
+        ensures err { OnErr result (TellsFront (contents events.old) (part_events place size (queue_of self.now)) (contents events.new)) }
     {
         let stream = self.streams.at(place);
         if falls_low(stream.threshold(), stream.amount(), size) {
@@ -166,7 +169,7 @@ impl Backlog {
     /// Takes that much away from the amounts.
     pub fn reduce(&mut self, place: usize, size: usize)
         requires { place < length self.old.streams }
-        ensures { self.new ≡ reduced place size self.old }
+        ensures { queue_of self.new ≡ reduced place size (queue_of self.old) }
     {
         self.streams.reduce(place, size);
         self.total_amount = self.total_amount.saturating_sub(size);
@@ -180,10 +183,10 @@ impl Backlog {
         sent: usize,
     ) -> Result<(), AllocError>
         requires { place < length self.old.streams }
-        ensures ok { (message : Waiting) → front_of (stream_at self.old.streams place).messages ≡ Some message → OnOk result (self.new ≡ without_rest place sent message self.old) }
-        ensures told { (message : Waiting) → front_of (stream_at self.old.streams place).messages ≡ Some message → OnOk result (contents events.new ≡ contents events.old ++ drop_events place sent message self.old) }
+        ensures ok { (message : Waiting) → front_of (stream_at self.old.streams place).messages ≡ Some message → OnOk result (queue_of self.new ≡ without_rest place sent message (queue_of self.old)) }
+        ensures told { (message : Waiting) → front_of (stream_at self.old.streams place).messages ≡ Some message → OnOk result (contents events.new ≡ contents events.old ++ drop_events place sent message (queue_of self.old)) }
         ensures err { OnErr result (self.new ≡ self.old) }
-        ensures front { (message : Waiting) → front_of (stream_at self.old.streams place).messages ≡ Some message → OnErr result (TellsFront (contents events.old) (drop_events place sent message self.old) (contents events.new)) }
+        ensures front { (message : Waiting) → front_of (stream_at self.old.streams place).messages ≡ Some message → OnErr result (TellsFront (contents events.old) (drop_events place sent message (queue_of self.old)) (contents events.new)) }
     {
         let Some(message) = self.streams.at(place).front() else {
             return Ok(());
@@ -199,7 +202,7 @@ impl Backlog {
     /// Puts the message under way back whole, to begin again.
     pub fn put_back(&mut self)
         requires { CanGoOn self.old.streams self.old.under_way }
-        ensures back { self.new ≡ put_back self.old.under_way self.old }
+        ensures back { queue_of self.new ≡ put_back self.old.under_way (queue_of self.old) }
         ensures ascending { IfSome self.old.under_way (λ _. IsAscending self.old.streams) }
     {
         match self.under_way {

@@ -20,34 +20,36 @@ pub struct SendQueue {
 }
 
 impl Model for SendQueue {
-    ghost use Rattle.dcsctp_send_queue.specs.declared.backlog.Backlog.{Backlog};
-    ghost use Rattle.dcsctp_send_queue.specs.Backlog.{CanGoOn};
+    ghost use Rattle.dcsctp_machine.specs.transfer.SendQueue.{SendQueueState};
+    ghost use Rattle.dcsctp_send_queue.specs.Backlog.{queue_of, CanGoOn};
 
-    ghost Value = { Backlog };
+    ghost Value = { SendQueueState };
 
-    ghost view = { λ queue. queue.backlog };
+    ghost view = { λ queue. queue_of queue.backlog };
 
     ghost invariant = { λ queue. CanGoOn queue.backlog.streams queue.backlog.under_way };
 }
 
 impl SendQueue {
-    ghost use Rattle.std.specs.Prelude.{◌≡◌, ◌+◌, ◌-◌, ◌<◌, ◌++◌, vec_len, IfSome, OnOk, OnErr, IfOk, map, take, if◌then◌else◌, false, not};
-    ghost use Rattle.dcsctp_machine.specs.transfer.Transfer.{empty_queue, queue_after_reset, queue_handed_back, queue_handing_out, queue_added, has_data, is_none_ready};
+    ghost use Rattle.std.specs.Option.{option_map};
+    ghost use Rattle.dcsctp_machine.specs.transfer.Messages.{message_content};
+    ghost use Rattle.dcsctp_machine.specs.transfer.OwnResets.{queue_committed, queue_rolled_back, queue_handing_out, ready_streams, handing_out, prepared, prepare_events};
+    ghost use Rattle.dcsctp_send_streams.specs.Fragment.{fragment_of, HasSize};
+    ghost use Rattle.std.specs.Prelude.{◌≡◌, ◌+◌, ◌-◌, ◌<◌, ◌++◌, vec_len, IfSome, OnOk, OnErr, IfOk, take, not};
+    ghost use Rattle.dcsctp_machine.specs.transfer.SendQueue.{empty_queue, restarted, has_data, changed, used, stream_of, numbered_for, queued, with_added, may_send, with_threshold, with_priority};
+    ghost use Rattle.dcsctp_machine.specs.transfer.Transfer.{is_none_ready};
     ghost use Rattle.dcsctp_machine.specs.turns.SettingOutcomes.{stream_priority, stream_low_threshold, set_in_queue};
     ghost use Rattle.dcsctp_send_streams.specs.Telling.{contents, TellsFront};
-    ghost use Rattle.dcsctp_send_streams.specs.Fragment.{HasSize};
-    ghost use Rattle.dcsctp_send_streams.specs.Waiting.{paused};
-    ghost use Rattle.dcsctp_send_queue.specs.Backlog.{queue_state, changed, used, stream_of, ready_streams, numbered_for};
-    ghost use Rattle.dcsctp_send_queue.specs.Calls.{no_backlog, queued, with_added, TakesNext, StopsTaking, StopsDiscarding, DiscardsNamed};
+    ghost use Rattle.dcsctp_machine.specs.transfer.SendStreams.{paused, committed, rolled_back};
+    ghost use Rattle.dcsctp_send_queue.specs.Calls.{StopsTaking, StopsDiscarding};
+    ghost use Rattle.dcsctp_machine.specs.transfer.Sending.{TakesNext, DiscardsNamed};
     ghost use Rattle.dcsctp_send_queue.specs.Leaving.{DropsSome};
-    ghost use Rattle.dcsctp_send_queue.specs.Resets.{restarted, handing_out, may_send, IsUsedAtMost, with_threshold, with_priority, prepared, prepare_events, shown_prepared};
-    ghost use Rattle.dcsctp_send_streams.specs.Waiting.{committed, rolled_back};
+    ghost use Rattle.dcsctp_send_queue.specs.Resets.{IsUsedAtMost};
     ghost use Rattle.dcsctp_machine.specs.Ids.{stream_numbers};
 
     /// A queue with no messages, which numbers them as for no interleaving. Allocates nothing.
     pub fn new(alloc: Global, options: &Options) -> SendQueue
-        ensures whole { result ≡ no_backlog alloc options.now }
-        ensures shown { queue_state result ≡ empty_queue options.now }
+        ensures { result ≡ empty_queue options.now }
     {
         SendQueue {
             backlog: Backlog {
@@ -73,8 +75,7 @@ impl SendQueue {
         options: &SendOptions,
     ) -> Result<(), AllocError>
         requires { 0 < vec_len message.payload }
-        ensures ok { OnOk result (self.new ≡ with_added message.stream_id.0 (queued now message options.now self.old) self.old) }
-        ensures shown { OnOk result (queue_state self.new ≡ queue_added message.stream_id.0 (vec_len message.payload) (queue_state self.old)) }
+        ensures ok { OnOk result (self.new ≡ with_added message.stream_id.0 (queued now (message_content message) options.now self.old) self.old) }
         ensures err { OnErr result (self.new ≡ self.old) }
     {
         let stream_id = message.stream_id;
@@ -101,7 +102,7 @@ impl SendQueue {
         max: usize,
     ) -> Result<Option<DataToSend>, AllocError>
         requires { 0 < max }
-        ensures ok { IfOk result (λ next. TakesNext now max self.old (contents events.old) next self.new (contents events.new)) }
+        ensures ok { IfOk result (λ next. TakesNext now max self.old (contents events.old) (option_map fragment_of next) self.new (contents events.new)) }
         ensures size { IfOk result (λ next. IfSome next (HasSize max)) }
         ensures err { OnErr result (DropsSome now self.old self.new) }
         ensures front { OnErr result (StopsTaking now max self.old (contents events.old) self.new (contents events.new)) }
@@ -129,8 +130,7 @@ impl SendQueue {
 
     /// Is a message under way, or does one wait on a stream that isn't paused? Its age isn't looked at.
     pub fn has_data_to_send(&self) -> bool
-        ensures whole { result ≡ may_send self.now.under_way self.now.streams }
-        ensures shown { result ≡ has_data (queue_state self.now) }
+        ensures { result ≡ has_data self.now }
     {
         self.backlog.may_send()
     }
@@ -139,8 +139,7 @@ impl SendQueue {
     /// identifiers count, without it stream sequence numbers. If that is a change, the message under way goes
     /// on under the next number of its stream. No message interrupts it in either case.
     pub fn enable_message_interleaving(&mut self, enabled: bool)
-        ensures whole { self.new ≡ numbered_for enabled self.old }
-        ensures shown { queue_state self.new ≡ record (queue_state self.old) { is_interleaved = enabled } }
+        ensures { self.new ≡ numbered_for enabled self.old }
     {
         self.backlog.interleave(enabled);
     }
@@ -148,8 +147,7 @@ impl SendQueue {
     /// Makes the queue ready for another association: the message that is under way starts again, all
     /// messages are numbered from 0, and every pause ends. Messages, thresholds and priorities are kept.
     pub fn reset(&mut self)
-        ensures whole { self.new ≡ restarted self.old }
-        ensures shown { queue_state self.new ≡ queue_after_reset (queue_state self.old) }
+        ensures { self.new ≡ restarted self.old }
     {
         self.backlog.put_back();
         self.backlog.streams.begin_all_anew();
@@ -164,7 +162,6 @@ impl SendQueue {
     ) -> Result<(), AllocError>
         ensures ok { OnOk result (self.new ≡ prepared stream_id.0 self.old) }
         ensures told { OnOk result (contents events.new ≡ contents events.old ++ prepare_events stream_id.0 self.old) }
-        ensures shown { OnOk result (queue_state self.new ≡ shown_prepared stream_id.0 self.old) }
         ensures err { OnErr result (IsUsedAtMost stream_id.0 self.old self.new) }
         ensures front { OnErr result (TellsFront (contents events.old) (prepare_events stream_id.0 self.old) (contents events.new)) }
     {
@@ -183,8 +180,7 @@ impl SendQueue {
     /// allocation failed, and none is handed out.
     pub fn get_streams_ready_to_reset(&mut self, max: usize) -> Result<Vec<StreamId>, AllocError>
         ensures streams { IfOk result (λ ids. stream_numbers ids.items ≡ take max (ready_streams self.old)) }
-        ensures left { OnOk result (self.new ≡ record self.old { streams = handing_out (take max (ready_streams self.old)) self.old.streams }) }
-        ensures shown { OnOk result (queue_state self.new ≡ queue_handing_out max (queue_state self.old)) }
+        ensures left { OnOk result (self.new ≡ queue_handing_out max self.old) }
         ensures err { OnErr result (self.new ≡ self.old) }
     {
         let ids = self.backlog.ready_ids(max)?;
@@ -195,16 +191,14 @@ impl SendQueue {
     /// The streams that are handed out were reset: they number their messages from 0, and their pause
     /// ends.
     pub fn commit_reset_streams(&mut self)
-        ensures whole { self.new ≡ record self.old { streams = map committed self.old.streams } }
-        ensures shown { queue_state self.new ≡ queue_handed_back (queue_state self.old) }
+        ensures { self.new ≡ queue_committed self.old }
     {
         self.backlog.streams.commit_all();
     }
 
     /// The streams that are handed out were not reset: their pause ends.
     pub fn rollback_reset_streams(&mut self)
-        ensures whole { self.new ≡ record self.old { streams = map rolled_back self.old.streams } }
-        ensures shown { queue_state self.new ≡ queue_handed_back (queue_state self.old) }
+        ensures { self.new ≡ queue_rolled_back self.old }
     {
         self.backlog.streams.roll_back_all();
     }
@@ -221,8 +215,7 @@ impl SendQueue {
 
     /// The payload bytes that wait on all streams together.
     pub fn total_buffered_amount(&self) -> usize
-        ensures whole { result ≡ self.now.total_amount }
-        ensures shown { result ≡ (queue_state self.now).total_buffered_amount }
+        ensures { result ≡ self.now.total_amount }
     {
         self.backlog.total_amount
     }
@@ -243,8 +236,7 @@ impl SendQueue {
         stream_id: StreamId,
         bytes: usize,
     ) -> Result<(), AllocError>
-        ensures ok { OnOk result (self.new ≡ record self.old { streams = changed stream_id.0 (with_threshold bytes) (used self.old stream_id.0) }) }
-        ensures shown { OnOk result (queue_state self.new ≡ set_in_queue (stream_low_threshold stream_id.0 bytes) (queue_state self.old)) }
+        ensures ok { OnOk result (self.new ≡ set_in_queue (stream_low_threshold stream_id.0 bytes) self.old) }
         ensures err { OnErr result (self.new ≡ self.old) }
     {
         self.backlog.set_threshold(stream_id, bytes)
@@ -262,8 +254,7 @@ impl SendQueue {
 
     /// Sets the stream's priority.
     pub fn set_priority(&mut self, stream_id: StreamId, priority: u16) -> Result<(), AllocError>
-        ensures ok { OnOk result (self.new ≡ record self.old { streams = changed stream_id.0 (with_priority priority) (used self.old stream_id.0) }) }
-        ensures shown { OnOk result (queue_state self.new ≡ set_in_queue (stream_priority stream_id.0 priority) (queue_state self.old)) }
+        ensures ok { OnOk result (self.new ≡ set_in_queue (stream_priority stream_id.0 priority) self.old) }
         ensures err { OnErr result (self.new ≡ self.old) }
     {
         self.backlog.set_priority(stream_id, priority)

@@ -12,12 +12,10 @@ use Rattle.dcsctp_send_outstanding.specs.declared.progress.Change.{Change}
 use Rattle.dcsctp_send_outstanding.specs.declared.progress.Change.TheVariants.{Miss, Acknowledge}
 use Rattle.dcsctp_send_outstanding.specs.Progress.{tells_of, missed, missed_where, acknowledged}
 use Rattle.std.specs.Option.{option_map}
-use Rattle.dcsctp_send_outstanding.specs.Items.{counted, never_acknowledged_count, never_acknowledged_items, changed_item, changed_between}
-use Rattle.dcsctp_send_outstanding.specs.Outstanding.{reported}
+use Rattle.dcsctp_send_outstanding.specs.Items.{counted, never_acknowledged_count, never_acknowledged_items, changed_item, changed_between, marked_items}
+use Rattle.dcsctp_send_outstanding.specs.Outstanding.{reported, acknowledged_by, tsn_at}
 use Rattle.dcsctp_send_outstanding.specs.Reports.{Names}
 use Rattle.dcsctp_send_outstanding.proofs.ItemsLemmas.{le_or_lt}
-use Rattle.dcsctp_send_outstanding.specs.Items.{marked_items}
-use Rattle.dcsctp_send_outstanding.specs.Outstanding.{acknowledged_by, tsn_at}
 use Rattle.dcsctp_send_retransmission.specs.Queue.{QueueModel, covered, with_items, lossy, missed_until, exiting, has_acknowledged, TakesSack}
 use Rattle.dcsctp_send_retransmission.specs.Answers.{Answers, SaysAnswer}
 

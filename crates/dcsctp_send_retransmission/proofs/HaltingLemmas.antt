@@ -5,7 +5,7 @@ use Rattle.std.specs.declared.alloc.Global.{Global}
 use Rattle.std.specs.declared.alloc.AllocError.{AllocError}
 use Rattle.std.proofs.lemmas.List.Sums.{sum_by-cons, sum_by_push}
 use Rattle.dcsctp_machine.specs.Timers.{TimerModel}
-use Rattle.dcsctp_send_queue.specs.declared.backlog.Backlog.{Backlog}
+use Rattle.dcsctp_machine.specs.transfer.SendQueue.{SendQueueState}
 use Rattle.dcsctp_send_outstanding.specs.declared.item.Item.{Item}
 use Rattle.dcsctp_send_outstanding.specs.declared.progress.ItemState.{ItemState}
 use Rattle.dcsctp_send_outstanding.specs.declared.progress.Progress.{Progress}
@@ -122,23 +122,23 @@ halts_counted size room queue halts = go (nat_lt 0 size)
     go false = halts
 
 -- some wait to be sent again
-pub halts_marked : (room : ℕ) (queue : QueueModel) (waiting : Backlog) → HaltsAgain room queue → (marked_items queue.outstanding.items ≡ 0 → ⊥) → Halts room queue waiting
+pub halts_marked : (room : ℕ) (queue : QueueModel) (waiting : SendQueueState) → HaltsAgain room queue → (marked_items queue.outstanding.items ≡ 0 → ⊥) → Halts room queue waiting
 halts_marked room queue waiting (inl none_left) some = absurd (some none_left)
 halts_marked room queue waiting (inr reason) some = inl reason
 
 -- none waits to be sent again
-pub halts_new : {E : Type 0} (r : Result Unit E) (room : ℕ) (old queue : QueueModel) (waiting : Backlog) → marked_items old.outstanding.items ≡ 0 → marked_items queue.outstanding.items ≡ marked_items old.outstanding.items → OnOk r (HaltsNew room queue waiting) → OnOk r (Halts room queue waiting)
+pub halts_new : {E : Type 0} (r : Result Unit E) (room : ℕ) (old queue : QueueModel) (waiting : SendQueueState) → marked_items old.outstanding.items ≡ 0 → marked_items queue.outstanding.items ≡ marked_items old.outstanding.items → OnOk r (HaltsNew room queue waiting) → OnOk r (Halts room queue waiting)
 halts_new (Ok done) room old queue waiting none_left same halts = inr (same ∙ none_left, halts)
 halts_new (Err error) room old queue waiting none_left same halts = tt
 
 -- the timer is no reason
-pub fills_up_timed : {E : Type 0} (r : Result (Vec ℕ Global) E) (bytes : ℕ) (queue : QueueModel) (timer : TimerModel) (waiting : Backlog) → IfOk r (λ tsns. FillsUp bytes queue waiting tsns.items) → IfOk r (λ tsns. FillsUp bytes (record queue { timer = timer }) waiting tsns.items)
+pub fills_up_timed : {E : Type 0} (r : Result (Vec ℕ Global) E) (bytes : ℕ) (queue : QueueModel) (timer : TimerModel) (waiting : SendQueueState) → IfOk r (λ tsns. FillsUp bytes queue waiting tsns.items) → IfOk r (λ tsns. FillsUp bytes (record queue { timer = timer }) waiting tsns.items)
 fills_up_timed (Ok tsns) bytes queue timer waiting fills =
     record { used = fills.used; packed = fills.packed; room = fills.room; sum = fills.sum; halts = fills.halts }
 fills_up_timed (Err error) bytes queue timer waiting fills = tt
 
 -- a packet that was empty is filled up
-pub fills_up : (bytes : ℕ) (old new : QueueModel) (before after : Packet) (waiting : Backlog) → before.tsns.items ≡ [] → before.room ≡ bytes → Fills old before new after → Halts after.room new waiting → FillsUp bytes new waiting after.tsns.items
+pub fills_up : (bytes : ℕ) (old new : QueueModel) (before after : Packet) (waiting : SendQueueState) → before.tsns.items ≡ [] → before.room ≡ bytes → Fills old before new after → Halts after.room new waiting → FillsUp bytes new waiting after.tsns.items
 fills_up bytes old new before after waiting empty room fills halts =
     let start : Filled bytes old before = record { used = 0; packed = rw empty none_packed; sum = omega arith } in
     let filled = fills.filling bytes start in

@@ -1,11 +1,10 @@
 -- Lemmas on queues.
 use Rattle.std.proofs.Common.{Option, ◌≡◌, inl, inr, length-append, zero, suc, [], ◌∷◌, ◌++◌, take, Some, append_assoc, ℕ, ◌+◌, ◌-◌, ◌<◌, ◌≤◌, drop, refl, Bool, true, false, List, length, nat_lt, if◌then◌else◌, ap, sym, ◌∙◌, arith}
 use Rattle.std.specs.List.{slice_get}
-use Rattle.std.proofs.lemmas.List.{append-nil}
+use Rattle.std.proofs.lemmas.List.{append-nil, map-append}
 use Rattle.dcsctp_api.specs.declared.events.SocketEvent.{SocketEvent}
 use Rattle.dcsctp_send_outstanding.specs.declared.item.Item.{Item}
 use Rattle.dcsctp_send_streams.specs.Telling.{contents, TellsFront}
-use Rattle.std.proofs.lemmas.List.{map-append}
 use Rattle.std.proofs.Math.Seq.{take-add}
 use Rattle.dcsctp_send_retransmission.specs.Telling.{told_of, delivered}
 use Rattle.dcsctp_wire.specs.declared.chunk.sack.GapAckBlock.{GapAckBlock}

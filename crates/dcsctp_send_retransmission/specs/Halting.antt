@@ -1,6 +1,6 @@
 -- Why no more chunks go into a packet (RFC 9260, section 6.1).
 use Rattle.std.specs.Prelude.{◌≡◌, ◌⊎◌, ℕ, ◌+◌, ◌^◌, ◌<◌, ◌≤◌, Bool, true, false, Some, List, length, slice_get}
-use Rattle.dcsctp_send_queue.specs.declared.backlog.Backlog.{Backlog}
+use Rattle.dcsctp_machine.specs.transfer.SendQueue.{SendQueueState}
 use Rattle.dcsctp_send_outstanding.specs.declared.item.Item.{Item}
 use Rattle.dcsctp_send_outstanding.specs.declared.progress.Change.TheVariants.{SendAgain}
 use Rattle.dcsctp_send_outstanding.specs.Items.{size_of, marked_items, changed_between}
@@ -23,12 +23,12 @@ HaltsAgain room queue = (marked_items queue.outstanding.items ≡ 0) ⊎ ((may_s
 
 -- Why no new chunk is sent. The windows don't allow, not one byte fits, all comparable TSNs are in use, or the send queue gives
 -- none.
-abbrev pub HaltsNew : ℕ → QueueModel → Backlog → Type 0
+abbrev pub HaltsNew : ℕ → QueueModel → SendQueueState → Type 0
 HaltsNew room queue waiting =
     (may_send queue ≡ false) ⊎ ((room < queue.outstanding.header + 4) ⊎ ((2 ^ 31 ≤ length queue.outstanding.items + 1) ⊎ HasNone waiting))
 
 -- Why nothing more goes into a packet with that much room. New chunks go after all that are sent again.
-abbrev pub Halts : ℕ → QueueModel → Backlog → Type 0
+abbrev pub Halts : ℕ → QueueModel → SendQueueState → Type 0
 Halts room queue waiting =
     ((may_send queue ≡ false) ⊎ WaitsForRoom room queue.outstanding) ⊎ ((marked_items queue.outstanding.items ≡ 0) × HaltsNew room queue waiting)
 
@@ -46,7 +46,7 @@ GoesAgain old new room true = marked_items new.outstanding.items < marked_items 
 GoesAgain old new room false = (marked_items new.outstanding.items ≤ marked_items old.outstanding.items) × HaltsAgain room new
 
 -- TSNs of outstanding items fill a packet of that many bytes as far as possible.
-pub record FillsUp (bytes : ℕ) (queue : QueueModel) (waiting : Backlog) (tsns : List ℕ) : Type 0 where
+pub record FillsUp (bytes : ℕ) (queue : QueueModel) (waiting : SendQueueState) (tsns : List ℕ) : Type 0 where
   pub used : ℕ
   pub packed : PackedFrom queue.outstanding tsns used
   pub room : ℕ

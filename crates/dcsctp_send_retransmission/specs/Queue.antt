@@ -6,10 +6,9 @@ use Rattle.dcsctp_wire.specs.declared.chunk.sack.GapAckBlock.{GapAckBlock}
 use Rattle.std.specs.declared.alloc.AllocError.{AllocError}
 use Rattle.dcsctp_api.specs.declared.events.SocketEvent.{SocketEvent}
 use Rattle.dcsctp_machine.specs.transfer.Transfer.{RetransmissionState}
-use Rattle.dcsctp_machine.specs.Timers.{started}
+use Rattle.dcsctp_machine.specs.Timers.{started, TimerModel, running_deadline, expires_at, running_after}
 use Rattle.dcsctp_machine.specs.declared.options.Options.{Options}
 use Rattle.dcsctp_machine.specs.declared.kinds.BackoffAlgorithm.TheVariants.{Exponential}
-use Rattle.dcsctp_machine.specs.Timers.{TimerModel, running_deadline, expires_at, running_after}
 use Rattle.dcsctp_send_retransmission.specs.declared.congestion.CongestionControl.{CongestionControl}
 use Rattle.dcsctp_send_retransmission.specs.declared.congestion.Acknowledged.{Acknowledged}
 use Rattle.dcsctp_send_retransmission.specs.declared.handle_sack_result.HandleSackResult.{HandleSackResult}

@@ -7,10 +7,12 @@ use Rattle.dcsctp_machine.specs.Ids.{lifecycle_number}
 use Rattle.dcsctp_machine.specs.declared.ids.LifecycleId.{LifecycleId}
 use Rattle.dcsctp_api.specs.declared.events.SocketEvent.{SocketEvent}
 use Rattle.dcsctp_machine.specs.Event.{Event, lifecycle_message_maybe_expired, lifecycle_end}
-use Rattle.dcsctp_send_queue.specs.declared.backlog.Backlog.{Backlog}
-use Rattle.dcsctp_send_queue.specs.Calls.{Takes, TakesNone, StopsTaking, StopsDiscarding}
+use Rattle.dcsctp_machine.specs.transfer.SendQueue.{SendQueueState}
+use Rattle.dcsctp_machine.specs.transfer.Sending.{Takes, TakesNone}
+use Rattle.dcsctp_send_queue.specs.Calls.{StopsTaking, StopsDiscarding}
 use Rattle.dcsctp_send_streams.specs.Telling.{contents, TellsFront}
 use Rattle.dcsctp_machine.specs.Timers.{TimerModel}
+use Rattle.dcsctp_send_streams.specs.Fragment.{fragment_of}
 use Rattle.dcsctp_send_outstanding.specs.declared.item.Item.{Item}
 use Rattle.dcsctp_send_retransmission.specs.declared.packet.Packet.{Packet}
 use Rattle.dcsctp_send_outstanding.specs.declared.progress.Change.TheVariants.{SendAgain, Abandon}
@@ -28,14 +30,14 @@ use Rattle.dcsctp_send_retransmission.specs.Sending.{counted_again}
 pub record Stage : Type 0 where
   pub queue : QueueModel
   -- what waits in the send queue
-  pub waiting : Backlog
+  pub waiting : SendQueueState
   -- what the user was told
   pub told : List (Event (List ℕ))
   -- the TSNs in the packet, and the bytes that are left there
   pub tsns : List ℕ
   pub room : ℕ
 
-abbrev pub stage : QueueModel → Backlog → List SocketEvent → List ℕ → ℕ → Stage
+abbrev pub stage : QueueModel → SendQueueState → List SocketEvent → List ℕ → ℕ → Stage
 stage queue waiting events tsns room = record { queue = queue; waiting = waiting; told = contents events; tsns = tsns; room = room }
 
 -- ---- what is abandoned
@@ -116,7 +118,7 @@ pub record SendsNew (now : ℕ) (old new : Stage) : Type 0 where
   pub item : Item
   pub is_fresh : IsFresh now item
   pub begins : item.begins_after_reset ≡ old.queue.reset_begun
-  pub takes : Takes now (payload_room old.queue.outstanding.header old.room) old.waiting old.told item.fragment new.waiting new.told
+  pub takes : Takes now (payload_room old.queue.outstanding.header old.room) old.waiting old.told (fragment_of item.fragment) new.waiting new.told
   pub is : new ≡ record old {
     queue = record old.queue { outstanding = record old.queue.outstanding { items = old.queue.outstanding.items ++ item ∷ [] }; reset_begun = false };
     waiting = new.waiting;
@@ -145,13 +147,13 @@ pub data Steps (Step : Stage → Stage → Type 0) (old : Stage) : Stage → Typ
   more : (between new : Stage) → Steps Step old between → Step between new → Steps Step old new
 
 -- The events if an allocation fails for abandoning a message whose last item is this one: the first part of all.
-abbrev pub RefusesClosing : Item → Backlog → List (Event (List ℕ)) → List (Event (List ℕ)) → Bool → Type 0
+abbrev pub RefusesClosing : Item → SendQueueState → List (Event (List ℕ)) → List (Event (List ℕ)) → Bool → Type 0
 RefusesClosing last waiting told telling true = TellsFront told (maybe_expired last.fragment.lifecycle_id) telling
 RefusesClosing last waiting told telling false =
     (telling ≡ told) ⊎ StopsDiscarding waiting last.fragment.stream_id.0 last.fragment.message_id told telling
 
 -- An allocation fails for abandoning the message of the item at this place.
-pub record RefusesUpAt (place : ℕ) (items : List Item) (waiting : Backlog) (told telling : List (Event (List ℕ))) : Type 0 where
+pub record RefusesUpAt (place : ℕ) (items : List Item) (waiting : SendQueueState) (told telling : List (Event (List ℕ))) : Type 0 where
   pub last_place : ℕ
   pub message : EndsMessage place (last_place + 1) items
   pub last : Item
@@ -159,7 +161,7 @@ pub record RefusesUpAt (place : ℕ) (items : List Item) (waiting : Backlog) (to
   pub tells : RefusesClosing last waiting told telling last.fragment.is_end
 
 -- The first item that waits to be sent again is due to be abandoned, and an allocation fails for that.
-pub record RefusesUp (now : ℕ) (at : Stage) (left : Backlog) (telling : List (Event (List ℕ))) : Type 0 where
+pub record RefusesUp (now : ℕ) (at : Stage) (left : SendQueueState) (telling : List (Event (List ℕ))) : Type 0 where
   pub place : ℕ
   pub next : IsNextMarked place at.queue.outstanding.items
   pub due : is_due now at.queue.partial_reliability next.marked.item ≡ true
@@ -168,7 +170,7 @@ pub record RefusesUp (now : ℕ) (at : Stage) (left : Backlog) (telling : List (
 
 -- The send queue and the events after a further step for which an allocation failed. Nothing happened; or messages that are too
 -- old to be started were dropped, and the first part of the next events was added.
-abbrev pub Refused : ℕ → Stage → Backlog → List (Event (List ℕ)) → Type 0
+abbrev pub Refused : ℕ → Stage → SendQueueState → List (Event (List ℕ)) → Type 0
 Refused now at left telling =
     ((left ≡ at.waiting) × (telling ≡ at.told))
     ⊎ (RefusesUp now at left telling
@@ -213,18 +215,18 @@ GoesFilling now old new (Ok done) = FillsStage now old new
 GoesFilling now old new (Err error) = StopsFilling now old new
 
 -- A packet is filled that had that many bytes of room, from a queue, a send queue and events to others.
-pub record FillsPacket (now bytes : ℕ) (old : QueueModel) (waiting : Backlog) (events : List SocketEvent) (new : QueueModel) (left : Backlog) (telling : List SocketEvent) (tsns : List ℕ) : Type 0 where
+pub record FillsPacket (now bytes : ℕ) (old : QueueModel) (waiting : SendQueueState) (events : List SocketEvent) (new : QueueModel) (left : SendQueueState) (telling : List SocketEvent) (tsns : List ℕ) : Type 0 where
   pub room : ℕ
   pub fills : FillsStage now (stage old waiting events [] bytes) (stage new left telling tsns room)
 
 -- a packet is filled by whether an allocation failed
-abbrev pub TriesPacket : ℕ → ℕ → QueueModel → Backlog → List SocketEvent → QueueModel → Backlog → List SocketEvent → Result (Vec ℕ Global) AllocError → Type 0
+abbrev pub TriesPacket : ℕ → ℕ → QueueModel → SendQueueState → List SocketEvent → QueueModel → SendQueueState → List SocketEvent → Result (Vec ℕ Global) AllocError → Type 0
 TriesPacket now bytes old waiting events new left telling (Ok tsns) = FillsPacket now bytes old waiting events new left telling tsns.items
 TriesPacket now bytes old waiting events new left telling (Err error) =
     StopsFilling now (stage old waiting events [] bytes) (stage new left telling [] bytes)
 
 -- The same, and then the timer runs while something is outstanding.
-pub record SendsPacket (now bytes : ℕ) (old : QueueModel) (waiting : Backlog) (events : List SocketEvent) (new : QueueModel) (left : Backlog) (telling : List SocketEvent) (result : Result (Vec ℕ Global) AllocError) : Type 0 where
+pub record SendsPacket (now bytes : ℕ) (old : QueueModel) (waiting : SendQueueState) (events : List SocketEvent) (new : QueueModel) (left : SendQueueState) (telling : List SocketEvent) (result : Result (Vec ℕ Global) AllocError) : Type 0 where
   pub sent : QueueModel
   pub fills : TriesPacket now bytes old waiting events sent left telling result
   pub is : new ≡ record sent { timer = timer_with now sent.outstanding.items sent.timer }
@@ -270,7 +272,7 @@ restarted false timer = timer
 pub record SendsAtOnce (now bytes : ℕ) (old new : QueueModel) (tsns : List ℕ) : Type 0 where
   pub resent : QueueModel
   pub room : ℕ
-  pub steps : (waiting : Backlog) (events : List SocketEvent) → Steps (SendsMarked now) (stage old waiting events [] bytes) (stage resent waiting events tsns room)
+  pub steps : (waiting : SendQueueState) (events : List SocketEvent) → Steps (SendsMarked now) (stage old waiting events [] bytes) (stage resent waiting events tsns room)
   pub halts : HaltsAtOnce now room resent
   pub sends_first : Bool
   pub first : SendsFirst old.outstanding.items resent.outstanding.items sends_first
@@ -281,5 +283,5 @@ pub record SendsAtOnce (now bytes : ℕ) (old new : QueueModel) (tsns : List ℕ
 abbrev pub TriesAtOnce : ℕ → ℕ → QueueModel → QueueModel → Result (Vec ℕ Global) AllocError → Type 0
 TriesAtOnce now bytes old new (Ok tsns) = SendsAtOnce now bytes (record old { fast_retransmit_due = false }) new tsns.items
 TriesAtOnce now bytes old new (Err error) =
-    (waiting : Backlog) (events : List SocketEvent)
+    (waiting : SendQueueState) (events : List SocketEvent)
     → Stops now (SendsMarked now) (stage (record old { fast_retransmit_due = false }) waiting events [] bytes) (stage new waiting events [] bytes)

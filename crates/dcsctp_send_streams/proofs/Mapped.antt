@@ -1,7 +1,6 @@
 -- Streams that are changed one after another.
 use Rattle.std.proofs.Common.{◌≡◌, ℕ, zero, suc, ◌+◌, ◌<◌, ◌≤◌, List, [], ◌∷◌, length, set, map, refl, ap, ◌∙◌, arith}
-use Rattle.dcsctp_send_streams.specs.Waiting.{Stream}
-use Rattle.dcsctp_send_streams.specs.Ranking.{stream_at}
+use Rattle.dcsctp_machine.specs.transfer.SendStreams.{Stream, stream_at}
 
 -- so many of the streams are changed
 abbrev pub mapped_to : ℕ → (Stream → Stream) → List Stream → List Stream

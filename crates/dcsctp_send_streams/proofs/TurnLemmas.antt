@@ -2,8 +2,9 @@
 use Rattle.std.proofs.Common.{◌≡◌, ◌≢◌, ℕ, zero, suc, below_more, ◌-◌, ◌+◌, ◌<◌, ◌≤◌, Bool, true, false, if◌then◌else◌, List, [], ◌∷◌, length, get_or, refl, sym, ap, arith}
 use Rattle.std.proofs.lemmas.Bool.Decides.{nat_tests}
 use Rattle.std.specs.List.{insert, remove}
-use Rattle.dcsctp_send_streams.specs.declared.turns.Turn.{Turn}
-use Rattle.dcsctp_send_streams.specs.Turns.{comes_after, with_turn, NoneAfter, IsOrdered, IsPlace}
+use Rattle.dcsctp_machine.specs.declared.sending.Turn.{Turn}
+use Rattle.dcsctp_machine.specs.transfer.SendStreams.{comes_after, with_turn}
+use Rattle.dcsctp_send_streams.specs.Turns.{NoneAfter, IsOrdered, IsPlace}
 
 -- no two come after each other
 pub not_both_after : (a b : Turn) → comes_after a b ≡ true → comes_after b a ≡ false

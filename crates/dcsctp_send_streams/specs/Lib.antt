@@ -2,4 +2,3 @@ pub mod Fragment
 pub mod Ranking
 pub mod Telling
 pub mod Turns
-pub mod Waiting

@@ -1,31 +1,8 @@
 -- Whose turn it is among streams.
-use Rattle.std.specs.Prelude.{◌≡◌, ℕ, ◌<◌, ◌≤◌, false, Option, None, Some, Result, Ok, Err, List, [], ◌∷◌, length, slice_index_or}
+use Rattle.std.specs.Prelude.{◌≡◌, ℕ, ◌<◌, ◌≤◌, Result, Ok, Err, List, [], ◌∷◌, length}
 use Rattle.std.specs.List.{count_by}
-use Rattle.dcsctp_send_streams.specs.declared.stream.Pause.{Pause}
-use Rattle.dcsctp_send_streams.specs.declared.stream.Pause.TheVariants.{Open, Pausing, HandedOut}
-use Rattle.dcsctp_send_streams.specs.declared.turns.Turn.{Turn}
-use Rattle.dcsctp_send_streams.specs.Turns.{comes_after, with_turns}
-use Rattle.dcsctp_send_streams.specs.Waiting.{Waiting, Stream, unused, is_pausing}
-
--- the stream at the place
-abbrev pub stream_at : List Stream → ℕ → Stream
-stream_at streams place = slice_index_or streams place (unused 0 0 0)
-
--- the turn of an open stream with a message
-abbrev pub turn_if : ℕ → ℕ → Pause → List Waiting → Option Turn
-turn_if priority id Open [] = None
-turn_if priority id Open (message ∷ messages) = Some (record { priority = priority; stream_id = record { 0 = id } })
-turn_if priority id Pausing messages = None
-turn_if priority id HandedOut messages = None
-
--- a stream's turn, if it may begin a message
-abbrev pub turn_of : Stream → Option Turn
-turn_of stream = turn_if stream.priority stream.id stream.pause stream.messages
-
--- the turns of all streams
-abbrev pub turns_of : List Stream → List Turn
-turns_of [] = []
-turns_of (stream ∷ streams) = with_turns (turn_of stream) (turns_of streams)
+use Rattle.dcsctp_machine.specs.declared.sending.Turn.{Turn}
+use Rattle.dcsctp_machine.specs.transfer.SendStreams.{Stream, is_pausing, turns_of, stream_at}
 
 -- this number is less than those of all the streams
 abbrev pub IsBelow : ℕ → List Stream → Type 0
@@ -59,10 +36,3 @@ IsFound streams id (Err place) =
     (place ≤ length streams)
     × ((k : ℕ) → k < place → (stream_at streams k).id < id)
     × ((k : ℕ) → place ≤ k → k < length streams → id < (stream_at streams k).id)
-
--- It is this stream's turn: it may begin a message, and none that may is asked before it.
-pub record IsNext (streams : List Stream) (place : ℕ) : Type 0 where
-  pub turn : Turn
-  pub within : place < length streams
-  pub is : turn_of (stream_at streams place) ≡ Some turn
-  pub first : (k : ℕ) (other : Turn) → k < length streams → turn_of (stream_at streams k) ≡ Some other → comes_after turn other ≡ false

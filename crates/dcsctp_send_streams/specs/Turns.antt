@@ -1,17 +1,8 @@
 -- The order in which streams are asked for a message: by priority, the greatest first, then by number, the
 -- least first.
-use Rattle.std.specs.Prelude.{◌≡◌, ℕ, ◌<◌, ◌≤◌, slice_index_or, ◌==◌, ◌&&◌, ◌||◌, nat_lt, Bool, true, false, Option, None, Some, List, [], ◌∷◌, length, if◌then◌else◌}
-use Rattle.dcsctp_send_streams.specs.declared.turns.Turn.{Turn}
-
--- Is the first asked after the other?
-abbrev pub comes_after : Turn → Turn → Bool
-comes_after first other =
-    nat_lt first.priority other.priority || (first.priority == other.priority && nat_lt other.stream_id.0 first.stream_id.0)
-
--- the turns with one more; the last is the first to be asked
-abbrev pub with_turn : Turn → List Turn → List Turn
-with_turn turn [] = turn ∷ []
-with_turn turn (first ∷ turns) = if comes_after first turn then first ∷ with_turn turn turns else turn ∷ first ∷ turns
+use Rattle.std.specs.Prelude.{◌≡◌, ℕ, ◌<◌, ◌≤◌, slice_index_or, true, false, Option, List, [], ◌∷◌, length}
+use Rattle.dcsctp_machine.specs.declared.sending.Turn.{Turn}
+use Rattle.dcsctp_machine.specs.transfer.SendStreams.{comes_after, with_turns}
 
 -- none of these is asked after this one
 abbrev pub NoneAfter : Turn → List Turn → Type 0
@@ -28,10 +19,6 @@ pub record IsPlace (turns : List Turn) (turn : Turn) (place : ℕ) : Type 0 wher
   pub bound : place ≤ length turns
   pub below : (k : ℕ) → k < place → comes_after (slice_index_or turns k turn) turn ≡ true
   pub above : (k : ℕ) → place ≤ k → k < length turns → comes_after (slice_index_or turns k turn) turn ≡ false
-
-abbrev pub with_turns : Option Turn → List Turn → List Turn
-with_turns None turns = turns
-with_turns (Some turn) turns = with_turn turn turns
 
 -- These are some turns in order with this one, and there is room for another beside them.
 pub record Holds (turns : List Turn) (turn : Option Turn) (room : ℕ) : Type 0 where

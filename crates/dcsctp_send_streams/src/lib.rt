@@ -9,7 +9,7 @@ mod streams;
 mod turns;
 
 pub use data::DataToSend;
-pub use message::{QueuedMessage, UnderWay};
-pub use stream::{OutgoingStream, Pause};
+pub use dcsctp_machine::{Pause, Turn, UnderWay};
+pub use message::QueuedMessage;
+pub use stream::OutgoingStream;
 pub use streams::Streams;
-pub use turns::Turn;

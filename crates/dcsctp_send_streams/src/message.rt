@@ -6,24 +6,13 @@ use crate::data::DataToSend;
 use dcsctp_api::{
     Events, LifecycleId, Message, PpId, SendOptions, SocketEvent, SocketTime, StreamId,
 };
+use dcsctp_machine::UnderWay;
 use std::alloc::{AllocError, Global};
 use std::marker::Model;
 
 // The longest payload whose rest is moved to its front and not copied. It holds this many bytes at most for its
 // last fragment, until that is acknowledged.
 const LONGEST_MOVED: usize = 2048;
-
-/// How far the message under way has come. It was started, and isn't fully sent.
-#[derive(Clone, Copy, Debug)]
-pub struct UnderWay {
-    pub stream_id: StreamId,
-    pub ssn: u16,
-    pub mid: u32,
-    pub next_fsn: u32,
-
-    /// How many of its bytes were sent.
-    pub sent: usize,
-}
 
 /// A message that waits whole, or of which some fragments were sent. Its payload isn't empty.
 ///
@@ -46,7 +35,7 @@ impl Model for QueuedMessage {
     ghost use Rattle.std.specs.Prelude.{◌<◌, vec_len};
     ghost use Rattle.std.specs.Option.{option_map};
     ghost use Rattle.dcsctp_machine.specs.Ids.{lifecycle_number};
-    ghost use Rattle.dcsctp_send_streams.specs.Waiting.{Waiting};
+    ghost use Rattle.dcsctp_machine.specs.transfer.SendStreams.{Waiting};
 
     ghost Value = { Waiting };
 
@@ -65,12 +54,14 @@ impl Model for QueuedMessage {
 
 impl QueuedMessage {
     ghost use Rattle.std.specs.Prelude.{◌≡◌, ◌+◌, ◌-◌, ◌^◌, ◌<◌, ◌≤◌, ◌++◌, min, length, vec_len, IfOk, OnOk, OnErr};
-    ghost use Rattle.dcsctp_send_streams.specs.Telling.{contents, expiry_events, sent_events, TellsFront};
+    ghost use Rattle.dcsctp_send_streams.specs.Telling.{contents, TellsFront};
+    ghost use Rattle.dcsctp_machine.specs.transfer.SendEvents.{expiry_events, sent_events};
     ghost use Rattle.std.specs.Duration.{as_nanos, max_nanos};
     ghost use Rattle.std.specs.Option.{option_map};
     ghost use Rattle.dcsctp_machine.specs.Ids.{lifecycle_number};
-    ghost use Rattle.dcsctp_send_streams.specs.Waiting.{is_expired};
-    ghost use Rattle.dcsctp_send_streams.specs.Fragment.{fragment_of, fragment, CopiesRest};
+    ghost use Rattle.dcsctp_machine.specs.transfer.SendStreams.{is_expired};
+    ghost use Rattle.dcsctp_send_streams.specs.Fragment.{fragment_of, CopiesRest};
+    ghost use Rattle.dcsctp_machine.specs.transfer.Sending.{fragment};
 
     /// The message that is added at the moment `now`.
     pub fn new(

@@ -1,27 +1,14 @@
 //! What waits on one stream.
 
 use crate::message::QueuedMessage;
-use crate::turns::Turn;
 use dcsctp_api::{Events, StreamId};
+use dcsctp_machine::{Pause, Turn};
 use std::alloc::{AllocError, Global};
 use std::collections::VecDeque;
 use std::marker::Model;
 
 // For how many messages a stream keeps room.
 const KEPT_ROOM: usize = 8;
-
-/// May a stream begin another message?
-#[derive(Clone, Copy, Debug, PartialEq, Eq)]
-pub enum Pause {
-    /// It may.
-    Open,
-
-    /// It is to be reset (RFC 6525, section 5.1.2), as soon as none of its messages is under way.
-    Pausing,
-
-    /// It was handed out to be reset, and waits for the outcome.
-    HandedOut,
-}
 
 /// A stream that messages leave by.
 #[derive(Debug, Drop)]
@@ -45,7 +32,7 @@ pub struct OutgoingStream {
 }
 
 impl Model for OutgoingStream {
-    ghost use Rattle.dcsctp_send_streams.specs.Waiting.{Stream};
+    ghost use Rattle.dcsctp_machine.specs.transfer.SendStreams.{Stream};
 
     ghost Value = { Stream };
 
@@ -64,10 +51,10 @@ impl Model for OutgoingStream {
 
 impl OutgoingStream {
     ghost use Rattle.std.specs.Prelude.{◌≡◌, ◌-◌, ◌^◌, ◌++◌, min, drop, OnOk, OnErr, if◌then◌else◌};
-    ghost use Rattle.dcsctp_send_streams.specs.Telling.{contents, TellsFront, expiries, size_of};
+    ghost use Rattle.dcsctp_send_streams.specs.Telling.{contents, TellsFront};
+    ghost use Rattle.dcsctp_machine.specs.transfer.SendEvents.{expiries};
+    ghost use Rattle.dcsctp_machine.specs.transfer.SendStreams.{size_of, unused, is_pausing, front_of, with_message, without_front, paused, resumed, handed_out, begun_anew, raised, next_numbers, counted, committed, rolled_back, turn_of};
     ghost use Rattle.std.specs.Option.{option_copied};
-    ghost use Rattle.dcsctp_send_streams.specs.Waiting.{unused, is_pausing, front_of, with_message, without_front, paused, resumed, handed_out, begun_anew, raised, next_numbers, counted, committed, rolled_back};
-    ghost use Rattle.dcsctp_send_streams.specs.Ranking.{turn_of};
 
     /// A stream that was never used. Allocates nothing.
     pub fn new(alloc: Global, id: StreamId, priority: u16, threshold: usize) -> OutgoingStream

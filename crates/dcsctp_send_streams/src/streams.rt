@@ -2,8 +2,9 @@
 
 use crate::message::QueuedMessage;
 use crate::stream::OutgoingStream;
-use crate::turns::{Turn, move_turn};
+use crate::turns::move_turn;
 use dcsctp_api::StreamId;
+use dcsctp_machine::Turn;
 use std::alloc::{AllocError, Global};
 use std::marker::Model;
 
@@ -21,7 +22,7 @@ pub struct Streams {
 
 impl Model for Streams {
     ghost use Rattle.std.specs.Prelude.{List, vec_capacity};
-    ghost use Rattle.dcsctp_send_streams.specs.Waiting.{Stream};
+    ghost use Rattle.dcsctp_machine.specs.transfer.SendStreams.{Stream};
     ghost use Rattle.dcsctp_send_streams.specs.Ranking.{IsKept};
 
     ghost Value = { List Stream };
@@ -34,8 +35,8 @@ impl Model for Streams {
 impl Streams {
     ghost use Rattle.std.specs.List.{list_any};
     ghost use Rattle.std.specs.Prelude.{◌≡◌, ◌-◌, ◌<◌, [], length, is_some, map, slice_set, insert, OnOk, OnErr, IfSome, IfNone};
-    ghost use Rattle.dcsctp_send_streams.specs.Waiting.{front_of, with_message, without_front, paused, handed_out, begun_anew, raised, counted, committed, rolled_back};
-    ghost use Rattle.dcsctp_send_streams.specs.Ranking.{stream_at, turn_of, turns_of, count_pausing, IsAscending, IsFound, IsNext};
+    ghost use Rattle.dcsctp_machine.specs.transfer.SendStreams.{front_of, with_message, without_front, paused, handed_out, begun_anew, raised, counted, committed, rolled_back, stream_at, turn_of, turns_of, IsNext};
+    ghost use Rattle.dcsctp_send_streams.specs.Ranking.{count_pausing, IsAscending, IsFound};
 
     /// No streams. Allocates nothing.
     pub fn new(alloc: Global) -> Streams

@@ -2,27 +2,11 @@
 //! the least first.
 
 ghost use Rattle.std.specs.Prelude.{◌≡◌, ◌+◌, ◌<◌, List, Some, vec_len, vec_capacity};
-ghost use Rattle.dcsctp_send_streams.specs.declared.turns.Turn.{Turn};
-ghost use Rattle.dcsctp_send_streams.specs.Turns.{comes_after, with_turn, IsOrdered, IsPlace, with_turns, Holds};
+ghost use Rattle.dcsctp_machine.specs.declared.sending.Turn.{Turn};
+ghost use Rattle.dcsctp_machine.specs.transfer.SendStreams.{comes_after, with_turn, with_turns};
+ghost use Rattle.dcsctp_send_streams.specs.Turns.{IsOrdered, IsPlace, Holds};
 
-use dcsctp_api::StreamId;
-
-/// The place of a stream in the order.
-#[derive(Clone, Copy, Debug, PartialEq, Eq)]
-pub struct Turn {
-    pub priority: u16,
-    pub stream_id: StreamId,
-}
-
-impl Turn {
-    /// Is this stream asked after the other?
-    pub fn comes_after(self, other: Turn) -> bool
-        ensures { result ≡ comes_after self other }
-    {
-        self.priority < other.priority
-            || (self.priority == other.priority && other.stream_id.0 < self.stream_id.0)
-    }
-}
+use dcsctp_machine::Turn;
 
 // How many of the turns, which stand in order, come after the given one.
 fn place_of(turns: &[Turn], turn: Turn) -> usize

@@ -11,7 +11,7 @@ use Rattle.dcsctp_machine.specs.declared.association.Pair.{Pair}
 use Rattle.dcsctp_machine.specs.declared.association.Held.{Held}
 use Rattle.dcsctp_machine.specs.Endpoint.{Endpoint, Core, closed, cookie_wait, cookie_echoed, open_in, OpenPhase}
 use Rattle.dcsctp_machine.specs.Following.{next_chunk}
-use Rattle.dcsctp_machine.specs.Admission.{Admission, shutdown_acks_alone, shutdown_acks_in, admitted_where, admits_by, admits, first_abort, first_shutdown_complete, has_shutdown_ack, is_echo_in_front}
+use Rattle.dcsctp_machine.specs.Admission.{shutdown_acks_alone, shutdown_acks_in, admitted_where, admits_by, admits}
 use Rattle.dcsctp_machine.specs.CallTurns.{Turned, ChunkTurns, after_all}
 use Rattle.dcsctp_machine.proofs.TurnLemmas.{GoOn, further, and_further}
 use Rattle.dcsctp_core_shutdown.specs.Shutdown.{is_open}

@@ -1,21 +1,16 @@
 -- The chunks of a packet are worked one after another.
-use Rattle.std.proofs.Common.{◌≡◌, ℕ, Bool, ◌+◌, ◌<◌, List, [], ◌∷◌, ◌++◌, length, map, take, drop, get_or, refl, sym, ap, subst, ◌∙◌, append_assoc, inr}
+use Rattle.std.proofs.Common.{◌≡◌, ℕ, ◌+◌, ◌<◌, List, [], ◌∷◌, ◌++◌, length, map, take, drop, get_or, refl, sym, ap, subst, ◌∙◌, append_assoc}
 use Rattle.std.proofs.lemmas.List.{take_more, take-map, map-append, take-append-drop}
 use Rattle.dcsctp_wire.specs.declared.chunk.Chunk.{Chunk}
 use Rattle.dcsctp_wire.specs.Content.{ChunkContent, chunk_content}
-use Rattle.dcsctp_machine.specs.Packet.{Content, Packet, content_in}
+use Rattle.dcsctp_machine.specs.Packet.{Content, content_in}
 use Rattle.dcsctp_machine.specs.Endpoint.{Endpoint}
-use Rattle.dcsctp_machine.specs.Outcome.{Outcome, still}
+use Rattle.dcsctp_machine.specs.Outcome.{Outcome}
 use Rattle.dcsctp_machine.specs.Settings.{ports_of}
 use Rattle.dcsctp_machine.specs.Following.{packet_end, dropped_rest}
-use Rattle.dcsctp_machine.specs.Turn.{packet_begins, chunk_input, packet_ends, BeginTurn, ContentTurn}
-use Rattle.dcsctp_machine.specs.CallTurns.{Turned, turned, IsTurn, ChunkTurns, WholeTurns, FirstTurns, FirstOfWhole, after_all}
+use Rattle.dcsctp_machine.specs.Turn.{chunk_input, packet_ends, ContentTurn}
+use Rattle.dcsctp_machine.specs.CallTurns.{Turned, turned, IsTurn, ChunkTurns, FirstTurns, after_all}
 use Rattle.dcsctp_machine.proofs.TurnLemmas.{GoOn, chunk_turns-push, chunk_turns-end, chunk_turns-cut, chunk_turns-whole, content_keeps_options, same_ports, after_all-append}
-use Rattle.rand_core.specs.Stream.{Stream}
-use Rattle.dcsctp_core.specs.declared.state.State.{State}
-use Rattle.dcsctp_core.specs.declared.state.State.TheVariants.{Closed, CookieWait, CookieEchoed, Open}
-use Rattle.dcsctp_core.specs.View.{View, core_of, MovesAll}
-use Rattle.dcsctp_core.proofs.Moving.{moves_one, moves_then, moves_still}
 
 -- what the chunks of a packet say
 abbrev pub contents_of : List Chunk → List Content

@@ -27,7 +27,7 @@ use Rattle.dcsctp_core.specs.declared.context.Context.{Context}
 use Rattle.dcsctp_core.specs.declared.following.Following.TheVariants.{NextChunk, DroppedRest}
 use Rattle.dcsctp_core.specs.View.{View, core_of, endpoint_of, view_of, Moves, MovesAll, CutTurn}
 use Rattle.dcsctp_core.specs.Handling.{TakesIn, CutIn}
-use Rattle.dcsctp_core.proofs.Moving.{moves_one, moves_still}
+use Rattle.dcsctp_core.proofs.Moving.{moves_one}
 use Rattle.dcsctp_core_ends.specs.Ends.{violation_in, aborting_turn, error_turn}
 use Rattle.dcsctp_core_shutdown.specs.Shutdown.{is_open, reflected_turn, shutdown_turn}
 use Rattle.dcsctp_socket_calls.specs.Parts.{ChunkMoves, ChunkCut, AckMoves}

@@ -1,12 +1,11 @@
 -- What goes out at once, as the values that are shown tell it.
 use Rattle.std.proofs.Common.{◌≡◌, ◌∙◌, ℕ, zero, suc, ◌+◌, ◌-◌, ◌%◌, ◌^◌, min, nat_lt, if◌then◌else◌, Bool, true, false, None, Some, List, [], ◌∷◌, length, refl, ap, sym, subst, arith}
 use Rattle.std.specs.List.{AllByRecursion, slice_get}
-use Rattle.std.specs.declared.alloc.Global.{Global}
 use Rattle.std.proofs.lemmas.List.Sums.{sum_by-cons}
 use Rattle.dcsctp_wire_build.specs.Building.{Building}
 use Rattle.dcsctp_machine.specs.transfer.Transfer.{RetransmissionState, Transfer}
 use Rattle.dcsctp_api.specs.declared.events.SocketEvent.{SocketEvent}
-use Rattle.dcsctp_send_queue.specs.declared.backlog.Backlog.{Backlog}
+use Rattle.dcsctp_machine.specs.transfer.SendQueue.{SendQueueState}
 use Rattle.dcsctp_send_outstanding.specs.declared.item.Item.{Item}
 use Rattle.dcsctp_send_outstanding.specs.declared.progress.ItemState.{ItemState}
 use Rattle.dcsctp_send_outstanding.specs.declared.progress.ItemState.TheVariants.{InFlight, Marked, Acknowledged, Abandoned}
@@ -92,13 +91,13 @@ counting_stays size queue = go (nat_lt 0 size)
     go true = record { first = refl; len = refl; unacknowledged = refl; interleaving = refl; header = refl }
     go false = record { first = refl; len = refl; unacknowledged = refl; interleaving = refl; header = refl }
 
-no_backlog : Global → Backlog
-no_backlog alloc =
-    record { alloc = alloc; streams = []; under_way = None; total_amount = 0; total_threshold = 0; default_priority = 0; default_threshold = 0; is_interleaved = false; next_message_id = 0 }
+nothing : SendQueueState
+nothing =
+    record { streams = []; under_way = None; total_amount = 0; total_threshold = 0; default_priority = 0; default_threshold = 0; is_interleaved = false; next_message_id = 0 }
 
-at_once_stays : (alloc : Global) (now bytes : ℕ) (old new : QueueModel) (tsns : List ℕ) → SendsAtOnce now bytes (record old { fast_retransmit_due = false }) new tsns → Stays old new
-at_once_stays alloc now bytes old new tsns sends =
-    let steps = all_stay now _ _ (sends.steps (no_backlog alloc) []) in
+at_once_stays : (now bytes : ℕ) (old new : QueueModel) (tsns : List ℕ) → SendsAtOnce now bytes (record old { fast_retransmit_due = false }) new tsns → Stays old new
+at_once_stays now bytes old new tsns sends =
+    let steps = all_stay now _ _ (sends.steps nothing []) in
     let counts = counting_stays (bytes - sends.room) sends.resent in
     record {
       first = ap (λ (q : QueueModel). q.outstanding.first_tsn) sends.is ∙ (counts.first ∙ steps.first);
@@ -108,26 +107,26 @@ at_once_stays alloc now bytes old new tsns sends =
       header = ap (λ (q : QueueModel). q.outstanding.header) sends.is ∙ (counts.header ∙ steps.header);
     }
 
-pub header_after : (alloc : Global) (now bytes : ℕ) (old new : QueueModel) (tsns : List ℕ) → old.outstanding.header ≡ header_of old.interleaving
+pub header_after : (now bytes : ℕ) (old new : QueueModel) (tsns : List ℕ) → old.outstanding.header ≡ header_of old.interleaving
     → SendsAtOnce now bytes (record old { fast_retransmit_due = false }) new tsns → new.outstanding.header ≡ header_of new.interleaving
-header_after alloc now bytes old new tsns holds sends =
-    let stays = at_once_stays alloc now bytes old new tsns sends in
+header_after now bytes old new tsns holds sends =
+    let stays = at_once_stays now bytes old new tsns sends in
     stays.header ∙ (holds ∙ ap header_of (sym stays.interleaving))
 
-pub header_refused : (alloc : Global) (now bytes : ℕ) (old new : QueueModel) → old.outstanding.header ≡ header_of old.interleaving
-    → ((waiting : Backlog) (events : List SocketEvent) → Stops now (SendsMarked now) (stage (record old { fast_retransmit_due = false }) waiting events [] bytes) (stage new waiting events [] bytes))
+pub header_refused : (now bytes : ℕ) (old new : QueueModel) → old.outstanding.header ≡ header_of old.interleaving
+    → ((waiting : SendQueueState) (events : List SocketEvent) → Stops now (SendsMarked now) (stage (record old { fast_retransmit_due = false }) waiting events [] bytes) (stage new waiting events [] bytes))
     → new.outstanding.header ≡ header_of new.interleaving
-header_refused alloc now bytes old new holds stops =
-    let stop = stops (no_backlog alloc) [] in
+header_refused now bytes old new holds stops =
+    let stop = stops nothing [] in
     let stays = all_stay now _ _ stop.steps in
     ap (λ (q : QueueModel). q.outstanding.header) stop.queue ∙ (stays.header ∙ (holds ∙ ap header_of (sym (ap (λ (q : QueueModel). q.interleaving) stop.queue ∙ stays.interleaving))))
 
-pub fills_at_once : (alloc : Global) (now bytes : ℕ) (old new : Transfer) (before after : QueueModel) (tsns : List ℕ) (packet filled : Building) (count : ℕ)
+pub fills_at_once : (now bytes : ℕ) (old new : Transfer) (before after : QueueModel) (tsns : List ℕ) (packet filled : Building) (count : ℕ)
     → retransmission_state before ≡ old.retransmission → new ≡ record old { retransmission = retransmission_state after }
     → SendsAtOnce now bytes (record before { fast_retransmit_due = false }) after tsns → AddsChunks after.interleaving packet count filled
     → FillsAtOnce old packet new filled
-fills_at_once alloc now bytes old new before after tsns packet filled count old_is new_is sends adds =
-    let stays = at_once_stays alloc now bytes before after tsns sends in
+fills_at_once now bytes old new before after tsns packet filled count old_is new_is sends adds =
+    let stays = at_once_stays now bytes before after tsns sends in
     let state : new.retransmission ≡ retransmission_state after = ap (λ (t : Transfer). t.retransmission) new_is in
     record {
       chunks = adds.chunks;

@@ -6,9 +6,8 @@ use Rattle.std.specs.List.{AllByRecursion}
 use Rattle.dcsctp_wire.specs.Content.{ChunkContent}
 use Rattle.dcsctp_wire_build.specs.Building.{Building, bytes_remaining}
 use Rattle.dcsctp_machine.specs.Event.{Event}
-use Rattle.dcsctp_machine.specs.transfer.Transfer.{SendQueueState, RetransmissionState, Transfer, has_data, must_give}
-use Rattle.dcsctp_send_queue.specs.declared.backlog.Backlog.{Backlog}
-use Rattle.dcsctp_send_queue.specs.Backlog.{queue_state}
+use Rattle.dcsctp_machine.specs.transfer.SendQueue.{SendQueueState, has_data}
+use Rattle.dcsctp_machine.specs.transfer.Transfer.{RetransmissionState, Transfer, must_give}
 use Rattle.dcsctp_send_retransmission.specs.Queue.{QueueModel, header_of, retransmission_state}
 use Rattle.dcsctp_send_retransmission.specs.Sending.{Sends}
 use Rattle.dcsctp_send_retransmission.specs.Halting.{FillsUp}
@@ -64,14 +63,14 @@ header_kept now before after header sends =
     ap (λ (q : QueueModel). q.outstanding.header) sends.is
     ∙ (sends.keeps.header ∙ (header ∙ (ap header_of (sym sends.keeps.interleaving) ∙ sym (ap (λ (q : QueueModel). header_of q.interleaving) sends.is))))
 
-pub fills_some : (now : ℕ) (old new : Transfer) (before after : QueueModel) (shown : SendQueueState) (left : Backlog) (events telling : List (Event (List ℕ))) (packet filled : Building) (tsns : List ℕ) (any : Bool)
+pub fills_some : (now : ℕ) (old new : Transfer) (before after : QueueModel) (shown : SendQueueState) (left : SendQueueState) (events telling : List (Event (List ℕ))) (packet filled : Building) (tsns : List ℕ) (any : Bool)
     → retransmission_state before ≡ old.retransmission
     → new ≡ record old { retransmission = retransmission_state after }
     → before.outstanding.header ≡ header_of before.interleaving
     → (has_data shown || nat_lt 0 old.retransmission.outstanding_items) ≡ true
     → Sends now before after → FillsUp (bytes_remaining packet) after left tsns → TellsMore events telling → AddsChunks after.interleaving packet (length tsns) filled
     → any ≡ not (length tsns == 0)
-    → FillsPacket old shown events packet new (queue_state left) telling filled any
+    → FillsPacket old shown events packet new left telling filled any
 fills_some now old new before after shown left events telling packet filled tsns any old_is new_is header work sends fills tells adds answer =
     record {
       chunks = adds.chunks;
@@ -83,7 +82,7 @@ fills_some now old new before after shown left events telling packet filled tsns
       tells = tells.is;
       answers = answer ∙ answer_is adds.chunks (length tsns) adds.count_is;
       gives = λ empty.
-          ap (λ (t : Transfer). must_give (bytes_remaining packet) (queue_state left) t.retransmission) new_is
+          ap (λ (t : Transfer). must_give (bytes_remaining packet) left t.retransmission) new_is
           ∙ gives_nothing (bytes_remaining packet) after left tsns (header_kept now before after header sends) fills (no_tsns tsns (sym answer ∙ empty));
       rest = new_is ∙ ap (λ (r : RetransmissionState). record old { retransmission = r }) (sym (ap (λ (t : Transfer). t.retransmission) new_is));
       partial_reliability = ap (λ (t : Transfer). t.retransmission.partial_reliability) new_is

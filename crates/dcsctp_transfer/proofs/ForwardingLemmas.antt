@@ -10,9 +10,9 @@ use Rattle.dcsctp_wire.proofs.Lengths.{length-chunk_bytes}
 use Rattle.dcsctp_wire_build.specs.Building.{Building}
 use Rattle.dcsctp_machine.specs.Event.{Event}
 use Rattle.dcsctp_machine.specs.Packet.{unworked}
-use Rattle.dcsctp_machine.specs.transfer.Transfer.{SendQueueState, RetransmissionState, Transfer}
+use Rattle.dcsctp_machine.specs.transfer.SendQueue.{SendQueueState}
+use Rattle.dcsctp_machine.specs.transfer.Transfer.{RetransmissionState, Transfer}
 use Rattle.dcsctp_machine.specs.turns.FlushOutcomes.{IsForward}
-use Rattle.dcsctp_send_queue.specs.Backlog.{queue_state}
 use Rattle.dcsctp_send_outstanding.specs.declared.item.Item.{Item}
 use Rattle.dcsctp_send_retransmission.specs.declared.forward_tsn.Skipped.{Skipped}
 use Rattle.dcsctp_send_retransmission.specs.declared.forward_tsn.Skipped.TheVariants.{Streams, Messages}
@@ -108,11 +108,11 @@ puts_forward interleaving row tsn entries skipped packet filled lists reads tsn_
 pub forwards_due : (now : ℕ) (old new : Transfer) (before after : Stage) (shown : SendQueueState) (events telling : List (Event (List ℕ))) (packet filled : Building) (next : Option ℕ)
     → retransmission_state before.queue ≡ old.retransmission
     → new ≡ record old { retransmission = retransmission_state after.queue }
-    → queue_state before.waiting ≡ shown → before.told ≡ events → after.told ≡ telling
+    → before.waiting ≡ shown → before.told ≡ events → after.told ≡ telling
     → (old.retransmission.outstanding_items ≡ 0 → ⊥)
     → Steps (GivesUpFirst now) before after → TellsMore before.told after.told
     → PutsWhere next now old packet filled → (old.retransmission.partial_reliability ≡ false → next ≡ None)
-    → Forwards now old shown events packet new (queue_state after.waiting) telling filled next
+    → Forwards now old shown events packet new after.waiting telling filled next
 forwards_due now old new before after shown events telling packet filled next old_is new_is shown_is was_told is_told some steps tells puts negotiated =
     let keeps : Keeps before.queue after.queue = keeps_steps now before after steps in
     record {
@@ -128,7 +128,7 @@ forwards_due now old new before after shown events telling packet filled next ol
           let same : after ≡ before = no_steps now before after (ap (λ (r : RetransmissionState). r.partial_reliability) old_is ∙ without) steps in (
             negotiated without,
             new_is ∙ ap (λ (r : RetransmissionState). record old { retransmission = r }) (ap (λ (s : Stage). retransmission_state s.queue) same ∙ old_is),
-            ap (λ (s : Stage). queue_state s.waiting) same ∙ shown_is,
+            ap (λ (s : Stage). s.waiting) same ∙ shown_is,
             sym is_told ∙ (ap (λ (s : Stage). s.told) same ∙ was_told),
           );
       idle = λ no_items. absurd (some no_items);

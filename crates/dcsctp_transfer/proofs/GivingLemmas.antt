@@ -1,13 +1,11 @@
 -- Where nothing goes into a packet, nothing had to.
-use Rattle.std.proofs.Common.{◌≡◌, ◌∙◌, ◌⊎◌, inl, inr, ℕ, suc, ◌+◌, ◌^◌, ◌<◌, ◌≤◌, ◌==◌, ◌&&◌, nat_le, nat_lt, Bool, true, false, Option, None, Some, List, [], length, refl, ap, sym, subst, arith}
+use Rattle.std.proofs.Common.{◌≡◌, ◌∙◌, ◌⊎◌, inl, inr, ℕ, suc, ◌+◌, ◌^◌, ◌<◌, ◌≤◌, ◌==◌, ◌&&◌, nat_le, nat_lt, Bool, true, false, Option, Some, List, [], length, refl, ap, sym, subst, arith}
 use Rattle.std.specs.List.{slice_get}
 use Rattle.std.proofs.lemmas.Bool.Decides.{nat_tests}
-use Rattle.dcsctp_machine.specs.transfer.Transfer.{SendQueueState, RetransmissionState, can_send, least_chunk, has_free_tsn, has_data, must_give}
-use Rattle.dcsctp_send_streams.specs.declared.message.UnderWay.{UnderWay}
+use Rattle.dcsctp_machine.specs.transfer.SendQueue.{SendQueueState, may_send, has_data}
+use Rattle.dcsctp_machine.specs.transfer.Transfer.{RetransmissionState, can_send, least_chunk, has_free_tsn, must_give}
+use Rattle.dcsctp_machine.specs.declared.sending.UnderWay.{UnderWay}
 use Rattle.dcsctp_send_streams.proofs.NextLemmas.{none_any}
-use Rattle.dcsctp_send_queue.specs.declared.backlog.Backlog.{Backlog}
-use Rattle.dcsctp_send_queue.specs.Backlog.{sent_of, queue_state}
-use Rattle.dcsctp_send_queue.proofs.QueuedLemmas.{data_shown}
 use Rattle.dcsctp_send_outstanding.specs.declared.item.Item.{Item}
 use Rattle.dcsctp_send_outstanding.specs.declared.progress.Change.TheVariants.{SendAgain}
 use Rattle.dcsctp_send_outstanding.specs.Progress.{is_marked}
@@ -60,26 +58,22 @@ too_little room least less = grind (arith, nat_tests)
 too_many : (count : ℕ) → 2 ^ 31 ≤ count + 1 → nat_lt (count + 1) (2 ^ 31) ≡ false
 too_many count many = grind (arith, nat_tests)
 
-no_data : (waiting : Backlog) → HasNone waiting → has_data (queue_state waiting) ≡ false
-no_data waiting has =
-    let seen = data_shown waiting None has.idle in
-    let same : has_data (queue_state waiting) ≡ has_data (record (queue_state waiting) { under_way = sent_of None }) =
-    ap (λ (under_way : Option UnderWay). has_data (record (queue_state waiting) { under_way = sent_of under_way })) has.idle in
-    same ∙ (sym seen ∙ sym (none_any waiting.streams has.none_left))
+no_data : (waiting : SendQueueState) → HasNone waiting → has_data waiting ≡ false
+no_data waiting has = ap (λ (under_way : Option UnderWay). may_send under_way waiting.streams) has.idle ∙ sym (none_any waiting.streams has.none_left)
 
-abbrev Fails : ℕ → QueueModel → Backlog → Type 0
+abbrev Fails : ℕ → QueueModel → SendQueueState → Type 0
 Fails room queue waiting =
     let state = retransmission_state queue in
-    OneFails (can_send state) (state.marked_items == 0) (nat_le (least_chunk queue.interleaving) room) (has_free_tsn state) (has_data (queue_state waiting))
+    OneFails (can_send state) (state.marked_items == 0) (nat_le (least_chunk queue.interleaving) room) (has_free_tsn state) (has_data waiting)
 
-fails_new : (room : ℕ) (queue : QueueModel) (waiting : Backlog) → queue.outstanding.header ≡ header_of queue.interleaving → HaltsNew room queue waiting → Fails room queue waiting
+fails_new : (room : ℕ) (queue : QueueModel) (waiting : SendQueueState) → queue.outstanding.header ≡ header_of queue.interleaving → HaltsNew room queue waiting → Fails room queue waiting
 fails_new room queue waiting header (inl shut) = inl (sees_windows queue ∙ shut)
 fails_new room queue waiting header (inr (inl little)) =
     inr (inr (inl (too_little room (least_chunk queue.interleaving) (omega (arith, little, header, least_is queue.interleaving)))))
 fails_new room queue waiting header (inr (inr (inl many))) = inr (inr (inr (inl (too_many (length queue.outstanding.items) many))))
 fails_new room queue waiting header (inr (inr (inr has))) = inr (inr (inr (inr (no_data waiting has))))
 
-fails : (room : ℕ) (queue : QueueModel) (waiting : Backlog) → queue.outstanding.header ≡ header_of queue.interleaving → Halts room queue waiting → Fails room queue waiting
+fails : (room : ℕ) (queue : QueueModel) (waiting : SendQueueState) → queue.outstanding.header ≡ header_of queue.interleaving → Halts room queue waiting → Fails room queue waiting
 fails room queue waiting header (inl (inl shut)) = inl (sees_windows queue ∙ shut)
 fails room queue waiting header (inl (inr waits)) =
     inr (inl (some_marked queue.outstanding.items waits.place waits.next.marked.item waits.next.marked.at waits.next.marked.is))
@@ -90,13 +84,13 @@ fails room queue waiting header (inr halts) = fails_new room queue waiting heade
 none_used : (outstanding : OutstandingModel) (used : ℕ) → HaveChunks outstanding [] used → used ≡ 0
 none_used outstanding used none = refl
 
-pub gives_nothing : (bytes : ℕ) (queue : QueueModel) (waiting : Backlog) (tsns : List ℕ) → queue.outstanding.header ≡ header_of queue.interleaving → FillsUp bytes queue waiting tsns → tsns ≡ [] → must_give bytes (queue_state waiting) (retransmission_state queue) ≡ false
+pub gives_nothing : (bytes : ℕ) (queue : QueueModel) (waiting : SendQueueState) (tsns : List ℕ) → queue.outstanding.header ≡ header_of queue.interleaving → FillsUp bytes queue waiting tsns → tsns ≡ [] → must_give bytes waiting (retransmission_state queue) ≡ false
 gives_nothing bytes queue waiting tsns header fills is =
     let used = none_used queue.outstanding fills.used (subst (λ (xs : List ℕ). HaveChunks queue.outstanding xs fills.used) is (have_packed queue.outstanding tsns fills.used fills.packed)) in
     let whole : fills.room ≡ bytes = omega (arith, used, fills.sum) in
     let halts : Halts bytes queue waiting = subst (λ (room : ℕ). Halts room queue waiting) whole fills.halts in
     let state = retransmission_state queue in
-    not_all (can_send state) (state.marked_items == 0) (nat_le (least_chunk queue.interleaving) bytes) (has_free_tsn state) (has_data (queue_state waiting)) (fails bytes queue waiting header halts)
+    not_all (can_send state) (state.marked_items == 0) (nat_le (least_chunk queue.interleaving) bytes) (has_free_tsn state) (has_data waiting) (fails bytes queue waiting header halts)
 
 pub gives_no_data : (room : ℕ) (waiting : SendQueueState) (state : RetransmissionState) → has_data waiting ≡ false → must_give room waiting state ≡ false
 gives_no_data room waiting state nothing =

@@ -4,7 +4,6 @@ pub mod FillingLemmas
 pub mod ForwardingLemmas
 pub mod GivingLemmas
 pub mod LossLemmas
-pub mod PreparingLemmas
 pub mod ReceivingLemmas
 pub mod SackLemmas
 pub mod SacksLemmas

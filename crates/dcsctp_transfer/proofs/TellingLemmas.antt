@@ -8,13 +8,13 @@ use Rattle.dcsctp_machine.specs.turns.FlushOutcomes.{Told, amount_is_low, total_
 use Rattle.dcsctp_machine.specs.Ids.{lifecycle_number}
 use Rattle.dcsctp_machine.specs.declared.ids.LifecycleId.{LifecycleId}
 use Rattle.dcsctp_api.specs.declared.events.SocketEvent.{SocketEvent}
-use Rattle.dcsctp_send_streams.specs.Waiting.{Waiting, Stream}
-use Rattle.dcsctp_send_streams.specs.Ranking.{stream_at}
-use Rattle.dcsctp_send_streams.specs.Telling.{contents, TellsFront, expiry_events, sent_events, falls_low, low_events}
-use Rattle.dcsctp_send_streams.specs.declared.message.UnderWay.{UnderWay}
-use Rattle.dcsctp_send_queue.specs.declared.backlog.Backlog.{Backlog}
-use Rattle.dcsctp_send_queue.specs.Leaving.{Drops, none as none_dropped, more as more_dropped, DropsAll, drop_events, part_events, last_events, is_last, produced_events}
-use Rattle.dcsctp_send_queue.specs.Calls.{StopsTaking, DropsNext, PartNext, DiscardsNamed}
+use Rattle.dcsctp_machine.specs.transfer.SendStreams.{Waiting, Stream, stream_at}
+use Rattle.dcsctp_send_streams.specs.Telling.{contents, TellsFront}
+use Rattle.dcsctp_machine.specs.transfer.SendEvents.{expiry_events, sent_events, falls_low, low_events}
+use Rattle.dcsctp_machine.specs.declared.sending.UnderWay.{UnderWay}
+use Rattle.dcsctp_machine.specs.transfer.SendQueue.{SendQueueState}
+use Rattle.dcsctp_machine.specs.transfer.Sending.{Drops, none as none_dropped, more as more_dropped, DropsAll, drop_events, part_events, last_events, is_last, produced_events, DiscardsNamed}
+use Rattle.dcsctp_send_queue.specs.Calls.{StopsTaking, DropsNext, PartNext}
 use Rattle.dcsctp_send_outstanding.specs.declared.item.Item.{Item}
 use Rattle.dcsctp_send_retransmission.specs.Queue.{QueueModel}
 use Rattle.dcsctp_send_retransmission.specs.States.{Stage, stage, maybe_expired, Closes, GivesUpAt, SendsNew, FindsNone, StepAgain, StepNew, Steps, none, more, RefusesClosing, Refused, Stops, counting, TriesPacket, SendsPacket}
@@ -79,21 +79,21 @@ told_maybe : (name : Option LifecycleId) → AreTold (maybe_expired name)
 told_maybe None = told_none
 told_maybe (Some id) = record { told = message_may_have_expired (lifecycle_number id) ∷ message_ends (lifecycle_number id) ∷ []; is = refl }
 
-told_drop : (place sent : ℕ) (message : Waiting) (queue : Backlog) → AreTold (drop_events place sent message queue)
+told_drop : (place sent : ℕ) (message : Waiting) (queue : SendQueueState) → AreTold (drop_events place sent message queue)
 told_drop place sent message queue =
     told_both _ _ (told_low (stream_at queue.streams place) queue.total_threshold queue.total_amount (length message.payload - sent)) (told_expiry message)
 
-told_part : (place size : ℕ) (queue : Backlog) → AreTold (part_events place size queue)
+told_part : (place size : ℕ) (queue : SendQueueState) → AreTold (part_events place size queue)
 told_part place size queue = told_low (stream_at queue.streams place) queue.total_threshold queue.total_amount size
 
-told_produced : (place max : ℕ) (message : Waiting) (under_way : UnderWay) (queue : Backlog) → AreTold (produced_events place max message under_way queue)
+told_produced : (place max : ℕ) (message : Waiting) (under_way : UnderWay) (queue : SendQueueState) → AreTold (produced_events place max message under_way queue)
 told_produced place max message under_way queue = by_end (is_last max message under_way)
   where
     by_end : (b : Bool) → AreTold (if b then last_events place message under_way queue else part_events place max queue)
     by_end true = told_both _ _ (told_part place (length message.payload - under_way.sent) queue) (told_sent message)
     by_end false = told_part place max queue
 
-told_drops : (now : ℕ) (old new : Backlog) (events : Events) → Drops now old events new → AreTold events
+told_drops : (now : ℕ) (old new : SendQueueState) (events : Events) → Drops now old events new → AreTold events
 told_drops now old new events none_dropped = told_none
 told_drops now old new events (more_dropped before queue place message drops next front expired) =
     told_both _ _ (told_drops now old queue before drops) (told_drop place 0 message queue)
@@ -121,10 +121,10 @@ tells_front before whole after told tells =
 
 -- ---- steps
 
-tells_dropped : (now : ℕ) (old new : Backlog) (before after : Events) → DropsAll now old before new after → TellsMore before after
+tells_dropped : (now : ℕ) (old new : SendQueueState) (before after : Events) → DropsAll now old before new after → TellsMore before after
 tells_dropped now old new before after drops = tells_these before drops.events after (told_drops now old new drops.events drops.drops) drops.told
 
-tells_discarded : (old new : Backlog) (stream id : ℕ) (before after : Events) (is_dropped : Bool) → DiscardsNamed old stream id before is_dropped new after → TellsMore before after
+tells_discarded : (old new : SendQueueState) (stream id : ℕ) (before after : Events) (is_dropped : Bool) → DiscardsNamed old stream id before is_dropped new after → TellsMore before after
 tells_discarded old new stream id before after true does =
     tells_these before _ after (told_drop does.named.place does.named.under_way.sent does.named.message old) does.events
 tells_discarded old new stream id before after false does = tells_same before after does.2
@@ -162,22 +162,22 @@ tells_steps Step each old new (more between new' steps step) =
 
 -- ---- where memory is refused
 
-pub tells_unclosed : (last : Item) (waiting : Backlog) (before after : Events) (is_end : Bool) → RefusesClosing last waiting before after is_end → TellsMore before after
+pub tells_unclosed : (last : Item) (waiting : SendQueueState) (before after : Events) (is_end : Bool) → RefusesClosing last waiting before after is_end → TellsMore before after
 tells_unclosed last waiting before after true tells = tells_front before _ after (told_maybe last.fragment.lifecycle_id) tells
 tells_unclosed last waiting before after false (inl same) = tells_same before after same
 tells_unclosed last waiting before after false (inr stops) =
     tells_front before _ after (told_drop stops.named.place stops.named.under_way.sent stops.named.message waiting) stops.tells
 
-told_coming : (now max : ℕ) (old queue : Backlog) (events : Events) → DropsNext now queue events ⊎ PartNext now max old queue events → AreTold events
+told_coming : (now max : ℕ) (old queue : SendQueueState) (events : Events) → DropsNext now queue events ⊎ PartNext now max old queue events → AreTold events
 told_coming now max old queue events (inl drops) = told_same events _ drops.is (told_drop drops.place 0 drops.message queue)
 told_coming now max old queue events (inr part) = told_same events _ part.is (told_produced part.place max part.message part.under_way queue)
 
-tells_stopped : (now max : ℕ) (old new : Backlog) (before after : Events) → StopsTaking now max old before new after → TellsMore before after
+tells_stopped : (now max : ℕ) (old new : SendQueueState) (before after : Events) → StopsTaking now max old before new after → TellsMore before after
 tells_stopped now max old new before after stops =
     tells_then before (before ++ stops.events) after (tells_these before stops.events (before ++ stops.events) (told_drops now old new stops.events stops.drops) refl)
     (tells_front (before ++ stops.events) stops.coming after (told_coming now max old new stops.coming stops.next) stops.tells)
 
-tells_refused : (now : ℕ) (at : Stage) (left : Backlog) (after : Events) → Refused now at left after → TellsMore at.told after
+tells_refused : (now : ℕ) (at : Stage) (left : SendQueueState) (after : Events) → Refused now at left after → TellsMore at.told after
 tells_refused now at left after (inl same) = tells_same at.told after same.1
 tells_refused now at left after (inr (inl refuses)) =
     tells_unclosed refuses.refused.last at.waiting at.told after refuses.refused.last.fragment.is_end refuses.refused.tells
@@ -189,7 +189,7 @@ tells_stops now Step each old new stops =
 
 -- ---- a packet
 
-tells_tried : (r : Result (Vec ℕ Global) AllocError) (now bytes : ℕ) (old : QueueModel) (waiting : Backlog) (events : List SocketEvent) (new : QueueModel) (left : Backlog) (telling : List SocketEvent)
+tells_tried : (r : Result (Vec ℕ Global) AllocError) (now bytes : ℕ) (old : QueueModel) (waiting : SendQueueState) (events : List SocketEvent) (new : QueueModel) (left : SendQueueState) (telling : List SocketEvent)
     → TriesPacket now bytes old waiting events new left telling r → TellsMore (contents events) (contents telling)
 tells_tried (Ok tsns) now bytes old waiting events new left telling tries =
     let fills = tries.fills in
@@ -204,7 +204,7 @@ tells_tried (Err error) now bytes old waiting events new left telling (inr stops
     (tells_stops now (StepNew now) (tells_anew now) (counting bytes stops.resent) (stage new left telling [] bytes) stops.stops)
 
 -- all that is told while a packet is filled
-pub tells_packet : (now bytes : ℕ) (old : QueueModel) (waiting : Backlog) (events : List SocketEvent) (new : QueueModel) (left : Backlog) (telling : List SocketEvent) (r : Result (Vec ℕ Global) AllocError)
+pub tells_packet : (now bytes : ℕ) (old : QueueModel) (waiting : SendQueueState) (events : List SocketEvent) (new : QueueModel) (left : SendQueueState) (telling : List SocketEvent) (r : Result (Vec ℕ Global) AllocError)
     → SendsPacket now bytes old waiting events new left telling r → TellsMore (contents events) (contents telling)
 tells_packet now bytes old waiting events new left telling r sends =
     tells_tried r now bytes old waiting events sends.sent left telling sends.fills

@@ -7,7 +7,8 @@ use Rattle.dcsctp_wire.specs.Spelling.{chunk_bytes}
 use Rattle.dcsctp_wire_build.specs.Building.{Building, bytes_remaining}
 use Rattle.dcsctp_machine.specs.Event.{Event, buffered_amount_low, total_buffered_amount_low, lifecycle_message_fully_sent, lifecycle_message_maybe_expired, lifecycle_message_expired, lifecycle_end}
 use Rattle.dcsctp_machine.specs.transfer.Reassembly.{remaining_bytes}
-use Rattle.dcsctp_machine.specs.transfer.Transfer.{SendQueueState, RetransmissionState, Transfer, has_data, can_send, must_give}
+use Rattle.dcsctp_machine.specs.transfer.SendQueue.{SendQueueState, has_data}
+use Rattle.dcsctp_machine.specs.transfer.Transfer.{RetransmissionState, Transfer, can_send, must_give}
 use Rattle.dcsctp_machine.specs.transfer.Tracker.{is_acknowledgement_due, owes_acknowledgement, sack_of, sacked}
 use Rattle.dcsctp_machine.specs.turns.FlushOutcomes.{Told, amount_is_low, total_amount_is_low, message_is_sent, message_may_have_expired, message_has_expired, message_ends, IsData}
 use Rattle.dcsctp_machine.specs.Packet.{unworked}

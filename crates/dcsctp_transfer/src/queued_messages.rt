@@ -19,17 +19,17 @@ impl Drop for QueuedMessages {
 }
 
 impl Model for QueuedMessages {
-    ghost use Rattle.dcsctp_machine.specs.transfer.Transfer.{SendQueueState};
-    ghost use Rattle.dcsctp_send_queue.specs.Backlog.{queue_state};
+    ghost use Rattle.dcsctp_machine.specs.transfer.SendQueue.{SendQueueState};
 
     ghost Value = { SendQueueState };
 
-    ghost view = { λ messages. queue_state messages.queue };
+    ghost view = { λ messages. messages.queue };
 }
 
 impl QueuedMessages {
     ghost use Rattle.std.specs.Prelude.{◌≡◌, ◌<◌, vec_len, OnOk, OnErr};
-    ghost use Rattle.dcsctp_machine.specs.transfer.Transfer.{empty_queue, queue_after_reset, queue_added, has_data, queued_stream};
+    ghost use Rattle.dcsctp_machine.specs.transfer.SendQueue.{empty_queue, queued, with_added, numbered_for, restarted, has_data, stream_of};
+    ghost use Rattle.dcsctp_machine.specs.transfer.Messages.{message_content};
     ghost use Rattle.dcsctp_machine.specs.turns.SettingOutcomes.{stream_priority, stream_low_threshold, set_in_queue};
 
     /// No messages, which are numbered as for no interleaving. Allocates nothing.
@@ -50,7 +50,7 @@ impl QueuedMessages {
         options: &SendOptions,
     ) -> Result<(), AllocError>
         requires { 0 < vec_len message.payload }
-        ensures ok { OnOk result (self.new ≡ queue_added message.stream_id.0 (vec_len message.payload) self.old) }
+        ensures ok { OnOk result (self.new ≡ with_added message.stream_id.0 (queued now (message_content message) options.now self.old) self.old) }
         ensures err { OnErr result (self.new ≡ self.old) }
     {
         self.queue.add(now, message, options)
@@ -64,37 +64,38 @@ impl QueuedMessages {
     }
 
     /// Makes the messages ready for another association: one that is under way starts again, and no stream
-    /// waits for a reset. Allocates nothing.
+    /// waits for a reset. All are numbered from 0. Allocates nothing.
     pub fn reset(&mut self)
-        ensures { self.new ≡ queue_after_reset self.old }
+        ensures { self.new ≡ restarted self.old }
     {
         self.queue.reset();
     }
 
-    /// Says whether messages are numbered as for interleaving (RFC 8260, section 2.1).
+    /// Says whether messages are numbered as for interleaving (RFC 8260, section 2.1). If that is a change, one
+    /// that is under way goes on under the next number of its stream.
     pub fn enable_message_interleaving(&mut self, enabled: bool)
-        ensures { self.new ≡ record self.old { is_interleaved = enabled } }
+        ensures { self.new ≡ numbered_for enabled self.old }
     {
         self.queue.enable_message_interleaving(enabled);
     }
 
     /// The payload bytes that wait to be sent, of all streams together. They stop at `usize::MAX`.
     pub fn total_buffered_amount(&self) -> usize
-        ensures { result ≡ self.now.total_buffered_amount }
+        ensures { result ≡ self.now.total_amount }
     {
         self.queue.total_buffered_amount()
     }
 
     /// The payload bytes that wait to be sent on this stream.
     pub fn buffered_amount(&self, stream_id: StreamId) -> usize
-        ensures { result ≡ (queued_stream self.now stream_id.0).buffered_amount }
+        ensures { result ≡ (stream_of self.now stream_id.0).amount }
     {
         self.queue.buffered_amount(stream_id)
     }
 
     /// The low threshold of this stream's buffered amount, in bytes.
     pub fn buffered_amount_low_threshold(&self, stream_id: StreamId) -> usize
-        ensures { result ≡ (queued_stream self.now stream_id.0).low_threshold }
+        ensures { result ≡ (stream_of self.now stream_id.0).threshold }
     {
         self.queue.buffered_amount_low_threshold(stream_id)
     }
@@ -115,7 +116,7 @@ impl QueuedMessages {
 
     /// The priority of this stream: the greatest goes first.
     pub fn priority(&self, stream_id: StreamId) -> u16
-        ensures { result ≡ (queued_stream self.now stream_id.0).priority }
+        ensures { result ≡ (stream_of self.now stream_id.0).priority }
     {
         self.queue.get_priority(stream_id)
     }

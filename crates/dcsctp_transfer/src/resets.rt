@@ -4,7 +4,8 @@ ghost use Rattle.dcsctp_machine.specs.transfer.Tracker.{cumulative_tsn};
 ghost use Rattle.std.specs.Prelude.{◌≡◌, not, take, IfOk, OnOk, OnErr};
 ghost use Rattle.std.specs.Duration.{as_nanos};
 ghost use Rattle.dcsctp_machine.specs.Ids.{stream_numbers};
-ghost use Rattle.dcsctp_machine.specs.transfer.Transfer.{is_none_ready, queue_handed_back, queue_handing_out};
+ghost use Rattle.dcsctp_machine.specs.transfer.OwnResets.{ready_streams, queue_handing_out, queue_committed, queue_rolled_back};
+ghost use Rattle.dcsctp_machine.specs.transfer.Transfer.{is_none_ready};
 ghost use Rattle.dcsctp_machine.specs.turns.BegunResets.{last_assigned_tsn};
 ghost use Rattle.dcsctp_machine.specs.turns.ResetOutcomes.{is_tsn_beyond, defers_reset, ResetsStreams};
 ghost use Rattle.dcsctp_send_streams.specs.Telling.{contents};
@@ -87,7 +88,7 @@ impl QueuedMessages {
 
     /// Is a stream ready to be reset?
     pub fn has_streams_ready_to_be_reset(&self) -> bool
-        ensures { result ≡ not (is_none_ready self.now.ready_streams) }
+        ensures { result ≡ not (is_none_ready (ready_streams self.now)) }
     {
         self.queue.has_streams_ready_to_be_reset()
     }
@@ -97,7 +98,7 @@ impl QueuedMessages {
     ///
     /// `Err`: an allocation failed, and nothing has changed.
     pub fn get_streams_ready_to_reset(&mut self, max: usize) -> Result<Vec<StreamId>, AllocError>
-        ensures streams { IfOk result (λ ids. stream_numbers ids.items ≡ take max self.old.ready_streams) }
+        ensures streams { IfOk result (λ ids. stream_numbers ids.items ≡ take max (ready_streams self.old)) }
         ensures left { OnOk result (self.new ≡ queue_handing_out max self.old) }
         ensures err { OnErr result (self.new ≡ self.old) }
     {
@@ -107,14 +108,14 @@ impl QueuedMessages {
     /// The streams that are handed out were reset: they number their messages from 0, and are paused no
     /// longer. Allocates nothing.
     pub fn commit_reset_streams(&mut self)
-        ensures { self.new ≡ queue_handed_back self.old }
+        ensures { self.new ≡ queue_committed self.old }
     {
         self.queue.commit_reset_streams();
     }
 
     /// The streams that are handed out weren't reset: they are paused no longer. Allocates nothing.
     pub fn rollback_reset_streams(&mut self)
-        ensures { self.new ≡ queue_handed_back self.old }
+        ensures { self.new ≡ queue_rolled_back self.old }
     {
         self.queue.rollback_reset_streams();
     }

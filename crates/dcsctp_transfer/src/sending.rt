@@ -7,7 +7,8 @@ ghost use Rattle.dcsctp_wire.specs.Content.{data_chunk, i_data_chunk, sack_chunk
 ghost use Rattle.dcsctp_wire.specs.ReadsBack.{IsByte, FitsChunk};
 ghost use Rattle.dcsctp_wire.specs.Spelling.{chunk_bytes};
 ghost use Rattle.dcsctp_wire_build.specs.Building.{bytes_remaining};
-ghost use Rattle.dcsctp_machine.specs.transfer.Transfer.{has_data, can_send};
+ghost use Rattle.dcsctp_machine.specs.transfer.SendQueue.{has_data};
+ghost use Rattle.dcsctp_machine.specs.transfer.Transfer.{can_send};
 ghost use Rattle.dcsctp_send_streams.specs.Telling.{contents};
 ghost use Rattle.dcsctp_send_outstanding.specs.Items.{chunk_size};
 ghost use Rattle.dcsctp_send_retransmission.specs.Queue.{header_of};

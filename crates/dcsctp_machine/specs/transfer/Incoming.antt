@@ -9,13 +9,10 @@ use Rattle.dcsctp_machine.specs.declared.arrivals.Numbering.{Numbering}
 use Rattle.dcsctp_machine.specs.declared.arrivals.Numbering.TheVariants.{Ordered, Unordered, InterleavedOrdered, InterleavedUnordered}
 use Rattle.dcsctp_machine.specs.declared.arrivals.Taken.{Taken}
 use Rattle.dcsctp_machine.specs.transfer.Numbers.{number_near}
-use Rattle.dcsctp_machine.specs.transfer.Runs.{RunModel, behind_place}
-use Rattle.dcsctp_machine.specs.transfer.Runs.{runs_bytes}
-use Rattle.dcsctp_machine.specs.transfer.IncomingStreams.{ready_bytes, streams_bytes}
-use Rattle.dcsctp_machine.specs.transfer.IncomingStreams.{StreamModel, ChunkModel, new_stream, data_part, delivered_as, TakesUnordered, TakesOnStream, skipped_stream, skipped, skip_deliveries}
-use Rattle.std.specs.List.{filter}
+use Rattle.dcsctp_machine.specs.transfer.Runs.{RunModel, behind_place, runs_bytes}
+use Rattle.dcsctp_machine.specs.transfer.IncomingStreams.{ready_bytes, streams_bytes, StreamModel, ChunkModel, new_stream, data_part, delivered_as, TakesUnordered, TakesOnStream, skipped_stream, skipped, skip_deliveries}
+use Rattle.std.specs.List.{filter, list_any}
 use Rattle.dcsctp_machine.specs.declared.arrivals.SkippedTo.{SkippedTo}
-use Rattle.std.specs.List.{list_any}
 
 -- all that is kept of what was received
 pub record IncomingModel : Type 0 where

@@ -1,6 +1,6 @@
 -- Messages that aren't whole yet: parts that follow on one another (RFC 9260, section 6.9; RFC 8260, section 2.1). Parts of one
 -- message have places in a row.
-use Rattle.std.specs.Prelude.{◌≡◌, ◌==◌, ℕ, zero, suc, ◌+◌, ◌-◌, ◌<◌, ◌≤◌, nat_lt, nat_le, Bool, true, false, not, ◌&&◌, if◌then◌else◌, Option, None, Some, List, [], ◌∷◌, ◌++◌, length, slice_get, take, drop, is_some}
+use Rattle.std.specs.Prelude.{◌≡◌, ◌==◌, ℕ, zero, suc, ◌-◌, ◌<◌, ◌≤◌, nat_lt, nat_le, Bool, true, false, not, ◌&&◌, if◌then◌else◌, Option, None, Some, List, [], ◌∷◌, ◌++◌, length, slice_get, take, drop, is_some}
 use Rattle.std.specs.List.{flat_map, sum_by}
 
 -- parts of one message in a row

@@ -4,7 +4,9 @@ use Rattle.dcsctp_machine.specs.declared.association.Held.{Held}
 use Rattle.dcsctp_machine.specs.declared.kinds.BackoffAlgorithm.TheVariants.{Exponential}
 use Rattle.dcsctp_machine.specs.Packet.{Content}
 use Rattle.dcsctp_machine.specs.Reconfiguration.{RequestedReset}
-use Rattle.dcsctp_machine.specs.transfer.Transfer.{RetransmissionState, SendQueueState, queue_handing_out, Transfer}
+use Rattle.dcsctp_machine.specs.transfer.OwnResets.{ready_streams, queue_handing_out}
+use Rattle.dcsctp_machine.specs.transfer.SendQueue.{SendQueueState}
+use Rattle.dcsctp_machine.specs.transfer.Transfer.{RetransmissionState, Transfer}
 use Rattle.dcsctp_machine.specs.Endpoint.{Endpoint, Core, cookie_echoed, open_in}
 use Rattle.dcsctp_machine.specs.Timers.{TimerSettings, started}
 use Rattle.dcsctp_machine.specs.control.Effect.{Effect, begins}
@@ -38,7 +40,7 @@ stream_field stream = stream % 2 ^ 16
 -- Of the streams that are ready it names as many as fit, the first of them; the others stay ready.
 abbrev pub begun_in : Option Held → ℕ → ℕ → SendQueueState → Option BegunReset
 begun_in None room last_tsn queue = None
-begun_in (Some held) room last_tsn queue = begun_where held.own_outstanding held.own_next last_tsn (map stream_field (take (streams_within room) queue.ready_streams))
+begun_in (Some held) room last_tsn queue = begun_where held.own_outstanding held.own_next last_tsn (map stream_field (take (streams_within room) (ready_streams queue)))
 
 -- ---- what it says and notes
 

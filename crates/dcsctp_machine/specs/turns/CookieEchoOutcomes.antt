@@ -7,7 +7,8 @@ use Rattle.dcsctp_machine.specs.declared.kinds.ErrorKind.TheVariants.{ParseFaile
 use Rattle.dcsctp_machine.specs.Cookie.{Cookie, cookie_at}
 use Rattle.dcsctp_machine.specs.Event.{Event, sent, connected, connection_restarted, error}
 use Rattle.dcsctp_machine.specs.Packet.{cookie_ack, shutdown_ack, Emission}
-use Rattle.dcsctp_machine.specs.transfer.Transfer.{SendQueueState, new_transfer}
+use Rattle.dcsctp_machine.specs.transfer.SendQueue.{SendQueueState, numbered_for}
+use Rattle.dcsctp_machine.specs.transfer.Transfer.{new_transfer}
 use Rattle.dcsctp_machine.specs.Endpoint.{Endpoint, Core, cookie_echoed, open_in, OpenPhase, established, shutdown_ack_sent, stopped_timers, heartbeats_begun}
 use Rattle.dcsctp_machine.specs.Outcome.{Outcome, noting, still, counted}
 use Rattle.dcsctp_machine.specs.Following.{dropped_rest}
@@ -89,7 +90,7 @@ interleaves e cookie = (held_by_cookie e.options cookie).capabilities.message_in
 
 -- What waits to be sent is unchanged if there was no peer; else it starts anew.
 abbrev pub queue_kept : Endpoint → Cookie → SendQueueState
-queue_kept e cookie = record e.below.queue { is_interleaved = interleaves e cookie }
+queue_kept e cookie = numbered_for (interleaves e cookie) e.below.queue
 
 abbrev pub queue_begun : Endpoint → Cookie → SendQueueState
 queue_begun e cookie = queue_anew e.below.queue (interleaves e cookie)

@@ -7,7 +7,8 @@ use Rattle.dcsctp_machine.specs.declared.word.Word.{Word}
 use Rattle.dcsctp_machine.specs.Settings.{packet_size_limit}
 use Rattle.dcsctp_machine.specs.Event.{Event, sent, packets_in, buffered_amount_low, total_buffered_amount_low, lifecycle_message_fully_sent, lifecycle_message_maybe_expired, lifecycle_message_expired, lifecycle_end}
 use Rattle.dcsctp_machine.specs.Packet.{Plain, unworked, plain_out, Content, Emission}
-use Rattle.dcsctp_machine.specs.transfer.Transfer.{SendQueueState, has_data, RetransmissionState, can_send, Transfer, must_give, is_idle}
+use Rattle.dcsctp_machine.specs.transfer.SendQueue.{SendQueueState, has_data}
+use Rattle.dcsctp_machine.specs.transfer.Transfer.{RetransmissionState, can_send, Transfer, must_give, is_idle}
 use Rattle.dcsctp_machine.specs.transfer.Reassembly.{remaining_bytes}
 use Rattle.dcsctp_machine.specs.transfer.Tracker.{TrackerState, is_acknowledgement_due, owes_acknowledgement, sack_of, sacked}
 use Rattle.dcsctp_machine.specs.turns.BegunResets.{BegunReset, last_assigned_tsn, begun_in, request_contents, begun_effects, after_begun}

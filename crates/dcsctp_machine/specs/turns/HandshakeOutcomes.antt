@@ -15,7 +15,8 @@ use Rattle.dcsctp_machine.specs.Cookie.{Cookie, cookie_bytes}
 use Rattle.dcsctp_machine.specs.Cause.{missing_mandatory_parameter}
 use Rattle.dcsctp_machine.specs.Event.{aborted, connected}
 use Rattle.dcsctp_machine.specs.Packet.{Introduction, Content, init, init_ack, cookie_echo, abort, shutdown_ack, Emission}
-use Rattle.dcsctp_machine.specs.transfer.Transfer.{SendQueueState, queue_after_reset, new_transfer, next_tsn_of}
+use Rattle.dcsctp_machine.specs.transfer.SendQueue.{SendQueueState, restarted, numbered_for}
+use Rattle.dcsctp_machine.specs.transfer.Transfer.{new_transfer, next_tsn_of}
 use Rattle.dcsctp_machine.specs.Endpoint.{Endpoint, Core, closed, cookie_wait, cookie_echoed, open_in, OpenPhase, established, shutdown_ack_sent, heartbeats_begun, t1_settings}
 use Rattle.dcsctp_machine.specs.Timers.{started}
 use Rattle.dcsctp_machine.specs.Outcome.{Outcome, still, quiet, fits, to_peer, emits, noting, drawing}
@@ -144,7 +145,7 @@ implementation_of cookie = if nat_le (length cookie) 8 then Unknown else named_i
 
 -- the queue as a new association finds it, with its numbers anew
 abbrev pub queue_anew : SendQueueState → Bool → SendQueueState
-queue_anew queue is_interleaved = queue_after_reset (record queue { is_interleaved = is_interleaved })
+queue_anew queue is_interleaved = numbered_for is_interleaved (restarted queue)
 
 -- the peer that an INIT ACK shows: a COOKIE ACK is awaited
 abbrev pub awaits_cookie_ack : Endpoint → Pair → Introduction → List ℕ → ℕ → Endpoint

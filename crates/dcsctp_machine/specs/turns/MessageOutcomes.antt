@@ -9,7 +9,7 @@ use Rattle.dcsctp_machine.specs.Event.{Event, error, lifecycle_end}
 use Rattle.dcsctp_machine.specs.Packet.{Emission}
 use Rattle.dcsctp_machine.specs.Ids.{lifecycle_number}
 use Rattle.dcsctp_machine.specs.transfer.Messages.{MessageContent}
-use Rattle.dcsctp_machine.specs.transfer.Transfer.{SendQueueState, queued_stream, queue_added}
+use Rattle.dcsctp_machine.specs.transfer.SendQueue.{SendQueueState, stream_of, queued, with_added}
 use Rattle.dcsctp_machine.specs.Endpoint.{Endpoint, Core, closed, cookie_wait, cookie_echoed, open_in, held_in, OpenPhase, established, shutdown_pending, shutdown_sent, shutdown_received, shutdown_ack_sent}
 use Rattle.dcsctp_machine.specs.Outcome.{Outcome, count_up, still, quiet, then_outcome}
 use Rattle.dcsctp_machine.specs.turns.FlushOutcomes.{Answer}
@@ -39,7 +39,7 @@ is_shutting_down (open_in phase my held) = is_shutting_in phase
 -- Is the send buffer full, in all or for this stream?
 abbrev pub is_full : Options → SendQueueState → ℕ → Bool
 is_full options queue id =
-    nat_le options.max_send_buffer_size queue.total_buffered_amount || nat_le options.per_stream_send_queue_limit (queued_stream queue id).buffered_amount
+    nat_le options.max_send_buffer_size queue.total_amount || nat_le options.per_stream_send_queue_limit (stream_of queue id).amount
 
 -- Why a message of that many bytes is refused on this stream: the first of these that holds.
 abbrev pub message_refusal : Endpoint → ℕ → ℕ → Option MessageRefusal
@@ -69,32 +69,41 @@ refusal_events refusal (Some id) = lifecycle_end id ∷ error (refusal_kind refu
 
 -- ---- what the user sends
 
--- a message as the queue takes it: its stream, its bytes, and its name, if it has one
+-- a message that is to be sent, and how
 pub record Sending : Type 0 where
-  pub stream : ℕ
-  pub bytes : ℕ
-  pub lifecycle : Option ℕ
+  pub message : MessageContent
+  pub options : SendOptions
 
--- a message that is to be sent so
 abbrev pub sending_of : SendOptions → MessageContent → Sending
-sending_of options message =
-    record { stream = message.stream; bytes = length message.payload; lifecycle = option_map lifecycle_number options.lifecycle_id }
+sending_of options message = record { message = message; options = options }
+
+-- why it is refused
+abbrev pub sending_refusal : Endpoint → Sending → Option MessageRefusal
+sending_refusal e sending = message_refusal e sending.message.stream (length sending.message.payload)
+
+-- the number of its name
+abbrev pub name_of : Sending → Option ℕ
+name_of sending = option_map lifecycle_number sending.options.lifecycle_id
+
+-- the queue once it was taken at this moment
+abbrev pub sending_queued : ℕ → Sending → SendQueueState → SendQueueState
+sending_queued now sending queue = with_added sending.message.stream (queued now sending.message sending.options queue) queue
 
 -- the endpoint once a message was taken
 abbrev pub message_queued : Endpoint → Sending → Endpoint
 message_queued e message =
     record e {
       counts = record e.counts { messages_queued = count_up e.counts.messages_queued };
-      below = record e.below { queue = queue_added message.stream message.bytes e.below.queue };
+      below = record e.below { queue = sending_queued e.moment message e.below.queue };
     }
 
 abbrev pub queue_by : Endpoint → Sending → Option MessageRefusal → Outcome
 queue_by e message None = still (message_queued e message)
-queue_by e message (Some refusal) = quiet e [] (refusal_events refusal message.lifecycle)
+queue_by e message (Some refusal) = quiet e [] (refusal_events refusal (name_of message))
 
 -- The message is taken or refused.
 abbrev pub queue_one : Endpoint → Sending → Outcome
-queue_one e message = queue_by e message (message_refusal e message.stream message.bytes)
+queue_one e message = queue_by e message (sending_refusal e message)
 
 -- one message after another
 abbrev pub queue_all : Endpoint → List Sending → Outcome
@@ -114,12 +123,12 @@ refused_where place (Some refusal) = record { place = place; refusal = refusal }
 abbrev pub refused_from : ℕ → Endpoint → List Sending → List RefusedMessage
 refused_from place e [] = []
 refused_from place e (message ∷ messages) =
-    refused_where place (message_refusal e message.stream message.bytes) ++ refused_from (place + 1) (queue_one e message).after messages
+    refused_where place (sending_refusal e message) ++ refused_from (place + 1) (queue_one e message).after messages
 
 -- is one of them taken?
 abbrev pub takes_any : Endpoint → List Sending → Bool
 takes_any e [] = false
-takes_any e (message ∷ messages) = is_none (message_refusal e message.stream message.bytes) || takes_any (queue_one e message).after messages
+takes_any e (message ∷ messages) = is_none (sending_refusal e message) || takes_any (queue_one e message).after messages
 
 -- If one was taken, what waits is sent.
 abbrev pub SendAnswers : Bool → Endpoint → List Answer → Type 0

@@ -12,7 +12,9 @@ use Rattle.dcsctp_machine.specs.Packet.{re_config, Emission}
 use Rattle.dcsctp_machine.specs.Reconfiguration.{RequestedReset, ResetParameter, outgoing_reset_request, incoming_reset_request, reconfiguration_response, other_reset_parameter}
 use Rattle.dcsctp_machine.specs.transfer.Reassembly.{deferring, Leaves}
 use Rattle.dcsctp_machine.specs.transfer.Tracker.{cumulative_tsn}
-use Rattle.dcsctp_machine.specs.transfer.Transfer.{Transfer, queue_handed_back}
+use Rattle.dcsctp_machine.specs.transfer.OwnResets.{queue_committed, queue_rolled_back}
+use Rattle.dcsctp_machine.specs.transfer.SendQueue.{SendQueueState}
+use Rattle.dcsctp_machine.specs.transfer.Transfer.{Transfer}
 use Rattle.dcsctp_machine.specs.Endpoint.{Endpoint, Core, cookie_echoed, open_in, OutstandingRequest}
 use Rattle.dcsctp_machine.specs.Timers.{started}
 use Rattle.dcsctp_machine.specs.Outcome.{Outcome, still, quiet, emits, behind, noting, to_peer}
@@ -94,23 +96,32 @@ pub data OwnAnswer : Type 0 where
   unanswered : OwnAnswer
   -- It is in progress, and is sent again later.
   retried : OwnAnswer
-  -- It has ended.
-  over : OwnAnswer
+  -- Its streams were reset.
+  was_performed : OwnAnswer
+  -- They weren't, and won't be.
+  has_failed : OwnAnswer
 
--- by its number before the chunk and after it, and whether it was answered as in progress
-abbrev pub own_answer : Option ℕ → Option ℕ → Bool → OwnAnswer
-own_answer None after in_progress = unanswered
-own_answer (Some number) None in_progress = over
-own_answer (Some number) (Some still_out) true = retried
-own_answer (Some number) (Some still_out) false = unanswered
+-- by its number before the chunk and after it, and whether it was answered as in progress, or was performed
+abbrev pub own_answer : Option ℕ → Option ℕ → Bool → Bool → OwnAnswer
+own_answer None after in_progress is_performed = unanswered
+own_answer (Some number) None in_progress true = was_performed
+own_answer (Some number) None in_progress false = has_failed
+own_answer (Some number) (Some still_out) true is_performed = retried
+own_answer (Some number) (Some still_out) false is_performed = unanswered
 
 abbrev pub in_progress_among : Option ℕ → List ResetParameter → Bool
 in_progress_among None parameters = false
 in_progress_among (Some number) parameters = list_any (is_in_progress number) parameters
 
+-- was it performed?
+abbrev pub has_completed : List Effect → Bool
+has_completed [] = false
+has_completed (completes my number ∷ effects) = true
+has_completed (effect ∷ effects) = has_completed effects
+
 abbrev pub answered_in : Held → WorkedParameters → List ResetParameter → OwnAnswer
 answered_in held worked parameters =
-    own_answer held.own_outstanding worked.held.own_outstanding (in_progress_among held.own_outstanding (worked_part false parameters))
+    own_answer held.own_outstanding worked.held.own_outstanding (in_progress_among held.own_outstanding (worked_part false parameters)) (has_completed worked.effects)
 
 -- the streams that its own request resets
 abbrev pub own_streams : Option OutstandingRequest → List ℕ
@@ -121,6 +132,11 @@ own_streams (Some request) = request.streams
 abbrev pub waiting : OutstandingRequest → OutstandingRequest
 waiting request = record request { waits_for_retry = true }
 
+-- Its own request has ended, and this waits to be sent.
+abbrev pub own_ended : SendQueueState → Endpoint → Endpoint
+own_ended queue e =
+    record e { outstanding = None; timers = record e.timers { reconfiguration = None }; below = record e.below { queue = queue } }
+
 -- the endpoint once its own request got this answer
 abbrev pub own_moved : OwnAnswer → Endpoint → Endpoint
 own_moved unanswered e = e
@@ -129,12 +145,8 @@ own_moved retried e =
       outstanding = option_map waiting e.outstanding;
       timers = record e.timers { reconfiguration = started e.moment (reconfiguration_settings (rto_of e.below.transfer)) };
     }
-own_moved over e =
-    record e {
-      outstanding = None;
-      timers = record e.timers { reconfiguration = None };
-      below = record e.below { queue = queue_handed_back e.below.queue };
-    }
+own_moved was_performed e = own_ended (queue_committed e.below.queue) e
+own_moved has_failed e = own_ended (queue_rolled_back e.below.queue) e
 
 -- ---- its outcome
 

@@ -1,6 +1,6 @@
 -- What the user sets of a socket, and no packet tells the peer.
 use Rattle.std.specs.Prelude.{ℕ}
-use Rattle.dcsctp_machine.specs.transfer.Transfer.{SendQueueState, queued_stream, queue_with}
+use Rattle.dcsctp_machine.specs.transfer.SendQueue.{SendQueueState, changed, used, with_threshold, with_priority}
 use Rattle.dcsctp_machine.specs.Endpoint.{Endpoint}
 use Rattle.dcsctp_machine.specs.Outcome.{Outcome, still}
 
@@ -14,8 +14,8 @@ pub data Setting : Type 0 where
 
 -- the queue once this is set
 abbrev pub set_in_queue : Setting → SendQueueState → SendQueueState
-set_in_queue (stream_priority id priority) queue = queue_with (record (queued_stream queue id) { priority = priority }) queue
-set_in_queue (stream_low_threshold id bytes) queue = queue_with (record (queued_stream queue id) { low_threshold = bytes }) queue
+set_in_queue (stream_priority id priority) queue = record queue { streams = changed id (with_priority priority) (used queue id) }
+set_in_queue (stream_low_threshold id bytes) queue = record queue { streams = changed id (with_threshold bytes) (used queue id) }
 set_in_queue (longest_message bytes) queue = queue
 
 -- the longest message once this is set

@@ -8,14 +8,16 @@ use dcsctp_send_streams::{DataToSend, UnderWay};
 use std::alloc::AllocError;
 
 impl Backlog {
+    ghost use Rattle.dcsctp_send_queue.specs.Backlog.{queue_of, CanGoOn, IsUnderWay};
+    ghost use Rattle.std.specs.Option.{option_map};
     ghost use Rattle.std.specs.Prelude.{◌≡◌, ◌==◌, ◌+◌, ◌-◌, ◌<◌, ◌++◌, ℕ, length, Some, None, Ok, OnOk, OnErr, IfOk, IfSome};
-    ghost use Rattle.dcsctp_send_streams.specs.Waiting.{Waiting, front_of, is_expired};
+    ghost use Rattle.dcsctp_machine.specs.transfer.SendStreams.{Waiting, front_of, is_expired, stream_at};
     ghost use Rattle.dcsctp_send_streams.specs.Telling.{contents, TellsFront};
-    ghost use Rattle.dcsctp_send_streams.specs.Ranking.{stream_at};
-    ghost use Rattle.dcsctp_send_streams.specs.Fragment.{fragment_of, fragment, HasSize};
-    ghost use Rattle.dcsctp_send_queue.specs.Leaving.{after_part, part_events, after_last, last_events, HasMore, HasRest, DropsAll, DropsSome, NextUnexpired, size_produced, produced, produced_events};
-    ghost use Rattle.dcsctp_send_queue.specs.Backlog.{CanGoOn, begun, IsUnderWay, is_front_unordered, numbered_anew, numbered_for, queue_state};
-    ghost use Rattle.dcsctp_send_queue.specs.Calls.{StopsTaking, StopsDiscarding, TakesNext, DiscardsNamed};
+    ghost use Rattle.dcsctp_send_streams.specs.Fragment.{fragment_of, HasSize};
+    ghost use Rattle.dcsctp_machine.specs.transfer.Sending.{fragment, after_part, part_events, after_last, last_events, DropsAll, size_produced, produced, produced_events, begun, TakesNext, DiscardsNamed};
+    ghost use Rattle.dcsctp_send_queue.specs.Leaving.{HasMore, HasRest, DropsSome, NextUnexpired};
+    ghost use Rattle.dcsctp_machine.specs.transfer.SendQueue.{is_front_unordered, numbered_anew, numbered_for};
+    ghost use Rattle.dcsctp_send_queue.specs.Calls.{StopsTaking, StopsDiscarding};
 
     /// The oldest message of the stream as it is begun, before its first fragment.
     pub fn begun(&self, place: usize) -> UnderWay
@@ -49,9 +51,8 @@ impl Backlog {
     /// The message under way then takes the next one of its stream, so that no other message has the same.
     pub fn interleave(&mut self, enabled: bool)
         requires { CanGoOn self.old.streams self.old.under_way }
-        ensures whole { self.new ≡ numbered_for enabled self.old }
+        ensures whole { queue_of self.new ≡ numbered_for enabled (queue_of self.old) }
         ensures can { CanGoOn self.new.streams self.new.under_way }
-        ensures shown { queue_state self.new ≡ record (queue_state self.old) { is_interleaved = enabled } }
     {
         match (self.is_interleaved, enabled) {
             (false, false) | (true, true) => {}
@@ -62,9 +63,8 @@ impl Backlog {
     // Has other numbers count from now on. The message under way takes the next one of its stream.
     fn number_anew(&mut self, is_interleaved: bool)
         requires { CanGoOn self.old.streams self.old.under_way }
-        ensures whole { self.new ≡ numbered_anew self.old.under_way (record self.old { is_interleaved = is_interleaved }) }
+        ensures whole { queue_of self.new ≡ numbered_anew self.old.under_way (record (queue_of self.old) { is_interleaved = is_interleaved }) }
         ensures can { CanGoOn self.new.streams self.new.under_way }
-        ensures shown { queue_state self.new ≡ record (queue_state self.old) { is_interleaved = is_interleaved } }
     {
         self.is_interleaved = is_interleaved;
         let Some(under_way) = self.under_way else {
@@ -103,9 +103,9 @@ impl Backlog {
         now: SocketTime,
     ) -> Result<Option<usize>, AllocError>
         ensures ok { IfOk result (NextUnexpired now self.new.streams) }
-        ensures told { OnOk result (DropsAll now self.old (contents events.old) self.new (contents events.new)) }
-        ensures err { OnErr result (DropsSome now self.old self.new) }
-        ensures front { (max : ℕ) → OnErr result (StopsTaking now max self.old (contents events.old) self.new (contents events.new)) }
+        ensures told { OnOk result (DropsAll now (queue_of self.old) (contents events.old) (queue_of self.new) (contents events.new)) }
+        ensures err { OnErr result (DropsSome now (queue_of self.old) (queue_of self.new)) }
+        ensures front { (max : ℕ) → OnErr result (StopsTaking now max (queue_of self.old) (contents events.old) (queue_of self.new) (contents events.new)) }
     {
         while let Some(place) = self.streams.next_place() {
             if !self.is_front_expired(place, now) {
@@ -128,10 +128,10 @@ impl Backlog {
         requires { HasRest self.old.streams place under_way.sent }
         ensures ok { (message : Waiting) → front_of (stream_at self.old.streams place).messages ≡ Some message → IfOk result (λ part. fragment_of part ≡ fragment under_way message (size_produced max message under_way)) }
         ensures some { (message : Waiting) → front_of (stream_at self.old.streams place).messages ≡ Some message → 0 < length message.payload }
-        ensures left { (message : Waiting) → front_of (stream_at self.old.streams place).messages ≡ Some message → OnOk result (self.new ≡ produced place max message under_way self.old) }
-        ensures told { (message : Waiting) → front_of (stream_at self.old.streams place).messages ≡ Some message → OnOk result (contents events.new ≡ contents events.old ++ produced_events place max message under_way self.old) }
+        ensures left { (message : Waiting) → front_of (stream_at self.old.streams place).messages ≡ Some message → OnOk result (queue_of self.new ≡ produced place max message under_way (queue_of self.old)) }
+        ensures told { (message : Waiting) → front_of (stream_at self.old.streams place).messages ≡ Some message → OnOk result (contents events.new ≡ contents events.old ++ produced_events place max message under_way (queue_of self.old)) }
         ensures err { OnErr result (self.new ≡ self.old) }
-        ensures front { (message : Waiting) → front_of (stream_at self.old.streams place).messages ≡ Some message → OnErr result (TellsFront (contents events.old) (produced_events place max message under_way self.old) (contents events.new)) }
+        ensures front { (message : Waiting) → front_of (stream_at self.old.streams place).messages ≡ Some message → OnErr result (TellsFront (contents events.old) (produced_events place max message under_way (queue_of self.old)) (contents events.new)) }
     {
         let message = self.streams.at(place).front().unwrap();
         let left = message.size().saturating_sub(under_way.sent);
@@ -162,10 +162,10 @@ impl Backlog {
         message_id: u64,
     ) -> Result<bool, AllocError>
         requires { CanGoOn self.old.streams self.old.under_way }
-        ensures ok { IfOk result (λ is_dropped. DiscardsNamed self.old stream_id.0 message_id (contents events.old) is_dropped self.new (contents events.new)) }
+        ensures ok { IfOk result (λ is_dropped. DiscardsNamed (queue_of self.old) stream_id.0 message_id (contents events.old) is_dropped (queue_of self.new) (contents events.new)) }
         ensures can { CanGoOn self.new.streams self.new.under_way }
         ensures err { OnErr result (self.new ≡ self.old) }
-        ensures front { OnErr result (StopsDiscarding self.old stream_id.0 message_id (contents events.old) (contents events.new)) }
+        ensures front { OnErr result (StopsDiscarding (queue_of self.old) stream_id.0 message_id (contents events.old) (contents events.new)) }
     {
         let under_way = match self.under_way {
             Some(under_way) => under_way,
@@ -194,11 +194,11 @@ impl Backlog {
         requires goes_on { self.old.under_way ≡ Some under_way }
         requires can { IsUnderWay self.old.streams under_way }
         requires some { 0 < max }
-        ensures ok { (now : ℕ) → IfOk result (λ next. TakesNext now max self.old (contents events.old) next self.new (contents events.new)) }
+        ensures ok { (now : ℕ) → IfOk result (λ next. TakesNext now max (queue_of self.old) (contents events.old) (option_map fragment_of next) (queue_of self.new) (contents events.new)) }
         ensures size { IfOk result (λ next. IfSome next (HasSize max)) }
         ensures can { CanGoOn self.new.streams self.new.under_way }
         ensures err { OnErr result (self.new ≡ self.old) }
-        ensures front { (now : ℕ) → OnErr result (StopsTaking now max self.old (contents events.old) self.new (contents events.new)) }
+        ensures front { (now : ℕ) → OnErr result (StopsTaking now max (queue_of self.old) (contents events.old) (queue_of self.new) (contents events.new)) }
     {
         let place = self.place_of(under_way);
         let data = self.produce(events, place, under_way, max)?;
@@ -216,11 +216,11 @@ impl Backlog {
     ) -> Result<Option<DataToSend>, AllocError>
         requires idle { self.old.under_way ≡ None }
         requires some { 0 < max }
-        ensures ok { IfOk result (λ next. TakesNext now max self.old (contents events.old) next self.new (contents events.new)) }
+        ensures ok { IfOk result (λ next. TakesNext now max (queue_of self.old) (contents events.old) (option_map fragment_of next) (queue_of self.new) (contents events.new)) }
         ensures size { IfOk result (λ next. IfSome next (HasSize max)) }
         ensures can { CanGoOn self.new.streams self.new.under_way }
-        ensures err { OnErr result (DropsSome now self.old self.new) }
-        ensures front { OnErr result (StopsTaking now max self.old (contents events.old) self.new (contents events.new)) }
+        ensures err { OnErr result (DropsSome now (queue_of self.old) (queue_of self.new)) }
+        ensures front { OnErr result (StopsTaking now max (queue_of self.old) (contents events.old) (queue_of self.new) (contents events.new)) }
     {
         let Some(place) = self.next_unexpired(events, now)? else {
             return Ok(None);
@@ -241,10 +241,10 @@ impl Backlog {
     ) -> Result<DataToSend, AllocError>
         requires { HasMore self.old.streams place (under_way.sent + size) }
         ensures ok { (message : Waiting) → front_of (stream_at self.old.streams place).messages ≡ Some message → IfOk result (λ part. fragment_of part ≡ fragment under_way message size) }
-        ensures left { (message : Waiting) → front_of (stream_at self.old.streams place).messages ≡ Some message → OnOk result (self.new ≡ after_part place size message under_way self.old) }
-        ensures told { OnOk result (contents events.new ≡ contents events.old ++ part_events place size self.old) }
+        ensures left { (message : Waiting) → front_of (stream_at self.old.streams place).messages ≡ Some message → OnOk result (queue_of self.new ≡ after_part place size message under_way (queue_of self.old)) }
+        ensures told { OnOk result (contents events.new ≡ contents events.old ++ part_events place size (queue_of self.old)) }
         ensures err { OnErr result (self.new ≡ self.old) }
-        ensures front { OnErr result (TellsFront (contents events.old) (part_events place size self.old) (contents events.new)) }
+        ensures front { OnErr result (TellsFront (contents events.old) (part_events place size (queue_of self.old)) (contents events.new)) }
     {
         let message = self.streams.at(place).front().unwrap();
         let data = message.part(self.alloc, under_way, size)?;
@@ -275,10 +275,10 @@ impl Backlog {
     ) -> Result<DataToSend, AllocError>
         requires { HasRest self.old.streams place under_way.sent }
         ensures ok { (message : Waiting) → front_of (stream_at self.old.streams place).messages ≡ Some message → IfOk result (λ part. fragment_of part ≡ fragment under_way message (length message.payload - under_way.sent)) }
-        ensures left { (message : Waiting) → front_of (stream_at self.old.streams place).messages ≡ Some message → OnOk result (self.new ≡ after_last place message under_way self.old) }
-        ensures told { (message : Waiting) → front_of (stream_at self.old.streams place).messages ≡ Some message → OnOk result (contents events.new ≡ contents events.old ++ last_events place message under_way self.old) }
+        ensures left { (message : Waiting) → front_of (stream_at self.old.streams place).messages ≡ Some message → OnOk result (queue_of self.new ≡ after_last place message under_way (queue_of self.old)) }
+        ensures told { (message : Waiting) → front_of (stream_at self.old.streams place).messages ≡ Some message → OnOk result (contents events.new ≡ contents events.old ++ last_events place message under_way (queue_of self.old)) }
         ensures err { OnErr result (self.new ≡ self.old) }
-        ensures front { (message : Waiting) → front_of (stream_at self.old.streams place).messages ≡ Some message → OnErr result (TellsFront (contents events.old) (last_events place message under_way self.old) (contents events.new)) }
+        ensures front { (message : Waiting) → front_of (stream_at self.old.streams place).messages ≡ Some message → OnErr result (TellsFront (contents events.old) (last_events place message under_way (queue_of self.old)) (contents events.new)) }
     {
         let message = self.streams.at(place).front().unwrap();
         let rest = message.copied_rest(self.alloc, under_way.sent)?;

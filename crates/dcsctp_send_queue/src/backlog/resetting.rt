@@ -8,23 +8,26 @@ use dcsctp_send_streams::Pause;
 use std::alloc::AllocError;
 
 impl Backlog {
+    ghost use Rattle.dcsctp_send_queue.specs.Backlog.{queue_of, CanGoOn};
     ghost use Rattle.std.specs.Prelude.{◌≡◌, ◌==◌, ◌+◌, ◌-◌, ◌<◌, ◌++◌, length, take, Ok, Err, OnOk, OnErr, IfOk, not};
-    ghost use Rattle.dcsctp_send_streams.specs.Waiting.{handed_out};
+    ghost use Rattle.dcsctp_machine.specs.transfer.SendStreams.{handed_out, stream_at};
     ghost use Rattle.dcsctp_machine.specs.Ids.{stream_numbers};
     ghost use Rattle.dcsctp_machine.specs.transfer.Transfer.{is_none_ready};
     ghost use Rattle.dcsctp_send_streams.specs.Telling.{contents, TellsFront};
-    ghost use Rattle.dcsctp_send_streams.specs.Ranking.{stream_at, count_pausing, IsAscending};
-    ghost use Rattle.dcsctp_send_queue.specs.Leaving.{count_under_way, after_pause, pause_events};
-    ghost use Rattle.dcsctp_send_queue.specs.Backlog.{CanGoOn, begun, changed, ready_streams, is_ready};
-    ghost use Rattle.dcsctp_send_queue.specs.Resets.{prepared, prepare_events, IsUsedAtMost, handing_out};
+    ghost use Rattle.dcsctp_send_streams.specs.Ranking.{count_pausing, IsAscending};
+    ghost use Rattle.dcsctp_machine.specs.transfer.OwnResets.{count_under_way, ready_streams, is_ready, prepared, prepare_events, handing_out};
+    ghost use Rattle.dcsctp_send_queue.specs.Leaving.{after_pause, pause_events};
+    ghost use Rattle.dcsctp_machine.specs.transfer.Sending.{begun};
+    ghost use Rattle.dcsctp_machine.specs.transfer.SendQueue.{changed};
+    ghost use Rattle.dcsctp_send_queue.specs.Resets.{IsUsedAtMost};
 
     /// Drops the messages of the stream that haven't been started, and pauses it.
     pub fn pause(&mut self, events: &mut Events, place: usize) -> Result<(), AllocError>
         requires { place < length self.old.streams }
-        ensures ok { OnOk result (self.new ≡ after_pause place self.old) }
-        ensures told { OnOk result (contents events.new ≡ contents events.old ++ pause_events place self.old) }
+        ensures ok { OnOk result (queue_of self.new ≡ after_pause place (queue_of self.old)) }
+        ensures told { OnOk result (contents events.new ≡ contents events.old ++ pause_events place (queue_of self.old)) }
         ensures err { OnErr result (self.new ≡ self.old) }
-        ensures front { OnErr result (TellsFront (contents events.old) (pause_events place self.old) (contents events.new)) }
+        ensures front { OnErr result (TellsFront (contents events.old) (pause_events place (queue_of self.old)) (contents events.new)) }
     {
         let kept = self.count_under_way(self.streams.at(place).id());
         let size = self.streams.at(place).size_from(kept);
@@ -37,12 +40,12 @@ impl Backlog {
 
     /// Drops the messages of the stream that haven't been started, and pauses it, if it isn't paused yet.
     pub fn prepare(&mut self, events: &mut Events, stream_id: StreamId) -> Result<(), AllocError>
-        ensures ok { OnOk result (self.new ≡ prepared stream_id.0 self.old) }
-        ensures told { OnOk result (contents events.new ≡ contents events.old ++ prepare_events stream_id.0 self.old) }
+        ensures ok { OnOk result (queue_of self.new ≡ prepared stream_id.0 (queue_of self.old)) }
+        ensures told { OnOk result (contents events.new ≡ contents events.old ++ prepare_events stream_id.0 (queue_of self.old)) }
         ensures can { CanGoOn self.old.streams self.old.under_way → CanGoOn self.new.streams self.new.under_way }
         ensures was_ascending { IsAscending self.old.streams }
-        ensures err { OnErr result (IsUsedAtMost stream_id.0 self.old self.new) }
-        ensures front { OnErr result (TellsFront (contents events.old) (prepare_events stream_id.0 self.old) (contents events.new)) }
+        ensures err { OnErr result (IsUsedAtMost stream_id.0 (queue_of self.old) (queue_of self.new)) }
+        ensures front { OnErr result (TellsFront (contents events.old) (prepare_events stream_id.0 (queue_of self.old)) (contents events.new)) }
     {
         let place = self.use_stream(stream_id)?;
         match self.streams.at(place).pause_state() {
@@ -63,7 +66,7 @@ impl Backlog {
 
     /// The numbers of at most `max` of the streams that can be handed out, the least first.
     pub fn ready_ids(&self, max: usize) -> Result<Vec<StreamId>, AllocError>
-        ensures ids { IfOk result (λ ids. stream_numbers ids.items ≡ take max (ready_streams self.now)) }
+        ensures ids { IfOk result (λ ids. stream_numbers ids.items ≡ take max (ready_streams (queue_of self.now))) }
         ensures ascending { IsAscending self.now.streams }
     {
         let mut ids = Vec::new(self.alloc);
@@ -77,7 +80,7 @@ impl Backlog {
 
     /// Hands these streams out to be reset.
     pub fn hand_out(&mut self, ids: &[StreamId])
-        ensures left { self.new ≡ record self.old { streams = handing_out (stream_numbers ids.now) self.old.streams } }
+        ensures left { queue_of self.new ≡ record (queue_of self.old) { streams = handing_out (stream_numbers ids.now) self.old.streams } }
         ensures can { CanGoOn self.old.streams self.old.under_way → CanGoOn self.new.streams self.new.under_way }
     {
         for id in ids {
@@ -87,7 +90,7 @@ impl Backlog {
 
     // Hands this stream out to be reset.
     fn hand_out_one(&mut self, id: StreamId)
-        ensures { self.new ≡ record self.old { streams = changed id.0 handed_out self.old.streams } }
+        ensures { queue_of self.new ≡ record (queue_of self.old) { streams = changed id.0 handed_out self.old.streams } }
     {
         match self.streams.find(id) {
             Ok(place) => self.streams.hand_out(place),
@@ -97,7 +100,7 @@ impl Backlog {
 
     /// Can a stream be handed out to be reset?
     pub fn has_ready(&self) -> bool
-        ensures { result ≡ not (is_none_ready (ready_streams self.now)) }
+        ensures { result ≡ not (is_none_ready (ready_streams (queue_of self.now))) }
     {
         self.count_not_ready() < self.streams.count_pausing()
     }
@@ -105,7 +108,7 @@ impl Backlog {
     // How many of the streams that are to be reset can't be handed out yet: none, or that of the message
     // under way.
     fn count_not_ready(&self) -> usize
-        ensures { length (ready_streams self.now) + result ≡ count_pausing self.now.streams }
+        ensures { length (ready_streams (queue_of self.now)) + result ≡ count_pausing self.now.streams }
     {
         let Some(under_way) = self.under_way else {
             return 0;

@@ -9,7 +9,7 @@ use std::alloc::AllocError;
 
 impl RetransmissionQueue {
     ghost use Rattle.std.specs.Prelude.{◌≡◌, ℕ, List, true, false, if◌then◌else◌, ◌&&◌, nat_lt, IfNone, ◌+◌, ◌<◌, ◌≤◌, OnOk, OnErr, IfOk, IfSome, length};
-    ghost use Rattle.dcsctp_send_queue.specs.declared.backlog.Backlog.{Backlog};
+    ghost use Rattle.dcsctp_machine.specs.transfer.SendQueue.{SendQueueState};
     ghost use Rattle.dcsctp_api.specs.declared.events.SocketEvent.{SocketEvent};
     ghost use Rattle.dcsctp_send_outstanding.specs.Items.{marked_items};
     ghost use Rattle.dcsctp_send_retransmission.specs.Queue.{timer_with};
@@ -172,7 +172,7 @@ impl RetransmissionQueue {
         packet: &mut Packet,
     ) -> Result<bool, AllocError>
         ensures fills { Fills self.old packet.old self.new packet.new }
-        ensures steps { (waiting : Backlog) (events : List SocketEvent) → Goes now (SendsMarked now) (stage self.old waiting events packet.old.tsns.items packet.old.room) (stage self.new waiting events packet.new.tsns.items packet.new.room) result }
+        ensures steps { (waiting : SendQueueState) (events : List SocketEvent) → Goes now (SendsMarked now) (stage self.old waiting events packet.old.tsns.items packet.old.room) (stage self.new waiting events packet.new.tsns.items packet.new.room) result }
         ensures halts { OnOk result (HaltsAtOnce now packet.new.room self.new) }
         ensures first { IfOk result (SendsFirst self.old.outstanding.items self.new.outstanding.items) }
     {

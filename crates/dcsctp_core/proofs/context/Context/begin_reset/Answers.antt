@@ -1,4 +1,4 @@
-use Rattle.std.proofs.Common.{Option, refl, sym, subst}
+use Rattle.std.proofs.Common.{refl}
 use Rattle.dcsctp_core.proofs.ResetLemmas.{tries_reset, begins_lent}
 use Rattle.dcsctp_core.proofs.context.Context.begin_reset.Goals as goal
 

@@ -1,4 +1,4 @@
-use Rattle.std.proofs.Common.{false, true, Option, ◌∙◌, ap, sym, refl, subst}
+use Rattle.std.proofs.Common.{Option, ◌∙◌, ap, sym, refl, subst}
 use Rattle.std.proofs.lemmas.Result.{err_from_is_err_and}
 use Rattle.dcsctp_machine.specs.transfer.Transfer.{Transfer}
 use Rattle.dcsctp_core.specs.declared.state.State.{State}

@@ -4,7 +4,8 @@ use Rattle.dcsctp_send_outstanding.specs.Outstanding.{OutstandingModel}
 use Rattle.dcsctp_send_outstanding.proofs.ItemsLemmas.{kept_pushed, sums_leave_room, size_bounded}
 use Rattle.std.proofs.lemmas.Result.{err_from_is_err_and}
 use Rattle.std.specs.List.{slice_get}
-use Rattle.dcsctp_send_queue.specs.Calls.{DiscardsNamed, StopsDiscarding}
+use Rattle.dcsctp_machine.specs.transfer.Sending.{DiscardsNamed}
+use Rattle.dcsctp_send_queue.specs.Calls.{StopsDiscarding}
 use Rattle.dcsctp_send_streams.specs.Telling.{contents}
 use Rattle.dcsctp_send_outstanding.specs.declared.item.Item.{Item}
 use Rattle.dcsctp_send_outstanding.specs.Messages.{IsEndOf}

@@ -1,10 +1,12 @@
-use Rattle.std.proofs.Common.{◌++◌, inr, refl, ap, sym, ◌∙◌, arith}
+use Rattle.std.proofs.Common.{◌++◌, inr, refl, ap, sym, ◌∙◌, arith, subst}
 use Rattle.std.proofs.lemmas.Result.{err_from_is_err_and}
 use Rattle.dcsctp_send_streams.specs.Telling.{contents}
-use Rattle.dcsctp_send_queue.specs.Leaving.{produced_events}
+use Rattle.dcsctp_machine.specs.transfer.Sending.{produced_events}
 use Rattle.dcsctp_send_queue.proofs.FrontLemmas.{front_from}
 use Rattle.dcsctp_send_queue.proofs.GoingOnLemmas.{can_go_on-produced, drops-under_way}
 use Rattle.dcsctp_send_queue.proofs.FragmentLemmas.{has_size}
+use Rattle.dcsctp_machine.specs.transfer.SendQueue.{SendQueueState}
+use Rattle.dcsctp_send_queue.specs.Backlog.{queue_of, CanGoOn}
 use Rattle.dcsctp_send_queue.proofs.backlog.Backlog.begin_next.Goals as goal
 
 pub returns-in_err-place-clause-can : goal.returns-in_err-place-clause-can
@@ -33,7 +35,7 @@ pub returns-clause-can : goal.returns-clause-can
 returns-clause-can c =
     let may = rw c.in-Some.is at c.in_ok-place.ensures.ok in
     let is = ap (λ u. u.stream_id.0) (c.begun-under_way.ensures may.message may.front) in
-    rw (c.in_ok-data.ensures.left may.message may.front)
+    subst (λ (q : SendQueueState). CanGoOn q.streams q.under_way) (sym (c.in_ok-data.ensures.left may.message may.front))
     (can_go_on-produced _ _ _ may.message _ may.next.within (sym is) may.front c.requires.some)
 
 pub returns-clause-size : goal.returns-clause-size
@@ -50,7 +52,7 @@ returns-in_err-data-clause-front c =
     rw (err_from_is_err_and c.from_residual-in_err-data.result c.from_residual-in_err-data.ensures.1).1 (rw c.in_err-data.ensures.err (record {
       events = told.events;
       drops = told.drops;
-      coming = produced_events c.in-Some.place c.args.max may.message c.begun-under_way.result c.next_unexpired.new.self;
+      coming = produced_events c.in-Some.place c.args.max may.message c.begun-under_way.result (queue_of c.next_unexpired.new.self);
       next = inr (record {
         place = c.in-Some.place;
         message = may.message;

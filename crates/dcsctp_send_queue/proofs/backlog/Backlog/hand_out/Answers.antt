@@ -1,25 +1,25 @@
-use Rattle.std.proofs.Common.{◌+◌, ap, refl, ◌∙◌, List, get_or, arith}
+use Rattle.std.proofs.Common.{◌+◌, ap, sym, subst, refl, ◌∙◌, List, get_or, arith}
 use Rattle.dcsctp_machine.specs.Ids.{stream_numbers}
 use Rattle.dcsctp_machine.specs.declared.ids.StreamId.{StreamId}
-use Rattle.dcsctp_send_queue.specs.declared.backlog.Backlog.{Backlog}
-use Rattle.dcsctp_send_streams.specs.Waiting.{Stream, handed_out}
-use Rattle.dcsctp_send_queue.specs.Backlog.{changed}
+use Rattle.dcsctp_machine.specs.transfer.SendStreams.{Stream, handed_out}
+use Rattle.dcsctp_machine.specs.transfer.SendQueue.{changed, SendQueueState}
 use Rattle.dcsctp_send_queue.proofs.ReadyLemmas.{handing_out-step, handing_out-all, can_go_on-handing_out}
+use Rattle.dcsctp_send_queue.specs.Backlog.{queue_of, CanGoOn}
 use Rattle.dcsctp_send_queue.proofs.backlog.Backlog.hand_out.Goals as goal
 
 pub loop-id-preserved : goal.loop-id-preserved
 loop-id-preserved c =
     let d : StreamId = record { 0 = 0 } in
     c.hand_out_one.ensures
-    ∙ (ap {A = Backlog} (λ (q : Backlog). record q { streams = changed (get_or c.args.ids.now c.loop-id.id-index d).0 handed_out q.streams }) c.loop-id.invariant
-    ∙ ap {A = List Stream} (λ (s : List Stream). record c.args.self.now { streams = s })
+    ∙ (ap {A = SendQueueState} (λ (q : SendQueueState). record q { streams = changed (get_or c.args.ids.now c.loop-id.id-index d).0 handed_out q.streams }) c.loop-id.invariant
+    ∙ ap {A = List Stream} (λ (s : List Stream). record (queue_of c.args.self.now) { streams = s })
     (handing_out-step c.args.ids.now c.loop-id.id-index (c.loop-id.id-index + 1) d c.args.self.now.streams refl c.loop-id-test.true))
 
 pub returns : goal.returns
 returns c =
     let left = c.loop-id.invariant
-    ∙ ap {A = List Stream} (λ (s : List Stream). record c.args.self.now { streams = s }) (handing_out-all c.args.ids.now c.loop-id.id-index c.args.self.now.streams (omega arith)) in
+    ∙ ap {A = List Stream} (λ (s : List Stream). record (queue_of c.args.self.now) { streams = s }) (handing_out-all c.args.ids.now c.loop-id.id-index c.args.self.now.streams (omega arith)) in
     record {
       left = left;
-      can = λ can. rw left (can_go_on-handing_out (stream_numbers c.args.ids.now) c.args.self.now.streams c.args.self.now.under_way can);
+      can = λ can. subst (λ (q : SendQueueState). CanGoOn q.streams q.under_way) (sym left) (can_go_on-handing_out (stream_numbers c.args.ids.now) c.args.self.now.streams c.args.self.now.under_way can);
     }

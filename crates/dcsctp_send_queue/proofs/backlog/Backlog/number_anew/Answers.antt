@@ -1,14 +1,13 @@
 use Rattle.std.proofs.Common.{◌≡◌, ◌∙◌, ℕ, Bool, Some, set, ap}
-use Rattle.dcsctp_send_queue.specs.declared.backlog.Backlog.{Backlog}
-use Rattle.dcsctp_send_streams.specs.Waiting.{Stream, next_numbers, counted}
-use Rattle.dcsctp_send_streams.specs.Ranking.{stream_at}
-use Rattle.dcsctp_send_queue.specs.Backlog.{queue_state, front_counted, is_front_unordered}
-use Rattle.dcsctp_send_queue.proofs.NumberingLemmas.{anew_at, anew_shown}
+use Rattle.dcsctp_machine.specs.transfer.SendStreams.{Stream, next_numbers, counted, stream_at}
+use Rattle.dcsctp_machine.specs.transfer.SendQueue.{front_counted, is_front_unordered, SendQueueState}
+use Rattle.dcsctp_send_queue.proofs.NumberingLemmas.{anew_at}
+use Rattle.dcsctp_send_queue.specs.Backlog.{queue_of}
 use Rattle.dcsctp_send_queue.proofs.backlog.Backlog.number_anew.Goals as goal
 
 pub returns-clause-whole : goal.returns-clause-whole
 returns-clause-whole c =
-    let queue : Backlog = record c.args.self.now { is_interleaved = c.args.is_interleaved } in
+    let queue : SendQueueState = record (queue_of c.args.self.now) { is_interleaved = c.args.is_interleaved } in
     let at : Stream = stream_at queue.streams c.place_of-place.result in
     let unordered = c.is_front_unordered-is_unordered.ensures in
     let numbers : c.next_numbers-ssn.result ≡ next_numbers (is_front_unordered at.messages) at =
@@ -18,8 +17,3 @@ returns-clause-whole c =
     ap (λ (n : ℕ × ℕ). record queue { streams = c.count_begun.new.self; under_way = Some (record c.in-Some.under_way { ssn = n.0; mid = n.1 }) }) numbers
     ∙ anew_at queue c.args.self.now.under_way c.in-Some.under_way c.place_of-place.result c.count_begun.new.self c.in-Some.is
     c.place_of-place.ensures.ascending (c.place_of-place.ensures.rest.within, c.place_of-place.ensures.stream) streams
-
-pub returns-clause-shown : goal.returns-clause-shown
-returns-clause-shown c =
-    let queue : Backlog = record c.args.self.now { is_interleaved = c.args.is_interleaved } in
-    ap queue_state (returns-clause-whole c) ∙ anew_shown queue c.args.self.now.under_way c.in-Some.under_way c.in-Some.is c.in-Some.is

@@ -1,16 +1,19 @@
 use Rattle.std.proofs.Common.{◌≡◌, ◌∙◌, ◌-◌, ◌^◌, ◌++◌, ℕ, List, drop, min, ap, subst}
 use Rattle.std.proofs.lemmas.Result.{err_from_is_err_and}
-use Rattle.dcsctp_send_streams.specs.Waiting.{Waiting, Stream}
-use Rattle.dcsctp_send_streams.specs.Ranking.{stream_at}
-use Rattle.dcsctp_send_streams.specs.Telling.{contents, expiries, size_of, TellsFront}
-use Rattle.dcsctp_send_queue.specs.declared.backlog.Backlog.{Backlog}
-use Rattle.dcsctp_send_queue.specs.Leaving.{part_events, count_under_way, not_begun, size_not_begun}
+use Rattle.dcsctp_machine.specs.transfer.SendStreams.{Waiting, Stream, stream_at, size_of}
+use Rattle.dcsctp_send_streams.specs.Telling.{contents, TellsFront}
+use Rattle.dcsctp_machine.specs.transfer.SendEvents.{expiries}
+use Rattle.dcsctp_machine.specs.transfer.Sending.{part_events}
+use Rattle.dcsctp_machine.specs.transfer.OwnResets.{count_under_way}
+use Rattle.dcsctp_send_queue.specs.Leaving.{not_begun, size_not_begun}
 use Rattle.dcsctp_send_queue.proofs.FrontLemmas.{front_left, front_right}
+use Rattle.dcsctp_send_queue.specs.Backlog.{queue_of}
+use Rattle.dcsctp_machine.specs.transfer.SendQueue.{SendQueueState}
 use Rattle.dcsctp_send_queue.proofs.backlog.Backlog.pause.Goals as goal
 
 pub returns-in_err-tell_low-clause-front : goal.returns-in_err-tell_low-clause-front
 returns-in_err-tell_low-clause-front c =
-    let queue : Backlog = c.args.self.now in
+    let queue : SendQueueState = (queue_of c.args.self.now) in
     let place : ℕ = c.args.place in
     let kept : c.count_under_way-kept.result ≡ count_under_way (stream_at queue.streams place).id queue.under_way =
     c.count_under_way-kept.ensures ∙ ap (λ (n : ℕ). count_under_way n queue.under_way) (c.id.ensures ∙ ap (λ (s : Stream). s.id) c.at.ensures) in
@@ -24,7 +27,7 @@ returns-in_err-tell_low-clause-front c =
 
 pub returns-in_err-tell_dropped-clause-front : goal.returns-in_err-tell_dropped-clause-front
 returns-in_err-tell_dropped-clause-front c =
-    let queue : Backlog = c.args.self.now in
+    let queue : SendQueueState = (queue_of c.args.self.now) in
     let place : ℕ = c.args.place in
     let kept : c.count_under_way-kept.result ≡ count_under_way (stream_at queue.streams place).id queue.under_way =
     c.count_under_way-kept.ensures ∙ ap (λ (n : ℕ). count_under_way n queue.under_way) (c.id.ensures ∙ ap (λ (s : Stream). s.id) c.at.ensures) in

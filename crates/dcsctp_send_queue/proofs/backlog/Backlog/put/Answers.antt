@@ -1,20 +1,21 @@
 use Rattle.std.proofs.Common.{ap, ◌∙◌}
 use Rattle.std.specs.List.{insert}
-use Rattle.dcsctp_send_streams.specs.Waiting.{with_message}
+use Rattle.dcsctp_machine.specs.transfer.SendStreams.{with_message}
 use Rattle.dcsctp_send_queue.proofs.GoingOnLemmas.{set-changed, insert-changed, can_go_on-insert}
+use Rattle.dcsctp_send_queue.specs.Backlog.{queue_of}
 use Rattle.dcsctp_send_queue.proofs.backlog.Backlog.put.Goals as goal
 
 pub returns-in_ok-push-in-Ok-clause-ok : goal.returns-in_ok-push-in-Ok-clause-ok
 returns-in_ok-push-in-Ok-clause-ok c =
-    ap (λ s. record c.args.self.now { streams = s })
-    (c.in_ok-push-in-Ok.ensures.ok ∙ set-changed c.args.self.now c.in-Ok.place c.args.stream_id.0 (with_message c.args.message) c.in-Ok.ensures.ascending c.in-Ok.ensures.found)
+    ap (λ s. record (queue_of c.args.self.now) { streams = s })
+    (c.in_ok-push-in-Ok.ensures.ok ∙ set-changed (queue_of c.args.self.now) c.in-Ok.place c.args.stream_id.0 (with_message c.args.message) c.in-Ok.ensures.ascending c.in-Ok.ensures.found)
 
 pub returns-in_ok-insert-in-Err-clause-ok : goal.returns-in_ok-insert-in-Err-clause-ok
 returns-in_ok-insert-in-Err-clause-ok c =
-    ap (λ s. record c.args.self.now { streams = s })
+    ap (λ s. record (queue_of c.args.self.now) { streams = s })
     (c.in_ok-insert-in-Err.ensures.ok
     ∙ (ap (λ u. insert c.args.self.now.streams c.in-Err.place u) (c.in_ok-push-in-Err.ensures.ok ∙ ap (λ u. with_message c.args.message u) c.new_stream-stream.ensures)
-    ∙ insert-changed c.args.self.now c.in-Err.place c.args.stream_id.0 (with_message c.args.message) c.in-Err.ensures.found))
+    ∙ insert-changed (queue_of c.args.self.now) c.in-Err.place c.args.stream_id.0 (with_message c.args.message) c.in-Err.ensures.found))
 
 pub returns-in_ok-insert-in-Err-clause-can : goal.returns-in_ok-insert-in-Err-clause-can
 returns-in_ok-insert-in-Err-clause-can c can = rw c.in_ok-insert-in-Err.ensures.ok (can_go_on-insert _ _ _ _ can c.in-Err.ensures.found.0)

@@ -1,8 +1,9 @@
-use Rattle.dcsctp_send_queue.specs.Resets.{with_priority}
+use Rattle.dcsctp_machine.specs.transfer.SendQueue.{with_priority}
 use Rattle.dcsctp_send_queue.proofs.ResetLemmas.{change_used}
+use Rattle.dcsctp_send_queue.specs.Backlog.{queue_of}
 use Rattle.dcsctp_send_queue.proofs.backlog.Backlog.set_priority.Goals as goal
 
 pub returns-clause-ok : goal.returns-clause-ok
 returns-clause-ok c =
-    change_used c.args.self.now c.use_stream.new.self c.in_ok-place.place c.args.stream_id.0 (with_priority c.args.priority) c.set_priority.new.self
+    change_used (queue_of c.args.self.now) (queue_of c.use_stream.new.self) c.in_ok-place.place c.args.stream_id.0 (with_priority c.args.priority) c.set_priority.new.self
     c.in_ok-place.ensures.ok c.in_ok-place.ensures.ascending c.in_ok-place.ensures.place c.set_priority.ensures

@@ -1,15 +1,16 @@
 use Rattle.std.proofs.Common.{ap, ◌∙◌}
 use Rattle.std.specs.List.{insert}
-use Rattle.dcsctp_send_streams.specs.Waiting.{unused}
+use Rattle.dcsctp_machine.specs.transfer.SendStreams.{unused}
 use Rattle.dcsctp_send_streams.proofs.PlaceLemmas.{IsAscending-insert}
 use Rattle.dcsctp_send_queue.proofs.GoingOnLemmas.{insert-used, can_go_on-insert}
+use Rattle.dcsctp_send_queue.specs.Backlog.{queue_of}
 use Rattle.dcsctp_send_queue.proofs.backlog.Backlog.use_stream.Goals as goal
 
 pub returns-in_ok-insert-in-Err-clause-ok : goal.returns-in_ok-insert-in-Err-clause-ok
 returns-in_ok-insert-in-Err-clause-ok c =
-    ap (λ s. record c.args.self.now { streams = s })
+    ap (λ s. record (queue_of c.args.self.now) { streams = s })
     (c.in_ok-insert-in-Err.ensures.ok ∙ (ap (λ u. insert c.args.self.now.streams c.in-Err.place u) c.new_stream-stream.ensures
-    ∙ insert-used c.args.self.now c.in-Err.place c.args.stream_id.0 c.in-Err.ensures.found))
+    ∙ insert-used (queue_of c.args.self.now) c.in-Err.place c.args.stream_id.0 c.in-Err.ensures.found))
 
 pub returns-in_ok-insert-in-Err-clause-ascending : goal.returns-in_ok-insert-in-Err-clause-ascending
 returns-in_ok-insert-in-Err-clause-ascending c =

@@ -1,6 +1,6 @@
 use Rattle.std.proofs.Common.{List}
 use Rattle.dcsctp_api.specs.declared.events.SocketEvent.{SocketEvent}
-use Rattle.dcsctp_send_queue.specs.declared.backlog.Backlog.{Backlog}
+use Rattle.dcsctp_machine.specs.transfer.SendQueue.{SendQueueState}
 use Rattle.dcsctp_send_outstanding.specs.Items.{marked_items}
 use Rattle.dcsctp_send_retransmission.specs.Sending.{Fills}
 use Rattle.dcsctp_send_retransmission.specs.States.{stage, SendsMarked, SendsFirst, Steps}
@@ -9,7 +9,7 @@ use Rattle.dcsctp_send_retransmission.proofs.retransmission_queue.Retransmission
 abbrev pub invariant-loop-place : goal.invariant-loop-place
 invariant-loop-place l =
     Fills l.initial.self l.initial.packet l.self l.packet
-    × ((waiting : Backlog) (events : List SocketEvent)
+    × ((waiting : SendQueueState) (events : List SocketEvent)
     → Steps (SendsMarked l.now) (stage l.initial.self waiting events l.initial.packet.tsns.items l.initial.packet.room) (stage l.self waiting events l.packet.tsns.items l.packet.room))
     × SendsFirst l.initial.self.outstanding.items l.self.outstanding.items l.restarts
 

@@ -6,7 +6,7 @@ use Rattle.dcsctp_transfer.proofs.transfer.Transfer.fill_at_once.Goals as goal
 
 pub returns : goal.returns
 returns c =
-    fills_at_once c.self.inside.alloc c.args.now c.bytes_remaining-room.result c.args.self.now _ c.self.inside.retransmission_queue c.get_chunks_for_fast_retransmit.new.self c.in_ok-tsns.tsns.items c.args.packet.now c.add_chunks.new.packet _
+    fills_at_once c.args.now c.bytes_remaining-room.result c.args.self.now _ c.self.inside.retransmission_queue c.get_chunks_for_fast_retransmit.new.self c.in_ok-tsns.tsns.items c.args.packet.now c.add_chunks.new.packet _
     (ap (λ (t : Transfer). t.retransmission) c.self.view_is)
     (ap (λ (t : Transfer). record t { retransmission = retransmission_state c.get_chunks_for_fast_retransmit.new.self }) c.self.view_is)
     c.in_ok-tsns.ensures.steps
@@ -14,12 +14,12 @@ returns c =
 
 pub invariant_of-self : goal.invariant_of-self
 invariant_of-self c =
-    header_refused c.self.inside.alloc c.args.now c.bytes_remaining-room.result c.self.inside.retransmission_queue c.get_chunks_for_fast_retransmit.new.self c.self.invariant c.in_err-tsns.ensures.steps
+    header_refused c.args.now c.bytes_remaining-room.result c.self.inside.retransmission_queue c.get_chunks_for_fast_retransmit.new.self c.self.invariant c.in_err-tsns.ensures.steps
 
 pub add_chunks-requires-clause-header : goal.add_chunks-requires-clause-header
 add_chunks-requires-clause-header c =
-    header_after c.self.inside.alloc c.args.now c.bytes_remaining-room.result c.self.inside.retransmission_queue c.get_chunks_for_fast_retransmit.new.self c.in_ok-tsns.tsns.items c.self.invariant c.in_ok-tsns.ensures.steps
+    header_after c.args.now c.bytes_remaining-room.result c.self.inside.retransmission_queue c.get_chunks_for_fast_retransmit.new.self c.in_ok-tsns.tsns.items c.self.invariant c.in_ok-tsns.ensures.steps
 
 pub invariant_of-self-2 : goal.invariant_of-self-2
 invariant_of-self-2 c =
-    header_after c.self.inside.alloc c.args.now c.bytes_remaining-room.result c.self.inside.retransmission_queue c.get_chunks_for_fast_retransmit.new.self c.in_ok-tsns.tsns.items c.self.invariant c.in_ok-tsns.ensures.steps
+    header_after c.args.now c.bytes_remaining-room.result c.self.inside.retransmission_queue c.get_chunks_for_fast_retransmit.new.self c.in_ok-tsns.tsns.items c.self.invariant c.in_ok-tsns.ensures.steps

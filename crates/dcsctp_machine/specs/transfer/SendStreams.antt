@@ -1,7 +1,8 @@
--- What waits on a stream. Moments are nanoseconds.
-use Rattle.std.specs.Prelude.{ℕ, ◌+◌, ◌-◌, ◌^◌, ◌%◌, min, nat_lt, Bool, true, false, Option, None, Some, List, [], ◌∷◌, ◌++◌, length, take, drop}
-use Rattle.dcsctp_send_streams.specs.declared.stream.Pause.{Pause}
-use Rattle.dcsctp_send_streams.specs.declared.stream.Pause.TheVariants.{Open, Pausing, HandedOut}
+-- Streams that messages are sent by: what waits on them, and whose turn it is. Moments are nanoseconds.
+use Rattle.std.specs.Prelude.{◌≡◌, ◌<◌, ℕ, ◌+◌, ◌-◌, ◌^◌, ◌%◌, ◌==◌, ◌&&◌, ◌||◌, min, nat_lt, Bool, true, false, Option, None, Some, List, [], ◌∷◌, ◌++◌, length, take, drop, slice_index_or, if◌then◌else◌}
+use Rattle.dcsctp_machine.specs.declared.sending.Pause.{Pause}
+use Rattle.dcsctp_machine.specs.declared.sending.Pause.TheVariants.{Open, Pausing, HandedOut}
+use Rattle.dcsctp_machine.specs.declared.sending.Turn.{Turn}
 
 -- A message that waits whole, or of which some fragments were sent.
 pub record Waiting : Type 0 where
@@ -113,3 +114,51 @@ rolled_back stream = rolled_back_if stream.pause stream
     rolled_back_if Open stream = stream
     rolled_back_if Pausing stream = stream
     rolled_back_if HandedOut stream = resumed stream
+
+-- the payload bytes of messages together
+abbrev pub size_of : List Waiting → ℕ
+size_of [] = 0
+size_of (message ∷ messages) = length message.payload + size_of messages
+
+-- ---- whose turn it is: streams are asked by priority, the greatest first, then by number, the least first
+
+-- Is the first asked after the other?
+abbrev pub comes_after : Turn → Turn → Bool
+comes_after first other =
+    nat_lt first.priority other.priority || (first.priority == other.priority && nat_lt other.stream_id.0 first.stream_id.0)
+
+-- the turns with one more; the last is the first to be asked
+abbrev pub with_turn : Turn → List Turn → List Turn
+with_turn turn [] = turn ∷ []
+with_turn turn (first ∷ turns) = if comes_after first turn then first ∷ with_turn turn turns else turn ∷ first ∷ turns
+
+abbrev pub with_turns : Option Turn → List Turn → List Turn
+with_turns None turns = turns
+with_turns (Some turn) turns = with_turn turn turns
+
+-- the stream at the place
+abbrev pub stream_at : List Stream → ℕ → Stream
+stream_at streams place = slice_index_or streams place (unused 0 0 0)
+
+-- the turn of an open stream with a message
+abbrev pub turn_if : ℕ → ℕ → Pause → List Waiting → Option Turn
+turn_if priority id Open [] = None
+turn_if priority id Open (message ∷ messages) = Some (record { priority = priority; stream_id = record { 0 = id } })
+turn_if priority id Pausing messages = None
+turn_if priority id HandedOut messages = None
+
+-- a stream's turn, if it may begin a message
+abbrev pub turn_of : Stream → Option Turn
+turn_of stream = turn_if stream.priority stream.id stream.pause stream.messages
+
+-- the turns of all streams
+abbrev pub turns_of : List Stream → List Turn
+turns_of [] = []
+turns_of (stream ∷ streams) = with_turns (turn_of stream) (turns_of streams)
+
+-- It is this stream's turn: it may begin a message, and none that may is asked before it.
+pub record IsNext (streams : List Stream) (place : ℕ) : Type 0 where
+  pub turn : Turn
+  pub within : place < length streams
+  pub is : turn_of (stream_at streams place) ≡ Some turn
+  pub first : (k : ℕ) (other : Turn) → k < length streams → turn_of (stream_at streams k) ≡ Some other → comes_after turn other ≡ false
