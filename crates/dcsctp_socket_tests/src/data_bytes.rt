@@ -54,6 +54,22 @@ const EXCHANGE: &str = r#"
     B waits 200
     A receives
     B message = None
+
+    // TSN 103 comes again, and TSN 100 behind it: the SACK names both. The next one names what came again since
+    B takes 13881388 00000009 00000000 00030014 00000067 00020001 00000033 00000000 00030012 00000064 00010000 00000033 00000000
+    B sends 13881388 00000007 00000000 0300001c 00000065 004ffffc 00010002 00020002 00000067 00000064
+    B takes 13881388 00000009 00000000 00030014 00000067 00020001 00000033 00000000
+    B sends 13881388 00000007 00000000 03000018 00000065 004ffffc 00010001 00020002 00000067
+    B message = None
+
+    // an unordered message has the flag U, too
+    sending unordered true
+    A send 3 1 = Ok(())
+    A tells OnBufferedAmountLow(3)
+    A sends 13881388 00000009 00000000 00070011 00000068 00030000 00000033 00000000
+    B receives
+    B sends 13881388 00000007 00000000 03000014 00000065 004ffffb 00010000 00020003
+    B message = Some((3, 51, 1))
 "#;
 
 #[test]
