@@ -9,6 +9,7 @@ use Rattle.dcsctp_machine.specs.Packet.{Emission}
 use Rattle.dcsctp_machine.specs.transfer.Tracker.{is_acknowledgement_due, owes_acknowledgement}
 use Rattle.dcsctp_machine.specs.transfer.SendQueue.{SendQueueState, has_data}
 use Rattle.dcsctp_machine.specs.transfer.Transfer.{Transfer, is_none_ready}
+use Rattle.dcsctp_machine.specs.transfer.Retransmission.{outstanding_count}
 use Rattle.dcsctp_machine.specs.Endpoint.{held_in}
 use Rattle.dcsctp_machine.specs.turns.BegunResets.{streams_within, last_assigned_tsn}
 use Rattle.dcsctp_machine.specs.turns.FlushOutcomes.{Ask, first_ask, later_ask}
@@ -18,7 +19,7 @@ use Rattle.dcsctp_core.specs.declared.context.Context.{Context}
 use Rattle.dcsctp_core.specs.declared.state.State.{State}
 use Rattle.dcsctp_core.specs.View.{View, transfer_of, view_of}
 use Rattle.dcsctp_core.specs.Flushing.{packet_for, AcknowledgesBelow, ForwardsAt, BeginsAt, HasNoData, HasNoReset, WantsNone, can_send_below, TriesData, Fills, FillsWith, AskCut, AsksWith, SendsUnlessEmpty, KeepsSize}
-use Rattle.dcsctp_core.proofs.FillLemmas.{idle_parts, idle_ready, requesting_none, fills_later}
+use Rattle.dcsctp_core.proofs.FillLemmas.{idle_parts, idle_ready, requesting_none, begun_keeps, fills_later}
 use Rattle.dcsctp_core.proofs.FirstLemmas.{transfer_is, fills_first, IsBusy, cut_busy}
 use Rattle.dcsctp_core.proofs.FlushLemmas.{asks_for, ask_cut}
 
@@ -47,9 +48,9 @@ data_stays queue (Some transfer) along old new packet filled holds ack none =
     let found : transfer_of new ≡ Some ack.0 = ap transfer_of ack.1 ∙ transfer_is old transfer ack.0 holds in
     subst (HasNoData queue) (sym found) (none.0, outstanding (is_sack_wanted along transfer) ack.0 ack.2 ∙ none.1)
   where
-    outstanding : (b : Bool) (mid : Transfer) → Acknowledges b transfer packet mid filled → mid.retransmission.outstanding_items ≡ transfer.retransmission.outstanding_items
-    outstanding true mid h = ap (λ (t : Transfer). t.retransmission.outstanding_items) h.0
-    outstanding false mid h = ap (λ (t : Transfer). t.retransmission.outstanding_items) h.0
+    outstanding : (b : Bool) (mid : Transfer) → Acknowledges b transfer packet mid filled → outstanding_count mid.retransmission ≡ outstanding_count transfer.retransmission
+    outstanding true mid h = ap (λ (t : Transfer). outstanding_count t.retransmission) h.0
+    outstanding false mid h = ap (λ (t : Transfer). outstanding_count t.retransmission) h.0
 
 -- What gives messages up leaves where nothing waits and nothing is outstanding what waits and what is in flight.
 forward_stays : {R : Type 0} (found : Option Transfer) (old new : View R) (packet filled : Building) → ForwardsAt found old packet new filled → found ≡ old.endpoint.below.transfer
@@ -59,7 +60,7 @@ forward_stays {R = R} None old new packet filled forward holds none =
 forward_stays {R = R} (Some transfer) old new packet filled forward holds none =
     let same = forward.3.idle none.1 in
     subst (λ (v : View R). HasNoData v.endpoint.below.queue v.endpoint.below.transfer) (sym forward.5)
-    (ap has_data same.2 ∙ none.0, ap (λ (t : Transfer). t.retransmission.outstanding_items) same.1 ∙ none.1)
+    (ap has_data same.2 ∙ none.0, ap (λ (t : Transfer). outstanding_count t.retransmission) same.1 ∙ none.1)
 
 -- what it tells
 forward_tells : {R : Type 0} (found : Option Transfer) (old new : View R) (packet filled : Building) → ForwardsAt found old packet new filled → TellsMore old.events new.events
@@ -98,12 +99,11 @@ begin_stays : {R : Type 0} (found : Option Transfer) (old new : View R) (packet 
 begin_stays {R = R} None old new packet filled begin holds ready none =
     subst (λ (v : View R). HasNoData v.endpoint.below.queue v.endpoint.below.transfer) (sym begin.0) (subst (HasNoData old.endpoint.below.queue) holds tt)
 begin_stays {R = R} (Some transfer) old new packet filled begin holds ready none =
-    subst (λ (v : View R). HasNoData v.endpoint.below.queue v.endpoint.below.transfer) (sym begin.5)
-    (subst (HasNoData begin.1) holds (
+    subst (λ (v : View R). HasNoData v.endpoint.below.queue v.endpoint.below.transfer) (sym begin.5) (
       ap has_data (requesting_none (streams_within (bytes_remaining packet)) (bytes_remaining packet) (last_assigned_tsn transfer.retransmission) (held_in old.endpoint.core) begin.0 old.endpoint.below.queue begin.1 ready begin.2
           begin.3) ∙ none.0,
-      none.1,
-    ))
+      (begun_keeps begin.0 transfer).count ∙ none.1,
+    )
 
 -- It tells nothing.
 begin_tells : {R : Type 0} (found : Option Transfer) (old new : View R) (packet filled : Building) → BeginsAt found old packet new filled → new.events ≡ old.events

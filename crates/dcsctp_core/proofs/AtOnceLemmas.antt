@@ -8,6 +8,7 @@ use Rattle.dcsctp_machine.specs.declared.association.Held.{Held}
 use Rattle.dcsctp_machine.specs.Event.{Event}
 use Rattle.dcsctp_machine.specs.Packet.{Plain, unworked, Content, Emission}
 use Rattle.dcsctp_machine.specs.transfer.Transfer.{Transfer}
+use Rattle.dcsctp_machine.specs.transfer.Retransmission.{has_fast_retransmit}
 use Rattle.dcsctp_machine.specs.Endpoint.{Endpoint, held_in}
 use Rattle.dcsctp_machine.specs.Outcome.{Outcome, still, sends}
 use Rattle.dcsctp_machine.specs.control.Choices.{plain_contents}
@@ -43,7 +44,7 @@ goes stream v after with_checksum tag (content ∷ contents) packet new built is
     (sent_moves stream (record v { endpoint = e }) new emission bytes is (built_bytes v.endpoint.options packet with_checksum tag (content ∷ contents) bytes built refl))
 
 at_once_by : {R : Type 0} (stream : R → Stream) (v : View R) (held : Held) (transfer after : Transfer) (packet filled_packet : Building) (is_sent : Bool) (new : View R)
-    → transfer.retransmission.has_fast_retransmit ≡ true → held_in v.endpoint.core ≡ Some held → v.endpoint.below.transfer ≡ Some transfer
+    → has_fast_retransmit transfer.retransmission ≡ true → held_in v.endpoint.core ≡ Some held → v.endpoint.below.transfer ≡ Some transfer
     → packet ≡ packet_for v.endpoint.options (draft_to held) → FillsAtOnce transfer packet after filled_packet → KeepsSize filled_packet
     → is_sent ≡ not (is_none filled_packet.body) → new ≡ sent_where is_sent filled_packet (record v { endpoint = with_transfer v.endpoint after })
     → TakesIn stream AtOnceAt v new
@@ -72,7 +73,7 @@ at_once_by {R = R} stream v held transfer after packet filled_packet is_sent new
       rest = fills.rest;
       is = refl;
     } in
-    let by_fast : FastRetransmits transfer.retransmission.has_fast_retransmit e held transfer o = subst (λ (b : Bool). FastRetransmits b e held transfer o) (sym fast) turn in
+    let by_fast : FastRetransmits (has_fast_retransmit transfer.retransmission) e held transfer o = subst (λ (b : Bool). FastRetransmits b e held transfer o) (sym fast) turn in
     record {
       outcome = o;
       turn = subst (λ (h : Option Held). GoesAtOnce e h e.below.transfer o) (sym holds) (subst (λ (t : Option Transfer). GoesAtOnce e (Some held) t o) (sym below) by_fast);
@@ -129,8 +130,8 @@ fast_where true e held transfer = (
   record { left = transfer; chunks = []; kind = tt; fit = tt; within = λ within. within; outstanding = refl; unacknowledged = refl; next_tsn = refl; rest = refl; is = refl },
 )
 
-pub any_fast : (e : Endpoint) (held : Held) (transfer : Transfer) → (o : Outcome) × FastRetransmits transfer.retransmission.has_fast_retransmit e held transfer o
-any_fast e held transfer = fast_where transfer.retransmission.has_fast_retransmit e held transfer
+pub any_fast : (e : Endpoint) (held : Held) (transfer : Transfer) → (o : Outcome) × FastRetransmits (has_fast_retransmit transfer.retransmission) e held transfer o
+any_fast e held transfer = fast_where (has_fast_retransmit transfer.retransmission) e held transfer
 
 any_at_once : (e : Endpoint) (peer : Option Held) (found : Option Transfer) → (o : Outcome) × GoesAtOnce e peer found o
 any_at_once e None found = (still e, refl)

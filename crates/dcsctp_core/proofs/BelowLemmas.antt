@@ -13,7 +13,7 @@ use Rattle.dcsctp_machine.specs.TimeTurns.{own_timer, has_come, loss_deadline}
 use Rattle.dcsctp_machine.specs.turns.DataOutcomes.{with_transfer, LossTurn}
 use Rattle.dcsctp_machine.specs.turns.OwnTimers.{retransmission}
 use Rattle.dcsctp_machine.specs.turns.HeartbeatOutcomes.{error_counted}
-use Rattle.dcsctp_machine.specs.turns.TransferMoves.{LosesAll}
+use Rattle.dcsctp_wire.specs.Content.{SackContent}
 use Rattle.dcsctp_machine.specs.declared.message.Message.{Message}
 use Rattle.dcsctp_core.specs.Errors.{ErrorCount}
 use Rattle.dcsctp_core.specs.declared.context.Context.{Context}
@@ -27,7 +27,7 @@ use Rattle.dcsctp_core.specs.View.{View, tcb_of, transfer_of, endpoint_of, view_
 use Rattle.dcsctp_core.specs.Handling.{TakesIn}
 use Rattle.dcsctp_core.specs.Timing.{is_timer_due, ExpiryTurn, ExpiresAlways}
 use Rattle.dcsctp_core.specs.Flushing.{state_with}
-use Rattle.dcsctp_core.specs.Below.{ChangesBelow, ChangesWhere, SacksBelow, TakesFirst, TakesReady}
+use Rattle.dcsctp_core.specs.Below.{ChangesBelow, ChangesWhere, LosesAt, SacksBelow, TakesFirst, TakesReady}
 use Rattle.dcsctp_core.proofs.FirstLemmas.{endpoint_with}
 use Rattle.dcsctp_core.proofs.LendingLemmas.{found, nobody, lent, left_with}
 
@@ -74,7 +74,7 @@ abbrev Lost : {R : Type 0} → (R → Stream) → Context R → View R → Type 
 Lost stream old new = (is_timer_due (endpoint_of old) (own_timer retransmission) ≡ true) × TakesIn stream (ExpiryTurn (own_timer retransmission)) (view_of old) new
 
 lost : {R : Type 0} (stream : R → Stream) (old : Context R) (state : State) (count : ℕ) (found : Option Transfer) → transfer_of old.state ≡ found
-    → has_come old.moment (loss_deadline found) ≡ true → ChangesBelow LosesAll found old.state state
+    → has_come old.moment (loss_deadline found) ≡ true → ChangesBelow (LosesAt old.moment) found old.state state
     → count ≡ error_counted old.tx_error_counter.limit old.tx_error_counter.count
     → Lost stream old (with_count (view_of (record old { state = state })) count)
 lost stream old state count None holds due changes counts = absurd (cc)
@@ -90,30 +90,30 @@ lost {R = R} stream old state count (Some transfer) holds due changes counts =
       ap (λ (f : Option Transfer). has_come old.moment (loss_deadline f)) holds ∙ due,
       record {
         outcome = still left;
-        turn = subst (λ (f : Option Transfer). LossTurn e f (still left)) (sym holds) (after, changes.2, refl);
+        turn = subst (λ (f : Option Transfer). LossTurn e f (still left)) (sym holds) (ap (λ (t : Transfer). still (record (with_transfer e t) { error_count = error_counted e.options.max_retransmissions e.error_count })) changes.2);
         moves = moves_to stream (view_of old) (with_count (view_of (record old { state = state })) count) left is;
       },
     )
 
 pub loss_counted : {R : Type 0} (stream : R → Stream) (old : Context R) (state : State) (counter : ErrorCount) (b : Bool) → b ≡ has_come old.moment (loss_deadline (transfer_of old.state)) → b ≡ true
-    → ChangesWhere b LosesAll (transfer_of old.state) old.state state
+    → ChangesWhere b (LosesAt old.moment) (transfer_of old.state) old.state state
     → counter ≡ record old.tx_error_counter { count = error_counted old.tx_error_counter.limit old.tx_error_counter.count }
     → Lost stream old (with_count (view_of (record old { state = state })) counter.count)
 loss_counted stream old state counter b answer comes changes counts =
-    lost stream old state counter.count (transfer_of old.state) refl (sym answer ∙ comes) (subst (λ (x : Bool). ChangesWhere x LosesAll (transfer_of old.state) old.state state) comes changes)
+    lost stream old state counter.count (transfer_of old.state) refl (sym answer ∙ comes) (subst (λ (x : Bool). ChangesWhere x (LosesAt old.moment) (transfer_of old.state) old.state state) comes changes)
     (ap (λ (c : ErrorCount). c.count) counts)
 
 pub loss_not_due : {R : Type 0} (stream : R → Stream) (old : Context R) (state : State) (b : Bool) → b ≡ has_come old.moment (loss_deadline (transfer_of old.state)) → b ≡ false
-    → ChangesWhere b LosesAll (transfer_of old.state) old.state state → ExpiresAlways stream (own_timer retransmission) old false (record old { state = state })
+    → ChangesWhere b (LosesAt old.moment) (transfer_of old.state) old.state state → ExpiresAlways stream (own_timer retransmission) old false (record old { state = state })
 loss_not_due stream old state b answer waits changes =
-    (sym answer ∙ waits, same_view old state (subst (λ (x : Bool). ChangesWhere x LosesAll (transfer_of old.state) old.state state) waits changes))
+    (sym answer ∙ waits, same_view old state (subst (λ (x : Bool). ChangesWhere x (LosesAt old.moment) (transfer_of old.state) old.state state) waits changes))
 
 -- ---- a SACK
 
-pub sacks_lent : (tsn : ℕ) (old : State) (tcb : TransmissionControlBlock) (after : Transfer) (told telling : List (Event (List ℕ))) (result : Result HandledSack AllocError) → Some tcb ≡ tcb_of old
-    → HandlesSack tsn tcb.transfer told after telling result → SacksBelow tsn (transfer_of old) old told (left_with old tcb after) telling result
-sacks_lent tsn old tcb after told telling result holds h =
-    subst (λ (f : Option Transfer). SacksBelow tsn f old told (left_with old tcb after) telling result) (sym (found old tcb holds)) (after, lent old tcb after holds, h)
+pub sacks_lent : (now : ℕ) (sack : SackContent) (old : State) (tcb : TransmissionControlBlock) (after : Transfer) (told telling : List (Event (List ℕ))) (result : Result HandledSack AllocError) → Some tcb ≡ tcb_of old
+    → HandlesSack now sack tcb.transfer told after telling result → SacksBelow now sack (transfer_of old) old told (left_with old tcb after) telling result
+sacks_lent now sack old tcb after told telling result holds h =
+    subst (λ (f : Option Transfer). SacksBelow now sack f old told (left_with old tcb after) telling result) (sym (found old tcb holds)) (after, lent old tcb after holds, h)
 
 -- ---- a message that is taken
 

@@ -15,11 +15,12 @@ use Rattle.dcsctp_machine.specs.Event.{Event}
 use Rattle.dcsctp_machine.specs.Packet.{Plain, plain, unworked, Content, Emission}
 use Rattle.dcsctp_machine.specs.transfer.Tracker.{TrackerState, is_acknowledgement_due, owes_acknowledgement}
 use Rattle.dcsctp_machine.specs.transfer.SendQueue.{SendQueueState, has_data}
-use Rattle.dcsctp_machine.specs.transfer.Transfer.{Transfer, can_send, must_give, is_none_ready, is_idle}
+use Rattle.dcsctp_machine.specs.transfer.Transfer.{Transfer, must_give, is_none_ready, is_idle}
+use Rattle.dcsctp_machine.specs.transfer.Retransmission.{can_send, outstanding_count}
 use Rattle.dcsctp_machine.specs.declared.association.Held.{Held}
 use Rattle.dcsctp_machine.specs.Endpoint.{Endpoint, Timers, held_in}
 use Rattle.dcsctp_machine.specs.control.Choices.{plain_contents}
-use Rattle.dcsctp_machine.specs.turns.BegunResets.{BegunReset, stream_field, streams_within, last_assigned_tsn, begun_where, begun_in, request_contents, queue_requesting, after_begun}
+use Rattle.dcsctp_machine.specs.turns.BegunResets.{BegunReset, stream_field, streams_within, last_assigned_tsn, begun_where, begun_in, request_contents, queue_requesting, transfer_begun, after_begun}
 use Rattle.dcsctp_machine.specs.turns.FlushOutcomes.{Told, amount_is_low, total_amount_is_low, message_is_sent, message_may_have_expired, message_has_expired, message_ends, told_event, Answer, answer_contents, filled, Ask, first_ask, later_ask, room_in, where_fits, begun_at, BeginsReset, wants_sack, IsForward, IsData, FitsPlain, is_none, next_forward, GivesUp, Gives, GivesWhere, AnsweredBelow, timers_with, nothing_waits}
 use Rattle.dcsctp_machine.specs.turns.FlushOutcomes as asks
 use Rattle.dcsctp_api.specs.Calls.{user_event}
@@ -87,13 +88,13 @@ ready_of true r b c d is = absurd (cc)
 -- no stream is to be reset
 pub idle_ready : (queue : SendQueueState) (transfer : Transfer) → is_idle queue transfer ≡ true → is_none_ready (ready_streams queue) ≡ true
 idle_ready queue transfer is =
-    ready_of (has_data queue) (is_none_ready (ready_streams queue)) (transfer.retransmission.outstanding_items == 0) (owes_acknowledgement transfer.tracker) (is_acknowledgement_due transfer.tracker) is
+    ready_of (has_data queue) (is_none_ready (ready_streams queue)) (outstanding_count transfer.retransmission == 0) (owes_acknowledgement transfer.tracker) (is_acknowledgement_due transfer.tracker) is
 
 pub idle_parts : (queue : SendQueueState) (transfer : Transfer) → is_idle queue transfer ≡ true
-    → ((has_data queue ≡ false) × (transfer.retransmission.outstanding_items ≡ 0)) × ((owes_acknowledgement transfer.tracker ≡ false) × (is_acknowledgement_due transfer.tracker ≡ false))
+    → ((has_data queue ≡ false) × (outstanding_count transfer.retransmission ≡ 0)) × ((owes_acknowledgement transfer.tracker ≡ false) × (is_acknowledgement_due transfer.tracker ≡ false))
 idle_parts queue transfer is =
-    let parts = parts_of (has_data queue) (is_none_ready (ready_streams queue)) (transfer.retransmission.outstanding_items == 0) (owes_acknowledgement transfer.tracker) (is_acknowledgement_due transfer.tracker) is in
-    ((parts.0.0, zero_of transfer.retransmission.outstanding_items parts.0.1), parts.1)
+    let parts = parts_of (has_data queue) (is_none_ready (ready_streams queue)) (outstanding_count transfer.retransmission == 0) (owes_acknowledgement transfer.tracker) (is_acknowledgement_due transfer.tracker) is in
+    ((parts.0.0, zero_of (outstanding_count transfer.retransmission) parts.0.1), parts.1)
   where
     zero_of : (n : ℕ) → (n == 0) ≡ true → n ≡ 0
     zero_of n is = grind (arith, nat_tests)
@@ -175,7 +176,7 @@ pub record Gave (ask : Ask) (e : Endpoint) (mid given : Transfer) (waits : SendQ
   pub rest : given ≡ record mid { retransmission = given.retransmission }
   pub partial_reliability : given.retransmission.partial_reliability ≡ mid.retransmission.partial_reliability
   pub message_interleaving : given.retransmission.message_interleaving ≡ mid.retransmission.message_interleaving
-  pub idle : mid.retransmission.outstanding_items ≡ 0
+  pub idle : outstanding_count mid.retransmission ≡ 0
       → (given ≡ mid) × (waits ≡ e.below.queue) × (told ≡ []) × (later ≡ e.no_forward_tsn_before) × (forwards ≡ [])
 
 -- none is made
@@ -210,6 +211,19 @@ abbrev pub given_endpoint : Endpoint → Option BegunReset → Bool → ℕ → 
 given_endpoint e begun any later left after =
     record (after_begun begun e) { timers = timers_where any (after_begun begun e); no_forward_tsn_before = later; below = record { queue = left; transfer = Some after } }
 
+-- A reset that is begun leaves this.
+pub record BegunKeeps (begun : Option BegunReset) (transfer : Transfer) : Type 0 where
+  pub count : outstanding_count (transfer_begun begun transfer).retransmission ≡ outstanding_count transfer.retransmission
+  pub partial_reliability : (transfer_begun begun transfer).retransmission.partial_reliability ≡ transfer.retransmission.partial_reliability
+  pub message_interleaving : (transfer_begun begun transfer).retransmission.message_interleaving ≡ transfer.retransmission.message_interleaving
+  pub timeout : (transfer_begun begun transfer).timeout ≡ transfer.timeout
+  pub tracker : (transfer_begun begun transfer).tracker ≡ transfer.tracker
+  pub reassembly : (transfer_begun begun transfer).reassembly ≡ transfer.reassembly
+
+pub begun_keeps : (begun : Option BegunReset) (transfer : Transfer) → BegunKeeps begun transfer
+begun_keeps None transfer = record { count = refl; partial_reliability = refl; message_interleaving = refl; timeout = refl; tracker = refl; reassembly = refl }
+begun_keeps (Some begun) transfer = record { count = refl; partial_reliability = refl; message_interleaving = refl; timeout = refl; tracker = refl; reassembly = refl }
+
 -- The parts of an answer: the transfer layer once what acknowledges is in the packet, once what gives messages up is, and once data
 -- is; and the queue behind what gives messages up, behind a reset that is begun, and behind data.
 pub record Parts {R : Type 0} (ask : Ask) (old : View R) (draft : Emission) (transfer : Transfer) (new : View R) (filled_packet : Building) : Type 0 where
@@ -231,7 +245,7 @@ pub record Parts {R : Type 0} (ask : Ask) (old : View R) (draft : Emission) (tra
   pub gave : Gave ask old.endpoint mid given waits old.events telling later forwards
   pub begins : BeginsReset ask old.endpoint (room_in old.endpoint (filled draft (plain_contents (sacks ++ forwards)))) transfer begun
   pub untouched : is_none_ready (ready_streams waits) ≡ true → handed ≡ waits
-  pub fills : FillsPacket given handed telling (packet_for old.endpoint.options (filled draft (plain_contents (sacks ++ forwards) ++ request_contents begun))) after left new.events filled_packet any
+  pub fills : FillsPacket (transfer_begun begun given) handed telling (packet_for old.endpoint.options (filled draft (plain_contents (sacks ++ forwards) ++ request_contents begun))) after left new.events filled_packet any
   pub is : new ≡ record old { endpoint = given_endpoint old.endpoint begun any later left after; events = new.events }
 
 abbrev answer_from : Endpoint → List Plain → Option BegunReset → List ChunkContent → List Told → Bool → ℕ → SendQueueState → Transfer → Answer
@@ -254,16 +268,16 @@ idle_answer ask old draft transfer new filled_packet p idle =
     let parts = idle_parts e.below.queue transfer idle in
     let none = no_sacks (wants_sack ask e.below.queue transfer) (room_in e draft) transfer p.mid.tracker p.sacks (idle_wants ask e.below.queue transfer idle) p.acknowledges in
     let mid : p.mid ≡ transfer = same_mid transfer p.mid p.mid_is none.0 in
-    let none_out : transfer.retransmission.outstanding_items ≡ 0 = parts.0.1 in
-    let gave = p.gave.idle (ap (λ (t : Transfer). t.retransmission.outstanding_items) mid ∙ none_out) in
+    let none_out : outstanding_count transfer.retransmission ≡ 0 = parts.0.1 in
+    let gave = p.gave.idle (ap (λ (t : Transfer). outstanding_count t.retransmission) mid ∙ none_out) in
     let given : p.given ≡ transfer = gave.0 ∙ mid in
     let ready : is_none_ready (ready_streams e.below.queue) ≡ true = idle_ready e.below.queue transfer idle in
     let handed : p.handed ≡ e.below.queue = p.untouched (ap (λ (q : SendQueueState). is_none_ready (ready_streams q)) gave.1 ∙ ready) ∙ gave.1 in
     let begun : p.begun ≡ None =
     p.begins.is ∙ none_begun ask (held_in e.core) _ (last_assigned_tsn p.begins.retransmission) p.begins.queue (ap (λ (q : SendQueueState). is_none_ready (ready_streams q)) (p.begins.idle none_out).0 ∙ ready) in
-    let rests = p.fills.idle (ap has_data handed ∙ parts.0.0) (ap (λ (t : Transfer). t.retransmission.outstanding_items) given ∙ none_out) in
+    let rests = p.fills.idle (ap has_data handed ∙ parts.0.0) ((begun_keeps p.begun p.given).count ∙ ap (λ (t : Transfer). outstanding_count t.retransmission) given ∙ none_out) in
     let chunks : p.fills.chunks ≡ [] = no_chunks p.fills.chunks p.any p.fills.answers rests.0 in
-    let after : p.after ≡ transfer = rests.1 ∙ given in
+    let after : p.after ≡ transfer = rests.1 ∙ ap (λ (b : Option BegunReset). transfer_begun b p.given) begun ∙ given in
     let told : List Told = p.gave.told ++ p.fills.told in
     ap (λ (sacks : List Plain). answer_from e (sacks ++ p.forwards) p.begun p.fills.chunks told p.any p.later p.left p.after) none.1
     ∙ ap (λ (forwards : List Plain). answer_from e forwards p.begun p.fills.chunks told p.any p.later p.left p.after) gave.4
@@ -305,12 +319,13 @@ gives_up_before ask e transfer mid later forwards mid_is g =
 gives_by : {R : Type 0} (ask : Ask) (old : View R) (draft : Emission) (transfer : Transfer) (new : View R) (filled_packet : Building) (p : Parts ask old draft transfer new filled_packet)
     → Gives ask old.endpoint draft transfer (answer_of p)
 gives_by ask old draft transfer new filled_packet p =
-    let given : Transfer = p.given in
-    let kept : p.after.tracker ≡ p.mid.tracker = ap (λ (t : Transfer). t.tracker) p.fills.rest ∙ ap (λ (t : Transfer). t.tracker) p.gave.rest in
+    let given : Transfer = transfer_begun p.begun p.given in
+    let keeps : BegunKeeps p.begun p.given = begun_keeps p.begun p.given in
+    let kept : p.after.tracker ≡ p.mid.tracker = ap (λ (t : Transfer). t.tracker) p.fills.rest ∙ keeps.tracker ∙ ap (λ (t : Transfer). t.tracker) p.gave.rest in
     let interleaving : given.retransmission.message_interleaving ≡ transfer.retransmission.message_interleaving =
-    p.gave.message_interleaving ∙ ap (λ (t : Transfer). t.retransmission.message_interleaving) p.mid_is in
+    keeps.message_interleaving ∙ p.gave.message_interleaving ∙ ap (λ (t : Transfer). t.retransmission.message_interleaving) p.mid_is in
     let partial : given.retransmission.partial_reliability ≡ transfer.retransmission.partial_reliability =
-    p.gave.partial_reliability ∙ ap (λ (t : Transfer). t.retransmission.partial_reliability) p.mid_is in
+    keeps.partial_reliability ∙ p.gave.partial_reliability ∙ ap (λ (t : Transfer). t.retransmission.partial_reliability) p.mid_is in
     record {
       left = p.after;
       holds = refl;
@@ -325,8 +340,8 @@ gives_by ask old draft transfer new filled_packet p =
       data_goes = rest_may ask old draft transfer new filled_packet p;
       partial_reliability = p.fills.partial_reliability ∙ partial;
       message_interleaving = p.fills.message_interleaving ∙ interleaving;
-      timeout = ap (λ (t : Transfer). t.timeout) p.fills.rest ∙ ap (λ (t : Transfer). t.timeout) p.gave.rest ∙ ap (λ (t : Transfer). t.timeout) p.mid_is;
-      reassembly = ap (λ (t : Transfer). t.reassembly) p.fills.rest ∙ ap (λ (t : Transfer). t.reassembly) p.gave.rest ∙ ap (λ (t : Transfer). t.reassembly) p.mid_is;
+      timeout = ap (λ (t : Transfer). t.timeout) p.fills.rest ∙ keeps.timeout ∙ ap (λ (t : Transfer). t.timeout) p.gave.rest ∙ ap (λ (t : Transfer). t.timeout) p.mid_is;
+      reassembly = ap (λ (t : Transfer). t.reassembly) p.fills.rest ∙ keeps.reassembly ∙ ap (λ (t : Transfer). t.reassembly) p.gave.rest ∙ ap (λ (t : Transfer). t.reassembly) p.mid_is;
     }
 
 gives_where : {R : Type 0} (ask : Ask) (old : View R) (draft : Emission) (transfer : Transfer) (new : View R) (filled_packet : Building) (p : Parts ask old draft transfer new filled_packet) (b : Bool)

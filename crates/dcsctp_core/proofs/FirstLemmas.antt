@@ -11,11 +11,13 @@ use Rattle.dcsctp_machine.specs.Packet.{Plain, plain, unworked, Content, chunk_o
 use Rattle.dcsctp_machine.specs.transfer.Reassembly.{remaining_bytes}
 use Rattle.dcsctp_machine.specs.transfer.Tracker.{sack_of}
 use Rattle.dcsctp_machine.specs.transfer.SendQueue.{SendQueueState, has_data}
-use Rattle.dcsctp_machine.specs.transfer.Transfer.{RetransmissionState, TimeoutState, Transfer, is_idle}
+use Rattle.dcsctp_machine.specs.transfer.Transfer.{Transfer, is_idle}
+use Rattle.dcsctp_machine.specs.transfer.Retransmission.{RetransmissionState, outstanding_count}
+use Rattle.dcsctp_machine.specs.transfer.Timeout.{TimeoutState}
 use Rattle.dcsctp_machine.specs.Endpoint.{Endpoint, Core, OutstandingRequest, held_in}
 use Rattle.dcsctp_machine.specs.Timers.{RunningTimer, started}
 use Rattle.dcsctp_machine.specs.control.Choices.{plain_contents}
-use Rattle.dcsctp_machine.specs.turns.BegunResets.{BegunReset, streams_within, last_assigned_tsn, begun_in, request_contents, reconfiguration_settings, rto_of, core_asking, after_begun}
+use Rattle.dcsctp_machine.specs.turns.BegunResets.{BegunReset, streams_within, last_assigned_tsn, begun_in, request_contents, reconfiguration_settings, transfer_begun, rto_of, core_asking, after_begun}
 use Rattle.dcsctp_machine.specs.turns.FlushOutcomes.{own_sack, told_event, Answer, answer_contents, filled, goes_out, Ask, first_ask, room_in, where_fits, wants_sack, IsForward, FitsPlain}
 use Rattle.dcsctp_machine.specs.turns.FlushOutcomes as asks
 use Rattle.dcsctp_wire.specs.Content.{ChunkContent, sack_chunk}
@@ -221,7 +223,7 @@ forwarded_view old next given waits events =
 abbrev begun_in_view : {R : Type 0} → View R → Option ℕ → Transfer → SendQueueState → SendQueueState → List (Event (List ℕ)) → Option BegunReset → View R
 begun_in_view old next given waits handed events begun =
     record (forwarded_view old next given waits events) {
-      endpoint = record (after_begun begun (forwarded_view old next given waits events).endpoint) { below = record { queue = handed; transfer = Some given } };
+      endpoint = record (after_begun begun (forwarded_view old next given waits events).endpoint) { below = record { queue = handed; transfer = Some (transfer_begun begun given) } };
     }
 
 -- contents one behind the other
@@ -239,7 +241,7 @@ request_behind e draft begun packet filled_packet is adds =
 
 -- What gives messages up leaves the retransmission timeout, and so a reset that is begun behind it starts the same timer.
 begun_behind : (begun : Option BegunReset) (e : Endpoint) (any : Bool) (later : ℕ) (waits handed left : SendQueueState) (given after : Transfer) → rto_of (Some given) ≡ rto_of e.below.transfer
-    → let f : Endpoint = record (after_begun begun (record e { no_forward_tsn_before = later; below = record { queue = waits; transfer = Some given } })) { below = record { queue = handed; transfer = Some given } } in
+    → let f : Endpoint = record (after_begun begun (record e { no_forward_tsn_before = later; below = record { queue = waits; transfer = Some given } })) { below = record { queue = handed; transfer = Some (transfer_begun begun given) } } in
     record f { timers = timers_where any f; below = record { queue = left; transfer = Some after } } ≡ given_endpoint e begun any later left after
 begun_behind None e true later waits handed left given after same = refl
 begun_behind None e false later waits handed left given after same = refl
@@ -277,7 +279,7 @@ first_by {R = R} old draft transfer mid given begun_view new before acked_packet
     let here : BeginsAt (Some after) (forwarded_view old next after waits given.events) given_packet begun_view request_packet =
     subst (λ (v : View R). BeginsAt v.endpoint.below.transfer v given_packet begun_view request_packet) forward.5 begin in
     let begun : Option BegunReset = here.0 in
-    let there : FillsData (Some after) (begun_in_view old next after waits here.1 given.events begun) request_packet new filled_packet =
+    let there : FillsData (Some (transfer_begun begun after)) (begun_in_view old next after waits here.1 given.events begun) request_packet new filled_packet =
     subst (λ (v : View R). FillsData v.endpoint.below.transfer v request_packet new filled_packet) here.5 data_in in
     let behind : Emission = filled draft (plain_contents (a.sacks ++ up.forwards)) in
     let given_is : given_packet ≡ packet_for e.options behind = up.is ∙ ap (packet_for e.options) (filled_twice draft a.sacks up.forwards) in
@@ -306,12 +308,12 @@ first_by {R = R} old draft transfer mid given begun_view new before acked_packet
         retransmission = after.retransmission;
         negotiated = λ without. let same = forward.3.negotiated (ap (λ (r : RetransmissionState). r.partial_reliability) before_is ∙ without) in
             (same.2, ap (λ (t : Transfer). t.retransmission) same.1 ∙ before_is);
-        idle = λ none. let same = forward.3.idle (ap (λ (r : RetransmissionState). r.outstanding_items) before_is ∙ none) in
+        idle = λ none. let same = forward.3.idle (ap (λ (r : RetransmissionState). outstanding_count r) before_is ∙ none) in
             (same.2, ap (λ (t : Transfer). t.retransmission) same.1 ∙ before_is);
         is = here.2 ∙ ap (λ (room : ℕ). begun_in (held_in e.core) room (last_assigned_tsn after.retransmission) waits) (ap bytes_remaining given_is ∙ room_is e behind);
       };
       untouched = λ none. requesting_none (streams_within (bytes_remaining given_packet)) (bytes_remaining given_packet) (last_assigned_tsn after.retransmission) (held_in e.core) begun waits here.1 none here.2 here.3;
-      fills = subst (λ (b : Building). FillsPacket after here.1 given.events b there.1 there.2 new.events filled_packet there.0)
+      fills = subst (λ (b : Building). FillsPacket (transfer_begun begun after) here.1 given.events b there.1 there.2 new.events filled_packet there.0)
           (request_behind e behind begun given_packet request_packet given_is here.4 ∙ ap (packet_for e.options) (filled_behind draft (plain_contents (a.sacks ++ up.forwards)) (request_contents begun))) there.3;
       is = there.4
           ∙ ap (λ (x : Endpoint). record old { endpoint = x; events = new.events })

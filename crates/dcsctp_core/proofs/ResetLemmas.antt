@@ -9,12 +9,13 @@ use Rattle.dcsctp_wire.specs.Spelling.{chunk_bytes}
 use Rattle.dcsctp_machine.specs.Packet.{chunk_out}
 use Rattle.dcsctp_machine.specs.Reconfiguration.{RequestedReset}
 use Rattle.dcsctp_machine.specs.control.FlushChanges.{reset_request}
-use Rattle.dcsctp_machine.specs.turns.BegunResets.{streams_within, stream_field, BegunReset, last_assigned_tsn, begun_in, begun_where, rto_of, held_begun, core_asking, after_begun}
+use Rattle.dcsctp_machine.specs.turns.BegunResets.{streams_within, stream_field, BegunReset, last_assigned_tsn, begun_in, begun_where, transfer_begun, rto_of, held_begun, core_asking, after_begun}
 use Rattle.dcsctp_machine.proofs.AnswerLemmas.{request_len}
 use Rattle.std.proofs.lemmas.Bool.Decides.{nat_tests}
 use Rattle.dcsctp_core.specs.Resetting.{IsStream, StartsReset, BeginsReset, request_begun, timer_begun, Begins, BeginsIn, BeginsBelow}
 use Rattle.std.specs.List.{AllByRecursion}
 use Rattle.std.specs.Prelude.{is_some}
+use Rattle.std.specs.Option.{option_map}
 use Rattle.std.specs.declared.alloc.AllocError.{AllocError}
 use Rattle.dcsctp_wire_build.specs.Building.{Building, bytes_remaining}
 use Rattle.dcsctp_machine.specs.transfer.SendQueue.{SendQueueState}
@@ -163,6 +164,9 @@ abbrev core_where : Option BegunReset → Core → Core
 core_where None core = core
 core_where (Some begun) core = core_asking core
 
+abbrev transfer_where : Option BegunReset → Option Transfer → Option Transfer
+transfer_where begun found = option_map (transfer_begun begun) found
+
 -- what the machine sees of a state in which this was begun
 record Stood (now : ℕ) (begun : Option BegunReset) (old new : State) : Type 0 where
   core : core_of new ≡ core_where begun (core_of old)
@@ -171,7 +175,7 @@ record Stood (now : ℕ) (begun : Option BegunReset) (old new : State) : Type 0 
   t2 : t2_of new ≡ t2_of old
   outstanding : outstanding_of new ≡ request_begun begun (outstanding_of old)
   reconfiguration : reconfiguration_of new ≡ timer_begun begun now (rto_of (transfer_of old)) (reconfiguration_of old)
-  transfer : transfer_of new ≡ transfer_of old
+  transfer : transfer_of new ≡ transfer_where begun (transfer_of old)
 
 echoed_core : (begun : Option BegunReset) (my : Pair) (held : Held) (cookie : List ℕ) → cookie_echoed my (held_begun begun held) cookie ≡ core_where begun (cookie_echoed my held cookie)
 echoed_core None my held cookie = refl
@@ -224,13 +228,13 @@ with_parts context core tie t1 t2 outstanding reconfiguration transfer queue =
 
 begun_whole : {R : Type 0} (begun : Option BegunReset) (context : Context R) (queue : SendQueueState)
     → let s : State = context.state in
-    with_parts context (core_where begun (core_of s)) (tie_of s) (t1_of s) (t2_of s) (request_begun begun (outstanding_of s)) (timer_begun begun context.moment (rto_of (transfer_of s)) (reconfiguration_of s)) (transfer_of s) queue
-    ≡ record (after_begun begun (endpoint_of context)) { below = record (endpoint_of context).below { queue = queue } }
+    with_parts context (core_where begun (core_of s)) (tie_of s) (t1_of s) (t2_of s) (request_begun begun (outstanding_of s)) (timer_begun begun context.moment (rto_of (transfer_of s)) (reconfiguration_of s)) (transfer_where begun (transfer_of s)) queue
+    ≡ record (after_begun begun (endpoint_of context)) { below = record { queue = queue; transfer = transfer_where begun (transfer_of s) } }
 begun_whole None context queue = refl
 begun_whole (Some begun) context queue = refl
 
 endpoint_begun : {R : Type 0} (context : Context R) (begun : Option BegunReset) (state : State) (queue : SendQueueState) → Stood context.moment begun context.state state
-    → endpoint_of (record context { state = state; send_queue = queue }) ≡ record (after_begun begun (endpoint_of context)) { below = record (endpoint_of context).below { queue = queue } }
+    → endpoint_of (record context { state = state; send_queue = queue }) ≡ record (after_begun begun (endpoint_of context)) { below = record { queue = queue; transfer = transfer_where begun (transfer_of context.state) } }
 endpoint_begun context begun state queue h =
     let s : State = context.state in
     ap (λ (core : Core). with_parts context core (tie_of state) (t1_of state) (t2_of state) (outstanding_of state) (reconfiguration_of state) (transfer_of state) queue) h.core
@@ -248,7 +252,10 @@ begun_below : {R : Type 0} (old : Context R) (found : Option Transfer) (state : 
 begun_below old None state queue packet filled holds h =
     (ap (λ (s : State). view_of (record old { state = s; send_queue = queue })) h.0 ∙ ap (λ (q : SendQueueState). view_of (record old { send_queue = q })) h.1, h.2)
 begun_below old (Some transfer) state queue packet filled holds h =
-    (h.begun, queue, h.is, h.hands_out, h.packet_is, ap (λ (e : Endpoint). record (view_of old) { endpoint = e }) (endpoint_begun old h.begun state queue (stood old.moment h.begun old.state state transfer holds h.begins)))
+    let below : Option Transfer → Endpoint = λ found. record (after_begun h.begun (endpoint_of old)) { below = record { queue = queue; transfer = transfer_where h.begun found } } in
+    let is : endpoint_of (record old { state = state; send_queue = queue }) ≡ below (Some transfer) =
+    endpoint_begun old h.begun state queue (stood old.moment h.begun old.state state transfer holds h.begins) ∙ ap below holds in
+    (h.begun, queue, h.is, h.hands_out, h.packet_is, ap (λ (e : Endpoint). record (view_of old) { endpoint = e }) is)
 
 pub tries_reset : {R : Type 0} (old new : Context R) (state : State) (queue : SendQueueState) (packet filled : Building) (result : Result (Unit {0}) AllocError)
     → view_of new ≡ view_of (record old { state = state; send_queue = queue })

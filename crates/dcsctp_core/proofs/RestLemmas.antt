@@ -5,7 +5,9 @@ use Rattle.dcsctp_machine.specs.transfer.OwnResets.{ready_streams}
 use Rattle.dcsctp_machine.specs.declared.association.Held.{Held}
 use Rattle.dcsctp_machine.specs.Packet.{Emission}
 use Rattle.dcsctp_machine.specs.transfer.SendQueue.{SendQueueState, has_data}
-use Rattle.dcsctp_machine.specs.transfer.Transfer.{RetransmissionState, Transfer, can_send, has_free_tsn, least_chunk, must_give, is_none_ready, is_idle}
+use Rattle.dcsctp_machine.specs.transfer.Transfer.{Transfer, must_give, is_none_ready, is_idle}
+use Rattle.dcsctp_machine.specs.transfer.Retransmission.{RetransmissionState, can_send, has_free_tsn, least_chunk}
+use Rattle.dcsctp_machine.specs.transfer.Items.{marked_items}
 use Rattle.dcsctp_machine.specs.Endpoint.{Endpoint, held_in}
 use Rattle.dcsctp_machine.specs.turns.BegunResets.{last_assigned_tsn}
 use Rattle.dcsctp_machine.specs.turns.DataOutcomes.{flush_by, AnswersTo}
@@ -37,7 +39,7 @@ not_all false true none fits free false is = and_end none fits free
 
 not_given : (room : ℕ) (queue : SendQueueState) (state : RetransmissionState) → may_give queue state ≡ false → must_give room queue state ≡ false
 not_given room queue state is =
-    not_all (nat_lt 0 state.marked_items) (can_send state) (state.marked_items == 0) (nat_le (least_chunk state.message_interleaving) room) (has_free_tsn state) (has_data queue) is
+    not_all (nat_lt 0 (marked_items state.outstanding.items)) (can_send state) (marked_items state.outstanding.items == 0) (nat_le (least_chunk state.message_interleaving) room) (has_free_tsn state) (has_data queue) is
 
 -- Nor is a reset begun, where no stream is ready.
 rest_begun : (ask : Ask) (held : Option Held) (room last_tsn : ℕ) (queue : SendQueueState) → (ask ≡ first_ask → is_none_ready (ready_streams queue) ≡ true) → None ≡ begun_at ask held room last_tsn queue

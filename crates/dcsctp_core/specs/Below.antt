@@ -1,6 +1,7 @@
 -- What changes below an association.
 use Rattle.std.specs.Prelude.{◌≡◌, ℕ, Bool, true, false, Option, None, Some, Result, List, [], ◌∷◌}
 use Rattle.std.specs.declared.alloc.AllocError.{AllocError}
+use Rattle.dcsctp_wire.specs.Content.{SackContent}
 use Rattle.dcsctp_wire_build.specs.Building.{Building}
 use Rattle.dcsctp_machine.specs.declared.association.Held.{Held}
 use Rattle.dcsctp_machine.specs.declared.message.Message.{Message}
@@ -8,11 +9,13 @@ use Rattle.dcsctp_machine.specs.Event.{Event}
 use Rattle.dcsctp_machine.specs.Endpoint.{Endpoint, held_in}
 use Rattle.dcsctp_machine.specs.Outcome.{Outcome, still}
 use Rattle.dcsctp_machine.specs.turns.DataOutcomes.{FastRetransmits}
+use Rattle.dcsctp_machine.specs.turns.TransferMoves.{lost_all}
 use Rattle.dcsctp_transfer.specs.Sacks.{HandlesSack, FillsAtOnce}
 use Rattle.dcsctp_transfer.specs.declared.sacks.HandledSack.{HandledSack}
 use Rattle.dcsctp_machine.specs.transfer.Transfer.{Transfer}
 use Rattle.dcsctp_machine.specs.transfer.Messages.{message_content}
 use Rattle.dcsctp_machine.specs.transfer.Reassembly.{with_ready}
+use Rattle.dcsctp_machine.specs.transfer.Retransmission.{has_fast_retransmit}
 use Rattle.dcsctp_machine.specs.transfer.Tracker.{after_packet_end, is_acknowledgement_due}
 use Rattle.dcsctp_core.specs.declared.state.State.{State}
 use Rattle.dcsctp_core.specs.View.{View}
@@ -39,14 +42,19 @@ abbrev pub TakesReady : Option Transfer → State → Option Message → State �
 TakesReady None old result new = (result ≡ None) × (new ≡ old)
 TakesReady (Some transfer) old result new = (after : Transfer) × (new ≡ state_with old after) × TakesFirst result transfer after
 
+-- All that is in flight is lost, at this moment.
+abbrev pub LosesAt : ℕ → Transfer → Transfer → Type 0
+LosesAt now old new = new ≡ lost_all now old
+
 -- All of a packet was handled, at this moment.
 abbrev pub EndsBelow : ℕ → Transfer → Transfer → Type 0
 EndsBelow now old new = new ≡ record old { tracker = after_packet_end now old.tracker }
 
--- A SACK with this cumulative TSN ack was taken into account, if the peer is known.
-abbrev pub SacksBelow : ℕ → Option Transfer → State → List (Event (List ℕ)) → State → List (Event (List ℕ)) → Result HandledSack AllocError → Type 0
-SacksBelow tsn None old told new telling result = (new ≡ old) × (telling ≡ told)
-SacksBelow tsn (Some transfer) old told new telling result = (after : Transfer) × (new ≡ state_with old after) × HandlesSack tsn transfer told after telling result
+-- A SACK was taken into account at this moment, if the peer is known.
+abbrev pub SacksBelow : ℕ → SackContent → Option Transfer → State → List (Event (List ℕ)) → State → List (Event (List ℕ)) → Result HandledSack AllocError → Type 0
+SacksBelow now sack None old told new telling result = (new ≡ old) × (telling ≡ told)
+SacksBelow now sack (Some transfer) old told new telling result =
+    (after : Transfer) × (new ≡ state_with old after) × HandlesSack now sack transfer told after telling result
 
 -- What was lost was put into a packet.
 abbrev pub FillsAtOnceBelow : Option Transfer → State → Building → State → Building → Type 0
@@ -56,11 +64,11 @@ FillsAtOnceBelow (Some transfer) old packet new filled = (after : Transfer) × (
 -- does something wait that was lost, and is to be sent at once?
 abbrev pub at_once_below : Option Transfer → Bool
 at_once_below None = false
-at_once_below (Some transfer) = transfer.retransmission.has_fast_retransmit
+at_once_below (Some transfer) = has_fast_retransmit transfer.retransmission
 
 -- A packet of it is sent to the peer.
 abbrev pub GoesAtOnce : Endpoint → Option Held → Option Transfer → Outcome → Type 0
-GoesAtOnce e (Some held) (Some transfer) o = FastRetransmits transfer.retransmission.has_fast_retransmit e held transfer o
+GoesAtOnce e (Some held) (Some transfer) o = FastRetransmits (has_fast_retransmit transfer.retransmission) e held transfer o
 GoesAtOnce e held transfer o = o ≡ still e
 
 abbrev pub AtOnceAt : {R : Type 0} → View R → Outcome → Type 0

@@ -10,11 +10,12 @@ use Rattle.dcsctp_machine.specs.Settings.{ports_of, packet_size_limit}
 use Rattle.dcsctp_machine.specs.Event.{Event, sent}
 use Rattle.dcsctp_machine.specs.Packet.{Content, chunk_out, Emission}
 use Rattle.dcsctp_machine.specs.transfer.SendQueue.{SendQueueState, has_data}
-use Rattle.dcsctp_machine.specs.transfer.Transfer.{Transfer, can_send, is_none_ready}
+use Rattle.dcsctp_machine.specs.transfer.Transfer.{Transfer, is_none_ready}
+use Rattle.dcsctp_machine.specs.transfer.Retransmission.{can_send, outstanding_count}
 use Rattle.dcsctp_machine.specs.Endpoint.{Endpoint, Timers, heartbeats_begun, held_in}
 use Rattle.dcsctp_machine.specs.declared.association.Held.{Held}
 use Rattle.dcsctp_machine.specs.Outcome.{counted}
-use Rattle.dcsctp_machine.specs.turns.BegunResets.{BegunReset, last_assigned_tsn, begun_in, request_contents, after_begun, streams_within, queue_requesting}
+use Rattle.dcsctp_machine.specs.turns.BegunResets.{BegunReset, last_assigned_tsn, begun_in, request_contents, after_begun, streams_within, queue_requesting, transfer_begun}
 use Rattle.dcsctp_machine.specs.turns.FlushOutcomes.{told_event, Answer, answer_contents, filled, asked, flush_of, packets_allowed, Ask, first_ask, wants_sack, AnsweredBelow, timers_with, Answered, Answers, is_none, later_ask, draft_to}
 use Rattle.dcsctp_api.specs.Calls.{user_event}
 use Rattle.dcsctp_transfer.specs.Filling.{TellsMore, FillsPacket, may_give, Acknowledges, is_sack_wanted}
@@ -65,7 +66,7 @@ ForwardsBelow now (Some transfer) waiting events packet old new left telling fil
 -- Without a peer, and where nothing waits and nothing is outstanding, there is no data.
 abbrev pub HasNoData : SendQueueState → Option Transfer → Type 0
 HasNoData queue None = Unit {0}
-HasNoData queue (Some transfer) = (has_data queue ≡ false) × (transfer.retransmission.outstanding_items ≡ 0)
+HasNoData queue (Some transfer) = (has_data queue ≡ false) × (outstanding_count transfer.retransmission ≡ 0)
 
 -- No stream is ready to be reset, if the peer is known.
 abbrev pub HasNoReset : SendQueueState → Option Transfer → Type 0
@@ -124,7 +125,9 @@ BeginsAt (Some transfer) old packet new filled =
     × (begun ≡ begun_in (held_in old.endpoint.core) (bytes_remaining packet) (last_assigned_tsn transfer.retransmission) old.endpoint.below.queue)
     × (left ≡ queue_requesting (streams_within (bytes_remaining packet)) begun old.endpoint.below.queue)
     × (filled ≡ record packet { body = packet.body ++ flat_map chunk_bytes (map chunk_out (request_contents begun)) })
-    × (new ≡ record old { endpoint = record (after_begun begun old.endpoint) { below = record old.endpoint.below { queue = left } } })
+    × (new ≡ record old {
+      endpoint = record (after_begun begun old.endpoint) { below = record { queue = left; transfer = Some (transfer_begun begun transfer) } };
+    })
 
 -- A packet was filled with data, and nothing else has moved.
 abbrev pub FillsData : {R : Type 0} → Option Transfer → View R → Building → View R → Building → Type 0

@@ -1,9 +1,9 @@
 -- The phases of an open association, as the code moves them (RFC 9260, section 9.2).
 use Rattle.std.specs.Prelude.{ℕ}
 use Rattle.dcsctp_core.specs.declared.state.State.{State}
-use Rattle.dcsctp_core.specs.declared.state.State.TheVariants.{Closed, CookieWait, CookieEchoed, Open}
+use Rattle.dcsctp_core.specs.declared.state.State.TheVariants.{CookieEchoed, Open}
 use Rattle.dcsctp_core.specs.declared.state.OpenPhase.{OpenPhase}
-use Rattle.dcsctp_core.specs.declared.state.OpenPhase.TheVariants.{Established, ShutdownPending, ShutdownSent, ShutdownReceived, ShutdownAckSent}
+use Rattle.dcsctp_core.specs.declared.state.OpenPhase.TheVariants.{ShutdownPending, ShutdownSent, ShutdownAckSent}
 use Rattle.dcsctp_core.specs.Timing.{timer_after}
 
 -- the open association in this phase

@@ -11,7 +11,7 @@ use Rattle.dcsctp_machine.specs.transfer.SendQueue.{SendQueueState}
 use Rattle.dcsctp_machine.specs.transfer.Transfer.{Transfer}
 use Rattle.dcsctp_machine.specs.Endpoint.{OutstandingRequest, held_in}
 use Rattle.dcsctp_machine.specs.Timers.{RunningTimer, started}
-use Rattle.dcsctp_machine.specs.turns.BegunResets.{BegunReset, streams_within, last_assigned_tsn, begun_in, request_contents, queue_requesting, held_begun, reconfiguration_settings}
+use Rattle.dcsctp_machine.specs.turns.BegunResets.{BegunReset, streams_within, last_assigned_tsn, begun_in, request_contents, queue_requesting, transfer_begun, held_begun, reconfiguration_settings}
 use Rattle.dcsctp_core.specs.declared.state.State.{State}
 use Rattle.dcsctp_core.specs.declared.state.State.TheVariants.{Closed, CookieWait, CookieEchoed, Open}
 use Rattle.dcsctp_core.specs.declared.transmission_control_block.ResetRequest.{ResetRequest}
@@ -58,7 +58,7 @@ pub record Begins (now : ℕ) (begun : Option BegunReset) (old new : Transmissio
   pub timer : timer_of new.reset_request ≡ timer_begun begun now old.transfer.timeout.rto (timer_of old.reset_request)
   pub my : new.my ≡ old.my
   pub tie_tag : new.tie_tag ≡ old.tie_tag
-  pub transfer : new.transfer ≡ old.transfer
+  pub transfer : new.transfer ≡ transfer_begun begun old.transfer
 
 -- the packet with its request
 abbrev pub with_request : Option BegunReset → Building → Building

@@ -1,5 +1,5 @@
 -- What was lost goes out at once, and then what waits.
-use Rattle.std.proofs.Common.{◌≡◌, ◌+◌, ℕ, Bool, true, false, Option, Some, List, [], ◌∷◌, ◌++◌, refl, sym, ap, subst, ◌∙◌}
+use Rattle.std.proofs.Common.{◌≡◌, ℕ, Bool, true, false, Option, Some, List, [], ◌∷◌, ◌++◌, refl, sym, ap, subst, ◌∙◌}
 use Rattle.std.specs.Prelude.{is_some}
 use Rattle.std.proofs.lemmas.List.{append-nil}
 use Rattle.rand_core.specs.Stream.{Stream}
@@ -10,6 +10,7 @@ use Rattle.dcsctp_machine.specs.Settings.{ports_of}
 use Rattle.dcsctp_machine.specs.Event.{Event}
 use Rattle.dcsctp_machine.specs.Packet.{Content}
 use Rattle.dcsctp_machine.specs.transfer.Transfer.{Transfer}
+use Rattle.dcsctp_machine.specs.transfer.Retransmission.{has_fast_retransmit}
 use Rattle.dcsctp_machine.specs.Endpoint.{Endpoint, held_in}
 use Rattle.dcsctp_machine.specs.Outcome.{Outcome}
 use Rattle.dcsctp_machine.specs.control.Choices.{plain_contents}
@@ -59,7 +60,7 @@ fast_plain true e held transfer o h =
 -- ---- behind it comes a flush
 
 at_held : (e : Endpoint) (peer : Option Held) (found : Option Transfer) (held : Held) (transfer : Transfer) (o : Outcome) → peer ≡ Some held → found ≡ Some transfer → GoesAtOnce e peer found o
-    → FastRetransmits transfer.retransmission.has_fast_retransmit e held transfer o
+    → FastRetransmits (has_fast_retransmit transfer.retransmission) e held transfer o
 at_held e peer found held transfer o holds below h =
     subst (λ (t : Option Transfer). GoesAtOnce e (Some held) t o) below (subst (λ (p : Option Held). GoesAtOnce e p found o) holds h)
 
@@ -100,8 +101,8 @@ whole : {R : Type 0} (old : Context R) (mid : View R) (b : Below old.state) (fas
     → mid.endpoint ≡ fast.after → FlushTurn mid.endpoint flush → Resends (endpoint_of old) (held_in (core_of old.state)) (transfer_of old.state) (behind [] fast.events flush)
 whole old mid b fast flush first at second =
     let e : Endpoint = endpoint_of old in
-    let resends : FastRetransmits b.transfer.retransmission.has_fast_retransmit e b.held b.transfer fast = at_held e (held_in (core_of old.state)) (transfer_of old.state) b.held b.transfer fast b.holds b.below first in
-    let plain : IsPlain e fast = fast_plain b.transfer.retransmission.has_fast_retransmit e b.held b.transfer fast resends in
+    let resends : FastRetransmits (has_fast_retransmit b.transfer.retransmission) e b.held b.transfer fast = at_held e (held_in (core_of old.state)) (transfer_of old.state) b.held b.transfer fast b.holds b.below first in
+    let plain : IsPlain e fast = fast_plain (has_fast_retransmit b.transfer.retransmission) e b.held b.transfer fast resends in
     let turn : FlushTurn fast.after flush = subst (λ (x : Endpoint). FlushTurn x flush) at second in
     let flushed : Flushed fast.after b.held flush = flush_held fast.after (held_in fast.after.core) b.held flush (ap held_in plain.core ∙ b.holds) turn.0 turn.1 turn.2 in
     to_held e (held_in (core_of old.state)) (transfer_of old.state) b.held b.transfer (behind [] fast.events flush) b.holds b.below
@@ -120,7 +121,7 @@ fast_draws stream v mid fast words effects m =
 
 plain_of : {R : Type 0} (old : Context R) (b : Below old.state) (fast : Outcome) → GoesAtOnce (endpoint_of old) (held_in (core_of old.state)) (transfer_of old.state) fast → IsPlain (endpoint_of old) fast
 plain_of old b fast first =
-    fast_plain b.transfer.retransmission.has_fast_retransmit (endpoint_of old) b.held b.transfer fast (at_held (endpoint_of old) (held_in (core_of old.state)) (transfer_of old.state) b.held b.transfer fast b.holds b.below first)
+    fast_plain (has_fast_retransmit b.transfer.retransmission) (endpoint_of old) b.held b.transfer fast (at_held (endpoint_of old) (held_in (core_of old.state)) (transfer_of old.state) b.held b.transfer fast b.holds b.below first)
 
 pub resent : {R : Type 0} (stream : R → Stream) (old mid new : Context R) → is_some (transfer_of old.state) ≡ true → TakesIn stream AtOnceAt (view_of old) (view_of mid)
     → TakesIn stream FlushAt (view_of mid) (view_of new) → TakesIn stream ResendsAt (view_of old) (view_of new)

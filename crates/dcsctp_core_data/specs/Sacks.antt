@@ -1,8 +1,10 @@
 -- What the handler of SACK does, as turns of a socket's view (RFC 9260, sections 6.2.1 and 7.2.4).
-use Rattle.std.specs.Prelude.{◌≡◌, ℕ, true, Option, Some, Result, List, [], is_some}
+use Rattle.std.specs.Prelude.{◌≡◌, true, Option, Some, Result, List, [], is_some}
 use Rattle.rand_core.specs.Stream.{Stream}
+use Rattle.dcsctp_wire.specs.Content.{SackContent}
 use Rattle.dcsctp_machine.specs.declared.association.Held.{Held}
 use Rattle.dcsctp_machine.specs.transfer.Transfer.{Transfer}
+use Rattle.dcsctp_machine.specs.transfer.Retransmission.{has_fast_retransmit}
 use Rattle.dcsctp_machine.specs.Endpoint.{Endpoint, held_in}
 use Rattle.dcsctp_machine.specs.Outcome.{Outcome, still, behind}
 use Rattle.dcsctp_machine.specs.turns.FlushOutcomes.{Answer, draft_to, flush_of, FlushAnswers}
@@ -12,14 +14,14 @@ use Rattle.dcsctp_core.specs.declared.context.Context.{Context}
 use Rattle.dcsctp_core.specs.View.{View, transfer_of}
 use Rattle.dcsctp_core.specs.Handling.{TakesOne}
 
--- A SACK with this cumulative TSN ack was received.
-abbrev pub SackAt : {R : Type 0} → ℕ → View R → Outcome → Type 0
-SackAt tsn view o = SackTurn view.endpoint view.endpoint.below.transfer tsn o
+-- This SACK was received.
+abbrev pub SackAt : {R : Type 0} → SackContent → View R → Outcome → Type 0
+SackAt sack view o = SackTurn view.endpoint view.endpoint.below.transfer sack o
 
 -- What was lost is sent at once, if it is to, and then what waits.
 pub record ResendsBy (e : Endpoint) (held : Held) (transfer : Transfer) (o : Outcome) : Type 0 where
   pub fast : Outcome
-  pub resends : FastRetransmits transfer.retransmission.has_fast_retransmit e held transfer fast
+  pub resends : FastRetransmits (has_fast_retransmit transfer.retransmission) e held transfer fast
   pub answers : List Answer
   pub allowed : FlushAnswers fast.after (draft_to held) answers
   pub is : o ≡ behind [] fast.events (flush_of fast.after (draft_to held) answers)

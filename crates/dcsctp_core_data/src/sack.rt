@@ -1,6 +1,7 @@
 //! SACK (RFC 9260, sections 3.3.4 and 6.2.1) that is received.
 
 ghost use Rattle.std.specs.Prelude.{◌≡◌, if◌then◌else◌};
+ghost use Rattle.dcsctp_wire.specs.Content.{sack_content};
 ghost use Rattle.dcsctp_machine.specs.turns.DataOutcomes.{no_tcb_text};
 ghost use Rattle.dcsctp_core.specs.View.{view_of, endpoint_of};
 ghost use Rattle.dcsctp_core.specs.Handling.{TakesOne, Tries, report_turn};
@@ -69,7 +70,7 @@ pub fn handle_sack<R: Rng>(
     context: &mut Context<R>,
     chunk: &SackChunk<'_>,
 ) -> Result<(), AllocError>
-    ensures { TakesOne R.stream (SackAt chunk.now.cumulative_tsn_ack) context.old result context.new }
+    ensures { TakesOne R.stream (SackAt (sack_content chunk.now)) context.old result context.new }
 {
     let Some(tcb) = context.state.tcb_mut() else {
         return report_no_tcb(context);

@@ -11,7 +11,9 @@ use Rattle.dcsctp_machine.specs.transfer.OwnResets.{ready_streams}
 use Rattle.dcsctp_machine.specs.Packet.{Plain, unworked, plain_out, Content, chunk_out, Emission}
 use Rattle.dcsctp_machine.specs.transfer.Tracker.{TrackerState, sacked}
 use Rattle.dcsctp_machine.specs.transfer.SendQueue.{SendQueueState, has_data}
-use Rattle.dcsctp_machine.specs.transfer.Transfer.{RetransmissionState, Transfer, can_send, has_free_tsn, least_chunk, must_give, is_idle}
+use Rattle.dcsctp_machine.specs.transfer.Transfer.{Transfer, must_give, is_idle}
+use Rattle.dcsctp_machine.specs.transfer.Retransmission.{RetransmissionState, can_send, has_free_tsn, least_chunk}
+use Rattle.dcsctp_machine.specs.transfer.Items.{marked_items}
 use Rattle.dcsctp_machine.specs.Endpoint.{Endpoint, held_in}
 use Rattle.dcsctp_machine.specs.Outcome.{contents_len}
 use Rattle.dcsctp_machine.specs.control.Choices.{plain_contents}
@@ -105,8 +107,8 @@ least_goes : (b : Bool) (room : ℕ) (queue : SendQueueState) (state : Retransmi
     → is_none (cond b (least_of state.message_interleaving ∷ []) []) ≡ true → must_give room queue state ≡ false
 least_goes true room queue state is none = absurd (cc)
 least_goes false room queue state is none =
-    ap (λ (b : Bool). can_send state && state.marked_items == 0 && b && has_free_tsn state && has_data queue) is
-    ∙ and_false (can_send state) (state.marked_items == 0) (has_free_tsn state) (has_data queue)
+    ap (λ (b : Bool). can_send state && marked_items state.outstanding.items == 0 && b && has_free_tsn state && has_data queue) is
+    ∙ and_false (can_send state) (marked_items state.outstanding.items == 0) (has_free_tsn state) (has_data queue)
 
 -- ---- the request of a reset
 

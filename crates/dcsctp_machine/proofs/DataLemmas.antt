@@ -20,6 +20,7 @@ use Rattle.dcsctp_machine.specs.control.FlushChanges.{further_packets, flush}
 use Rattle.dcsctp_machine.specs.control.Acts.{flushes, sent_by, flush_change, plain_change}
 use Rattle.dcsctp_machine.specs.Controlled.{Sign, signs_of_events, signs_of_effects, IsControlled, ControlledAct}
 use Rattle.dcsctp_machine.specs.turns.FlushOutcomes.{own_sack, Answer, filled, draft_to, flush_of, room_in, where_fits, FlushAnswers, packets_allowed}
+use Rattle.dcsctp_machine.specs.turns.TransferMoves.{lost_all}
 use Rattle.dcsctp_machine.specs.turns.HeartbeatOutcomes.{error_counted}
 use Rattle.dcsctp_machine.specs.transfer.OwnResets.{prepared_all, prepare_all_events}
 use Rattle.dcsctp_machine.proofs.SendEventLemmas.{told_prepared}
@@ -320,5 +321,7 @@ delay_at e (Some transfer) = still_at e (with_tracker e transfer (delay_over tra
 
 pub loss_at : (e : Endpoint) (transfer : Option Transfer) (o : Outcome) → LossTurn e transfer o → FlushedAt e e.core o
 loss_at e None o turn = flushed_as e e.core o (still e) turn (still_at e e e.core refl refl)
-loss_at e (Some transfer) o turn = flushed_as e e.core o (still (record (with_transfer e turn.0) { error_count = error_counted e.options.max_retransmissions e.error_count })) turn.2
-    (still_at e (record (with_transfer e turn.0) { error_count = error_counted e.options.max_retransmissions e.error_count }) e.core refl refl)
+loss_at e (Some transfer) o turn =
+    let left : Transfer = lost_all e.moment transfer in
+    flushed_as e e.core o (still (record (with_transfer e left) { error_count = error_counted e.options.max_retransmissions e.error_count })) turn
+    (still_at e (record (with_transfer e left) { error_count = error_counted e.options.max_retransmissions e.error_count }) e.core refl refl)

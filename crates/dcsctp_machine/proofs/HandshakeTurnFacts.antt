@@ -39,12 +39,18 @@ configured options mtu max_burst =
       max_receiver_window_buffer_size = 5242880;
       max_send_buffer_size = 2000000;
       rto_initial = record { secs = 0; nanos = 500_000_000 };
+      rto_min = record { secs = 0; nanos = 400_000_000 };
+      rto_max = record { secs = 60; nanos = 0 };
+      rtt_max = record { secs = 50; nanos = 0 };
+      min_rtt_variance = record { secs = 0; nanos = 220_000_000 };
+      max_timer_backoff_duration = Some (record { secs = 3; nanos = 0 });
       delayed_ack_max_timeout = record { secs = 0; nanos = 200_000_000 };
       t1_init_timeout = record { secs = 1; nanos = 0 };
       t1_cookie_timeout = record { secs = 2; nanos = 0 };
       heartbeat_interval = record { secs = 30; nanos = 0 };
       max_init_retransmits = Some 8;
       cwnd_mtus_initial = 10;
+      cwnd_mtus_min = 4;
       max_burst = max_burst;
       enable_partial_reliability = true;
       enable_message_interleaving = true;
@@ -140,12 +146,31 @@ held =
       peer_result = SuccessNothingToDo;
     }
 
--- before any data; the congestion window is ten packets of this MTU
-abbrev pub transfer_begun : ℕ → Option Transfer
-transfer_begun cwnd =
+-- before any data; the congestion window is ten packets of this MTU, and the least threshold four
+abbrev pub transfer_begun : ℕ → ℕ → ℕ → Option Transfer
+transfer_begun mtu cwnd least =
     Some (record {
-      retransmission = record { partial_reliability = false; message_interleaving = true; next_tsn = 100; outstanding_items = 0; unacknowledged_items = 0; never_acknowledged_items = 0; marked_items = 0; bytes_in_flight = 0; has_fast_retransmit = false; deadline = None; cwnd = cwnd; rwnd = 1500; packets_retransmitted = 0; bytes_retransmitted = 0 };
-      timeout = record { rto = 500_000_000; srtt = 500_000_000 };
+      retransmission = record {
+        outstanding = record { first_tsn = 100; header = 20; items = [] };
+        congestion = record { cwnd = cwnd; ssthresh = 1500; partial_bytes_acked = 0; recovery_exit = None; mtu = mtu; least_ssthresh = least };
+        timer = record {
+          running = None;
+          settings = record { duration = 500_000_000; terms = record { backoff = Exponential; max_restarts = None; max_backoff = Some 3_000_000_000 } };
+        };
+        peer_window = 1500;
+        partial_reliability = false;
+        message_interleaving = true;
+        fast_retransmit_due = false;
+        reset_begun = false;
+        packets_retransmitted = 0;
+        bytes_retransmitted = 0;
+      };
+      timeout = record {
+        rto = 500_000_000;
+        srtt = 500_000_000;
+        variance = None;
+        bounds = record { rtt_max = 50_000_000_000; rto_min = 400_000_000; rto_max = 60_000_000_000; min_rtt_variance = 220_000_000 };
+      };
       tracker = record {
         cumulative = 199;
         ranges = [];
@@ -203,36 +228,36 @@ abbrev foreign_cookie : List ℕ
 foreign_cookie = codes "dcSCTP00abcdefgh"
 
 -- The tie tag is the word that was drawn, and T1 is due two seconds later.
-abbrev echoing : Endpoint → ℕ → ℤ → ℕ → ℕ → Endpoint
-echoing e mtu max_burst cwnd packets_sent =
+abbrev echoing : Endpoint → ℕ → ℤ → ℕ → ℕ → ℕ → Endpoint
+echoing e mtu max_burst cwnd least packets_sent =
     record (socket e mtu max_burst (cookie_echoed mine held foreign_cookie) packets_sent) {
       tie = 55;
       outstanding = None;
       timers = record e.timers { t1 = t1_due 7_000_000_000 2_000_000_000; reconfiguration = None };
       peer_implementation = DcsctpCc;
-      below = record { queue = queue_at_start; transfer = transfer_begun cwnd };
+      below = record { queue = queue_at_start; transfer = transfer_begun mtu cwnd least };
     }
 
 -- COOKIE ECHO has a checksum, whatever was agreed.
 init_ack_is_echoed : (e : Endpoint) → init_ack_outcome (socket e 1191 (pos 1) (cookie_wait mine) 4) theirs (Some foreign_cookie) (cookie_wait mine) 55
-    ≡ record { words = U64 55 ∷ []; effects = holds link ∷ []; after = echoing e 1191 (pos 1) 11910 5; events = packet_of true 9 (cookie_echo foreign_cookie ∷ []) ∷ []; following = next_chunk }
+    ≡ record { words = U64 55 ∷ []; effects = holds link ∷ []; after = echoing e 1191 (pos 1) 11910 4764 5; events = packet_of true 9 (cookie_echo foreign_cookie ∷ []) ∷ []; following = next_chunk }
 unfolding other_bytes
 init_ack_is_echoed e = refl
 
 -- No flush sends a packet.
 echo_under_burst_0 : (e : Endpoint) → init_ack_outcome (socket e 1191 (pos 0) (cookie_wait mine) 4) theirs (Some foreign_cookie) (cookie_wait mine) 55
-    ≡ record { words = U64 55 ∷ []; effects = holds link ∷ []; after = echoing e 1191 (pos 0) 11910 4; events = []; following = next_chunk }
+    ≡ record { words = U64 55 ∷ []; effects = holds link ∷ []; after = echoing e 1191 (pos 0) 11910 4764 4; events = []; following = next_chunk }
 unfolding other_bytes
 echo_under_burst_0 e = refl
 
 echo_under_negative_burst : (e : Endpoint) → init_ack_outcome (socket e 1191 (negsuc 0) (cookie_wait mine) 4) theirs (Some foreign_cookie) (cookie_wait mine) 55
-    ≡ record { words = U64 55 ∷ []; effects = holds link ∷ []; after = echoing e 1191 (negsuc 0) 11910 4; events = []; following = next_chunk }
+    ≡ record { words = U64 55 ∷ []; effects = holds link ∷ []; after = echoing e 1191 (negsuc 0) 11910 4764 4; events = []; following = next_chunk }
 unfolding other_bytes
 echo_under_negative_burst e = refl
 
 -- The packet has 32 bytes.
 echo_that_does_not_fit : (e : Endpoint) → init_ack_outcome (socket e 31 (pos 4) (cookie_wait mine) 4) theirs (Some foreign_cookie) (cookie_wait mine) 55
-    ≡ record { words = U64 55 ∷ []; effects = holds link ∷ []; after = echoing e 31 (pos 4) 310 4; events = []; following = next_chunk }
+    ≡ record { words = U64 55 ∷ []; effects = holds link ∷ []; after = echoing e 31 (pos 4) 310 124 4; events = []; following = next_chunk }
 unfolding other_bytes
 echo_that_does_not_fit e = refl
 

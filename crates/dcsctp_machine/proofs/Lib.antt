@@ -3,6 +3,7 @@ pub mod AlongLemmas
 pub mod AnswerLemmas
 pub mod CallFacts
 pub mod ChunkFacts
+pub mod CleanedBlockLemmas
 pub mod ControlEcho
 pub mod ControlEnds
 pub mod ControlHandshake
@@ -29,9 +30,11 @@ pub mod PreparedFacts
 pub mod ReadBackLemmas
 pub mod ReconfigurationFacts
 pub mod ReconfigurationLemmas
+pub mod ReportLemmas
 pub mod ResetFacts
 pub mod ResetLemmas
 pub mod SackLemmas
+pub mod SackOutcomeLemmas
 pub mod SettingFacts
 pub mod ShutdownFacts
 pub mod ShutdownLemmas

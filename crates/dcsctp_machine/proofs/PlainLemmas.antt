@@ -197,7 +197,7 @@ plain_by e tag (heartbeat_ack parameters) None o is turn =
     subst (At e tag (heartbeat_ack parameters)) (sym turn) (heartbeat_ack_at e e.core tag (heartbeat_ack parameters) (counter_of (info_in parameters)) refl)
 plain_by e tag (unworked (data_chunk chunk)) None o is turn = flushed_chunk e e.core tag (unworked (data_chunk chunk)) o (data_at e (data_arrival chunk) o turn)
 plain_by e tag (unworked (i_data_chunk chunk)) None o is turn = flushed_chunk e e.core tag (unworked (i_data_chunk chunk)) o (data_at e (i_data_arrival chunk) o turn)
-plain_by e tag (unworked (sack_chunk chunk)) None o is turn = stepped_chunk e e.core tag (unworked (sack_chunk chunk)) o (sack_at e e.below.transfer chunk.cumulative_tsn_ack o turn)
+plain_by e tag (unworked (sack_chunk chunk)) None o is turn = stepped_chunk e e.core tag (unworked (sack_chunk chunk)) o (sack_at e e.below.transfer chunk o turn)
 plain_by e tag (unworked (forward_tsn_chunk tsn streams)) None o is turn = flushed_chunk e e.core tag (unworked (forward_tsn_chunk tsn streams)) o (forward_at e e.below.transfer tsn (skipped_in streams) o turn)
 plain_by e tag (unworked (i_forward_tsn_chunk tsn streams)) None o is turn = flushed_chunk e e.core tag (unworked (i_forward_tsn_chunk tsn streams)) o (forward_at e e.below.transfer tsn (messages_skipped_in streams) o turn)
 plain_by e tag (unworked (error_chunk causes)) None o is turn = subst (At e tag (unworked (error_chunk causes))) (sym turn) (error_at e e.core tag (unworked (error_chunk causes)) causes refl)

@@ -114,7 +114,7 @@ begun = record { number = 100; reset = record { last_tsn = 99; streams = 4 ∷ 2
 abbrev before : Endpoint → Endpoint
 before e =
     let base : Endpoint = awaiting e 36 0 None None in
-    record base { core = open_in established mine held; below = record base.below { transfer = transfer_begun 360 } }
+    record base { core = open_in established mine held; below = record base.below { transfer = transfer_begun 36 360 144 } }
 
 -- It is due half a second later,
 due_later : (e : Endpoint) → deadline (after_begun (Some begun) (before e)) (own_timer reconfiguration) ≡ Some 5_500_000_000

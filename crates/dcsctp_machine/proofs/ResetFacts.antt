@@ -13,7 +13,8 @@ use Rattle.dcsctp_machine.specs.Endpoint.{Endpoint, closed, cookie_wait}
 use Rattle.dcsctp_machine.specs.Outcome.{still}
 use Rattle.dcsctp_machine.specs.control.Effect.{accepts, performs}
 use Rattle.dcsctp_machine.specs.control.ResetChanges.{WorkedParameters, work_chunk}
-use Rattle.dcsctp_machine.specs.turns.ResetOutcomes.{requested_in, is_tsn_beyond, unanswered, retried, was_performed, has_failed, answered_in, reset_events, their_streams, ResetTurn}
+use Rattle.dcsctp_machine.specs.turns.ResetOutcomes.{requested_in, unanswered, retried, was_performed, has_failed, answered_in, reset_events, their_streams, ResetTurn}
+use Rattle.dcsctp_machine.specs.transfer.Numbers.{is_tsn_beyond}
 
 -- ---- what is read
 

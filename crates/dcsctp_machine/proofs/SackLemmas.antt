@@ -1,5 +1,5 @@
 -- The turn of a SACK is a turn of the association: a step of shutdown, a fast retransmission, and a flush.
-use Rattle.std.proofs.Common.{◌≡◌, ℕ, Bool, true, false, Option, None, Some, List, [], ◌∷◌, ◌++◌, refl, sym, subst, ap, ◌∙◌, append_assoc}
+use Rattle.std.proofs.Common.{◌≡◌, ℕ, Bool, true, false, Option, None, Some, List, [], ◌∷◌, ◌++◌, refl, sym, subst, ap, ◌∙◌, append_assoc, take}
 use Rattle.std.proofs.lemmas.List.{append-nil}
 use Rattle.dcsctp_machine.specs.declared.association.Held.{Held}
 use Rattle.dcsctp_machine.specs.declared.kinds.ErrorKind.TheVariants.{NotConnected}
@@ -17,8 +17,12 @@ use Rattle.dcsctp_machine.specs.control.ShutdownChanges.{shutdown_step_change}
 use Rattle.dcsctp_machine.specs.control.Acts.{flush_change, plain_change}
 use Rattle.dcsctp_machine.specs.Controlled.{Sign, signs_of_events, signs_of_effects, IsControlled}
 use Rattle.dcsctp_machine.specs.turns.FlushOutcomes.{Answer, draft_to, flush_of}
-use Rattle.dcsctp_machine.specs.turns.TransferMoves.{delivered_events}
-use Rattle.dcsctp_machine.specs.turns.DataOutcomes.{with_transfer, no_tcb_text, is_sack_valid, FastRetransmits, sack_taken, AcknowledgesBy, SackWhere, SackBy, SackTurn}
+use Rattle.dcsctp_machine.specs.turns.DataOutcomes.{with_transfer, no_tcb_text, FastRetransmits, sack_taken, AcknowledgesBy, SackWhere, SackBy, SackTurn}
+use Rattle.dcsctp_machine.specs.transfer.Acknowledging.{is_sack_valid, ends_delivery, told_by, delivered, delivered_by}
+use Rattle.dcsctp_machine.specs.transfer.Items.{Item}
+use Rattle.dcsctp_machine.specs.transfer.Outstanding.{acknowledged_by}
+use Rattle.dcsctp_machine.specs.transfer.Retransmission.{RetransmissionState, has_fast_retransmit}
+use Rattle.dcsctp_wire.specs.Content.{SackContent}
 use Rattle.dcsctp_machine.specs.turns.ShutdownOutcomes.{received_tsn, is_all_acknowledged}
 use Rattle.dcsctp_machine.proofs.ControlHandshake.{ControlledAt}
 use Rattle.dcsctp_machine.proofs.FlushKeeps.{emitted_then, emitted_notes, signs_append, signs_then, goes_out_signs, goes_out_keeps}
@@ -88,9 +92,14 @@ step_notes core change rest is = ap (λ (es : List Effect). noted (es ++ rest)) 
 
 -- ---- a fast retransmission
 
-delivered_signs : (ids : List ℕ) → signs_of_events (delivered_events ids) ≡ []
+told_signs : (name : Option ℕ) (ends : Bool) (rest : List (Event Emission)) → signs_of_events (told_by name ends ++ rest) ≡ signs_of_events rest
+told_signs None ends rest = refl
+told_signs (Some id) true rest = refl
+told_signs (Some id) false rest = refl
+
+delivered_signs : (items : List Item) → signs_of_events (delivered items) ≡ []
 delivered_signs [] = refl
-delivered_signs (id ∷ ids) = delivered_signs ids
+delivered_signs (item ∷ items) = told_signs item.fragment.lifecycle (ends_delivery item) (delivered items) ∙ delivered_signs items
 
 -- what a fast retransmission leaves, and its packet
 record FastIs (e : Endpoint) (held : Held) (o : Outcome) : Type 0 where
@@ -118,22 +127,22 @@ fast_is true e held transfer o turn =
 -- ---- a SACK
 
 -- the events of four parts
-four_signs : (ids : List ℕ) (steps fast rest : List (Event Emission)) (one more : List Effect) → signs_of_events steps ≡ signs_of_effects one → signs_of_events (fast ++ rest) ≡ signs_of_effects more
-    → signs_of_events ((delivered_events ids ++ (steps ++ fast)) ++ rest) ≡ signs_of_effects one ++ signs_of_effects more
-four_signs ids steps fast rest one more first second =
-    ap signs_of_events (append_assoc (delivered_events ids) (steps ++ fast) rest) ∙ signs_append (delivered_events ids) ((steps ++ fast) ++ rest)
-    ∙ ap (λ (ss : List Sign). ss ++ signs_of_events ((steps ++ fast) ++ rest)) (delivered_signs ids)
+four_signs : (tsn : ℕ) (state : RetransmissionState) (steps fast rest : List (Event Emission)) (one more : List Effect) → signs_of_events steps ≡ signs_of_effects one → signs_of_events (fast ++ rest) ≡ signs_of_effects more
+    → signs_of_events ((delivered_by tsn state ++ (steps ++ fast)) ++ rest) ≡ signs_of_effects one ++ signs_of_effects more
+four_signs tsn state steps fast rest one more first second =
+    ap signs_of_events (append_assoc (delivered_by tsn state) (steps ++ fast) rest) ∙ signs_append (delivered_by tsn state) ((steps ++ fast) ++ rest)
+    ∙ ap (λ (ss : List Sign). ss ++ signs_of_events ((steps ++ fast) ++ rest)) (delivered_signs (take (acknowledged_by state.outstanding tsn) state.outstanding.items))
     ∙ ap signs_of_events (append_assoc steps fast rest) ∙ signs_then steps (fast ++ rest) one more first second
 
-acknowledges_at : (e : Endpoint) (held : Held) (transfer : Transfer) (o : Outcome) → held_in e.core ≡ Some held → AcknowledgesBy e held transfer o → SteppedAt e e.core o
-acknowledges_at e held transfer o holds turn =
+acknowledges_at : (e : Endpoint) (held : Held) (transfer : Transfer) (sack : SackContent) (o : Outcome) → held_in e.core ≡ Some held → AcknowledgesBy e held transfer sack o → SteppedAt e e.core o
+acknowledges_at e held transfer sack o holds turn =
     let base : Endpoint = sack_taken e transfer turn.left in
     let tsn : ℕ = received_tsn base.below.transfer in
     let is_acknowledged : Bool = is_all_acknowledged base.below.transfer in
     let change : Change = shutdown_step_change e.core tsn is_acknowledged in
     let step : IsControlled e turn.stepped change = subst (λ (x : Outcome). IsControlled e x change) (sym turn.steps) (step_at e base e.core refl refl) in
     let is : StepIs e.core change = step_is e.core tsn is_acknowledged in
-    let fast : FastIs turn.stepped.after held turn.fast = fast_is turn.left.retransmission.has_fast_retransmit turn.stepped.after held turn.left turn.fast turn.resends in
+    let fast : FastIs turn.stepped.after held turn.fast = fast_is (has_fast_retransmit turn.left.retransmission) turn.stepped.after held turn.left turn.fast turn.resends in
     let flush : Outcome = flush_of turn.fast.after (draft_to held) turn.answers in
     let p : Outcome = behind [] turn.fast.events flush in
     let sent : FlushedAt e change.core p = sent_at e turn.fast.after change.core held turn.fast.events fast.packets turn.answers (is.holds ∙ holds) (fast.core ∙ step.core)
@@ -148,22 +157,22 @@ acknowledges_at e held transfer o holds turn =
       subst (λ (x : Outcome). IsControlled e x (plain_change e.core false choices)) (sym turn.is) (record {
         core = more.core;
         options = more.options;
-        signs = four_signs turn.ids turn.stepped.events turn.fast.events flush.events change.effects effects step.signs more.signs ∙ sym (step_signs e.core change effects is);
+        signs = four_signs sack.cumulative_tsn_ack transfer.retransmission turn.stepped.events turn.fast.events flush.events change.effects effects step.signs more.signs ∙ sym (step_signs e.core change effects is);
         effects = more.effects ∙ sym (step_notes e.core change effects is);
         following = more.following ∙ flush_follows change.core choices;
       }),
     )
 
-sack_where_at : (b : Bool) (e : Endpoint) (held : Held) (transfer : Transfer) (o : Outcome) → held_in e.core ≡ Some held → SackWhere b e held transfer o → SteppedAt e e.core o
-sack_where_at false e held transfer o holds turn = flushed_stepped e e.core o (flushed_as e e.core o (still e) turn (still_at e e e.core refl refl))
-sack_where_at true e held transfer o holds turn = acknowledges_at e held transfer o holds turn
+sack_where_at : (b : Bool) (e : Endpoint) (held : Held) (transfer : Transfer) (sack : SackContent) (o : Outcome) → held_in e.core ≡ Some held → SackWhere b e held transfer sack o → SteppedAt e e.core o
+sack_where_at false e held transfer sack o holds turn = flushed_stepped e e.core o (flushed_as e e.core o (still e) turn (still_at e e e.core refl refl))
+sack_where_at true e held transfer sack o holds turn = acknowledges_at e held transfer sack o holds turn
 
-sack_by_at : (e : Endpoint) (peer : Option Held) (transfer : Transfer) (tsn : ℕ) (o : Outcome) → held_in e.core ≡ peer → SackBy e peer transfer tsn o → SteppedAt e e.core o
-sack_by_at e None transfer tsn o holds turn = flushed_stepped e e.core o (flushed_as e e.core o (still e) turn (still_at e e e.core refl refl))
-sack_by_at e (Some held) transfer tsn o holds turn = sack_where_at (is_sack_valid transfer.retransmission tsn) e held transfer o holds turn
+sack_by_at : (e : Endpoint) (peer : Option Held) (transfer : Transfer) (sack : SackContent) (o : Outcome) → held_in e.core ≡ peer → SackBy e peer transfer sack o → SteppedAt e e.core o
+sack_by_at e None transfer sack o holds turn = flushed_stepped e e.core o (flushed_as e e.core o (still e) turn (still_at e e e.core refl refl))
+sack_by_at e (Some held) transfer sack o holds turn = sack_where_at (is_sack_valid transfer.retransmission sack.cumulative_tsn_ack) e held transfer sack o holds turn
 
-pub sack_at : (e : Endpoint) (transfer : Option Transfer) (tsn : ℕ) (o : Outcome) → SackTurn e transfer tsn o → SteppedAt e e.core o
-sack_at e None tsn o turn =
+pub sack_at : (e : Endpoint) (transfer : Option Transfer) (sack : SackContent) (o : Outcome) → SackTurn e transfer sack o → SteppedAt e e.core o
+sack_at e None sack o turn =
     let events : List (Event Emission) = error NotConnected no_tcb_text ∷ [] in
     flushed_stepped e e.core o (flushed_as e e.core o (quiet e [] events) turn (quiet_at e e events e.core refl refl refl))
-sack_at e (Some transfer) tsn o turn = sack_by_at e (held_in e.core) transfer tsn o refl turn
+sack_at e (Some transfer) sack o turn = sack_by_at e (held_in e.core) transfer sack o refl turn

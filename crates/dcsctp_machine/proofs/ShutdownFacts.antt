@@ -1,11 +1,13 @@
 -- Outside examples of how an association is shut down, worked by hand and computed by the definitions: a wrong rule in specs/
 -- would not check here. Moments and durations are nanoseconds.
-use Rattle.std.proofs.Common.{◌≡◌, ◌+◌, ◌^◌, ℕ, true, false, Option, None, Some, List, [], ◌∷◌, refl}
+use Rattle.std.proofs.Common.{◌≡◌, ◌+◌, ◌^◌, ℕ, zero, suc, true, false, Option, None, Some, List, [], ◌∷◌, refl}
 use Rattle.dcsctp_machine.specs.declared.ends.AbortReason.TheVariants.{TooManyErrors}
 use Rattle.dcsctp_machine.specs.declared.kinds.BackoffAlgorithm.TheVariants.{Exponential}
+use Rattle.dcsctp_machine.specs.declared.progress.ItemState.TheVariants.{InFlight}
 use Rattle.dcsctp_machine.specs.Event.{Event}
 use Rattle.dcsctp_machine.specs.Event as events
 use Rattle.dcsctp_machine.specs.Packet.{Emission, shutdown, shutdown_ack, shutdown_complete}
+use Rattle.dcsctp_machine.specs.transfer.Items.{Item}
 use Rattle.dcsctp_machine.specs.transfer.Transfer.{Transfer}
 use Rattle.dcsctp_machine.specs.Endpoint.{Endpoint, Core, closed, cookie_wait, cookie_echoed, open_in, OpenPhase, established, shutdown_pending, shutdown_sent, shutdown_received, shutdown_ack_sent}
 use Rattle.dcsctp_machine.specs.Timers.{RunningTimer}
@@ -17,12 +19,27 @@ use Rattle.dcsctp_machine.specs.control.Acts.{shutdown_repeats, abort_with}
 use Rattle.dcsctp_machine.specs.turns.ShutdownOutcomes.{step_outcome, shut_down_outcome, shutdown_outcome, shutdown_ack_outcome, shutdown_complete_outcome, t2_again_outcome, shutdown_repeated}
 use Rattle.dcsctp_machine.proofs.HandshakeTurnFacts.{mine, held, queue, packet_of}
 
+-- an item of three bytes in flight
+abbrev one_item : Item
+one_item =
+    record {
+      fragment = record { message_id = 1; stream = 4; ssn = 0; mid = 0; fsn = 0; ppid = 53; is_unordered = false; is_beginning = true; is_end = true; payload = 1 ∷ 2 ∷ 3 ∷ []; max_retransmissions = None; expires_at = None; lifecycle = None };
+      progress = record { state = InFlight; was_acknowledged = false; times_sent_again = 0; sent_before = None; misses = 0 };
+      sent_at = 500_000_000;
+      begins_after_reset = false;
+    }
+
+-- so many of them
+abbrev items_of : ℕ → List Item
+items_of zero = []
+items_of (suc more) = one_item ∷ items_of more
+
 -- The retransmission timeout is 400 ms, TSN 5 came last, for the second time, and so many items are unacknowledged.
 abbrev moved : Transfer → ℕ → Transfer
 moved transfer items =
     record transfer {
-      retransmission = record transfer.retransmission { unacknowledged_items = items };
-      timeout = record { rto = 400_000_000; srtt = 100_000_000 };
+      retransmission = record transfer.retransmission { outstanding = record transfer.retransmission.outstanding { items = items_of items } };
+      timeout = record transfer.timeout { rto = 400_000_000; srtt = 100_000_000 };
       tracker = record transfer.tracker { cumulative = 2 ^ 32 + 5 };
     }
 

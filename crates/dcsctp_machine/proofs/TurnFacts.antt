@@ -16,7 +16,8 @@ use Rattle.dcsctp_machine.specs.Offer.{offer_of}
 use Rattle.dcsctp_machine.specs.Cookie.{cookie_bytes, cookie_at}
 use Rattle.dcsctp_machine.specs.Packet.{Introduction, Content, init_ack, shutdown_ack, Emission, emission_bytes}
 use Rattle.dcsctp_machine.specs.transfer.SendQueue.{empty_queue}
-use Rattle.dcsctp_machine.specs.transfer.Transfer.{new_retransmission, new_transfer}
+use Rattle.dcsctp_machine.specs.transfer.Transfer.{new_transfer}
+use Rattle.dcsctp_machine.specs.transfer.Retransmission.{new_retransmission}
 use Rattle.dcsctp_machine.specs.Admission.{refused, single_init_text, admits}
 use Rattle.dcsctp_machine.specs.Endpoint.{Endpoint, closed, cookie_wait, cookie_echoed, open_in, established, shutdown_pending, shutdown_sent, shutdown_received, shutdown_ack_sent, association_of, own_tag}
 use Rattle.dcsctp_machine.specs.Outcome.{Outcome}
@@ -128,7 +129,7 @@ socket e mtu packets_sent =
       options = configured e.options mtu;
       tie = 77;
       counts = record { packets_received = 3; packets_sent = packets_sent; messages_queued = 5 };
-      below = record { queue = empty_queue e.options; transfer = Some (record (new_transfer e.options nothing_negotiated 0 0 0) { retransmission = new_retransmission e.options false false 0xffffffff 0 }) };
+      below = record { queue = empty_queue e.options; transfer = Some (record (new_transfer e.options nothing_negotiated 0 0 0) { retransmission = new_retransmission e.options 0xffffffff 0 false false }) };
     }
 
 -- the answer without a checksum, of this pair and with this tie tag in the cookie

@@ -7,6 +7,7 @@ use Rattle.dcsctp_machine.specs.control.Acts.{t1_expires, shutdown_repeats, abor
 use Rattle.dcsctp_machine.specs.declared.ends.AbortReason.TheVariants.{TooManyErrors}
 use Rattle.dcsctp_machine.specs.transfer.Tracker.{delayed_acknowledgement}
 use Rattle.dcsctp_machine.specs.transfer.Transfer.{Transfer}
+use Rattle.dcsctp_machine.specs.transfer.Retransmission.{retransmission_deadline}
 use Rattle.dcsctp_machine.specs.turns.HeartbeatOutcomes.{is_exhausted}
 use Rattle.dcsctp_machine.specs.turns.OwnTimers.{OwnTimer, acknowledgement_delay, retransmission, heartbeat_interval, heartbeat_timeout, reconfiguration}
 use Rattle.dcsctp_machine.specs.Turn.{Input, act_input, timer_expires, time_passes, clock_at}
@@ -48,7 +49,7 @@ delay_deadline (Some transfer) = delayed_acknowledgement transfer.tracker
 
 abbrev pub loss_deadline : Option Transfer → Option ℕ
 loss_deadline None = None
-loss_deadline (Some transfer) = transfer.retransmission.deadline
+loss_deadline (Some transfer) = retransmission_deadline transfer.retransmission
 
 abbrev pub deadline : Endpoint → Timer → Option ℕ
 deadline e t1_timer = deadline_of e.timers.t1

@@ -1,6 +1,6 @@
 -- The turns of data leave numbers that fit their fields, and send what is read as itself.
-use Rattle.std.proofs.Common.{◌<◌, ◌^◌, ◌++◌, ℕ, Bool, true, false, cond, Option, None, Some, List, [], ◌∷◌, refl, sym, subst, arith}
-use Rattle.dcsctp_wire.specs.Content.{no_user_data}
+use Rattle.std.proofs.Common.{◌<◌, ◌^◌, ◌++◌, ℕ, Bool, true, false, cond, Option, None, Some, List, [], ◌∷◌, take, refl, sym, subst, arith}
+use Rattle.dcsctp_wire.specs.Content.{SackContent, no_user_data}
 use Rattle.dcsctp_wire.specs.Spelling.{parameters_len}
 use Rattle.dcsctp_machine.specs.declared.association.Held.{Held}
 use Rattle.dcsctp_machine.specs.declared.kinds.ErrorKind.TheVariants.{ProtocolViolation}
@@ -10,11 +10,13 @@ use Rattle.dcsctp_machine.specs.transfer.Tracker.{TrackerState, after_packet_end
 use Rattle.dcsctp_machine.specs.transfer.Transfer.{Below, Transfer}
 use Rattle.dcsctp_machine.specs.transfer.Messages.{MessageContent}
 use Rattle.dcsctp_machine.specs.Endpoint.{Endpoint, held_in}
-use Rattle.dcsctp_machine.specs.Outcome.{Outcome, still, quiet, sends, behind, then_outcome, to_peer}
-use Rattle.dcsctp_machine.specs.Outcome.{fits as fits_mtu}
+use Rattle.dcsctp_machine.specs.Outcome.{Outcome, still, quiet, sends, behind, then_outcome, to_peer, fits as fits_mtu}
 use Rattle.dcsctp_machine.specs.control.Choices.{plain_contents}
 use Rattle.dcsctp_machine.specs.turns.FlushOutcomes.{own_sack, Answer, goes_out, draft_to, flush_of, room_in}
-use Rattle.dcsctp_machine.specs.turns.TransferMoves.{delivered_events}
+use Rattle.dcsctp_machine.specs.transfer.Acknowledging.{ends_delivery, told_by, delivered}
+use Rattle.dcsctp_machine.specs.transfer.Items.{Item}
+use Rattle.dcsctp_machine.specs.transfer.Outstanding.{acknowledged_by}
+use Rattle.dcsctp_machine.specs.transfer.Retransmission.{has_fast_retransmit}
 use Rattle.dcsctp_machine.specs.transfer.OwnResets.{prepared_all, prepare_all_events}
 use Rattle.dcsctp_machine.proofs.SendEventLemmas.{told_prepared}
 use Rattle.dcsctp_machine.specs.turns.MessageOutcomes.{MessageRefusal, sending_refusal, name_of, refusal_events, Sending, queue_by, queue_one, queue_all, takes_any, SendAnswers, send_by, SendTurn}
@@ -22,7 +24,8 @@ use Rattle.dcsctp_machine.specs.turns.PreparedResets.{ResetRefusal, reset_refusa
 use Rattle.dcsctp_machine.specs.declared.arrivals.SkippedTo.{SkippedTo}
 use Rattle.dcsctp_machine.specs.transfer.Arrivals.{Arrival}
 use Rattle.dcsctp_machine.specs.transfer.Reassembly.{with_ready}
-use Rattle.dcsctp_machine.specs.turns.DataOutcomes.{DataWhere, TakeWhere, TakeTurn, with_transfer, with_tracker, flush_by, AnswersTo, FlushTurn, no_user_data_text, no_user_data_outcome, ReceiveTurn, DataTurn, ForwardTurn, is_sack_valid, SendsAtOnce, FastRetransmits, sack_taken, AcknowledgesBy, SackWhere, SackBy, SackTurn, acknowledging, AnswersPacket, EndWhere, EndsBy, delay_outcome, LossTurn}
+use Rattle.dcsctp_machine.specs.turns.DataOutcomes.{DataWhere, TakeWhere, TakeTurn, with_transfer, with_tracker, flush_by, AnswersTo, FlushTurn, no_user_data_text, no_user_data_outcome, ReceiveTurn, DataTurn, ForwardTurn, SendsAtOnce, FastRetransmits, sack_taken, AcknowledgesBy, SackWhere, SackBy, SackTurn, acknowledging, AnswersPacket, EndWhere, EndsBy, delay_outcome, LossTurn}
+use Rattle.dcsctp_machine.specs.transfer.Acknowledging.{is_sack_valid}
 use Rattle.dcsctp_machine.specs.Fitting.{AllSent, FitsHeld, FitsEndpoint, IsSendable, Sendable, TurnFits}
 use Rattle.dcsctp_machine.proofs.FlushKeeps.{goes_out_keeps}
 use Rattle.dcsctp_machine_refinement.proofs.FlushFits.{kept_fits, still_fits, data_sendable, where_fits_sendable, own_sack_sendable, told_sends, goes_out_sends, draft_sendable, flush_fits, behind_fits}
@@ -87,9 +90,15 @@ forward_fits e (Some transfer) tsn entries o turn h = subst TurnFits (sym turn.2
 
 -- ---- SACK
 
-delivered_send_nothing : (ids : List ℕ) → AllSent IsSendable (delivered_events ids)
+told_send_nothing : (name : Option ℕ) (ends : Bool) → AllSent IsSendable (told_by name ends)
+told_send_nothing None ends = tt
+told_send_nothing (Some id) true = (tt, (tt, tt))
+told_send_nothing (Some id) false = tt
+
+delivered_send_nothing : (items : List Item) → AllSent IsSendable (delivered items)
 delivered_send_nothing [] = tt
-delivered_send_nothing (id ∷ ids) = (tt, (tt, delivered_send_nothing ids))
+delivered_send_nothing (item ∷ items) =
+    all_sent_append IsSendable (told_by item.fragment.lifecycle (ends_delivery item)) (delivered items) (told_send_nothing item.fragment.lifecycle (ends_delivery item)) (delivered_send_nothing items)
 
 -- The packet of lost items holds data alone.
 at_once_fits : (e : Endpoint) (held : Held) (transfer : Transfer) (o : Outcome) → SendsAtOnce e held transfer o → FitsEndpoint e → FitsHeld held → TurnFits o
@@ -111,27 +120,28 @@ fast_fits true e held transfer o turn h fits = at_once_fits e held transfer o tu
 taken_fits : (e : Endpoint) (old new : Transfer) → FitsEndpoint e → FitsEndpoint (sack_taken e old new)
 taken_fits e old new h = record { valid = h.valid; options = h.options; core = h.core; t1 = h.t1 }
 
-acknowledges_fits : (e : Endpoint) (held : Held) (transfer : Transfer) (o : Outcome) → AcknowledgesBy e held transfer o → FitsEndpoint e → FitsHeld held → TurnFits o
-acknowledges_fits e held transfer o turn h fits =
+acknowledges_fits : (e : Endpoint) (held : Held) (transfer : Transfer) (sack : SackContent) (o : Outcome) → AcknowledgesBy e held transfer sack o → FitsEndpoint e → FitsHeld held → TurnFits o
+acknowledges_fits e held transfer sack o turn h fits =
     let step : TurnFits turn.stepped = subst TurnFits (sym turn.steps) (step_fits (sack_taken e transfer turn.left) e.core (taken_fits e transfer turn.left h) h.core) in
-    let fast : TurnFits turn.fast = fast_fits turn.left.retransmission.has_fast_retransmit turn.stepped.after held turn.left turn.fast turn.resends step.after fits in
+    let fast : TurnFits turn.fast = fast_fits (has_fast_retransmit turn.left.retransmission) turn.stepped.after held turn.left turn.fast turn.resends step.after fits in
+    let acknowledged : List Item = take (acknowledged_by transfer.retransmission.outstanding sack.cumulative_tsn_ack) transfer.retransmission.outstanding.items in
     subst TurnFits (sym turn.is)
-    (behind_fits [] (delivered_events turn.ids ++ (turn.stepped.events ++ turn.fast.events)) (flush_of turn.fast.after (draft_to held) turn.answers)
-    (all_sent_append IsSendable (delivered_events turn.ids) (turn.stepped.events ++ turn.fast.events) (delivered_send_nothing turn.ids)
+    (behind_fits [] (delivered acknowledged ++ (turn.stepped.events ++ turn.fast.events)) (flush_of turn.fast.after (draft_to held) turn.answers)
+    (all_sent_append IsSendable (delivered acknowledged) (turn.stepped.events ++ turn.fast.events) (delivered_send_nothing acknowledged)
     (all_sent_append IsSendable turn.stepped.events turn.fast.events step.sends fast.sends))
     (flush_fits turn.fast.after (draft_to held) turn.answers turn.allowed fast.after (draft_sendable held fits)))
 
-sack_where_fits : (b : Bool) (e : Endpoint) (held : Held) (transfer : Transfer) (o : Outcome) → SackWhere b e held transfer o → FitsEndpoint e → FitsHeld held → TurnFits o
-sack_where_fits false e held transfer o turn h fits = subst TurnFits (sym turn) (still_fits e h)
-sack_where_fits true e held transfer o turn h fits = acknowledges_fits e held transfer o turn h fits
+sack_where_fits : (b : Bool) (e : Endpoint) (held : Held) (transfer : Transfer) (sack : SackContent) (o : Outcome) → SackWhere b e held transfer sack o → FitsEndpoint e → FitsHeld held → TurnFits o
+sack_where_fits false e held transfer sack o turn h fits = subst TurnFits (sym turn) (still_fits e h)
+sack_where_fits true e held transfer sack o turn h fits = acknowledges_fits e held transfer sack o turn h fits
 
-sack_by_fits : (e : Endpoint) (peer : Option Held) (transfer : Transfer) (tsn : ℕ) (o : Outcome) → SackBy e peer transfer tsn o → FitsEndpoint e → FitsPeer peer → TurnFits o
-sack_by_fits e None transfer tsn o turn h fits = subst TurnFits (sym turn) (still_fits e h)
-sack_by_fits e (Some held) transfer tsn o turn h fits = sack_where_fits (is_sack_valid transfer.retransmission tsn) e held transfer o turn h fits
+sack_by_fits : (e : Endpoint) (peer : Option Held) (transfer : Transfer) (sack : SackContent) (o : Outcome) → SackBy e peer transfer sack o → FitsEndpoint e → FitsPeer peer → TurnFits o
+sack_by_fits e None transfer sack o turn h fits = subst TurnFits (sym turn) (still_fits e h)
+sack_by_fits e (Some held) transfer sack o turn h fits = sack_where_fits (is_sack_valid transfer.retransmission sack.cumulative_tsn_ack) e held transfer sack o turn h fits
 
-pub sack_fits : (e : Endpoint) (transfer : Option Transfer) (tsn : ℕ) (o : Outcome) → SackTurn e transfer tsn o → FitsEndpoint e → TurnFits o
-sack_fits e None tsn o turn h = subst TurnFits (sym turn) (record { after = h; sends = (tt, tt) })
-sack_fits e (Some transfer) tsn o turn h = sack_by_fits e (held_in e.core) transfer tsn o turn h (peer_fits e.core h.core)
+pub sack_fits : (e : Endpoint) (transfer : Option Transfer) (sack : SackContent) (o : Outcome) → SackTurn e transfer sack o → FitsEndpoint e → TurnFits o
+sack_fits e None sack o turn h = subst TurnFits (sym turn) (record { after = h; sends = (tt, tt) })
+sack_fits e (Some transfer) sack o turn h = sack_by_fits e (held_in e.core) transfer sack o turn h (peer_fits e.core h.core)
 
 -- ---- the end of a packet
 
@@ -217,4 +227,4 @@ delay_fits e (Some transfer) h = moved_fits e (record transfer { tracker = delay
 
 pub loss_fits : (e : Endpoint) (transfer : Option Transfer) (o : Outcome) → LossTurn e transfer o → FitsEndpoint e → TurnFits o
 loss_fits e None o turn h = subst TurnFits (sym turn) (still_fits e h)
-loss_fits e (Some transfer) o turn h = subst TurnFits (sym turn.2) (record { after = record { valid = h.valid; options = h.options; core = h.core; t1 = h.t1 }; sends = tt })
+loss_fits e (Some transfer) o turn h = subst TurnFits (sym turn) (record { after = record { valid = h.valid; options = h.options; core = h.core; t1 = h.t1 }; sends = tt })

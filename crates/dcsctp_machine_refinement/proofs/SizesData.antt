@@ -1,7 +1,7 @@
 -- The turns of data send no packet that is longer than a limit.
-use Rattle.std.proofs.Common.{◌≡◌, ◌≤◌, ◌+◌, ℕ, Bool, true, false, cond, nat_le, Option, None, Some, List, [], ◌∷◌, ◌++◌, map, length, refl, sym, subst, arith, length-append}
+use Rattle.std.proofs.Common.{◌≡◌, ◌≤◌, ◌+◌, ℕ, Bool, true, false, cond, nat_le, Option, None, Some, List, [], ◌∷◌, ◌++◌, map, length, refl, sym, subst, arith, length-append, take}
 use Rattle.std.proofs.lemmas.Bool.Decides.{nat_tests}
-use Rattle.dcsctp_wire.specs.Content.{no_user_data}
+use Rattle.dcsctp_wire.specs.Content.{SackContent, no_user_data}
 use Rattle.dcsctp_wire.specs.Spelling.{chunk_bytes}
 use Rattle.dcsctp_machine.specs.declared.association.Held.{Held}
 use Rattle.dcsctp_machine.specs.declared.arrivals.SkippedTo.{SkippedTo}
@@ -19,8 +19,12 @@ use Rattle.dcsctp_machine.specs.control.Choices.{plain_contents}
 use Rattle.dcsctp_machine.specs.turns.FlushOutcomes.{own_sack, Told, amount_is_low, total_amount_is_low, message_is_sent, message_may_have_expired, message_has_expired, message_ends, told_event, Answer, goes_out, draft_to, flush_of, room_in}
 use Rattle.dcsctp_machine.specs.turns.MessageOutcomes.{MessageRefusal, refusal_events, Sending, sending_refusal, name_of, queue_by, queue_one, queue_all, takes_any, SendAnswers, send_by, SendTurn}
 use Rattle.dcsctp_machine.specs.turns.PreparedResets.{ResetRefusal, reset_refusal, with_queue, OwnResetsWhere, OwnResetsTurn}
-use Rattle.dcsctp_machine.specs.turns.TransferMoves.{delivered_events}
-use Rattle.dcsctp_machine.specs.turns.DataOutcomes.{DataWhere, with_transfer, with_tracker, flush_by, AnswersTo, FlushTurn, no_user_data_outcome, ReceiveTurn, DataTurn, ForwardTurn, is_sack_valid, SendsAtOnce, FastRetransmits, sack_taken, AcknowledgesBy, SackWhere, SackBy, SackTurn, acknowledging, EndWhere, EndsBy, TakeWhere, TakeTurn, delay_outcome, LossTurn}
+use Rattle.dcsctp_machine.specs.transfer.Acknowledging.{ends_delivery, told_by, delivered}
+use Rattle.dcsctp_machine.specs.transfer.Items.{Item}
+use Rattle.dcsctp_machine.specs.transfer.Outstanding.{acknowledged_by}
+use Rattle.dcsctp_machine.specs.transfer.Retransmission.{has_fast_retransmit}
+use Rattle.dcsctp_machine.specs.turns.DataOutcomes.{DataWhere, with_transfer, with_tracker, flush_by, AnswersTo, FlushTurn, no_user_data_outcome, ReceiveTurn, DataTurn, ForwardTurn, SendsAtOnce, FastRetransmits, sack_taken, AcknowledgesBy, SackWhere, SackBy, SackTurn, acknowledging, EndWhere, EndsBy, TakeWhere, TakeTurn, delay_outcome, LossTurn}
+use Rattle.dcsctp_machine.specs.transfer.Acknowledging.{is_sack_valid}
 use Rattle.dcsctp_machine_refinement.proofs.Sizes.{AtLimit, IsShort, AllShort, TurnSizes, short_append, emits_sizes, flush_sizes}
 use Rattle.dcsctp_machine_refinement.proofs.SizesShutdown.{step_sizes}
 
@@ -60,9 +64,15 @@ forward_sizes limit e (Some transfer) tsn entries o turn h = subst (TurnSizes li
 
 -- ---- SACK
 
-delivered_short : (limit : ℕ) (ids : List ℕ) → AllShort limit (delivered_events ids)
+told_of_short : (limit : ℕ) (name : Option ℕ) (ends : Bool) → AllShort limit (told_by name ends)
+told_of_short limit None ends = tt
+told_of_short limit (Some id) true = tt
+told_of_short limit (Some id) false = tt
+
+delivered_short : (limit : ℕ) (items : List Item) → AllShort limit (delivered items)
 delivered_short limit [] = tt
-delivered_short limit (id ∷ ids) = delivered_short limit ids
+delivered_short limit (item ∷ items) =
+    short_append limit (told_by item.fragment.lifecycle (ends_delivery item)) (delivered items) (told_of_short limit item.fragment.lifecycle (ends_delivery item)) (delivered_short limit items)
 
 -- a packet, unless it is empty
 out_sizes : (limit : ℕ) (e : Endpoint) (with_checksum : Bool) (tag : ℕ) (contents : List Content) → AtLimit limit e → 12 + contents_len contents ≤ limit
@@ -80,30 +90,31 @@ fast_sizes : (b : Bool) (limit : ℕ) (e : Endpoint) (held : Held) (transfer : T
 fast_sizes false limit e held transfer o turn h = subst (TurnSizes limit) (sym turn) (h, tt)
 fast_sizes true limit e held transfer o turn h = at_once_sizes limit e held transfer o turn h
 
-acknowledges_sizes : (limit : ℕ) (e : Endpoint) (held : Held) (transfer : Transfer) (o : Outcome) → AcknowledgesBy e held transfer o → AtLimit limit e → TurnSizes limit o
-acknowledges_sizes limit e held transfer o turn h =
+acknowledges_sizes : (limit : ℕ) (e : Endpoint) (held : Held) (transfer : Transfer) (sack : SackContent) (o : Outcome) → AcknowledgesBy e held transfer sack o → AtLimit limit e → TurnSizes limit o
+acknowledges_sizes limit e held transfer sack o turn h =
     let step : TurnSizes limit turn.stepped = subst (TurnSizes limit) (sym turn.steps) (step_sizes limit (sack_taken e transfer turn.left) e.core h) in
-    let fast : TurnSizes limit turn.fast = fast_sizes turn.left.retransmission.has_fast_retransmit limit turn.stepped.after held turn.left turn.fast turn.resends step.0 in
+    let fast : TurnSizes limit turn.fast = fast_sizes (has_fast_retransmit turn.left.retransmission) limit turn.stepped.after held turn.left turn.fast turn.resends step.0 in
     let flushed : TurnSizes limit (flush_of turn.fast.after (draft_to held) turn.answers) =
     flush_sizes limit turn.fast.after (draft_to held) turn.answers turn.allowed fast.0 (draft_short limit turn.fast.after held fast.0) in
+    let acknowledged : List Item = take (acknowledged_by transfer.retransmission.outstanding sack.cumulative_tsn_ack) transfer.retransmission.outstanding.items in
     subst (TurnSizes limit) (sym turn.is) (
       flushed.0,
-      short_append limit (delivered_events turn.ids ++ (turn.stepped.events ++ turn.fast.events)) (flush_of turn.fast.after (draft_to held) turn.answers).events
-          (short_append limit (delivered_events turn.ids) (turn.stepped.events ++ turn.fast.events) (delivered_short limit turn.ids)
+      short_append limit (delivered acknowledged ++ (turn.stepped.events ++ turn.fast.events)) (flush_of turn.fast.after (draft_to held) turn.answers).events
+          (short_append limit (delivered acknowledged) (turn.stepped.events ++ turn.fast.events) (delivered_short limit acknowledged)
           (short_append limit turn.stepped.events turn.fast.events step.1 fast.1)) flushed.1,
     )
 
-sack_where_sizes : (b : Bool) (limit : ℕ) (e : Endpoint) (held : Held) (transfer : Transfer) (o : Outcome) → SackWhere b e held transfer o → AtLimit limit e → TurnSizes limit o
-sack_where_sizes false limit e held transfer o turn h = subst (TurnSizes limit) (sym turn) (h, tt)
-sack_where_sizes true limit e held transfer o turn h = acknowledges_sizes limit e held transfer o turn h
+sack_where_sizes : (b : Bool) (limit : ℕ) (e : Endpoint) (held : Held) (transfer : Transfer) (sack : SackContent) (o : Outcome) → SackWhere b e held transfer sack o → AtLimit limit e → TurnSizes limit o
+sack_where_sizes false limit e held transfer sack o turn h = subst (TurnSizes limit) (sym turn) (h, tt)
+sack_where_sizes true limit e held transfer sack o turn h = acknowledges_sizes limit e held transfer sack o turn h
 
-sack_by_sizes : (limit : ℕ) (e : Endpoint) (peer : Option Held) (transfer : Transfer) (tsn : ℕ) (o : Outcome) → SackBy e peer transfer tsn o → AtLimit limit e → TurnSizes limit o
-sack_by_sizes limit e None transfer tsn o turn h = subst (TurnSizes limit) (sym turn) (h, tt)
-sack_by_sizes limit e (Some held) transfer tsn o turn h = sack_where_sizes (is_sack_valid transfer.retransmission tsn) limit e held transfer o turn h
+sack_by_sizes : (limit : ℕ) (e : Endpoint) (peer : Option Held) (transfer : Transfer) (sack : SackContent) (o : Outcome) → SackBy e peer transfer sack o → AtLimit limit e → TurnSizes limit o
+sack_by_sizes limit e None transfer sack o turn h = subst (TurnSizes limit) (sym turn) (h, tt)
+sack_by_sizes limit e (Some held) transfer sack o turn h = sack_where_sizes (is_sack_valid transfer.retransmission sack.cumulative_tsn_ack) limit e held transfer sack o turn h
 
-pub sack_sizes : (limit : ℕ) (e : Endpoint) (transfer : Option Transfer) (tsn : ℕ) (o : Outcome) → SackTurn e transfer tsn o → AtLimit limit e → TurnSizes limit o
-sack_sizes limit e None tsn o turn h = subst (TurnSizes limit) (sym turn) (h, tt)
-sack_sizes limit e (Some transfer) tsn o turn h = sack_by_sizes limit e (held_in e.core) transfer tsn o turn h
+pub sack_sizes : (limit : ℕ) (e : Endpoint) (transfer : Option Transfer) (sack : SackContent) (o : Outcome) → SackTurn e transfer sack o → AtLimit limit e → TurnSizes limit o
+sack_sizes limit e None sack o turn h = subst (TurnSizes limit) (sym turn) (h, tt)
+sack_sizes limit e (Some transfer) sack o turn h = sack_by_sizes limit e (held_in e.core) transfer sack o turn h
 
 -- ---- the end of a packet
 
@@ -199,4 +210,4 @@ delay_sizes limit e (Some transfer) h = (h, tt)
 
 pub loss_sizes : (limit : ℕ) (e : Endpoint) (transfer : Option Transfer) (o : Outcome) → LossTurn e transfer o → AtLimit limit e → TurnSizes limit o
 loss_sizes limit e None o turn h = subst (TurnSizes limit) (sym turn) (h, tt)
-loss_sizes limit e (Some transfer) o turn h = subst (TurnSizes limit) (sym turn.2) (h, tt)
+loss_sizes limit e (Some transfer) o turn h = subst (TurnSizes limit) (sym turn) (h, tt)

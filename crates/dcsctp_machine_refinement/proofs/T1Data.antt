@@ -1,12 +1,13 @@
 -- The turns of data leave T1 running where the association connects.
 use Rattle.std.proofs.Common.{ℕ, Bool, true, false, cond, Option, None, Some, List, [], ◌∷◌, sym, subst}
-use Rattle.dcsctp_wire.specs.Content.{no_user_data}
+use Rattle.dcsctp_wire.specs.Content.{SackContent, no_user_data}
 use Rattle.dcsctp_machine.specs.declared.association.Held.{Held}
 use Rattle.dcsctp_machine.specs.declared.kinds.ErrorKind.TheVariants.{ProtocolViolation}
 use Rattle.dcsctp_machine.specs.Event.{error}
 use Rattle.dcsctp_machine.specs.Packet.{plain, error_of}
 use Rattle.dcsctp_machine.specs.transfer.Tracker.{TrackerState, after_packet_end, is_acknowledgement_due, sacked}
 use Rattle.dcsctp_machine.specs.transfer.Messages.{MessageContent}
+use Rattle.dcsctp_machine.specs.transfer.Retransmission.{has_fast_retransmit}
 use Rattle.dcsctp_machine.specs.transfer.Transfer.{Transfer}
 use Rattle.dcsctp_machine.specs.Endpoint.{Endpoint, held_in}
 use Rattle.dcsctp_machine.specs.Outcome.{Outcome, quiet, sends, fits, to_peer, behind}
@@ -17,7 +18,8 @@ use Rattle.dcsctp_machine.specs.turns.MessageOutcomes.{MessageRefusal, sending_r
 use Rattle.dcsctp_machine.specs.turns.PreparedResets.{ResetRefusal, reset_refusal, with_queue, OwnResetsWhere, OwnResetsTurn}
 use Rattle.dcsctp_machine.specs.declared.arrivals.SkippedTo.{SkippedTo}
 use Rattle.dcsctp_machine.specs.transfer.Arrivals.{Arrival}
-use Rattle.dcsctp_machine.specs.turns.DataOutcomes.{DataWhere, with_transfer, with_tracker, flush_by, AnswersTo, FlushTurn, no_user_data_text, no_user_data_outcome, ReceiveTurn, DataTurn, ForwardTurn, is_sack_valid, FastRetransmits, sack_taken, AcknowledgesBy, SackWhere, SackBy, SackTurn, acknowledging, EndWhere, EndsBy, TakeWhere, TakeTurn, delay_outcome, LossTurn}
+use Rattle.dcsctp_machine.specs.turns.DataOutcomes.{DataWhere, with_transfer, with_tracker, flush_by, AnswersTo, FlushTurn, no_user_data_text, no_user_data_outcome, ReceiveTurn, DataTurn, ForwardTurn, FastRetransmits, sack_taken, AcknowledgesBy, SackWhere, SackBy, SackTurn, acknowledging, EndWhere, EndsBy, TakeWhere, TakeTurn, delay_outcome, LossTurn}
+use Rattle.dcsctp_machine.specs.transfer.Acknowledging.{is_sack_valid}
 use Rattle.dcsctp_machine.proofs.FlushKeeps.{goes_out_keeps}
 use Rattle.dcsctp_machine_refinement.proofs.T1Shutdown.{step_up}
 use Rattle.dcsctp_machine_refinement.proofs.T1Turns.{Up, UpAfter, kept_up, flush_up}
@@ -67,23 +69,23 @@ fast_up true e held transfer o turn h =
     subst UpAfter (sym turn.is)
     (kept_up None base (goes_out base [] with_checksum held.peer.tag (plain_contents turn.chunks)) (goes_out_keeps base [] with_checksum held.peer.tag (plain_contents turn.chunks)) h)
 
-acknowledges_up : (e : Endpoint) (held : Held) (transfer : Transfer) (o : Outcome) → AcknowledgesBy e held transfer o → Up e → UpAfter o
-acknowledges_up e held transfer o turn h =
+acknowledges_up : (e : Endpoint) (held : Held) (transfer : Transfer) (sack : SackContent) (o : Outcome) → AcknowledgesBy e held transfer sack o → Up e → UpAfter o
+acknowledges_up e held transfer sack o turn h =
     let step : UpAfter turn.stepped = subst UpAfter (sym turn.steps) (step_up (sack_taken e transfer turn.left) e.core h) in
-    let fast : UpAfter turn.fast = fast_up turn.left.retransmission.has_fast_retransmit turn.stepped.after held turn.left turn.fast turn.resends step in
+    let fast : UpAfter turn.fast = fast_up (has_fast_retransmit turn.left.retransmission) turn.stepped.after held turn.left turn.fast turn.resends step in
     subst UpAfter (sym turn.is) (flush_up turn.fast.after (draft_to held) turn.answers turn.allowed fast)
 
-sack_where_up : (b : Bool) (e : Endpoint) (held : Held) (transfer : Transfer) (o : Outcome) → SackWhere b e held transfer o → Up e → UpAfter o
-sack_where_up false e held transfer o turn h = subst UpAfter (sym turn) h
-sack_where_up true e held transfer o turn h = acknowledges_up e held transfer o turn h
+sack_where_up : (b : Bool) (e : Endpoint) (held : Held) (transfer : Transfer) (sack : SackContent) (o : Outcome) → SackWhere b e held transfer sack o → Up e → UpAfter o
+sack_where_up false e held transfer sack o turn h = subst UpAfter (sym turn) h
+sack_where_up true e held transfer sack o turn h = acknowledges_up e held transfer sack o turn h
 
-sack_by_up : (e : Endpoint) (peer : Option Held) (transfer : Transfer) (tsn : ℕ) (o : Outcome) → SackBy e peer transfer tsn o → Up e → UpAfter o
-sack_by_up e None transfer tsn o turn h = subst UpAfter (sym turn) h
-sack_by_up e (Some held) transfer tsn o turn h = sack_where_up (is_sack_valid transfer.retransmission tsn) e held transfer o turn h
+sack_by_up : (e : Endpoint) (peer : Option Held) (transfer : Transfer) (sack : SackContent) (o : Outcome) → SackBy e peer transfer sack o → Up e → UpAfter o
+sack_by_up e None transfer sack o turn h = subst UpAfter (sym turn) h
+sack_by_up e (Some held) transfer sack o turn h = sack_where_up (is_sack_valid transfer.retransmission sack.cumulative_tsn_ack) e held transfer sack o turn h
 
-pub sack_up : (e : Endpoint) (transfer : Option Transfer) (tsn : ℕ) (o : Outcome) → SackTurn e transfer tsn o → Up e → UpAfter o
-sack_up e None tsn o turn h = subst UpAfter (sym turn) h
-sack_up e (Some transfer) tsn o turn h = sack_by_up e (held_in e.core) transfer tsn o turn h
+pub sack_up : (e : Endpoint) (transfer : Option Transfer) (sack : SackContent) (o : Outcome) → SackTurn e transfer sack o → Up e → UpAfter o
+sack_up e None sack o turn h = subst UpAfter (sym turn) h
+sack_up e (Some transfer) sack o turn h = sack_by_up e (held_in e.core) transfer sack o turn h
 
 -- ---- the end of a packet
 
@@ -142,4 +144,4 @@ delay_up e (Some transfer) h = h
 
 pub loss_up : (e : Endpoint) (transfer : Option Transfer) (o : Outcome) → LossTurn e transfer o → Up e → UpAfter o
 loss_up e None o turn h = subst UpAfter (sym turn) h
-loss_up e (Some transfer) o turn h = subst UpAfter (sym turn.2) h
+loss_up e (Some transfer) o turn h = subst UpAfter (sym turn) h

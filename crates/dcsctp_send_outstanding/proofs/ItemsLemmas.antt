@@ -5,17 +5,17 @@ use Rattle.std.specs.List.{sum_by, slice_get}
 use Rattle.std.proofs.lemmas.List.Sums.{sum_by-set, sum_by-cons, sum_by_push, get_or-le-sum_by}
 use Rattle.std.proofs.lemmas.Option.{slice_get_within}
 use Rattle.dcsctp_wire.specs.declared.chunk.sack.GapAckBlock.{GapAckBlock}
-use Rattle.dcsctp_send_outstanding.specs.declared.progress.Change.TheVariants.{Acknowledge}
-use Rattle.dcsctp_send_outstanding.specs.declared.item.Item.{Item}
+use Rattle.dcsctp_machine.specs.declared.progress.Change.TheVariants.{Acknowledge}
+use Rattle.dcsctp_machine.specs.transfer.Items.{Item, counted, size_of, in_flight_size, unacknowledged_size, unacknowledged_count, never_acknowledged_count, marked_count, marked_items, changed_item, changed_between}
 use Rattle.dcsctp_send_outstanding.specs.declared.named_places.NamedPlaces.{NamedPlaces}
-use Rattle.dcsctp_send_outstanding.specs.declared.progress.Change.{Change}
-use Rattle.dcsctp_send_outstanding.specs.declared.progress.Progress.{Progress}
+use Rattle.dcsctp_machine.specs.declared.progress.Change.{Change}
+use Rattle.dcsctp_machine.specs.declared.progress.Progress.{Progress}
 use Rattle.dcsctp_send_outstanding.specs.declared.totals.Totals.{Totals}
-use Rattle.dcsctp_send_outstanding.specs.Progress.{is_in_flight, is_marked, is_unacknowledged, changed}
-use Rattle.dcsctp_send_outstanding.specs.Items.{counted, size_of, in_flight_size, unacknowledged_size, unacknowledged_count, never_acknowledged_count, marked_count, marked_items, changed_item, changed_between, cursor_after}
+use Rattle.dcsctp_machine.specs.transfer.Progress.{is_in_flight, is_marked, is_unacknowledged, changed}
+use Rattle.dcsctp_send_outstanding.specs.Outstanding.{cursor_after, IsSummed, NoneMarkedBefore, NoneMarkedBetween, IsKept}
 use Rattle.dcsctp_send_outstanding.specs.NamedPlaces.{AreSettled}
 use Rattle.dcsctp_send_outstanding.specs.Totals.{total_with, total_without, HasRoom}
-use Rattle.dcsctp_send_outstanding.specs.Outstanding.{OutstandingModel, IsSummed, NoneMarkedBefore, NoneMarkedBetween, IsKept, reported}
+use Rattle.dcsctp_machine.specs.transfer.Outstanding.{OutstandingState, reported}
 
 -- a sum of terms that have a bound
 pub sum_bounded : {X : Type 0} (f : X → ℕ) (bound : ℕ) → ((x : X) → f x ≤ bound) → (xs : List X) → sum_by f xs ≤ length xs * bound
@@ -240,7 +240,7 @@ drop_one_more (suc k) (x ∷ xs) = drop_one_more k xs
 pub drop_further : {X : Type 0} (k : ℕ) (xs : List X) → drop 1 (drop k xs) ≡ drop (k + 1) xs
 drop_further k xs = rw add-one (drop_one_more k xs)
 
-abbrev pub same_model : ℕ → ℕ → List Item → OutstandingModel
+abbrev pub same_model : ℕ → ℕ → List Item → OutstandingState
 same_model first header items = record { first_tsn = first; header = header; items = items }
 
 pub same_outstanding : (a b header : ℕ) (xs ys : List Item) → a ≡ b → xs ≡ ys → same_model a header xs ≡ same_model b header ys

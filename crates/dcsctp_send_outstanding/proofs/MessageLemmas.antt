@@ -2,7 +2,7 @@
 use Rattle.std.proofs.Common.{◌≡◌, ◌∙◌, ◌+◌, Bool, ◌<◌, ◌≤◌, ◌==◌, true, false, ℕ, zero, suc, Some, List, [], ◌∷◌, length, ap, sym, arith}
 use Rattle.std.specs.List.{slice_get, slice_index_or}
 use Rattle.std.proofs.lemmas.Bool.Decides.{nat_tests}
-use Rattle.dcsctp_send_outstanding.specs.declared.item.Item.{Item}
+use Rattle.dcsctp_machine.specs.transfer.Items.{Item}
 use Rattle.dcsctp_send_outstanding.specs.Messages.{AtPlace, StartsMessage, EndsMessage}
 
 -- all items from this place on and before that one bear the message

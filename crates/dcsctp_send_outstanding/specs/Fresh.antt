@@ -1,8 +1,8 @@
 -- Chunks that are sent for the first time: their TSNs follow each other (RFC 9260, section 6.1).
-use Rattle.std.specs.Prelude.{◌≡◌, ℕ, zero, suc, ◌+◌, ◌%◌, ◌^◌, ◌<◌, ◌≤◌, List, [], ◌∷◌, ◌++◌, length, vec_len}
-use Rattle.dcsctp_send_outstanding.specs.declared.item.Item.{Item}
-use Rattle.dcsctp_send_outstanding.specs.Items.{marked_items}
-use Rattle.dcsctp_send_outstanding.specs.Outstanding.{OutstandingModel, just_sent}
+use Rattle.std.specs.Prelude.{◌≡◌, ℕ, zero, suc, ◌+◌, ◌%◌, ◌^◌, ◌<◌, ◌≤◌, List, [], ◌∷◌, ◌++◌, length}
+use Rattle.dcsctp_machine.specs.transfer.Items.{Item, marked_items}
+use Rattle.dcsctp_machine.specs.transfer.Outstanding.{OutstandingState}
+use Rattle.dcsctp_machine.specs.transfer.Progress.{just_sent}
 
 -- the TSNs of that many places from this one on
 abbrev pub tsns_from : ℕ → ℕ → ℕ → List ℕ
@@ -13,7 +13,7 @@ tsns_from first place (suc count) = ((first + place) % 2 ^ 32) ∷ tsns_from fir
 pub record IsFresh (now : ℕ) (item : Item) : Type 0 where
   pub progress : item.progress ≡ just_sent
   pub sent_at : item.sent_at ≡ now
-  pub some : 0 < vec_len item.fragment.payload
+  pub some : 0 < length item.fragment.payload
 
 -- each of them does
 abbrev pub AllFresh : ℕ → List Item → Type 0
@@ -21,7 +21,7 @@ AllFresh now [] = Unit {0}
 AllFresh now (item ∷ items) = IsFresh now item × AllFresh now items
 
 -- Such items come after the others, and their TSNs after those in a packet.
-pub record SendsFresh (now : ℕ) (old new : OutstandingModel) (before after : List ℕ) : Type 0 where
+pub record SendsFresh (now : ℕ) (old new : OutstandingState) (before after : List ℕ) : Type 0 where
   pub fresh : List Item
   pub each : AllFresh now fresh
   pub grows : new ≡ record old { items = old.items ++ fresh }
@@ -29,8 +29,8 @@ pub record SendsFresh (now : ℕ) (old new : OutstandingModel) (before after : L
 
 -- The last TSNs of a packet are those of new items, without a gap up to the last one. Before them are at most as many as waited
 -- to be sent again.
-pub record EndsFresh (now : ℕ) (old new : OutstandingModel) (tsns : List ℕ) : Type 0 where
-  pub kept : OutstandingModel
+pub record EndsFresh (now : ℕ) (old new : OutstandingState) (tsns : List ℕ) : Type 0 where
+  pub kept : OutstandingState
   pub again : List ℕ
   pub few : length again + marked_items new.items ≤ marked_items old.items
   pub sends : SendsFresh now kept new again tsns

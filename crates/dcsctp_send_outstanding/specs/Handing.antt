@@ -4,23 +4,22 @@ use Rattle.std.specs.declared.alloc.AllocError.{AllocError}
 use Rattle.dcsctp_machine.specs.Event.{Event}
 use Rattle.dcsctp_machine.specs.transfer.SendQueue.{SendQueueState}
 use Rattle.dcsctp_machine.specs.transfer.Sending.{Takes, TakesNone}
-use Rattle.dcsctp_send_streams.specs.Fragment.{fragment_of}
 use Rattle.dcsctp_send_queue.specs.Calls.{StopsTaking}
-use Rattle.dcsctp_send_outstanding.specs.declared.item.Item.{Item}
-use Rattle.dcsctp_send_outstanding.specs.Outstanding.{OutstandingModel, next_tsn}
+use Rattle.dcsctp_machine.specs.transfer.Items.{Item}
+use Rattle.dcsctp_machine.specs.transfer.Outstanding.{OutstandingState, next_tsn}
 use Rattle.dcsctp_send_outstanding.specs.Fresh.{IsFresh}
 
 -- The next TSN goes to a new item, with what the send queue gives.
-pub record SendsItem (now max : ℕ) (reset_begun : Bool) (old : OutstandingModel) (waiting : SendQueueState) (told : List (Event (List ℕ))) (new : OutstandingModel) (left : SendQueueState) (telling : List (Event (List ℕ))) (tsn : ℕ) : Type 0 where
+pub record SendsItem (now max : ℕ) (reset_begun : Bool) (old : OutstandingState) (waiting : SendQueueState) (told : List (Event (List ℕ))) (new : OutstandingState) (left : SendQueueState) (telling : List (Event (List ℕ))) (tsn : ℕ) : Type 0 where
   pub item : Item
   pub is_fresh : IsFresh now item
   pub begins : item.begins_after_reset ≡ reset_begun
-  pub takes : Takes now max waiting told (fragment_of item.fragment) left telling
+  pub takes : Takes now max waiting told item.fragment left telling
   pub grows : new ≡ record old { items = old.items ++ item ∷ [] }
   pub tsn_is : tsn ≡ next_tsn old
 
 -- what a try to send a new item does, by its result
-abbrev pub TriesItem : ℕ → ℕ → Bool → OutstandingModel → SendQueueState → List (Event (List ℕ)) → OutstandingModel → SendQueueState → List (Event (List ℕ)) → Result (Option ℕ) AllocError → Type 0
+abbrev pub TriesItem : ℕ → ℕ → Bool → OutstandingState → SendQueueState → List (Event (List ℕ)) → OutstandingState → SendQueueState → List (Event (List ℕ)) → Result (Option ℕ) AllocError → Type 0
 TriesItem now max reset_begun old waiting told new left telling (Ok None) = (new ≡ old) × TakesNone now waiting told left telling
 TriesItem now max reset_begun old waiting told new left telling (Ok (Some tsn)) = SendsItem now max reset_begun old waiting told new left telling tsn
 TriesItem now max reset_begun old waiting told new left telling (Err error) =

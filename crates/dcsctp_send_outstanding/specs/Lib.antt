@@ -1,11 +1,8 @@
 pub mod Fresh
 pub mod Handing
-pub mod Items
 pub mod Messages
-pub mod Missing
 pub mod NamedPlaces
 pub mod Next
 pub mod Outstanding
-pub mod Progress
-pub mod Reports
+pub mod Settled
 pub mod Totals

@@ -3,10 +3,9 @@ use Rattle.std.specs.Prelude.{◌≡◌, ◌+◌, ◌%◌, ◌^◌, ◌<◌, ◌
 use Rattle.dcsctp_machine.specs.Event.{Event}
 use Rattle.dcsctp_machine.specs.transfer.SendQueue.{SendQueueState}
 use Rattle.dcsctp_machine.specs.transfer.Sending.{DiscardsNamed}
-use Rattle.dcsctp_send_streams.specs.Fragment.{fragment_of}
-use Rattle.dcsctp_send_outstanding.specs.declared.item.Item.{Item}
-use Rattle.dcsctp_send_outstanding.specs.declared.progress.ItemState.TheVariants.{Abandoned}
-use Rattle.dcsctp_send_outstanding.specs.Outstanding.{OutstandingModel}
+use Rattle.dcsctp_machine.specs.transfer.Items.{Item}
+use Rattle.dcsctp_machine.specs.declared.progress.ItemState.TheVariants.{Abandoned}
+use Rattle.dcsctp_machine.specs.transfer.Outstanding.{OutstandingState}
 
 -- it holds of the item at this place
 abbrev pub AtPlace : List Item → ℕ → (Item → Type 0) → Type 0
@@ -38,7 +37,7 @@ pub record IsEndOf (now : ℕ) (begins : Bool) (last item : Item) : Type 0 where
   pub is_abandoned : item.progress.state ≡ Abandoned
   pub sent_at : item.sent_at ≡ now
   pub begins_after_reset : item.begins_after_reset ≡ begins
-  pub is : fragment_of item.fragment ≡ record (fragment_of last.fragment) {
+  pub is : item.fragment ≡ record last.fragment {
     fsn = (last.fragment.fsn + 1) % 2 ^ 32;
     is_beginning = false;
     is_end = true;
@@ -47,19 +46,19 @@ pub record IsEndOf (now : ℕ) (begins : Bool) (last item : Item) : Type 0 where
   }
 
 -- one more item, which is the end of the message
-pub record AddsEndOf (now : ℕ) (begins : Bool) (last : Item) (old new : OutstandingModel) : Type 0 where
+pub record AddsEndOf (now : ℕ) (begins : Bool) (last : Item) (old new : OutstandingState) : Type 0 where
   pub item : Item
   pub is_end : IsEndOf now begins last item
   pub grows : new ≡ record old { items = old.items ++ item ∷ [] }
 
 -- the end is added where something of the message was dropped
-abbrev pub EndsDropped : ℕ → Bool → Item → OutstandingModel → OutstandingModel → Bool → Type 0
+abbrev pub EndsDropped : ℕ → Bool → Item → OutstandingState → OutstandingState → Bool → Type 0
 EndsDropped now begins last old new true = AddsEndOf now begins last old new
 EndsDropped now begins last old new false = new ≡ old
 
 -- What waits of the message in the send queue is dropped. If the flag is set, streams were reset since the last item was added:
 -- the end of the message lies after the reset.
-pub record DropsRest (now : ℕ) (begins : Bool) (last : Item) (old : OutstandingModel) (waiting : SendQueueState) (told : List (Event (List ℕ))) (new : OutstandingModel) (left : SendQueueState) (telling : List (Event (List ℕ))) : Type 0 where
+pub record DropsRest (now : ℕ) (begins : Bool) (last : Item) (old : OutstandingState) (waiting : SendQueueState) (told : List (Event (List ℕ))) (new : OutstandingState) (left : SendQueueState) (telling : List (Event (List ℕ))) : Type 0 where
   pub is_dropped : Bool
-  pub drops : DiscardsNamed waiting last.fragment.stream_id.0 last.fragment.message_id told is_dropped left telling
+  pub drops : DiscardsNamed waiting last.fragment.stream last.fragment.message_id told is_dropped left telling
   pub ends : EndsDropped now begins last old new is_dropped

@@ -2,7 +2,7 @@
 use Rattle.std.specs.Prelude.{◌≡◌, ℕ, None, List, []}
 use Rattle.dcsctp_machine.specs.transfer.SendQueue.{SendQueueState}
 use Rattle.dcsctp_machine.specs.transfer.SendStreams.{turns_of}
-use Rattle.dcsctp_send_outstanding.specs.declared.item.Item.{Item}
+use Rattle.dcsctp_machine.specs.transfer.Items.{Item}
 use Rattle.dcsctp_send_outstanding.specs.Outstanding.{NoneMarkedBefore, IsMarkedAt}
 
 -- The item at this place is the first that waits to be sent again.

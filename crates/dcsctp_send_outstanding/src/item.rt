@@ -2,9 +2,10 @@
 
 ghost use Rattle.std.specs.Prelude.{◌≡◌, ◌≤◌};
 
-use crate::progress::Progress;
 use dcsctp_api::SocketTime;
+use dcsctp_machine::Progress;
 use dcsctp_send_queue::DataToSend;
+use std::marker::Model;
 
 /// What was sent under one TSN.
 #[derive(Drop)]
@@ -22,8 +23,21 @@ pub struct Item {
     pub begins_after_reset: bool,
 }
 
+impl Model for Item {
+    ghost use Rattle.dcsctp_machine.specs.transfer.Items.{Item};
+
+    ghost Value = { Item };
+
+    ghost view = { λ item. record {
+      fragment = item.fragment;
+      progress = item.progress;
+      sent_at = item.sent_at;
+      begins_after_reset = item.begins_after_reset;
+    } };
+}
+
 impl Item {
-    ghost use Rattle.dcsctp_send_outstanding.specs.Items.{size_of};
+    ghost use Rattle.dcsctp_machine.specs.transfer.Items.{size_of};
 
     /// How long its chunk is, with a header of this size and its padding. No payload is above 65,535 bytes.
     pub fn size(&self, header: usize) -> usize

@@ -4,10 +4,10 @@
 mod item;
 mod named_places;
 mod outstanding;
-mod progress;
+mod settled;
 mod totals;
 
+pub use dcsctp_machine::{Change, ItemState, Progress};
 pub use item::Item;
 pub use outstanding::Outstanding;
-pub use progress::{Change, ItemState, Progress};
 pub use totals::Totals;

@@ -1,16 +1,17 @@
 //! What was sent and isn't acknowledged cumulatively: the items of consecutive TSNs (RFC 9260, section 6.1).
 
 ghost use Rattle.std.specs.Prelude.{◌≡◌, ◌<◌, ◌≤◌, ◌+◌, ◌-◌, ◌^◌};
-ghost use Rattle.dcsctp_send_outstanding.specs.Items.{cursor_after};
+ghost use Rattle.dcsctp_send_outstanding.specs.Outstanding.{cursor_after};
 
 mod messages;
 mod reporting;
 
 use crate::item::Item;
 use crate::named_places::NamedPlaces;
-use crate::progress::{Change, Progress};
+use crate::settled::{is_left_by, is_unsettled_by, leaves_settled};
 use crate::totals::Totals;
 use dcsctp_api::{Events, SocketTime};
+use dcsctp_machine::{Change, Progress};
 use dcsctp_send_queue::SendQueue;
 use std::alloc::{AllocError, Global};
 use std::collections::VecDeque;
@@ -42,9 +43,10 @@ pub struct Outstanding {
 }
 
 impl Model for Outstanding {
-    ghost use Rattle.dcsctp_send_outstanding.specs.Outstanding.{OutstandingModel, IsKept};
+    ghost use Rattle.dcsctp_send_outstanding.specs.Outstanding.{IsKept};
+    ghost use Rattle.dcsctp_machine.specs.transfer.Outstanding.{OutstandingState};
 
-    ghost Value = { OutstandingModel };
+    ghost Value = { OutstandingState };
 
     ghost view = { λ outstanding. record {
       first_tsn = outstanding.first_tsn;
@@ -57,10 +59,11 @@ impl Model for Outstanding {
 
 impl Outstanding {
     ghost use Rattle.std.specs.Prelude.{◌<◌, ◌-◌, ◌%◌, ◌^◌, ◌↔◌, [], IsTrue, IfSome, IfNone, IfOk, Some, None, length, drop, slice_get};
-    ghost use Rattle.dcsctp_send_outstanding.specs.Items.{size_of, bytes_in_flight, unacknowledged_bytes, unacknowledged_items, never_acknowledged_items, marked_items, changed_between};
-    ghost use Rattle.dcsctp_send_outstanding.specs.Progress.{is_marked};
+    ghost use Rattle.dcsctp_machine.specs.transfer.Items.{size_of, bytes_in_flight, unacknowledged_bytes, unacknowledged_items, never_acknowledged_items, marked_items, changed_between};
+    ghost use Rattle.dcsctp_machine.specs.transfer.Progress.{is_marked};
     ghost use Rattle.dcsctp_send_outstanding.specs.Next.{IsNextMarked, HasNone};
-    ghost use Rattle.dcsctp_send_outstanding.specs.Outstanding.{next_tsn, tsn_at, distance_to, FindsPlaces, TriesNext, IsMarkedAt, NoneMarkedBetween};
+    ghost use Rattle.dcsctp_send_outstanding.specs.Outstanding.{FindsPlaces, TriesNext, IsMarkedAt, NoneMarkedBetween};
+    ghost use Rattle.dcsctp_machine.specs.transfer.Outstanding.{next_tsn, tsn_at, distance_to};
     ghost use Rattle.dcsctp_send_outstanding.specs.Handing.{TriesItem};
     ghost use Rattle.dcsctp_send_outstanding.specs.NamedPlaces.{IsLeftBetween};
     ghost use Rattle.dcsctp_send_streams.specs.Telling.{contents};
@@ -192,7 +195,7 @@ impl Outstanding {
         self.totals.remove(before, size);
         self.totals.add(after, size);
         self.cursor = cursor_after(after.state.is_marked(), place, self.cursor);
-        self.named.clear_if(before.is_unsettled_by(change));
+        self.named.clear_if(is_unsettled_by(change, before));
     }
 
     // Makes the change at each place from `start` on and before `end`, as far as there are items.
@@ -211,7 +214,7 @@ impl Outstanding {
         requires { place < length self.old.items }
         ensures { self.new ≡ record self.old { items = changed_between change place (place + 1) self.old.items } }
     {
-        if self.item(place).progress.is_left_by(change) {
+        if is_left_by(change, self.item(place).progress) {
             return;
         }
         self.change_at(change, place);
@@ -224,7 +227,7 @@ impl Outstanding {
         ensures left { IsLeftBetween change place result.1 self.now.items }
     {
         let row = self.named.row_from(row, place);
-        if change.leaves_settled() {
+        if leaves_settled(change) {
             (row, self.named.end_from(row, place))
         } else {
             (row, place)

@@ -1,9 +1,9 @@
 //! The sums over all items that are asked for with each packet.
 
 ghost use Rattle.std.specs.Prelude.{◌≡◌};
-ghost use Rattle.dcsctp_send_outstanding.specs.Items.{counted};
+ghost use Rattle.dcsctp_machine.specs.transfer.Items.{counted};
 
-use crate::progress::Progress;
+use dcsctp_machine::Progress;
 
 /// The sums.
 #[derive(Clone, Copy, Debug)]

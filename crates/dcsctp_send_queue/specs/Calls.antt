@@ -1,5 +1,5 @@
 -- What is left of a send queue if an allocation fails.
-use Rattle.std.specs.Prelude.{◌≡◌, ◌⊎◌, ℕ, ◌+◌, true, Some, List, ◌++◌}
+use Rattle.std.specs.Prelude.{◌≡◌, ◌⊎◌, ℕ, true, Some, List, ◌++◌}
 use Rattle.dcsctp_machine.specs.Event.{Event}
 use Rattle.dcsctp_machine.specs.declared.sending.UnderWay.{UnderWay}
 use Rattle.dcsctp_machine.specs.transfer.SendStreams.{Waiting, front_of, is_expired, stream_at, IsNext}

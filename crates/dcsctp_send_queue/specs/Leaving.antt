@@ -1,5 +1,5 @@
 -- What leaves a send queue, step by step.
-use Rattle.std.specs.Prelude.{◌≡◌, ◌<◌, ◌≤◌, ℕ, ◌+◌, ◌-◌, ◌^◌, min, false, Option, None, Some, List, [], ◌++◌, length, drop, slice_set}
+use Rattle.std.specs.Prelude.{◌≡◌, ◌<◌, ◌≤◌, ℕ, ◌-◌, ◌^◌, min, false, Option, None, Some, List, [], ◌++◌, length, drop, slice_set}
 use Rattle.dcsctp_machine.specs.Event.{Event}
 use Rattle.dcsctp_machine.specs.transfer.SendStreams.{Waiting, Stream, front_of, is_expired, paused, size_of, stream_at, turns_of, IsNext}
 use Rattle.dcsctp_machine.specs.transfer.SendEvents.{expiries}

@@ -34,7 +34,7 @@ impl SendQueue {
     ghost use Rattle.std.specs.Option.{option_map};
     ghost use Rattle.dcsctp_machine.specs.transfer.Messages.{message_content};
     ghost use Rattle.dcsctp_machine.specs.transfer.OwnResets.{queue_committed, queue_rolled_back, queue_handing_out, ready_streams, handing_out, prepared, prepare_events};
-    ghost use Rattle.dcsctp_send_streams.specs.Fragment.{fragment_of, HasSize};
+    ghost use Rattle.dcsctp_send_streams.specs.Fragment.{HasSize};
     ghost use Rattle.std.specs.Prelude.{◌≡◌, ◌+◌, ◌-◌, ◌<◌, ◌++◌, vec_len, IfSome, OnOk, OnErr, IfOk, take, not};
     ghost use Rattle.dcsctp_machine.specs.transfer.SendQueue.{empty_queue, restarted, has_data, changed, used, stream_of, numbered_for, queued, with_added, may_send, with_threshold, with_priority};
     ghost use Rattle.dcsctp_machine.specs.transfer.Transfer.{is_none_ready};
@@ -102,7 +102,7 @@ impl SendQueue {
         max: usize,
     ) -> Result<Option<DataToSend>, AllocError>
         requires { 0 < max }
-        ensures ok { IfOk result (λ next. TakesNext now max self.old (contents events.old) (option_map fragment_of next) self.new (contents events.new)) }
+        ensures ok { IfOk result (λ next. TakesNext now max self.old (contents events.old) next self.new (contents events.new)) }
         ensures size { IfOk result (λ next. IfSome next (HasSize max)) }
         ensures err { OnErr result (DropsSome now self.old self.new) }
         ensures front { OnErr result (StopsTaking now max self.old (contents events.old) self.new (contents events.new)) }

@@ -4,19 +4,19 @@ use Rattle.std.specs.List.{sum_by, slice_get}
 use Rattle.std.proofs.lemmas.List.Sums.{sum_by-cons}
 use Rattle.std.proofs.lemmas.Bool.Decides.{nat_tests}
 use Rattle.dcsctp_wire.specs.declared.chunk.sack.GapAckBlock.{GapAckBlock}
-use Rattle.dcsctp_send_outstanding.specs.declared.item.Item.{Item}
-use Rattle.dcsctp_send_outstanding.specs.declared.progress.ItemState.{ItemState}
-use Rattle.dcsctp_send_outstanding.specs.declared.progress.ItemState.TheVariants.{InFlight, Marked, Acknowledged, Abandoned}
-use Rattle.dcsctp_send_outstanding.specs.declared.progress.Progress.{Progress}
-use Rattle.dcsctp_send_outstanding.specs.declared.progress.Change.{Change}
-use Rattle.dcsctp_send_outstanding.specs.declared.progress.Change.TheVariants.{Miss, Acknowledge}
-use Rattle.dcsctp_send_outstanding.specs.Progress.{tells_of, missed, missed_where, acknowledged}
+use Rattle.dcsctp_machine.specs.transfer.Items.{Item, counted, never_acknowledged_count, never_acknowledged_items, changed_item, changed_between, marked_items}
+use Rattle.dcsctp_machine.specs.declared.progress.ItemState.{ItemState}
+use Rattle.dcsctp_machine.specs.declared.progress.ItemState.TheVariants.{InFlight, Marked, Acknowledged, Abandoned}
+use Rattle.dcsctp_machine.specs.declared.progress.Progress.{Progress}
+use Rattle.dcsctp_machine.specs.declared.progress.Change.{Change}
+use Rattle.dcsctp_machine.specs.declared.progress.Change.TheVariants.{Miss, Acknowledge}
+use Rattle.dcsctp_machine.specs.transfer.Progress.{tells_of, missed, missed_where, acknowledged}
 use Rattle.std.specs.Option.{option_map}
-use Rattle.dcsctp_send_outstanding.specs.Items.{counted, never_acknowledged_count, never_acknowledged_items, changed_item, changed_between, marked_items}
-use Rattle.dcsctp_send_outstanding.specs.Outstanding.{reported, acknowledged_by, tsn_at}
-use Rattle.dcsctp_send_outstanding.specs.Reports.{Names}
+use Rattle.dcsctp_machine.specs.transfer.Outstanding.{reported, acknowledged_by, tsn_at}
+use Rattle.dcsctp_machine.specs.transfer.Reports.{Names}
 use Rattle.dcsctp_send_outstanding.proofs.ItemsLemmas.{le_or_lt}
-use Rattle.dcsctp_send_retransmission.specs.Queue.{QueueModel, covered, with_items, lossy, missed_until, exiting, has_acknowledged, TakesSack}
+use Rattle.dcsctp_machine.specs.transfer.Retransmission.{RetransmissionState, with_items}
+use Rattle.dcsctp_machine.specs.transfer.Acknowledging.{covered, lossy, missed_until, exiting, has_acknowledged, AcknowledgesItems}
 use Rattle.dcsctp_send_retransmission.specs.Answers.{Answers, SaysAnswer}
 
 -- ---- one item
@@ -352,7 +352,7 @@ says_answer count limit newest blocks items left false is counts =
     let less = answers_lessen count limit newest blocks items answers in
     contradicts (never_acknowledged_items left) (never_acknowledged_items items) counts (omega (arith, fewer, less))
 
-missed_items : (count limit : ℕ) (newest : Option ℕ) (queue : QueueModel) → (missed_until count limit newest queue).outstanding.items ≡ changed_between (Miss newest) count limit queue.outstanding.items
+missed_items : (count limit : ℕ) (newest : Option ℕ) (queue : RetransmissionState) → (missed_until count limit newest queue).outstanding.items ≡ changed_between (Miss newest) count limit queue.outstanding.items
 missed_items count limit newest queue = go (nat_lt (marked_items queue.outstanding.items) (marked_items (changed_between (Miss newest) count limit queue.outstanding.items)))
   where
     go : (b : Bool)
@@ -362,11 +362,11 @@ missed_items count limit newest queue = go (nat_lt (marked_items queue.outstandi
     go false = refl
 
 -- A SACK says so of itself.
-pub sack_answers : (now cumulative window : ℕ) (blocks : List GapAckBlock) (old new : QueueModel) (b : Bool) → TakesSack now cumulative window blocks old new → b ≡ has_acknowledged old new
+pub sack_answers : (now cumulative window : ℕ) (blocks : List GapAckBlock) (old new : RetransmissionState) (b : Bool) → AcknowledgesItems now cumulative window blocks old new → b ≡ has_acknowledged old new
     → SaysAnswer b (acknowledged_by old.outstanding cumulative) blocks old.outstanding.items
 sack_answers now cumulative window blocks old new b takes counts =
     let count : ℕ = acknowledged_by old.outstanding cumulative in
     let items : List Item = old.outstanding.items in
     says_answer count takes.limit (option_map (tsn_at old.outstanding) takes.newest) blocks items new.outstanding.items b
-    (ap (λ (q : QueueModel). q.outstanding.items) takes.is ∙ ap (λ (xs : List Item). drop count xs) (missed_items count takes.limit (option_map (tsn_at old.outstanding) takes.newest) (with_items (covered count blocks items) (exiting cumulative old))))
+    (ap (λ (q : RetransmissionState). q.outstanding.items) takes.is ∙ ap (λ (xs : List Item). drop count xs) (missed_items count takes.limit (option_map (tsn_at old.outstanding) takes.newest) (with_items (covered count blocks items) (exiting cumulative old))))
     counts

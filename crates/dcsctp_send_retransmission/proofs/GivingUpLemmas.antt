@@ -3,16 +3,17 @@ use Rattle.std.proofs.Common.{◌≡◌, ◌∙◌, ◌⊎◌, inl, inr, Ok, Err
 use Rattle.std.specs.List.{slice_get}
 use Rattle.std.specs.declared.alloc.AllocError.{AllocError}
 use Rattle.std.proofs.lemmas.Option.{slice_get_within}
-use Rattle.dcsctp_send_outstanding.specs.declared.item.Item.{Item}
-use Rattle.dcsctp_send_outstanding.specs.declared.progress.ItemState.{ItemState}
-use Rattle.dcsctp_send_outstanding.specs.declared.progress.ItemState.TheVariants.{InFlight, Marked, Acknowledged, Abandoned}
-use Rattle.dcsctp_send_outstanding.specs.declared.progress.Change.TheVariants.{Abandon}
-use Rattle.dcsctp_send_outstanding.specs.Progress.{is_marked, is_unacknowledged}
-use Rattle.dcsctp_send_outstanding.specs.Items.{changed_item, changed_between}
-use Rattle.dcsctp_send_outstanding.specs.Outstanding.{OutstandingModel, MayAddEnd}
+use Rattle.dcsctp_machine.specs.transfer.Items.{Item, changed_item, changed_between}
+use Rattle.dcsctp_machine.specs.declared.progress.ItemState.{ItemState}
+use Rattle.dcsctp_machine.specs.declared.progress.ItemState.TheVariants.{InFlight, Marked, Acknowledged, Abandoned}
+use Rattle.dcsctp_machine.specs.declared.progress.Change.TheVariants.{Abandon}
+use Rattle.dcsctp_machine.specs.transfer.Progress.{is_marked, is_unacknowledged}
+use Rattle.dcsctp_send_outstanding.specs.Outstanding.{MayAddEnd}
+use Rattle.dcsctp_machine.specs.transfer.Outstanding.{OutstandingState}
 use Rattle.dcsctp_send_outstanding.specs.Messages.{EndsDropped}
 use Rattle.dcsctp_send_outstanding.proofs.ItemsLemmas.{le_or_lt, slice_get_pushed}
-use Rattle.dcsctp_send_retransmission.specs.Queue.{QueueModel, MayGrow, GivesUp}
+use Rattle.dcsctp_send_retransmission.specs.Queue.{MayGrow, GivesUp}
+use Rattle.dcsctp_machine.specs.transfer.Retransmission.{RetransmissionState}
 use Rattle.dcsctp_send_retransmission.specs.States.{Stage, is_due, Closes, GivesUpAt, Steps, none, more}
 use Rattle.dcsctp_send_retransmission.specs.GivingUp.{NoneAwaitedBefore, NoneDue, GivesUpFirst, StopsGivingUp, GivesUpIf}
 use Rattle.dcsctp_send_retransmission.proofs.QueueLemmas.{gives_up_grows}
@@ -56,23 +57,23 @@ given_up (suc start) (suc end) (y ∷ ys) zero x from to at = absurd (omega arit
 given_up (suc start) (suc end) (y ∷ ys) (suc k) x from to at = given_up start end ys k x (omega arith) (omega arith) at
 
 -- an end that is added isn't
-added_end : (old new : OutstandingModel) → MayAddEnd old new → (k : ℕ) (x : Item) → slice_get new.items k ≡ Some x → (slice_get old.items k ≡ Some x) ⊎ (is_unacknowledged x.progress.state ≡ false)
-added_end old new (inl same) k x at = inl (ap (λ (m : OutstandingModel). slice_get m.items k) (sym same) ∙ at)
+added_end : (old new : OutstandingState) → MayAddEnd old new → (k : ℕ) (x : Item) → slice_get new.items k ≡ Some x → (slice_get old.items k ≡ Some x) ⊎ (is_unacknowledged x.progress.state ≡ false)
+added_end old new (inl same) k x at = inl (ap (λ (m : OutstandingState). slice_get m.items k) (sym same) ∙ at)
 added_end old new (inr ends) k x at =
-    let pushed : slice_get (old.items ++ ends.item ∷ []) k ≡ Some x = ap (λ (m : OutstandingModel). slice_get m.items k) (sym ends.grows) ∙ at in
+    let pushed : slice_get (old.items ++ ends.item ∷ []) k ≡ Some x = ap (λ (m : OutstandingState). slice_get m.items k) (sym ends.grows) ∙ at in
     elim (slice_get_pushed old.items k ends.item x pushed) [
       | inl is ↦ inr (ap (λ (z : Item). is_unacknowledged z.progress.state) is ∙ ap is_unacknowledged ends.is_abandoned)
       | inr was ↦ inl was
     ]
 
-gives_up_stays : (place : ℕ) (old new : QueueModel) → GivesUp place old new → (k : ℕ) (x : Item) → slice_get new.outstanding.items k ≡ Some x → ((y : Item) → slice_get old.outstanding.items k ≡ Some y → is_unacknowledged y.progress.state ≡ false) → is_unacknowledged x.progress.state ≡ false
+gives_up_stays : (place : ℕ) (old new : RetransmissionState) → GivesUp place old new → (k : ℕ) (x : Item) → slice_get new.outstanding.items k ≡ Some x → ((y : Item) → slice_get old.outstanding.items k ≡ Some y → is_unacknowledged y.progress.state ≡ false) → is_unacknowledged x.progress.state ≡ false
 gives_up_stays place old new up k x at before =
-    let here : slice_get (changed_between Abandon up.start up.end up.grown.outstanding.items) k ≡ Some x = ap (λ (q : QueueModel). slice_get q.outstanding.items k) (sym up.is) ∙ at in
+    let here : slice_get (changed_between Abandon up.start up.end up.grown.outstanding.items) k ≡ Some x = ap (λ (q : RetransmissionState). slice_get q.outstanding.items k) (sym up.is) ∙ at in
     stays up.start up.end up.grown.outstanding.items k x here (λ y is. elim (added_end old.outstanding up.grown.outstanding up.grows.ends k y is) [ inl was ↦ before y was | inr e ↦ e ])
 
 -- ---- one message
 
-ends_adds : (now : ℕ) (begins : Bool) (last : Item) (old new : OutstandingModel) (is_dropped : Bool) → EndsDropped now begins last old new is_dropped → MayAddEnd old new
+ends_adds : (now : ℕ) (begins : Bool) (last : Item) (old new : OutstandingState) (is_dropped : Bool) → EndsDropped now begins last old new is_dropped → MayAddEnd old new
 ends_adds now begins last old new true ends = inr (record { item = ends.item; is_abandoned = ends.is_end.is_abandoned; grows = ends.grows })
 ends_adds now begins last old new false same = inl same
 
@@ -102,7 +103,7 @@ if_grows done now place old new true gives = gives_up_grows place old.queue new.
 if_grows done now place old new false same = let e = ap (λ (s : Stage). length s.queue.outstanding.items) same in omega arith
 
 -- nothing is due where partial reliability wasn't negotiated
-pub none_due_without : (now : ℕ) (queue : QueueModel) → queue.partial_reliability ≡ false → NoneDue now queue
+pub none_due_without : (now : ℕ) (queue : RetransmissionState) → queue.partial_reliability ≡ false → NoneDue now queue
 none_due_without now queue off place is =
     let due : true ≡ false = sym is.due ∙ ap (λ (b : Bool). is_due now b is.item) off in
     absurd (cc)
@@ -126,7 +127,7 @@ scans_none now stage =
     }
 
 -- the item at the place isn't due
-abbrev pub NotDueAt : ℕ → ℕ → QueueModel → Type 0
+abbrev pub NotDueAt : ℕ → ℕ → RetransmissionState → Type 0
 NotDueAt now place queue = (x : Item) → slice_get queue.outstanding.items place ≡ Some x → is_due now queue.partial_reliability x ≡ false
 
 -- the item at the place is given up where it's due
@@ -140,7 +141,7 @@ scans_at done now place initial old new item scans at true is gives =
         grown = let more_items = gives_up_grows place old.queue new.queue up in let before = scans.grown in omega arith;
       },
       λ x here.
-          let inside : slice_get (changed_between Abandon up.start up.end up.grown.outstanding.items) place ≡ Some x = ap (λ (q : QueueModel). slice_get q.outstanding.items place) (sym up.is) ∙ here in
+          let inside : slice_get (changed_between Abandon up.start up.end up.grown.outstanding.items) place ≡ Some x = ap (λ (q : RetransmissionState). slice_get q.outstanding.items place) (sym up.is) ∙ here in
           not_due now new.queue.partial_reliability x (given_up up.start up.end up.grown.outstanding.items place x up.from up.to inside),
     )
 scans_at done now place initial old new item scans at false is same =

@@ -6,17 +6,18 @@ use Rattle.std.specs.declared.alloc.AllocError.{AllocError}
 use Rattle.std.proofs.lemmas.List.Sums.{sum_by-cons, sum_by_push}
 use Rattle.dcsctp_machine.specs.Timers.{TimerModel}
 use Rattle.dcsctp_machine.specs.transfer.SendQueue.{SendQueueState}
-use Rattle.dcsctp_send_outstanding.specs.declared.item.Item.{Item}
-use Rattle.dcsctp_send_outstanding.specs.declared.progress.ItemState.{ItemState}
-use Rattle.dcsctp_send_outstanding.specs.declared.progress.Progress.{Progress}
-use Rattle.dcsctp_send_outstanding.specs.declared.progress.Change.{Change}
-use Rattle.dcsctp_send_outstanding.specs.declared.progress.Change.TheVariants.{SendAgain, Abandon}
-use Rattle.dcsctp_send_outstanding.specs.Progress.{is_marked, changed}
-use Rattle.dcsctp_send_outstanding.specs.Items.{counted, marked_count, marked_items, changed_item, changed_between}
-use Rattle.dcsctp_send_outstanding.specs.Outstanding.{OutstandingModel, next_tsn, IsMarkedAt, MayAddEnd}
-use Rattle.dcsctp_send_retransmission.specs.Queue.{QueueModel, GivesUp}
+use Rattle.dcsctp_machine.specs.transfer.Items.{Item, counted, marked_count, marked_items, changed_item, changed_between}
+use Rattle.dcsctp_machine.specs.declared.progress.ItemState.{ItemState}
+use Rattle.dcsctp_machine.specs.declared.progress.Progress.{Progress}
+use Rattle.dcsctp_machine.specs.declared.progress.Change.{Change}
+use Rattle.dcsctp_machine.specs.declared.progress.Change.TheVariants.{SendAgain, Abandon}
+use Rattle.dcsctp_machine.specs.transfer.Progress.{is_marked, changed}
+use Rattle.dcsctp_send_outstanding.specs.Outstanding.{IsMarkedAt, MayAddEnd}
+use Rattle.dcsctp_machine.specs.transfer.Outstanding.{OutstandingState, next_tsn}
+use Rattle.dcsctp_send_retransmission.specs.Queue.{GivesUp}
+use Rattle.dcsctp_machine.specs.transfer.Retransmission.{RetransmissionState, counted_again}
 use Rattle.dcsctp_send_retransmission.specs.declared.packet.Packet.{Packet}
-use Rattle.dcsctp_send_retransmission.specs.Sending.{counted_again, Filled, Fills, none as none_packed}
+use Rattle.dcsctp_send_retransmission.specs.Sending.{Filled, Fills, none as none_packed}
 use Rattle.dcsctp_send_outstanding.specs.Next.{IsNextMarked}
 use Rattle.dcsctp_send_retransmission.specs.Halting.{WaitsForRoom, HaltsAgain, HaltsNew, Halts, SendsAgain, GoesAgain, FillsUp}
 
@@ -75,46 +76,46 @@ slice_get_stays (x ∷ xs) new zero item at = at
 slice_get_stays (x ∷ xs) new (suc k) item at = slice_get_stays xs new k item at
 
 -- the end of a message doesn't wait to be sent again
-end_marked : (old new : OutstandingModel) → MayAddEnd old new → marked_items new.items ≡ marked_items old.items
-end_marked old new (inl same) = ap (λ (m : OutstandingModel). marked_items m.items) same
+end_marked : (old new : OutstandingState) → MayAddEnd old new → marked_items new.items ≡ marked_items old.items
+end_marked old new (inl same) = ap (λ (m : OutstandingState). marked_items m.items) same
 end_marked old new (inr ends) =
-    let items = ap (λ (m : OutstandingModel). marked_items m.items) ends.grows in
+    let items = ap (λ (m : OutstandingState). marked_items m.items) ends.grows in
     let all = sum_by_push marked_count old.items ends.item in
     let zero_more = ap (λ (s : ItemState). counted (is_marked s) 1) ends.is_abandoned in
     omega arith
 
-end_stays : (old new : OutstandingModel) (place : ℕ) (item : Item) → MayAddEnd old new → slice_get old.items place ≡ Some item → slice_get new.items place ≡ Some item
-end_stays old new place item (inl same) at = ap (λ (m : OutstandingModel). slice_get m.items place) same ∙ at
-end_stays old new place item (inr ends) at = ap (λ (m : OutstandingModel). slice_get m.items place) ends.grows ∙ slice_get_stays old.items ends.item place item at
+end_stays : (old new : OutstandingState) (place : ℕ) (item : Item) → MayAddEnd old new → slice_get old.items place ≡ Some item → slice_get new.items place ≡ Some item
+end_stays old new place item (inl same) at = ap (λ (m : OutstandingState). slice_get m.items place) same ∙ at
+end_stays old new place item (inr ends) at = ap (λ (m : OutstandingState). slice_get m.items place) ends.grows ∙ slice_get_stays old.items ends.item place item at
 
 -- where a lost message is given up, fewer wait to be sent again
-pub gives_up_fewer : (place : ℕ) (old new : QueueModel) → GivesUp place old new → IsMarkedAt place old.outstanding.items → marked_items new.outstanding.items < marked_items old.outstanding.items
+pub gives_up_fewer : (place : ℕ) (old new : RetransmissionState) → GivesUp place old new → IsMarkedAt place old.outstanding.items → marked_items new.outstanding.items < marked_items old.outstanding.items
 gives_up_fewer place old new up at =
-    let items = ap (λ (q : QueueModel). marked_items q.outstanding.items) up.is in
+    let items = ap (λ (q : RetransmissionState). marked_items q.outstanding.items) up.is in
     let grown = end_marked old.outstanding up.grown.outstanding up.grows.ends in
     let fewer = fewer_marked Abandon (λ progress. refl) up.start up.end place up.grown.outstanding.items at.item up.from up.to (end_stays old.outstanding up.grown.outstanding place at.item up.grows.ends at.at) at.is in
     omega arith
 
 -- The first marked item didn't fit.
-pub waits_for_room : (place : ℕ) (old new : OutstandingModel) (room left : ℕ) → IsNextMarked place old.items → SendsAgain place old room new left false → WaitsForRoom left new
+pub waits_for_room : (place : ℕ) (old new : OutstandingState) (room left : ℕ) → IsNextMarked place old.items → SendsAgain place old room new left false → WaitsForRoom left new
 waits_for_room place old new room left next again =
     rw (again.0, again.1) (record { place = place; next = next; item = next.marked.item; at = next.marked.at; longer = again.2 next.marked.item next.marked.at })
 
 -- what a try to send the first marked item again leaves
-pub goes_again : (r : Result Bool AllocError) (place : ℕ) (old between new : QueueModel) (room left : ℕ) → marked_items between.outstanding.items ≤ marked_items old.outstanding.items → IsNextMarked place between.outstanding.items → IfOk r (SendsAgain place between.outstanding room new.outstanding left) → IfOk r (GoesAgain old new left)
+pub goes_again : (r : Result Bool AllocError) (place : ℕ) (old between new : RetransmissionState) (room left : ℕ) → marked_items between.outstanding.items ≤ marked_items old.outstanding.items → IsNextMarked place between.outstanding.items → IfOk r (SendsAgain place between.outstanding room new.outstanding left) → IfOk r (GoesAgain old new left)
 goes_again (Ok true) place old between new room left fewer next again =
-    let items = ap (λ (m : OutstandingModel). marked_items m.items) again in
+    let items = ap (λ (m : OutstandingState). marked_items m.items) again in
     let one = fewer_marked (SendAgain (next_tsn between.outstanding)) (λ progress. refl) place (place + 1) place between.outstanding.items next.marked.item (omega arith) (omega arith) next.marked.at next.marked.is in
     omega arith
 goes_again (Ok false) place old between new room left fewer next again =
-    let items = ap (λ (m : OutstandingModel). marked_items m.items) again.0 in (
+    let items = ap (λ (m : OutstandingState). marked_items m.items) again.0 in (
       omega arith,
       inr (inr (waits_for_room place between.outstanding new.outstanding room left next again)),
     )
 goes_again (Err error) place old between new room left fewer next again = tt
 
 -- counting changes no reason
-pub halts_counted : (size room : ℕ) (queue : QueueModel) → HaltsAgain room queue → HaltsAgain room (counted_again size queue)
+pub halts_counted : (size room : ℕ) (queue : RetransmissionState) → HaltsAgain room queue → HaltsAgain room (counted_again size queue)
 halts_counted size room queue halts = go (nat_lt 0 size)
   where
     go : (b : Bool) → HaltsAgain room (if b then record queue { packets_retransmitted = min (queue.packets_retransmitted + 1) (2 ^ 64 - 1); bytes_retransmitted = min (queue.bytes_retransmitted + size) (2 ^ 64 - 1) } else queue)
@@ -122,23 +123,23 @@ halts_counted size room queue halts = go (nat_lt 0 size)
     go false = halts
 
 -- some wait to be sent again
-pub halts_marked : (room : ℕ) (queue : QueueModel) (waiting : SendQueueState) → HaltsAgain room queue → (marked_items queue.outstanding.items ≡ 0 → ⊥) → Halts room queue waiting
+pub halts_marked : (room : ℕ) (queue : RetransmissionState) (waiting : SendQueueState) → HaltsAgain room queue → (marked_items queue.outstanding.items ≡ 0 → ⊥) → Halts room queue waiting
 halts_marked room queue waiting (inl none_left) some = absurd (some none_left)
 halts_marked room queue waiting (inr reason) some = inl reason
 
 -- none waits to be sent again
-pub halts_new : {E : Type 0} (r : Result Unit E) (room : ℕ) (old queue : QueueModel) (waiting : SendQueueState) → marked_items old.outstanding.items ≡ 0 → marked_items queue.outstanding.items ≡ marked_items old.outstanding.items → OnOk r (HaltsNew room queue waiting) → OnOk r (Halts room queue waiting)
+pub halts_new : {E : Type 0} (r : Result Unit E) (room : ℕ) (old queue : RetransmissionState) (waiting : SendQueueState) → marked_items old.outstanding.items ≡ 0 → marked_items queue.outstanding.items ≡ marked_items old.outstanding.items → OnOk r (HaltsNew room queue waiting) → OnOk r (Halts room queue waiting)
 halts_new (Ok done) room old queue waiting none_left same halts = inr (same ∙ none_left, halts)
 halts_new (Err error) room old queue waiting none_left same halts = tt
 
 -- the timer is no reason
-pub fills_up_timed : {E : Type 0} (r : Result (Vec ℕ Global) E) (bytes : ℕ) (queue : QueueModel) (timer : TimerModel) (waiting : SendQueueState) → IfOk r (λ tsns. FillsUp bytes queue waiting tsns.items) → IfOk r (λ tsns. FillsUp bytes (record queue { timer = timer }) waiting tsns.items)
+pub fills_up_timed : {E : Type 0} (r : Result (Vec ℕ Global) E) (bytes : ℕ) (queue : RetransmissionState) (timer : TimerModel) (waiting : SendQueueState) → IfOk r (λ tsns. FillsUp bytes queue waiting tsns.items) → IfOk r (λ tsns. FillsUp bytes (record queue { timer = timer }) waiting tsns.items)
 fills_up_timed (Ok tsns) bytes queue timer waiting fills =
     record { used = fills.used; packed = fills.packed; room = fills.room; sum = fills.sum; halts = fills.halts }
 fills_up_timed (Err error) bytes queue timer waiting fills = tt
 
 -- a packet that was empty is filled up
-pub fills_up : (bytes : ℕ) (old new : QueueModel) (before after : Packet) (waiting : SendQueueState) → before.tsns.items ≡ [] → before.room ≡ bytes → Fills old before new after → Halts after.room new waiting → FillsUp bytes new waiting after.tsns.items
+pub fills_up : (bytes : ℕ) (old new : RetransmissionState) (before after : Packet) (waiting : SendQueueState) → before.tsns.items ≡ [] → before.room ≡ bytes → Fills old before new after → Halts after.room new waiting → FillsUp bytes new waiting after.tsns.items
 fills_up bytes old new before after waiting empty room fills halts =
     let start : Filled bytes old before = record { used = 0; packed = rw empty none_packed; sum = omega arith } in
     let filled = fills.filling bytes start in

@@ -3,7 +3,6 @@ pub mod FreshLemmas
 pub mod GivingUpLemmas
 pub mod HaltingLemmas
 pub mod QueueLemmas
-pub mod SeenLemmas
 pub mod SendingLemmas
 pub mod SkippedLemmas
 pub mod SkippingLemmas

@@ -1,22 +1,23 @@
 -- Lemmas on queues.
 use Rattle.std.proofs.Common.{Option, ◌≡◌, inl, inr, length-append, zero, suc, [], ◌∷◌, ◌++◌, take, Some, append_assoc, ℕ, ◌+◌, ◌-◌, ◌<◌, ◌≤◌, drop, refl, Bool, true, false, List, length, nat_lt, if◌then◌else◌, ap, sym, ◌∙◌, arith}
 use Rattle.std.specs.List.{slice_get}
-use Rattle.std.proofs.lemmas.List.{append-nil, map-append}
-use Rattle.dcsctp_api.specs.declared.events.SocketEvent.{SocketEvent}
-use Rattle.dcsctp_send_outstanding.specs.declared.item.Item.{Item}
-use Rattle.dcsctp_send_streams.specs.Telling.{contents, TellsFront}
+use Rattle.std.proofs.lemmas.List.{append-nil}
+use Rattle.dcsctp_machine.specs.Event.{Event}
+use Rattle.dcsctp_machine.specs.transfer.Items.{Item, marked_items, changed_between}
+use Rattle.dcsctp_send_streams.specs.Telling.{TellsFront}
 use Rattle.std.proofs.Math.Seq.{take-add}
-use Rattle.dcsctp_send_retransmission.specs.Telling.{told_of, delivered}
+use Rattle.dcsctp_machine.specs.transfer.Acknowledging.{ends_delivery, told_by, delivered, covered, lossy, missed_until, without_first, acknowledgement, grown_by, acknowledged_until}
 use Rattle.dcsctp_wire.specs.declared.chunk.sack.GapAckBlock.{GapAckBlock}
-use Rattle.dcsctp_send_retransmission.specs.declared.congestion.Acknowledged.{Acknowledged}
-use Rattle.dcsctp_send_outstanding.specs.declared.progress.Change.TheVariants.{Miss, Abandon}
-use Rattle.dcsctp_send_outstanding.specs.Items.{marked_items, changed_between}
-use Rattle.dcsctp_send_retransmission.specs.Queue.{QueueModel, with_items, covered, lossy, missed_until, without_first, acknowledgement, grown_by, acknowledged_until, GivesUp}
-use Rattle.dcsctp_send_outstanding.specs.Outstanding.{OutstandingModel, MayAddEnd}
+use Rattle.dcsctp_machine.specs.declared.congestion.Acknowledged.{Acknowledged}
+use Rattle.dcsctp_machine.specs.declared.progress.Change.TheVariants.{Miss, Abandon}
+use Rattle.dcsctp_send_retransmission.specs.Queue.{GivesUp}
+use Rattle.dcsctp_machine.specs.transfer.Retransmission.{RetransmissionState, with_items}
+use Rattle.dcsctp_send_outstanding.specs.Outstanding.{MayAddEnd}
+use Rattle.dcsctp_machine.specs.transfer.Outstanding.{OutstandingState}
 use Rattle.dcsctp_send_outstanding.proofs.ItemsLemmas.{length-changed_between}
 
 -- misses leave the items in number
-pub length-missed_until : (count limit : ℕ) (newest : Option ℕ) (queue : QueueModel) → length (missed_until count limit newest queue).outstanding.items ≡ length queue.outstanding.items
+pub length-missed_until : (count limit : ℕ) (newest : Option ℕ) (queue : RetransmissionState) → length (missed_until count limit newest queue).outstanding.items ≡ length queue.outstanding.items
 length-missed_until count limit newest queue =
     go (nat_lt (marked_items queue.outstanding.items) (marked_items (changed_between (Miss newest) count limit queue.outstanding.items)))
   where
@@ -25,49 +26,53 @@ length-missed_until count limit newest queue =
     go false = length-changed_between (Miss newest) count limit queue.outstanding.items
 
 -- a SACK, step by step
-pub acknowledged_is : (count : ℕ) (blocks : List GapAckBlock) (limit : ℕ) (newest : Option ℕ) (old mid left new : QueueModel) (ack : Acknowledged) → mid ≡ missed_until count limit newest (with_items (covered count blocks old.outstanding.items) old) → left ≡ without_first count mid → ack ≡ acknowledgement count old left → new ≡ grown_by ack left → new ≡ acknowledged_until count blocks limit newest old
+pub acknowledged_is : (count : ℕ) (blocks : List GapAckBlock) (limit : ℕ) (newest : Option ℕ) (old mid left new : RetransmissionState) (ack : Acknowledged) → mid ≡ missed_until count limit newest (with_items (covered count blocks old.outstanding.items) old) → left ≡ without_first count mid → ack ≡ acknowledgement count old left → new ≡ grown_by ack left → new ≡ acknowledged_until count blocks limit newest old
 acknowledged_is count blocks limit newest old mid left new ack is_mid is_left is_ack is_new =
     let left_is : left ≡ without_first count (missed_until count limit newest (with_items (covered count blocks old.outstanding.items) old)) = is_left ∙ ap (without_first count) is_mid in
-    is_new ∙ ap (λ (a : Acknowledged). grown_by a left) is_ack ∙ ap (λ (q : QueueModel). grown_by (acknowledgement count old q) q) left_is
+    is_new ∙ ap (λ (a : Acknowledged). grown_by a left) is_ack ∙ ap (λ (q : RetransmissionState). grown_by (acknowledgement count old q) q) left_is
+
+-- what is told of one item
+abbrev pub told_of : Item → List (Event (List ℕ))
+told_of item = told_by item.fragment.lifecycle (ends_delivery item)
 
 -- what is told of one more item
-pub delivered_further : (items : List Item) (k : ℕ) (item : Item) → slice_get items k ≡ Some item → delivered (take (suc k) items) ≡ delivered (take k items) ++ told_of item
+pub delivered_further : (items : List Item) (k : ℕ) (item : Item) → slice_get items k ≡ Some item → delivered {P = List ℕ} (take (suc k) items) ≡ delivered (take k items) ++ told_of item
 delivered_further [] k item is = absurd (cc)
 delivered_further (x ∷ xs) zero item is = ap (λ (y : Item). told_of y ++ []) (let e : x ≡ item = cc in e) ∙ append-nil (told_of item)
 delivered_further (x ∷ xs) (suc k) item is =
-    ap (λ (ys : List SocketEvent). told_of x ++ ys) (delivered_further xs k item is) ∙ sym (append_assoc (told_of x) (delivered (take k xs)) (told_of item))
+    ap (λ (ys : List (Event (List ℕ))). told_of x ++ ys) (delivered_further xs k item is) ∙ sym (append_assoc (told_of x) (delivered (take k xs)) (told_of item))
 
 -- what is told of a first part of the items is told first of all
-delivered_append : (front rest : List Item) → delivered (front ++ rest) ≡ delivered front ++ delivered rest
+delivered_append : (front rest : List Item) → delivered {P = List ℕ} (front ++ rest) ≡ delivered front ++ delivered rest
 delivered_append [] rest = refl
-delivered_append (x ∷ xs) rest = ap (λ (ys : List SocketEvent). told_of x ++ ys) (delivered_append xs rest) ∙ sym (append_assoc (told_of x) (delivered xs) (delivered rest))
+delivered_append (x ∷ xs) rest = ap (λ (ys : List (Event (List ℕ))). told_of x ++ ys) (delivered_append xs rest) ∙ sym (append_assoc (told_of x) (delivered xs) (delivered rest))
 
 -- A front part is told of an item, once all before it were told of.
-pub front_further : (items : List Item) (k count : ℕ) (item : Item) (start told telling : List SocketEvent) → k < count → slice_get items k ≡ Some item → told ≡ start ++ delivered (take k items) → TellsFront (contents told) (contents (told_of item)) (contents telling)
-    → TellsFront (contents start) (contents (delivered (take count items))) (contents telling)
+pub front_further : (items : List Item) (k count : ℕ) (item : Item) (start told telling : List (Event (List ℕ))) → k < count → slice_get items k ≡ Some item → told ≡ start ++ delivered (take k items) → TellsFront told (told_of item) telling
+    → TellsFront start (delivered (take count items)) telling
 front_further items k count item start told telling within at is tells =
-    let before : List SocketEvent = delivered (take k items) in
-    let behind : List SocketEvent = delivered (take (count - suc k) (drop (suc k) items)) in
+    let before : List (Event (List ℕ)) = delivered (take k items) in
+    let behind : List (Event (List ℕ)) = delivered (take (count - suc k) (drop (suc k) items)) in
     let whole : delivered (take count items) ≡ (before ++ told_of item) ++ behind =
-    ap delivered (take_parts items (suc k) count (omega arith)) ∙ (delivered_append (take (suc k) items) (take (count - suc k) (drop (suc k) items)) ∙ ap (λ (xs : List SocketEvent). xs ++ behind) (delivered_further items k item at)) in
+    ap delivered (take_parts items (suc k) count (omega arith)) ∙ (delivered_append (take (suc k) items) (take (count - suc k) (drop (suc k) items)) ∙ ap (λ (xs : List (Event (List ℕ))). xs ++ behind) (delivered_further items k item at)) in
     record {
-      front = contents before ++ tells.front;
-      rest = tells.rest ++ contents behind;
-      parts = ap contents whole ∙ simp (map-append, tells.parts, append_assoc);
-      told = tells.told ∙ simp (is, map-append, append_assoc);
+      front = before ++ tells.front;
+      rest = tells.rest ++ behind;
+      parts = whole ∙ simp (tells.parts, append_assoc);
+      told = tells.told ∙ simp (is, append_assoc);
     }
   where
     take_parts : (xs : List Item) (k n : ℕ) → k ≤ n → take n xs ≡ take k xs ++ take (n - k) (drop k xs)
     take_parts xs k n le = let e : n ≡ k + (n - k) = omega arith in ap (λ (m : ℕ). take m xs) e ∙ take-add k (n - k) xs
 
 -- no item is lost where a message is given up
-pub gives_up_grows : (place : ℕ) (old new : QueueModel) → GivesUp place old new → length old.outstanding.items ≤ length new.outstanding.items
+pub gives_up_grows : (place : ℕ) (old new : RetransmissionState) → GivesUp place old new → length old.outstanding.items ≤ length new.outstanding.items
 gives_up_grows place old new up =
-    let same = ap (λ (q : QueueModel). length q.outstanding.items) up.is in
+    let same = ap (λ (q : RetransmissionState). length q.outstanding.items) up.is in
     let kept = length-changed_between Abandon up.start up.end up.grown.outstanding.items in
     let grown = grows (old.outstanding) (up.grown.outstanding) up.grows.ends in
     omega arith
   where
-    grows : (a b : OutstandingModel) → MayAddEnd a b → length a.items ≤ length b.items
-    grows a b (inl e) = let same = ap (λ (m : OutstandingModel). length m.items) e in omega arith
-    grows a b (inr ends) = let same = ap (λ (m : OutstandingModel). length m.items) ends.grows in omega (arith, length-append a.items (ends.item ∷ []))
+    grows : (a b : OutstandingState) → MayAddEnd a b → length a.items ≤ length b.items
+    grows a b (inl e) = let same = ap (λ (m : OutstandingState). length m.items) e in omega arith
+    grows a b (inr ends) = let same = ap (λ (m : OutstandingState). length m.items) ends.grows in omega (arith, length-append a.items (ends.item ∷ []))

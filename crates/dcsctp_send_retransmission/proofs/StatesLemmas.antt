@@ -8,16 +8,14 @@ use Rattle.dcsctp_machine.specs.transfer.Sending.{Takes}
 use Rattle.dcsctp_send_queue.specs.Calls.{StopsDiscarding}
 use Rattle.dcsctp_machine.specs.Event.{Event}
 use Rattle.dcsctp_send_streams.specs.Telling.{contents}
-use Rattle.dcsctp_send_streams.specs.Fragment.{fragment_of}
-use Rattle.dcsctp_send_outstanding.specs.declared.item.Item.{Item}
+use Rattle.dcsctp_machine.specs.transfer.Items.{Item, size_of, changed_between}
 use Rattle.dcsctp_send_retransmission.specs.declared.packet.Packet.{Packet}
-use Rattle.dcsctp_send_outstanding.specs.Items.{size_of, changed_between}
-use Rattle.dcsctp_send_outstanding.specs.declared.progress.Change.{Change}
-use Rattle.dcsctp_send_outstanding.specs.declared.progress.Change.TheVariants.{SendAgain}
-use Rattle.dcsctp_send_outstanding.specs.Progress.{is_marked}
-use Rattle.dcsctp_send_outstanding.specs.Outstanding.{OutstandingModel}
+use Rattle.dcsctp_machine.specs.declared.progress.Change.{Change}
+use Rattle.dcsctp_machine.specs.declared.progress.Change.TheVariants.{SendAgain}
+use Rattle.dcsctp_machine.specs.transfer.Progress.{is_marked}
+use Rattle.dcsctp_machine.specs.transfer.Outstanding.{OutstandingState}
 use Rattle.dcsctp_send_outstanding.specs.Next.{IsNextMarked}
-use Rattle.dcsctp_send_retransmission.specs.Queue.{QueueModel}
+use Rattle.dcsctp_machine.specs.transfer.Retransmission.{RetransmissionState}
 use Rattle.dcsctp_send_retransmission.proofs.SendingLemmas.{last_pushed, with_outstanding}
 use Rattle.dcsctp_send_retransmission.specs.States.{Stage, stage, is_due, DropsRestAt, Closes, RefusesClosing, payload_room, SendsNew, StepAgain, StepNew, counting, GoesFilling, StopsFilling, Steps, none, more, Stops, Goes, SendsAt, SendsMarked, SendsFirst, is_first_marked}
 use Rattle.dcsctp_send_outstanding.specs.Handing.{SendsItem}
@@ -54,7 +52,7 @@ stops_trans now Step a b c first stops =
     record { at = stops.at; steps = steps_trans Step a b stops.at first stops.steps; queue = stops.queue; refused = stops.refused }
 
 -- the first item that waits is sent again, where it fits
-pub goes_at : (r : Result Bool AllocError) (now place : ℕ) (Step : Stage → Stage → Type 0) (start : Stage) (old new : QueueModel) (waiting : SendQueueState) (events : List SocketEvent) (before after : Packet) (next : IsNextMarked place old.outstanding.items)
+pub goes_at : (r : Result Bool AllocError) (now place : ℕ) (Step : Stage → Stage → Type 0) (start : Stage) (old new : RetransmissionState) (waiting : SendQueueState) (events : List SocketEvent) (before after : Packet) (next : IsNextMarked place old.outstanding.items)
     → ((m n : Stage) → m.queue ≡ old → SendsMarked now m n → Step m n)
     → Steps Step start (stage old waiting events before.tsns.items before.room)
     → is_due now old.partial_reliability next.marked.item ≡ false
@@ -96,18 +94,18 @@ sends_first_later true tsn (suc place) old items new later is first = (first.0, 
 sends_first_later false tsn (suc place) old items new later is first = ap is_first_marked is ∙ (first_stays (SendAgain tsn) place (suc place + 1) items ∙ first)
 
 -- a new item goes out
-pub sends_new : (now max : ℕ) (old : QueueModel) (before after : Packet) (place size tsn : ℕ) (new : OutstandingModel) (waiting left : SendQueueState) (events telling : List SocketEvent)
+pub sends_new : (now max : ℕ) (old : RetransmissionState) (before after : Packet) (place size tsn : ℕ) (new : OutstandingState) (waiting left : SendQueueState) (events telling : List SocketEvent)
     → SendsItem now max old.reset_begun old.outstanding waiting (contents events) new left (contents telling) tsn → place ≡ length old.outstanding.items
     → IfSome (slice_get new.items place) (λ item. size ≡ size_of new.header item) → max ≡ payload_room old.outstanding.header before.room
     → after.tsns.items ≡ before.tsns.items ++ tsn ∷ [] → after.room ≡ before.room - size
     → SendsNew now (stage old waiting events before.tsns.items before.room) (stage (with_outstanding new false old) left telling after.tsns.items after.room)
 sends_new now max old before after place size tsn new waiting left events telling sends place_is sized max_is tsns room =
-    let items = ap (λ (m : OutstandingModel). m.items) sends.grows in
-    let header = ap (λ (m : OutstandingModel). m.header) sends.grows in
+    let items = ap (λ (m : OutstandingState). m.items) sends.grows in
+    let header = ap (λ (m : OutstandingState). m.header) sends.grows in
     let at : slice_get new.items place ≡ Some sends.item = rw (items, place_is) (last_pushed old.outstanding.items sends.item) in
     let P : Option Item → Type 0 = λ x. IfSome x (λ item. size ≡ size_of new.header item) in
     let size_is : size ≡ size_of old.outstanding.header sends.item = subst P at sized ∙ ap (λ (h : ℕ). size_of h sends.item) header in
-    let T : ℕ → Type 0 = λ m. Takes now m waiting (contents events) (fragment_of sends.item.fragment) left (contents telling) in
+    let T : ℕ → Type 0 = λ m. Takes now m waiting (contents events) sends.item.fragment left (contents telling) in
     record {
       item = sends.item;
       is_fresh = sends.is_fresh;
@@ -121,12 +119,12 @@ goes_filling (Ok done) now old resent new again anew = record { resent = resent;
 goes_filling (Err error) now old resent new again stops = inr (record { resent = resent; again = again; stops = stops })
 
 -- what is in a packet that isn't handed out
-pub stops_any : (now : ℕ) (Step : Stage → Stage → Type 0) (old : Stage) (queue : QueueModel) (waiting : SendQueueState) (events : List SocketEvent) (tsns other : List ℕ) (room more_room : ℕ)
+pub stops_any : (now : ℕ) (Step : Stage → Stage → Type 0) (old : Stage) (queue : RetransmissionState) (waiting : SendQueueState) (events : List SocketEvent) (tsns other : List ℕ) (room more_room : ℕ)
     → Stops now Step old (stage queue waiting events tsns room) → Stops now Step old (stage queue waiting events other more_room)
 stops_any now Step old queue waiting events tsns other room more_room stops =
     record { at = stops.at; steps = stops.steps; queue = stops.queue; refused = stops.refused }
 
-pub stops_filling_any : (now : ℕ) (old : Stage) (queue : QueueModel) (waiting : SendQueueState) (events : List SocketEvent) (tsns other : List ℕ) (room more_room : ℕ)
+pub stops_filling_any : (now : ℕ) (old : Stage) (queue : RetransmissionState) (waiting : SendQueueState) (events : List SocketEvent) (tsns other : List ℕ) (room more_room : ℕ)
     → StopsFilling now old (stage queue waiting events tsns room) → StopsFilling now old (stage queue waiting events other more_room)
 stops_filling_any now old queue waiting events tsns other room more_room (inl stops) = inl (stops_any now (StepAgain now) old queue waiting events tsns other room more_room stops)
 stops_filling_any now old queue waiting events tsns other room more_room (inr later) =
@@ -141,6 +139,6 @@ on_err_map (Ok done) f p = tt
 on_err_map (Err error) f p = f p
 
 pub refuses_rest : (last : Item) (waiting : SendQueueState) (told telling : List (Event (List ℕ))) (is_end : Bool) → is_end ≡ false
-    → (telling ≡ told) ⊎ StopsDiscarding waiting last.fragment.stream_id.0 last.fragment.message_id told telling → RefusesClosing last waiting told telling is_end
+    → (telling ≡ told) ⊎ StopsDiscarding waiting last.fragment.stream last.fragment.message_id told telling → RefusesClosing last waiting told telling is_end
 refuses_rest last waiting told telling true is_false refused = absurd (cc)
 refuses_rest last waiting told telling false is_false refused = refused

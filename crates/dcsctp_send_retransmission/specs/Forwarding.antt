@@ -6,9 +6,9 @@ use Rattle.dcsctp_wire.specs.declared.chunk.forward_tsn.SkippedMessages.{Skipped
 use Rattle.dcsctp_send_retransmission.specs.declared.forward_tsn.ForwardTsn.{ForwardTsn}
 use Rattle.dcsctp_send_retransmission.specs.declared.forward_tsn.Skipped.{Skipped}
 use Rattle.dcsctp_send_retransmission.specs.declared.forward_tsn.Skipped.TheVariants.{Streams, Messages}
-use Rattle.dcsctp_send_outstanding.specs.declared.item.Item.{Item}
-use Rattle.dcsctp_send_outstanding.specs.Progress.{is_abandoned}
-use Rattle.dcsctp_send_retransmission.specs.Queue.{QueueModel}
+use Rattle.dcsctp_machine.specs.transfer.Items.{Item}
+use Rattle.dcsctp_machine.specs.transfer.Progress.{is_abandoned}
+use Rattle.dcsctp_machine.specs.transfer.Retransmission.{RetransmissionState}
 
 -- ---- the row of items that is skipped
 
@@ -34,7 +34,7 @@ is_same stream unordered other is_unordered = (stream == other) && (if unordered
 abbrev pub last_on : ℕ → Bool → List Item → Option Item
 last_on stream unordered [] = None
 last_on stream unordered (item ∷ items) =
-    option_or (last_on stream unordered items) (if is_same stream unordered item.fragment.stream_id.0 item.fragment.is_unordered then Some item else None)
+    option_or (last_on stream unordered items) (if is_same stream unordered item.fragment.stream item.fragment.is_unordered then Some item else None)
 
 -- the last of those that are listed
 abbrev pub last_listed : Bool → ℕ → Bool → List Item → Option Item
@@ -83,7 +83,7 @@ entry_count (Messages messages) = length messages.items
 pub record LacksRoom (interleaving : Bool) (limit entries : ℕ) (row : List Item) (item : Item) : Type 0 where
   pub listed : is_listed interleaving item ≡ true
   pub full : limit ≤ entries
-  pub is_new : last_on item.fragment.stream_id.0 item.fragment.is_unordered row ≡ None
+  pub is_new : last_on item.fragment.stream item.fragment.is_unordered row ≡ None
 
 -- why the row ends before this item
 pub record StopsBefore (interleaving : Bool) (limit entries place : ℕ) (items : List Item) : Type 0 where
@@ -99,8 +99,8 @@ pub record IsRow (interleaving : Bool) (limit entries count : ℕ) (items : List
   pub ends : (count ≡ length items) ⊎ StopsBefore interleaving limit entries count items
 
 -- The chunk skips the first items which were abandoned, as far as it has room, and no other.
-pub record Says (queue : QueueModel) (chunk : ForwardTsn) : Type 0 where
+pub record Says (queue : RetransmissionState) (chunk : ForwardTsn) : Type 0 where
   pub count : ℕ
-  pub row : IsRow queue.interleaving (entry_limit queue.interleaving queue.congestion.mtu) (entry_count chunk.skipped) count queue.outstanding.items
+  pub row : IsRow queue.message_interleaving (entry_limit queue.message_interleaving queue.congestion.mtu) (entry_count chunk.skipped) count queue.outstanding.items
   pub cumulative : chunk.new_cumulative_tsn ≡ (queue.outstanding.first_tsn + count + (2 ^ 32 - 1)) % 2 ^ 32
-  pub lists : Lists queue.interleaving (take count queue.outstanding.items) chunk.skipped
+  pub lists : Lists queue.message_interleaving (take count queue.outstanding.items) chunk.skipped

@@ -1,9 +1,9 @@
 -- Which messages are abandoned before a FORWARD-TSN (RFC 3758, sections 3.5 and 4.1).
 use Rattle.std.specs.Prelude.{Result, Ok, Err, ◌≡◌, ◌<◌, ℕ, Bool, true, false, Some, List, slice_get}
 use Rattle.std.specs.declared.alloc.AllocError.{AllocError}
-use Rattle.dcsctp_send_outstanding.specs.declared.item.Item.{Item}
-use Rattle.dcsctp_send_outstanding.specs.Progress.{is_unacknowledged}
-use Rattle.dcsctp_send_retransmission.specs.Queue.{QueueModel}
+use Rattle.dcsctp_machine.specs.transfer.Items.{Item}
+use Rattle.dcsctp_machine.specs.transfer.Progress.{is_unacknowledged}
+use Rattle.dcsctp_machine.specs.transfer.Retransmission.{RetransmissionState}
 use Rattle.dcsctp_send_retransmission.specs.States.{Stage, is_due, GivesUpAt, RefusesUpAt, Steps}
 
 -- Each item before this place was acknowledged or abandoned.
@@ -11,14 +11,14 @@ abbrev pub NoneAwaitedBefore : ℕ → List Item → Type 0
 NoneAwaitedBefore place items = (k : ℕ) (item : Item) → k < place → slice_get items k ≡ Some item → is_unacknowledged item.progress.state ≡ false
 
 -- The item at this place is due to be abandoned, and none before it is awaited.
-pub record IsDueAt (now place : ℕ) (queue : QueueModel) : Type 0 where
+pub record IsDueAt (now place : ℕ) (queue : RetransmissionState) : Type 0 where
   pub none_awaited : NoneAwaitedBefore place queue.outstanding.items
   pub item : Item
   pub at : slice_get queue.outstanding.items place ≡ Some item
   pub due : is_due now queue.partial_reliability item ≡ true
 
 -- No such item is left.
-abbrev pub NoneDue : ℕ → QueueModel → Type 0
+abbrev pub NoneDue : ℕ → RetransmissionState → Type 0
 NoneDue now queue = (place : ℕ) → IsDueAt now place queue → ⊥
 
 -- The message of such an item is abandoned.

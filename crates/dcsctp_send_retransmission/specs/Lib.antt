@@ -1,12 +1,9 @@
 pub mod Answers
-pub mod Congestion
 pub mod Forwarding
 pub mod GivingUp
 pub mod Halting
 pub mod Queue
-pub mod RoundTrip
 pub mod Sending
 pub mod SkippedBytes
 pub mod Skipping
 pub mod States
-pub mod Telling

@@ -1,14 +1,13 @@
 -- What goes into a packet, and what stays of the items that were accepted before (RFC 9260, section 6.1).
-use Rattle.std.specs.Prelude.{◌≡◌, ◌-◌, min, nat_lt, if◌then◌else◌, ℕ, ◌+◌, ◌%◌, ◌^◌, ◌≤◌, Some, List, [], ◌∷◌, ◌++◌, slice_get}
-use Rattle.dcsctp_send_streams.specs.declared.data.DataToSend.{DataToSend}
-use Rattle.dcsctp_send_outstanding.specs.declared.item.Item.{Item}
+use Rattle.std.specs.Prelude.{◌≡◌, ℕ, ◌+◌, ◌%◌, ◌^◌, ◌≤◌, Some, List, [], ◌∷◌, ◌++◌, slice_get}
+use Rattle.dcsctp_machine.specs.transfer.Sending.{Fragment}
+use Rattle.dcsctp_machine.specs.transfer.Items.{Item, size_of}
 use Rattle.dcsctp_send_retransmission.specs.declared.packet.Packet.{Packet}
-use Rattle.dcsctp_send_outstanding.specs.Items.{size_of}
-use Rattle.dcsctp_send_outstanding.specs.Outstanding.{OutstandingModel}
-use Rattle.dcsctp_send_retransmission.specs.Queue.{QueueModel, timer_with}
+use Rattle.dcsctp_machine.specs.transfer.Outstanding.{OutstandingState}
+use Rattle.dcsctp_machine.specs.transfer.Retransmission.{RetransmissionState, timer_with}
 
 -- the item at this place carries the fragment
-pub record HasFragment (place : ℕ) (fragment : DataToSend) (items : List Item) : Type 0 where
+pub record HasFragment (place : ℕ) (fragment : Fragment) (items : List Item) : Type 0 where
   pub item : Item
   pub at : slice_get items place ≡ Some item
   pub is : item.fragment ≡ fragment
@@ -18,7 +17,7 @@ abbrev pub KeepsFragments : List Item → List Item → Type 0
 KeepsFragments old new = (k : ℕ) (item : Item) → slice_get old k ≡ Some item → HasFragment k item.fragment new
 
 -- No fragment is lost, and neither the cumulative TSN nor the windows nor the timer change.
-pub record Keeps (old new : QueueModel) : Type 0 where
+pub record Keeps (old new : RetransmissionState) : Type 0 where
   pub first_tsn : new.outstanding.first_tsn ≡ old.outstanding.first_tsn
   pub header : new.outstanding.header ≡ old.outstanding.header
   pub fragments : KeepsFragments old.outstanding.items new.outstanding.items
@@ -26,7 +25,7 @@ pub record Keeps (old new : QueueModel) : Type 0 where
   pub timer : new.timer ≡ old.timer
   pub peer_window : new.peer_window ≡ old.peer_window
   pub partial_reliability : new.partial_reliability ≡ old.partial_reliability
-  pub interleaving : new.interleaving ≡ old.interleaving
+  pub interleaving : new.message_interleaving ≡ old.message_interleaving
 
 -- These TSNs are those of items, and their chunks take up that many bytes.
 pub data Packed (first header : ℕ) (items : List Item) : List ℕ → ℕ → Type 0 where
@@ -34,42 +33,32 @@ pub data Packed (first header : ℕ) (items : List Item) : List ℕ → ℕ → 
   more : (tsns : List ℕ) (used place : ℕ) (item : Item) (tsn size : ℕ) → Packed first header items tsns used → slice_get items place ≡ Some item → tsn ≡ (first + place) % 2 ^ 32 → size ≡ size_of header item → Packed first header items (tsns ++ tsn ∷ []) (used + size)
 
 -- the same for what is outstanding
-abbrev pub PackedFrom : OutstandingModel → List ℕ → ℕ → Type 0
+abbrev pub PackedFrom : OutstandingState → List ℕ → ℕ → Type 0
 PackedFrom outstanding tsns used = Packed outstanding.first_tsn outstanding.header outstanding.items tsns used
 
 -- A packet that had that many bytes of room holds chunks of the queue.
-pub record Filled (bytes : ℕ) (queue : QueueModel) (packet : Packet) : Type 0 where
+pub record Filled (bytes : ℕ) (queue : RetransmissionState) (packet : Packet) : Type 0 where
   pub used : ℕ
   pub packed : PackedFrom queue.outstanding packet.tsns.items used
   pub sum : used + packet.room ≡ bytes
 
 -- what a packet was filled with stays, and more may come
-abbrev pub GoesOnFilling : QueueModel → Packet → QueueModel → Packet → Type 0
+abbrev pub GoesOnFilling : RetransmissionState → Packet → RetransmissionState → Packet → Type 0
 GoesOnFilling old before new after = (bytes : ℕ) → Filled bytes old before → Filled bytes new after
 
 -- Nothing is lost, and the packet goes on being filled.
-pub record Fills (old : QueueModel) (before : Packet) (new : QueueModel) (after : Packet) : Type 0 where
+pub record Fills (old : RetransmissionState) (before : Packet) (new : RetransmissionState) (after : Packet) : Type 0 where
   pub keeps : Keeps old new
   pub filling : GoesOnFilling old before new after
 
 -- the TSNs of outstanding items, whose chunks fit into that many bytes
-pub record HandsOut (bytes : ℕ) (outstanding : OutstandingModel) (tsns : List ℕ) : Type 0 where
+pub record HandsOut (bytes : ℕ) (outstanding : OutstandingState) (tsns : List ℕ) : Type 0 where
   pub used : ℕ
   pub fits : used ≤ bytes
   pub packed : PackedFrom outstanding tsns used
 
 -- Nothing is lost, and the timer runs while something is outstanding.
-pub record Sends (now : ℕ) (old new : QueueModel) : Type 0 where
-  pub sent : QueueModel
+pub record Sends (now : ℕ) (old new : RetransmissionState) : Type 0 where
+  pub sent : RetransmissionState
   pub keeps : Keeps old sent
   pub is : new ≡ record sent { timer = timer_with now sent.outstanding.items sent.timer }
-
--- one more packet with that many bytes of chunks that were sent again, if there are any
-abbrev pub counted_again : ℕ → QueueModel → QueueModel
-counted_again size queue =
-    if nat_lt 0 size
-    then record queue {
-      packets_retransmitted = min (queue.packets_retransmitted + 1) (2 ^ 64 - 1);
-      bytes_retransmitted = min (queue.bytes_retransmitted + size) (2 ^ 64 - 1);
-    }
-    else queue

@@ -1,9 +1,9 @@
 -- How the entries of a FORWARD-TSN are collected, item by item.
 use Rattle.std.specs.Prelude.{◌≡◌, ℕ, ◌+◌, ◌≤◌, Bool, true, false, Some, List, length, take, slice_get}
 use Rattle.std.specs.Option.{option_map}
-use Rattle.dcsctp_send_outstanding.specs.declared.item.Item.{Item}
+use Rattle.dcsctp_machine.specs.transfer.Items.{Item}
 use Rattle.dcsctp_send_retransmission.specs.declared.retransmission_queue.forwarding.LastNumbers.{LastNumbers}
-use Rattle.dcsctp_send_retransmission.specs.Queue.{QueueModel}
+use Rattle.dcsctp_machine.specs.transfer.Retransmission.{RetransmissionState}
 use Rattle.dcsctp_send_retransmission.specs.Forwarding.{entry_limit, last_listed, entry_for, LacksRoom, IsRow}
 
 -- the numbers of an item's message
@@ -18,22 +18,22 @@ abbrev pub mid_entry : (ℕ × Bool) × LastNumbers → (ℕ × Bool) × ℕ
 mid_entry entry = ((entry.0.0, entry.0.1), entry.1.mid)
 
 -- how many entries fit
-abbrev pub limit_of : QueueModel → ℕ
-limit_of queue = entry_limit queue.interleaving queue.congestion.mtu
+abbrev pub limit_of : RetransmissionState → ℕ
+limit_of queue = entry_limit queue.message_interleaving queue.congestion.mtu
 
 -- the numbers of the last items of a row, by their streams
-pub record Collects (queue : QueueModel) (row : List Item) (entries : List ((ℕ × Bool) × LastNumbers)) : Type 0 where
-  pub numbers : (stream : ℕ) (unordered : Bool) → entry_for stream unordered entries ≡ option_map numbers_of (last_listed queue.interleaving stream unordered row)
+pub record Collects (queue : RetransmissionState) (row : List Item) (entries : List ((ℕ × Bool) × LastNumbers)) : Type 0 where
+  pub numbers : (stream : ℕ) (unordered : Bool) → entry_for stream unordered entries ≡ option_map numbers_of (last_listed queue.message_interleaving stream unordered row)
   pub fits : length entries ≤ limit_of queue
 
 -- those of the row that is skipped
-pub record Skips (queue : QueueModel) (count : ℕ) (entries : List ((ℕ × Bool) × LastNumbers)) : Type 0 where
-  pub row : IsRow queue.interleaving (limit_of queue) (length entries) count queue.outstanding.items
+pub record Skips (queue : RetransmissionState) (count : ℕ) (entries : List ((ℕ × Bool) × LastNumbers)) : Type 0 where
+  pub row : IsRow queue.message_interleaving (limit_of queue) (length entries) count queue.outstanding.items
   pub collects : Collects queue (take count queue.outstanding.items) entries
 
 -- What a try to take one more item in does: it is collected, or there is no room for it.
-abbrev pub TakesIn : QueueModel → ℕ → List ((ℕ × Bool) × LastNumbers) → List ((ℕ × Bool) × LastNumbers) → Bool → Type 0
+abbrev pub TakesIn : RetransmissionState → ℕ → List ((ℕ × Bool) × LastNumbers) → List ((ℕ × Bool) × LastNumbers) → Bool → Type 0
 TakesIn queue place old new true = Collects queue (take (place + 1) queue.outstanding.items) new
 TakesIn queue place old new false =
     (new ≡ old)
-    × ((item : Item) → slice_get queue.outstanding.items place ≡ Some item → LacksRoom queue.interleaving (limit_of queue) (length old) (take place queue.outstanding.items) item)
+    × ((item : Item) → slice_get queue.outstanding.items place ≡ Some item → LacksRoom queue.message_interleaving (limit_of queue) (length old) (take place queue.outstanding.items) item)

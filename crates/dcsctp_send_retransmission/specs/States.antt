@@ -3,8 +3,6 @@
 use Rattle.std.specs.Prelude.{Result, Ok, Err, Vec, ◌≡◌, ◌⊎◌, ◌+◌, ◌-◌, ◌*◌, ◌/◌, ◌^◌, ◌<◌, ◌≤◌, ◌&&◌, ◌||◌, min, nat_lt, nat_le, ℕ, Bool, true, false, Option, None, Some, List, [], ◌∷◌, ◌++◌, length, slice_get}
 use Rattle.std.specs.declared.alloc.AllocError.{AllocError}
 use Rattle.std.specs.declared.alloc.Global.{Global}
-use Rattle.dcsctp_machine.specs.Ids.{lifecycle_number}
-use Rattle.dcsctp_machine.specs.declared.ids.LifecycleId.{LifecycleId}
 use Rattle.dcsctp_api.specs.declared.events.SocketEvent.{SocketEvent}
 use Rattle.dcsctp_machine.specs.Event.{Event, lifecycle_message_maybe_expired, lifecycle_end}
 use Rattle.dcsctp_machine.specs.transfer.SendQueue.{SendQueueState}
@@ -12,23 +10,20 @@ use Rattle.dcsctp_machine.specs.transfer.Sending.{Takes, TakesNone}
 use Rattle.dcsctp_send_queue.specs.Calls.{StopsTaking, StopsDiscarding}
 use Rattle.dcsctp_send_streams.specs.Telling.{contents, TellsFront}
 use Rattle.dcsctp_machine.specs.Timers.{TimerModel}
-use Rattle.dcsctp_send_streams.specs.Fragment.{fragment_of}
-use Rattle.dcsctp_send_outstanding.specs.declared.item.Item.{Item}
+use Rattle.dcsctp_machine.specs.transfer.Items.{Item, size_of, marked_items, changed_between}
 use Rattle.dcsctp_send_retransmission.specs.declared.packet.Packet.{Packet}
-use Rattle.dcsctp_send_outstanding.specs.declared.progress.Change.TheVariants.{SendAgain, Abandon}
-use Rattle.dcsctp_send_outstanding.specs.Progress.{is_marked}
-use Rattle.dcsctp_send_outstanding.specs.Items.{size_of, marked_items, changed_between}
-use Rattle.dcsctp_send_outstanding.specs.Outstanding.{OutstandingModel, tsn_at, next_tsn}
+use Rattle.dcsctp_machine.specs.declared.progress.Change.TheVariants.{SendAgain, Abandon}
+use Rattle.dcsctp_machine.specs.transfer.Progress.{is_marked}
+use Rattle.dcsctp_machine.specs.transfer.Outstanding.{OutstandingState, tsn_at, next_tsn}
 use Rattle.dcsctp_send_outstanding.specs.Fresh.{IsFresh}
 use Rattle.dcsctp_send_outstanding.specs.Next.{IsNextMarked}
 use Rattle.dcsctp_send_outstanding.specs.Messages.{IsMessage, EndsMessage, DropsRest}
 use Rattle.dcsctp_send_retransmission.specs.Halting.{WaitsForRoom}
-use Rattle.dcsctp_send_retransmission.specs.Queue.{QueueModel, may_send, with_items, timer_with}
-use Rattle.dcsctp_send_retransmission.specs.Sending.{counted_again}
+use Rattle.dcsctp_machine.specs.transfer.Retransmission.{RetransmissionState, can_send, with_items, timer_with, counted_again}
 
 -- what changes while a packet is filled
 pub record Stage : Type 0 where
-  pub queue : QueueModel
+  pub queue : RetransmissionState
   -- what waits in the send queue
   pub waiting : SendQueueState
   -- what the user was told
@@ -37,7 +32,7 @@ pub record Stage : Type 0 where
   pub tsns : List ℕ
   pub room : ℕ
 
-abbrev pub stage : QueueModel → SendQueueState → List SocketEvent → List ℕ → ℕ → Stage
+abbrev pub stage : RetransmissionState → SendQueueState → List SocketEvent → List ℕ → ℕ → Stage
 stage queue waiting events tsns room = record { queue = queue; waiting = waiting; told = contents events; tsns = tsns; room = room }
 
 -- ---- what is abandoned
@@ -60,19 +55,19 @@ is_due now negotiated item =
     && (is_used_up item.fragment.max_retransmissions item.progress.times_sent_again || is_over item.fragment.expires_at now)
 
 -- the events about a message that was fully sent, and is abandoned: the peer may have it
-abbrev pub maybe_expired : Option LifecycleId → List (Event (List ℕ))
+abbrev pub maybe_expired : Option ℕ → List (Event (List ℕ))
 maybe_expired None = []
-maybe_expired (Some id) = lifecycle_message_maybe_expired (lifecycle_number id) ∷ lifecycle_end (lifecycle_number id) ∷ []
+maybe_expired (Some id) = lifecycle_message_maybe_expired id ∷ lifecycle_end id ∷ []
 
 -- the same for a stage
 pub record DropsRestAt (now : ℕ) (last : Item) (old new : Stage) : Type 0 where
-  pub outstanding : OutstandingModel
+  pub outstanding : OutstandingState
   pub drops : DropsRest now old.queue.reset_begun last old.queue.outstanding old.waiting old.told outstanding new.waiting new.told
   pub is : new ≡ record old { queue = record old.queue { outstanding = outstanding }; waiting = new.waiting; told = new.told }
 
 -- It is told that a message is abandoned which was fully sent; or what waits of it is dropped, if TSNs are left.
 abbrev pub Closes : ℕ → Item → Stage → Stage → Bool → Type 0
-Closes now last old new true = new ≡ record old { told = old.told ++ maybe_expired last.fragment.lifecycle_id }
+Closes now last old new true = new ≡ record old { told = old.told ++ maybe_expired last.fragment.lifecycle }
 Closes now last old new false =
     ((length old.queue.outstanding.items + 1 < 2 ^ 31) × DropsRestAt now last old new)
     ⊎ ((2 ^ 31 ≤ length old.queue.outstanding.items + 1) × (new ≡ old))
@@ -118,7 +113,7 @@ pub record SendsNew (now : ℕ) (old new : Stage) : Type 0 where
   pub item : Item
   pub is_fresh : IsFresh now item
   pub begins : item.begins_after_reset ≡ old.queue.reset_begun
-  pub takes : Takes now (payload_room old.queue.outstanding.header old.room) old.waiting old.told (fragment_of item.fragment) new.waiting new.told
+  pub takes : Takes now (payload_room old.queue.outstanding.header old.room) old.waiting old.told item.fragment new.waiting new.told
   pub is : new ≡ record old {
     queue = record old.queue { outstanding = record old.queue.outstanding { items = old.queue.outstanding.items ++ item ∷ [] }; reset_begun = false };
     waiting = new.waiting;
@@ -134,12 +129,12 @@ pub record FindsNone (now : ℕ) (old new : Stage) : Type 0 where
 
 -- What waits to be sent again is sent if the windows allow, or is abandoned.
 abbrev pub StepAgain : ℕ → Stage → Stage → Type 0
-StepAgain now old new = ((may_send old.queue ≡ true) × SendsMarked now old new) ⊎ GivesUpMarked now old new
+StepAgain now old new = ((can_send old.queue ≡ true) × SendsMarked now old new) ⊎ GivesUpMarked now old new
 
 -- Something new is sent if the windows allow, and nothing waits to be sent again.
 abbrev pub StepNew : ℕ → Stage → Stage → Type 0
 StepNew now old new =
-    (may_send old.queue ≡ true) × (marked_items old.queue.outstanding.items ≡ 0) × (SendsNew now old new ⊎ FindsNone now old new)
+    (can_send old.queue ≡ true) × (marked_items old.queue.outstanding.items ≡ 0) × (SendsNew now old new ⊎ FindsNone now old new)
 
 -- some such steps, one after the other
 pub data Steps (Step : Stage → Stage → Type 0) (old : Stage) : Stage → Type 0 where
@@ -148,9 +143,9 @@ pub data Steps (Step : Stage → Stage → Type 0) (old : Stage) : Stage → Typ
 
 -- The events if an allocation fails for abandoning a message whose last item is this one: the first part of all.
 abbrev pub RefusesClosing : Item → SendQueueState → List (Event (List ℕ)) → List (Event (List ℕ)) → Bool → Type 0
-RefusesClosing last waiting told telling true = TellsFront told (maybe_expired last.fragment.lifecycle_id) telling
+RefusesClosing last waiting told telling true = TellsFront told (maybe_expired last.fragment.lifecycle) telling
 RefusesClosing last waiting told telling false =
-    (telling ≡ told) ⊎ StopsDiscarding waiting last.fragment.stream_id.0 last.fragment.message_id told telling
+    (telling ≡ told) ⊎ StopsDiscarding waiting last.fragment.stream last.fragment.message_id told telling
 
 -- An allocation fails for abandoning the message of the item at this place.
 pub record RefusesUpAt (place : ℕ) (items : List Item) (waiting : SendQueueState) (told telling : List (Event (List ℕ))) : Type 0 where
@@ -215,26 +210,26 @@ GoesFilling now old new (Ok done) = FillsStage now old new
 GoesFilling now old new (Err error) = StopsFilling now old new
 
 -- A packet is filled that had that many bytes of room, from a queue, a send queue and events to others.
-pub record FillsPacket (now bytes : ℕ) (old : QueueModel) (waiting : SendQueueState) (events : List SocketEvent) (new : QueueModel) (left : SendQueueState) (telling : List SocketEvent) (tsns : List ℕ) : Type 0 where
+pub record FillsPacket (now bytes : ℕ) (old : RetransmissionState) (waiting : SendQueueState) (events : List SocketEvent) (new : RetransmissionState) (left : SendQueueState) (telling : List SocketEvent) (tsns : List ℕ) : Type 0 where
   pub room : ℕ
   pub fills : FillsStage now (stage old waiting events [] bytes) (stage new left telling tsns room)
 
 -- a packet is filled by whether an allocation failed
-abbrev pub TriesPacket : ℕ → ℕ → QueueModel → SendQueueState → List SocketEvent → QueueModel → SendQueueState → List SocketEvent → Result (Vec ℕ Global) AllocError → Type 0
+abbrev pub TriesPacket : ℕ → ℕ → RetransmissionState → SendQueueState → List SocketEvent → RetransmissionState → SendQueueState → List SocketEvent → Result (Vec ℕ Global) AllocError → Type 0
 TriesPacket now bytes old waiting events new left telling (Ok tsns) = FillsPacket now bytes old waiting events new left telling tsns.items
 TriesPacket now bytes old waiting events new left telling (Err error) =
     StopsFilling now (stage old waiting events [] bytes) (stage new left telling [] bytes)
 
 -- The same, and then the timer runs while something is outstanding.
-pub record SendsPacket (now bytes : ℕ) (old : QueueModel) (waiting : SendQueueState) (events : List SocketEvent) (new : QueueModel) (left : SendQueueState) (telling : List SocketEvent) (result : Result (Vec ℕ Global) AllocError) : Type 0 where
-  pub sent : QueueModel
+pub record SendsPacket (now bytes : ℕ) (old : RetransmissionState) (waiting : SendQueueState) (events : List SocketEvent) (new : RetransmissionState) (left : SendQueueState) (telling : List SocketEvent) (result : Result (Vec ℕ Global) AllocError) : Type 0 where
+  pub sent : RetransmissionState
   pub fills : TriesPacket now bytes old waiting events sent left telling result
   pub is : new ≡ record sent { timer = timer_with now sent.outstanding.items sent.timer }
 
 -- ---- one chunk
 
 -- What a try to send the item at this place again does, by whether it fits.
-abbrev pub SendsAt : ℕ → Item → QueueModel → Packet → QueueModel → Packet → Bool → Type 0
+abbrev pub SendsAt : ℕ → Item → RetransmissionState → Packet → RetransmissionState → Packet → Bool → Type 0
 SendsAt place item old before new after true =
     (size_of old.outstanding.header item ≤ before.room)
     × (new ≡ with_items (changed_between (SendAgain (next_tsn old.outstanding)) place (place + 1) old.outstanding.items) old)
@@ -245,12 +240,12 @@ SendsAt place item old before new after false = (new ≡ old) × (after.tsns.ite
 -- ---- a fast retransmission (RFC 9260, section 7.2.4)
 
 -- Why no more chunks are sent at once. None waits to be sent again, or the first that does is due to be abandoned or doesn't fit.
-pub record IsFirstDue (now : ℕ) (queue : QueueModel) : Type 0 where
+pub record IsFirstDue (now : ℕ) (queue : RetransmissionState) : Type 0 where
   pub place : ℕ
   pub next : IsNextMarked place queue.outstanding.items
   pub due : is_due now queue.partial_reliability next.marked.item ≡ true
 
-abbrev pub HaltsAtOnce : ℕ → ℕ → QueueModel → Type 0
+abbrev pub HaltsAtOnce : ℕ → ℕ → RetransmissionState → Type 0
 HaltsAtOnce now room queue = (marked_items queue.outstanding.items ≡ 0) ⊎ (IsFirstDue now queue ⊎ WaitsForRoom room queue.outstanding)
 
 -- does the first item wait to be sent again?
@@ -269,8 +264,8 @@ restarted true timer = record timer { running = None }
 restarted false timer = timer
 
 -- These TSNs are sent at once, as many as fit into that many bytes.
-pub record SendsAtOnce (now bytes : ℕ) (old new : QueueModel) (tsns : List ℕ) : Type 0 where
-  pub resent : QueueModel
+pub record SendsAtOnce (now bytes : ℕ) (old new : RetransmissionState) (tsns : List ℕ) : Type 0 where
+  pub resent : RetransmissionState
   pub room : ℕ
   pub steps : (waiting : SendQueueState) (events : List SocketEvent) → Steps (SendsMarked now) (stage old waiting events [] bytes) (stage resent waiting events tsns room)
   pub halts : HaltsAtOnce now room resent
@@ -280,7 +275,7 @@ pub record SendsAtOnce (now bytes : ℕ) (old new : QueueModel) (tsns : List ℕ
       new ≡ record queue { timer = timer_with now queue.outstanding.items (restarted sends_first queue.timer) }
 
 -- a fast retransmission by whether an allocation failed
-abbrev pub TriesAtOnce : ℕ → ℕ → QueueModel → QueueModel → Result (Vec ℕ Global) AllocError → Type 0
+abbrev pub TriesAtOnce : ℕ → ℕ → RetransmissionState → RetransmissionState → Result (Vec ℕ Global) AllocError → Type 0
 TriesAtOnce now bytes old new (Ok tsns) = SendsAtOnce now bytes (record old { fast_retransmit_due = false }) new tsns.items
 TriesAtOnce now bytes old new (Err error) =
     (waiting : SendQueueState) (events : List SocketEvent)

@@ -1,13 +1,12 @@
 //! What was sent and isn't acknowledged, and how much more may be sent.
 #![tactic(auto)]
 
-mod congestion;
 mod forward_tsn;
 mod handle_sack_result;
 mod packet;
 mod retransmission_queue;
 
-pub use congestion::{Acknowledged, CongestionControl};
+pub use dcsctp_machine::{Acknowledged, CongestionControl};
 pub use forward_tsn::{ForwardTsn, Skipped};
 pub use handle_sack_result::HandleSackResult;
 pub use packet::Packet;

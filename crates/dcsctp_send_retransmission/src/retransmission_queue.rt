@@ -9,10 +9,9 @@ mod forwarding;
 mod resending;
 mod sending;
 
-use crate::congestion::CongestionControl;
 use dcsctp_api::SocketTime;
-use dcsctp_machine::{BackoffAlgorithm, Options};
-use dcsctp_send_outstanding::{Change, Outstanding};
+use dcsctp_machine::{BackoffAlgorithm, Change, CongestionControl, Options};
+use dcsctp_send_outstanding::Outstanding;
 use dcsctp_send_queue::DataToSend;
 use dcsctp_send_timer::Timer;
 use std::alloc::Global;
@@ -21,7 +20,7 @@ use std::time::Duration;
 
 /// The data of an association that was sent and is not acknowledged yet, with the windows that bound it.
 ///
-/// A contract sees the items, the windows and the timer; `retransmission_state` of it is what a user sees.
+/// A contract sees the items, the windows and the timer.
 #[derive(Drop)]
 pub struct RetransmissionQueue {
     outstanding: Outstanding,
@@ -47,9 +46,9 @@ pub struct RetransmissionQueue {
 }
 
 impl Model for RetransmissionQueue {
-    ghost use Rattle.dcsctp_send_retransmission.specs.Queue.{QueueModel};
+    ghost use Rattle.dcsctp_machine.specs.transfer.Retransmission.{RetransmissionState};
 
-    ghost Value = { QueueModel };
+    ghost Value = { RetransmissionState };
 
     ghost view = { λ queue. record {
       outstanding = queue.outstanding;
@@ -57,7 +56,7 @@ impl Model for RetransmissionQueue {
       timer = queue.timer;
       peer_window = queue.peer_window;
       partial_reliability = queue.partial_reliability;
-      interleaving = queue.interleaving;
+      message_interleaving = queue.interleaving;
       fast_retransmit_due = queue.fast_retransmit_due;
       reset_begun = queue.reset_begun;
       packets_retransmitted = queue.packets_retransmitted;
@@ -68,12 +67,13 @@ impl Model for RetransmissionQueue {
 impl RetransmissionQueue {
     ghost use Rattle.std.specs.Prelude.{true, ◌&&◌, IfNone, ◌+◌, ◌-◌, ◌/◌, ◌%◌, ◌^◌, ◌<◌, ◌≤◌, IfSome, length};
     ghost use Rattle.std.specs.Duration.{as_nanos};
-    ghost use Rattle.dcsctp_machine.specs.transfer.Transfer.{new_retransmission};
+    ghost use Rattle.dcsctp_machine.specs.transfer.Retransmission.{new_retransmission, outstanding_count, window_left, retransmission_deadline, can_send, timer_with, with_duration, with_reset_begun, counted_again};
     ghost use Rattle.dcsctp_machine.specs.Timers.{expires_at};
-    ghost use Rattle.dcsctp_send_outstanding.specs.Items.{unacknowledged_items};
-    ghost use Rattle.dcsctp_send_outstanding.specs.Outstanding.{next_tsn, distance_to, FindsPlaces};
-    ghost use Rattle.dcsctp_send_retransmission.specs.Queue.{retransmission_state, new_queue, may_send, queue_at, timer_with};
-    ghost use Rattle.dcsctp_send_retransmission.specs.Sending.{counted_again, HasFragment};
+    ghost use Rattle.dcsctp_machine.specs.transfer.Items.{unacknowledged_items, marked_items};
+    ghost use Rattle.dcsctp_send_outstanding.specs.Outstanding.{FindsPlaces};
+    ghost use Rattle.dcsctp_machine.specs.transfer.Outstanding.{next_tsn, distance_to};
+    ghost use Rattle.dcsctp_send_retransmission.specs.Queue.{queue_at};
+    ghost use Rattle.dcsctp_send_retransmission.specs.Sending.{HasFragment};
 
     /// Nothing was sent yet: the first TSN is `my_initial_tsn`, the peer's receive window is `a_rwnd` bytes,
     /// as it announced. The congestion window is `cwnd_mtus_initial` MTUs of the options (RFC 9260, section
@@ -86,8 +86,7 @@ impl RetransmissionQueue {
         partial_reliability: bool,
         interleaving: bool,
     ) -> RetransmissionQueue
-        ensures seen { retransmission_state result ≡ new_retransmission options.now partial_reliability interleaving my_initial_tsn a_rwnd }
-        ensures whole { result ≡ new_queue options.now my_initial_tsn a_rwnd partial_reliability interleaving }
+        ensures { result ≡ new_retransmission options.now my_initial_tsn a_rwnd partial_reliability interleaving }
     {
         RetransmissionQueue {
             outstanding: Outstanding::new(
@@ -123,14 +122,14 @@ impl RetransmissionQueue {
 
     /// Are messages sent as I-DATA (RFC 8260, section 2.1)?
     pub fn is_interleaving(&self) -> bool
-        ensures { result ≡ (retransmission_state self.now).message_interleaving }
+        ensures { result ≡ self.now.message_interleaving }
     {
         self.interleaving
     }
 
     /// The TSN that is sent next.
     pub fn next_tsn(&self) -> u32
-        ensures { result ≡ (retransmission_state self.now).next_tsn }
+        ensures { result ≡ next_tsn self.now.outstanding }
     {
         self.outstanding.next_tsn()
     }
@@ -144,7 +143,7 @@ impl RetransmissionQueue {
 
     /// The peer's receive window less what is in flight, in bytes (RFC 9260, section 6.2.1).
     pub fn rwnd(&self) -> usize
-        ensures { result ≡ (retransmission_state self.now).rwnd }
+        ensures { result ≡ window_left self.now }
     {
         self.peer_window
             .saturating_sub(self.outstanding.in_flight_bytes())
@@ -152,14 +151,14 @@ impl RetransmissionQueue {
 
     /// The congestion window, in bytes (RFC 9260, section 7.2).
     pub fn cwnd(&self) -> usize
-        ensures { result ≡ (retransmission_state self.now).cwnd }
+        ensures { result ≡ self.now.congestion.cwnd }
     {
         self.congestion.cwnd
     }
 
     /// How many items were sent that the cumulative TSN ack hasn't passed.
     pub fn outstanding_items(&self) -> usize
-        ensures value { result ≡ (retransmission_state self.now).outstanding_items }
+        ensures value { result ≡ outstanding_count self.now }
         ensures few { result < 2 ^ 31 }
     {
         self.outstanding.len()
@@ -167,46 +166,42 @@ impl RetransmissionQueue {
 
     /// How many of them were found lost, and wait to be sent again.
     pub fn marked_items(&self) -> usize
-        ensures { result ≡ (retransmission_state self.now).marked_items }
+        ensures { result ≡ marked_items self.now.outstanding.items }
     {
         self.outstanding.marked_items()
     }
 
     /// How many items were sent and neither acknowledged nor abandoned.
     pub fn unacked_items(&self) -> usize
-        ensures { result ≡ (retransmission_state self.now).unacknowledged_items }
+        ensures { result ≡ unacknowledged_items self.now.outstanding.items }
     {
         self.outstanding.unacknowledged_items()
     }
 
     /// How many packets with chunks that were sent again there were; it stops at the greatest number.
     pub fn rtx_packets_count(&self) -> usize
-        ensures { result ≡ (retransmission_state self.now).packets_retransmitted }
+        ensures { result ≡ self.now.packets_retransmitted }
     {
         self.packets_retransmitted
     }
 
     /// The bytes that were sent again, chunk headers and padding included; it stops at the greatest number.
     pub fn rtx_bytes_count(&self) -> u64
-        ensures { result ≡ (retransmission_state self.now).bytes_retransmitted }
+        ensures { result ≡ self.now.bytes_retransmitted }
     {
         self.bytes_retransmitted
     }
 
     /// When the retransmission timer expires next; none if it doesn't run.
     pub fn next_timeout(&self) -> Option<SocketTime>
-        ensures { result ≡ (retransmission_state self.now).deadline }
+        ensures { result ≡ retransmission_deadline self.now }
     {
         self.timer.next_expiry()
     }
 
     /// How long an acknowledgement is awaited when the timer is started next (RFC 9260, section 6.3.2).
     pub fn update_rto(&mut self, rto: Duration)
-        ensures { self.new ≡ record self.old {
-          timer = record self.old.timer {
-            settings = record self.old.timer.settings { duration = as_nanos rto };
-          };
-        } }
+        ensures { self.new ≡ with_duration (as_nanos rto) self.old }
     {
         self.timer.set_duration(rto);
     }
@@ -214,7 +209,7 @@ impl RetransmissionQueue {
     /// May more be sent? Yes if less than the congestion window and less than the peer's window is in flight,
     /// or nothing (RFC 9260, section 6.1).
     pub fn can_send_data(&self) -> bool
-        ensures { result ≡ may_send self.now }
+        ensures { result ≡ can_send self.now }
     {
         let flying = self.outstanding.in_flight_bytes();
         flying == 0 || (flying < self.congestion.cwnd && flying < self.peer_window)
@@ -223,7 +218,7 @@ impl RetransmissionQueue {
     /// Notes that outgoing streams are reset: no FORWARD-TSN goes beyond that, since numbers start anew after
     /// the last assigned TSN (RFC 6525, section 5.1.2).
     pub fn begin_reset_streams(&mut self)
-        ensures { self.new ≡ record self.old { reset_begun = true } }
+        ensures { self.new ≡ with_reset_begun self.old }
     {
         self.reset_begun = true;
     }

@@ -1,9 +1,12 @@
 //! What leaves a send queue.
 
 use dcsctp_api::{LifecycleId, PpId, SocketTime, StreamId};
+use std::marker::Model;
 
 /// A fragment of a message, which is sent as one DATA chunk (RFC 9260, section 3.3.1) or I-DATA chunk (RFC
 /// 8260, section 2.1).
+///
+/// A contract sees it with its payload as a list, and its moment in nanoseconds.
 #[derive(Debug, Drop)]
 pub struct DataToSend {
     /// Counts the messages of the queue in the order in which they were added, from 0. It names the
@@ -45,4 +48,28 @@ pub struct DataToSend {
 
     /// The name under which events tell how the message fares.
     pub lifecycle_id: Option<LifecycleId>,
+}
+
+impl Model for DataToSend {
+    ghost use Rattle.std.specs.Option.{option_map};
+    ghost use Rattle.dcsctp_machine.specs.Ids.{lifecycle_number};
+    ghost use Rattle.dcsctp_machine.specs.transfer.Sending.{Fragment};
+
+    ghost Value = { Fragment };
+
+    ghost view = { λ part. record {
+      message_id = part.message_id;
+      stream = part.stream_id.0;
+      ssn = part.ssn;
+      mid = part.mid;
+      fsn = part.fsn;
+      ppid = part.ppid.0;
+      is_unordered = part.is_unordered;
+      is_beginning = part.is_beginning;
+      is_end = part.is_end;
+      payload = part.payload.items;
+      max_retransmissions = part.max_retransmissions;
+      expires_at = part.expires_at;
+      lifecycle = option_map lifecycle_number part.lifecycle_id;
+    } };
 }

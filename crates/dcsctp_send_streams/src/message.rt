@@ -60,7 +60,7 @@ impl QueuedMessage {
     ghost use Rattle.std.specs.Option.{option_map};
     ghost use Rattle.dcsctp_machine.specs.Ids.{lifecycle_number};
     ghost use Rattle.dcsctp_machine.specs.transfer.SendStreams.{is_expired};
-    ghost use Rattle.dcsctp_send_streams.specs.Fragment.{fragment_of, CopiesRest};
+    ghost use Rattle.dcsctp_send_streams.specs.Fragment.{CopiesRest};
     ghost use Rattle.dcsctp_machine.specs.transfer.Sending.{fragment};
 
     /// The message that is added at the moment `now`.
@@ -163,7 +163,7 @@ impl QueuedMessage {
         size: usize,
     ) -> Result<DataToSend, AllocError>
         requires { under_way.sent + size < length self.now.payload }
-        ensures ok { IfOk result (λ part. fragment_of part ≡ fragment under_way self.now size) }
+        ensures ok { IfOk result (λ part. part ≡ fragment under_way self.now size) }
         ensures fits { under_way.sent + size < 2 ^ 64 }
     {
         let rest = &self.payload[under_way.sent..];
@@ -204,7 +204,7 @@ impl QueuedMessage {
     pub fn last_part(self, under_way: UnderWay, rest: Option<Vec<u8>>) -> DataToSend
         requires rest { CopiesRest under_way.sent self.payload rest }
         requires within { under_way.sent ≤ length self.payload }
-        ensures { fragment_of result ≡ fragment under_way self (length self.payload - under_way.sent) }
+        ensures { result ≡ fragment under_way self (length self.payload - under_way.sent) }
     {
         let QueuedMessage {
             message_id,

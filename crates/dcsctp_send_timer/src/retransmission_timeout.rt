@@ -3,7 +3,7 @@
 ghost use Rattle.std.specs.Prelude.{◌≡◌, nat_lt};
 ghost use Rattle.std.specs.Duration.{as_nanos};
 ghost use Rattle.std.specs.Option.{option_map};
-ghost use Rattle.dcsctp_send_timer.specs.RetransmissionTimeout.{smoothed, variance_with};
+ghost use Rattle.dcsctp_machine.specs.transfer.Timeout.{smoothed, variance_with};
 
 use dcsctp_machine::Options;
 use std::marker::Model;
@@ -50,7 +50,7 @@ struct Bounds {
 }
 
 impl Bounds {
-    ghost use Rattle.dcsctp_send_timer.specs.RetransmissionTimeout.{timeout_for};
+    ghost use Rattle.dcsctp_machine.specs.transfer.Timeout.{timeout_for};
 
     // The timeout for this smoothed round trip and its variance.
     fn timeout_for(self, srtt: Duration, variance: Duration) -> Duration
@@ -70,7 +70,7 @@ impl Bounds {
 /// How long an acknowledgement is awaited before data is sent again, and the round trip that this is computed
 /// from.
 ///
-/// A contract sees it with its durations in nanoseconds; `timeout_state` of it is what a user sees.
+/// A contract sees it with its durations in nanoseconds.
 #[derive(Debug, Drop)]
 pub struct RetransmissionTimeout {
     rto: Duration,
@@ -85,9 +85,9 @@ pub struct RetransmissionTimeout {
 impl Model for RetransmissionTimeout {
     ghost use Rattle.std.specs.Duration.{as_nanos};
     ghost use Rattle.std.specs.Option.{option_map};
-    ghost use Rattle.dcsctp_send_timer.specs.RetransmissionTimeout.{TimeoutModel};
+    ghost use Rattle.dcsctp_machine.specs.transfer.Timeout.{TimeoutState};
 
-    ghost Value = { TimeoutModel };
+    ghost Value = { TimeoutState };
 
     ghost view = { λ timeout. record {
       rto = as_nanos timeout.rto;
@@ -103,8 +103,7 @@ impl Model for RetransmissionTimeout {
 }
 
 impl RetransmissionTimeout {
-    ghost use Rattle.dcsctp_machine.specs.transfer.Transfer.{new_timeout};
-    ghost use Rattle.dcsctp_send_timer.specs.RetransmissionTimeout.{timeout_state, unmeasured_timeout, timeout_after};
+    ghost use Rattle.dcsctp_machine.specs.transfer.Timeout.{new_timeout, timeout_after};
 
     /// The timeout before any round trip was measured: `rto_initial` of the options, which is not cut to
     /// `rto_min` or `rto_max`.
@@ -112,8 +111,7 @@ impl RetransmissionTimeout {
     /// Unlike RFC 9260, section 6.3.1, the smoothed round trip time has a value from the beginning, the
     /// same duration.
     pub fn new(options: &Options) -> RetransmissionTimeout
-        ensures seen { timeout_state result ≡ new_timeout options.now }
-        ensures whole { result ≡ unmeasured_timeout options.now }
+        ensures { result ≡ new_timeout options.now }
     {
         RetransmissionTimeout {
             rto: options.rto_initial,

@@ -1,5 +1,6 @@
 -- Behind the turns of data, COOKIE ACK and RE-CONFIG the next chunk follows.
 use Rattle.std.proofs.Common.{◌≡◌, ℕ, Bool, true, false, cond, Option, None, Some, List, [], ◌∷◌, refl, ap, ◌∙◌}
+use Rattle.dcsctp_wire.specs.Content.{SackContent}
 use Rattle.dcsctp_machine.specs.declared.association.Pair.{Pair}
 use Rattle.dcsctp_machine.specs.declared.association.Held.{Held}
 use Rattle.dcsctp_machine.specs.Event.{Event}
@@ -11,7 +12,8 @@ use Rattle.dcsctp_machine.specs.transfer.Transfer.{Transfer}
 use Rattle.dcsctp_machine.specs.Endpoint.{Endpoint, Core, closed, cookie_wait, cookie_echoed, open_in, held_in}
 use Rattle.dcsctp_machine.specs.Following.{next_chunk}
 use Rattle.dcsctp_machine.specs.Outcome.{Outcome, quiet, sends}
-use Rattle.dcsctp_machine.specs.turns.DataOutcomes.{no_user_data_outcome, ReceiveTurn, DataWhere, DataTurn, ForwardTurn, is_sack_valid, SackWhere, SackBy, SackTurn}
+use Rattle.dcsctp_machine.specs.turns.DataOutcomes.{no_user_data_outcome, ReceiveTurn, DataWhere, DataTurn, ForwardTurn, SackWhere, SackBy, SackTurn}
+use Rattle.dcsctp_machine.specs.transfer.Acknowledging.{is_sack_valid}
 use Rattle.dcsctp_machine.specs.turns.FlushOutcomes.{Answer, first_ask, packets_allowed, draft_to, flush_answered}
 use Rattle.dcsctp_machine.specs.turns.HandshakeOutcomes.{connected_after, cookie_ack_by, CookieAckAnswers, CookieAckTurn}
 use Rattle.dcsctp_machine.specs.turns.ResetOutcomes.{responses_outcome, responses_by, ResponseAnswers, worked_in, answered_in, resets_worked, told_of, WorksResets, ResetTurn}
@@ -47,18 +49,18 @@ pub forward_goes : (e : Endpoint) (transfer : Option Transfer) (tsn : ℕ) (entr
 forward_goes e None tsn entries o is = goes_as o _ is refl
 forward_goes e (Some transfer) tsn entries o turn = goes_as o _ turn.2 refl
 
-sack_where : (valid : Bool) (e : Endpoint) (held : Held) (transfer : Transfer) (o : Outcome) → SackWhere valid e held transfer o → GoesOn o
-sack_where false e held transfer o is = goes_as o _ is refl
-sack_where true e held transfer o h =
+sack_where : (valid : Bool) (e : Endpoint) (held : Held) (transfer : Transfer) (sack : SackContent) (o : Outcome) → SackWhere valid e held transfer sack o → GoesOn o
+sack_where false e held transfer sack o is = goes_as o _ is refl
+sack_where true e held transfer sack o h =
     goes_as o _ h.is (flush_keeps first_ask (packets_allowed h.fast.after.options.max_burst h.fast.after.core) h.fast.after (draft_to held) h.answers h.allowed).following
 
-sack_by : (e : Endpoint) (held : Option Held) (transfer : Transfer) (tsn : ℕ) (o : Outcome) → SackBy e held transfer tsn o → GoesOn o
-sack_by e None transfer tsn o is = goes_as o _ is refl
-sack_by e (Some held) transfer tsn o turn = sack_where (is_sack_valid transfer.retransmission tsn) e held transfer o turn
+sack_by : (e : Endpoint) (held : Option Held) (transfer : Transfer) (sack : SackContent) (o : Outcome) → SackBy e held transfer sack o → GoesOn o
+sack_by e None transfer sack o is = goes_as o _ is refl
+sack_by e (Some held) transfer sack o turn = sack_where (is_sack_valid transfer.retransmission sack.cumulative_tsn_ack) e held transfer sack o turn
 
-pub sack_goes : (e : Endpoint) (transfer : Option Transfer) (tsn : ℕ) (o : Outcome) → SackTurn e transfer tsn o → GoesOn o
-sack_goes e None tsn o is = goes_as o _ is refl
-sack_goes e (Some transfer) tsn o turn = sack_by e (held_in e.core) transfer tsn o turn
+pub sack_goes : (e : Endpoint) (transfer : Option Transfer) (sack : SackContent) (o : Outcome) → SackTurn e transfer sack o → GoesOn o
+sack_goes e None sack o is = goes_as o _ is refl
+sack_goes e (Some transfer) sack o turn = sack_by e (held_in e.core) transfer sack o turn
 
 -- ---- COOKIE ACK
 

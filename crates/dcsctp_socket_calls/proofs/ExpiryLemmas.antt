@@ -1,5 +1,5 @@
 -- The turns of the timers that are due, from what their handlers say.
-use Rattle.std.proofs.Common.{◌≡◌, ℕ, Bool, true, false, cond, ◌||◌, Option, None, Some, List, [], ◌∷◌, ◌++◌, map, Result, Ok, Err, refl, sym, ap, subst, ◌∙◌, append_assoc, arith}
+use Rattle.std.proofs.Common.{◌≡◌, ℕ, Bool, true, false, cond, ◌||◌, Option, None, Some, List, [], ◌∷◌, ◌++◌, map, Result, Ok, Err, refl, sym, ap, subst, ◌∙◌, append_assoc}
 use Rattle.std.proofs.lemmas.List.{map-append}
 use Rattle.rand_core.specs.Stream.{Stream}
 use Rattle.dcsctp_machine.specs.Settings.{Ports, ports_of}
@@ -22,6 +22,7 @@ use Rattle.dcsctp_machine.specs.turns.HeartbeatOutcomes.{error_counted, interval
 use Rattle.dcsctp_machine.specs.turns.OwnTimers.{OwnTimer, acknowledgement_delay, retransmission, heartbeat_interval, heartbeat_timeout, reconfiguration, TimerTurn}
 use Rattle.dcsctp_machine.specs.turns.ReconfigurationOutcomes.{reconfiguration_outcome}
 use Rattle.dcsctp_machine.specs.turns.ShutdownOutcomes.{t2_again_outcome}
+use Rattle.dcsctp_machine.specs.turns.TransferMoves.{lost_all}
 use Rattle.dcsctp_machine.specs.turns.TimerOutcomes.{t1_goes_on, t1_again_by, AgainAnswers, t1_gives_up_outcome}
 use Rattle.dcsctp_machine.proofs.AnswerLemmas.{any_answers}
 use Rattle.dcsctp_machine.proofs.TurnLemmas.{events_of-append}
@@ -73,25 +74,8 @@ t1_comes e false = (t1_gives_up_outcome e e.core, refl)
 
 loss_comes : (e : Endpoint) (transfer : Option Transfer) → (o : Outcome) × LossTurn e transfer o
 loss_comes e None = (still e, refl)
-loss_comes e (Some transfer) = (
-  still (record (with_transfer e transfer) { error_count = error_counted e.options.max_retransmissions e.error_count }),
-  (
-    transfer,
-    record {
-      next_tsn = refl;
-      partial_reliability = refl;
-      message_interleaving = refl;
-      outstanding = refl;
-      unacknowledged = refl;
-      never_acknowledged = refl;
-      rwnd = omega arith;
-      timeout = refl;
-      tracker = refl;
-      reassembly = refl;
-    },
-    refl,
-  ),
-)
+loss_comes e (Some transfer) =
+    (still (record (with_transfer e (lost_all e.moment transfer)) { error_count = error_counted e.options.max_retransmissions e.error_count }), refl)
 
 own_comes : (e : Endpoint) (timer : OwnTimer) → (o : Outcome) × TimerTurn e timer o
 own_comes e acknowledgement_delay = (delay_outcome e e.below.transfer, refl)

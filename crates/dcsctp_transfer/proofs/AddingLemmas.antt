@@ -8,8 +8,8 @@ use Rattle.dcsctp_wire.specs.ReadsBack.{IsByte, FitsChunk}
 use Rattle.dcsctp_wire.specs.Spelling.{chunk_bytes, data_fields, i_data_fields}
 use Rattle.dcsctp_wire.proofs.Lengths.{length-chunk_bytes, length-data_fields, length-i_data_fields}
 use Rattle.dcsctp_wire_build.specs.Building.{Building, bytes_remaining}
-use Rattle.dcsctp_send_outstanding.specs.Items.{chunk_size}
-use Rattle.dcsctp_send_outstanding.specs.Outstanding.{OutstandingModel}
+use Rattle.dcsctp_machine.specs.transfer.Items.{chunk_size}
+use Rattle.dcsctp_machine.specs.transfer.Outstanding.{OutstandingState}
 use Rattle.dcsctp_send_retransmission.specs.Sending.{PackedFrom, HandsOut, none as none_packed, more as more_packed}
 use Rattle.dcsctp_transfer.specs.Filling.{IsDataChunk}
 use Rattle.dcsctp_transfer.specs.Adding.{HasChunk, HaveChunks, none, more, HasChunkWithin, AddsChunk, AddsChunkOf, AddsChunks, HasRest}
@@ -38,7 +38,7 @@ short_enough packet size header len small within is = omega arith
 -- ---- the chunks of TSNs
 
 -- one more at the end
-have_more : (outstanding : OutstandingModel) (tsns : List ℕ) (sizes tsn size : ℕ) → HaveChunks outstanding tsns sizes → HasChunk outstanding tsn size → HaveChunks outstanding (tsns ++ tsn ∷ []) (sizes + size)
+have_more : (outstanding : OutstandingState) (tsns : List ℕ) (sizes tsn size : ℕ) → HaveChunks outstanding tsns sizes → HasChunk outstanding tsn size → HaveChunks outstanding (tsns ++ tsn ∷ []) (sizes + size)
 have_more outstanding [] zero tsn size none has =
     let same : size + 0 ≡ 0 + size = omega arith in
     subst (λ (n : ℕ). HaveChunks outstanding (tsn ∷ []) n) same (more tsn size [] 0 has none)
@@ -48,20 +48,20 @@ have_more outstanding tsns sizes tsn size (more first length_of others rest chun
     (more first length_of (others ++ tsn ∷ []) (rest + size) chunk (have_more outstanding others rest tsn size have has))
 
 -- those that were handed out
-pub have_packed : (outstanding : OutstandingModel) (tsns : List ℕ) (used : ℕ) → PackedFrom outstanding tsns used → HaveChunks outstanding tsns used
+pub have_packed : (outstanding : OutstandingState) (tsns : List ℕ) (used : ℕ) → PackedFrom outstanding tsns used → HaveChunks outstanding tsns used
 have_packed outstanding [] zero none_packed = none
 have_packed outstanding tsns used (more_packed others rest place item tsn size packed at is size_is) =
     have_more outstanding others rest tsn size (have_packed outstanding others rest packed) (record { place = place; item = item; at = at; is = is; size_is = size_is })
 
 -- the first of them, and the others
-record First (outstanding : OutstandingModel) (tsn : ℕ) (tsns : List ℕ) (sizes : ℕ) : Type 0 where
+record First (outstanding : OutstandingState) (tsn : ℕ) (tsns : List ℕ) (sizes : ℕ) : Type 0 where
   pub size : ℕ
   pub rest : ℕ
   pub chunk : HasChunk outstanding tsn size
   pub others : HaveChunks outstanding tsns rest
   pub sum : sizes ≡ size + rest
 
-first_of : (outstanding : OutstandingModel) (tsn : ℕ) (tsns : List ℕ) (sizes : ℕ) → HaveChunks outstanding (tsn ∷ tsns) sizes → First outstanding tsn tsns sizes
+first_of : (outstanding : OutstandingState) (tsn : ℕ) (tsns : List ℕ) (sizes : ℕ) → HaveChunks outstanding (tsn ∷ tsns) sizes → First outstanding tsn tsns sizes
 first_of outstanding tsn tsns sizes (more tsn' size tsns' rest chunk others) =
     record { size = size; rest = rest; chunk = chunk; others = others; sum = refl }
 
@@ -72,16 +72,16 @@ drop_at [] i d within = absurd (omega arith)
 drop_at (x ∷ xs) zero d within = refl
 drop_at (x ∷ xs) (suc i) d within = drop_at xs i d (omega arith)
 
-pub rest_of_all : (outstanding : OutstandingModel) (tsns : List ℕ) (packet : Building) → HandsOut (bytes_remaining packet) outstanding tsns → HasRest outstanding 0 tsns packet
+pub rest_of_all : (outstanding : OutstandingState) (tsns : List ℕ) (packet : Building) → HandsOut (bytes_remaining packet) outstanding tsns → HasRest outstanding 0 tsns packet
 rest_of_all outstanding tsns packet hands =
     record { sizes = hands.used; chunks = have_packed outstanding tsns hands.used hands.packed; within = hands.fits }
 
-next_of : (outstanding : OutstandingModel) (i d : ℕ) (tsns : List ℕ) (packet : Building) → i < length tsns → (rest : HasRest outstanding i tsns packet) → First outstanding (get_or tsns i d) (drop (suc i) tsns) rest.sizes
+next_of : (outstanding : OutstandingState) (i d : ℕ) (tsns : List ℕ) (packet : Building) → i < length tsns → (rest : HasRest outstanding i tsns packet) → First outstanding (get_or tsns i d) (drop (suc i) tsns) rest.sizes
 next_of outstanding i d tsns packet within rest =
     first_of outstanding (get_or tsns i d) (drop (suc i) tsns) rest.sizes (subst (λ (xs : List ℕ). HaveChunks outstanding xs rest.sizes) (drop_at tsns i d within) rest.chunks)
 
 -- there is room for the next one
-pub next_within : (outstanding : OutstandingModel) (i d : ℕ) (tsns : List ℕ) (packet : Building) → i < length tsns → HasRest outstanding i tsns packet → HasChunkWithin (bytes_remaining packet) outstanding (get_or tsns i d)
+pub next_within : (outstanding : OutstandingState) (i d : ℕ) (tsns : List ℕ) (packet : Building) → i < length tsns → HasRest outstanding i tsns packet → HasChunkWithin (bytes_remaining packet) outstanding (get_or tsns i d)
 next_within outstanding i d tsns packet within rest =
     let next = next_of outstanding i d tsns packet within rest in
     record { size = next.size; chunk = next.chunk; within = omega (arith, next.sum, rest.within) }
@@ -92,7 +92,7 @@ room_left old new chunk size rest is size_is within =
     omega (arith, left, length-append old.body (chunk_bytes chunk), size_is, within)
 
 -- what is left once it is added
-pub rest_after : (interleaving : Bool) (outstanding : OutstandingModel) (i d : ℕ) (tsns : List ℕ) (old new : Building) → i < length tsns → HasRest outstanding i tsns old → AddsChunkOf interleaving outstanding (get_or tsns i d) old new → HasRest outstanding (suc i) tsns new
+pub rest_after : (interleaving : Bool) (outstanding : OutstandingState) (i d : ℕ) (tsns : List ℕ) (old new : Building) → i < length tsns → HasRest outstanding i tsns old → AddsChunkOf interleaving outstanding (get_or tsns i d) old new → HasRest outstanding (suc i) tsns new
 rest_after interleaving outstanding i d tsns old new within rest adds =
     let next = next_of outstanding i d tsns old within rest in
     let one = adds next.size next.chunk in
@@ -137,7 +137,7 @@ adds_one interleaving start old new count size adds one =
     }
 
 -- the next one, behind those so far
-pub adds_next : (interleaving : Bool) (outstanding : OutstandingModel) (i d : ℕ) (tsns : List ℕ) (start old new : Building) → i < length tsns → HasRest outstanding i tsns old → AddsChunks interleaving start i old → AddsChunkOf interleaving outstanding (get_or tsns i d) old new → AddsChunks interleaving start (suc i) new
+pub adds_next : (interleaving : Bool) (outstanding : OutstandingState) (i d : ℕ) (tsns : List ℕ) (start old new : Building) → i < length tsns → HasRest outstanding i tsns old → AddsChunks interleaving start i old → AddsChunkOf interleaving outstanding (get_or tsns i d) old new → AddsChunks interleaving start (suc i) new
 adds_next interleaving outstanding i d tsns start old new within rest adds added =
     let next = next_of outstanding i d tsns old within rest in
     adds_one interleaving start old new i next.size adds (added next.size next.chunk)

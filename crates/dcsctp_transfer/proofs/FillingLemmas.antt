@@ -7,8 +7,8 @@ use Rattle.dcsctp_wire.specs.Content.{ChunkContent}
 use Rattle.dcsctp_wire_build.specs.Building.{Building, bytes_remaining}
 use Rattle.dcsctp_machine.specs.Event.{Event}
 use Rattle.dcsctp_machine.specs.transfer.SendQueue.{SendQueueState, has_data}
-use Rattle.dcsctp_machine.specs.transfer.Transfer.{RetransmissionState, Transfer, must_give}
-use Rattle.dcsctp_send_retransmission.specs.Queue.{QueueModel, header_of, retransmission_state}
+use Rattle.dcsctp_machine.specs.transfer.Transfer.{Transfer, must_give}
+use Rattle.dcsctp_machine.specs.transfer.Retransmission.{RetransmissionState, header_of, outstanding_count}
 use Rattle.dcsctp_send_retransmission.specs.Sending.{Sends}
 use Rattle.dcsctp_send_retransmission.specs.Halting.{FillsUp}
 use Rattle.dcsctp_transfer.specs.Filling.{TellsMore, IsDataChunk, has_chunks, FillsPacket}
@@ -58,17 +58,17 @@ no_tsns (tsn ∷ tsns) is =
     let some = positive (length (tsn ∷ tsns)) (omega arith) in
     let both : true ≡ false = sym some ∙ is in absurd (cc)
 
-pub header_kept : (now : ℕ) (before after : QueueModel) → before.outstanding.header ≡ header_of before.interleaving → Sends now before after → after.outstanding.header ≡ header_of after.interleaving
+pub header_kept : (now : ℕ) (before after : RetransmissionState) → before.outstanding.header ≡ header_of before.message_interleaving → Sends now before after → after.outstanding.header ≡ header_of after.message_interleaving
 header_kept now before after header sends =
-    ap (λ (q : QueueModel). q.outstanding.header) sends.is
-    ∙ (sends.keeps.header ∙ (header ∙ (ap header_of (sym sends.keeps.interleaving) ∙ sym (ap (λ (q : QueueModel). header_of q.interleaving) sends.is))))
+    ap (λ (q : RetransmissionState). q.outstanding.header) sends.is
+    ∙ (sends.keeps.header ∙ (header ∙ (ap header_of (sym sends.keeps.interleaving) ∙ sym (ap (λ (q : RetransmissionState). header_of q.message_interleaving) sends.is))))
 
-pub fills_some : (now : ℕ) (old new : Transfer) (before after : QueueModel) (shown : SendQueueState) (left : SendQueueState) (events telling : List (Event (List ℕ))) (packet filled : Building) (tsns : List ℕ) (any : Bool)
-    → retransmission_state before ≡ old.retransmission
-    → new ≡ record old { retransmission = retransmission_state after }
-    → before.outstanding.header ≡ header_of before.interleaving
-    → (has_data shown || nat_lt 0 old.retransmission.outstanding_items) ≡ true
-    → Sends now before after → FillsUp (bytes_remaining packet) after left tsns → TellsMore events telling → AddsChunks after.interleaving packet (length tsns) filled
+pub fills_some : (now : ℕ) (old new : Transfer) (before after : RetransmissionState) (shown : SendQueueState) (left : SendQueueState) (events telling : List (Event (List ℕ))) (packet filled : Building) (tsns : List ℕ) (any : Bool)
+    → before ≡ old.retransmission
+    → new ≡ record old { retransmission = after }
+    → before.outstanding.header ≡ header_of before.message_interleaving
+    → (has_data shown || nat_lt 0 (outstanding_count old.retransmission)) ≡ true
+    → Sends now before after → FillsUp (bytes_remaining packet) after left tsns → TellsMore events telling → AddsChunks after.message_interleaving packet (length tsns) filled
     → any ≡ not (length tsns == 0)
     → FillsPacket old shown events packet new left telling filled any
 fills_some now old new before after shown left events telling packet filled tsns any old_is new_is header work sends fills tells adds answer =
@@ -78,7 +78,7 @@ fills_some now old new before after shown left events telling packet filled tsns
       adds = adds.is;
       fits = adds.fits;
       are_data = subst (λ (b : Bool). AllByRecursion (IsDataChunk b) adds.chunks)
-          (ap (λ (q : QueueModel). q.interleaving) sends.is ∙ (sends.keeps.interleaving ∙ ap (λ (r : RetransmissionState). r.message_interleaving) old_is)) adds.are_data;
+          (ap (λ (q : RetransmissionState). q.message_interleaving) sends.is ∙ (sends.keeps.interleaving ∙ ap (λ (r : RetransmissionState). r.message_interleaving) old_is)) adds.are_data;
       tells = tells.is;
       answers = answer ∙ answer_is adds.chunks (length tsns) adds.count_is;
       gives = λ empty.
@@ -86,8 +86,8 @@ fills_some now old new before after shown left events telling packet filled tsns
           ∙ gives_nothing (bytes_remaining packet) after left tsns (header_kept now before after header sends) fills (no_tsns tsns (sym answer ∙ empty));
       rest = new_is ∙ ap (λ (r : RetransmissionState). record old { retransmission = r }) (sym (ap (λ (t : Transfer). t.retransmission) new_is));
       partial_reliability = ap (λ (t : Transfer). t.retransmission.partial_reliability) new_is
-          ∙ (ap (λ (q : QueueModel). q.partial_reliability) sends.is ∙ (sends.keeps.partial_reliability ∙ ap (λ (r : RetransmissionState). r.partial_reliability) old_is));
+          ∙ (ap (λ (q : RetransmissionState). q.partial_reliability) sends.is ∙ (sends.keeps.partial_reliability ∙ ap (λ (r : RetransmissionState). r.partial_reliability) old_is));
       message_interleaving = ap (λ (t : Transfer). t.retransmission.message_interleaving) new_is
-          ∙ (ap (λ (q : QueueModel). q.interleaving) sends.is ∙ (sends.keeps.interleaving ∙ ap (λ (r : RetransmissionState). r.message_interleaving) old_is));
-      idle = λ nothing no_items. absurd (some_waits (has_data shown) old.retransmission.outstanding_items work nothing no_items);
+          ∙ (ap (λ (q : RetransmissionState). q.message_interleaving) sends.is ∙ (sends.keeps.interleaving ∙ ap (λ (r : RetransmissionState). r.message_interleaving) old_is));
+      idle = λ nothing no_items. absurd (some_waits (has_data shown) (outstanding_count old.retransmission) work nothing no_items);
     }

@@ -11,12 +11,12 @@ use Rattle.dcsctp_wire_build.specs.Building.{Building}
 use Rattle.dcsctp_machine.specs.Event.{Event}
 use Rattle.dcsctp_machine.specs.Packet.{unworked}
 use Rattle.dcsctp_machine.specs.transfer.SendQueue.{SendQueueState}
-use Rattle.dcsctp_machine.specs.transfer.Transfer.{RetransmissionState, Transfer}
+use Rattle.dcsctp_machine.specs.transfer.Transfer.{Transfer}
+use Rattle.dcsctp_machine.specs.transfer.Retransmission.{RetransmissionState, header_of, outstanding_count}
 use Rattle.dcsctp_machine.specs.turns.FlushOutcomes.{IsForward}
-use Rattle.dcsctp_send_outstanding.specs.declared.item.Item.{Item}
+use Rattle.dcsctp_machine.specs.transfer.Items.{Item}
 use Rattle.dcsctp_send_retransmission.specs.declared.forward_tsn.Skipped.{Skipped}
 use Rattle.dcsctp_send_retransmission.specs.declared.forward_tsn.Skipped.TheVariants.{Streams, Messages}
-use Rattle.dcsctp_send_retransmission.specs.Queue.{QueueModel, header_of, retransmission_state}
 use Rattle.dcsctp_send_retransmission.specs.Sending.{Keeps}
 use Rattle.dcsctp_send_retransmission.specs.States.{Stage, is_due, Steps, none, more}
 use Rattle.dcsctp_send_retransmission.specs.GivingUp.{GivesUpFirst, GivesUpDue}
@@ -39,10 +39,10 @@ keeps_steps now old new (more between new' steps step) =
 pub keeps_due : {A : Type 0} (r : Result A AllocError) (now : ℕ) (old new : Stage) → GivesUpDue now old new r → Keeps old.queue new.queue
 keeps_due (Ok done) now old new h = keeps_steps now old new h.0
 keeps_due (Err error) now old new h =
-    subst (λ (queue : QueueModel). Keeps old.queue queue) (sym (ap (λ (s : Stage). s.queue) h.refuses.is)) (keeps_steps now old h.at h.steps)
+    subst (λ (queue : RetransmissionState). Keeps old.queue queue) (sym (ap (λ (s : Stage). s.queue) h.refuses.is)) (keeps_steps now old h.at h.steps)
 
-pub header_due : {A : Type 0} (r : Result A AllocError) (now : ℕ) (old new : Stage) → old.queue.outstanding.header ≡ header_of old.queue.interleaving → GivesUpDue now old new r
-    → new.queue.outstanding.header ≡ header_of new.queue.interleaving
+pub header_due : {A : Type 0} (r : Result A AllocError) (now : ℕ) (old new : Stage) → old.queue.outstanding.header ≡ header_of old.queue.message_interleaving → GivesUpDue now old new r
+    → new.queue.outstanding.header ≡ header_of new.queue.message_interleaving
 header_due r now old new header h =
     let keeps : Keeps old.queue new.queue = keeps_due r now old new h in
     keeps.header ∙ (header ∙ ap header_of (sym keeps.interleaving))
@@ -106,10 +106,10 @@ puts_forward interleaving row tsn entries skipped packet filled lists reads tsn_
 
 -- messages were given up, as many as were due
 pub forwards_due : (now : ℕ) (old new : Transfer) (before after : Stage) (shown : SendQueueState) (events telling : List (Event (List ℕ))) (packet filled : Building) (next : Option ℕ)
-    → retransmission_state before.queue ≡ old.retransmission
-    → new ≡ record old { retransmission = retransmission_state after.queue }
+    → before.queue ≡ old.retransmission
+    → new ≡ record old { retransmission = after.queue }
     → before.waiting ≡ shown → before.told ≡ events → after.told ≡ telling
-    → (old.retransmission.outstanding_items ≡ 0 → ⊥)
+    → (outstanding_count old.retransmission ≡ 0 → ⊥)
     → Steps (GivesUpFirst now) before after → TellsMore before.told after.told
     → PutsWhere next now old packet filled → (old.retransmission.partial_reliability ≡ false → next ≡ None)
     → Forwards now old shown events packet new after.waiting telling filled next
@@ -127,7 +127,7 @@ forwards_due now old new before after shown events telling packet filled next ol
       negotiated = λ without.
           let same : after ≡ before = no_steps now before after (ap (λ (r : RetransmissionState). r.partial_reliability) old_is ∙ without) steps in (
             negotiated without,
-            new_is ∙ ap (λ (r : RetransmissionState). record old { retransmission = r }) (ap (λ (s : Stage). retransmission_state s.queue) same ∙ old_is),
+            new_is ∙ ap (λ (r : RetransmissionState). record old { retransmission = r }) (ap (λ (s : Stage). s.queue) same ∙ old_is),
             ap (λ (s : Stage). s.waiting) same ∙ shown_is,
             sym is_told ∙ (ap (λ (s : Stage). s.told) same ∙ was_told),
           );

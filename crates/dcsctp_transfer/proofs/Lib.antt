@@ -3,7 +3,6 @@ pub mod AtOnceLemmas
 pub mod FillingLemmas
 pub mod ForwardingLemmas
 pub mod GivingLemmas
-pub mod LossLemmas
 pub mod ReceivingLemmas
 pub mod SackLemmas
 pub mod SacksLemmas

@@ -4,7 +4,9 @@ use Rattle.dcsctp_machine.specs.declared.arrivals.SkippedTo.{SkippedTo}
 use Rattle.dcsctp_machine.specs.transfer.Arrivals.{Arrival}
 use Rattle.dcsctp_machine.specs.transfer.Reassembly.{ReassemblyState, is_above_watermark, AddsData, SkipsData}
 use Rattle.dcsctp_machine.specs.transfer.Tracker.{TrackerState, is_valid_tsn, is_new_tsn, observed, is_forward, after_forward}
-use Rattle.dcsctp_machine.specs.transfer.Transfer.{RetransmissionState, TimeoutState, Transfer}
+use Rattle.dcsctp_machine.specs.transfer.Transfer.{Transfer}
+use Rattle.dcsctp_machine.specs.transfer.Retransmission.{RetransmissionState}
+use Rattle.dcsctp_machine.specs.transfer.Timeout.{TimeoutState}
 use Rattle.dcsctp_machine.specs.turns.TransferMoves.{AddsWhere, TakesData, ReceivesWhere, ReceivesData, SkipsWhere, GoesForward, MovesWhere, MovesForward}
 
 -- what is shown of a tracker and a queue beside what is sent

@@ -5,8 +5,6 @@ use Rattle.std.specs.declared.alloc.AllocError.{AllocError}
 use Rattle.std.specs.declared.alloc.Global.{Global}
 use Rattle.dcsctp_machine.specs.Event.{Event}
 use Rattle.dcsctp_machine.specs.turns.FlushOutcomes.{Told, amount_is_low, total_amount_is_low, message_is_sent, message_may_have_expired, message_has_expired, message_ends}
-use Rattle.dcsctp_machine.specs.Ids.{lifecycle_number}
-use Rattle.dcsctp_machine.specs.declared.ids.LifecycleId.{LifecycleId}
 use Rattle.dcsctp_api.specs.declared.events.SocketEvent.{SocketEvent}
 use Rattle.dcsctp_machine.specs.transfer.SendStreams.{Waiting, Stream, stream_at}
 use Rattle.dcsctp_send_streams.specs.Telling.{contents, TellsFront}
@@ -15,8 +13,8 @@ use Rattle.dcsctp_machine.specs.declared.sending.UnderWay.{UnderWay}
 use Rattle.dcsctp_machine.specs.transfer.SendQueue.{SendQueueState}
 use Rattle.dcsctp_machine.specs.transfer.Sending.{Drops, none as none_dropped, more as more_dropped, DropsAll, drop_events, part_events, last_events, is_last, produced_events, DiscardsNamed}
 use Rattle.dcsctp_send_queue.specs.Calls.{StopsTaking, DropsNext, PartNext}
-use Rattle.dcsctp_send_outstanding.specs.declared.item.Item.{Item}
-use Rattle.dcsctp_send_retransmission.specs.Queue.{QueueModel}
+use Rattle.dcsctp_machine.specs.transfer.Items.{Item}
+use Rattle.dcsctp_machine.specs.transfer.Retransmission.{RetransmissionState}
 use Rattle.dcsctp_send_retransmission.specs.States.{Stage, stage, maybe_expired, Closes, GivesUpAt, SendsNew, FindsNone, StepAgain, StepNew, Steps, none, more, RefusesClosing, Refused, Stops, counting, TriesPacket, SendsPacket}
 use Rattle.dcsctp_transfer.specs.Filling.{told_content, TellsMore}
 
@@ -75,9 +73,9 @@ sent_by message (Some id) is = rw is (record { told = message_is_sent id ∷ [];
 told_sent : (message : Waiting) → AreTold (sent_events message)
 told_sent message = sent_by message message.lifecycle refl
 
-told_maybe : (name : Option LifecycleId) → AreTold (maybe_expired name)
+told_maybe : (name : Option ℕ) → AreTold (maybe_expired name)
 told_maybe None = told_none
-told_maybe (Some id) = record { told = message_may_have_expired (lifecycle_number id) ∷ message_ends (lifecycle_number id) ∷ []; is = refl }
+told_maybe (Some id) = record { told = message_may_have_expired id ∷ message_ends id ∷ []; is = refl }
 
 told_drop : (place sent : ℕ) (message : Waiting) (queue : SendQueueState) → AreTold (drop_events place sent message queue)
 told_drop place sent message queue =
@@ -131,9 +129,9 @@ tells_discarded old new stream id before after false does = tells_same before af
 
 tells_closed : (now : ℕ) (last : Item) (old new : Stage) (is_end : Bool) → Closes now last old new is_end → TellsMore old.told new.told
 tells_closed now last old new true closes =
-    tells_these old.told _ new.told (told_maybe last.fragment.lifecycle_id) (ap (λ (s : Stage). s.told) closes)
+    tells_these old.told _ new.told (told_maybe last.fragment.lifecycle) (ap (λ (s : Stage). s.told) closes)
 tells_closed now last old new false (inl drops) =
-    tells_discarded old.waiting new.waiting last.fragment.stream_id.0 last.fragment.message_id old.told new.told drops.1.drops.is_dropped drops.1.drops.drops
+    tells_discarded old.waiting new.waiting last.fragment.stream last.fragment.message_id old.told new.told drops.1.drops.is_dropped drops.1.drops.drops
 tells_closed now last old new false (inr same) = tells_same old.told new.told (ap (λ (s : Stage). s.told) same.1)
 
 pub tells_given_up : (now place : ℕ) (old new : Stage) → GivesUpAt now place old new → TellsMore old.told new.told
@@ -163,7 +161,7 @@ tells_steps Step each old new (more between new' steps step) =
 -- ---- where memory is refused
 
 pub tells_unclosed : (last : Item) (waiting : SendQueueState) (before after : Events) (is_end : Bool) → RefusesClosing last waiting before after is_end → TellsMore before after
-tells_unclosed last waiting before after true tells = tells_front before _ after (told_maybe last.fragment.lifecycle_id) tells
+tells_unclosed last waiting before after true tells = tells_front before _ after (told_maybe last.fragment.lifecycle) tells
 tells_unclosed last waiting before after false (inl same) = tells_same before after same
 tells_unclosed last waiting before after false (inr stops) =
     tells_front before _ after (told_drop stops.named.place stops.named.under_way.sent stops.named.message waiting) stops.tells
@@ -189,7 +187,7 @@ tells_stops now Step each old new stops =
 
 -- ---- a packet
 
-tells_tried : (r : Result (Vec ℕ Global) AllocError) (now bytes : ℕ) (old : QueueModel) (waiting : SendQueueState) (events : List SocketEvent) (new : QueueModel) (left : SendQueueState) (telling : List SocketEvent)
+tells_tried : (r : Result (Vec ℕ Global) AllocError) (now bytes : ℕ) (old : RetransmissionState) (waiting : SendQueueState) (events : List SocketEvent) (new : RetransmissionState) (left : SendQueueState) (telling : List SocketEvent)
     → TriesPacket now bytes old waiting events new left telling r → TellsMore (contents events) (contents telling)
 tells_tried (Ok tsns) now bytes old waiting events new left telling tries =
     let fills = tries.fills in
@@ -204,7 +202,7 @@ tells_tried (Err error) now bytes old waiting events new left telling (inr stops
     (tells_stops now (StepNew now) (tells_anew now) (counting bytes stops.resent) (stage new left telling [] bytes) stops.stops)
 
 -- all that is told while a packet is filled
-pub tells_packet : (now bytes : ℕ) (old : QueueModel) (waiting : SendQueueState) (events : List SocketEvent) (new : QueueModel) (left : SendQueueState) (telling : List SocketEvent) (r : Result (Vec ℕ Global) AllocError)
+pub tells_packet : (now bytes : ℕ) (old : RetransmissionState) (waiting : SendQueueState) (events : List SocketEvent) (new : RetransmissionState) (left : SendQueueState) (telling : List SocketEvent) (r : Result (Vec ℕ Global) AllocError)
     → SendsPacket now bytes old waiting events new left telling r → TellsMore (contents events) (contents telling)
 tells_packet now bytes old waiting events new left telling r sends =
     tells_tried r now bytes old waiting events sends.sent left telling sends.fills

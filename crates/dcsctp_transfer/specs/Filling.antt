@@ -6,9 +6,11 @@ use Rattle.dcsctp_wire.specs.ReadsBack.{FitsChunk}
 use Rattle.dcsctp_wire.specs.Spelling.{chunk_bytes}
 use Rattle.dcsctp_wire_build.specs.Building.{Building, bytes_remaining}
 use Rattle.dcsctp_machine.specs.Event.{Event, buffered_amount_low, total_buffered_amount_low, lifecycle_message_fully_sent, lifecycle_message_maybe_expired, lifecycle_message_expired, lifecycle_end}
+use Rattle.dcsctp_machine.specs.transfer.Items.{marked_items}
 use Rattle.dcsctp_machine.specs.transfer.Reassembly.{remaining_bytes}
 use Rattle.dcsctp_machine.specs.transfer.SendQueue.{SendQueueState, has_data}
-use Rattle.dcsctp_machine.specs.transfer.Transfer.{RetransmissionState, Transfer, can_send, must_give}
+use Rattle.dcsctp_machine.specs.transfer.Transfer.{Transfer, must_give}
+use Rattle.dcsctp_machine.specs.transfer.Retransmission.{RetransmissionState, can_send, outstanding_count}
 use Rattle.dcsctp_machine.specs.transfer.Tracker.{is_acknowledgement_due, owes_acknowledgement, sack_of, sacked}
 use Rattle.dcsctp_machine.specs.turns.FlushOutcomes.{Told, amount_is_low, total_amount_is_low, message_is_sent, message_may_have_expired, message_has_expired, message_ends, IsData}
 use Rattle.dcsctp_machine.specs.Packet.{unworked}
@@ -38,7 +40,7 @@ has_chunks (chunk ∷ chunks) = true
 
 -- May data be sent: what waits to be sent again, or a message if the windows allow more?
 abbrev pub may_give : SendQueueState → RetransmissionState → Bool
-may_give queue state = nat_lt 0 state.marked_items || (has_data queue && can_send state)
+may_give queue state = nat_lt 0 (marked_items state.outstanding.items) || (has_data queue && can_send state)
 
 -- Chunks with data were put into a packet, or none, and the user was told of it.
 pub record FillsPacket (old : Transfer) (waiting : SendQueueState) (events : List (Event (List ℕ))) (packet : Building) (new : Transfer) (left : SendQueueState) (telling : List (Event (List ℕ))) (filled : Building) (any : Bool) : Type 0 where
@@ -55,7 +57,7 @@ pub record FillsPacket (old : Transfer) (waiting : SendQueueState) (events : Lis
   pub partial_reliability : new.retransmission.partial_reliability ≡ old.retransmission.partial_reliability
   pub message_interleaving : new.retransmission.message_interleaving ≡ old.retransmission.message_interleaving
   -- If nothing waits and nothing is outstanding, nothing changes.
-  pub idle : has_data waiting ≡ false → old.retransmission.outstanding_items ≡ 0 → (any ≡ false) × (new ≡ old) × (left ≡ waiting) × (told ≡ [])
+  pub idle : has_data waiting ≡ false → outstanding_count old.retransmission ≡ 0 → (any ≡ false) × (new ≡ old) × (left ≡ waiting) × (told ≡ [])
 
 -- ---- what acknowledges
 

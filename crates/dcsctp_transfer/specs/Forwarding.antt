@@ -7,6 +7,7 @@ use Rattle.dcsctp_wire_build.specs.Building.{Building, bytes_remaining}
 use Rattle.dcsctp_machine.specs.Event.{Event}
 use Rattle.dcsctp_machine.specs.Packet.{unworked}
 use Rattle.dcsctp_machine.specs.Timers.{moment_after}
+use Rattle.dcsctp_machine.specs.transfer.Retransmission.{outstanding_count}
 use Rattle.dcsctp_machine.specs.transfer.SendQueue.{SendQueueState}
 use Rattle.dcsctp_machine.specs.transfer.Transfer.{Transfer}
 use Rattle.dcsctp_machine.specs.turns.FlushOutcomes.{Told, IsForward}
@@ -49,4 +50,4 @@ pub record Forwards (now : ℕ) (old : Transfer) (waiting : SendQueueState) (eve
   -- Without partial reliability nothing is abandoned.
   pub negotiated : old.retransmission.partial_reliability ≡ false → (next ≡ None) × (new ≡ old) × (left ≡ waiting) × (telling ≡ events)
   -- If nothing is outstanding, nothing changes.
-  pub idle : old.retransmission.outstanding_items ≡ 0 → (next ≡ None) × (new ≡ old) × (left ≡ waiting) × (told ≡ [])
+  pub idle : outstanding_count old.retransmission ≡ 0 → (next ≡ None) × (new ≡ old) × (left ≡ waiting) × (told ≡ [])

@@ -1,52 +1,41 @@
 -- What a SACK does to an association's data (RFC 9260, sections 6.2.1 and 6.3).
-use Rattle.std.specs.Prelude.{Bool, true, false, Option, None, Some, Result, Ok, Err, ◌≡◌, ℕ, List, [], ◌∷◌, ◌++◌}
+use Rattle.std.specs.Prelude.{Bool, true, false, Result, Ok, Err, ◌≡◌, ℕ, List, ◌++◌}
 use Rattle.std.specs.List.{AllByRecursion, flat_map}
-use Rattle.dcsctp_wire_build.specs.Building.{Building}
-use Rattle.dcsctp_wire.specs.Content.{ChunkContent}
+use Rattle.std.specs.declared.alloc.AllocError.{AllocError}
+use Rattle.dcsctp_wire.specs.Content.{ChunkContent, SackContent}
 use Rattle.dcsctp_wire.specs.ReadsBack.{FitsChunk}
 use Rattle.dcsctp_wire.specs.Spelling.{chunk_bytes}
-use Rattle.dcsctp_machine.specs.turns.DataOutcomes.{is_sack_valid}
-use Rattle.dcsctp_transfer.specs.Filling.{IsDataChunk}
-use Rattle.std.specs.declared.alloc.AllocError.{AllocError}
-use Rattle.dcsctp_machine.specs.Event.{Event, lifecycle_message_delivered, lifecycle_end}
+use Rattle.dcsctp_wire_build.specs.Building.{Building}
+use Rattle.dcsctp_machine.specs.Event.{Event}
+use Rattle.dcsctp_machine.specs.transfer.Acknowledging.{is_sack_valid, has_acknowledged, delivered_by}
+use Rattle.dcsctp_machine.specs.transfer.Items.{unacknowledged_items}
+use Rattle.dcsctp_machine.specs.transfer.Outstanding.{next_tsn}
+use Rattle.dcsctp_machine.specs.transfer.Retransmission.{outstanding_count}
 use Rattle.dcsctp_machine.specs.transfer.Transfer.{Transfer}
-use Rattle.dcsctp_machine.specs.transfer.Tracker.{with_timeout}
-use Rattle.dcsctp_machine.specs.turns.TransferMoves.{TakesSack, has_acknowledged, LosesAll}
+use Rattle.dcsctp_machine.specs.turns.TransferMoves.{TakesSack, lost_all}
 use Rattle.dcsctp_send_streams.specs.Telling.{TellsFront}
+use Rattle.dcsctp_transfer.specs.Filling.{IsDataChunk}
 use Rattle.dcsctp_transfer.specs.declared.sacks.HandledSack.{HandledSack}
 use Rattle.dcsctp_transfer.specs.declared.sacks.HandledSack.TheVariants.{Invalid, Valid}
 
--- the events about messages with a name that were delivered
-abbrev pub delivered_contents : List ℕ → List (Event (List ℕ))
-delivered_contents [] = []
-delivered_contents (id ∷ ids) = lifecycle_message_delivered id ∷ lifecycle_end id ∷ delivered_contents ids
+-- What a SACK does at this moment, by its result. If an allocation failed, the first of its events are added.
+abbrev pub HandlesSack : ℕ → SackContent → Transfer → List (Event (List ℕ)) → Transfer → List (Event (List ℕ)) → Result HandledSack AllocError → Type 0
+HandlesSack now sack old told new telling (Ok Invalid) =
+    (is_sack_valid old.retransmission sack.cumulative_tsn_ack ≡ false) × (new ≡ old) × (telling ≡ told)
+HandlesSack now sack old told new telling (Ok (Valid acknowledges)) =
+    (is_sack_valid old.retransmission sack.cumulative_tsn_ack ≡ true)
+    × TakesSack now sack old new
+    × (telling ≡ told ++ delivered_by sack.cumulative_tsn_ack old.retransmission)
+    × (acknowledges ≡ has_acknowledged old.retransmission new.retransmission)
+HandlesSack now sack old told new telling (Err error) =
+    (new ≡ old)
+    × TellsFront told (delivered_by sack.cumulative_tsn_ack old.retransmission) telling
+    × (is_sack_valid old.retransmission sack.cumulative_tsn_ack ≡ false → telling ≡ told)
 
--- It was told that some messages were delivered, and nothing else.
-pub record TellsDelivered (before after : List (Event (List ℕ))) : Type 0 where
-  pub ids : List ℕ
-  pub is : after ≡ before ++ delivered_contents ids
-
--- The same, of which the first events are added.
-pub record TellsSome (before after : List (Event (List ℕ))) : Type 0 where
-  pub ids : List ℕ
-  pub tells : TellsFront before (delivered_contents ids) after
-
--- A round trip was taken into account, if one was measured: the timeout moves, and the tracker is told of it.
-abbrev pub TellsRoundTrip : {A : Type 0} → Option A → Transfer → Transfer → Type 0
-TellsRoundTrip None old new = new ≡ old
-TellsRoundTrip (Some rtt) old new = new ≡ record old { timeout = new.timeout; tracker = with_timeout new.timeout.rto old.tracker }
-
--- What a SACK with this cumulative TSN ack does, by its result.
-abbrev pub HandlesSack : ℕ → Transfer → List (Event (List ℕ)) → Transfer → List (Event (List ℕ)) → Result HandledSack AllocError → Type 0
-HandlesSack tsn old told new telling (Ok Invalid) = (is_sack_valid old.retransmission tsn ≡ false) × (new ≡ old) × (telling ≡ told)
-HandlesSack tsn old told new telling (Ok (Valid acknowledges)) =
-    (is_sack_valid old.retransmission tsn ≡ true) × TakesSack old new × TellsDelivered told telling × (acknowledges ≡ has_acknowledged old new)
-HandlesSack tsn old told new telling (Err error) = (new ≡ old) × TellsSome told telling × (is_sack_valid old.retransmission tsn ≡ false → telling ≡ told)
-
--- All that is in flight is lost, or nothing changes.
-abbrev pub LosesWhere : Bool → Transfer → Transfer → Type 0
-LosesWhere true old new = LosesAll old new
-LosesWhere false old new = new ≡ old
+-- All that is in flight is lost at this moment, or nothing changes.
+abbrev pub lost_where : Bool → ℕ → Transfer → Transfer
+lost_where true now transfer = lost_all now transfer
+lost_where false now transfer = transfer
 
 -- Chunks that were lost were put into a packet, or none.
 pub record FillsAtOnce (old : Transfer) (packet : Building) (new : Transfer) (filled : Building) : Type 0 where
@@ -54,7 +43,7 @@ pub record FillsAtOnce (old : Transfer) (packet : Building) (new : Transfer) (fi
   pub adds : filled ≡ record packet { body = packet.body ++ flat_map chunk_bytes chunks }
   pub fits : AllByRecursion FitsChunk chunks
   pub are_data : AllByRecursion (IsDataChunk old.retransmission.message_interleaving) chunks
-  pub outstanding : new.retransmission.outstanding_items ≡ old.retransmission.outstanding_items
-  pub unacknowledged : new.retransmission.unacknowledged_items ≡ old.retransmission.unacknowledged_items
-  pub next_tsn : new.retransmission.next_tsn ≡ old.retransmission.next_tsn
+  pub outstanding : outstanding_count new.retransmission ≡ outstanding_count old.retransmission
+  pub unacknowledged : unacknowledged_items new.retransmission.outstanding.items ≡ unacknowledged_items old.retransmission.outstanding.items
+  pub next_tsn : next_tsn new.retransmission.outstanding ≡ next_tsn old.retransmission.outstanding
   pub rest : new ≡ record old { retransmission = new.retransmission }

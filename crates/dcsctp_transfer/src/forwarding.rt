@@ -6,6 +6,7 @@ ghost use Rattle.std.specs.List.{AllByRecursion};
 ghost use Rattle.dcsctp_wire.specs.Content.{chunk_content};
 ghost use Rattle.dcsctp_wire.specs.ReadsBack.{IsByte};
 ghost use Rattle.dcsctp_machine.specs.Timers.{moment_after};
+ghost use Rattle.dcsctp_machine.specs.transfer.Retransmission.{outstanding_count};
 ghost use Rattle.dcsctp_send_streams.specs.Telling.{contents};
 ghost use Rattle.dcsctp_send_retransmission.specs.SkippedBytes.{ReadsAs};
 ghost use Rattle.dcsctp_transfer.specs.Filling.{TellsMore, with_chunk};
@@ -42,7 +43,7 @@ impl Transfer {
         ensures ok { IfOk result (λ next. Forwards now self.old queue.old (contents events.old) packet.old self.new queue.new (contents events.new) packet.new next) }
         ensures told { OnErr result (TellsMore (contents events.old) (contents events.new)) }
         ensures kept { OnErr result (packet.new ≡ packet.old) }
-        ensures idle { self.old.retransmission.outstanding_items ≡ 0 → IsOk result }
+        ensures idle { outstanding_count self.old.retransmission ≡ 0 → IsOk result }
     {
         if self.retransmission_queue.outstanding_items() == 0 {
             return Ok(None);
@@ -73,7 +74,7 @@ fn put_forward_tsn(
     alloc: Global,
     packet: &mut SctpPacketBuilder,
 ) -> Result<(), AllocError>
-    ensures ok { OnOk result (PutsForward queue.now.interleaving packet.old packet.new) }
+    ensures ok { OnOk result (PutsForward queue.now.message_interleaving packet.old packet.new) }
     ensures kept { OnErr result (packet.new ≡ packet.old) }
 {
     let forward = queue.create_forward_tsn()?;

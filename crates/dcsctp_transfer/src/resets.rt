@@ -5,9 +5,11 @@ ghost use Rattle.std.specs.Prelude.{◌≡◌, not, take, IfOk, OnOk, OnErr};
 ghost use Rattle.std.specs.Duration.{as_nanos};
 ghost use Rattle.dcsctp_machine.specs.Ids.{stream_numbers};
 ghost use Rattle.dcsctp_machine.specs.transfer.OwnResets.{ready_streams, queue_handing_out, queue_committed, queue_rolled_back};
+ghost use Rattle.dcsctp_machine.specs.transfer.Retransmission.{with_reset_begun};
 ghost use Rattle.dcsctp_machine.specs.transfer.Transfer.{is_none_ready};
 ghost use Rattle.dcsctp_machine.specs.turns.BegunResets.{last_assigned_tsn};
-ghost use Rattle.dcsctp_machine.specs.turns.ResetOutcomes.{is_tsn_beyond, defers_reset, ResetsStreams};
+ghost use Rattle.dcsctp_machine.specs.turns.ResetOutcomes.{defers_reset, ResetsStreams};
+ghost use Rattle.dcsctp_machine.specs.transfer.Numbers.{is_tsn_beyond};
 ghost use Rattle.dcsctp_send_streams.specs.Telling.{contents};
 ghost use Rattle.dcsctp_transfer.specs.Preparing.{TriesStream};
 
@@ -64,7 +66,7 @@ impl Transfer {
     /// goes beyond it any more, since streams are numbered anew after it. Allocates nothing.
     pub fn begin_reset_streams(&mut self) -> u32
         ensures answer { result ≡ last_assigned_tsn self.old.retransmission }
-        ensures left { self.new ≡ self.old }
+        ensures left { self.new ≡ record self.old { retransmission = with_reset_begun self.old.retransmission } }
     {
         self.retransmission_queue.begin_reset_streams();
         self.retransmission_queue.last_assigned_tsn()

@@ -1,9 +1,14 @@
 //! Received SACKs (RFC 9260, sections 6.2.1 and 6.3).
 
 ghost use Rattle.std.specs.Prelude.{◌≡◌};
-ghost use Rattle.dcsctp_send_streams.specs.Telling.{contents};
+ghost use Rattle.std.specs.Duration.{as_nanos};
+ghost use Rattle.std.specs.Option.{option_map};
+ghost use Rattle.dcsctp_wire.specs.Content.{sack_content};
 ghost use Rattle.dcsctp_machine.specs.TimeTurns.{has_come};
-ghost use Rattle.dcsctp_transfer.specs.Sacks.{TellsRoundTrip, HandlesSack, LosesWhere};
+ghost use Rattle.dcsctp_machine.specs.transfer.Retransmission.{retransmission_deadline};
+ghost use Rattle.dcsctp_machine.specs.turns.TransferMoves.{timed_by};
+ghost use Rattle.dcsctp_send_streams.specs.Telling.{contents};
+ghost use Rattle.dcsctp_transfer.specs.Sacks.{HandlesSack, lost_where};
 
 use crate::transfer::Transfer;
 use dcsctp_api::Events;
@@ -38,7 +43,7 @@ impl Transfer {
         now: SocketTime,
         sack: &SackChunk<'_>,
     ) -> Result<HandledSack, AllocError>
-        ensures { HandlesSack sack.now.cumulative_tsn_ack self.old (contents events.old) self.new (contents events.new) result }
+        ensures { HandlesSack now (sack_content sack.now) self.old (contents events.old) self.new (contents events.new) result }
     {
         let blocks = clean_sack(self.alloc, sack)?;
         let handled = self
@@ -60,7 +65,7 @@ impl Transfer {
 
     /// When what is in flight is lost, where something is.
     pub fn retransmission_deadline(&self) -> Option<SocketTime>
-        ensures { result ≡ self.now.retransmission.deadline }
+        ensures { result ≡ retransmission_deadline self.now.retransmission }
     {
         self.retransmission_queue.next_timeout()
     }
@@ -69,15 +74,15 @@ impl Transfer {
     /// waits to be sent again, and the timer goes on for twice as long (RFC 9260, section 6.3.3); else
     /// nothing changes.
     pub fn expire_retransmission(&mut self, now: SocketTime) -> bool
-        ensures answer { result ≡ has_come now self.old.retransmission.deadline }
-        ensures left { LosesWhere result self.old self.new }
+        ensures answer { result ≡ has_come now (retransmission_deadline self.old.retransmission) }
+        ensures left { self.new ≡ lost_where result now self.old }
     {
         self.retransmission_queue.handle_timeout(now)
     }
 
     // Takes a round trip into account, if one was measured.
     fn observe_round_trip(&mut self, rtt: Option<Duration>)
-        ensures { TellsRoundTrip rtt self.old self.new }
+        ensures { self.new ≡ timed_by (option_map as_nanos rtt) self.old }
     {
         if let Some(rtt) = rtt {
             self.rto.observe_rto(rtt);

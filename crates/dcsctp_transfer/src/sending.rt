@@ -1,17 +1,16 @@
 //! What goes into a packet: data, and what acknowledges data that was received (RFC 9260, sections 6.1 and
 //! 6.2).
 
-ghost use Rattle.std.specs.Prelude.{◌≡◌, ◌≤◌, ◌<◌, ◌+◌, ◌^◌, ◌||◌, nat_lt, length, vec_len, false, true, IfOk, OnOk, OnErr, IsOk};
+ghost use Rattle.std.specs.Prelude.{◌≡◌, ◌≤◌, ◌<◌, ◌+◌, ◌^◌, ◌||◌, nat_lt, length, false, true, IfOk, OnOk, OnErr, IsOk};
 ghost use Rattle.std.specs.List.{AllByRecursion};
 ghost use Rattle.dcsctp_wire.specs.Content.{data_chunk, i_data_chunk, sack_chunk, chunk_content};
 ghost use Rattle.dcsctp_wire.specs.ReadsBack.{IsByte, FitsChunk};
 ghost use Rattle.dcsctp_wire.specs.Spelling.{chunk_bytes};
 ghost use Rattle.dcsctp_wire_build.specs.Building.{bytes_remaining};
 ghost use Rattle.dcsctp_machine.specs.transfer.SendQueue.{has_data};
-ghost use Rattle.dcsctp_machine.specs.transfer.Transfer.{can_send};
+ghost use Rattle.dcsctp_machine.specs.transfer.Retransmission.{outstanding_count, has_fast_retransmit, can_send, header_of};
 ghost use Rattle.dcsctp_send_streams.specs.Telling.{contents};
-ghost use Rattle.dcsctp_send_outstanding.specs.Items.{chunk_size};
-ghost use Rattle.dcsctp_send_retransmission.specs.Queue.{header_of};
+ghost use Rattle.dcsctp_machine.specs.transfer.Items.{chunk_size};
 ghost use Rattle.dcsctp_send_retransmission.specs.Sending.{HandsOut};
 ghost use Rattle.dcsctp_transfer.specs.Filling.{IsDataChunk, TellsMore, FillsPacket, may_give, is_sack_wanted, with_chunk, Acknowledges};
 ghost use Rattle.dcsctp_transfer.specs.Sacks.{FillsAtOnce};
@@ -44,7 +43,7 @@ impl Transfer {
         ensures ok { IfOk result (λ any. FillsPacket self.old queue.old (contents events.old) packet.old self.new queue.new (contents events.new) packet.new any) }
         ensures told { OnErr result (TellsMore (contents events.old) (contents events.new)) }
         ensures kept { OnErr result (packet.new ≡ packet.old) }
-        ensures idle { has_data queue.old ≡ false → self.old.retransmission.outstanding_items ≡ 0 → IsOk result }
+        ensures idle { has_data queue.old ≡ false → outstanding_count self.old.retransmission ≡ 0 → IsOk result }
     {
         if !self.may_have_data(queue) {
             return Ok(false);
@@ -61,7 +60,7 @@ impl Transfer {
 
     /// Do items wait that were found lost, and are to be sent at once (RFC 9260, section 7.2.4)?
     pub fn has_data_at_once(&self) -> bool
-        ensures { result ≡ self.now.retransmission.has_fast_retransmit }
+        ensures { result ≡ has_fast_retransmit self.now.retransmission }
     {
         self.retransmission_queue
             .has_data_to_be_fast_retransmitted()
@@ -138,7 +137,7 @@ impl Transfer {
 
     // Does a message wait, or is something outstanding?
     fn may_have_data(&self, queue: &QueuedMessages) -> bool
-        ensures { result ≡ (has_data queue.now || nat_lt 0 self.now.retransmission.outstanding_items) }
+        ensures { result ≡ (has_data queue.now || nat_lt 0 (outstanding_count self.now.retransmission)) }
     {
         queue.has_data_to_send() || 0 < self.retransmission_queue.outstanding_items()
     }
@@ -165,10 +164,10 @@ fn add_sack(sack: &SelectiveAck, packet: &mut SctpPacketBuilder)
 
 // Puts the chunks of these TSNs into the packet, which has room for them.
 fn add_chunks(queue: &RetransmissionQueue, tsns: &[u32], packet: &mut SctpPacketBuilder)
-    requires header { queue.now.outstanding.header ≡ header_of queue.now.interleaving }
+    requires header { queue.now.outstanding.header ≡ header_of queue.now.message_interleaving }
     requires small { packet.old.size ≤ 65535 }
     requires room { HandsOut (bytes_remaining packet.old) queue.now.outstanding tsns.now }
-    ensures { AddsChunks queue.now.interleaving packet.old (length tsns.now) packet.new }
+    ensures { AddsChunks queue.now.message_interleaving packet.old (length tsns.now) packet.new }
 {
     for tsn in tsns {
         add_chunk(queue, *tsn, packet);
@@ -178,10 +177,10 @@ fn add_chunks(queue: &RetransmissionQueue, tsns: &[u32], packet: &mut SctpPacket
 // Puts the chunk of this TSN into the packet, which has room for it.
 #[inline(always)]
 fn add_chunk(queue: &RetransmissionQueue, tsn: u32, packet: &mut SctpPacketBuilder)
-    requires header { queue.now.outstanding.header ≡ header_of queue.now.interleaving }
+    requires header { queue.now.outstanding.header ≡ header_of queue.now.message_interleaving }
     requires small { packet.old.size ≤ 65535 }
     requires room { HasChunkWithin (bytes_remaining packet.old) queue.now.outstanding tsn }
-    ensures { AddsChunkOf queue.now.interleaving queue.now.outstanding tsn packet.old packet.new }
+    ensures { AddsChunkOf queue.now.message_interleaving queue.now.outstanding tsn packet.old packet.new }
 {
     if let Some(fragment) = queue.chunk(tsn) {
         packet.add(&chunk_of(tsn, fragment, queue.is_interleaving()));
@@ -191,11 +190,11 @@ fn add_chunk(queue: &RetransmissionQueue, tsn: u32, packet: &mut SctpPacketBuild
 // What the fragment says under this TSN, as DATA or I-DATA.
 #[inline(always)]
 fn chunk_of<'a>(tsn: u32, fragment: &'a DataToSend, interleaving: bool) -> Chunk<'a>
-    requires { header_of interleaving + vec_len fragment.now.payload < 2 ^ 16 }
+    requires { header_of interleaving + length fragment.now.payload < 2 ^ 16 }
     ensures is_data { IsDataChunk interleaving (chunk_content result) }
     ensures says { chunk_content result ≡ chunk_said interleaving tsn fragment.now }
     ensures fits { FitsChunk (chunk_content result) }
-    ensures size { length (chunk_bytes (chunk_content result)) ≡ chunk_size (header_of interleaving) (vec_len fragment.now.payload) }
+    ensures size { length (chunk_bytes (chunk_content result)) ≡ chunk_size (header_of interleaving) (length fragment.now.payload) }
 {
     let stream_id = fragment.stream_id.0;
     if interleaving {
@@ -214,11 +213,11 @@ fn chunk_of<'a>(tsn: u32, fragment: &'a DataToSend, interleaving: bool) -> Chunk
 // The fragment as DATA with these numbers.
 #[inline(always)]
 fn data_of<'a>(tsn: u32, stream_id: u16, ssn: u16, ppid: u32, fragment: &'a DataToSend) -> Chunk<'a>
-    requires { 16 + vec_len fragment.now.payload < 2 ^ 16 }
+    requires { 16 + length fragment.now.payload < 2 ^ 16 }
     ensures is_data { IsDataChunk false (chunk_content result) }
     ensures says { chunk_content result ≡ data_chunk (record (data_said tsn fragment.now) { stream_id = stream_id; ssn = ssn; ppid = ppid }) }
     ensures fits { FitsChunk (chunk_content result) }
-    ensures size { length (chunk_bytes (chunk_content result)) ≡ chunk_size 16 (vec_len fragment.now.payload) }
+    ensures size { length (chunk_bytes (chunk_content result)) ≡ chunk_size 16 (length fragment.now.payload) }
 {
     let flags = flags_of(fragment);
     Chunk::Data(DataChunk {
@@ -239,11 +238,11 @@ fn i_data_of<'a>(
     ppid_or_fsn: u32,
     fragment: &'a DataToSend,
 ) -> Chunk<'a>
-    requires { 20 + vec_len fragment.now.payload < 2 ^ 16 }
+    requires { 20 + length fragment.now.payload < 2 ^ 16 }
     ensures is_data { IsDataChunk true (chunk_content result) }
     ensures says { chunk_content result ≡ i_data_chunk (record (i_data_said tsn fragment.now) { stream_id = stream_id; mid = mid; ppid_or_fsn = ppid_or_fsn }) }
     ensures fits { FitsChunk (chunk_content result) }
-    ensures size { length (chunk_bytes (chunk_content result)) ≡ chunk_size 20 (vec_len fragment.now.payload) }
+    ensures size { length (chunk_bytes (chunk_content result)) ≡ chunk_size 20 (length fragment.now.payload) }
 {
     let flags = flags_of(fragment);
     Chunk::IData(IDataChunk {

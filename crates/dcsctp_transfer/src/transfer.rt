@@ -32,23 +32,24 @@ impl Drop for Transfer {
 impl Model for Transfer {
     ghost use Rattle.std.specs.Prelude.{◌≡◌};
     ghost use Rattle.dcsctp_machine.specs.transfer.Transfer.{Transfer};
-    ghost use Rattle.dcsctp_send_timer.specs.RetransmissionTimeout.{timeout_state};
-    ghost use Rattle.dcsctp_send_retransmission.specs.Queue.{retransmission_state, header_of};
+    ghost use Rattle.dcsctp_machine.specs.transfer.Retransmission.{header_of};
 
     ghost Value = { Transfer };
 
     ghost view = { λ transfer. record {
-      retransmission = retransmission_state transfer.retransmission_queue;
-      timeout = timeout_state transfer.rto;
+      retransmission = transfer.retransmission_queue;
+      timeout = transfer.rto;
       tracker = transfer.data_tracker;
       reassembly = transfer.reassembly_queue;
     } };
 
-    ghost invariant = { λ transfer. transfer.retransmission_queue.outstanding.header ≡ header_of transfer.retransmission_queue.interleaving };
+    ghost invariant = { λ transfer. transfer.retransmission_queue.outstanding.header ≡ header_of transfer.retransmission_queue.message_interleaving };
 }
 
 impl Transfer {
     ghost use Rattle.std.specs.Prelude.{◌≡◌, ◌==◌, ◌%◌, ◌^◌, not};
+    ghost use Rattle.dcsctp_machine.specs.transfer.Items.{unacknowledged_items};
+    ghost use Rattle.dcsctp_machine.specs.transfer.Outstanding.{next_tsn};
     ghost use Rattle.dcsctp_machine.specs.transfer.Transfer.{new_transfer};
     ghost use Rattle.dcsctp_machine.specs.transfer.Tracker.{cumulative_tsn};
 
@@ -83,14 +84,14 @@ impl Transfer {
 
     /// The TSN that is sent next.
     pub fn next_tsn(&self) -> u32
-        ensures { result ≡ self.now.retransmission.next_tsn }
+        ensures { result ≡ next_tsn self.now.retransmission.outstanding }
     {
         self.retransmission_queue.next_tsn()
     }
 
     /// Was something sent that is neither acknowledged nor abandoned?
     pub fn has_unacknowledged_items(&self) -> bool
-        ensures { result ≡ not (self.now.retransmission.unacknowledged_items == 0) }
+        ensures { result ≡ not (unacknowledged_items self.now.retransmission.outstanding.items == 0) }
     {
         self.retransmission_queue.unacked_items() != 0
     }

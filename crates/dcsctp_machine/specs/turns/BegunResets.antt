@@ -6,7 +6,10 @@ use Rattle.dcsctp_machine.specs.Packet.{Content}
 use Rattle.dcsctp_machine.specs.Reconfiguration.{RequestedReset}
 use Rattle.dcsctp_machine.specs.transfer.OwnResets.{ready_streams, queue_handing_out}
 use Rattle.dcsctp_machine.specs.transfer.SendQueue.{SendQueueState}
-use Rattle.dcsctp_machine.specs.transfer.Transfer.{RetransmissionState, Transfer}
+use Rattle.dcsctp_machine.specs.transfer.Transfer.{Transfer}
+use Rattle.dcsctp_machine.specs.transfer.Outstanding.{next_tsn}
+use Rattle.dcsctp_machine.specs.transfer.Retransmission.{with_reset_begun}
+use Rattle.dcsctp_machine.specs.transfer.Retransmission.{RetransmissionState}
 use Rattle.dcsctp_machine.specs.Endpoint.{Endpoint, Core, cookie_echoed, open_in}
 use Rattle.dcsctp_machine.specs.Timers.{TimerSettings, started}
 use Rattle.dcsctp_machine.specs.control.Effect.{Effect, begins}
@@ -26,7 +29,7 @@ streams_within room = (room - 20) / 4 * 2
 
 -- the last TSN that was given out
 abbrev pub last_assigned_tsn : RetransmissionState → ℕ
-last_assigned_tsn state = (state.next_tsn + (2 ^ 32 - 1)) % 2 ^ 32
+last_assigned_tsn state = (next_tsn state.outstanding + (2 ^ 32 - 1)) % 2 ^ 32
 
 -- It is begun if none is outstanding, and a stream is to be reset.
 abbrev pub begun_where : Option ℕ → ℕ → ℕ → List ℕ → Option BegunReset
@@ -58,6 +61,11 @@ begun_effects (Some begun) = begins begun.number ∷ []
 abbrev pub queue_requesting : ℕ → Option BegunReset → SendQueueState → SendQueueState
 queue_requesting count None queue = queue
 queue_requesting count (Some begun) queue = queue_handing_out count queue
+
+-- what is in flight once this was begun: streams are reset before what is sent next
+abbrev pub transfer_begun : Option BegunReset → Transfer → Transfer
+transfer_begun None transfer = transfer
+transfer_begun (Some begun) transfer = record transfer { retransmission = with_reset_begun transfer.retransmission }
 
 -- the reconfiguration timer: each wait is twice the last one, without a limit, and it never stops by itself (RFC 6525, section
 -- 5.1.1)

@@ -1,7 +1,7 @@
 -- The turns of data: what is received, what acknowledges it, and what is sent (RFC 9260, section 6; RFC 3758; RFC 8260).
-use Rattle.std.specs.Prelude.{◌≡◌, ◌+◌, ◌-◌, ◌%◌, ◌^◌, ℕ, Bool, true, false, nat_le, Option, None, Some, List, [], ◌∷◌, ◌++◌, codes, if◌then◌else◌}
+use Rattle.std.specs.Prelude.{◌≡◌, ℕ, Bool, true, false, Option, None, Some, List, [], ◌∷◌, ◌++◌, codes, if◌then◌else◌}
 use Rattle.std.specs.List.{AllByRecursion}
-use Rattle.dcsctp_wire.specs.Content.{no_user_data}
+use Rattle.dcsctp_wire.specs.Content.{SackContent, no_user_data}
 use Rattle.dcsctp_machine.specs.declared.association.Held.{Held}
 use Rattle.dcsctp_machine.specs.declared.kinds.ErrorKind.TheVariants.{ProtocolViolation, NotConnected}
 use Rattle.dcsctp_machine.specs.Event.{error}
@@ -10,7 +10,11 @@ use Rattle.dcsctp_machine.specs.transfer.Messages.{MessageContent}
 use Rattle.dcsctp_machine.specs.declared.arrivals.SkippedTo.{SkippedTo}
 use Rattle.dcsctp_machine.specs.transfer.Arrivals.{Arrival}
 use Rattle.dcsctp_machine.specs.transfer.Reassembly.{with_ready}
-use Rattle.dcsctp_machine.specs.transfer.Transfer.{RetransmissionState, Transfer}
+use Rattle.dcsctp_machine.specs.transfer.Acknowledging.{is_sack_valid, has_acknowledged, delivered_by}
+use Rattle.dcsctp_machine.specs.transfer.Items.{unacknowledged_items}
+use Rattle.dcsctp_machine.specs.transfer.Outstanding.{next_tsn}
+use Rattle.dcsctp_machine.specs.transfer.Retransmission.{outstanding_count, has_fast_retransmit}
+use Rattle.dcsctp_machine.specs.transfer.Transfer.{Transfer}
 use Rattle.dcsctp_machine.specs.transfer.Tracker.{TrackerState, after_packet_end, is_acknowledgement_due, sacked, delay_over}
 use Rattle.dcsctp_machine.specs.Endpoint.{Endpoint, held_in}
 use Rattle.dcsctp_machine.specs.Outcome.{Outcome, still, reports, emits, behind, to_peer}
@@ -18,7 +22,7 @@ use Rattle.dcsctp_machine.specs.control.Choices.{plain_contents}
 use Rattle.dcsctp_machine.specs.turns.FlushOutcomes.{Answer, goes_out, draft_to, flush_of, room_in, where_fits, IsWithin, own_sack, IsData, FitsPlain, filled, FlushAnswers}
 use Rattle.dcsctp_machine.specs.turns.HeartbeatOutcomes.{error_counted}
 use Rattle.dcsctp_machine.specs.turns.ShutdownOutcomes.{step_outcome}
-use Rattle.dcsctp_machine.specs.turns.TransferMoves.{tsns_ahead, ReceivesData, MovesForward, delivered_events, TakesSack, has_acknowledged, LosesAll}
+use Rattle.dcsctp_machine.specs.turns.TransferMoves.{ReceivesData, MovesForward, TakesSack, lost_all}
 
 -- with this below its association
 abbrev pub with_transfer : Endpoint → Transfer → Endpoint
@@ -80,14 +84,6 @@ ForwardTurn e (Some transfer) tsn entries o = (left : Transfer) × MovesForward 
 abbrev pub no_tcb_text : List ℕ
 no_tcb_text = codes "No TCB"
 
--- the last TSN that the cumulative TSN ack has passed, or the one before the first
-abbrev pub last_passed : RetransmissionState → ℕ
-last_passed state = (state.next_tsn + (2 ^ 32 - 1) + (2 ^ 32 - state.outstanding_items % 2 ^ 32)) % 2 ^ 32
-
--- Is its cumulative TSN ack neither old nor of a TSN that was never sent (RFC 9260, section 6.2.1)?
-abbrev pub is_sack_valid : RetransmissionState → ℕ → Bool
-is_sack_valid state tsn = nat_le (tsns_ahead tsn (last_passed state)) state.outstanding_items
-
 -- A packet of lost items, whatever the congestion window is: as many as fit (RFC 9260, section 7.2.4).
 pub record SendsAtOnce (e : Endpoint) (held : Held) (transfer : Transfer) (o : Outcome) : Type 0 where
   pub left : Transfer
@@ -95,9 +91,9 @@ pub record SendsAtOnce (e : Endpoint) (held : Held) (transfer : Transfer) (o : O
   pub kind : AllByRecursion (IsData transfer.retransmission.message_interleaving) chunks
   pub fit : AllByRecursion FitsPlain chunks
   pub within : IsWithin e (draft_to held) → IsWithin e (filled (draft_to held) (plain_contents chunks))
-  pub outstanding : left.retransmission.outstanding_items ≡ transfer.retransmission.outstanding_items
-  pub unacknowledged : left.retransmission.unacknowledged_items ≡ transfer.retransmission.unacknowledged_items
-  pub next_tsn : left.retransmission.next_tsn ≡ transfer.retransmission.next_tsn
+  pub outstanding : outstanding_count left.retransmission ≡ outstanding_count transfer.retransmission
+  pub unacknowledged : unacknowledged_items left.retransmission.outstanding.items ≡ unacknowledged_items transfer.retransmission.outstanding.items
+  pub next_tsn : next_tsn left.retransmission.outstanding ≡ next_tsn transfer.retransmission.outstanding
   pub rest : left ≡ record transfer { retransmission = left.retransmission }
   pub is : o ≡ goes_out (with_transfer e left) [] (draft_to held).with_checksum (draft_to held).packet.tag (plain_contents chunks)
 
@@ -108,33 +104,33 @@ FastRetransmits true e held transfer o = SendsAtOnce e held transfer o
 
 -- the endpoint once a SACK was taken into account: if it acknowledges something, no error counts
 abbrev pub sack_taken : Endpoint → Transfer → Transfer → Endpoint
-sack_taken e old new = record (with_transfer e new) { error_count = if has_acknowledged old new then 0 else e.error_count }
+sack_taken e old new =
+    record (with_transfer e new) { error_count = if has_acknowledged old.retransmission new.retransmission then 0 else e.error_count }
 
 -- A SACK is taken into account. A shutdown under way may go on then, a fast retransmission may follow, and then a flush.
-pub record AcknowledgesBy (e : Endpoint) (held : Held) (transfer : Transfer) (o : Outcome) : Type 0 where
+pub record AcknowledgesBy (e : Endpoint) (held : Held) (transfer : Transfer) (sack : SackContent) (o : Outcome) : Type 0 where
   pub left : Transfer
-  pub takes : TakesSack transfer left
-  pub ids : List ℕ
+  pub takes : TakesSack e.moment sack transfer left
   pub stepped : Outcome
   pub steps : stepped ≡ step_outcome (sack_taken e transfer left) e.core
   pub fast : Outcome
-  pub resends : FastRetransmits left.retransmission.has_fast_retransmit stepped.after held left fast
+  pub resends : FastRetransmits (has_fast_retransmit left.retransmission) stepped.after held left fast
   pub answers : List Answer
   pub allowed : FlushAnswers fast.after (draft_to held) answers
-  pub is : o ≡ behind [] (delivered_events ids ++ (stepped.events ++ fast.events)) (flush_of fast.after (draft_to held) answers)
+  pub is : o ≡ behind [] (delivered_by sack.cumulative_tsn_ack transfer.retransmission ++ (stepped.events ++ fast.events)) (flush_of fast.after (draft_to held) answers)
 
-abbrev pub SackWhere : Bool → Endpoint → Held → Transfer → Outcome → Type 0
-SackWhere false e held transfer o = o ≡ still e
-SackWhere true e held transfer o = AcknowledgesBy e held transfer o
+abbrev pub SackWhere : Bool → Endpoint → Held → Transfer → SackContent → Outcome → Type 0
+SackWhere false e held transfer sack o = o ≡ still e
+SackWhere true e held transfer sack o = AcknowledgesBy e held transfer sack o
 
-abbrev pub SackBy : Endpoint → Option Held → Transfer → ℕ → Outcome → Type 0
-SackBy e None transfer tsn o = o ≡ still e
-SackBy e (Some held) transfer tsn o = SackWhere (is_sack_valid transfer.retransmission tsn) e held transfer o
+abbrev pub SackBy : Endpoint → Option Held → Transfer → SackContent → Outcome → Type 0
+SackBy e None transfer sack o = o ≡ still e
+SackBy e (Some held) transfer sack o = SackWhere (is_sack_valid transfer.retransmission sack.cumulative_tsn_ack) e held transfer sack o
 
--- A SACK with this cumulative TSN ack is received.
-abbrev pub SackTurn : Endpoint → Option Transfer → ℕ → Outcome → Type 0
-SackTurn e None tsn o = o ≡ reports e NotConnected no_tcb_text
-SackTurn e (Some transfer) tsn o = SackBy e (held_in e.core) transfer tsn o
+-- A SACK is received.
+abbrev pub SackTurn : Endpoint → Option Transfer → SackContent → Outcome → Type 0
+SackTurn e None sack o = o ≡ reports e NotConnected no_tcb_text
+SackTurn e (Some transfer) sack o = SackBy e (held_in e.core) transfer sack o
 
 -- ---- the end of a packet
 
@@ -181,5 +177,4 @@ delay_outcome e (Some transfer) = still (with_tracker e transfer (delay_over tra
 abbrev pub LossTurn : Endpoint → Option Transfer → Outcome → Type 0
 LossTurn e None o = o ≡ still e
 LossTurn e (Some transfer) o =
-    (left : Transfer) × LosesAll transfer left
-    × (o ≡ still (record (with_transfer e left) { error_count = error_counted e.options.max_retransmissions e.error_count }))
+    o ≡ still (record (with_transfer e (lost_all e.moment transfer)) { error_count = error_counted e.options.max_retransmissions e.error_count })

@@ -8,7 +8,9 @@ use Rattle.dcsctp_machine.specs.Settings.{packet_size_limit}
 use Rattle.dcsctp_machine.specs.Event.{Event, sent, packets_in, buffered_amount_low, total_buffered_amount_low, lifecycle_message_fully_sent, lifecycle_message_maybe_expired, lifecycle_message_expired, lifecycle_end}
 use Rattle.dcsctp_machine.specs.Packet.{Plain, unworked, plain_out, Content, Emission}
 use Rattle.dcsctp_machine.specs.transfer.SendQueue.{SendQueueState, has_data}
-use Rattle.dcsctp_machine.specs.transfer.Transfer.{RetransmissionState, can_send, Transfer, must_give, is_idle}
+use Rattle.dcsctp_machine.specs.transfer.Transfer.{Transfer, must_give, is_idle}
+use Rattle.dcsctp_machine.specs.transfer.Retransmission.{outstanding_count}
+use Rattle.dcsctp_machine.specs.transfer.Retransmission.{RetransmissionState, can_send}
 use Rattle.dcsctp_machine.specs.transfer.Reassembly.{remaining_bytes}
 use Rattle.dcsctp_machine.specs.transfer.Tracker.{TrackerState, is_acknowledgement_due, owes_acknowledgement, sack_of, sacked}
 use Rattle.dcsctp_machine.specs.turns.BegunResets.{BegunReset, last_assigned_tsn, begun_in, request_contents, begun_effects, after_begun}
@@ -180,7 +182,7 @@ pub record BeginsReset (ask : Ask) (e : Endpoint) (room : ℕ) (transfer : Trans
   pub queue : SendQueueState
   pub retransmission : RetransmissionState
   pub negotiated : transfer.retransmission.partial_reliability ≡ false → (queue ≡ e.below.queue) × (retransmission ≡ transfer.retransmission)
-  pub idle : transfer.retransmission.outstanding_items ≡ 0 → (queue ≡ e.below.queue) × (retransmission ≡ transfer.retransmission)
+  pub idle : outstanding_count transfer.retransmission ≡ 0 → (queue ≡ e.below.queue) × (retransmission ≡ transfer.retransmission)
   pub is : begun ≡ begun_at ask (held_in e.core) room (last_assigned_tsn retransmission) queue
 
 -- What the transfer layer of an association gives: what acknowledges, what abandons messages, and data, which is missing only if

@@ -1,6 +1,6 @@
 -- The turn of RE-CONFIG: what the peer asks to be reset, how it is answered, and what it answers (RFC 6525, section 5.2). Which
 -- numbers are accepted, and with which answer, is in control/ResetChanges (`work_chunk`); the rest is here.
-use Rattle.std.specs.Prelude.{◌≡◌, ◌==◌, ◌^◌, ℕ, Bool, true, false, not, ◌&&◌, nat_lt, Option, None, Some, List, [], ◌∷◌, ◌++◌, codes}
+use Rattle.std.specs.Prelude.{◌≡◌, ◌==◌, ℕ, Bool, true, false, not, Option, None, Some, List, [], ◌∷◌, ◌++◌, codes}
 use Rattle.std.specs.List.{list_any}
 use Rattle.std.specs.Option.{option_map}
 use Rattle.dcsctp_wire.specs.declared.reconfiguration.ReconfigurationResponseResult.TheVariants.{InProgress}
@@ -21,7 +21,7 @@ use Rattle.dcsctp_machine.specs.Outcome.{Outcome, still, quiet, emits, behind, n
 use Rattle.dcsctp_machine.specs.control.Effect.{Effect, completes, fails, performs}
 use Rattle.dcsctp_machine.specs.control.ResetChanges.{WorkedParameters, work_chunk}
 use Rattle.dcsctp_machine.specs.turns.FlushOutcomes.{Answer, draft_to, flush_of, FlushAnswers}
-use Rattle.dcsctp_machine.specs.turns.TransferMoves.{tsns_ahead}
+use Rattle.dcsctp_machine.specs.transfer.Numbers.{is_tsn_beyond}
 use Rattle.dcsctp_machine.specs.turns.BegunResets.{reconfiguration_settings, rto_of}
 
 -- ---- when a reset is due
@@ -33,10 +33,6 @@ requested_in (outgoing_reset_request number answered reset ∷ parameters) = Som
 requested_in (incoming_reset_request number streams ∷ parameters) = requested_in parameters
 requested_in (reconfiguration_response number result ∷ parameters) = requested_in parameters
 requested_in (other_reset_parameter parameter ∷ parameters) = requested_in parameters
-
--- Is the TSN beyond the other one (RFC 9260, section 1.6)?
-abbrev pub is_tsn_beyond : ℕ → ℕ → Bool
-is_tsn_beyond tsn other = nat_lt 0 (tsns_ahead tsn other) && nat_lt (tsns_ahead tsn other) (2 ^ 31)
 
 -- Was everything received that was sent before the reset was requested? Else it is in progress (RFC 6525, section 5.2.2, E2).
 abbrev pub is_reached : Option Transfer → Option RequestedReset → Bool

@@ -9,6 +9,7 @@ use Rattle.dcsctp_machine.specs.Event as events
 use Rattle.dcsctp_machine.specs.Packet.{shutdown, shutdown_ack, shutdown_complete}
 use Rattle.dcsctp_machine.specs.transfer.Tracker.{cumulative_tsn}
 use Rattle.dcsctp_machine.specs.transfer.Transfer.{Transfer}
+use Rattle.dcsctp_machine.specs.transfer.Items.{unacknowledged_items}
 use Rattle.dcsctp_machine.specs.Endpoint.{Endpoint, Core, closed, cookie_wait, cookie_echoed, open_in, OpenPhase, established, shutdown_pending, shutdown_sent, shutdown_received, shutdown_ack_sent}
 use Rattle.dcsctp_machine.specs.Timers.{TimerSettings, started, going_on}
 use Rattle.dcsctp_machine.specs.Outcome.{Outcome, still, quiet, sends, to_peer}
@@ -59,7 +60,7 @@ shutdown_ack_is_sent e my held = sends_shutdown_ack (t2_begun (phase_at e shutdo
 -- Is nothing that was sent still to be acknowledged? What was abandoned isn't, and what waits to be sent doesn't count.
 abbrev pub is_all_acknowledged : Option Transfer → Bool
 is_all_acknowledged None = true
-is_all_acknowledged (Some transfer) = transfer.retransmission.unacknowledged_items == 0
+is_all_acknowledged (Some transfer) = unacknowledged_items transfer.retransmission.outstanding.items == 0
 
 abbrev pub step_by : Bool → Endpoint → OpenPhase → Pair → Held → Outcome
 step_by true e shutdown_pending my held = shutdown_is_sent e my held

@@ -1,20 +1,21 @@
--- What the transfer layer does with its inputs. Which data it has, and how far it got, is its own affair; here is what the rest
--- of a socket relies on.
-use Rattle.std.specs.Prelude.{◌≡◌, ◌⊎◌, ◌≤◌, ℕ, ◌+◌, ◌-◌, ◌%◌, ◌^◌, Bool, true, false, not, ◌&&◌, nat_lt, List, [], ◌∷◌}
-use Rattle.dcsctp_machine.specs.Event.{Event, lifecycle_message_delivered, lifecycle_end}
-use Rattle.dcsctp_machine.specs.Packet.{Emission}
+-- What the transfer layer does with its inputs.
+use Rattle.std.specs.Prelude.{◌≡◌, ℕ, Bool, true, false, not, ◌&&◌, Option, None, Some, List}
+use Rattle.dcsctp_wire.specs.CleanBlocks.{blocks_in, AreCleaned}
+use Rattle.dcsctp_wire.specs.Content.{SackContent}
+use Rattle.dcsctp_wire.specs.declared.chunk.sack.GapAckBlock.{GapAckBlock}
 use Rattle.dcsctp_machine.specs.declared.arrivals.SkippedTo.{SkippedTo}
+use Rattle.dcsctp_machine.specs.transfer.Acknowledging.{AcknowledgesItems}
 use Rattle.dcsctp_machine.specs.transfer.Arrivals.{Arrival}
 use Rattle.dcsctp_machine.specs.transfer.IncomingStreams.{ChunkModel}
 use Rattle.dcsctp_machine.specs.transfer.Reassembly.{ReassemblyState, is_above_watermark, AddsData, SkipsData}
+use Rattle.dcsctp_machine.specs.transfer.Outstanding.{acknowledged_by}
+use Rattle.dcsctp_machine.specs.transfer.Retransmission.{RetransmissionState, with_duration, after_expiry}
+use Rattle.dcsctp_machine.specs.transfer.RoundTrip.{MeasuresRoundTrip}
+use Rattle.dcsctp_machine.specs.transfer.Timeout.{TimeoutState, timeout_after}
 use Rattle.dcsctp_machine.specs.transfer.Transfer.{Transfer}
 use Rattle.dcsctp_machine.specs.transfer.Tracker.{is_new_tsn, observed, is_forward, after_forward, is_valid_tsn, with_timeout}
 
 -- ---- data that is received
-
--- how far a TSN is ahead of another, modulo 2^32 (RFC 9260, section 1.6)
-abbrev pub tsns_ahead : ℕ → ℕ → ℕ
-tsns_ahead tsn other = (tsn + (2 ^ 32 - other % 2 ^ 32)) % 2 ^ 32
 
 -- Data goes to the reassembly queue if its TSN is new.
 abbrev pub AddsWhere : Bool → ℕ → ChunkModel → ReassemblyState → ReassemblyState → Type 0
@@ -55,39 +56,31 @@ MovesForward tsn entries old new = MovesWhere (is_valid_tsn old.tracker.cumulati
 
 -- ---- what is acknowledged
 
--- the events about messages with a name that were delivered
-abbrev pub delivered_events : List ℕ → List (Event Emission)
-delivered_events [] = []
-delivered_events (id ∷ ids) = lifecycle_message_delivered id ∷ lifecycle_end id ∷ delivered_events ids
+-- A round trip is taken into account, if one was measured: the timeout moves, and who waits for as long is told of it (RFC 9260,
+-- sections 6.2 and 6.3.1).
+abbrev pub timed_by : Option ℕ → Transfer → Transfer
+timed_by None transfer = transfer
+timed_by (Some round_trip) transfer =
+    let timeout : TimeoutState = timeout_after round_trip transfer.timeout in
+    record transfer {
+      retransmission = with_duration timeout.rto transfer.retransmission;
+      timeout = timeout;
+      tracker = with_timeout timeout.rto transfer.tracker;
+    }
 
--- A SACK was taken into account (RFC 9260, section 6.2.1). The events say which messages end by it.
-pub record TakesSack (old new : Transfer) : Type 0 where
-  pub next_tsn : new.retransmission.next_tsn ≡ old.retransmission.next_tsn
-  pub partial_reliability : new.retransmission.partial_reliability ≡ old.retransmission.partial_reliability
-  pub message_interleaving : new.retransmission.message_interleaving ≡ old.retransmission.message_interleaving
-  pub outstanding : new.retransmission.outstanding_items ≤ old.retransmission.outstanding_items
-  pub unacknowledged : new.retransmission.unacknowledged_items ≤ old.retransmission.unacknowledged_items
-  pub never_acknowledged : new.retransmission.never_acknowledged_items ≤ old.retransmission.never_acknowledged_items
-  -- The tracker is told the timeout if a round trip was measured. Else the timeout stays as well.
-  pub tracker : ((new.timeout ≡ old.timeout) × (new.tracker ≡ old.tracker)) ⊎ (new.tracker ≡ with_timeout new.timeout.rto old.tracker)
-  pub reassembly : new.reassembly ≡ old.reassembly
-
--- Does it acknowledge an item that no SACK has acknowledged before? One that was abandoned counts, too: whoever acknowledges a
--- FORWARD-TSN is there (RFC 9260, section 8.1).
-abbrev pub has_acknowledged : Transfer → Transfer → Bool
-has_acknowledged old new = nat_lt new.retransmission.never_acknowledged_items old.retransmission.never_acknowledged_items
+-- A SACK was taken into account at this moment (RFC 9260, section 6.2.1).
+pub record TakesSack (now : ℕ) (sack : SackContent) (old new : Transfer) : Type 0 where
+  -- its blocks in order
+  pub blocks : List GapAckBlock
+  pub cleaned : AreCleaned (blocks_in sack.gap_ack_blocks) blocks
+  pub left : RetransmissionState
+  pub acknowledges : AcknowledgesItems now sack.cumulative_tsn_ack sack.a_rwnd blocks old.retransmission left
+  pub round_trip : Option ℕ
+  pub measures : MeasuresRoundTrip now (acknowledged_by old.retransmission.outstanding sack.cumulative_tsn_ack) blocks old.retransmission.outstanding.items round_trip
+  pub is : new ≡ timed_by round_trip (record old { retransmission = left })
 
 -- ---- what is lost
 
--- The retransmission timer has expired: all that is outstanding stays so, and waits to be sent again (RFC 9260, section 6.3.3).
-pub record LosesAll (old new : Transfer) : Type 0 where
-  pub next_tsn : new.retransmission.next_tsn ≡ old.retransmission.next_tsn
-  pub partial_reliability : new.retransmission.partial_reliability ≡ old.retransmission.partial_reliability
-  pub message_interleaving : new.retransmission.message_interleaving ≡ old.retransmission.message_interleaving
-  pub outstanding : new.retransmission.outstanding_items ≡ old.retransmission.outstanding_items
-  pub unacknowledged : new.retransmission.unacknowledged_items ≡ old.retransmission.unacknowledged_items
-  pub never_acknowledged : new.retransmission.never_acknowledged_items ≡ old.retransmission.never_acknowledged_items
-  pub rwnd : old.retransmission.rwnd ≤ new.retransmission.rwnd
-  pub timeout : new.timeout ≡ old.timeout
-  pub tracker : new.tracker ≡ old.tracker
-  pub reassembly : new.reassembly ≡ old.reassembly
+-- The retransmission timer has expired: all that is in flight waits to be sent again (RFC 9260, section 6.3.3).
+abbrev pub lost_all : ℕ → Transfer → Transfer
+lost_all now transfer = record transfer { retransmission = after_expiry now transfer.retransmission }

@@ -5,8 +5,8 @@ ghost use Rattle.dcsctp_send_outstanding.specs.Messages.{IsEndOf};
 
 use super::Outstanding;
 use crate::item::Item;
-use crate::progress::{Change, Progress};
 use dcsctp_api::{Events, SocketTime};
+use dcsctp_machine::{Change, Progress};
 use dcsctp_send_queue::{DataToSend, SendQueue};
 use std::alloc::{AllocError, Global};
 
@@ -33,7 +33,7 @@ impl Outstanding {
         ensures may { MayAddEnd self.old self.new }
         ensures ok { AtPlace self.old.items place (λ last. OnOk result (DropsRest now begins_after_reset last self.old queue.old (contents events.old) self.new queue.new (contents events.new))) }
         ensures err { OnErr result ((self.new ≡ self.old) × (queue.new ≡ queue.old)) }
-        ensures front { AtPlace self.old.items place (λ last. OnErr result ((contents events.new ≡ contents events.old) ⊎ StopsDiscarding queue.old last.fragment.stream_id.0 last.fragment.message_id (contents events.old) (contents events.new))) }
+        ensures front { AtPlace self.old.items place (λ last. OnErr result ((contents events.new ≡ contents events.old) ⊎ StopsDiscarding queue.old last.fragment.stream last.fragment.message_id (contents events.old) (contents events.new))) }
     {
         self.items.reserve(1)?;
         let stream_id = self.items[place].fragment.stream_id;

@@ -1,17 +1,17 @@
 //! What a SACK reports of the items (RFC 9260, sections 3.3.4 and 6.2.1).
 
 ghost use Rattle.std.specs.Prelude.{◌≡◌, ◌<◌, ◌≤◌, ◌+◌, ◌-◌, ◌^◌};
-ghost use Rattle.dcsctp_send_outstanding.specs.Reports.{later_of};
+ghost use Rattle.dcsctp_send_outstanding.specs.Outstanding.{later_of};
 
 use super::Outstanding;
-use crate::progress::Change;
+use dcsctp_machine::Change;
 use dcsctp_wire::GapAckBlock;
 
 impl Outstanding {
     ghost use Rattle.std.specs.Prelude.{true, length};
-    ghost use Rattle.dcsctp_send_outstanding.specs.Outstanding.{reported};
-    ghost use Rattle.dcsctp_send_outstanding.specs.Progress.{is_unacknowledged};
-    ghost use Rattle.dcsctp_send_outstanding.specs.Reports.{IsWithin, Names, IsNewlyAcknowledged, IsLast};
+    ghost use Rattle.dcsctp_machine.specs.transfer.Outstanding.{reported};
+    ghost use Rattle.dcsctp_machine.specs.transfer.Progress.{is_unacknowledged};
+    ghost use Rattle.dcsctp_machine.specs.transfer.Reports.{IsWithin, Names, IsNewlyAcknowledged, IsLast};
     ghost use Rattle.dcsctp_send_outstanding.specs.NamedPlaces.{AreSettledBetween, BlocksAreSettled};
 
     // The place, if its item is neither acknowledged nor abandoned.

@@ -1,22 +1,25 @@
 //! Abandoning messages, and telling the peer (RFC 3758, section 3.5; RFC 8260, section 2.3.1).
 
 ghost use Rattle.std.specs.Prelude.{◌≡◌, ◌++◌, true, OnOk, OnErr};
+ghost use Rattle.std.specs.Option.{option_map};
+ghost use Rattle.dcsctp_machine.specs.Ids.{lifecycle_number};
 ghost use Rattle.dcsctp_send_streams.specs.Telling.{contents, TellsFront};
 ghost use Rattle.dcsctp_send_retransmission.specs.States.{is_used_up, is_over, is_due, maybe_expired};
 
 use super::RetransmissionQueue;
 use dcsctp_api::{Events, LifecycleId, SocketEvent, SocketTime};
-use dcsctp_send_outstanding::{Change, Item};
+use dcsctp_machine::Change;
+use dcsctp_send_outstanding::Item;
 use dcsctp_send_queue::SendQueue;
 use std::alloc::AllocError;
 
 impl RetransmissionQueue {
     ghost use Rattle.std.specs.Prelude.{ℕ, List, [], ◌&&◌, ◌+◌, ◌-◌, ◌/◌, ◌<◌, ◌≤◌, IfOk, length};
     ghost use Rattle.dcsctp_machine.specs.Timers.{expires_at};
-    ghost use Rattle.dcsctp_send_outstanding.specs.Items.{is_first_abandoned};
+    ghost use Rattle.dcsctp_machine.specs.transfer.Items.{is_first_abandoned};
     ghost use Rattle.dcsctp_send_retransmission.specs.Queue.{MayGrow, GivesUp};
     ghost use Rattle.dcsctp_send_outstanding.specs.Messages.{AtPlace};
-    ghost use Rattle.dcsctp_send_outstanding.specs.Progress.{is_unacknowledged};
+    ghost use Rattle.dcsctp_machine.specs.transfer.Progress.{is_unacknowledged};
     ghost use Rattle.dcsctp_send_retransmission.specs.States.{RefusesUpAt, RefusesClosing, GivesUpAt, Closes, stage};
     ghost use Rattle.dcsctp_send_retransmission.specs.GivingUp.{GivesUpDue, GivesUpIf};
 
@@ -184,8 +187,8 @@ fn is_over(moment: Option<SocketTime>, now: SocketTime) -> bool
 
 // Tells that the peer may have a message or not, if the message has a name.
 fn tell_maybe_expired(events: &mut Events, id: Option<LifecycleId>) -> Result<(), AllocError>
-    ensures ok { OnOk result (contents events.new ≡ contents events.old ++ maybe_expired id) }
-    ensures err { OnErr result (TellsFront (contents events.old) (maybe_expired id) (contents events.new)) }
+    ensures ok { OnOk result (contents events.new ≡ contents events.old ++ maybe_expired (option_map lifecycle_number id)) }
+    ensures err { OnErr result (TellsFront (contents events.old) (maybe_expired (option_map lifecycle_number id)) (contents events.new)) }
 {
     if let Some(id) = id {
         events.add(SocketEvent::OnLifecycleMessageMaybeExpired(id))?;

@@ -1,15 +1,15 @@
 //! Taking SACKs into account (RFC 9260, sections 6.2.1, 6.3 and 7.2).
 
-ghost use Rattle.std.specs.Prelude.{◌≡◌, ◌++◌, ◌∷◌, [], OnOk, OnErr};
-ghost use Rattle.dcsctp_api.specs.declared.events.SocketEvent.TheVariants.{OnLifecycleMessageDelivered, OnLifecycleEnd};
+ghost use Rattle.std.specs.Prelude.{◌≡◌, ◌++◌, Some, true, OnOk, OnErr};
+ghost use Rattle.dcsctp_machine.specs.Ids.{lifecycle_number};
+ghost use Rattle.dcsctp_machine.specs.transfer.Acknowledging.{ends_delivery, told_by, delivered};
 ghost use Rattle.dcsctp_send_streams.specs.Telling.{contents, TellsFront};
-ghost use Rattle.dcsctp_send_retransmission.specs.Telling.{told_of, delivered};
 
 use super::RetransmissionQueue;
-use crate::congestion::Acknowledged;
 use crate::handle_sack_result::HandleSackResult;
 use dcsctp_api::{Events, LifecycleId, SocketEvent, SocketTime};
-use dcsctp_send_outstanding::{Change, Item};
+use dcsctp_machine::{Acknowledged, Change};
+use dcsctp_send_outstanding::Item;
 use dcsctp_wire::GapAckBlock;
 use std::alloc::AllocError;
 use std::time::Duration;
@@ -18,11 +18,11 @@ impl RetransmissionQueue {
     ghost use Rattle.std.specs.Prelude.{take, ◌<◌, ◌≤◌, ◌^◌, IfSome, length};
     ghost use Rattle.std.specs.Duration.{as_nanos};
     ghost use Rattle.std.specs.Option.{option_map};
-    ghost use Rattle.dcsctp_send_outstanding.specs.Missing.{MissesUntil};
-    ghost use Rattle.dcsctp_send_outstanding.specs.Outstanding.{tsn_at};
-    ghost use Rattle.dcsctp_send_retransmission.specs.Queue.{acknowledged_until, missed_until, settled_at, is_recovering, HandlesSack};
-    ghost use Rattle.dcsctp_send_outstanding.specs.Reports.{IsNewlyAcknowledged, IsLast};
-    ghost use Rattle.dcsctp_send_retransmission.specs.RoundTrip.{round_trip_at};
+    ghost use Rattle.dcsctp_machine.specs.transfer.Reports.{MissesUntil, IsNewlyAcknowledged, IsLast};
+    ghost use Rattle.dcsctp_machine.specs.transfer.Outstanding.{tsn_at};
+    ghost use Rattle.dcsctp_send_retransmission.specs.Queue.{HandlesSack};
+    ghost use Rattle.dcsctp_machine.specs.transfer.Acknowledging.{acknowledged_until, missed_until, settled_at, is_recovering};
+    ghost use Rattle.dcsctp_machine.specs.transfer.RoundTrip.{round_trip_at};
 
     /// Takes a SACK into account, with its blocks in ascending order, apart from each other and from 1 on.
     /// TSNs that were never sent are skipped (RFC 9260, sections 6.2.1, 6.3 and 7.2).
@@ -40,7 +40,7 @@ impl RetransmissionQueue {
         a_rwnd: u32,
         blocks: &[GapAckBlock],
     ) -> Result<HandleSackResult, AllocError>
-        ensures turn { HandlesSack now cumulative_tsn_ack a_rwnd blocks.now self.old events.old self.new events.new result }
+        ensures turn { HandlesSack now cumulative_tsn_ack a_rwnd blocks.now self.old (contents events.old) self.new (contents events.new) result }
         ensures start { self.old.outstanding.first_tsn < 2 ^ 32 }
     {
         let count = self
@@ -79,8 +79,8 @@ impl RetransmissionQueue {
     // Tells which messages the peer has, once that many first items are acknowledged.
     fn tell_delivered(&self, events: &mut Events, count: usize) -> Result<(), AllocError>
         requires { count ≤ length self.now.outstanding.items }
-        ensures ok { OnOk result (events.new ≡ events.old ++ delivered (take count self.now.outstanding.items)) }
-        ensures err { OnErr result (TellsFront (contents events.old) (contents (delivered (take count self.now.outstanding.items))) (contents events.new)) }
+        ensures ok { OnOk result (contents events.new ≡ contents events.old ++ delivered (take count self.now.outstanding.items)) }
+        ensures err { OnErr result (TellsFront (contents events.old) (delivered (take count self.now.outstanding.items)) (contents events.new)) }
     {
         for place in 0..count {
             tell_of(events, self.outstanding.item(place))?;
@@ -181,8 +181,8 @@ impl RetransmissionQueue {
 
 // Tells of an item that the cumulative TSN passes.
 fn tell_of(events: &mut Events, item: &Item) -> Result<(), AllocError>
-    ensures ok { OnOk result (events.new ≡ events.old ++ told_of item.now) }
-    ensures err { OnErr result (TellsFront (contents events.old) (contents (told_of item.now)) (contents events.new)) }
+    ensures ok { OnOk result (contents events.new ≡ contents events.old ++ told_by item.now.fragment.lifecycle (ends_delivery item.now)) }
+    ensures err { OnErr result (TellsFront (contents events.old) (told_by item.now.fragment.lifecycle (ends_delivery item.now)) (contents events.new)) }
 {
     match item.fragment.lifecycle_id {
         None => Ok(()),
@@ -198,8 +198,8 @@ fn tell_of(events: &mut Events, item: &Item) -> Result<(), AllocError>
 
 // Tells that the peer has a message.
 fn tell_delivered(events: &mut Events, id: LifecycleId) -> Result<(), AllocError>
-    ensures ok { OnOk result (events.new ≡ events.old ++ OnLifecycleMessageDelivered id ∷ OnLifecycleEnd id ∷ []) }
-    ensures err { OnErr result (TellsFront (contents events.old) (contents (OnLifecycleMessageDelivered id ∷ OnLifecycleEnd id ∷ [])) (contents events.new)) }
+    ensures ok { OnOk result (contents events.new ≡ contents events.old ++ told_by (Some (lifecycle_number id)) true) }
+    ensures err { OnErr result (TellsFront (contents events.old) (told_by (Some (lifecycle_number id)) true) (contents events.new)) }
 {
     events.add(SocketEvent::OnLifecycleMessageDelivered(id))?;
     events.add(SocketEvent::OnLifecycleEnd(id))

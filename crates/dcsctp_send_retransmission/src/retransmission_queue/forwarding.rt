@@ -1,7 +1,7 @@
 //! What the peer is told to wait for no longer (RFC 3758, section 3.5; RFC 8260, section 2.3.1).
 
 ghost use Rattle.std.specs.Prelude.{◌≡◌, ◌<◌, ◌||◌, not, [], IfOk, length, map, slice_get, Some, take};
-ghost use Rattle.dcsctp_send_outstanding.specs.declared.item.Item.{Item};
+ghost use Rattle.dcsctp_machine.specs.transfer.Items.{Item};
 ghost use Rattle.dcsctp_send_retransmission.specs.Forwarding.{stream_entry, messages_entry, NoneTwice};
 ghost use Rattle.dcsctp_send_retransmission.specs.Skipping.{ssn_entry, mid_entry};
 
@@ -72,14 +72,14 @@ impl RetransmissionQueue {
 
     // Is the fragment's message listed?
     fn is_listed(&self, fragment: &DataToSend) -> bool
-        ensures { result ≡ (self.now.interleaving || not fragment.now.is_unordered) }
+        ensures { result ≡ (self.now.message_interleaving || not fragment.now.is_unordered) }
     {
         self.interleaving || !fragment.is_unordered
     }
 
     // How many entries a packet can carry, at least one.
     fn entry_limit(&self) -> usize
-        ensures { result ≡ entry_limit self.now.interleaving self.now.congestion.mtu }
+        ensures { result ≡ entry_limit self.now.message_interleaving self.now.congestion.mtu }
     {
         let size = if self.interleaving { 8 } else { 4 };
         (self.congestion.mtu.saturating_sub(20) / size).max(1)

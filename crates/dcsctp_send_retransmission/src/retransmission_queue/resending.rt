@@ -8,11 +8,11 @@ use dcsctp_send_queue::SendQueue;
 use std::alloc::AllocError;
 
 impl RetransmissionQueue {
-    ghost use Rattle.std.specs.Prelude.{◌≡◌, ℕ, List, true, false, if◌then◌else◌, ◌&&◌, nat_lt, IfNone, ◌+◌, ◌<◌, ◌≤◌, OnOk, OnErr, IfOk, IfSome, length};
+    ghost use Rattle.std.specs.Prelude.{◌≡◌, ℕ, List, true, false, if◌then◌else◌, IfNone, ◌+◌, ◌<◌, ◌≤◌, OnOk, OnErr, IfOk, IfSome, length};
     ghost use Rattle.dcsctp_machine.specs.transfer.SendQueue.{SendQueueState};
     ghost use Rattle.dcsctp_api.specs.declared.events.SocketEvent.{SocketEvent};
-    ghost use Rattle.dcsctp_send_outstanding.specs.Items.{marked_items};
-    ghost use Rattle.dcsctp_send_retransmission.specs.Queue.{timer_with};
+    ghost use Rattle.dcsctp_machine.specs.transfer.Items.{marked_items};
+    ghost use Rattle.dcsctp_machine.specs.transfer.Retransmission.{has_fast_retransmit, timer_with};
     ghost use Rattle.dcsctp_send_outstanding.specs.Next.{IsNextMarked};
     ghost use Rattle.dcsctp_send_retransmission.specs.Halting.{HaltsAgain, SendsAgain, GoesAgain};
     ghost use Rattle.dcsctp_send_retransmission.specs.States.{SendsMarked, HaltsAtOnce, SendsFirst, restarted, TriesAtOnce, stage, is_due, StepAgain, Goes, SendsAt};
@@ -123,7 +123,7 @@ impl RetransmissionQueue {
     /// Do chunks wait that were found lost and are to be sent at once, whatever the congestion window is (RFC
     /// 9260, section 7.2.4)?
     pub fn has_data_to_be_fast_retransmitted(&self) -> bool
-        ensures { result ≡ (self.now.fast_retransmit_due && nat_lt 0 (marked_items self.now.outstanding.items)) }
+        ensures { result ≡ has_fast_retransmit self.now }
     {
         self.fast_retransmit_due && 0 < self.outstanding.marked_items()
     }

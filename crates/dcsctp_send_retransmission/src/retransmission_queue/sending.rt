@@ -11,8 +11,8 @@ const CHUNK_LIMIT: usize = 65532;
 
 impl RetransmissionQueue {
     ghost use Rattle.std.specs.Prelude.{◌≡◌, [], true, false, ◌+◌, ◌-◌, ◌*◌, ◌/◌, min, ◌^◌, ◌<◌, IsTrue, OnOk, IfOk, length};
-    ghost use Rattle.dcsctp_send_outstanding.specs.Items.{marked_items};
-    ghost use Rattle.dcsctp_send_retransmission.specs.Queue.{may_send};
+    ghost use Rattle.dcsctp_machine.specs.transfer.Items.{marked_items};
+    ghost use Rattle.dcsctp_machine.specs.transfer.Retransmission.{can_send};
     ghost use Rattle.dcsctp_send_outstanding.specs.Fresh.{SendsFresh, EndsFresh};
     ghost use Rattle.dcsctp_send_outstanding.specs.Next.{HasNone};
     ghost use Rattle.dcsctp_send_retransmission.specs.Halting.{HaltsNew, Halts, FillsUp};
@@ -143,7 +143,7 @@ impl RetransmissionQueue {
         ensures fresh { OnOk result (SendsFresh now self.old.outstanding self.new.outstanding packet.old.tsns.items packet.new.tsns.items) }
         ensures none { IfOk result (λ sent. sent ≡ false → HasNone queue.new) }
         ensures marks { marked_items self.new.outstanding.items ≡ marked_items self.old.outstanding.items }
-        ensures steps { marked_items self.old.outstanding.items ≡ 0 → may_send self.old ≡ true → Goes now (StepNew now) (stage self.old queue.old events.old packet.old.tsns.items packet.old.room) (stage self.new queue.new events.new packet.new.tsns.items packet.new.room) result }
+        ensures steps { marked_items self.old.outstanding.items ≡ 0 → can_send self.old ≡ true → Goes now (StepNew now) (stage self.old queue.old events.old packet.old.tsns.items packet.old.room) (stage self.new queue.new events.new packet.new.tsns.items packet.new.room) result }
     {
         packet.tsns.reserve(1)?;
         let begins_after_reset = self.reset_begun;

@@ -189,9 +189,9 @@ returns-in_ok-handle_sack-in-Sack g c =
     let old = c.args.context.now in
     let d = sack_content c.in-Sack.sack in
     rw c.in-Sack.is
-    (takes_worked g.R.Rng.stream (view_of old) (view_of c.handle_sack.new.context) c.args.header_tag (plain (unworked (sack_chunk d))) (SackAt d.cumulative_tsn_ack)
+    (takes_worked g.R.Rng.stream (view_of old) (view_of c.handle_sack.new.context) c.args.header_tag (plain (unworked (sack_chunk d))) (SackAt d)
     (λ o turn. plain_at (endpoint_of old) (unworked (sack_chunk d)) o (none_for (core_of old.state) _ _ c.in-Sack.is c.requires) turn)
-    (λ o turn. sack_goes (endpoint_of old) (endpoint_of old).below.transfer d.cumulative_tsn_ack o turn) c.in_ok-handle_sack-in-Sack.ensures)
+    (λ o turn. sack_goes (endpoint_of old) (endpoint_of old).below.transfer d o turn) c.in_ok-handle_sack-in-Sack.ensures)
 
 pub returns-in_err-handle_sack-in-Sack : goal.returns-in_err-handle_sack-in-Sack
 returns-in_err-handle_sack-in-Sack g c =
@@ -199,7 +199,7 @@ returns-in_err-handle_sack-in-Sack g c =
     let d = sack_content c.in-Sack.sack in
     rw c.in-Sack.is
     (rw (err_from_is_err_and c.from_residual-in_err-handle_sack-in-Sack.result c.from_residual-in_err-handle_sack-in-Sack.ensures.1).1
-    (takes_cut (view_of old) c.args.header_tag (plain (unworked (sack_chunk d))) (SackAt d.cumulative_tsn_ack) (view_of c.handle_sack.new.context).events
+    (takes_cut (view_of old) c.args.header_tag (plain (unworked (sack_chunk d))) (SackAt d) (view_of c.handle_sack.new.context).events
     (λ o turn. plain_at (endpoint_of old) (unworked (sack_chunk d)) o (none_for (core_of old.state) _ _ c.in-Sack.is c.requires) turn)
     c.in_err-handle_sack-in-Sack.ensures))
 

@@ -1,5 +1,6 @@
 use Rattle.std.proofs.Common.{◌∙◌, ap, length, arith}
 use Rattle.dcsctp_wire.specs.Content.{DataContent, data_content}
+use Rattle.dcsctp_machine.specs.transfer.Sending.{Fragment}
 use Rattle.dcsctp_transfer.proofs.AddingLemmas.{data_size}
 use Rattle.dcsctp_transfer.proofs.sending.data_of.Goals as goal
 
@@ -10,12 +11,12 @@ returns-clause-fits c =
       stream_id = omega arith;
       ssn = omega arith;
       ppid = omega arith;
-      len_fits = omega (arith, ap length c.in_bytes.ensures.same, c.deref.ensures.len, c.requires);
+      len_fits = omega (arith, ap length c.in_bytes.ensures.same, c.deref.ensures.len, c.fragment.inside.payload.ok.0, ap (λ (part : Fragment). length part.payload) c.fragment.view_is, c.requires);
       payload_in_bytes = c.in_bytes.ensures.fit;
     }
 
 pub returns-clause-size : goal.returns-clause-size
 returns-clause-size c =
-    let len = ap length c.in_bytes.ensures.same ∙ c.deref.ensures.len in
+    let len = ap length c.in_bytes.ensures.same ∙ c.deref.ensures.len ∙ c.fragment.inside.payload.ok.0 ∙ ap (λ (part : Fragment). length part.payload) c.fragment.view_is in
     let chunk : DataContent = data_content (record { flags = c.flags_of-flags.result; tsn = c.args.tsn; stream_id = c.args.stream_id; ssn = c.args.ssn; ppid = c.args.ppid; payload = c.in_bytes.result }) in
     rw (← len) (data_size chunk (omega (arith, len, c.requires)))

@@ -1,6 +1,6 @@
 use Rattle.std.proofs.Common.{subst, arith}
 use Rattle.dcsctp_send_outstanding.specs.NamedPlaces.{AreSettledBetween}
-use Rattle.dcsctp_send_outstanding.specs.Outstanding.{OutstandingModel}
+use Rattle.dcsctp_machine.specs.transfer.Outstanding.{OutstandingState}
 use Rattle.dcsctp_send_outstanding.proofs.SettledLemmas.{row_is_settled, none_awaited, awaited_past, awaited_further, awaited_as_far}
 use Rattle.dcsctp_send_outstanding.proofs.outstanding.Outstanding.last_unacknowledged_from.Goals as goal
 
@@ -22,7 +22,7 @@ loop-place-preserved-then-place-next c =
     let from = c.loop-place.invariant.0 in
     let past = c.if-place-next.true in
     let next = c.min-next.ensures in
-    let P : OutstandingModel → Type 0 = λ m. AreSettledBetween c.loop-place.place c.min-next.result m.items in
+    let P : OutstandingState → Type 0 = λ m. AreSettledBetween c.loop-place.place c.min-next.result m.items in
     let row = subst P c.self.view_is (row_is_settled _ _ c.loop-place.place c.min-next.result c.self.invariant.settled (λ k after before. c.end_from.ensures.named k after (omega arith))) in (
       omega arith,
       omega arith,

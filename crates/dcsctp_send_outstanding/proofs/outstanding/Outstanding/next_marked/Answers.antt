@@ -1,9 +1,10 @@
 use Rattle.std.proofs.Common.{subst}
-use Rattle.dcsctp_send_outstanding.specs.Outstanding.{OutstandingModel, NoneMarkedBefore}
+use Rattle.dcsctp_send_outstanding.specs.Outstanding.{NoneMarkedBefore}
+use Rattle.dcsctp_machine.specs.transfer.Outstanding.{OutstandingState}
 use Rattle.dcsctp_send_outstanding.proofs.ItemsLemmas.{none_marked_around}
 use Rattle.dcsctp_send_outstanding.proofs.outstanding.Outstanding.next_marked.Goals as goal
 
 pub returns-in-None-clause-none : goal.returns-in-None-clause-none
 returns-in-None-clause-none c =
-    let P : OutstandingModel → Type 0 = λ m. NoneMarkedBefore c.self.inside.cursor m.items in
+    let P : OutstandingState → Type 0 = λ m. NoneMarkedBefore c.self.inside.cursor m.items in
     none_marked_around c.self.inside.cursor c.args.self.now.items (subst P c.self.view_is c.self.invariant.scanned) c.in-None.ensures.none

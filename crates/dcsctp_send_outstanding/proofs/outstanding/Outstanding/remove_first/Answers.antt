@@ -1,17 +1,17 @@
 use Rattle.std.proofs.Common.{◌≡◌, ◌<◌, length, ap, refl, ◌∙◌, arith}
 use Rattle.std.proofs.Math.ListN.{length-drop}
-use Rattle.dcsctp_send_outstanding.specs.Outstanding.{OutstandingModel}
+use Rattle.dcsctp_machine.specs.transfer.Outstanding.{OutstandingState}
 use Rattle.dcsctp_send_outstanding.proofs.ItemsLemmas.{same_outstanding, drop_further}
 use Rattle.dcsctp_send_outstanding.proofs.outstanding.Outstanding.remove_first.Goals as goal
 
 pub loop-init : goal.loop-init
 loop-init c =
     let fits : c.self.inside.first_tsn < 4294967296 = omega arith in
-    (same_outstanding _ _ _ _ _ (omega (arith, ap (λ (m : OutstandingModel). m.first_tsn) c.self.view_is)) refl, omega arith)
+    (same_outstanding _ _ _ _ _ (omega (arith, ap (λ (m : OutstandingState). m.first_tsn) c.self.view_is)) refl, omega arith)
 
 pub remove_one-requires : goal.remove_one-requires
 remove_one-requires c =
-    let same = ap (λ (m : OutstandingModel). length m.items) c.loop.invariant.0 in
+    let same = ap (λ (m : OutstandingState). length m.items) c.loop.invariant.0 in
     omega (arith, c.requires, c.loop-test.true, length-drop c.loop.counter c.args.self.now.items)
 
 pub loop-preserved : goal.loop-preserved

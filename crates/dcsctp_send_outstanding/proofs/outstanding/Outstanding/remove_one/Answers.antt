@@ -1,5 +1,5 @@
-use Rattle.std.proofs.Common.{List, subst}
-use Rattle.dcsctp_send_outstanding.specs.declared.item.Item.{Item}
+use Rattle.std.proofs.Common.{◌≡◌, ◌∷◌, List, subst, sym}
+use Rattle.dcsctp_machine.specs.transfer.Items.{Item, size_of}
 use Rattle.dcsctp_send_outstanding.specs.Outstanding.{IsKept}
 use Rattle.dcsctp_send_outstanding.specs.NamedPlaces.{AreSettled}
 use Rattle.dcsctp_send_outstanding.proofs.ItemsLemmas.{kept_removed}
@@ -10,5 +10,8 @@ pub invariant_of-self : goal.invariant_of-self
 invariant_of-self c =
     let P : List Item → Type 0 = λ xs. IsKept c.self.inside.header c.self.inside.cursor xs c.self.inside.totals c.self.inside.named in
     let Q : List Item → Type 0 = λ xs. AreSettled c.self.inside.named xs in
+    let R : Item → Type 0 = λ item. c.self.inside.items.items ≡ item ∷ c.pop_front.new.self.items in
+    let S : Item → Type 0 = λ item. c.size-size.result ≡ size_of c.self.inside.header item in
+    let items = subst R (sym c.item.view_is) c.in-Some.ensures.items in
     rw c.saturating_sub-self-inside.ensures
-    (kept_removed _ _ c.in-Some.item _ _ _ _ _ _ (subst P c.in-Some.ensures.items c.self.invariant) c.size-size.ensures c.remove.ensures (settled_removed _ _ c.in-Some.item _ (subst Q c.in-Some.ensures.items c.self.invariant.settled) c.shift.ensures))
+    (kept_removed _ _ _ _ _ _ _ _ _ (subst P items c.self.invariant) (subst S (sym c.item.view_is) c.size-size.ensures) c.remove.ensures (settled_removed _ _ _ _ (subst Q items c.self.invariant.settled) c.shift.ensures))

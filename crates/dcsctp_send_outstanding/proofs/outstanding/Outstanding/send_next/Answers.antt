@@ -1,7 +1,7 @@
 use Rattle.std.proofs.Common.{inl, ◌<◌, ◌^◌, ◌+◌, length, ap, refl, arith}
-use Rattle.dcsctp_send_outstanding.specs.declared.progress.Progress.{Progress}
-use Rattle.dcsctp_send_outstanding.specs.Progress.{is_marked}
-use Rattle.dcsctp_send_outstanding.specs.Outstanding.{OutstandingModel}
+use Rattle.dcsctp_machine.specs.declared.progress.Progress.{Progress}
+use Rattle.dcsctp_machine.specs.transfer.Progress.{is_marked}
+use Rattle.dcsctp_machine.specs.transfer.Outstanding.{OutstandingState}
 use Rattle.dcsctp_send_outstanding.proofs.ItemsLemmas.{kept_pushed, sums_leave_room, size_bounded}
 use Rattle.std.proofs.lemmas.Result.{err_from_is_err_and}
 use Rattle.dcsctp_send_outstanding.proofs.NextLemmas.{has_none}
@@ -15,7 +15,7 @@ add-requires c =
 
 pub invariant_of-self-in-Some : goal.invariant_of-self-in-Some
 invariant_of-self-in-Some c =
-    let room : length c.self.inside.items.items + 1 < 2 ^ 31 = omega (arith, c.requires.room, ap (λ (m : OutstandingModel). length m.items) c.self.view_is) in
+    let room : length c.self.inside.items.items + 1 < 2 ^ 31 = omega (arith, c.requires.room, ap (λ (m : OutstandingState). length m.items) c.self.view_is) in
     rw (c.push_back_reserved.ensures.items, c.in_ok-reserve.ensures.items)
     (kept_pushed _ _ _ _ _ _ _ _ c.self.invariant room c.size-size.ensures c.add.ensures (ap (λ (p : Progress). is_marked p.state) c.new.ensures) (settled_pushed _ _ _ c.self.invariant.settled))
 

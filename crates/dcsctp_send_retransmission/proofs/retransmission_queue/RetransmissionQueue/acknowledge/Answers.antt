@@ -1,8 +1,9 @@
 use Rattle.std.proofs.Common.{◌≡◌, ◌∙◌, ◌==◌, nat_lt, nat_le, length, ap, refl, arith}
-use Rattle.dcsctp_send_outstanding.specs.declared.progress.Change.TheVariants.{Acknowledge}
-use Rattle.dcsctp_send_outstanding.specs.Outstanding.{OutstandingModel}
-use Rattle.dcsctp_send_retransmission.specs.declared.congestion.Acknowledged.{Acknowledged}
-use Rattle.dcsctp_send_retransmission.specs.Queue.{QueueModel, with_items, covered, missed_until, without_first, acknowledgement}
+use Rattle.dcsctp_machine.specs.declared.progress.Change.TheVariants.{Acknowledge}
+use Rattle.dcsctp_machine.specs.transfer.Outstanding.{OutstandingState}
+use Rattle.dcsctp_machine.specs.declared.congestion.Acknowledged.{Acknowledged}
+use Rattle.dcsctp_machine.specs.transfer.Retransmission.{RetransmissionState, with_items}
+use Rattle.dcsctp_machine.specs.transfer.Acknowledging.{covered, missed_until, without_first, acknowledgement}
 use Rattle.dcsctp_send_outstanding.proofs.ItemsLemmas.{length-changed_between, length-reported}
 use Rattle.dcsctp_send_retransmission.proofs.QueueLemmas.{length-missed_until, acknowledged_is}
 use Rattle.dcsctp_send_retransmission.proofs.retransmission_queue.RetransmissionQueue.acknowledge.Goals as goal
@@ -10,17 +11,17 @@ use Rattle.dcsctp_send_retransmission.proofs.retransmission_queue.Retransmission
 pub acknowledge_blocks-requires : goal.acknowledge_blocks-requires
 acknowledge_blocks-requires c =
     let kept = length-changed_between Acknowledge 0 c.args.count c.self.inside.outstanding.items in
-    omega (arith, c.requires, ap (λ (m : QueueModel). length m.outstanding.items) c.self.view_is, ap (λ (m : OutstandingModel). length m.items) c.change_between.ensures)
+    omega (arith, c.requires, ap (λ (m : RetransmissionState). length m.outstanding.items) c.self.view_is, ap (λ (m : OutstandingState). length m.items) c.change_between.ensures)
 
 pub remove_first-requires : goal.remove_first-requires
 remove_first-requires c =
-    let stage : QueueModel = record {
+    let stage : RetransmissionState = record {
       outstanding = c.acknowledge_blocks.new.self;
       congestion = c.self.inside.congestion;
       timer = c.self.inside.timer;
       peer_window = c.self.inside.peer_window;
       partial_reliability = c.self.inside.partial_reliability;
-      interleaving = c.self.inside.interleaving;
+      message_interleaving = c.self.inside.interleaving;
       fast_retransmit_due = c.self.inside.fast_retransmit_due;
       reset_begun = c.self.inside.reset_begun;
       packets_retransmitted = c.self.inside.packets_retransmitted;
@@ -28,47 +29,47 @@ remove_first-requires c =
     } in
     let kept = length-changed_between Acknowledge 0 c.args.count c.self.inside.outstanding.items in
     let told = length-reported c.args.count c.args.blocks.now c.change_between.new.self.items in
-    let count = ap (λ (m : QueueModel). length m.outstanding.items) c.count_misses.ensures in
+    let count = ap (λ (m : RetransmissionState). length m.outstanding.items) c.count_misses.ensures in
     let missed = length-missed_until c.args.count c.args.limit c.args.newest stage in
-    let same = ap (λ (m : QueueModel). length m.outstanding.items) c.self-2.view_is in
-    let first = ap (λ (m : QueueModel). length m.outstanding.items) c.self.view_is in
-    let a = ap (λ (m : OutstandingModel). length m.items) c.change_between.ensures in
-    let b = ap (λ (m : OutstandingModel). length m.items) c.acknowledge_blocks.ensures in
+    let same = ap (λ (m : RetransmissionState). length m.outstanding.items) c.self-2.view_is in
+    let first = ap (λ (m : RetransmissionState). length m.outstanding.items) c.self.view_is in
+    let a = ap (λ (m : OutstandingState). length m.items) c.change_between.ensures in
+    let b = ap (λ (m : OutstandingState). length m.items) c.acknowledge_blocks.ensures in
     omega (arith, c.requires, count, missed)
 
 pub returns : goal.returns
 returns c =
-    let stage : QueueModel = record {
+    let stage : RetransmissionState = record {
       outstanding = c.acknowledge_blocks.new.self;
       congestion = c.self.inside.congestion;
       timer = c.self.inside.timer;
       peer_window = c.self.inside.peer_window;
       partial_reliability = c.self.inside.partial_reliability;
-      interleaving = c.self.inside.interleaving;
+      message_interleaving = c.self.inside.interleaving;
       fast_retransmit_due = c.self.inside.fast_retransmit_due;
       reset_begun = c.self.inside.reset_begun;
       packets_retransmitted = c.self.inside.packets_retransmitted;
       bytes_retransmitted = c.self.inside.bytes_retransmitted;
     } in
-    let mid : QueueModel = record {
+    let mid : RetransmissionState = record {
       outstanding = c.self-2.inside.outstanding;
       congestion = c.self-2.inside.congestion;
       timer = c.self-2.inside.timer;
       peer_window = c.self-2.inside.peer_window;
       partial_reliability = c.self-2.inside.partial_reliability;
-      interleaving = c.self-2.inside.interleaving;
+      message_interleaving = c.self-2.inside.interleaving;
       fast_retransmit_due = c.self-2.inside.fast_retransmit_due;
       reset_begun = c.self-2.inside.reset_begun;
       packets_retransmitted = c.self-2.inside.packets_retransmitted;
       bytes_retransmitted = c.self-2.inside.bytes_retransmitted;
     } in
-    let left : QueueModel = record {
+    let left : RetransmissionState = record {
       outstanding = c.remove_first.new.self;
       congestion = c.self-2.inside.congestion;
       timer = c.self-2.inside.timer;
       peer_window = c.self-2.inside.peer_window;
       partial_reliability = c.self-2.inside.partial_reliability;
-      interleaving = c.self-2.inside.interleaving;
+      message_interleaving = c.self-2.inside.interleaving;
       fast_retransmit_due = c.self-2.inside.fast_retransmit_due;
       reset_begun = c.self-2.inside.reset_begun;
       packets_retransmitted = c.self-2.inside.packets_retransmitted;

@@ -1,5 +1,5 @@
 use Rattle.std.proofs.Common.{◌≡◌, ◌∙◌, ◌+◌, ◌-◌, ◌%◌, ◌^◌, true, false, ap, sym}
-use Rattle.dcsctp_send_retransmission.specs.Queue.{QueueModel}
+use Rattle.dcsctp_machine.specs.transfer.Retransmission.{RetransmissionState}
 use Rattle.dcsctp_send_retransmission.specs.Skipping.{Skips}
 use Rattle.dcsctp_send_retransmission.proofs.SkippingLemmas.{cumulative_is, says_messages, says_streams}
 use Rattle.dcsctp_send_retransmission.proofs.retransmission_queue.RetransmissionQueue.create_forward_tsn.Goals as goal
@@ -13,9 +13,9 @@ returns c =
     ap (λ t. (t + 4294967295) % 4294967296) tsn ∙ cumulative_is c.args.self.now.outstanding.first_tsn c.in_ok-count.count in
     elim c.if-self.branch [
       | then-self+in_ok-messages_of w ↦
-          let is : c.args.self.now.interleaving ≡ true = sym (ap (λ (q : QueueModel). q.interleaving) c.self.view_is) ∙ w.if-self.true in
+          let is : c.args.self.now.message_interleaving ≡ true = sym (ap (λ (q : RetransmissionState). q.message_interleaving) c.self.view_is) ∙ w.if-self.true in
           rw w.skipped-is (says_messages c.args.self.now c.in_ok-count.count c.skip.new.numbers.entries _ _ is skips w.in_ok-messages_of.ensures cumulative)
       | else-self+in_ok-streams_of w ↦
-          let is : c.args.self.now.interleaving ≡ false = sym (ap (λ (q : QueueModel). q.interleaving) c.self.view_is) ∙ w.if-self.false in
+          let is : c.args.self.now.message_interleaving ≡ false = sym (ap (λ (q : RetransmissionState). q.message_interleaving) c.self.view_is) ∙ w.if-self.false in
           rw w.skipped-is (says_streams c.args.self.now c.in_ok-count.count c.skip.new.numbers.entries _ _ is skips w.in_ok-streams_of.ensures cumulative)
     ]

@@ -1,7 +1,7 @@
 use Rattle.std.proofs.Common.{inl, subst, ◌≡◌, ◌∙◌, ℕ, List, length, ap, sym, refl, arith}
-use Rattle.dcsctp_send_outstanding.specs.Items.{marked_items}
-use Rattle.dcsctp_send_retransmission.specs.Queue.{QueueModel}
-use Rattle.dcsctp_send_outstanding.specs.Outstanding.{OutstandingModel}
+use Rattle.dcsctp_machine.specs.transfer.Items.{marked_items}
+use Rattle.dcsctp_machine.specs.transfer.Retransmission.{RetransmissionState}
+use Rattle.dcsctp_machine.specs.transfer.Outstanding.{OutstandingState}
 use Rattle.std.proofs.lemmas.Result.{err_from_is_err_and}
 use Rattle.dcsctp_send_retransmission.specs.States.{Stage, stage, StepNew, Goes, none, counting}
 use Rattle.dcsctp_send_retransmission.proofs.StatesLemmas.{goes_filling}
@@ -26,29 +26,29 @@ pub returns-then-marked_items-ne0-clause-halts : goal.returns-then-marked_items-
 returns-then-marked_items-ne0-clause-halts c =
     halts_marked c.send_again.new.packet.room c.count_sent_again.new.self c.send_again.new.queue
     (rw c.count_sent_again.ensures (halts_counted c.saturating_sub.result c.send_again.new.packet.room c.send_again.new.self c.in_ok-send_again.ensures.halts))
-    (λ e. c.if-marked_items-ne0.true (c.marked_items.ensures ∙ (ap (λ (q : QueueModel). marked_items q.outstanding.items) c.self.view_is ∙ e)))
+    (λ e. c.if-marked_items-ne0.true (c.marked_items.ensures ∙ (ap (λ (q : RetransmissionState). marked_items q.outstanding.items) c.self.view_is ∙ e)))
 
 pub returns-clause-halts : goal.returns-clause-halts
 returns-clause-halts c =
     halts_new c.send_new.result c.send_new.new.packet.room c.count_sent_again.new.self c.send_new.new.self c.send_new.new.queue
-    (sym (ap (λ (q : QueueModel). marked_items q.outstanding.items) c.self.view_is) ∙ (sym c.marked_items.ensures ∙ c.if-marked_items-ne0.false))
+    (sym (ap (λ (q : RetransmissionState). marked_items q.outstanding.items) c.self.view_is) ∙ (sym c.marked_items.ensures ∙ c.if-marked_items-ne0.false))
     c.send_new.ensures.marks c.send_new.ensures.halts
 
 pub returns-then-marked_items-ne0-clause-fresh : goal.returns-then-marked_items-ne0-clause-fresh
 returns-then-marked_items-ne0-clause-fresh c = λ empty.
     let same : c.count_sent_again.new.self.outstanding ≡ c.send_again.new.self.outstanding =
-    ap (λ (q : QueueModel). q.outstanding) c.count_sent_again.ensures ∙ counted_outstanding c.saturating_sub.result c.send_again.new.self in
+    ap (λ (q : RetransmissionState). q.outstanding) c.count_sent_again.ensures ∙ counted_outstanding c.saturating_sub.result c.send_again.new.self in
     let few = c.in_ok-send_again.ensures.few in
     let none_before = ap (λ (xs : List ℕ). length xs) empty in
     ends_fresh c.args.now c.args.self.now.outstanding c.send_again.new.self.outstanding c.count_sent_again.new.self.outstanding c.send_again.new.packet.tsns.items c.send_again.new.packet.tsns.items (omega arith)
-    (ap (λ (m : OutstandingModel). marked_items m.items) same)
+    (ap (λ (m : OutstandingState). marked_items m.items) same)
     (fresh_none c.args.now c.send_again.new.self.outstanding c.count_sent_again.new.self.outstanding c.send_again.new.packet.tsns.items c.send_again.new.packet.tsns.items same refl)
 
 pub returns-clause-fresh : goal.returns-clause-fresh
 returns-clause-fresh c = λ empty.
     let same : c.count_sent_again.new.self.outstanding ≡ c.send_again.new.self.outstanding =
-    ap (λ (q : QueueModel). q.outstanding) c.count_sent_again.ensures ∙ counted_outstanding c.saturating_sub.result c.send_again.new.self in
-    let items = ap (λ (m : OutstandingModel). marked_items m.items) same in
+    ap (λ (q : RetransmissionState). q.outstanding) c.count_sent_again.ensures ∙ counted_outstanding c.saturating_sub.result c.send_again.new.self in
+    let items = ap (λ (m : OutstandingState). marked_items m.items) same in
     let few = c.in_ok-send_again.ensures.few in
     let none_before = ap (λ (xs : List ℕ). length xs) empty in
     ends_fresh_ok c.send_new.result c.args.now c.args.self.now.outstanding c.count_sent_again.new.self.outstanding c.send_new.new.self.outstanding c.send_again.new.packet.tsns.items c.send_new.new.packet.tsns.items (omega arith) c.send_new.ensures.marks c.send_new.ensures.fresh
@@ -72,4 +72,4 @@ returns-clause-steps c =
     let new = stage c.send_new.new.self c.send_new.new.queue c.send_new.new.events c.send_new.new.packet.tsns.items c.send_new.new.packet.room in
     let P : Stage → Type 0 = λ s. Goes c.args.now (StepNew c.args.now) s new c.send_new.result in
     goes_filling c.send_new.result c.args.now (stage c.args.self.now c.args.queue.now c.args.events.now c.args.packet.now.tsns.items c.args.packet.now.room) (stage c.send_again.new.self c.send_again.new.queue c.send_again.new.events c.send_again.new.packet.tsns.items c.send_again.new.packet.room) new c.in_ok-send_again.ensures.steps
-    (subst P counts (c.send_new.ensures.steps (sym (ap (λ (q : QueueModel). marked_items q.outstanding.items) c.self.view_is) ∙ (sym c.marked_items.ensures ∙ c.if-marked_items-ne0.false))))
+    (subst P counts (c.send_new.ensures.steps (sym (ap (λ (q : RetransmissionState). marked_items q.outstanding.items) c.self.view_is) ∙ (sym c.marked_items.ensures ∙ c.if-marked_items-ne0.false))))

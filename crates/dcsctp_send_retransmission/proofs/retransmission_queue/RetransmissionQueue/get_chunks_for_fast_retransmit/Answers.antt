@@ -1,7 +1,7 @@
 use Rattle.std.proofs.Common.{◌≡◌, ◌∙◌, ℕ, List, [], false, ap, sym, subst, refl}
 use Rattle.std.proofs.lemmas.Result.{err_from_is_err_and}
-use Rattle.dcsctp_send_outstanding.specs.Outstanding.{OutstandingModel}
-use Rattle.dcsctp_send_retransmission.specs.Queue.{QueueModel}
+use Rattle.dcsctp_machine.specs.transfer.Outstanding.{OutstandingState}
+use Rattle.dcsctp_machine.specs.transfer.Retransmission.{RetransmissionState}
 use Rattle.dcsctp_send_retransmission.specs.Sending.{HandsOut}
 use Rattle.dcsctp_send_retransmission.specs.States.{stage, SendsMarked, Stops}
 use Rattle.dcsctp_send_retransmission.proofs.SendingLemmas.{fills_hand_out, counted_outstanding}
@@ -17,9 +17,9 @@ returns-in_err-restarts-clause-steps c =
 
 pub returns-clause-hands : goal.returns-clause-hands
 returns-clause-hands c =
-    let O : QueueModel → OutstandingModel = λ q. q.outstanding in
+    let O : RetransmissionState → OutstandingState = λ q. q.outstanding in
     let counted : O c.count_sent_again.new.self ≡ O c.send_again_at_once.new.self =
     ap O c.count_sent_again.ensures ∙ counted_outstanding c.saturating_sub.result c.send_again_at_once.new.self in
-    let P : OutstandingModel → Type 0 = λ m. HandsOut c.args.bytes m c.send_again_at_once.new.packet.tsns.items in
+    let P : OutstandingState → Type 0 = λ m. HandsOut c.args.bytes m c.send_again_at_once.new.packet.tsns.items in
     subst P (sym (ap O c.time_again.ensures ∙ counted))
     (fills_hand_out c.args.bytes _ c.send_again_at_once.new.self (record { tsns = c.new.result; room = c.args.bytes }) c.send_again_at_once.new.packet c.new.ensures.items refl c.send_again_at_once.ensures.fills)

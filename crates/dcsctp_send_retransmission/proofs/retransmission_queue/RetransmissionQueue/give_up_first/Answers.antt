@@ -1,6 +1,6 @@
 use Rattle.std.proofs.Common.{[], ◌∙◌, ◌<◌, length, refl, ap, sym, arith}
 use Rattle.std.proofs.lemmas.Result.{err_from_is_err_and}
-use Rattle.dcsctp_send_retransmission.specs.Queue.{QueueModel}
+use Rattle.dcsctp_machine.specs.transfer.Retransmission.{RetransmissionState}
 use Rattle.dcsctp_send_retransmission.specs.States.{is_due, stage}
 use Rattle.dcsctp_send_retransmission.proofs.StatesLemmas.{found}
 use Rattle.dcsctp_send_retransmission.proofs.GivingUpLemmas.{if_grows, scans_none, scans_at, scans_stop, scans_on, scanned_to}
@@ -11,7 +11,7 @@ loop-place-init c = scans_none c.args.now (stage c.args.self.now c.args.queue.no
 
 pub returns-in_err-give_up_if_due : goal.returns-in_err-give_up_if_due
 returns-in_err-give_up_if_due c =
-    let inside = ap (λ (q : QueueModel). length q.outstanding.items) c.self.view_is in
+    let inside = ap (λ (q : RetransmissionState). length q.outstanding.items) c.self.view_is in
     let grown = c.loop-place.invariant.grown in
     let within : c.loop-place.place < length c.loop-place.self.outstanding.items = omega (arith, c.len-place-end.ensures.value, c.loop-place-test.true) in
     let item = found c.loop-place.self.outstanding.items c.loop-place.place within in
@@ -20,7 +20,7 @@ returns-in_err-give_up_if_due c =
 
 pub is_awaited-requires : goal.is_awaited-requires
 is_awaited-requires c =
-    let inside = ap (λ (q : QueueModel). length q.outstanding.items) c.self.view_is in
+    let inside = ap (λ (q : RetransmissionState). length q.outstanding.items) c.self.view_is in
     let grown = c.loop-place.invariant.grown in
     let within : c.loop-place.place < length c.loop-place.self.outstanding.items = omega (arith, c.len-place-end.ensures.value, c.loop-place-test.true) in
     let item = found c.loop-place.self.outstanding.items c.loop-place.place within in
@@ -29,7 +29,7 @@ is_awaited-requires c =
 
 pub returns-then-is_awaited : goal.returns-then-is_awaited
 returns-then-is_awaited c =
-    let inside = ap (λ (q : QueueModel). length q.outstanding.items) c.self.view_is in
+    let inside = ap (λ (q : RetransmissionState). length q.outstanding.items) c.self.view_is in
     let grown = c.loop-place.invariant.grown in
     let within : c.loop-place.place < length c.loop-place.self.outstanding.items = omega (arith, c.len-place-end.ensures.value, c.loop-place-test.true) in
     let was = found c.loop-place.self.outstanding.items c.loop-place.place within in
@@ -48,7 +48,7 @@ returns-then-is_awaited c =
 
 pub loop-place-preserved : goal.loop-place-preserved
 loop-place-preserved c =
-    let inside = ap (λ (q : QueueModel). length q.outstanding.items) c.self.view_is in
+    let inside = ap (λ (q : RetransmissionState). length q.outstanding.items) c.self.view_is in
     let grown = c.loop-place.invariant.grown in
     let within : c.loop-place.place < length c.loop-place.self.outstanding.items = omega (arith, c.len-place-end.ensures.value, c.loop-place-test.true) in
     let was = found c.loop-place.self.outstanding.items c.loop-place.place within in

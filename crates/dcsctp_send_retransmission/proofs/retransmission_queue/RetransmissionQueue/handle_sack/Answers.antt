@@ -1,21 +1,22 @@
 use Rattle.std.specs.Prelude.{Option, ℕ}
 use Rattle.std.specs.Option.{option_map}
 use Rattle.std.proofs.Common.{subst, ◌≡◌, ◌≤◌, nat_lt, ◌∙◌, length, ap, refl, arith}
-use Rattle.dcsctp_send_outstanding.specs.Outstanding.{acknowledged_by, tsn_at}
-use Rattle.dcsctp_send_outstanding.specs.Missing.{MissesUntil}
-use Rattle.dcsctp_send_retransmission.specs.Queue.{is_recovering, QueueModel, TakesSack, has_acknowledged, exiting, acknowledged_until, settled_at}
+use Rattle.dcsctp_machine.specs.transfer.Outstanding.{acknowledged_by, tsn_at}
+use Rattle.dcsctp_machine.specs.transfer.Reports.{MissesUntil}
+use Rattle.dcsctp_machine.specs.transfer.Acknowledging.{is_recovering, AcknowledgesItems, has_acknowledged, exiting, acknowledged_until, settled_at}
+use Rattle.dcsctp_machine.specs.transfer.Retransmission.{RetransmissionState}
 use Rattle.dcsctp_send_retransmission.proofs.AnswerLemmas.{sack_answers}
 use Rattle.dcsctp_send_retransmission.proofs.retransmission_queue.RetransmissionQueue.handle_sack.Goals as goal
 
 pub returns-clause-turn : goal.returns-clause-turn
 returns-clause-turn c =
-    let stage : QueueModel = record {
+    let stage : RetransmissionState = record {
       outstanding = c.self.inside.outstanding;
       congestion = c.leave_recovery.new.self;
       timer = c.self.inside.timer;
       peer_window = c.self.inside.peer_window;
       partial_reliability = c.self.inside.partial_reliability;
-      interleaving = c.self.inside.interleaving;
+      message_interleaving = c.self.inside.interleaving;
       fast_retransmit_due = c.self.inside.fast_retransmit_due;
       reset_begun = c.self.inside.reset_begun;
       packets_retransmitted = c.self.inside.packets_retransmitted;
@@ -24,9 +25,9 @@ returns-clause-turn c =
     let is_stage : stage ≡ exiting c.args.cumulative_tsn_ack c.args.self.now = rw (c.leave_recovery.ensures, ← c.self.view_is) refl in
     let count_is : c.distance_to-count.result ≡ acknowledged_by c.args.self.now.outstanding c.args.cumulative_tsn_ack = rw (← c.self.view_is) c.distance_to-count.ensures.value in
     let few : c.distance_to-count.result ≤ length c.args.self.now.outstanding.items = rw (← c.self.view_is) (omega (arith, c.if-len-count.false, c.len.ensures.value)) in
-    let Misses : QueueModel → Type 0 = λ q. MissesUntil (is_recovering c.distance_to-count.result q) c.distance_to-count.result c.args.blocks.now q.outstanding.items c.miss_limit-limit.result in
+    let Misses : RetransmissionState → Type 0 = λ q. MissesUntil (is_recovering c.distance_to-count.result q) c.distance_to-count.result c.args.blocks.now q.outstanding.items c.miss_limit-limit.result in
     let newest_is : c.newest_tsn-newest_tsn.result ≡ option_map (tsn_at c.args.self.now.outstanding) c.newest_reported-newest.result = rw (← c.self.view_is) c.newest_tsn-newest_tsn.ensures in
-    let takes : TakesSack c.args.now c.args.cumulative_tsn_ack c.args.a_rwnd c.args.blocks.now c.args.self.now c.settle.new.self = record {
+    let takes : AcknowledgesItems c.args.now c.args.cumulative_tsn_ack c.args.a_rwnd c.args.blocks.now c.args.self.now c.settle.new.self = record {
       limit = c.miss_limit-limit.result;
       missing = rw (← count_is) (subst Misses is_stage (let at_stage : Misses stage = c.miss_limit-limit.ensures in at_stage));
       newest = c.newest_reported-newest.result;

@@ -1,7 +1,7 @@
 use Rattle.std.proofs.Common.{◌∙◌, sym, ap, inl, inr, arith}
 use Rattle.std.proofs.lemmas.Result.{err_from_is_err_and}
-use Rattle.dcsctp_send_outstanding.specs.Items.{marked_items}
-use Rattle.dcsctp_send_retransmission.specs.Queue.{QueueModel}
+use Rattle.dcsctp_machine.specs.transfer.Items.{marked_items}
+use Rattle.dcsctp_machine.specs.transfer.Retransmission.{RetransmissionState}
 use Rattle.dcsctp_send_retransmission.specs.States.{none, more, stage}
 use Rattle.dcsctp_send_retransmission.proofs.HaltingLemmas.{gives_up_fewer}
 use Rattle.dcsctp_send_retransmission.proofs.SendingLemmas.{keeps_refl, keeps_trans, gives_up_keeps}
@@ -39,7 +39,7 @@ pub loop-place-preserved : goal.loop-place-preserved
 loop-place-preserved c =
     let next = rw (sym c.next_marked.ensures.same) at c.in-Some.ensures.some in
     let up = gives_up_fewer c.in-Some.place c.next_marked.new.self c.give_up.new.self c.in_ok-give_up.ensures.ok next.marked in
-    let same = ap (λ (q : QueueModel). marked_items q.outstanding.items) c.next_marked.ensures.same in
+    let same = ap (λ (q : RetransmissionState). marked_items q.outstanding.items) c.next_marked.ensures.same in
     let before = c.loop-place.invariant.1 in (
       keeps_trans c.args.self.now c.next_marked.new.self c.give_up.new.self (rw c.next_marked.ensures.same c.loop-place.invariant.0) (gives_up_keeps c.in-Some.place c.next_marked.new.self c.give_up.new.self c.in_ok-give_up.ensures.ok),
       omega arith,
@@ -58,5 +58,5 @@ pub loop-place-smaller : goal.loop-place-smaller
 loop-place-smaller c =
     let next = rw (sym c.next_marked.ensures.same) at c.in-Some.ensures.some in
     let up = gives_up_fewer c.in-Some.place c.next_marked.new.self c.give_up.new.self c.in_ok-give_up.ensures.ok next.marked in
-    let same = ap (λ (q : QueueModel). marked_items q.outstanding.items) c.next_marked.ensures.same in
+    let same = ap (λ (q : RetransmissionState). marked_items q.outstanding.items) c.next_marked.ensures.same in
     omega arith

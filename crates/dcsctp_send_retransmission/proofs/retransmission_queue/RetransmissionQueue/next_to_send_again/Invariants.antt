@@ -1,5 +1,5 @@
 use Rattle.std.proofs.Common.{◌≤◌, ℕ, List}
-use Rattle.dcsctp_send_outstanding.specs.Items.{marked_items}
+use Rattle.dcsctp_machine.specs.transfer.Items.{marked_items}
 use Rattle.dcsctp_send_retransmission.specs.Sending.{Keeps}
 use Rattle.dcsctp_send_retransmission.specs.States.{Steps, StepAgain, stage}
 use Rattle.dcsctp_send_retransmission.proofs.retransmission_queue.RetransmissionQueue.next_to_send_again.Given as goal

@@ -1,5 +1,5 @@
 use Rattle.std.proofs.Common.{◌≤◌, ◌+◌, length}
-use Rattle.dcsctp_send_outstanding.specs.Items.{marked_items}
+use Rattle.dcsctp_machine.specs.transfer.Items.{marked_items}
 use Rattle.dcsctp_send_retransmission.specs.Sending.{Fills}
 use Rattle.dcsctp_send_retransmission.specs.States.{stage, StepAgain, Steps}
 use Rattle.dcsctp_send_retransmission.proofs.retransmission_queue.RetransmissionQueue.send_again.Given as goal

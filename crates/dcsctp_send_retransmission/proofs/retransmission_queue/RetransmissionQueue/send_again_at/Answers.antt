@@ -1,7 +1,7 @@
 use Rattle.std.proofs.Common.{◌≡◌, ◌+◌, ◌-◌, refl, ap, ◌∙◌, arith}
-use Rattle.dcsctp_send_outstanding.specs.declared.progress.Change.TheVariants.{SendAgain}
-use Rattle.dcsctp_send_outstanding.specs.Items.{size_of}
-use Rattle.dcsctp_send_retransmission.specs.Queue.{QueueModel}
+use Rattle.dcsctp_machine.specs.declared.progress.Change.TheVariants.{SendAgain}
+use Rattle.dcsctp_machine.specs.transfer.Items.{size_of}
+use Rattle.dcsctp_machine.specs.transfer.Retransmission.{RetransmissionState}
 use Rattle.dcsctp_send_retransmission.specs.declared.packet.Packet.{Packet}
 use Rattle.dcsctp_send_retransmission.specs.Sending.{Keeps}
 use Rattle.dcsctp_send_retransmission.proofs.SendingLemmas.{keeps_refl, fills_same, keeps_with, fragments_changed, filled_kept, filled_more}
@@ -10,15 +10,15 @@ use Rattle.dcsctp_send_retransmission.proofs.retransmission_queue.Retransmission
 pub returns-clause-fills : goal.returns-clause-fills
 returns-clause-fills c =
     let size_is : c.size-size.result ≡ size_of c.args.self.now.outstanding.header c.item-item.result.now =
-    c.size-size.ensures ∙ ap (λ h. size_of h c.item-item.result.now) (c.header.ensures.value ∙ ap (λ (q : QueueModel). q.outstanding.header) c.self.view_is) in
+    c.size-size.ensures ∙ ap (λ h. size_of h c.item-item.result.now) (c.header.ensures.value ∙ ap (λ (q : RetransmissionState). q.outstanding.header) c.self.view_is) in
     let after : Packet = record { tsns = c.push.new.self; room = c.args.packet.now.room - c.size-size.result } in
-    let stage : QueueModel = record {
+    let stage : RetransmissionState = record {
       outstanding = c.change_between.new.self;
       congestion = c.self.inside.congestion;
       timer = c.self.inside.timer;
       peer_window = c.self.inside.peer_window;
       partial_reliability = c.self.inside.partial_reliability;
-      interleaving = c.self.inside.interleaving;
+      message_interleaving = c.self.inside.interleaving;
       fast_retransmit_due = c.self.inside.fast_retransmit_due;
       reset_begun = c.self.inside.reset_begun;
       packets_retransmitted = c.self.inside.packets_retransmitted;

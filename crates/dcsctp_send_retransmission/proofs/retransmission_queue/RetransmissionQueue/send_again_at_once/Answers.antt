@@ -1,7 +1,7 @@
 use Rattle.std.proofs.Common.{◌∙◌, true, Ok, sym, refl, ap, inl, inr, arith}
 use Rattle.std.proofs.lemmas.Result.{err_from_is_err_and}
-use Rattle.dcsctp_send_outstanding.specs.Items.{marked_items}
-use Rattle.dcsctp_send_retransmission.specs.Queue.{QueueModel}
+use Rattle.dcsctp_machine.specs.transfer.Items.{marked_items}
+use Rattle.dcsctp_machine.specs.transfer.Retransmission.{RetransmissionState}
 use Rattle.dcsctp_send_retransmission.specs.States.{stage, SendsMarked, none}
 use Rattle.dcsctp_send_retransmission.proofs.HaltingLemmas.{goes_again, waits_for_room}
 use Rattle.dcsctp_send_retransmission.proofs.SendingLemmas.{fills_none, fills_trans, keeps_refl}
@@ -41,13 +41,13 @@ loop-place-preserved-then-place-eq0 c =
           goes_at (Ok true) c.args.now c.in-Some.place (SendsMarked c.args.now) (stage c.args.self.now waiting events c.args.packet.now.tsns.items c.args.packet.now.room) c.next_marked.new.self c.send_again_at.new.self waiting events c.loop-place.packet c.send_again_at.new.packet next (λ m n is one. one)
           (rw c.next_marked.ensures.same (c.loop-place.invariant.1 waiting events)) stays sends tt,
       sends_first_here c.loop-place.restarts _ c.in-Some.place c.args.self.now.outstanding.items c.next_marked.new.self.outstanding.items c.send_again_at.new.self.outstanding.items c.if-place-eq0.true next
-          (ap (λ (q : QueueModel). q.outstanding.items) sends.1) (rw c.next_marked.ensures.same c.loop-place.invariant.2),
+          (ap (λ (q : RetransmissionState). q.outstanding.items) sends.1) (rw c.next_marked.ensures.same c.loop-place.invariant.2),
     )
 
 pub loop-place-smaller : goal.loop-place-smaller
 loop-place-smaller c =
     let next = rw (sym c.next_marked.ensures.same) at c.in-Some.ensures.some in
-    let same = ap (λ (q : QueueModel). marked_items q.outstanding.items) c.next_marked.ensures.same in
+    let same = ap (λ (q : RetransmissionState). marked_items q.outstanding.items) c.next_marked.ensures.same in
     let again = goes_again (Ok true) c.in-Some.place c.next_marked.new.self c.next_marked.new.self c.send_again_at.new.self c.loop-place.packet.room c.send_again_at.new.packet.room (omega arith) next
     (rw c.if-not-branch.false at c.in_ok-send_again_at.ensures.again) in
     omega arith
@@ -62,5 +62,5 @@ loop-place-preserved c =
           goes_at (Ok true) c.args.now c.in-Some.place (SendsMarked c.args.now) (stage c.args.self.now waiting events c.args.packet.now.tsns.items c.args.packet.now.room) c.next_marked.new.self c.send_again_at.new.self waiting events c.loop-place.packet c.send_again_at.new.packet next (λ m n is one. one)
           (rw c.next_marked.ensures.same (c.loop-place.invariant.1 waiting events)) stays sends tt,
       sends_first_later c.loop-place.restarts _ c.in-Some.place c.args.self.now.outstanding.items c.next_marked.new.self.outstanding.items c.send_again_at.new.self.outstanding.items c.if-place-eq0.false
-          (ap (λ (q : QueueModel). q.outstanding.items) sends.1) (rw c.next_marked.ensures.same c.loop-place.invariant.2),
+          (ap (λ (q : RetransmissionState). q.outstanding.items) sends.1) (rw c.next_marked.ensures.same c.loop-place.invariant.2),
     )

@@ -1,6 +1,6 @@
 use Rattle.std.proofs.Common.{inl, inr, ap, sym, ◌∙◌}
 use Rattle.std.proofs.lemmas.Result.{err_from_is_err_and}
-use Rattle.dcsctp_send_retransmission.specs.Queue.{may_send}
+use Rattle.dcsctp_machine.specs.transfer.Retransmission.{can_send}
 use Rattle.dcsctp_send_retransmission.specs.States.{stage, StepAgain}
 use Rattle.dcsctp_send_retransmission.proofs.StatesLemmas.{goes_at}
 use Rattle.dcsctp_send_retransmission.proofs.SendingLemmas.{fills_trans, fills_none}
@@ -53,6 +53,6 @@ returns-else-not-can_send_data-clause-steps c =
     let next = rw c.in-Some.is at c.in_ok-next_to_send_again.ensures.found in
     let stays = rw c.in-Some.is at c.in_ok-next_to_send_again.ensures.stays in
     let allowed = sym c.can_send_data.ensures ∙ c.if-not-can_send_data.false in
-    goes_at c.send_again_at.result c.args.now c.in-Some.place (StepAgain c.args.now) (stage c.args.self.now c.args.queue.now c.args.events.now c.args.packet.now.tsns.items c.args.packet.now.room) c.next_to_send_again.new.self c.send_again_at.new.self c.next_to_send_again.new.queue c.next_to_send_again.new.events c.args.packet.now c.send_again_at.new.packet next (λ m n is sends. inl (ap may_send is ∙ allowed, sends))
+    goes_at c.send_again_at.result c.args.now c.in-Some.place (StepAgain c.args.now) (stage c.args.self.now c.args.queue.now c.args.events.now c.args.packet.now.tsns.items c.args.packet.now.room) c.next_to_send_again.new.self c.send_again_at.new.self c.next_to_send_again.new.queue c.next_to_send_again.new.events c.args.packet.now c.send_again_at.new.packet next (λ m n is sends. inl (ap can_send is ∙ allowed, sends))
     (c.in_ok-next_to_send_again.ensures.steps c.args.packet.now.tsns.items c.args.packet.now.room) (stays next.marked.item next.marked.at)
     (c.send_again_at.ensures.sends next.marked.item next.marked.at) c.send_again_at.ensures.err

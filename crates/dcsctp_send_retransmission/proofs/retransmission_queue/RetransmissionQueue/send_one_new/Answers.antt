@@ -1,8 +1,8 @@
 use Rattle.std.proofs.Common.{ℕ, inl, inr, ◌≡◌, ◌-◌, ◌*◌, ◌/◌, min, [], ◌∷◌, ◌++◌, ap, ◌∙◌, false, refl, sym, subst}
 use Rattle.dcsctp_send_retransmission.specs.declared.packet.Packet.{Packet}
-use Rattle.dcsctp_send_retransmission.specs.Queue.{QueueModel}
+use Rattle.dcsctp_machine.specs.transfer.Retransmission.{RetransmissionState}
 use Rattle.dcsctp_send_retransmission.specs.Sending.{Keeps, Fills}
-use Rattle.dcsctp_send_outstanding.specs.Outstanding.{OutstandingModel}
+use Rattle.dcsctp_machine.specs.transfer.Outstanding.{OutstandingState}
 use Rattle.dcsctp_send_outstanding.specs.Fresh.{SendsFresh}
 use Rattle.dcsctp_send_queue.specs.Calls.{StopsTaking}
 use Rattle.dcsctp_send_streams.specs.Telling.{contents}
@@ -19,13 +19,13 @@ returns-in_err-reserve-clause-fills c =
 
 pub returns-in_err-sent-clause-fills : goal.returns-in_err-sent-clause-fills
 returns-in_err-sent-clause-fills c =
-    let stage : QueueModel = record {
+    let stage : RetransmissionState = record {
       outstanding = c.send_next.new.self;
       congestion = c.self.inside.congestion;
       timer = c.self.inside.timer;
       peer_window = c.self.inside.peer_window;
       partial_reliability = c.self.inside.partial_reliability;
-      interleaving = c.self.inside.interleaving;
+      message_interleaving = c.self.inside.interleaving;
       fast_retransmit_due = c.self.inside.fast_retransmit_due;
       reset_begun = c.self.inside.reset_begun;
       packets_retransmitted = c.self.inside.packets_retransmitted;
@@ -36,13 +36,13 @@ returns-in_err-sent-clause-fills c =
 
 pub returns-in-None-clause-fills : goal.returns-in-None-clause-fills
 returns-in-None-clause-fills c =
-    let stage : QueueModel = record {
+    let stage : RetransmissionState = record {
       outstanding = c.send_next.new.self;
       congestion = c.self.inside.congestion;
       timer = c.self.inside.timer;
       peer_window = c.self.inside.peer_window;
       partial_reliability = c.self.inside.partial_reliability;
-      interleaving = c.self.inside.interleaving;
+      message_interleaving = c.self.inside.interleaving;
       fast_retransmit_due = c.self.inside.fast_retransmit_due;
       reset_begun = c.self.inside.reset_begun;
       packets_retransmitted = c.self.inside.packets_retransmitted;
@@ -54,13 +54,13 @@ returns-in-None-clause-fills c =
 
 pub returns-in_ok-push-in-Some-clause-fills : goal.returns-in_ok-push-in-Some-clause-fills
 returns-in_ok-push-in-Some-clause-fills c =
-    let old : QueueModel = record {
+    let old : RetransmissionState = record {
       outstanding = c.self.inside.outstanding;
       congestion = c.self.inside.congestion;
       timer = c.self.inside.timer;
       peer_window = c.self.inside.peer_window;
       partial_reliability = c.self.inside.partial_reliability;
-      interleaving = c.self.inside.interleaving;
+      message_interleaving = c.self.inside.interleaving;
       fast_retransmit_due = c.self.inside.fast_retransmit_due;
       reset_begun = c.self.inside.reset_begun;
       packets_retransmitted = c.self.inside.packets_retransmitted;
@@ -68,21 +68,21 @@ returns-in_ok-push-in-Some-clause-fills c =
     } in
     let after : Packet = record { tsns = c.push.new.self; room = c.saturating_sub-packet.result } in
     let told = rw c.in-Some.is at c.in_ok-sent.ensures.tries in
-    let M : QueueModel → Type 0 = λ q. c.args.max ≡ (min c.args.packet.now.room 65532 - q.outstanding.header) / 4 * 4 in
+    let M : RetransmissionState → Type 0 = λ q. c.args.max ≡ (min c.args.packet.now.room 65532 - q.outstanding.header) / 4 * 4 in
     let tsns : after.tsns.items ≡ c.args.packet.now.tsns.items ++ c.in-Some.tsn ∷ [] = rw (c.in_ok-push-in-Some.ensures.items, c.in_ok-reserve.ensures.items) refl in
     let both = sends_fills c.args.now c.args.max old c.args.packet.now after c.len-place.result c.size_at-size.result c.in-Some.tsn c.send_next.new.self false told c.len-place.ensures.value c.size_at-size.ensures (subst M (sym c.self.view_is) c.requires.max.1) c.requires.max.0 tsns c.saturating_sub-packet.ensures in
-    let P : QueueModel → Type 0 = λ q. Fills q c.args.packet.now (with_outstanding c.send_next.new.self false old) after in
+    let P : RetransmissionState → Type 0 = λ q. Fills q c.args.packet.now (with_outstanding c.send_next.new.self false old) after in
     subst P c.self.view_is both.0
 
 pub returns-in_ok-push-in-Some-clause-less : goal.returns-in_ok-push-in-Some-clause-less
 returns-in_ok-push-in-Some-clause-less c = λ is_true.
-    let old : QueueModel = record {
+    let old : RetransmissionState = record {
       outstanding = c.self.inside.outstanding;
       congestion = c.self.inside.congestion;
       timer = c.self.inside.timer;
       peer_window = c.self.inside.peer_window;
       partial_reliability = c.self.inside.partial_reliability;
-      interleaving = c.self.inside.interleaving;
+      message_interleaving = c.self.inside.interleaving;
       fast_retransmit_due = c.self.inside.fast_retransmit_due;
       reset_begun = c.self.inside.reset_begun;
       packets_retransmitted = c.self.inside.packets_retransmitted;
@@ -90,7 +90,7 @@ returns-in_ok-push-in-Some-clause-less c = λ is_true.
     } in
     let after : Packet = record { tsns = c.push.new.self; room = c.saturating_sub-packet.result } in
     let told = rw c.in-Some.is at c.in_ok-sent.ensures.tries in
-    let M : QueueModel → Type 0 = λ q. c.args.max ≡ (min c.args.packet.now.room 65532 - q.outstanding.header) / 4 * 4 in
+    let M : RetransmissionState → Type 0 = λ q. c.args.max ≡ (min c.args.packet.now.room 65532 - q.outstanding.header) / 4 * 4 in
     let tsns : after.tsns.items ≡ c.args.packet.now.tsns.items ++ c.in-Some.tsn ∷ [] = rw (c.in_ok-push-in-Some.ensures.items, c.in_ok-reserve.ensures.items) refl in
     let both = sends_fills c.args.now c.args.max old c.args.packet.now after c.len-place.result c.size_at-size.result c.in-Some.tsn c.send_next.new.self false told c.len-place.ensures.value c.size_at-size.ensures (subst M (sym c.self.view_is) c.requires.max.1) c.requires.max.0 tsns c.saturating_sub-packet.ensures in
     both.1
@@ -98,14 +98,14 @@ returns-in_ok-push-in-Some-clause-less c = λ is_true.
 pub returns-in-None-clause-fresh : goal.returns-in-None-clause-fresh
 returns-in-None-clause-fresh c =
     let same = rw c.in-None.is at c.in_ok-sent.ensures.tries in
-    fresh_none c.args.now c.args.self.now.outstanding c.send_next.new.self c.args.packet.now.tsns.items c.reserve.new.self.items (same ∙ ap (λ (q : QueueModel). q.outstanding) c.self.view_is) c.in_ok-reserve.ensures.items
+    fresh_none c.args.now c.args.self.now.outstanding c.send_next.new.self c.args.packet.now.tsns.items c.reserve.new.self.items (same ∙ ap (λ (q : RetransmissionState). q.outstanding) c.self.view_is) c.in_ok-reserve.ensures.items
 
 pub returns-in_ok-push-in-Some-clause-fresh : goal.returns-in_ok-push-in-Some-clause-fresh
 returns-in_ok-push-in-Some-clause-fresh c =
     let told = rw c.in-Some.is at c.in_ok-sent.ensures.tries in
     let tsns : c.push.new.self.items ≡ c.args.packet.now.tsns.items ++ c.in-Some.tsn ∷ [] = rw (c.in_ok-push-in-Some.ensures.items, c.in_ok-reserve.ensures.items) refl in
-    let P : OutstandingModel → Type 0 = λ m. SendsFresh c.args.now m c.send_next.new.self c.args.packet.now.tsns.items c.push.new.self.items in
-    subst P (ap (λ (q : QueueModel). q.outstanding) c.self.view_is) (fresh_one c.args.now c.args.max c.self.inside.outstanding c.send_next.new.self c.in-Some.tsn c.args.packet.now.tsns.items c.push.new.self.items told tsns)
+    let P : OutstandingState → Type 0 = λ m. SendsFresh c.args.now m c.send_next.new.self c.args.packet.now.tsns.items c.push.new.self.items in
+    subst P (ap (λ (q : RetransmissionState). q.outstanding) c.self.view_is) (fresh_one c.args.now c.args.max c.self.inside.outstanding c.send_next.new.self c.in-Some.tsn c.args.packet.now.tsns.items c.push.new.self.items told tsns)
 
 pub returns-in_err-reserve-clause-steps : goal.returns-in_err-reserve-clause-steps
 returns-in_err-reserve-clause-steps c = λ none_marked may.
@@ -133,7 +133,7 @@ returns-in-None-clause-steps c = λ none_marked may.
 
 pub returns-in_ok-push-in-Some-clause-steps : goal.returns-in_ok-push-in-Some-clause-steps
 returns-in_ok-push-in-Some-clause-steps c =
-    let M : QueueModel → Type 0 = λ q. c.args.max ≡ (min c.args.packet.now.room 65532 - q.outstanding.header) / 4 * 4 in
+    let M : RetransmissionState → Type 0 = λ q. c.args.max ≡ (min c.args.packet.now.room 65532 - q.outstanding.header) / 4 * 4 in
     let max_is = subst M (sym c.self.view_is) c.requires.max.1 in
     rw (← c.self.view_is) (λ none_marked may.
     let told = rw c.in-Some.is at c.in_ok-sent.ensures.takes in

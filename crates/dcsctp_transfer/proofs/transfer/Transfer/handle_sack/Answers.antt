@@ -1,47 +1,55 @@
-use Rattle.std.proofs.Common.{◌∙◌, ap, take}
+use Rattle.std.proofs.Common.{◌∙◌, ap, sym, subst, List}
+use Rattle.std.specs.Option.{option_map}
+use Rattle.std.specs.Duration.{as_nanos}
 use Rattle.std.proofs.lemmas.Result.{err_from_is_err_and}
-use Rattle.dcsctp_machine.specs.transfer.Transfer.{RetransmissionState, Transfer}
-use Rattle.dcsctp_send_streams.specs.Telling.{contents}
-use Rattle.dcsctp_send_outstanding.specs.Outstanding.{acknowledged_by}
-use Rattle.dcsctp_send_retransmission.specs.Queue.{retransmission_state}
-use Rattle.dcsctp_transfer.proofs.SacksLemmas.{sack_valid, sack_invalid, told_if_valid, tells_delivered, tells_some, sack_keeps, told_trip, takes_sack, has_shown}
+use Rattle.dcsctp_wire.specs.CleanBlocks.{blocks_in, AreCleaned}
+use Rattle.dcsctp_wire.specs.declared.chunk.sack.GapAckBlock.{GapAckBlock}
+use Rattle.dcsctp_machine.specs.transfer.Acknowledging.{has_acknowledged}
+use Rattle.dcsctp_machine.specs.transfer.Retransmission.{RetransmissionState}
+use Rattle.dcsctp_machine.specs.transfer.Transfer.{Transfer}
+use Rattle.dcsctp_transfer.proofs.SacksLemmas.{is_valid, is_invalid, told_if_valid, timed_acknowledges}
 use Rattle.dcsctp_transfer.proofs.transfer.Transfer.handle_sack.Goals as goal
 
 pub returns-in_err-handled : goal.returns-in_err-handled
 returns-in_err-handled c =
-    let queue = c.self.inside.retransmission_queue in
+    let inside = c.self.inside in
     let does = c.in_err-handled.ensures.turn in
-    let old_is = ap (λ (t : Transfer). t.retransmission) c.self.view_is in
-    let valid = sack_valid c.args.self.now queue c.args.sack.now.cumulative_tsn_ack old_is c.in_err-handled.ensures.start does.0 in
-    rw (err_from_is_err_and c.from_residual-in_err-handled.result c.from_residual-in_err-handled.ensures.1).1 (
-      ap (λ (t : Transfer). record t { retransmission = retransmission_state c.handle_sack.new.self }) c.self.view_is
-          ∙ ap (λ (r : RetransmissionState). record c.args.self.now { retransmission = r }) (ap retransmission_state does.1 ∙ ap (λ (t : Transfer). t.retransmission) c.self.view_is),
-      tells_some (take (acknowledged_by queue.outstanding c.args.sack.now.cumulative_tsn_ack) queue.outstanding.items) c.args.events.now c.handle_sack.new.events does.2,
+    let valid = is_valid inside.retransmission_queue c.args.sack.now.cumulative_tsn_ack does.0 in
+    rw (err_from_is_err_and c.from_residual-in_err-handled.result c.from_residual-in_err-handled.ensures.1).1
+    (rw (← c.self.view_is) (
+      ap (λ (queue : RetransmissionState). let t : Transfer = record { retransmission = queue; timeout = inside.rto; tracker = inside.data_tracker; reassembly = inside.reassembly_queue } in t) does.1,
+      does.2,
       λ isnt. told_if_valid _ valid isnt,
-    )
+    ))
 
 pub returns-in-Invalid : goal.returns-in-Invalid
 returns-in-Invalid c =
-    let queue = c.self.inside.retransmission_queue in
+    let inside = c.self.inside in
     let does = rw c.in-Invalid.is at c.in_ok-handled.ensures.turn in
-    let old_is = ap (λ (t : Transfer). t.retransmission) c.self.view_is in (
-      sack_invalid c.args.self.now queue c.args.sack.now.cumulative_tsn_ack old_is c.in_ok-handled.ensures.start does.0,
-      ap (λ (t : Transfer). record t { retransmission = retransmission_state c.handle_sack.new.self }) c.self.view_is
-          ∙ ap (λ (r : RetransmissionState). record c.args.self.now { retransmission = r }) (ap retransmission_state does.1 ∙ old_is),
-      ap contents does.2,
+    rw (← c.self.view_is) (
+      is_invalid inside.retransmission_queue c.args.sack.now.cumulative_tsn_ack does.0,
+      ap (λ (queue : RetransmissionState). let t : Transfer = record { retransmission = queue; timeout = inside.rto; tracker = inside.data_tracker; reassembly = inside.reassembly_queue } in t) does.1,
+      does.2,
     )
 
 pub returns : goal.returns
 returns c =
-    let queue = c.self.inside.retransmission_queue in
-    let after = c.handle_sack.new.self in
+    let inside = c.self.inside in
     let does = rw c.in-Valid.is at c.in_ok-handled.ensures.turn in
-    let old_is = ap (λ (t : Transfer). t.retransmission) c.self.view_is in
-    let between_is = ap (λ (t : Transfer). record t { retransmission = retransmission_state c.handle_sack.new.self }) c.self.view_is in
-    let told = told_trip c.in-Valid.rtt _ c.observe_round_trip.new.self c.observe_round_trip.ensures in
-    let keeps = sack_keeps c.args.now c.args.sack.now.cumulative_tsn_ack c.args.sack.now.a_rwnd c.deref.result.now queue after does.0 does.1 in (
-      sack_valid c.args.self.now queue c.args.sack.now.cumulative_tsn_ack old_is c.in_ok-handled.ensures.start does.0,
-      takes_sack c.args.self.now _ c.observe_round_trip.new.self queue after old_is between_is told keeps,
-      tells_delivered (take (acknowledged_by queue.outstanding c.args.sack.now.cumulative_tsn_ack) queue.outstanding.items) c.args.events.now c.handle_sack.new.events does.2,
-      has_shown c.args.self.now _ c.observe_round_trip.new.self queue after c.in-Valid.reset_error_counter old_is between_is told does.4,
+    let trip = option_map as_nanos c.in-Valid.rtt in
+    rw (← c.self.view_is) (
+      is_valid inside.retransmission_queue c.args.sack.now.cumulative_tsn_ack does.0,
+      record {
+        blocks = c.deref.result.now;
+        cleaned = subst (λ (blocks : List GapAckBlock). AreCleaned (blocks_in c.args.sack.now.gap_ack_blocks.now) blocks) (sym c.deref.ensures.value) c.in_ok-blocks.ensures;
+        left = c.handle_sack.new.self;
+        acknowledges = does.1;
+        round_trip = trip;
+        measures = does.3;
+        is = c.observe_round_trip.ensures;
+      },
+      does.2,
+      does.4
+          ∙ (sym (timed_acknowledges trip inside.retransmission_queue _)
+          ∙ ap (λ (t : Transfer). has_acknowledged inside.retransmission_queue t.retransmission) (sym c.observe_round_trip.ensures)),
     )

@@ -1,8 +1,7 @@
 //! How far an item is, and what changes that.
 
-ghost use Rattle.std.specs.Prelude.{◌≡◌, false, None};
-ghost use Rattle.dcsctp_send_outstanding.specs.declared.progress.ItemState.TheVariants.{InFlight};
-ghost use Rattle.dcsctp_send_outstanding.specs.Progress.{is_in_flight, is_marked, is_unacknowledged, is_abandoned, sent_again, has_come_to, tells_of, missed, missed_where, marked, acknowledged, changed, is_settled, leaves_settled, is_left_by, is_unsettled_by};
+ghost use Rattle.std.specs.Prelude.{◌≡◌};
+ghost use Rattle.dcsctp_machine.specs.transfer.Progress.{is_in_flight, is_marked, is_unacknowledged, is_abandoned, sent_again, has_come_to, tells_of, missed, missed_where, marked, acknowledged, changed, just_sent};
 
 /// How far an item is.
 #[derive(Clone, Copy, Debug, PartialEq, Eq)]
@@ -57,18 +56,6 @@ pub enum Change {
 
     /// Its message is abandoned.
     Abandon,
-}
-
-impl Change {
-    /// Does it leave what is settled as it is?
-    pub fn leaves_settled(self) -> bool
-        ensures { result ≡ leaves_settled self }
-    {
-        match self {
-            Change::Miss(_) | Change::Mark | Change::Acknowledge => true,
-            Change::SendAgain(_) | Change::Abandon => false,
-        }
-    }
 }
 
 impl ItemState {
@@ -136,13 +123,7 @@ fn tells_of(sent_before: Option<u32>, newest: Option<u32>) -> bool
 impl Progress {
     /// That of an item that was just sent.
     pub fn new() -> Progress
-        ensures { result ≡ record {
-          state = InFlight;
-          was_acknowledged = false;
-          times_sent_again = 0;
-          sent_before = None;
-          misses = 0;
-        } }
+        ensures { result ≡ just_sent }
     {
         Progress {
             state: ItemState::InFlight,
@@ -253,45 +234,6 @@ impl Progress {
             Change::Mark => self.marked(),
             Change::Acknowledge => self.acknowledged(),
             Change::Abandon => self.in_state(ItemState::Abandoned),
-        }
-    }
-
-    /// Has a SACK acknowledged it, and doesn't it wait to be acknowledged again?
-    pub fn is_settled(self) -> bool
-        ensures { result ≡ is_settled self }
-    {
-        if self.state.is_unacknowledged() {
-            false
-        } else {
-            self.was_acknowledged
-        }
-    }
-
-    /// Does the change leave it as it is? Not each such change is known.
-    pub fn is_left_by(self, change: Change) -> bool
-        ensures { result ≡ is_left_by change self }
-    {
-        match change {
-            Change::Miss(_) => {
-                if self.state.is_in_flight() {
-                    3 <= self.misses
-                } else {
-                    true
-                }
-            }
-            Change::Mark => !self.state.is_in_flight(),
-            Change::Acknowledge => self.is_settled(),
-            Change::SendAgain(_) | Change::Abandon => false,
-        }
-    }
-
-    /// Is it settled, and not after the change?
-    pub fn is_unsettled_by(self, change: Change) -> bool
-        ensures { result ≡ is_unsettled_by change self }
-    {
-        match change {
-            Change::SendAgain(_) => self.is_settled(),
-            Change::Miss(_) | Change::Mark | Change::Acknowledge | Change::Abandon => false,
         }
     }
 }

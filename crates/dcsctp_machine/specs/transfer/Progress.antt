@@ -1,10 +1,10 @@
 -- How far an item is, and what changes that (RFC 9260, section 7.2.4; RFC 3758, section 3.5).
-use Rattle.std.specs.Prelude.{ℕ, ◌+◌, ◌-◌, ◌%◌, ◌^◌, ◌==◌, min, not, Bool, true, false, Option, None, Some, nat_lt, if◌then◌else◌}
-use Rattle.dcsctp_send_outstanding.specs.declared.progress.ItemState.{ItemState}
-use Rattle.dcsctp_send_outstanding.specs.declared.progress.ItemState.TheVariants.{InFlight, Marked, Acknowledged, Abandoned}
-use Rattle.dcsctp_send_outstanding.specs.declared.progress.Progress.{Progress}
-use Rattle.dcsctp_send_outstanding.specs.declared.progress.Change.{Change}
-use Rattle.dcsctp_send_outstanding.specs.declared.progress.Change.TheVariants.{SendAgain, Miss, Mark, Acknowledge, Abandon}
+use Rattle.std.specs.Prelude.{ℕ, ◌+◌, ◌-◌, ◌%◌, ◌^◌, ◌==◌, min, Bool, true, false, Option, None, Some, nat_lt, if◌then◌else◌}
+use Rattle.dcsctp_machine.specs.declared.progress.ItemState.{ItemState}
+use Rattle.dcsctp_machine.specs.declared.progress.ItemState.TheVariants.{InFlight, Marked, Acknowledged, Abandoned}
+use Rattle.dcsctp_machine.specs.declared.progress.Progress.{Progress}
+use Rattle.dcsctp_machine.specs.declared.progress.Change.{Change}
+use Rattle.dcsctp_machine.specs.declared.progress.Change.TheVariants.{SendAgain, Miss, Mark, Acknowledge, Abandon}
 
 abbrev pub is_in_flight : ItemState → Bool
 is_in_flight InFlight = true
@@ -90,30 +90,6 @@ changed Mark progress = marked progress.state progress
 changed Acknowledge progress = acknowledged progress.state progress
 changed Abandon progress = record progress { state = Abandoned }
 
--- A SACK has acknowledged it, and it doesn't wait to be acknowledged again.
-abbrev pub is_settled : Progress → Bool
-is_settled progress = if is_unacknowledged progress.state then false else progress.was_acknowledged
-
--- the changes that leave what is settled as it is
-abbrev pub leaves_settled : Change → Bool
-leaves_settled (SendAgain next) = false
-leaves_settled (Miss newest) = true
-leaves_settled Mark = true
-leaves_settled Acknowledge = true
-leaves_settled Abandon = false
-
--- The change is known to leave it as it is.
-abbrev pub is_left_by : Change → Progress → Bool
-is_left_by (SendAgain next) progress = false
-is_left_by (Miss newest) progress = if is_in_flight progress.state then not (nat_lt progress.misses 3) else true
-is_left_by Mark progress = not (is_in_flight progress.state)
-is_left_by Acknowledge progress = is_settled progress
-is_left_by Abandon progress = false
-
--- what is settled is so no more after the change
-abbrev pub is_unsettled_by : Change → Progress → Bool
-is_unsettled_by (SendAgain next) progress = is_settled progress
-is_unsettled_by (Miss newest) progress = false
-is_unsettled_by Mark progress = false
-is_unsettled_by Acknowledge progress = false
-is_unsettled_by Abandon progress = false
+-- that of an item that was just sent
+abbrev pub just_sent : Progress
+just_sent = record { state = InFlight; was_acknowledged = false; times_sent_again = 0; sent_before = None; misses = 0 }

@@ -2,7 +2,6 @@
 -- whole nanoseconds.
 use Rattle.std.specs.Prelude.{ℕ, ◌+◌, ◌-◌, ◌*◌, ◌/◌, min, max, Option, None, Some, nat_lt, if◌then◌else◌}
 use Rattle.std.specs.Duration.{as_nanos}
-use Rattle.dcsctp_machine.specs.transfer.Transfer.{TimeoutState}
 use Rattle.dcsctp_machine.specs.declared.options.Options.{Options}
 
 -- the bounds that the options set
@@ -14,20 +13,18 @@ pub record TimeoutBounds : Type 0 where
   -- the least that counts for four variances
   pub min_rtt_variance : ℕ
 
-pub record TimeoutModel : Type 0 where
+pub record TimeoutState : Type 0 where
+  -- the retransmission timeout
   pub rto : ℕ
+  -- the smoothed round trip
   pub srtt : ℕ
   -- None: no round trip was measured yet
   pub variance : Option ℕ
   pub bounds : TimeoutBounds
 
--- what a user sees of it
-abbrev pub timeout_state : TimeoutModel → TimeoutState
-timeout_state timeout = record { rto = timeout.rto; srtt = timeout.srtt }
-
 -- before any round trip was measured: neither duration is cut
-abbrev pub unmeasured_timeout : Options → TimeoutModel
-unmeasured_timeout options =
+abbrev pub new_timeout : Options → TimeoutState
+new_timeout options =
     record {
       rto = as_nanos options.rto_initial;
       srtt = as_nanos options.rto_initial;
@@ -59,12 +56,12 @@ abbrev pub timeout_for : TimeoutBounds → ℕ → ℕ → ℕ
 timeout_for bounds srtt variance = min (max (srtt + max (4 * variance) bounds.min_rtt_variance) bounds.rto_min) bounds.rto_max
 
 -- the timeout with this smoothed round trip and variance
-abbrev pub measured : TimeoutModel → ℕ → ℕ → TimeoutModel
+abbrev pub measured : TimeoutState → ℕ → ℕ → TimeoutState
 measured timeout srtt variance =
     record timeout { rto = timeout_for timeout.bounds srtt variance; srtt = srtt; variance = Some variance }
 
 -- one more round trip
-abbrev pub timeout_after : ℕ → TimeoutModel → TimeoutModel
+abbrev pub timeout_after : ℕ → TimeoutState → TimeoutState
 timeout_after rtt timeout =
     if nat_lt timeout.bounds.rtt_max rtt then timeout
     else measured timeout (smoothed timeout.variance timeout.srtt rtt) (variance_with timeout.variance timeout.srtt rtt)

@@ -1,9 +1,9 @@
 -- The round trip that a SACK measures (RFC 9260, section 6.3.1, rule C5): that of an item which was sent once.
 use Rattle.std.specs.Prelude.{◌≡◌, ℕ, ◌-◌, ◌==◌, ◌&&◌, not, Option, None, Some, List, slice_get, if◌then◌else◌}
 use Rattle.dcsctp_wire.specs.declared.chunk.sack.GapAckBlock.{GapAckBlock}
-use Rattle.dcsctp_send_outstanding.specs.declared.item.Item.{Item}
-use Rattle.dcsctp_send_outstanding.specs.Progress.{is_marked}
-use Rattle.dcsctp_send_outstanding.specs.Reports.{IsNewlyAcknowledged, IsLast}
+use Rattle.dcsctp_machine.specs.transfer.Items.{Item}
+use Rattle.dcsctp_machine.specs.transfer.Progress.{is_marked}
+use Rattle.dcsctp_machine.specs.transfer.Reports.{IsNewlyAcknowledged, IsLast}
 
 -- The round trip of an item that is acknowledged now: none if it was sent again, or was to be.
 abbrev pub round_trip_of : ℕ → Item → Option ℕ

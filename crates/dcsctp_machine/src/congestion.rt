@@ -2,9 +2,9 @@
 //! 7.2.4). Pure arithmetic, in bytes.
 
 ghost use Rattle.std.specs.Prelude.{◌≡◌};
-ghost use Rattle.dcsctp_send_retransmission.specs.Congestion.{is_passed};
+ghost use Rattle.dcsctp_machine.specs.transfer.Congestion.{is_passed};
 
-use dcsctp_machine::Options;
+use crate::options::Options;
 
 /// What a SACK says for the congestion window.
 #[derive(Clone, Copy, Debug)]
@@ -53,7 +53,7 @@ fn is_passed(cumulative: u32, tsn: u32) -> bool
 
 impl CongestionControl {
     ghost use Rattle.std.specs.Prelude.{is_some};
-    ghost use Rattle.dcsctp_send_retransmission.specs.Congestion.{new_congestion, after_timeout, after_loss, exit_after, after_acknowledgement, ssthresh_after_loss, slow_start, avoidance};
+    ghost use Rattle.dcsctp_machine.specs.transfer.Congestion.{new_congestion, after_timeout, after_loss, exit_after, after_acknowledgement, ssthresh_after_loss, slow_start, avoidance};
 
     /// Nothing was sent yet. The threshold is at first the peer's window, `a_rwnd`.
     pub fn new(options: &Options, a_rwnd: u32) -> CongestionControl

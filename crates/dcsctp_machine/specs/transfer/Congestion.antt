@@ -2,8 +2,8 @@
 -- 64 bits.
 use Rattle.std.specs.Prelude.{ℕ, ◌+◌, ◌-◌, ◌*◌, ◌/◌, ◌%◌, ◌^◌, min, max, Bool, Option, None, Some, nat_lt, nat_le, if◌then◌else◌}
 use Rattle.dcsctp_machine.specs.declared.options.Options.{Options}
-use Rattle.dcsctp_send_retransmission.specs.declared.congestion.Acknowledged.{Acknowledged}
-use Rattle.dcsctp_send_retransmission.specs.declared.congestion.CongestionControl.{CongestionControl}
+use Rattle.dcsctp_machine.specs.declared.congestion.Acknowledged.{Acknowledged}
+use Rattle.dcsctp_machine.specs.declared.congestion.CongestionControl.{CongestionControl}
 
 -- no greater than a number of 64 bits can be
 abbrev pub capped : ℕ → ℕ

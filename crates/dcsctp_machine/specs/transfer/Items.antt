@@ -1,8 +1,20 @@
--- Items that were sent, and sums over them.
-use Rattle.std.specs.Prelude.{false, not, ℕ, zero, suc, ◌+◌, ◌*◌, ◌/◌, min, Bool, List, [], ◌∷◌, sum_by, vec_len, if◌then◌else◌}
-use Rattle.dcsctp_send_outstanding.specs.declared.item.Item.{Item}
-use Rattle.dcsctp_send_outstanding.specs.declared.progress.Change.{Change}
-use Rattle.dcsctp_send_outstanding.specs.Progress.{is_in_flight, is_marked, is_unacknowledged, is_abandoned, changed}
+-- Items that were sent, one under each TSN, and sums over them.
+use Rattle.std.specs.Prelude.{false, not, ℕ, zero, suc, ◌+◌, ◌*◌, ◌/◌, min, Bool, List, [], ◌∷◌, length, sum_by, if◌then◌else◌}
+use Rattle.dcsctp_machine.specs.declared.progress.Change.{Change}
+use Rattle.dcsctp_machine.specs.declared.progress.Progress.{Progress}
+use Rattle.dcsctp_machine.specs.transfer.Sending.{Fragment}
+use Rattle.dcsctp_machine.specs.transfer.Progress.{is_in_flight, is_marked, is_unacknowledged, is_abandoned, changed}
+
+-- what was sent under one TSN
+pub record Item : Type 0 where
+  -- what its chunk says; without a payload it stands for the end of an abandoned message
+  pub fragment : Fragment
+  -- how far it is
+  pub progress : Progress
+  -- when it was sent first, in nanoseconds
+  pub sent_at : ℕ
+  -- Were streams reset before it was sent? No FORWARD-TSN reaches across that.
+  pub begins_after_reset : Bool
 
 -- the number if the test holds, else nothing
 abbrev pub counted : Bool → ℕ → ℕ
@@ -15,7 +27,7 @@ chunk_size header len = header + (min len 65535 + 3) / 4 * 4
 
 -- how long the item's chunk is
 abbrev pub size_of : ℕ → Item → ℕ
-size_of header item = chunk_size header (vec_len item.fragment.payload)
+size_of header item = chunk_size header (length item.fragment.payload)
 
 -- what an item adds to each sum
 abbrev pub in_flight_size : ℕ → Item → ℕ
@@ -65,10 +77,6 @@ changed_between change zero (suc end) (item ∷ items) = changed_item change ite
 changed_between change (suc start) zero items = items
 changed_between change (suc start) (suc end) [] = []
 changed_between change (suc start) (suc end) (item ∷ items) = item ∷ changed_between change start end items
-
--- the place before which no item is marked, once the state of one was changed
-abbrev pub cursor_after : Bool → ℕ → ℕ → ℕ
-cursor_after is_marked place cursor = if is_marked then min cursor place else cursor
 
 -- Was the message of the first item abandoned?
 abbrev pub is_first_abandoned : List Item → Bool

@@ -1,9 +1,9 @@
 -- Which items a SACK reports (RFC 9260, sections 3.3.4 and 6.2.1). The cumulative TSN passes the first `count` items, and the
 -- offsets of the blocks count from it.
-use Rattle.std.specs.Prelude.{◌≡◌, ◌⊎◌, ℕ, ◌+◌, ◌<◌, ◌≤◌, true, max, Option, None, Some, List, [], ◌∷◌, slice_get}
+use Rattle.std.specs.Prelude.{◌≡◌, ◌⊎◌, ◌↔◌, ℕ, ◌+◌, ◌<◌, ◌≤◌, Bool, true, false, Option, None, Some, List, [], ◌∷◌, slice_get}
 use Rattle.dcsctp_wire.specs.declared.chunk.sack.GapAckBlock.{GapAckBlock}
-use Rattle.dcsctp_send_outstanding.specs.declared.item.Item.{Item}
-use Rattle.dcsctp_send_outstanding.specs.Progress.{is_unacknowledged}
+use Rattle.dcsctp_machine.specs.transfer.Items.{Item}
+use Rattle.dcsctp_machine.specs.transfer.Progress.{is_unacknowledged}
 
 -- the place is from `start` on and before `end`
 abbrev pub IsWithin : ℕ → ℕ → ℕ → Type 0
@@ -30,8 +30,22 @@ abbrev pub IsLast : (ℕ → Item → Type 0) → List Item → Option ℕ → T
 IsLast Holds items None = (k : ℕ) (item : Item) → slice_get items k ≡ Some item → Holds k item → ⊥
 IsLast Holds items (Some place) = IsLastAt Holds items place
 
--- the later of two places
-abbrev pub later_of : Option ℕ → Option ℕ → Option ℕ
-later_of None other = other
-later_of (Some place) None = Some place
-later_of (Some place) (Some other) = Some (max place other)
+-- ---- which items are missing (RFC 9260, section 7.2.4)
+
+-- The item at this place shows that those before it are missing, if they are still in flight. A newly acknowledged item does. In
+-- fast recovery, once the cumulative TSN moves, any item does that a block names.
+abbrev pub Shows : Bool → ℕ → List GapAckBlock → ℕ → Item → Type 0
+Shows false count blocks place item = IsNewlyAcknowledged count blocks place item
+Shows true count blocks place item = Names count blocks place
+
+-- An item behind this place shows it.
+pub record IsMissing (recovering : Bool) (count : ℕ) (blocks : List GapAckBlock) (items : List Item) (place : ℕ) : Type 0 where
+  pub shown_by : ℕ
+  pub item : Item
+  pub behind : place < shown_by
+  pub at : slice_get items shown_by ≡ Some item
+  pub shows : Shows recovering count blocks shown_by item
+
+-- The places before this one are those that the SACK reports missing.
+abbrev pub MissesUntil : Bool → ℕ → List GapAckBlock → List Item → ℕ → Type 0
+MissesUntil recovering count blocks items limit = (place : ℕ) → (place < limit) ↔ IsMissing recovering count blocks items place

@@ -1,0 +1,34 @@
+-- What an acknowledgement needn't be told again (RFC 9260, section 6.2.1), and which changes leave it so.
+use Rattle.std.specs.Prelude.{not, Bool, true, false, nat_lt, if◌then◌else◌}
+use Rattle.dcsctp_machine.specs.declared.progress.Progress.{Progress}
+use Rattle.dcsctp_machine.specs.declared.progress.Change.{Change}
+use Rattle.dcsctp_machine.specs.declared.progress.Change.TheVariants.{SendAgain, Miss, Mark, Acknowledge, Abandon}
+use Rattle.dcsctp_machine.specs.transfer.Progress.{is_in_flight, is_unacknowledged}
+
+-- A SACK has acknowledged it, and it doesn't wait to be acknowledged again.
+abbrev pub is_settled : Progress → Bool
+is_settled progress = if is_unacknowledged progress.state then false else progress.was_acknowledged
+
+-- the changes that leave what is settled as it is
+abbrev pub leaves_settled : Change → Bool
+leaves_settled (SendAgain next) = false
+leaves_settled (Miss newest) = true
+leaves_settled Mark = true
+leaves_settled Acknowledge = true
+leaves_settled Abandon = false
+
+-- The change is known to leave it as it is.
+abbrev pub is_left_by : Change → Progress → Bool
+is_left_by (SendAgain next) progress = false
+is_left_by (Miss newest) progress = if is_in_flight progress.state then not (nat_lt progress.misses 3) else true
+is_left_by Mark progress = not (is_in_flight progress.state)
+is_left_by Acknowledge progress = is_settled progress
+is_left_by Abandon progress = false
+
+-- what is settled is so no more after the change
+abbrev pub is_unsettled_by : Change → Progress → Bool
+is_unsettled_by (SendAgain next) progress = is_settled progress
+is_unsettled_by (Miss newest) progress = false
+is_unsettled_by Mark progress = false
+is_unsettled_by Acknowledge progress = false
+is_unsettled_by Abandon progress = false
