@@ -64,7 +64,7 @@ at_once_by {R = R} stream v held transfer after packet filled_packet is_sent new
     record {
       left = after;
       chunks = chunks;
-      kind = data_kinds transfer.retransmission.message_interleaving fills.chunks fills.are_data;
+      kind = data_kinds transfer.retransmission.outstanding.is_interleaved fills.chunks fills.are_data;
       fit = data_fit fills.chunks fills.fits;
       within = λ within. fits_by e draft answer filled_packet packed size within;
       outstanding = fills.outstanding;

@@ -175,7 +175,7 @@ pub record Gave (ask : Ask) (e : Endpoint) (mid given : Transfer) (waits : SendQ
   pub gives_up : GivesUp ask e mid later forwards
   pub rest : given ≡ record mid { retransmission = given.retransmission }
   pub partial_reliability : given.retransmission.partial_reliability ≡ mid.retransmission.partial_reliability
-  pub message_interleaving : given.retransmission.message_interleaving ≡ mid.retransmission.message_interleaving
+  pub is_interleaved : given.retransmission.outstanding.is_interleaved ≡ mid.retransmission.outstanding.is_interleaved
   pub idle : outstanding_count mid.retransmission ≡ 0
       → (given ≡ mid) × (waits ≡ e.below.queue) × (told ≡ []) × (later ≡ e.no_forward_tsn_before) × (forwards ≡ [])
 
@@ -202,7 +202,7 @@ gave_none ask e mid events =
       gives_up = gives_up_none ask e mid;
       rest = refl;
       partial_reliability = refl;
-      message_interleaving = refl;
+      is_interleaved = refl;
       idle = λ no_items. (refl, refl, refl, refl, refl);
     }
 
@@ -215,14 +215,14 @@ given_endpoint e begun any later left after =
 pub record BegunKeeps (begun : Option BegunReset) (transfer : Transfer) : Type 0 where
   pub count : outstanding_count (transfer_begun begun transfer).retransmission ≡ outstanding_count transfer.retransmission
   pub partial_reliability : (transfer_begun begun transfer).retransmission.partial_reliability ≡ transfer.retransmission.partial_reliability
-  pub message_interleaving : (transfer_begun begun transfer).retransmission.message_interleaving ≡ transfer.retransmission.message_interleaving
+  pub is_interleaved : (transfer_begun begun transfer).retransmission.outstanding.is_interleaved ≡ transfer.retransmission.outstanding.is_interleaved
   pub timeout : (transfer_begun begun transfer).timeout ≡ transfer.timeout
   pub tracker : (transfer_begun begun transfer).tracker ≡ transfer.tracker
   pub reassembly : (transfer_begun begun transfer).reassembly ≡ transfer.reassembly
 
 pub begun_keeps : (begun : Option BegunReset) (transfer : Transfer) → BegunKeeps begun transfer
-begun_keeps None transfer = record { count = refl; partial_reliability = refl; message_interleaving = refl; timeout = refl; tracker = refl; reassembly = refl }
-begun_keeps (Some begun) transfer = record { count = refl; partial_reliability = refl; message_interleaving = refl; timeout = refl; tracker = refl; reassembly = refl }
+begun_keeps None transfer = record { count = refl; partial_reliability = refl; is_interleaved = refl; timeout = refl; tracker = refl; reassembly = refl }
+begun_keeps (Some begun) transfer = record { count = refl; partial_reliability = refl; is_interleaved = refl; timeout = refl; tracker = refl; reassembly = refl }
 
 -- The parts of an answer: the transfer layer once what acknowledges is in the packet, once what gives messages up is, and once data
 -- is; and the queue behind what gives messages up, behind a reset that is begun, and behind data.
@@ -312,7 +312,7 @@ gives_up_before ask e transfer mid later forwards mid_is g =
       in_time = g.in_time;
       negotiated = λ without. g.negotiated (ap (λ (t : Transfer). t.retransmission.partial_reliability) mid_is ∙ without);
       at_most_one = g.at_most_one;
-      kind = subst (λ (b : Bool). AllByRecursion (IsForward b) forwards) (ap (λ (t : Transfer). t.retransmission.message_interleaving) mid_is) g.kind;
+      kind = subst (λ (b : Bool). AllByRecursion (IsForward b) forwards) (ap (λ (t : Transfer). t.retransmission.outstanding.is_interleaved) mid_is) g.kind;
       fit = g.fit;
     }
 
@@ -322,8 +322,8 @@ gives_by ask old draft transfer new filled_packet p =
     let given : Transfer = transfer_begun p.begun p.given in
     let keeps : BegunKeeps p.begun p.given = begun_keeps p.begun p.given in
     let kept : p.after.tracker ≡ p.mid.tracker = ap (λ (t : Transfer). t.tracker) p.fills.rest ∙ keeps.tracker ∙ ap (λ (t : Transfer). t.tracker) p.gave.rest in
-    let interleaving : given.retransmission.message_interleaving ≡ transfer.retransmission.message_interleaving =
-    keeps.message_interleaving ∙ p.gave.message_interleaving ∙ ap (λ (t : Transfer). t.retransmission.message_interleaving) p.mid_is in
+    let interleaving : given.retransmission.outstanding.is_interleaved ≡ transfer.retransmission.outstanding.is_interleaved =
+    keeps.is_interleaved ∙ p.gave.is_interleaved ∙ ap (λ (t : Transfer). t.retransmission.outstanding.is_interleaved) p.mid_is in
     let partial : given.retransmission.partial_reliability ≡ transfer.retransmission.partial_reliability =
     keeps.partial_reliability ∙ p.gave.partial_reliability ∙ ap (λ (t : Transfer). t.retransmission.partial_reliability) p.mid_is in
     record {
@@ -335,11 +335,11 @@ gives_by ask old draft transfer new filled_packet p =
       acknowledges = subst (λ (t : TrackerState). asks.Acknowledges (wants_sack ask old.endpoint.below.queue transfer) (room_in old.endpoint draft) transfer t p.sacks) (sym kept) p.acknowledges;
       gives_up = gives_up_before ask old.endpoint transfer p.mid p.later p.forwards p.mid_is p.gave.gives_up;
       begins = p.begins;
-      kind = subst (λ (b : Bool). AllByRecursion (IsData b) (map unworked p.fills.chunks)) interleaving (data_kinds given.retransmission.message_interleaving p.fills.chunks p.fills.are_data);
+      kind = subst (λ (b : Bool). AllByRecursion (IsData b) (map unworked p.fills.chunks)) interleaving (data_kinds given.retransmission.outstanding.is_interleaved p.fills.chunks p.fills.are_data);
       fit = data_fit p.fills.chunks p.fills.fits;
       data_goes = rest_may ask old draft transfer new filled_packet p;
       partial_reliability = p.fills.partial_reliability ∙ partial;
-      message_interleaving = p.fills.message_interleaving ∙ interleaving;
+      is_interleaved = p.fills.is_interleaved ∙ interleaving;
       timeout = ap (λ (t : Transfer). t.timeout) p.fills.rest ∙ keeps.timeout ∙ ap (λ (t : Transfer). t.timeout) p.gave.rest ∙ ap (λ (t : Transfer). t.timeout) p.mid_is;
       reassembly = ap (λ (t : Transfer). t.reassembly) p.fills.rest ∙ keeps.reassembly ∙ ap (λ (t : Transfer). t.reassembly) p.gave.rest ∙ ap (λ (t : Transfer). t.reassembly) p.mid_is;
     }

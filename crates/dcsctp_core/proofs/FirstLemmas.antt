@@ -173,7 +173,7 @@ given_up e draft mid given waits events telling None before packet is early h =
         gives_up = gives_up_none first_ask e mid;
         rest = h.rest;
         partial_reliability = h.partial_reliability;
-        message_interleaving = h.message_interleaving;
+        is_interleaved = h.is_interleaved;
         idle = λ no_items. let same = h.idle no_items in (same.1, same.2, same.3, refl, refl);
       };
       is = h.puts ∙ is ∙ ap (λ (contents : List Content). packet_for e.options (record draft { packet = record draft.packet { contents = contents } })) (sym (append-nil draft.packet.contents));
@@ -182,7 +182,7 @@ given_up e draft mid given waits events telling (Some next) before packet is ear
     let puts = h.puts.1 in
     let room : ℕ = room_in e draft in
     let fits_in : Bool = nat_le (length (chunk_bytes puts.chunk)) room in
-    let interleaving : Bool = mid.retransmission.message_interleaving in
+    let interleaving : Bool = mid.retransmission.outstanding.is_interleaved in
     let same_room : bytes_remaining before ≡ room = ap bytes_remaining is ∙ room_is e draft in
     record {
       forwards = where_fits room (unworked puts.chunk);
@@ -202,7 +202,7 @@ given_up e draft mid given waits events telling (Some next) before packet is ear
         };
         rest = h.rest;
         partial_reliability = h.partial_reliability;
-        message_interleaving = h.message_interleaving;
+        is_interleaved = h.is_interleaved;
         idle = λ no_items. absurd (never (h.idle no_items).0);
       };
       is = puts.is ∙ ap (λ (b : Building). with_chunk b puts.chunk) is ∙ chunk_packet e draft puts.chunk;

@@ -39,7 +39,7 @@ not_all false true none fits free false is = and_end none fits free
 
 not_given : (room : ℕ) (queue : SendQueueState) (state : RetransmissionState) → may_give queue state ≡ false → must_give room queue state ≡ false
 not_given room queue state is =
-    not_all (nat_lt 0 (marked_items state.outstanding.items)) (can_send state) (marked_items state.outstanding.items == 0) (nat_le (least_chunk state.message_interleaving) room) (has_free_tsn state) (has_data queue) is
+    not_all (nat_lt 0 (marked_items state.outstanding.items)) (can_send state) (marked_items state.outstanding.items == 0) (nat_le (least_chunk state.outstanding.is_interleaved) room) (has_free_tsn state) (has_data queue) is
 
 -- Nor is a reset begun, where no stream is ready.
 rest_begun : (ask : Ask) (held : Option Held) (room last_tsn : ℕ) (queue : SendQueueState) → (ask ≡ first_ask → is_none_ready (ready_streams queue) ≡ true) → None ≡ begun_at ask held room last_tsn queue
@@ -77,7 +77,7 @@ gives_none ask e draft transfer holds needs =
       fit = tt;
       data_goes = λ none. not_given _ e.below.queue transfer.retransmission needs.2;
       partial_reliability = refl;
-      message_interleaving = refl;
+      is_interleaved = refl;
       timeout = refl;
       reassembly = refl;
     }

@@ -103,8 +103,8 @@ and_false true false c d = refl
 and_false false b c d = refl
 
 -- It is left out only where it doesn't fit.
-least_goes : (b : Bool) (room : ℕ) (queue : SendQueueState) (state : RetransmissionState) → nat_le (least_chunk state.message_interleaving) room ≡ b
-    → is_none (cond b (least_of state.message_interleaving ∷ []) []) ≡ true → must_give room queue state ≡ false
+least_goes : (b : Bool) (room : ℕ) (queue : SendQueueState) (state : RetransmissionState) → nat_le (least_chunk state.outstanding.is_interleaved) room ≡ b
+    → is_none (cond b (least_of state.outstanding.is_interleaved ∷ []) []) ≡ true → must_give room queue state ≡ false
 least_goes true room queue state is none = absurd (cc)
 least_goes false room queue state is none =
     ap (λ (b : Bool). can_send state && marked_items state.outstanding.items == 0 && b && has_free_tsn state && has_data queue) is
@@ -166,7 +166,7 @@ abbrev pub some_answer : Ask → Endpoint → Emission → Transfer → List Tol
 some_answer ask e draft transfer told =
     let sacks : List Plain = sacks_where (wants_sack ask e.below.queue transfer) (room_in e draft) transfer in
     let begun : Option BegunReset = some_begun ask e draft transfer sacks in
-    let chunks : List Plain = where_fits (room_in e (filled draft (plain_contents sacks ++ request_contents begun))) (least_of transfer.retransmission.message_interleaving) in
+    let chunks : List Plain = where_fits (room_in e (filled draft (plain_contents sacks ++ request_contents begun))) (least_of transfer.retransmission.outstanding.is_interleaved) in
     record {
       acknowledgements = sacks;
       begun = begun;
@@ -180,7 +180,7 @@ some_gives ask e draft transfer told =
     let wants : Bool = wants_sack ask e.below.queue transfer in
     let sacks : List Plain = sacks_where wants (room_in e draft) transfer in
     let room : ℕ = room_in e (filled draft (plain_contents sacks ++ request_contents (some_begun ask e draft transfer sacks))) in
-    let interleaving : Bool = transfer.retransmission.message_interleaving in
+    let interleaving : Bool = transfer.retransmission.outstanding.is_interleaved in
     let test : Bool = nat_le (length (chunk_bytes (plain_out (least_of interleaving)))) room in
     record {
       left = transfer_told ask e transfer;
@@ -205,7 +205,7 @@ some_gives ask e draft transfer told =
       fit = least_fits test interleaving;
       data_goes = λ none. least_goes test room e.below.queue transfer.retransmission (ap (λ (n : ℕ). nat_le n room) (sym (least_len interleaving))) none;
       partial_reliability = refl;
-      message_interleaving = refl;
+      is_interleaved = refl;
       timeout = refl;
       reassembly = refl;
     }
@@ -222,7 +222,7 @@ some_answered ask e draft transfer told holds busy =
       within = λ within. three_within e draft (plain_contents sacks) begun (plain_contents answer.data_chunks) within
           (sacks_len (wants_sack ask e.below.queue transfer) (room_in e draft) transfer)
           (begun_at_len ask (held_in e.core) (room_in e (filled draft (plain_contents sacks))) (last_assigned_tsn transfer.retransmission) e.below.queue)
-          (where_fits_len room (least_of transfer.retransmission.message_interleaving));
+          (where_fits_len room (least_of transfer.retransmission.outstanding.is_interleaved));
       by_transfer = subst (AnsweredBelow ask e draft answer) (sym holds)
           (subst (λ (b : Bool). GivesWhere b ask e draft transfer answer) (sym busy) (some_gives ask e draft transfer told));
     }

@@ -151,7 +151,7 @@ abbrev pub transfer_begun : ℕ → ℕ → ℕ → Option Transfer
 transfer_begun mtu cwnd least =
     Some (record {
       retransmission = record {
-        outstanding = record { first_tsn = 100; header = 20; items = [] };
+        outstanding = record { first_tsn = 100; is_interleaved = true; items = [] };
         congestion = record { cwnd = cwnd; ssthresh = 1500; partial_bytes_acked = 0; recovery_exit = None; mtu = mtu; least_ssthresh = least };
         timer = record {
           running = None;
@@ -159,7 +159,6 @@ transfer_begun mtu cwnd least =
         };
         peer_window = 1500;
         partial_reliability = false;
-        message_interleaving = true;
         fast_retransmit_due = false;
         reset_begun = false;
         packets_retransmitted = 0;

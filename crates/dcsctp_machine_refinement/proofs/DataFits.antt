@@ -110,7 +110,7 @@ at_once_fits e held transfer o turn h fits =
     (record {
       after = kept_fits None base (goes_out base [] with_checksum held.peer.tag contents) (goes_out_keeps base [] with_checksum held.peer.tag contents) (transfer_fits e turn.left h);
       sends = goes_out_sends base [] with_checksum held.peer.tag contents tt fits.peer.tag
-          (data_sendable transfer.retransmission.message_interleaving turn.chunks turn.kind turn.fit);
+          (data_sendable transfer.retransmission.outstanding.is_interleaved turn.chunks turn.kind turn.fit);
     })
 
 fast_fits : (b : Bool) (e : Endpoint) (held : Held) (transfer : Transfer) (o : Outcome) → FastRetransmits b e held transfer o → FitsEndpoint e → FitsHeld held → TurnFits o

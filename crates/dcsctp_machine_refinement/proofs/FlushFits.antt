@@ -102,7 +102,7 @@ given_sends ask e draft transfer answer own h =
     let sacks : AllByRecursion Sendable (plain_contents h.sacks) =
     sacks_sendable (wants_sack ask e.below.queue transfer) (room_in e draft) transfer h.left.tracker h.sacks h.acknowledges in
     let forwards : AllByRecursion Sendable (plain_contents h.forwards) =
-    forwards_sendable transfer.retransmission.message_interleaving h.forwards h.gives_up.kind h.gives_up.fit in
+    forwards_sendable transfer.retransmission.outstanding.is_interleaved h.forwards h.gives_up.kind h.gives_up.fit in
     let room : ℕ = room_in e (filled draft (plain_contents answer.acknowledgements)) in
     let small : room < 2 ^ 16 = omega (arith, own.valid.greatest_size) in
     let request : AllByRecursion Sendable (request_contents answer.begun) =
@@ -111,7 +111,7 @@ given_sends ask e draft transfer answer own h =
     both_sendable (plain_contents answer.acknowledgements) (request_contents answer.begun ++ plain_contents answer.data_chunks)
     (subst (λ (cs : List Plain). AllByRecursion Sendable (plain_contents cs)) (sym h.parts) (plain_sendable h.sacks h.forwards sacks forwards))
     (both_sendable (request_contents answer.begun) (plain_contents answer.data_chunks) request
-    (data_sendable transfer.retransmission.message_interleaving answer.data_chunks h.kind h.fit))
+    (data_sendable transfer.retransmission.outstanding.is_interleaved answer.data_chunks h.kind h.fit))
 
 nothing_sends : (e : Endpoint) (answer : Answer) → answer ≡ nothing_waits e → AnswerSends answer
 nothing_sends e answer is = subst AnswerSends (sym is) tt

@@ -15,7 +15,7 @@ use Rattle.dcsctp_machine.specs.transfer.Progress.{is_in_flight, is_marked, is_u
 use Rattle.dcsctp_send_outstanding.specs.Outstanding.{cursor_after, IsSummed, NoneMarkedBefore, NoneMarkedBetween, IsKept}
 use Rattle.dcsctp_send_outstanding.specs.NamedPlaces.{AreSettled}
 use Rattle.dcsctp_send_outstanding.specs.Totals.{total_with, total_without, HasRoom}
-use Rattle.dcsctp_machine.specs.transfer.Outstanding.{OutstandingState, reported}
+use Rattle.dcsctp_machine.specs.transfer.Outstanding.{OutstandingState, header_of, reported}
 
 -- a sum of terms that have a bound
 pub sum_bounded : {X : Type 0} (f : X → ℕ) (bound : ℕ) → ((x : X) → f x ≤ bound) → (xs : List X) → sum_by f xs ≤ length xs * bound
@@ -81,16 +81,17 @@ sums_replaced header items totals place item new within is same sums =
       marked = let e = sum_replaced marked_count items place item new within is in let has = sum_has marked_count items place item within is in let was = sums.marked in omega arith;
     }
 
-pub size_bounded : (header : ℕ) → header ≤ 20 → (item : Item) → size_of header item ≤ 65556
-size_bounded header fits item = omega arith
+pub size_bounded : (is_interleaved : Bool) (item : Item) → size_of (header_of is_interleaved) item ≤ 65556
+size_bounded true item = omega arith
+size_bounded false item = omega arith
 
 -- each sum leaves room for one more
-pub sums_leave_room : (header cursor : ℕ) (items : List Item) (totals : Totals) (named : NamedPlaces) (size : ℕ) → size ≤ 65556 → IsKept header cursor items totals named → HasRoom size totals
-sums_leave_room header cursor items totals named size small kept =
+pub sums_leave_room : (is_interleaved : Bool) (cursor : ℕ) (items : List Item) (totals : Totals) (named : NamedPlaces) (size : ℕ) → size ≤ 65556 → IsKept is_interleaved cursor items totals named → HasRoom size totals
+sums_leave_room is_interleaved cursor items totals named size small kept =
     let few = kept.few in
     let sums = kept.sums in
-    let in_flight = sum_bounded (in_flight_size header) 65556 (λ (x : Item). counted_bounded (is_in_flight x.progress.state) (size_of header x) 65556 (size_bounded header kept.header_fits x)) items in
-    let bytes = sum_bounded (unacknowledged_size header) 65556 (λ (x : Item). counted_bounded (is_unacknowledged x.progress.state) (size_of header x) 65556 (size_bounded header kept.header_fits x)) items in
+    let in_flight = sum_bounded (in_flight_size (header_of is_interleaved)) 65556 (λ (x : Item). counted_bounded (is_in_flight x.progress.state) (size_of (header_of is_interleaved) x) 65556 (size_bounded is_interleaved x)) items in
+    let bytes = sum_bounded (unacknowledged_size (header_of is_interleaved)) 65556 (λ (x : Item). counted_bounded (is_unacknowledged x.progress.state) (size_of (header_of is_interleaved) x) 65556 (size_bounded is_interleaved x)) items in
     let count = sum_bounded unacknowledged_count 1 (λ (x : Item). counted_bounded (is_unacknowledged x.progress.state) 1 1 (omega arith)) items in
     let never = sum_bounded never_acknowledged_count 1 (λ (x : Item). counted_bounded (not x.progress.was_acknowledged) 1 1 (omega arith)) items in
     let marked = sum_bounded marked_count 1 (λ (x : Item). counted_bounded (is_marked x.progress.state) 1 1 (omega arith)) items in
@@ -112,12 +113,11 @@ changed_is change place items item progress within is e =
     rw (add-one, e) (sym (changed_one change place items item within is))
 
 -- what is kept of the items, with one replaced
-pub kept_replaced : (header cursor : ℕ) (items : List Item) (totals : Totals) (named : NamedPlaces) (place : ℕ) (item new : Item) (size : ℕ) (less more : Totals) (is_now_marked : Bool) (cursor' : ℕ) (named' : NamedPlaces) → IsKept header cursor items totals named → place < length items → item ≡ get_or items place item → size ≡ size_of header item → size_of header item ≡ size_of header new → less ≡ total_without item.progress size totals → more ≡ total_with new.progress size less → is_now_marked ≡ is_marked new.progress.state → cursor' ≡ cursor_after is_now_marked place cursor → AreSettled named' (set items place new) → IsKept header cursor' (set items place new) more named'
-kept_replaced header cursor items totals named place item new size less more is_now_marked cursor' named' kept within is sized same is_less is_more marks moves settled =
+pub kept_replaced : (is_interleaved : Bool) (cursor : ℕ) (items : List Item) (totals : Totals) (named : NamedPlaces) (place : ℕ) (item new : Item) (size : ℕ) (less more : Totals) (is_now_marked : Bool) (cursor' : ℕ) (named' : NamedPlaces) → IsKept is_interleaved cursor items totals named → place < length items → item ≡ get_or items place item → size ≡ size_of (header_of is_interleaved) item → size_of (header_of is_interleaved) item ≡ size_of (header_of is_interleaved) new → less ≡ total_without item.progress size totals → more ≡ total_with new.progress size less → is_now_marked ≡ is_marked new.progress.state → cursor' ≡ cursor_after is_now_marked place cursor → AreSettled named' (set items place new) → IsKept is_interleaved cursor' (set items place new) more named'
+kept_replaced is_interleaved cursor items totals named place item new size less more is_now_marked cursor' named' kept within is sized same is_less is_more marks moves settled =
     record {
-      header_fits = kept.header_fits;
       few = let few = kept.few in omega (arith, length-set {A = Item});
-      sums = let summed = sums_replaced header items totals place item new within is same kept.sums in rw (is_more, is_less, sized) (rw (← same) at summed);
+      sums = let summed = sums_replaced (header_of is_interleaved) items totals place item new within is same kept.sums in rw (is_more, is_less, sized) (rw (← same) at summed);
       scanned = rw (moves, marks) (scanned_replaced items place cursor new kept.scanned);
       settled = settled;
     }
@@ -168,14 +168,13 @@ slice_get_pushed (y ∷ ys) zero new x h = inr h
 slice_get_pushed (y ∷ ys) (suc k) new x h = slice_get_pushed ys k new x h
 
 -- what is kept of the items, with one more
-pub kept_pushed : (header cursor : ℕ) (items : List Item) (totals : Totals) (named : NamedPlaces) (new : Item) (size : ℕ) (more : Totals) → IsKept header cursor items totals named → length items + 1 < 2 ^ 31 → size ≡ size_of header new → more ≡ total_with new.progress size totals → is_marked new.progress.state ≡ false → AreSettled named (items ++ new ∷ []) → IsKept header cursor (items ++ new ∷ []) more named
-kept_pushed header cursor items totals named new size more kept room sized is_more unmarked settled =
+pub kept_pushed : (is_interleaved : Bool) (cursor : ℕ) (items : List Item) (totals : Totals) (named : NamedPlaces) (new : Item) (size : ℕ) (more : Totals) → IsKept is_interleaved cursor items totals named → length items + 1 < 2 ^ 31 → size ≡ size_of (header_of is_interleaved) new → more ≡ total_with new.progress size totals → is_marked new.progress.state ≡ false → AreSettled named (items ++ new ∷ []) → IsKept is_interleaved cursor (items ++ new ∷ []) more named
+kept_pushed is_interleaved cursor items totals named new size more kept room sized is_more unmarked settled =
     record {
-      header_fits = kept.header_fits;
       few = omega (arith, length-append items (new ∷ []));
       sums = rw (is_more, sized) (record {
-        in_flight = let e = sum_by_push (in_flight_size header) items new in let was = kept.sums.in_flight in omega arith;
-        bytes = let e = sum_by_push (unacknowledged_size header) items new in let was = kept.sums.bytes in omega arith;
+        in_flight = let e = sum_by_push (in_flight_size (header_of is_interleaved)) items new in let was = kept.sums.in_flight in omega arith;
+        bytes = let e = sum_by_push (unacknowledged_size (header_of is_interleaved)) items new in let was = kept.sums.bytes in omega arith;
         count = let e = sum_by_push unacknowledged_count items new in let was = kept.sums.count in omega arith;
         never = let e = sum_by_push never_acknowledged_count items new in let was = kept.sums.never in omega arith;
         marked = let e = sum_by_push marked_count items new in let was = kept.sums.marked in omega arith;
@@ -185,14 +184,13 @@ kept_pushed header cursor items totals named new size more kept room sized is_mo
     }
 
 -- what is kept of the items, without the first
-pub kept_removed : (header cursor : ℕ) (item : Item) (items : List Item) (totals : Totals) (named : NamedPlaces) (size : ℕ) (less : Totals) (named' : NamedPlaces) → IsKept header cursor (item ∷ items) totals named → size ≡ size_of header item → less ≡ total_without item.progress size totals → AreSettled named' items → IsKept header (cursor - 1) items less named'
-kept_removed header cursor item items totals named size less named' kept sized is_less settled =
+pub kept_removed : (is_interleaved : Bool) (cursor : ℕ) (item : Item) (items : List Item) (totals : Totals) (named : NamedPlaces) (size : ℕ) (less : Totals) (named' : NamedPlaces) → IsKept is_interleaved cursor (item ∷ items) totals named → size ≡ size_of (header_of is_interleaved) item → less ≡ total_without item.progress size totals → AreSettled named' items → IsKept is_interleaved (cursor - 1) items less named'
+kept_removed is_interleaved cursor item items totals named size less named' kept sized is_less settled =
     record {
-      header_fits = kept.header_fits;
       few = let few = kept.few in omega arith;
       sums = rw (is_less, sized) (record {
-        in_flight = let e = sum_by-cons (in_flight_size header) item items in let was = kept.sums.in_flight in omega arith;
-        bytes = let e = sum_by-cons (unacknowledged_size header) item items in let was = kept.sums.bytes in omega arith;
+        in_flight = let e = sum_by-cons (in_flight_size (header_of is_interleaved)) item items in let was = kept.sums.in_flight in omega arith;
+        bytes = let e = sum_by-cons (unacknowledged_size (header_of is_interleaved)) item items in let was = kept.sums.bytes in omega arith;
         count = let e = sum_by-cons unacknowledged_count item items in let was = kept.sums.count in omega arith;
         never = let e = sum_by-cons never_acknowledged_count item items in let was = kept.sums.never in omega arith;
         marked = let e = sum_by-cons marked_count item items in let was = kept.sums.marked in omega arith;
@@ -240,8 +238,8 @@ drop_one_more (suc k) (x ∷ xs) = drop_one_more k xs
 pub drop_further : {X : Type 0} (k : ℕ) (xs : List X) → drop 1 (drop k xs) ≡ drop (k + 1) xs
 drop_further k xs = rw add-one (drop_one_more k xs)
 
-abbrev pub same_model : ℕ → ℕ → List Item → OutstandingState
-same_model first header items = record { first_tsn = first; header = header; items = items }
+abbrev pub same_model : ℕ → Bool → List Item → OutstandingState
+same_model first is_interleaved items = record { first_tsn = first; is_interleaved = is_interleaved; items = items }
 
-pub same_outstanding : (a b header : ℕ) (xs ys : List Item) → a ≡ b → xs ≡ ys → same_model a header xs ≡ same_model b header ys
-same_outstanding a b header xs ys e f = rw (e, f) refl
+pub same_outstanding : (a b : ℕ) (is_interleaved : Bool) (xs ys : List Item) → a ≡ b → xs ≡ ys → same_model a is_interleaved xs ≡ same_model b is_interleaved ys
+same_outstanding a b is_interleaved xs ys e f = rw (e, f) refl

@@ -6,7 +6,7 @@ use Rattle.dcsctp_send_outstanding.specs.declared.named_places.NamedPlaces.{Name
 use Rattle.dcsctp_machine.specs.declared.progress.ItemState.TheVariants.{Abandoned}
 use Rattle.dcsctp_send_outstanding.specs.declared.totals.Totals.{Totals}
 use Rattle.dcsctp_send_outstanding.specs.NamedPlaces.{AreSettled}
-use Rattle.dcsctp_machine.specs.transfer.Outstanding.{OutstandingState, tsn_at, next_tsn, distance_to, acknowledged_by}
+use Rattle.dcsctp_machine.specs.transfer.Outstanding.{OutstandingState, header_of, tsn_at, next_tsn, distance_to, acknowledged_by}
 use Rattle.dcsctp_machine.specs.transfer.Progress.{just_sent, is_marked}
 
 -- The TSN of each item leads to its place.
@@ -40,11 +40,10 @@ pub record IsMarkedAt (place : ℕ) (items : List Item) : Type 0 where
   pub at : slice_get items place ≡ Some item
   pub is : is_marked item.progress.state ≡ true
 
-pub record IsKept (header cursor : ℕ) (items : List Item) (totals : Totals) (named : NamedPlaces) : Type 0 where
-  pub header_fits : header ≤ 20
+pub record IsKept (is_interleaved : Bool) (cursor : ℕ) (items : List Item) (totals : Totals) (named : NamedPlaces) : Type 0 where
   -- TSNs can be compared (RFC 9260, section 1.6)
   pub few : length items < 2 ^ 31
-  pub sums : IsSummed header items totals
+  pub sums : IsSummed (header_of is_interleaved) items totals
   pub scanned : NoneMarkedBefore cursor items
   pub settled : AreSettled named items
 

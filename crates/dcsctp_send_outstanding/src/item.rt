@@ -1,6 +1,7 @@
 //! What was sent under one TSN.
 
 ghost use Rattle.std.specs.Prelude.{◌≡◌, ◌≤◌};
+ghost use Rattle.dcsctp_machine.specs.transfer.Outstanding.{header_of};
 
 use dcsctp_api::SocketTime;
 use dcsctp_machine::Progress;
@@ -39,11 +40,19 @@ impl Model for Item {
 impl Item {
     ghost use Rattle.dcsctp_machine.specs.transfer.Items.{size_of};
 
-    /// How long its chunk is, with a header of this size and its padding. No payload is above 65,535 bytes.
-    pub fn size(&self, header: usize) -> usize
-        requires { header ≤ 20 }
-        ensures { result ≡ size_of header self.now }
+    /// How long its chunk is, as I-DATA or as DATA, with its header and padding. No payload is above 65,535
+    /// bytes.
+    pub fn size(&self, interleaving: bool) -> usize
+        ensures { result ≡ size_of (header_of interleaving) self.now }
     {
-        header + (self.fragment.payload.len().min(65535) + 3) / 4 * 4
+        header_of(interleaving) + (self.fragment.payload.len().min(65535) + 3) / 4 * 4
     }
+}
+
+// How long the header of a chunk with data is (RFC 9260, section 3.3.1; RFC 8260, section 2.1).
+pub(crate) fn header_of(interleaving: bool) -> usize
+    ensures value { result ≡ header_of interleaving }
+    ensures limit { result ≤ 20 }
+{
+    if interleaving { 20 } else { 16 }
 }

@@ -6,7 +6,7 @@ ghost use Rattle.dcsctp_send_outstanding.specs.Outstanding.{cursor_after};
 mod messages;
 mod reporting;
 
-use crate::item::Item;
+use crate::item::{Item, header_of};
 use crate::named_places::NamedPlaces;
 use crate::settled::{is_left_by, is_unsettled_by, leaves_settled};
 use crate::totals::Totals;
@@ -28,8 +28,8 @@ pub struct Outstanding {
     items: VecDeque<Item>,
     first_tsn: u32,
 
-    // The size of a chunk's header.
-    header: usize,
+    // Are they sent as I-DATA (RFC 8260)?
+    interleaving: bool,
 
     totals: Totals,
 
@@ -50,11 +50,11 @@ impl Model for Outstanding {
 
     ghost view = { λ outstanding. record {
       first_tsn = outstanding.first_tsn;
-      header = outstanding.header;
+      is_interleaved = outstanding.interleaving;
       items = outstanding.items.items;
     } };
 
-    ghost invariant = { λ outstanding. IsKept outstanding.header outstanding.cursor outstanding.items.items outstanding.totals outstanding.named };
+    ghost invariant = { λ outstanding. IsKept outstanding.interleaving outstanding.cursor outstanding.items.items outstanding.totals outstanding.named };
 }
 
 impl Outstanding {
@@ -63,20 +63,19 @@ impl Outstanding {
     ghost use Rattle.dcsctp_machine.specs.transfer.Progress.{is_marked};
     ghost use Rattle.dcsctp_send_outstanding.specs.Next.{IsNextMarked, HasNone};
     ghost use Rattle.dcsctp_send_outstanding.specs.Outstanding.{FindsPlaces, TriesNext, IsMarkedAt, NoneMarkedBetween};
-    ghost use Rattle.dcsctp_machine.specs.transfer.Outstanding.{next_tsn, tsn_at, distance_to};
+    ghost use Rattle.dcsctp_machine.specs.transfer.Outstanding.{header, next_tsn, tsn_at, distance_to};
     ghost use Rattle.dcsctp_send_outstanding.specs.Handing.{TriesItem};
     ghost use Rattle.dcsctp_send_outstanding.specs.NamedPlaces.{IsLeftBetween};
     ghost use Rattle.dcsctp_send_streams.specs.Telling.{contents};
 
     /// Nothing was sent yet. Allocates nothing.
-    pub fn new(alloc: Global, first_tsn: u32, header: usize) -> Outstanding
-        requires { header ≤ 20 }
-        ensures { result ≡ record { first_tsn = first_tsn; header = header; items = [] } }
+    pub fn new(alloc: Global, first_tsn: u32, interleaving: bool) -> Outstanding
+        ensures { result ≡ record { first_tsn = first_tsn; is_interleaved = interleaving; items = [] } }
     {
         Outstanding {
             items: VecDeque::new(alloc),
             first_tsn,
-            header,
+            interleaving,
             totals: Totals::none(),
             cursor: 0,
             named: NamedPlaces::new(alloc),
@@ -86,14 +85,14 @@ impl Outstanding {
 
     /// The bytes in flight.
     pub fn in_flight_bytes(&self) -> usize
-        ensures { result ≡ bytes_in_flight self.now.header self.now.items }
+        ensures { result ≡ bytes_in_flight (header self.now) self.now.items }
     {
         self.totals.in_flight_bytes
     }
 
     /// The bytes that are neither acknowledged nor abandoned.
     pub fn unacknowledged_bytes(&self) -> usize
-        ensures { result ≡ unacknowledged_bytes self.now.header self.now.items }
+        ensures { result ≡ unacknowledged_bytes (header self.now) self.now.items }
     {
         self.totals.unacknowledged_bytes
     }
@@ -163,20 +162,27 @@ impl Outstanding {
         &self.items[place]
     }
 
+    /// Are they sent as I-DATA (RFC 8260)?
+    pub fn is_interleaving(&self) -> bool
+        ensures { result ≡ self.now.is_interleaved }
+    {
+        self.interleaving
+    }
+
     /// The size of a chunk's header.
     pub fn header(&self) -> usize
-        ensures value { result ≡ self.now.header }
+        ensures value { result ≡ header self.now }
         ensures limit { result ≤ 20 }
     {
-        self.header
+        header_of(self.interleaving)
     }
 
     /// How long the chunk of the item at the place is.
     pub fn size_at(&self, place: usize) -> usize
         requires { place < length self.now.items }
-        ensures { IfSome (slice_get self.now.items place) (λ item. result ≡ size_of self.now.header item) }
+        ensures { IfSome (slice_get self.now.items place) (λ item. result ≡ size_of (header self.now) item) }
     {
-        self.items[place].size(self.header)
+        self.items[place].size(self.interleaving)
     }
 
     // Makes the change at one place. It is inlined, and so are the functions through which callers reach it.
@@ -186,9 +192,9 @@ impl Outstanding {
         requires { place < length self.old.items }
         ensures { self.new ≡ record self.old { items = changed_between change place (place + 1) self.old.items } }
     {
-        let header = self.header;
+        let interleaving = self.interleaving;
         let item = &mut self.items[place];
-        let size = item.size(header);
+        let size = item.size(interleaving);
         let before = item.progress;
         let after = before.changed(change);
         item.progress = after;
@@ -303,7 +309,7 @@ impl Outstanding {
     /// Drops that many first items.
     pub fn remove_first(&mut self, count: usize)
         requires { count ≤ length self.old.items }
-        ensures { self.new ≡ record { first_tsn = (self.old.first_tsn + count) % 2 ^ 32; header = self.old.header; items = drop count self.old.items } }
+        ensures { self.new ≡ record { first_tsn = (self.old.first_tsn + count) % 2 ^ 32; is_interleaved = self.old.is_interleaved; items = drop count self.old.items } }
     {
         let _ = &self.first_tsn;
         for _ in 0..count {
@@ -325,10 +331,10 @@ impl Outstanding {
     // Drops the first item.
     fn remove_one(&mut self)
         requires { 0 < length self.old.items }
-        ensures { self.new ≡ record { first_tsn = (self.old.first_tsn + 1) % 2 ^ 32; header = self.old.header; items = drop 1 self.old.items } }
+        ensures { self.new ≡ record { first_tsn = (self.old.first_tsn + 1) % 2 ^ 32; is_interleaved = self.old.is_interleaved; items = drop 1 self.old.items } }
     {
         if let Some(item) = self.items.pop_front() {
-            let size = item.size(self.header);
+            let size = item.size(self.interleaving);
             self.totals.remove(item.progress, size);
             self.first_tsn = self.first_tsn.wrapping_add(1);
             self.cursor = self.cursor.saturating_sub(1);
@@ -371,7 +377,7 @@ impl Outstanding {
                     sent_at: now,
                     begins_after_reset,
                 };
-                let size = item.size(self.header);
+                let size = item.size(self.interleaving);
                 self.totals.add(item.progress, size);
                 self.items.push_back_reserved(item);
                 Ok(Some(tsn))

@@ -7,7 +7,7 @@ use Rattle.dcsctp_send_retransmission.specs.declared.packet.Packet.{Packet}
 use Rattle.dcsctp_machine.specs.declared.progress.Change.{Change}
 use Rattle.dcsctp_machine.specs.declared.progress.Change.TheVariants.{Abandon}
 use Rattle.dcsctp_send_outstanding.specs.Outstanding.{MayAddEnd, SendsNext}
-use Rattle.dcsctp_machine.specs.transfer.Outstanding.{OutstandingState}
+use Rattle.dcsctp_machine.specs.transfer.Outstanding.{OutstandingState, header}
 use Rattle.dcsctp_send_retransmission.specs.Queue.{MayGrow, GivesUp}
 use Rattle.dcsctp_machine.specs.transfer.Retransmission.{RetransmissionState, with_items, counted_again}
 use Rattle.dcsctp_send_retransmission.specs.Sending.{KeepsFragments, Keeps, Packed, none, more, Filled, Fills, HandsOut}
@@ -50,25 +50,24 @@ last_pushed (x ∷ xs) new = last_pushed xs new
 
 pub keeps_refl : (queue : RetransmissionState) → Keeps queue queue
 keeps_refl queue =
-    record { first_tsn = refl; header = refl; fragments = fragments_refl queue.outstanding.items; congestion = refl; timer = refl; peer_window = refl; partial_reliability = refl; interleaving = refl }
+    record { first_tsn = refl; is_interleaved = refl; fragments = fragments_refl queue.outstanding.items; congestion = refl; timer = refl; peer_window = refl; partial_reliability = refl }
 
 pub keeps_trans : (a b c : RetransmissionState) → Keeps a b → Keeps b c → Keeps a c
 keeps_trans a b c first later =
     record {
       first_tsn = later.first_tsn ∙ first.first_tsn;
-      header = later.header ∙ first.header;
+      is_interleaved = later.is_interleaved ∙ first.is_interleaved;
       fragments = fragments_trans a.outstanding.items b.outstanding.items c.outstanding.items first.fragments later.fragments;
       congestion = later.congestion ∙ first.congestion;
       timer = later.timer ∙ first.timer;
       peer_window = later.peer_window ∙ first.peer_window;
       partial_reliability = later.partial_reliability ∙ first.partial_reliability;
-      interleaving = later.interleaving ∙ first.interleaving;
     }
 
 -- items with the same fragments and more
 pub keeps_with : (queue : RetransmissionState) (items : List Item) → KeepsFragments queue.outstanding.items items → Keeps queue (with_items items queue)
 keeps_with queue items fragments =
-    record { first_tsn = refl; header = refl; fragments = fragments; congestion = refl; timer = refl; peer_window = refl; partial_reliability = refl; interleaving = refl }
+    record { first_tsn = refl; is_interleaved = refl; fragments = fragments; congestion = refl; timer = refl; peer_window = refl; partial_reliability = refl }
 
 -- a packet stays filled
 pub packed_kept : (first header : ℕ) (old new : List Item) (tsns : List ℕ) (used : ℕ) → KeepsFragments old new → Packed first header old tsns used → Packed first header new tsns used
@@ -82,12 +81,12 @@ pub filled_kept : (bytes : ℕ) (old new : RetransmissionState) (packet : Packet
 filled_kept bytes old new packet keeps filled =
     record {
       used = filled.used;
-      packed = rw (keeps.first_tsn, keeps.header) (packed_kept old.outstanding.first_tsn old.outstanding.header old.outstanding.items new.outstanding.items packet.tsns.items filled.used keeps.fragments filled.packed);
+      packed = rw (keeps.first_tsn, keeps.is_interleaved) (packed_kept old.outstanding.first_tsn (header old.outstanding) old.outstanding.items new.outstanding.items packet.tsns.items filled.used keeps.fragments filled.packed);
       sum = filled.sum;
     }
 
 -- one more chunk of the queue goes into the packet
-pub filled_more : (bytes : ℕ) (queue : RetransmissionState) (before after : Packet) (place : ℕ) (item : Item) (tsn size : ℕ) → Filled bytes queue before → slice_get queue.outstanding.items place ≡ Some item → tsn ≡ (queue.outstanding.first_tsn + place) % 2 ^ 32 → size ≡ size_of queue.outstanding.header item → after.tsns.items ≡ before.tsns.items ++ tsn ∷ [] → after.room + size ≡ before.room → Filled bytes queue after
+pub filled_more : (bytes : ℕ) (queue : RetransmissionState) (before after : Packet) (place : ℕ) (item : Item) (tsn size : ℕ) → Filled bytes queue before → slice_get queue.outstanding.items place ≡ Some item → tsn ≡ (queue.outstanding.first_tsn + place) % 2 ^ 32 → size ≡ size_of (header queue.outstanding) item → after.tsns.items ≡ before.tsns.items ++ tsn ∷ [] → after.room + size ≡ before.room → Filled bytes queue after
 filled_more bytes queue before after place item tsn size filled at tsn_is size_is tsns_are room_is =
     record {
       used = filled.used + size;
@@ -127,30 +126,30 @@ fills_same old new before after keeps tsns room =
 abbrev pub with_outstanding : OutstandingState → Bool → RetransmissionState → RetransmissionState
 with_outstanding outstanding reset queue = record queue { outstanding = outstanding; reset_begun = reset }
 
-pub keeps_outstanding : (old : RetransmissionState) (new : OutstandingState) (reset : Bool) → new.first_tsn ≡ old.outstanding.first_tsn → new.header ≡ old.outstanding.header → KeepsFragments old.outstanding.items new.items → Keeps old (with_outstanding new reset old)
-keeps_outstanding old new reset first header fragments =
-    record { first_tsn = first; header = header; fragments = fragments; congestion = refl; timer = refl; peer_window = refl; partial_reliability = refl; interleaving = refl }
+pub keeps_outstanding : (old : RetransmissionState) (new : OutstandingState) (reset : Bool) → new.first_tsn ≡ old.outstanding.first_tsn → new.is_interleaved ≡ old.outstanding.is_interleaved → KeepsFragments old.outstanding.items new.items → Keeps old (with_outstanding new reset old)
+keeps_outstanding old new reset first interleaved fragments =
+    record { first_tsn = first; is_interleaved = interleaved; fragments = fragments; congestion = refl; timer = refl; peer_window = refl; partial_reliability = refl }
 
 -- a new chunk goes into the packet
 pub sends_keeps : (now max : ℕ) (old : RetransmissionState) (new : OutstandingState) (tsn : ℕ) (reset : Bool) → SendsNext now max old.outstanding new tsn → Keeps old (with_outstanding new reset old)
 sends_keeps now max old new tsn reset sends =
     let items = ap (λ (m : OutstandingState). m.items) sends.grows in
-    keeps_outstanding old new reset (ap (λ (m : OutstandingState). m.first_tsn) sends.grows) (ap (λ (m : OutstandingState). m.header) sends.grows)
+    keeps_outstanding old new reset (ap (λ (m : OutstandingState). m.first_tsn) sends.grows) (ap (λ (m : OutstandingState). m.is_interleaved) sends.grows)
     (rw items (fragments_pushed old.outstanding.items sends.item))
 
 -- a payload of at most this many bytes fits with its header and padding
 pub size_fits : (header room max len : ℕ) → max ≡ (min room 65532 - header) / 4 * 4 → 0 < max → len ≤ max → chunk_size header len ≤ room
 size_fits header room max len is some at_most = omega arith
 
-pub sends_fills : (now max : ℕ) (old : RetransmissionState) (before after : Packet) (place size tsn : ℕ) (new : OutstandingState) (reset : Bool) → SendsNext now max old.outstanding new tsn → place ≡ length old.outstanding.items → IfSome (slice_get new.items place) (λ item. size ≡ size_of new.header item) → max ≡ (min before.room 65532 - old.outstanding.header) / 4 * 4 → 0 < max → after.tsns.items ≡ before.tsns.items ++ tsn ∷ [] → after.room ≡ before.room - size → Fills old before (with_outstanding new reset old) after × (after.room < before.room)
+pub sends_fills : (now max : ℕ) (old : RetransmissionState) (before after : Packet) (place size tsn : ℕ) (new : OutstandingState) (reset : Bool) → SendsNext now max old.outstanding new tsn → place ≡ length old.outstanding.items → IfSome (slice_get new.items place) (λ item. size ≡ size_of (header new) item) → max ≡ (min before.room 65532 - header old.outstanding) / 4 * 4 → 0 < max → after.tsns.items ≡ before.tsns.items ++ tsn ∷ [] → after.room ≡ before.room - size → Fills old before (with_outstanding new reset old) after × (after.room < before.room)
 sends_fills now max old before after place size tsn new reset sends place_is sized max_is some tsns room =
     let items = ap (λ (m : OutstandingState). m.items) sends.grows in
     let first = ap (λ (m : OutstandingState). m.first_tsn) sends.grows in
-    let header = ap (λ (m : OutstandingState). m.header) sends.grows in
+    let sizes = ap header sends.grows in
     let at : slice_get new.items place ≡ Some sends.item = rw (items, place_is) (last_pushed old.outstanding.items sends.item) in
-    let P : Option Item → Type 0 = λ x. IfSome x (λ item. size ≡ size_of new.header item) in
-    let size_is : size ≡ size_of new.header sends.item = subst P at sized in
-    let fits : size ≤ before.room = rw (size_is, header) (size_fits old.outstanding.header before.room max (length sends.item.fragment.payload) max_is some sends.is_first.at_most) in
+    let P : Option Item → Type 0 = λ x. IfSome x (λ item. size ≡ size_of (header new) item) in
+    let size_is : size ≡ size_of (header new) sends.item = subst P at sized in
+    let fits : size ≤ before.room = rw (size_is, sizes) (size_fits (header old.outstanding) before.room max (length sends.item.fragment.payload) max_is some sends.is_first.at_most) in
     let positive : 0 < size = let p = sends.is_first.some in omega (arith, size_is) in
     let tsn_is : tsn ≡ (new.first_tsn + place) % 2 ^ 32 = sends.tsn_is ∙ rw (first, place_is) refl in
     let keeps = sends_keeps now max old new tsn reset sends in (
@@ -168,7 +167,7 @@ pub counted_keeps : (size : ℕ) (queue : RetransmissionState) → Keeps queue (
 counted_keeps size queue = go (nat_lt 0 size)
   where
     go : (b : Bool) → Keeps queue (if b then record queue { packets_retransmitted = min (queue.packets_retransmitted + 1) (2 ^ 64 - 1); bytes_retransmitted = min (queue.bytes_retransmitted + size) (2 ^ 64 - 1) } else queue)
-    go true = record { first_tsn = refl; header = refl; fragments = fragments_refl queue.outstanding.items; congestion = refl; timer = refl; peer_window = refl; partial_reliability = refl; interleaving = refl }
+    go true = record { first_tsn = refl; is_interleaved = refl; fragments = fragments_refl queue.outstanding.items; congestion = refl; timer = refl; peer_window = refl; partial_reliability = refl }
     go false = keeps_refl queue
 
 -- what a packet that was empty holds

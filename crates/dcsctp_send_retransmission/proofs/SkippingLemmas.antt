@@ -105,10 +105,10 @@ listed_taken false true stream row item e =
     sym (ap (λ (b : Bool). option_or (if b then Some item else None) None) apart)
 
 -- what is collected where an item isn't listed
-pub collects_skipped : (queue : RetransmissionState) (row : List Item) (item : Item) (entries : List ((ℕ × Bool) × LastNumbers)) → is_listed queue.message_interleaving item ≡ false → Collects queue row entries → Collects queue (row ++ item ∷ []) entries
+pub collects_skipped : (queue : RetransmissionState) (row : List Item) (item : Item) (entries : List ((ℕ × Bool) × LastNumbers)) → is_listed queue.outstanding.is_interleaved item ≡ false → Collects queue row entries → Collects queue (row ++ item ∷ []) entries
 collects_skipped queue row item entries unlisted collects =
     record {
-      numbers = λ stream unordered. collects.numbers stream unordered ∙ ap (option_map numbers_of) (sym (listed_skipped queue.message_interleaving unordered stream row item unlisted));
+      numbers = λ stream unordered. collects.numbers stream unordered ∙ ap (option_map numbers_of) (sym (listed_skipped queue.outstanding.is_interleaved unordered stream row item unlisted));
       fits = collects.fits;
     }
 
@@ -117,19 +117,19 @@ put_in true item last = refl
 put_in false item last = refl
 
 -- what is collected with one more
-pub collects_taken : (queue : RetransmissionState) (row : List Item) (item : Item) (old new : List ((ℕ × Bool) × LastNumbers)) → is_listed queue.message_interleaving item ≡ true → Collects queue row old → ((q : ℕ × Bool) → lookup (is_at (key_cmp q)) new ≡ cond (is_at (key_cmp (item.fragment.stream, item.fragment.is_unordered)) q) (Some (numbers_of item)) (lookup (is_at (key_cmp q)) old)) → length new ≤ limit_of queue → Collects queue (row ++ item ∷ []) new
+pub collects_taken : (queue : RetransmissionState) (row : List Item) (item : Item) (old new : List ((ℕ × Bool) × LastNumbers)) → is_listed queue.outstanding.is_interleaved item ≡ true → Collects queue row old → ((q : ℕ × Bool) → lookup (is_at (key_cmp q)) new ≡ cond (is_at (key_cmp (item.fragment.stream, item.fragment.is_unordered)) q) (Some (numbers_of item)) (lookup (is_at (key_cmp q)) old)) → length new ≤ limit_of queue → Collects queue (row ++ item ∷ []) new
 collects_taken queue row item old new listed collects updates fits =
     record {
       numbers = λ stream unordered.
           let key : ℕ × Bool = (item.fragment.stream, item.fragment.is_unordered) in
           let test : is_eq (key_cmp key (stream, unordered)) ≡ is_same stream unordered key.0 key.1 = same_is key (stream, unordered) ∙ same_flip key.0 key.1 stream unordered in
-          let was : lookup (is_at (key_cmp (stream, unordered))) old ≡ option_map numbers_of (last_listed queue.message_interleaving stream unordered row) = lookup_is stream unordered old ∙ collects.numbers stream unordered in
+          let was : lookup (is_at (key_cmp (stream, unordered))) old ≡ option_map numbers_of (last_listed queue.outstanding.is_interleaved stream unordered row) = lookup_is stream unordered old ∙ collects.numbers stream unordered in
           sym (lookup_is stream unordered new)
           ∙ updates (stream, unordered)
           ∙ ap (λ (b : Bool). cond b (Some (numbers_of item)) (lookup (is_at (key_cmp (stream, unordered))) old)) test
           ∙ ap (λ (o : Option LastNumbers). cond (is_same stream unordered key.0 key.1) (Some (numbers_of item)) o) was
-          ∙ put_in (is_same stream unordered key.0 key.1) item (last_listed queue.message_interleaving stream unordered row)
-          ∙ ap (option_map numbers_of) (sym (listed_taken queue.message_interleaving unordered stream row item listed));
+          ∙ put_in (is_same stream unordered key.0 key.1) item (last_listed queue.outstanding.is_interleaved stream unordered row)
+          ∙ ap (option_map numbers_of) (sym (listed_taken queue.outstanding.is_interleaved unordered stream row item listed));
       fits = fits;
     }
 
@@ -151,7 +151,7 @@ last_of_listed : (interleaving unordered : Bool) (stream : ℕ) (row : List Item
 last_of_listed interleaving unordered stream row e = ap (λ (b : Bool). if b then last_on stream unordered row else None) e
 
 -- There is no room where all entries are taken, and none is the item's.
-pub lacks_room : (queue : RetransmissionState) (row : List Item) (item : Item) (entries : List ((ℕ × Bool) × LastNumbers)) → is_listed queue.message_interleaving item ≡ true → Collects queue row entries → limit_of queue ≤ length entries → is_some (lookup (is_at (key_cmp (item.fragment.stream, item.fragment.is_unordered))) entries) ≡ false → LacksRoom queue.message_interleaving (limit_of queue) (length entries) row item
+pub lacks_room : (queue : RetransmissionState) (row : List Item) (item : Item) (entries : List ((ℕ × Bool) × LastNumbers)) → is_listed queue.outstanding.is_interleaved item ≡ true → Collects queue row entries → limit_of queue ≤ length entries → is_some (lookup (is_at (key_cmp (item.fragment.stream, item.fragment.is_unordered))) entries) ≡ false → LacksRoom queue.outstanding.is_interleaved (limit_of queue) (length entries) row item
 lacks_room queue row item entries listed collects full absent =
     let stream = item.fragment.stream in
     let unordered = item.fragment.is_unordered in
@@ -160,8 +160,8 @@ lacks_room queue row item entries listed collects full absent =
       listed = listed;
       full = full;
       is_new =
-          sym (last_of_listed queue.message_interleaving unordered stream row listed)
-          ∙ map_none numbers_of (last_listed queue.message_interleaving stream unordered row) (sym (collects.numbers stream unordered) ∙ none);
+          sym (last_of_listed queue.outstanding.is_interleaved unordered stream row listed)
+          ∙ map_none numbers_of (last_listed queue.outstanding.is_interleaved stream unordered row) (sym (collects.numbers stream unordered) ∙ none);
     }
 
 -- ---- the entries of the chunk
@@ -261,7 +261,7 @@ stops_here queue place entries item within at stops each collects =
     }
 
 -- It ends at one for which there is no room.
-pub stops_full : (queue : RetransmissionState) (place : ℕ) (entries : List ((ℕ × Bool) × LastNumbers)) (item : Item) → place < length queue.outstanding.items → slice_get queue.outstanding.items place ≡ Some item → LacksRoom queue.message_interleaving (limit_of queue) (length entries) (take place queue.outstanding.items) item → GoOn place queue.outstanding.items → Collects queue (take place queue.outstanding.items) entries → Skips queue place entries
+pub stops_full : (queue : RetransmissionState) (place : ℕ) (entries : List ((ℕ × Bool) × LastNumbers)) (item : Item) → place < length queue.outstanding.items → slice_get queue.outstanding.items place ≡ Some item → LacksRoom queue.outstanding.is_interleaved (limit_of queue) (length entries) (take place queue.outstanding.items) item → GoOn place queue.outstanding.items → Collects queue (take place queue.outstanding.items) entries → Skips queue place entries
 stops_full queue place entries item within at lacks each collects =
     record {
       row = record { within = omega arith; each = each; fits = collects.fits; ends = inr (record { item = item; at = at; why = inr lacks }) };
@@ -270,24 +270,24 @@ stops_full queue place entries item within at lacks each collects =
 
 -- ---- the whole chunk
 
-pub says_messages : (queue : RetransmissionState) (count : ℕ) (entries : List ((ℕ × Bool) × LastNumbers)) (messages : Vec SkippedMessages Global) (cumulative : ℕ) → queue.message_interleaving ≡ true → Skips queue count entries → (map messages_entry messages.items ≡ map mid_entry entries) × NoneTwice entries → cumulative ≡ (queue.outstanding.first_tsn + count + (2 ^ 32 - 1)) % 2 ^ 32 → Says queue (record { new_cumulative_tsn = cumulative; skipped = Messages messages })
+pub says_messages : (queue : RetransmissionState) (count : ℕ) (entries : List ((ℕ × Bool) × LastNumbers)) (messages : Vec SkippedMessages Global) (cumulative : ℕ) → queue.outstanding.is_interleaved ≡ true → Skips queue count entries → (map messages_entry messages.items ≡ map mid_entry entries) × NoneTwice entries → cumulative ≡ (queue.outstanding.first_tsn + count + (2 ^ 32 - 1)) % 2 ^ 32 → Says queue (record { new_cumulative_tsn = cumulative; skipped = Messages messages })
 says_messages queue count entries messages cumulative is skips listed cumulative_is =
     let sizes : length entries ≡ length messages.items = sym (length-map entries mid_entry) ∙ ap length (sym listed.0) ∙ length-map messages.items messages_entry in
     let numbers : HasNumbers true (take count queue.outstanding.items) entries = subst (λ b. HasNumbers b (take count queue.outstanding.items) entries) is skips.collects.numbers in
     record {
       count = count;
-      row = subst (λ n. IsRow queue.message_interleaving (limit_of queue) n count queue.outstanding.items) sizes skips.row;
+      row = subst (λ n. IsRow queue.outstanding.is_interleaved (limit_of queue) n count queue.outstanding.items) sizes skips.row;
       cumulative = cumulative_is;
       lists = rw is (lists_messages (take count queue.outstanding.items) entries (map messages_entry messages.items) numbers listed);
     }
 
-pub says_streams : (queue : RetransmissionState) (count : ℕ) (entries : List ((ℕ × Bool) × LastNumbers)) (streams : Vec SkippedStream Global) (cumulative : ℕ) → queue.message_interleaving ≡ false → Skips queue count entries → (map stream_entry streams.items ≡ map ssn_entry entries) × NoneTwice entries → cumulative ≡ (queue.outstanding.first_tsn + count + (2 ^ 32 - 1)) % 2 ^ 32 → Says queue (record { new_cumulative_tsn = cumulative; skipped = Streams streams })
+pub says_streams : (queue : RetransmissionState) (count : ℕ) (entries : List ((ℕ × Bool) × LastNumbers)) (streams : Vec SkippedStream Global) (cumulative : ℕ) → queue.outstanding.is_interleaved ≡ false → Skips queue count entries → (map stream_entry streams.items ≡ map ssn_entry entries) × NoneTwice entries → cumulative ≡ (queue.outstanding.first_tsn + count + (2 ^ 32 - 1)) % 2 ^ 32 → Says queue (record { new_cumulative_tsn = cumulative; skipped = Streams streams })
 says_streams queue count entries streams cumulative is skips listed cumulative_is =
     let sizes : length entries ≡ length streams.items = sym (length-map entries ssn_entry) ∙ ap length (sym listed.0) ∙ length-map streams.items stream_entry in
     let numbers : HasNumbers false (take count queue.outstanding.items) entries = subst (λ b. HasNumbers b (take count queue.outstanding.items) entries) is skips.collects.numbers in
     record {
       count = count;
-      row = subst (λ n. IsRow queue.message_interleaving (limit_of queue) n count queue.outstanding.items) sizes skips.row;
+      row = subst (λ n. IsRow queue.outstanding.is_interleaved (limit_of queue) n count queue.outstanding.items) sizes skips.row;
       cumulative = cumulative_is;
       lists = rw is (lists_streams (take count queue.outstanding.items) entries (map stream_entry streams.items) numbers listed);
     }

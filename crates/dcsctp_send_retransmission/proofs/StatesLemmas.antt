@@ -13,7 +13,7 @@ use Rattle.dcsctp_send_retransmission.specs.declared.packet.Packet.{Packet}
 use Rattle.dcsctp_machine.specs.declared.progress.Change.{Change}
 use Rattle.dcsctp_machine.specs.declared.progress.Change.TheVariants.{SendAgain}
 use Rattle.dcsctp_machine.specs.transfer.Progress.{is_marked}
-use Rattle.dcsctp_machine.specs.transfer.Outstanding.{OutstandingState}
+use Rattle.dcsctp_machine.specs.transfer.Outstanding.{OutstandingState, header}
 use Rattle.dcsctp_send_outstanding.specs.Next.{IsNextMarked}
 use Rattle.dcsctp_machine.specs.transfer.Retransmission.{RetransmissionState}
 use Rattle.dcsctp_send_retransmission.proofs.SendingLemmas.{last_pushed, with_outstanding}
@@ -96,15 +96,15 @@ sends_first_later false tsn (suc place) old items new later is first = ap is_fir
 -- a new item goes out
 pub sends_new : (now max : ℕ) (old : RetransmissionState) (before after : Packet) (place size tsn : ℕ) (new : OutstandingState) (waiting left : SendQueueState) (events telling : List SocketEvent)
     → SendsItem now max old.reset_begun old.outstanding waiting (contents events) new left (contents telling) tsn → place ≡ length old.outstanding.items
-    → IfSome (slice_get new.items place) (λ item. size ≡ size_of new.header item) → max ≡ payload_room old.outstanding.header before.room
+    → IfSome (slice_get new.items place) (λ item. size ≡ size_of (header new) item) → max ≡ payload_room (header old.outstanding) before.room
     → after.tsns.items ≡ before.tsns.items ++ tsn ∷ [] → after.room ≡ before.room - size
     → SendsNew now (stage old waiting events before.tsns.items before.room) (stage (with_outstanding new false old) left telling after.tsns.items after.room)
 sends_new now max old before after place size tsn new waiting left events telling sends place_is sized max_is tsns room =
     let items = ap (λ (m : OutstandingState). m.items) sends.grows in
-    let header = ap (λ (m : OutstandingState). m.header) sends.grows in
+    let sizes = ap header sends.grows in
     let at : slice_get new.items place ≡ Some sends.item = rw (items, place_is) (last_pushed old.outstanding.items sends.item) in
-    let P : Option Item → Type 0 = λ x. IfSome x (λ item. size ≡ size_of new.header item) in
-    let size_is : size ≡ size_of old.outstanding.header sends.item = subst P at sized ∙ ap (λ (h : ℕ). size_of h sends.item) header in
+    let P : Option Item → Type 0 = λ x. IfSome x (λ item. size ≡ size_of (header new) item) in
+    let size_is : size ≡ size_of (header old.outstanding) sends.item = subst P at sized ∙ ap (λ (h : ℕ). size_of h sends.item) sizes in
     let T : ℕ → Type 0 = λ m. Takes now m waiting (contents events) sends.item.fragment left (contents telling) in
     record {
       item = sends.item;

@@ -101,6 +101,6 @@ pub record IsRow (interleaving : Bool) (limit entries count : ℕ) (items : List
 -- The chunk skips the first items which were abandoned, as far as it has room, and no other.
 pub record Says (queue : RetransmissionState) (chunk : ForwardTsn) : Type 0 where
   pub count : ℕ
-  pub row : IsRow queue.message_interleaving (entry_limit queue.message_interleaving queue.congestion.mtu) (entry_count chunk.skipped) count queue.outstanding.items
+  pub row : IsRow queue.outstanding.is_interleaved (entry_limit queue.outstanding.is_interleaved queue.congestion.mtu) (entry_count chunk.skipped) count queue.outstanding.items
   pub cumulative : chunk.new_cumulative_tsn ≡ (queue.outstanding.first_tsn + count + (2 ^ 32 - 1)) % 2 ^ 32
-  pub lists : Lists queue.message_interleaving (take count queue.outstanding.items) chunk.skipped
+  pub lists : Lists queue.outstanding.is_interleaved (take count queue.outstanding.items) chunk.skipped

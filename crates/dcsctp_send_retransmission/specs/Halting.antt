@@ -3,7 +3,7 @@ use Rattle.std.specs.Prelude.{◌≡◌, ◌⊎◌, ℕ, ◌+◌, ◌^◌, ◌<�
 use Rattle.dcsctp_machine.specs.transfer.SendQueue.{SendQueueState}
 use Rattle.dcsctp_machine.specs.transfer.Items.{Item, size_of, marked_items, changed_between}
 use Rattle.dcsctp_machine.specs.declared.progress.Change.TheVariants.{SendAgain}
-use Rattle.dcsctp_machine.specs.transfer.Outstanding.{OutstandingState, next_tsn}
+use Rattle.dcsctp_machine.specs.transfer.Outstanding.{OutstandingState, header, next_tsn}
 use Rattle.dcsctp_send_outstanding.specs.Next.{IsNextMarked, HasNone}
 use Rattle.dcsctp_machine.specs.transfer.Retransmission.{RetransmissionState, can_send}
 use Rattle.dcsctp_send_retransmission.specs.Sending.{PackedFrom}
@@ -14,7 +14,7 @@ pub record WaitsForRoom (room : ℕ) (outstanding : OutstandingState) : Type 0 w
   pub next : IsNextMarked place outstanding.items
   pub item : Item
   pub at : slice_get outstanding.items place ≡ Some item
-  pub longer : room < size_of outstanding.header item
+  pub longer : room < size_of (header outstanding) item
 
 -- Why no chunk is sent again: none waits for it, the windows don't allow, or the first doesn't fit.
 abbrev pub HaltsAgain : ℕ → RetransmissionState → Type 0
@@ -24,7 +24,7 @@ HaltsAgain room queue = (marked_items queue.outstanding.items ≡ 0) ⊎ ((can_s
 -- none.
 abbrev pub HaltsNew : ℕ → RetransmissionState → SendQueueState → Type 0
 HaltsNew room queue waiting =
-    (can_send queue ≡ false) ⊎ ((room < queue.outstanding.header + 4) ⊎ ((2 ^ 31 ≤ length queue.outstanding.items + 1) ⊎ HasNone waiting))
+    (can_send queue ≡ false) ⊎ ((room < header queue.outstanding + 4) ⊎ ((2 ^ 31 ≤ length queue.outstanding.items + 1) ⊎ HasNone waiting))
 
 -- Why nothing more goes into a packet with that much room. New chunks go after all that are sent again.
 abbrev pub Halts : ℕ → RetransmissionState → SendQueueState → Type 0
@@ -37,7 +37,7 @@ SendsAgain place old room new left true = new ≡ record old { items = changed_b
 SendsAgain place old room new left false = (new ≡ old) × (left ≡ room) × IsLonger room place old
   where
     IsLonger : ℕ → ℕ → OutstandingState → Type 0
-    IsLonger room place outstanding = (item : Item) → slice_get outstanding.items place ≡ Some item → room < size_of outstanding.header item
+    IsLonger room place outstanding = (item : Item) → slice_get outstanding.items place ≡ Some item → room < size_of (header outstanding) item
 
 -- what a try to send the first marked item again leaves: fewer that wait, or a reason and no more of them
 abbrev pub GoesAgain : RetransmissionState → RetransmissionState → ℕ → Bool → Type 0

@@ -3,7 +3,7 @@ use Rattle.std.specs.Prelude.{◌≡◌, ℕ, ◌+◌, ◌%◌, ◌^◌, ◌≤�
 use Rattle.dcsctp_machine.specs.transfer.Sending.{Fragment}
 use Rattle.dcsctp_machine.specs.transfer.Items.{Item, size_of}
 use Rattle.dcsctp_send_retransmission.specs.declared.packet.Packet.{Packet}
-use Rattle.dcsctp_machine.specs.transfer.Outstanding.{OutstandingState}
+use Rattle.dcsctp_machine.specs.transfer.Outstanding.{OutstandingState, header}
 use Rattle.dcsctp_machine.specs.transfer.Retransmission.{RetransmissionState, timer_with}
 
 -- the item at this place carries the fragment
@@ -19,13 +19,12 @@ KeepsFragments old new = (k : ℕ) (item : Item) → slice_get old k ≡ Some it
 -- No fragment is lost, and neither the cumulative TSN nor the windows nor the timer change.
 pub record Keeps (old new : RetransmissionState) : Type 0 where
   pub first_tsn : new.outstanding.first_tsn ≡ old.outstanding.first_tsn
-  pub header : new.outstanding.header ≡ old.outstanding.header
+  pub is_interleaved : new.outstanding.is_interleaved ≡ old.outstanding.is_interleaved
   pub fragments : KeepsFragments old.outstanding.items new.outstanding.items
   pub congestion : new.congestion ≡ old.congestion
   pub timer : new.timer ≡ old.timer
   pub peer_window : new.peer_window ≡ old.peer_window
   pub partial_reliability : new.partial_reliability ≡ old.partial_reliability
-  pub interleaving : new.message_interleaving ≡ old.message_interleaving
 
 -- These TSNs are those of items, and their chunks take up that many bytes.
 pub data Packed (first header : ℕ) (items : List Item) : List ℕ → ℕ → Type 0 where
@@ -34,7 +33,7 @@ pub data Packed (first header : ℕ) (items : List Item) : List ℕ → ℕ → 
 
 -- the same for what is outstanding
 abbrev pub PackedFrom : OutstandingState → List ℕ → ℕ → Type 0
-PackedFrom outstanding tsns used = Packed outstanding.first_tsn outstanding.header outstanding.items tsns used
+PackedFrom outstanding tsns used = Packed outstanding.first_tsn (header outstanding) outstanding.items tsns used
 
 -- A packet that had that many bytes of room holds chunks of the queue.
 pub record Filled (bytes : ℕ) (queue : RetransmissionState) (packet : Packet) : Type 0 where

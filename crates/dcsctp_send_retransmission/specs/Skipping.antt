@@ -19,16 +19,16 @@ mid_entry entry = ((entry.0.0, entry.0.1), entry.1.mid)
 
 -- how many entries fit
 abbrev pub limit_of : RetransmissionState → ℕ
-limit_of queue = entry_limit queue.message_interleaving queue.congestion.mtu
+limit_of queue = entry_limit queue.outstanding.is_interleaved queue.congestion.mtu
 
 -- the numbers of the last items of a row, by their streams
 pub record Collects (queue : RetransmissionState) (row : List Item) (entries : List ((ℕ × Bool) × LastNumbers)) : Type 0 where
-  pub numbers : (stream : ℕ) (unordered : Bool) → entry_for stream unordered entries ≡ option_map numbers_of (last_listed queue.message_interleaving stream unordered row)
+  pub numbers : (stream : ℕ) (unordered : Bool) → entry_for stream unordered entries ≡ option_map numbers_of (last_listed queue.outstanding.is_interleaved stream unordered row)
   pub fits : length entries ≤ limit_of queue
 
 -- those of the row that is skipped
 pub record Skips (queue : RetransmissionState) (count : ℕ) (entries : List ((ℕ × Bool) × LastNumbers)) : Type 0 where
-  pub row : IsRow queue.message_interleaving (limit_of queue) (length entries) count queue.outstanding.items
+  pub row : IsRow queue.outstanding.is_interleaved (limit_of queue) (length entries) count queue.outstanding.items
   pub collects : Collects queue (take count queue.outstanding.items) entries
 
 -- What a try to take one more item in does: it is collected, or there is no room for it.
@@ -36,4 +36,4 @@ abbrev pub TakesIn : RetransmissionState → ℕ → List ((ℕ × Bool) × Last
 TakesIn queue place old new true = Collects queue (take (place + 1) queue.outstanding.items) new
 TakesIn queue place old new false =
     (new ≡ old)
-    × ((item : Item) → slice_get queue.outstanding.items place ≡ Some item → LacksRoom queue.message_interleaving (limit_of queue) (length old) (take place queue.outstanding.items) item)
+    × ((item : Item) → slice_get queue.outstanding.items place ≡ Some item → LacksRoom queue.outstanding.is_interleaved (limit_of queue) (length old) (take place queue.outstanding.items) item)

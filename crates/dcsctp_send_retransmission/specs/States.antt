@@ -14,7 +14,7 @@ use Rattle.dcsctp_machine.specs.transfer.Items.{Item, size_of, marked_items, cha
 use Rattle.dcsctp_send_retransmission.specs.declared.packet.Packet.{Packet}
 use Rattle.dcsctp_machine.specs.declared.progress.Change.TheVariants.{SendAgain, Abandon}
 use Rattle.dcsctp_machine.specs.transfer.Progress.{is_marked}
-use Rattle.dcsctp_machine.specs.transfer.Outstanding.{OutstandingState, tsn_at, next_tsn}
+use Rattle.dcsctp_machine.specs.transfer.Outstanding.{OutstandingState, header, tsn_at, next_tsn}
 use Rattle.dcsctp_send_outstanding.specs.Fresh.{IsFresh}
 use Rattle.dcsctp_send_outstanding.specs.Next.{IsNextMarked}
 use Rattle.dcsctp_send_outstanding.specs.Messages.{IsMessage, EndsMessage, DropsRest}
@@ -90,11 +90,11 @@ pub record SendsMarked (now : ℕ) (old new : Stage) : Type 0 where
   pub place : ℕ
   pub next : IsNextMarked place old.queue.outstanding.items
   pub stays : is_due now old.queue.partial_reliability next.marked.item ≡ false
-  pub fits : size_of old.queue.outstanding.header next.marked.item ≤ old.room
+  pub fits : size_of (header old.queue.outstanding) next.marked.item ≤ old.room
   pub is : new ≡ record old {
     queue = with_items (changed_between (SendAgain (next_tsn old.queue.outstanding)) place (place + 1) old.queue.outstanding.items) old.queue;
     tsns = old.tsns ++ tsn_at old.queue.outstanding place ∷ [];
-    room = old.room - size_of old.queue.outstanding.header next.marked.item;
+    room = old.room - size_of (header old.queue.outstanding) next.marked.item;
   }
 
 -- The first item that waits to be sent again is due to be abandoned, and is.
@@ -113,13 +113,13 @@ pub record SendsNew (now : ℕ) (old new : Stage) : Type 0 where
   pub item : Item
   pub is_fresh : IsFresh now item
   pub begins : item.begins_after_reset ≡ old.queue.reset_begun
-  pub takes : Takes now (payload_room old.queue.outstanding.header old.room) old.waiting old.told item.fragment new.waiting new.told
+  pub takes : Takes now (payload_room (header old.queue.outstanding) old.room) old.waiting old.told item.fragment new.waiting new.told
   pub is : new ≡ record old {
     queue = record old.queue { outstanding = record old.queue.outstanding { items = old.queue.outstanding.items ++ item ∷ [] }; reset_begun = false };
     waiting = new.waiting;
     told = new.told;
     tsns = old.tsns ++ next_tsn old.queue.outstanding ∷ [];
-    room = old.room - size_of old.queue.outstanding.header item;
+    room = old.room - size_of (header old.queue.outstanding) item;
   }
 
 -- The send queue gives nothing.
@@ -170,7 +170,7 @@ Refused now at left telling =
     ((left ≡ at.waiting) × (telling ≡ at.told))
     ⊎ (RefusesUp now at left telling
     ⊎ ((marked_items at.queue.outstanding.items ≡ 0)
-    × StopsTaking now (payload_room at.queue.outstanding.header at.room) at.waiting at.told left telling))
+    × StopsTaking now (payload_room (header at.queue.outstanding) at.room) at.waiting at.told left telling))
 
 -- After some steps an allocation fails: nothing of a further step has happened to the items.
 pub record Stops (now : ℕ) (Step : Stage → Stage → Type 0) (old new : Stage) : Type 0 where
@@ -231,10 +231,10 @@ pub record SendsPacket (now bytes : ℕ) (old : RetransmissionState) (waiting : 
 -- What a try to send the item at this place again does, by whether it fits.
 abbrev pub SendsAt : ℕ → Item → RetransmissionState → Packet → RetransmissionState → Packet → Bool → Type 0
 SendsAt place item old before new after true =
-    (size_of old.outstanding.header item ≤ before.room)
+    (size_of (header old.outstanding) item ≤ before.room)
     × (new ≡ with_items (changed_between (SendAgain (next_tsn old.outstanding)) place (place + 1) old.outstanding.items) old)
     × (after.tsns.items ≡ before.tsns.items ++ tsn_at old.outstanding place ∷ [])
-    × (after.room ≡ before.room - size_of old.outstanding.header item)
+    × (after.room ≡ before.room - size_of (header old.outstanding) item)
 SendsAt place item old before new after false = (new ≡ old) × (after.tsns.items ≡ before.tsns.items) × (after.room ≡ before.room)
 
 -- ---- a fast retransmission (RFC 9260, section 7.2.4)

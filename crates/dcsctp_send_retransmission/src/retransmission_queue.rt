@@ -31,7 +31,6 @@ pub struct RetransmissionQueue {
     peer_window: usize,
 
     partial_reliability: bool,
-    interleaving: bool,
     fast_retransmit_due: bool,
 
     // Were streams reset since the last item was sent?
@@ -56,7 +55,6 @@ impl Model for RetransmissionQueue {
       timer = queue.timer;
       peer_window = queue.peer_window;
       partial_reliability = queue.partial_reliability;
-      message_interleaving = queue.interleaving;
       fast_retransmit_due = queue.fast_retransmit_due;
       reset_begun = queue.reset_begun;
       packets_retransmitted = queue.packets_retransmitted;
@@ -89,11 +87,7 @@ impl RetransmissionQueue {
         ensures { result ≡ new_retransmission options.now my_initial_tsn a_rwnd partial_reliability interleaving }
     {
         RetransmissionQueue {
-            outstanding: Outstanding::new(
-                alloc,
-                my_initial_tsn,
-                if interleaving { 20 } else { 16 },
-            ),
+            outstanding: Outstanding::new(alloc, my_initial_tsn, interleaving),
             congestion: CongestionControl::new(options, a_rwnd),
             timer: Timer::new(
                 options.rto_initial,
@@ -103,7 +97,6 @@ impl RetransmissionQueue {
             ),
             peer_window: a_rwnd as usize,
             partial_reliability,
-            interleaving,
             fast_retransmit_due: false,
             reset_begun: false,
             packets_retransmitted: 0,
@@ -122,9 +115,9 @@ impl RetransmissionQueue {
 
     /// Are messages sent as I-DATA (RFC 8260, section 2.1)?
     pub fn is_interleaving(&self) -> bool
-        ensures { result ≡ self.now.message_interleaving }
+        ensures { result ≡ self.now.outstanding.is_interleaved }
     {
-        self.interleaving
+        self.outstanding.is_interleaving()
     }
 
     /// The TSN that is sent next.

@@ -4,8 +4,7 @@ use Rattle.std.specs.List.{AllByRecursion, slice_get}
 use Rattle.std.proofs.lemmas.List.Sums.{sum_by-cons}
 use Rattle.dcsctp_wire_build.specs.Building.{Building}
 use Rattle.dcsctp_machine.specs.transfer.Transfer.{Transfer}
-use Rattle.dcsctp_machine.specs.transfer.Retransmission.{RetransmissionState, header_of, counted_again, outstanding_count}
-use Rattle.dcsctp_api.specs.declared.events.SocketEvent.{SocketEvent}
+use Rattle.dcsctp_machine.specs.transfer.Retransmission.{RetransmissionState, counted_again, outstanding_count}
 use Rattle.dcsctp_machine.specs.transfer.SendQueue.{SendQueueState}
 use Rattle.dcsctp_machine.specs.transfer.Items.{Item, counted, unacknowledged_count, unacknowledged_items, changed_item, changed_between}
 use Rattle.dcsctp_machine.specs.declared.progress.ItemState.{ItemState}
@@ -14,7 +13,7 @@ use Rattle.dcsctp_machine.specs.declared.progress.Change.TheVariants.{SendAgain}
 use Rattle.dcsctp_machine.specs.transfer.Progress.{is_marked, is_unacknowledged}
 use Rattle.dcsctp_machine.specs.transfer.Outstanding.{next_tsn}
 use Rattle.dcsctp_send_outstanding.proofs.ItemsLemmas.{length-changed_between}
-use Rattle.dcsctp_send_retransmission.specs.States.{Stage, stage, SendsMarked, Steps, none, more, Stops, SendsAtOnce}
+use Rattle.dcsctp_send_retransmission.specs.States.{Stage, SendsMarked, Steps, none, more, SendsAtOnce}
 use Rattle.dcsctp_transfer.specs.Adding.{AddsChunks}
 use Rattle.dcsctp_transfer.specs.Filling.{IsDataChunk}
 use Rattle.dcsctp_transfer.specs.Sacks.{FillsAtOnce}
@@ -48,8 +47,7 @@ record Stays (old new : RetransmissionState) : Type 0 where
   first : new.outstanding.first_tsn ≡ old.outstanding.first_tsn
   len : length new.outstanding.items ≡ length old.outstanding.items
   unacknowledged : unacknowledged_items new.outstanding.items ≡ unacknowledged_items old.outstanding.items
-  interleaving : new.message_interleaving ≡ old.message_interleaving
-  header : new.outstanding.header ≡ old.outstanding.header
+  is_interleaved : new.outstanding.is_interleaved ≡ old.outstanding.is_interleaved
 
 one_stays : (now : ℕ) (old new : Stage) → SendsMarked now old new → Stays old.queue new.queue
 one_stays now old new sends =
@@ -65,12 +63,11 @@ one_stays now old new sends =
       first = ap (λ (q : RetransmissionState). q.outstanding.first_tsn) is;
       len = ap (λ (q : RetransmissionState). length q.outstanding.items) is ∙ length-changed_between (SendAgain next) place (place + 1) items;
       unacknowledged = ap (λ (q : RetransmissionState). unacknowledged_items q.outstanding.items) is ∙ kept;
-      interleaving = ap (λ (q : RetransmissionState). q.message_interleaving) is;
-      header = ap (λ (q : RetransmissionState). q.outstanding.header) is;
+      is_interleaved = ap (λ (q : RetransmissionState). q.outstanding.is_interleaved) is;
     }
 
 all_stay : (now : ℕ) (old new : Stage) → Steps (SendsMarked now) old new → Stays old.queue new.queue
-all_stay now old new none = record { first = refl; len = refl; unacknowledged = refl; interleaving = refl; header = refl }
+all_stay now old new none = record { first = refl; len = refl; unacknowledged = refl; is_interleaved = refl }
 all_stay now old new (more between last steps step) =
     let before = all_stay now old between steps in
     let here = one_stays now between new step in
@@ -78,16 +75,15 @@ all_stay now old new (more between last steps step) =
       first = here.first ∙ before.first;
       len = here.len ∙ before.len;
       unacknowledged = here.unacknowledged ∙ before.unacknowledged;
-      interleaving = here.interleaving ∙ before.interleaving;
-      header = here.header ∙ before.header;
+      is_interleaved = here.is_interleaved ∙ before.is_interleaved;
     }
 
 counting_stays : (size : ℕ) (queue : RetransmissionState) → Stays queue (counted_again size queue)
 counting_stays size queue = go (nat_lt 0 size)
   where
     go : (b : Bool) → Stays queue (if b then record queue { packets_retransmitted = min (queue.packets_retransmitted + 1) (2 ^ 64 - 1); bytes_retransmitted = min (queue.bytes_retransmitted + size) (2 ^ 64 - 1) } else queue)
-    go true = record { first = refl; len = refl; unacknowledged = refl; interleaving = refl; header = refl }
-    go false = record { first = refl; len = refl; unacknowledged = refl; interleaving = refl; header = refl }
+    go true = record { first = refl; len = refl; unacknowledged = refl; is_interleaved = refl }
+    go false = record { first = refl; len = refl; unacknowledged = refl; is_interleaved = refl }
 
 nothing : SendQueueState
 nothing =
@@ -101,27 +97,12 @@ at_once_stays now bytes old new tsns sends =
       first = ap (λ (q : RetransmissionState). q.outstanding.first_tsn) sends.is ∙ (counts.first ∙ steps.first);
       len = ap (λ (q : RetransmissionState). length q.outstanding.items) sends.is ∙ (counts.len ∙ steps.len);
       unacknowledged = ap (λ (q : RetransmissionState). unacknowledged_items q.outstanding.items) sends.is ∙ (counts.unacknowledged ∙ steps.unacknowledged);
-      interleaving = ap (λ (q : RetransmissionState). q.message_interleaving) sends.is ∙ (counts.interleaving ∙ steps.interleaving);
-      header = ap (λ (q : RetransmissionState). q.outstanding.header) sends.is ∙ (counts.header ∙ steps.header);
+      is_interleaved = ap (λ (q : RetransmissionState). q.outstanding.is_interleaved) sends.is ∙ (counts.is_interleaved ∙ steps.is_interleaved);
     }
-
-pub header_after : (now bytes : ℕ) (old new : RetransmissionState) (tsns : List ℕ) → old.outstanding.header ≡ header_of old.message_interleaving
-    → SendsAtOnce now bytes (record old { fast_retransmit_due = false }) new tsns → new.outstanding.header ≡ header_of new.message_interleaving
-header_after now bytes old new tsns holds sends =
-    let stays = at_once_stays now bytes old new tsns sends in
-    stays.header ∙ (holds ∙ ap header_of (sym stays.interleaving))
-
-pub header_refused : (now bytes : ℕ) (old new : RetransmissionState) → old.outstanding.header ≡ header_of old.message_interleaving
-    → ((waiting : SendQueueState) (events : List SocketEvent) → Stops now (SendsMarked now) (stage (record old { fast_retransmit_due = false }) waiting events [] bytes) (stage new waiting events [] bytes))
-    → new.outstanding.header ≡ header_of new.message_interleaving
-header_refused now bytes old new holds stops =
-    let stop = stops nothing [] in
-    let stays = all_stay now _ _ stop.steps in
-    ap (λ (q : RetransmissionState). q.outstanding.header) stop.queue ∙ (stays.header ∙ (holds ∙ ap header_of (sym (ap (λ (q : RetransmissionState). q.message_interleaving) stop.queue ∙ stays.interleaving))))
 
 pub fills_at_once : (now bytes : ℕ) (old new : Transfer) (before after : RetransmissionState) (tsns : List ℕ) (packet filled : Building) (count : ℕ)
     → before ≡ old.retransmission → new ≡ record old { retransmission = after }
-    → SendsAtOnce now bytes (record before { fast_retransmit_due = false }) after tsns → AddsChunks after.message_interleaving packet count filled
+    → SendsAtOnce now bytes (record before { fast_retransmit_due = false }) after tsns → AddsChunks after.outstanding.is_interleaved packet count filled
     → FillsAtOnce old packet new filled
 fills_at_once now bytes old new before after tsns packet filled count old_is new_is sends adds =
     let stays = at_once_stays now bytes before after tsns sends in
@@ -130,7 +111,7 @@ fills_at_once now bytes old new before after tsns packet filled count old_is new
       chunks = adds.chunks;
       adds = adds.is;
       fits = adds.fits;
-      are_data = subst (λ (b : Bool). AllByRecursion (IsDataChunk b) adds.chunks) (stays.interleaving ∙ ap (λ (r : RetransmissionState). r.message_interleaving) old_is) adds.are_data;
+      are_data = subst (λ (b : Bool). AllByRecursion (IsDataChunk b) adds.chunks) (stays.is_interleaved ∙ ap (λ (r : RetransmissionState). r.outstanding.is_interleaved) old_is) adds.are_data;
       outstanding = ap (λ (r : RetransmissionState). outstanding_count r) state ∙ (stays.len ∙ ap (λ (r : RetransmissionState). outstanding_count r) old_is);
       unacknowledged = ap (λ (r : RetransmissionState). unacknowledged_items r.outstanding.items) state ∙ (stays.unacknowledged ∙ ap (λ (r : RetransmissionState). unacknowledged_items r.outstanding.items) old_is);
       next_tsn = ap (λ (r : RetransmissionState). next_tsn r.outstanding) state

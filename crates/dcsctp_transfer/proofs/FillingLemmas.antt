@@ -8,7 +8,7 @@ use Rattle.dcsctp_wire_build.specs.Building.{Building, bytes_remaining}
 use Rattle.dcsctp_machine.specs.Event.{Event}
 use Rattle.dcsctp_machine.specs.transfer.SendQueue.{SendQueueState, has_data}
 use Rattle.dcsctp_machine.specs.transfer.Transfer.{Transfer, must_give}
-use Rattle.dcsctp_machine.specs.transfer.Retransmission.{RetransmissionState, header_of, outstanding_count}
+use Rattle.dcsctp_machine.specs.transfer.Retransmission.{RetransmissionState, outstanding_count}
 use Rattle.dcsctp_send_retransmission.specs.Sending.{Sends}
 use Rattle.dcsctp_send_retransmission.specs.Halting.{FillsUp}
 use Rattle.dcsctp_transfer.specs.Filling.{TellsMore, IsDataChunk, has_chunks, FillsPacket}
@@ -34,7 +34,7 @@ fills_none transfer waiting events packet nothing =
       gives = λ empty. gives_no_data (bytes_remaining packet) waiting transfer.retransmission nothing;
       rest = refl;
       partial_reliability = refl;
-      message_interleaving = refl;
+      is_interleaved = refl;
       idle = λ no_data no_items. (refl, refl, refl, refl);
     }
 
@@ -58,36 +58,30 @@ no_tsns (tsn ∷ tsns) is =
     let some = positive (length (tsn ∷ tsns)) (omega arith) in
     let both : true ≡ false = sym some ∙ is in absurd (cc)
 
-pub header_kept : (now : ℕ) (before after : RetransmissionState) → before.outstanding.header ≡ header_of before.message_interleaving → Sends now before after → after.outstanding.header ≡ header_of after.message_interleaving
-header_kept now before after header sends =
-    ap (λ (q : RetransmissionState). q.outstanding.header) sends.is
-    ∙ (sends.keeps.header ∙ (header ∙ (ap header_of (sym sends.keeps.interleaving) ∙ sym (ap (λ (q : RetransmissionState). header_of q.message_interleaving) sends.is))))
-
 pub fills_some : (now : ℕ) (old new : Transfer) (before after : RetransmissionState) (shown : SendQueueState) (left : SendQueueState) (events telling : List (Event (List ℕ))) (packet filled : Building) (tsns : List ℕ) (any : Bool)
     → before ≡ old.retransmission
     → new ≡ record old { retransmission = after }
-    → before.outstanding.header ≡ header_of before.message_interleaving
     → (has_data shown || nat_lt 0 (outstanding_count old.retransmission)) ≡ true
-    → Sends now before after → FillsUp (bytes_remaining packet) after left tsns → TellsMore events telling → AddsChunks after.message_interleaving packet (length tsns) filled
+    → Sends now before after → FillsUp (bytes_remaining packet) after left tsns → TellsMore events telling → AddsChunks after.outstanding.is_interleaved packet (length tsns) filled
     → any ≡ not (length tsns == 0)
     → FillsPacket old shown events packet new left telling filled any
-fills_some now old new before after shown left events telling packet filled tsns any old_is new_is header work sends fills tells adds answer =
+fills_some now old new before after shown left events telling packet filled tsns any old_is new_is work sends fills tells adds answer =
     record {
       chunks = adds.chunks;
       told = tells.told;
       adds = adds.is;
       fits = adds.fits;
       are_data = subst (λ (b : Bool). AllByRecursion (IsDataChunk b) adds.chunks)
-          (ap (λ (q : RetransmissionState). q.message_interleaving) sends.is ∙ (sends.keeps.interleaving ∙ ap (λ (r : RetransmissionState). r.message_interleaving) old_is)) adds.are_data;
+          (ap (λ (q : RetransmissionState). q.outstanding.is_interleaved) sends.is ∙ (sends.keeps.is_interleaved ∙ ap (λ (r : RetransmissionState). r.outstanding.is_interleaved) old_is)) adds.are_data;
       tells = tells.is;
       answers = answer ∙ answer_is adds.chunks (length tsns) adds.count_is;
       gives = λ empty.
           ap (λ (t : Transfer). must_give (bytes_remaining packet) left t.retransmission) new_is
-          ∙ gives_nothing (bytes_remaining packet) after left tsns (header_kept now before after header sends) fills (no_tsns tsns (sym answer ∙ empty));
+          ∙ gives_nothing (bytes_remaining packet) after left tsns fills (no_tsns tsns (sym answer ∙ empty));
       rest = new_is ∙ ap (λ (r : RetransmissionState). record old { retransmission = r }) (sym (ap (λ (t : Transfer). t.retransmission) new_is));
       partial_reliability = ap (λ (t : Transfer). t.retransmission.partial_reliability) new_is
           ∙ (ap (λ (q : RetransmissionState). q.partial_reliability) sends.is ∙ (sends.keeps.partial_reliability ∙ ap (λ (r : RetransmissionState). r.partial_reliability) old_is));
-      message_interleaving = ap (λ (t : Transfer). t.retransmission.message_interleaving) new_is
-          ∙ (ap (λ (q : RetransmissionState). q.message_interleaving) sends.is ∙ (sends.keeps.interleaving ∙ ap (λ (r : RetransmissionState). r.message_interleaving) old_is));
+      is_interleaved = ap (λ (t : Transfer). t.retransmission.outstanding.is_interleaved) new_is
+          ∙ (ap (λ (q : RetransmissionState). q.outstanding.is_interleaved) sends.is ∙ (sends.keeps.is_interleaved ∙ ap (λ (r : RetransmissionState). r.outstanding.is_interleaved) old_is));
       idle = λ nothing no_items. absurd (some_waits (has_data shown) (outstanding_count old.retransmission) work nothing no_items);
     }

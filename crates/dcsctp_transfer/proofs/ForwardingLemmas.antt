@@ -12,7 +12,7 @@ use Rattle.dcsctp_machine.specs.Event.{Event}
 use Rattle.dcsctp_machine.specs.Packet.{unworked}
 use Rattle.dcsctp_machine.specs.transfer.SendQueue.{SendQueueState}
 use Rattle.dcsctp_machine.specs.transfer.Transfer.{Transfer}
-use Rattle.dcsctp_machine.specs.transfer.Retransmission.{RetransmissionState, header_of, outstanding_count}
+use Rattle.dcsctp_machine.specs.transfer.Retransmission.{RetransmissionState, outstanding_count}
 use Rattle.dcsctp_machine.specs.turns.FlushOutcomes.{IsForward}
 use Rattle.dcsctp_machine.specs.transfer.Items.{Item}
 use Rattle.dcsctp_send_retransmission.specs.declared.forward_tsn.Skipped.{Skipped}
@@ -40,12 +40,6 @@ pub keeps_due : {A : Type 0} (r : Result A AllocError) (now : ℕ) (old new : St
 keeps_due (Ok done) now old new h = keeps_steps now old new h.0
 keeps_due (Err error) now old new h =
     subst (λ (queue : RetransmissionState). Keeps old.queue queue) (sym (ap (λ (s : Stage). s.queue) h.refuses.is)) (keeps_steps now old h.at h.steps)
-
-pub header_due : {A : Type 0} (r : Result A AllocError) (now : ℕ) (old new : Stage) → old.queue.outstanding.header ≡ header_of old.queue.message_interleaving → GivesUpDue now old new r
-    → new.queue.outstanding.header ≡ header_of new.queue.message_interleaving
-header_due r now old new header h =
-    let keeps : Keeps old.queue new.queue = keeps_due r now old new h in
-    keeps.header ∙ (header ∙ ap header_of (sym keeps.interleaving))
 
 -- what the user is told
 tells_first : (now : ℕ) (old new : Stage) → GivesUpFirst now old new → TellsMore old.told new.told
@@ -122,8 +116,8 @@ forwards_due now old new before after shown events telling packet filled next ol
       rest = new_is ∙ ap (λ (r : RetransmissionState). record old { retransmission = r }) (sym (ap (λ (t : Transfer). t.retransmission) new_is));
       partial_reliability = ap (λ (t : Transfer). t.retransmission.partial_reliability) new_is
           ∙ (keeps.partial_reliability ∙ ap (λ (r : RetransmissionState). r.partial_reliability) old_is);
-      message_interleaving = ap (λ (t : Transfer). t.retransmission.message_interleaving) new_is
-          ∙ (keeps.interleaving ∙ ap (λ (r : RetransmissionState). r.message_interleaving) old_is);
+      is_interleaved = ap (λ (t : Transfer). t.retransmission.outstanding.is_interleaved) new_is
+          ∙ (keeps.is_interleaved ∙ ap (λ (r : RetransmissionState). r.outstanding.is_interleaved) old_is);
       negotiated = λ without.
           let same : after ≡ before = no_steps now before after (ap (λ (r : RetransmissionState). r.partial_reliability) old_is ∙ without) steps in (
             negotiated without,

@@ -4,13 +4,13 @@ use Rattle.std.specs.List.{slice_get}
 use Rattle.std.proofs.lemmas.Bool.Decides.{nat_tests}
 use Rattle.dcsctp_machine.specs.transfer.SendQueue.{SendQueueState, may_send, has_data}
 use Rattle.dcsctp_machine.specs.transfer.Transfer.{must_give}
-use Rattle.dcsctp_machine.specs.transfer.Retransmission.{RetransmissionState, can_send, least_chunk, has_free_tsn, header_of}
+use Rattle.dcsctp_machine.specs.transfer.Retransmission.{RetransmissionState, can_send, least_chunk, has_free_tsn}
 use Rattle.dcsctp_machine.specs.declared.sending.UnderWay.{UnderWay}
 use Rattle.dcsctp_send_streams.proofs.NextLemmas.{none_any}
 use Rattle.dcsctp_machine.specs.transfer.Items.{Item, marked_items, changed_between}
 use Rattle.dcsctp_machine.specs.declared.progress.Change.TheVariants.{SendAgain}
 use Rattle.dcsctp_machine.specs.transfer.Progress.{is_marked}
-use Rattle.dcsctp_machine.specs.transfer.Outstanding.{OutstandingState}
+use Rattle.dcsctp_machine.specs.transfer.Outstanding.{OutstandingState, header_of}
 use Rattle.dcsctp_send_outstanding.specs.Next.{HasNone}
 use Rattle.dcsctp_send_retransmission.specs.Halting.{HaltsNew, Halts, FillsUp}
 use Rattle.dcsctp_send_retransmission.proofs.HaltingLemmas.{fewer_marked}
@@ -62,34 +62,34 @@ no_data waiting has = ap (λ (under_way : Option UnderWay). may_send under_way w
 abbrev Fails : ℕ → RetransmissionState → SendQueueState → Type 0
 Fails room queue waiting =
     let state = queue in
-    OneFails (can_send state) (marked_items state.outstanding.items == 0) (nat_le (least_chunk queue.message_interleaving) room) (has_free_tsn state) (has_data waiting)
+    OneFails (can_send state) (marked_items state.outstanding.items == 0) (nat_le (least_chunk queue.outstanding.is_interleaved) room) (has_free_tsn state) (has_data waiting)
 
-fails_new : (room : ℕ) (queue : RetransmissionState) (waiting : SendQueueState) → queue.outstanding.header ≡ header_of queue.message_interleaving → HaltsNew room queue waiting → Fails room queue waiting
-fails_new room queue waiting header (inl shut) = inl shut
-fails_new room queue waiting header (inr (inl little)) =
-    inr (inr (inl (too_little room (least_chunk queue.message_interleaving) (omega (arith, little, header, least_is queue.message_interleaving)))))
-fails_new room queue waiting header (inr (inr (inl many))) = inr (inr (inr (inl (too_many (length queue.outstanding.items) many))))
-fails_new room queue waiting header (inr (inr (inr has))) = inr (inr (inr (inr (no_data waiting has))))
+fails_new : (room : ℕ) (queue : RetransmissionState) (waiting : SendQueueState) → HaltsNew room queue waiting → Fails room queue waiting
+fails_new room queue waiting (inl shut) = inl shut
+fails_new room queue waiting (inr (inl little)) =
+    inr (inr (inl (too_little room (least_chunk queue.outstanding.is_interleaved) (omega (arith, little, least_is queue.outstanding.is_interleaved)))))
+fails_new room queue waiting (inr (inr (inl many))) = inr (inr (inr (inl (too_many (length queue.outstanding.items) many))))
+fails_new room queue waiting (inr (inr (inr has))) = inr (inr (inr (inr (no_data waiting has))))
 
-fails : (room : ℕ) (queue : RetransmissionState) (waiting : SendQueueState) → queue.outstanding.header ≡ header_of queue.message_interleaving → Halts room queue waiting → Fails room queue waiting
-fails room queue waiting header (inl (inl shut)) = inl shut
-fails room queue waiting header (inl (inr waits)) =
+fails : (room : ℕ) (queue : RetransmissionState) (waiting : SendQueueState) → Halts room queue waiting → Fails room queue waiting
+fails room queue waiting (inl (inl shut)) = inl shut
+fails room queue waiting (inl (inr waits)) =
     inr (inl (some_marked queue.outstanding.items waits.place waits.next.marked.item waits.next.marked.at waits.next.marked.is))
-fails room queue waiting header (inr halts) = fails_new room queue waiting header halts.1
+fails room queue waiting (inr halts) = fails_new room queue waiting halts.1
 
 -- ---- a packet into which nothing went
 
 none_used : (outstanding : OutstandingState) (used : ℕ) → HaveChunks outstanding [] used → used ≡ 0
 none_used outstanding used none = refl
 
-pub gives_nothing : (bytes : ℕ) (queue : RetransmissionState) (waiting : SendQueueState) (tsns : List ℕ) → queue.outstanding.header ≡ header_of queue.message_interleaving → FillsUp bytes queue waiting tsns → tsns ≡ [] → must_give bytes waiting queue ≡ false
-gives_nothing bytes queue waiting tsns header fills is =
+pub gives_nothing : (bytes : ℕ) (queue : RetransmissionState) (waiting : SendQueueState) (tsns : List ℕ) → FillsUp bytes queue waiting tsns → tsns ≡ [] → must_give bytes waiting queue ≡ false
+gives_nothing bytes queue waiting tsns fills is =
     let used = none_used queue.outstanding fills.used (subst (λ (xs : List ℕ). HaveChunks queue.outstanding xs fills.used) is (have_packed queue.outstanding tsns fills.used fills.packed)) in
     let whole : fills.room ≡ bytes = omega (arith, used, fills.sum) in
     let halts : Halts bytes queue waiting = subst (λ (room : ℕ). Halts room queue waiting) whole fills.halts in
     let state = queue in
-    not_all (can_send state) (marked_items state.outstanding.items == 0) (nat_le (least_chunk queue.message_interleaving) bytes) (has_free_tsn state) (has_data waiting) (fails bytes queue waiting header halts)
+    not_all (can_send state) (marked_items state.outstanding.items == 0) (nat_le (least_chunk queue.outstanding.is_interleaved) bytes) (has_free_tsn state) (has_data waiting) (fails bytes queue waiting halts)
 
 pub gives_no_data : (room : ℕ) (waiting : SendQueueState) (state : RetransmissionState) → has_data waiting ≡ false → must_give room waiting state ≡ false
 gives_no_data room waiting state nothing =
-    not_all (can_send state) (marked_items state.outstanding.items == 0) (nat_le (least_chunk state.message_interleaving) room) (has_free_tsn state) (has_data waiting) (inr (inr (inr (inr nothing))))
+    not_all (can_send state) (marked_items state.outstanding.items == 0) (nat_le (least_chunk state.outstanding.is_interleaved) room) (has_free_tsn state) (has_data waiting) (inr (inr (inr (inr nothing))))

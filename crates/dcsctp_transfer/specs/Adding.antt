@@ -9,7 +9,7 @@ use Rattle.dcsctp_machine.specs.transfer.Sending.{Fragment}
 use Rattle.dcsctp_wire_build.specs.Building.{Building, bytes_remaining}
 use Rattle.dcsctp_receive_tracker.specs.declared.data_tracker.SelectiveAck.{SelectiveAck}
 use Rattle.dcsctp_machine.specs.transfer.Items.{Item, size_of}
-use Rattle.dcsctp_machine.specs.transfer.Outstanding.{OutstandingState, tsn_at}
+use Rattle.dcsctp_machine.specs.transfer.Outstanding.{OutstandingState, header, tsn_at}
 use Rattle.dcsctp_transfer.specs.Filling.{IsDataChunk}
 
 -- The TSN is that of an item, whose chunk is that long.
@@ -18,7 +18,7 @@ pub record HasChunk (outstanding : OutstandingState) (tsn size : ℕ) : Type 0 w
   pub item : Item
   pub at : slice_get outstanding.items place ≡ Some item
   pub is : tsn ≡ tsn_at outstanding place
-  pub size_is : size ≡ size_of outstanding.header item
+  pub size_is : size ≡ size_of (header outstanding) item
 
 -- The TSNs are those of items, whose chunks are that long together.
 pub data HaveChunks (outstanding : OutstandingState) : List ℕ → ℕ → Type 0 where

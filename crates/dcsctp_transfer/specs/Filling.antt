@@ -48,14 +48,14 @@ pub record FillsPacket (old : Transfer) (waiting : SendQueueState) (events : Lis
   pub told : List Told
   pub adds : filled ≡ record packet { body = packet.body ++ flat_map chunk_bytes chunks }
   pub fits : AllByRecursion FitsChunk chunks
-  pub are_data : AllByRecursion (IsDataChunk old.retransmission.message_interleaving) chunks
+  pub are_data : AllByRecursion (IsDataChunk old.retransmission.outstanding.is_interleaved) chunks
   pub tells : telling ≡ events ++ map told_content told
   pub answers : any ≡ has_chunks chunks
   -- Nothing went in: so nothing had to.
   pub gives : any ≡ false → must_give (bytes_remaining packet) left new.retransmission ≡ false
   pub rest : new ≡ record old { retransmission = new.retransmission }
   pub partial_reliability : new.retransmission.partial_reliability ≡ old.retransmission.partial_reliability
-  pub message_interleaving : new.retransmission.message_interleaving ≡ old.retransmission.message_interleaving
+  pub is_interleaved : new.retransmission.outstanding.is_interleaved ≡ old.retransmission.outstanding.is_interleaved
   -- If nothing waits and nothing is outstanding, nothing changes.
   pub idle : has_data waiting ≡ false → outstanding_count old.retransmission ≡ 0 → (any ≡ false) × (new ≡ old) × (left ≡ waiting) × (told ≡ [])
 

@@ -36,7 +36,7 @@ next_after now transfer = moment_after now (min 200000000 transfer.timeout.srtt)
 abbrev pub PutsWhere : Option ℕ → ℕ → Transfer → Building → Building → Type 0
 PutsWhere None now old packet filled = filled ≡ packet
 PutsWhere (Some next) now old packet filled =
-    (next ≡ next_after now old) × PutsForward old.retransmission.message_interleaving packet filled
+    (next ≡ next_after now old) × PutsForward old.retransmission.outstanding.is_interleaved packet filled
 
 -- Messages may have been abandoned, and the user was told of it. If a chunk was made, the result says when the next one may be
 -- made.
@@ -46,7 +46,7 @@ pub record Forwards (now : ℕ) (old : Transfer) (waiting : SendQueueState) (eve
   pub tells : telling ≡ events ++ map told_content told
   pub rest : new ≡ record old { retransmission = new.retransmission }
   pub partial_reliability : new.retransmission.partial_reliability ≡ old.retransmission.partial_reliability
-  pub message_interleaving : new.retransmission.message_interleaving ≡ old.retransmission.message_interleaving
+  pub is_interleaved : new.retransmission.outstanding.is_interleaved ≡ old.retransmission.outstanding.is_interleaved
   -- Without partial reliability nothing is abandoned.
   pub negotiated : old.retransmission.partial_reliability ≡ false → (next ≡ None) × (new ≡ old) × (left ≡ waiting) × (telling ≡ events)
   -- If nothing is outstanding, nothing changes.

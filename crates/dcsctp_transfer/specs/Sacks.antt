@@ -42,7 +42,7 @@ pub record FillsAtOnce (old : Transfer) (packet : Building) (new : Transfer) (fi
   pub chunks : List ChunkContent
   pub adds : filled ≡ record packet { body = packet.body ++ flat_map chunk_bytes chunks }
   pub fits : AllByRecursion FitsChunk chunks
-  pub are_data : AllByRecursion (IsDataChunk old.retransmission.message_interleaving) chunks
+  pub are_data : AllByRecursion (IsDataChunk old.retransmission.outstanding.is_interleaved) chunks
   pub outstanding : outstanding_count new.retransmission ≡ outstanding_count old.retransmission
   pub unacknowledged : unacknowledged_items new.retransmission.outstanding.items ≡ unacknowledged_items old.retransmission.outstanding.items
   pub next_tsn : next_tsn new.retransmission.outstanding ≡ next_tsn old.retransmission.outstanding

@@ -74,7 +74,7 @@ fn put_forward_tsn(
     alloc: Global,
     packet: &mut SctpPacketBuilder,
 ) -> Result<(), AllocError>
-    ensures ok { OnOk result (PutsForward queue.now.message_interleaving packet.old packet.new) }
+    ensures ok { OnOk result (PutsForward queue.now.outstanding.is_interleaved packet.old packet.new) }
     ensures kept { OnErr result (packet.new ≡ packet.old) }
 {
     let forward = queue.create_forward_tsn()?;

@@ -8,7 +8,8 @@ ghost use Rattle.dcsctp_wire.specs.ReadsBack.{IsByte, FitsChunk};
 ghost use Rattle.dcsctp_wire.specs.Spelling.{chunk_bytes};
 ghost use Rattle.dcsctp_wire_build.specs.Building.{bytes_remaining};
 ghost use Rattle.dcsctp_machine.specs.transfer.SendQueue.{has_data};
-ghost use Rattle.dcsctp_machine.specs.transfer.Retransmission.{outstanding_count, has_fast_retransmit, can_send, header_of};
+ghost use Rattle.dcsctp_machine.specs.transfer.Retransmission.{outstanding_count, has_fast_retransmit, can_send};
+ghost use Rattle.dcsctp_machine.specs.transfer.Outstanding.{header_of};
 ghost use Rattle.dcsctp_send_streams.specs.Telling.{contents};
 ghost use Rattle.dcsctp_machine.specs.transfer.Items.{chunk_size};
 ghost use Rattle.dcsctp_send_retransmission.specs.Sending.{HandsOut};
@@ -164,10 +165,9 @@ fn add_sack(sack: &SelectiveAck, packet: &mut SctpPacketBuilder)
 
 // Puts the chunks of these TSNs into the packet, which has room for them.
 fn add_chunks(queue: &RetransmissionQueue, tsns: &[u32], packet: &mut SctpPacketBuilder)
-    requires header { queue.now.outstanding.header ≡ header_of queue.now.message_interleaving }
     requires small { packet.old.size ≤ 65535 }
     requires room { HandsOut (bytes_remaining packet.old) queue.now.outstanding tsns.now }
-    ensures { AddsChunks queue.now.message_interleaving packet.old (length tsns.now) packet.new }
+    ensures { AddsChunks queue.now.outstanding.is_interleaved packet.old (length tsns.now) packet.new }
 {
     for tsn in tsns {
         add_chunk(queue, *tsn, packet);
@@ -177,10 +177,9 @@ fn add_chunks(queue: &RetransmissionQueue, tsns: &[u32], packet: &mut SctpPacket
 // Puts the chunk of this TSN into the packet, which has room for it.
 #[inline(always)]
 fn add_chunk(queue: &RetransmissionQueue, tsn: u32, packet: &mut SctpPacketBuilder)
-    requires header { queue.now.outstanding.header ≡ header_of queue.now.message_interleaving }
     requires small { packet.old.size ≤ 65535 }
     requires room { HasChunkWithin (bytes_remaining packet.old) queue.now.outstanding tsn }
-    ensures { AddsChunkOf queue.now.message_interleaving queue.now.outstanding tsn packet.old packet.new }
+    ensures { AddsChunkOf queue.now.outstanding.is_interleaved queue.now.outstanding tsn packet.old packet.new }
 {
     if let Some(fragment) = queue.chunk(tsn) {
         packet.add(&chunk_of(tsn, fragment, queue.is_interleaving()));

@@ -30,9 +30,7 @@ impl Drop for Transfer {
 }
 
 impl Model for Transfer {
-    ghost use Rattle.std.specs.Prelude.{◌≡◌};
     ghost use Rattle.dcsctp_machine.specs.transfer.Transfer.{Transfer};
-    ghost use Rattle.dcsctp_machine.specs.transfer.Retransmission.{header_of};
 
     ghost Value = { Transfer };
 
@@ -42,8 +40,6 @@ impl Model for Transfer {
       tracker = transfer.data_tracker;
       reassembly = transfer.reassembly_queue;
     } };
-
-    ghost invariant = { λ transfer. transfer.retransmission_queue.outstanding.header ≡ header_of transfer.retransmission_queue.message_interleaving };
 }
 
 impl Transfer {

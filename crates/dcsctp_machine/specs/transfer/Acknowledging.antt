@@ -8,7 +8,7 @@ use Rattle.dcsctp_machine.specs.Event.{Event, lifecycle_message_delivered, lifec
 use Rattle.dcsctp_machine.specs.Timers.{TimerModel}
 use Rattle.dcsctp_machine.specs.transfer.Congestion.{after_loss, after_acknowledgement, exit_after}
 use Rattle.dcsctp_machine.specs.transfer.Items.{Item, unacknowledged_bytes, unacknowledged_items, never_acknowledged_items, marked_items, changed_between}
-use Rattle.dcsctp_machine.specs.transfer.Outstanding.{tsn_at, next_tsn, acknowledged_by, reported}
+use Rattle.dcsctp_machine.specs.transfer.Outstanding.{header, tsn_at, next_tsn, acknowledged_by, reported}
 use Rattle.dcsctp_machine.specs.transfer.Progress.{is_abandoned}
 use Rattle.dcsctp_machine.specs.transfer.Reports.{IsNewlyAcknowledged, IsLast, MissesUntil}
 use Rattle.dcsctp_machine.specs.transfer.Retransmission.{RetransmissionState, outstanding_count, in_flight, with_items, timer_with}
@@ -40,7 +40,7 @@ missed_until count limit newest state =
 abbrev pub acknowledgement : ℕ → RetransmissionState → RetransmissionState → Acknowledged
 acknowledgement count old new =
     record {
-      bytes = unacknowledged_bytes old.outstanding.header old.outstanding.items - unacknowledged_bytes new.outstanding.header new.outstanding.items;
+      bytes = unacknowledged_bytes (header old.outstanding) old.outstanding.items - unacknowledged_bytes (header new.outstanding) new.outstanding.items;
       advances = nat_lt 0 count;
       was_full = nat_le old.congestion.cwnd (in_flight old);
       is_last = unacknowledged_items new.outstanding.items == 0;
@@ -52,7 +52,7 @@ without_first count state =
     record state {
       outstanding = record {
         first_tsn = (state.outstanding.first_tsn + count) % 2 ^ 32;
-        header = state.outstanding.header;
+        is_interleaved = state.outstanding.is_interleaved;
         items = drop count state.outstanding.items;
       };
     }

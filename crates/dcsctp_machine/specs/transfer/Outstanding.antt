@@ -1,5 +1,5 @@
 -- What is outstanding: the items of consecutive TSNs (RFC 9260, section 6.1).
-use Rattle.std.specs.Prelude.{ℕ, ◌+◌, ◌-◌, ◌%◌, ◌^◌, List, [], ◌∷◌, length}
+use Rattle.std.specs.Prelude.{ℕ, ◌+◌, ◌-◌, ◌%◌, ◌^◌, Bool, List, [], ◌∷◌, length, if◌then◌else◌}
 use Rattle.dcsctp_wire.specs.declared.chunk.sack.GapAckBlock.{GapAckBlock}
 use Rattle.dcsctp_machine.specs.declared.progress.Change.TheVariants.{Acknowledge}
 use Rattle.dcsctp_machine.specs.transfer.Items.{Item, changed_between}
@@ -7,9 +7,17 @@ use Rattle.dcsctp_machine.specs.transfer.Items.{Item, changed_between}
 pub record OutstandingState : Type 0 where
   -- the TSN of the first item; the one before is the last that was acknowledged cumulatively
   pub first_tsn : ℕ
-  -- the size of a chunk's header
-  pub header : ℕ
+  -- Are they sent as I-DATA (RFC 8260)?
+  pub is_interleaved : Bool
   pub items : List Item
+
+-- the header of a DATA chunk (RFC 9260, section 3.3.1), or of an I-DATA chunk (RFC 8260, section 2.1)
+abbrev pub header_of : Bool → ℕ
+header_of is_interleaved = if is_interleaved then 20 else 16
+
+-- the size of a chunk's header
+abbrev pub header : OutstandingState → ℕ
+header outstanding = header_of outstanding.is_interleaved
 
 -- the TSN that many places after the first
 abbrev pub tsn_at : OutstandingState → ℕ → ℕ

@@ -9,7 +9,7 @@ use Rattle.dcsctp_machine.specs.declared.progress.Change.TheVariants.{Mark}
 use Rattle.dcsctp_machine.specs.Timers.{TimerModel, started, running_deadline, running_after}
 use Rattle.dcsctp_machine.specs.transfer.Congestion.{new_congestion, after_timeout}
 use Rattle.dcsctp_machine.specs.transfer.Items.{Item, bytes_in_flight, marked_items, changed_between}
-use Rattle.dcsctp_machine.specs.transfer.Outstanding.{OutstandingState}
+use Rattle.dcsctp_machine.specs.transfer.Outstanding.{OutstandingState, header}
 
 pub record RetransmissionState : Type 0 where
   pub outstanding : OutstandingState
@@ -19,8 +19,6 @@ pub record RetransmissionState : Type 0 where
   pub peer_window : ℕ
   -- May messages be abandoned (RFC 3758)?
   pub partial_reliability : Bool
-  -- Are they sent as I-DATA (RFC 8260)?
-  pub message_interleaving : Bool
   -- Do lost items wait for a fast retransmission?
   pub fast_retransmit_due : Bool
   -- Were streams reset since the last item was sent?
@@ -28,10 +26,6 @@ pub record RetransmissionState : Type 0 where
   pub packets_retransmitted : ℕ
   -- chunk headers and padding included
   pub bytes_retransmitted : ℕ
-
--- the header of a DATA chunk (RFC 9260, section 3.3.1), or of an I-DATA chunk (RFC 8260, section 2.1)
-abbrev pub header_of : Bool → ℕ
-header_of message_interleaving = if message_interleaving then 20 else 16
 
 -- The retransmission timer: it backs off without end.
 abbrev pub new_timer : Options → TimerModel
@@ -50,14 +44,13 @@ new_timer options =
 
 -- nothing was sent yet
 abbrev pub new_retransmission : Options → ℕ → ℕ → Bool → Bool → RetransmissionState
-new_retransmission options first_tsn window partial_reliability message_interleaving =
+new_retransmission options first_tsn window partial_reliability is_interleaved =
     record {
-      outstanding = record { first_tsn = first_tsn; header = header_of message_interleaving; items = [] };
+      outstanding = record { first_tsn = first_tsn; is_interleaved = is_interleaved; items = [] };
       congestion = new_congestion options window;
       timer = new_timer options;
       peer_window = window;
       partial_reliability = partial_reliability;
-      message_interleaving = message_interleaving;
       fast_retransmit_due = false;
       reset_begun = false;
       packets_retransmitted = 0;
@@ -72,7 +65,7 @@ outstanding_count state = length state.outstanding.items
 
 -- what is in flight, chunk headers and padding included
 abbrev pub in_flight : RetransmissionState → ℕ
-in_flight state = bytes_in_flight state.outstanding.header state.outstanding.items
+in_flight state = bytes_in_flight (header state.outstanding) state.outstanding.items
 
 -- what is left of the peer's window
 abbrev pub window_left : RetransmissionState → ℕ
@@ -93,7 +86,7 @@ can_send state =
 
 -- the least that a chunk with data takes up: its header and one byte, padded (RFC 9260, section 3.3.1; RFC 8260, section 2.1)
 abbrev pub least_chunk : Bool → ℕ
-least_chunk message_interleaving = if message_interleaving then 24 else 20
+least_chunk is_interleaved = if is_interleaved then 24 else 20
 
 -- Is there a TSN that can still be told from those that are outstanding (RFC 9260, section 1.6)?
 abbrev pub has_free_tsn : RetransmissionState → Bool

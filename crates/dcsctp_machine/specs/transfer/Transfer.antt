@@ -43,7 +43,7 @@ pub record Below : Type 0 where
 -- again is too long for it, or if nothing waits that may be sent.
 abbrev pub must_give : ℕ → SendQueueState → RetransmissionState → Bool
 must_give room queue state =
-    can_send state && marked_items state.outstanding.items == 0 && nat_le (least_chunk state.message_interleaving) room && has_free_tsn state && has_data queue
+    can_send state && marked_items state.outstanding.items == 0 && nat_le (least_chunk state.outstanding.is_interleaved) room && has_free_tsn state && has_data queue
 
 -- is no stream to be reset?
 abbrev pub is_none_ready : List ℕ → Bool

@@ -88,7 +88,7 @@ no_tcb_text = codes "No TCB"
 pub record SendsAtOnce (e : Endpoint) (held : Held) (transfer : Transfer) (o : Outcome) : Type 0 where
   pub left : Transfer
   pub chunks : List Plain
-  pub kind : AllByRecursion (IsData transfer.retransmission.message_interleaving) chunks
+  pub kind : AllByRecursion (IsData transfer.retransmission.outstanding.is_interleaved) chunks
   pub fit : AllByRecursion FitsPlain chunks
   pub within : IsWithin e (draft_to held) → IsWithin e (filled (draft_to held) (plain_contents chunks))
   pub outstanding : outstanding_count left.retransmission ≡ outstanding_count transfer.retransmission

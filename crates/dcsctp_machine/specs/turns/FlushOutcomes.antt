@@ -164,7 +164,7 @@ pub record GivesUp (ask : Ask) (e : Endpoint) (transfer : Transfer) (after : ℕ
   pub in_time : e.moment < e.no_forward_tsn_before → is_made ≡ false
   pub negotiated : transfer.retransmission.partial_reliability ≡ false → is_made ≡ false
   pub at_most_one : length chunks ≤ 1
-  pub kind : AllByRecursion (IsForward transfer.retransmission.message_interleaving) chunks
+  pub kind : AllByRecursion (IsForward transfer.retransmission.outstanding.is_interleaved) chunks
   pub fit : AllByRecursion FitsPlain chunks
 
 -- is the list empty?
@@ -196,12 +196,12 @@ pub record Gives (ask : Ask) (e : Endpoint) (draft : Emission) (transfer : Trans
   pub acknowledges : Acknowledges (wants_sack ask e.below.queue transfer) (room_in e draft) transfer left.tracker sacks
   pub gives_up : GivesUp ask e transfer answer.after.no_forward_tsn_before forwards
   pub begins : BeginsReset ask e (room_in e (filled draft (plain_contents answer.acknowledgements))) transfer answer.begun
-  pub kind : AllByRecursion (IsData transfer.retransmission.message_interleaving) answer.data_chunks
+  pub kind : AllByRecursion (IsData transfer.retransmission.outstanding.is_interleaved) answer.data_chunks
   pub fit : AllByRecursion FitsPlain answer.data_chunks
   pub data_goes : is_none answer.data_chunks ≡ true
       → must_give (room_in e (filled draft (plain_contents answer.acknowledgements ++ request_contents answer.begun))) answer.after.below.queue left.retransmission ≡ false
   pub partial_reliability : left.retransmission.partial_reliability ≡ transfer.retransmission.partial_reliability
-  pub message_interleaving : left.retransmission.message_interleaving ≡ transfer.retransmission.message_interleaving
+  pub is_interleaved : left.retransmission.outstanding.is_interleaved ≡ transfer.retransmission.outstanding.is_interleaved
   pub timeout : left.timeout ≡ transfer.timeout
   pub reassembly : left.reassembly ≡ transfer.reassembly
 

@@ -40,7 +40,7 @@ impl Outstanding {
         let message_id = self.items[place].fragment.message_id;
         if queue.discard(events, stream_id, message_id)? {
             let item = end_of_message(self.alloc, &self.items[place], now, begins_after_reset);
-            let size = item.size(self.header);
+            let size = item.size(self.interleaving);
             self.totals.add(item.progress, size);
             self.items.push_back_reserved(item);
         }

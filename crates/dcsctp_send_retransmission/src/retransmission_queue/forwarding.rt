@@ -32,7 +32,7 @@ impl RetransmissionQueue {
     {
         let mut numbers = BTreeMap::new(self.alloc);
         let count = self.skip(&mut numbers)?;
-        let skipped = if self.interleaving {
+        let skipped = if self.is_interleaving() {
             Skipped::Messages(messages_of(self.alloc, &numbers)?)
         } else {
             Skipped::Streams(streams_of(self.alloc, &numbers)?)
@@ -72,16 +72,16 @@ impl RetransmissionQueue {
 
     // Is the fragment's message listed?
     fn is_listed(&self, fragment: &DataToSend) -> bool
-        ensures { result ≡ (self.now.message_interleaving || not fragment.now.is_unordered) }
+        ensures { result ≡ (self.now.outstanding.is_interleaved || not fragment.now.is_unordered) }
     {
-        self.interleaving || !fragment.is_unordered
+        self.is_interleaving() || !fragment.is_unordered
     }
 
     // How many entries a packet can carry, at least one.
     fn entry_limit(&self) -> usize
-        ensures { result ≡ entry_limit self.now.message_interleaving self.now.congestion.mtu }
+        ensures { result ≡ entry_limit self.now.outstanding.is_interleaved self.now.congestion.mtu }
     {
-        let size = if self.interleaving { 8 } else { 4 };
+        let size = if self.is_interleaving() { 8 } else { 4 };
         (self.congestion.mtu.saturating_sub(20) / size).max(1)
     }
 

@@ -74,7 +74,7 @@ impl RetransmissionQueue {
         ensures err { OnErr result (self.new ≡ self.old) }
     {
         let item = self.outstanding.item(place);
-        let size = item.size(self.outstanding.header());
+        let size = item.size(self.outstanding.is_interleaving());
         if packet.room < size {
             return Ok(false);
         }

@@ -12,6 +12,7 @@ const CHUNK_LIMIT: usize = 65532;
 impl RetransmissionQueue {
     ghost use Rattle.std.specs.Prelude.{◌≡◌, [], true, false, ◌+◌, ◌-◌, ◌*◌, ◌/◌, min, ◌^◌, ◌<◌, IsTrue, OnOk, IfOk, length};
     ghost use Rattle.dcsctp_machine.specs.transfer.Items.{marked_items};
+    ghost use Rattle.dcsctp_machine.specs.transfer.Outstanding.{header};
     ghost use Rattle.dcsctp_machine.specs.transfer.Retransmission.{can_send};
     ghost use Rattle.dcsctp_send_outstanding.specs.Fresh.{SendsFresh, EndsFresh};
     ghost use Rattle.dcsctp_send_outstanding.specs.Next.{HasNone};
@@ -137,7 +138,7 @@ impl RetransmissionQueue {
         max: usize,
     ) -> Result<bool, AllocError>
         requires few { length self.old.outstanding.items + 1 < 2 ^ 31 }
-        requires max { (0 < max) × (max ≡ (min packet.old.room 65532 - self.old.outstanding.header) / 4 * 4) }
+        requires max { (0 < max) × (max ≡ (min packet.old.room 65532 - header self.old.outstanding) / 4 * 4) }
         ensures fills { Fills self.old packet.old self.new packet.new }
         ensures less { IfOk result (λ sent. IsTrue sent → packet.new.room < packet.old.room) }
         ensures fresh { OnOk result (SendsFresh now self.old.outstanding self.new.outstanding packet.old.tsns.items packet.new.tsns.items) }
@@ -165,8 +166,8 @@ impl RetransmissionQueue {
 
     // The greatest payload of a chunk that fits into that many bytes; 0 if none fits.
     fn payload_room(&self, room: usize) -> usize
-        ensures value { result ≡ (min room 65532 - self.now.outstanding.header) / 4 * 4 }
-        ensures none { result ≡ 0 → room < self.now.outstanding.header + 4 }
+        ensures value { result ≡ (min room 65532 - header self.now.outstanding) / 4 * 4 }
+        ensures none { result ≡ 0 → room < header self.now.outstanding + 4 }
     {
         room.min(CHUNK_LIMIT)
             .saturating_sub(self.outstanding.header())

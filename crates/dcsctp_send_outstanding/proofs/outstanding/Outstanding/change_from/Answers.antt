@@ -7,7 +7,7 @@ use Rattle.dcsctp_send_outstanding.proofs.outstanding.Outstanding.change_from.Go
 
 pub loop-place-init : goal.loop-place-init
 loop-place-init c =
-    (ap (λ (xs : List Item). let m : OutstandingState = record { first_tsn = c.args.self.now.first_tsn; header = c.args.self.now.header; items = xs } in m) (sym (none_changed c.args.change c.args.start c.args.start c.args.self.now.items (omega arith))), omega arith, omega arith)
+    (ap (λ (xs : List Item). let m : OutstandingState = record { first_tsn = c.args.self.now.first_tsn; is_interleaved = c.args.self.now.is_interleaved; items = xs } in m) (sym (none_changed c.args.change c.args.start c.args.start c.args.self.now.items (omega arith))), omega arith, omega arith)
 
 pub loop-place-preserved-then-place-next : goal.loop-place-preserved-then-place-next
 loop-place-preserved-then-place-next c =
@@ -17,7 +17,7 @@ loop-place-preserved-then-place-next c =
     let next = c.min-next.ensures in
     let all = changed_past c.args.change c.args.start c.loop-place.place c.min-next.result c.args.self.now.items c.loop-place.self.items items from (omega arith)
     (λ k item after before at. c.left_until-at.ensures.left k item after (omega arith) at) in (
-      c.loop-place.invariant.0 ∙ ap (λ (xs : List Item). let m : OutstandingState = record { first_tsn = c.args.self.now.first_tsn; header = c.args.self.now.header; items = xs } in m) (sym items ∙ all),
+      c.loop-place.invariant.0 ∙ ap (λ (xs : List Item). let m : OutstandingState = record { first_tsn = c.args.self.now.first_tsn; is_interleaved = c.args.self.now.is_interleaved; items = xs } in m) (sym items ∙ all),
       omega arith,
       omega arith,
     )
@@ -32,7 +32,7 @@ pub loop-place-preserved : goal.loop-place-preserved
 loop-place-preserved c =
     let further = changed_further c.args.change c.args.start c.loop-place.place c.args.self.now.items c.loop-place.invariant.1 in (
       rw (c.change_one.ensures, c.loop-place.invariant.0, add-one)
-          (ap (λ (xs : List Item). let m : OutstandingState = record { first_tsn = c.args.self.now.first_tsn; header = c.args.self.now.header; items = xs } in m) further),
+          (ap (λ (xs : List Item). let m : OutstandingState = record { first_tsn = c.args.self.now.first_tsn; is_interleaved = c.args.self.now.is_interleaved; items = xs } in m) further),
       omega (arith, c.loop-place.invariant.1),
       omega (arith, c.loop-place-test.true),
     )
@@ -43,4 +43,4 @@ returns c =
     let limit = c.loop-place.invariant.2 in
     let past = c.loop-place-test.false in
     let as_far = changed_as_far c.args.change c.args.start c.loop-place.place c.args.end c.args.self.now.items (omega (arith, c.min-limit.ensures, c.len.ensures.value)) in
-    rw c.loop-place.invariant.0 (ap (λ (xs : List Item). let m : OutstandingState = record { first_tsn = c.args.self.now.first_tsn; header = c.args.self.now.header; items = xs } in m) as_far)
+    rw c.loop-place.invariant.0 (ap (λ (xs : List Item). let m : OutstandingState = record { first_tsn = c.args.self.now.first_tsn; is_interleaved = c.args.self.now.is_interleaved; items = xs } in m) as_far)

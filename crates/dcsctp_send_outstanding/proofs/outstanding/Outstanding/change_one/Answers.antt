@@ -9,4 +9,4 @@ pub returns-then-is_left_by : goal.returns-then-is_left_by
 returns-then-is_left_by c =
     let P : Item → Type 0 = λ item. is_left_by c.args.change item.progress ≡ true in
     let same = left_is_same c.args.change c.item.result.now.progress (subst P c.behind-self.view_is (sym c.is_left_by.ensures ∙ c.if-is_left_by.true)) in
-    ap (λ (xs : List Item). let m : OutstandingState = record { first_tsn = c.args.self.now.first_tsn; header = c.args.self.now.header; items = xs } in m) (one_left c.args.change c.args.place c.args.self.now.items c.item.result.now c.item.ensures same)
+    ap (λ (xs : List Item). let m : OutstandingState = record { first_tsn = c.args.self.now.first_tsn; is_interleaved = c.args.self.now.is_interleaved; items = xs } in m) (one_left c.args.change c.args.place c.args.self.now.items c.item.result.now c.item.ensures same)

@@ -18,7 +18,7 @@ use Rattle.dcsctp_send_outstanding.proofs.outstanding.Outstanding.discard_rest.G
 pub add-requires : goal.add-requires
 add-requires c =
     rw c.size-size.ensures
-    (sums_leave_room _ c.self.inside.cursor c.self.inside.items.items _ _ _ (size_bounded c.self.inside.header c.self.invariant.header_fits c.end_of_message-item.result) c.self.invariant)
+    (sums_leave_room _ c.self.inside.cursor c.self.inside.items.items _ _ _ (size_bounded c.self.inside.interleaving c.end_of_message-item.result) c.self.invariant)
 
 pub invariant_of-self-then-branch : goal.invariant_of-self-then-branch
 invariant_of-self-then-branch c =

@@ -5,7 +5,6 @@ pub invariant_of-result : goal.invariant_of-result
 invariant_of-result c =
     rw (c.new.ensures.items, c.none.ensures)
     (record {
-      header_fits = c.requires;
       few = omega arith;
       sums = record { in_flight = refl; bytes = refl; count = refl; never = refl; marked = refl };
       scanned = λ k item below at. absurd (omega arith);

@@ -3,4 +3,4 @@ use Rattle.dcsctp_send_outstanding.proofs.outstanding.Outstanding.remove_first.G
 
 abbrev pub invariant-loop : goal.invariant-loop
 invariant-loop l =
-    (l.self ≡ record { first_tsn = (l.initial.self.first_tsn + l.counter) % 2 ^ 32; header = l.initial.self.header; items = drop l.counter l.initial.self.items }) × (l.counter ≤ l.count)
+    (l.self ≡ record { first_tsn = (l.initial.self.first_tsn + l.counter) % 2 ^ 32; is_interleaved = l.initial.self.is_interleaved; items = drop l.counter l.initial.self.items }) × (l.counter ≤ l.count)

@@ -11,7 +11,7 @@ use Rattle.dcsctp_send_outstanding.proofs.outstanding.Outstanding.send_next.Goal
 pub add-requires : goal.add-requires
 add-requires c =
     rw c.size-size.ensures
-    (sums_leave_room _ c.self.inside.cursor c.self.inside.items.items _ _ _ (size_bounded c.self.inside.header c.self.invariant.header_fits (record { fragment = c.in-Some.fragment; progress = c.new.result; sent_at = c.args.now; begins_after_reset = c.args.begins_after_reset })) c.self.invariant)
+    (sums_leave_room _ c.self.inside.cursor c.self.inside.items.items _ _ _ (size_bounded c.self.inside.interleaving (record { fragment = c.in-Some.fragment; progress = c.new.result; sent_at = c.args.now; begins_after_reset = c.args.begins_after_reset })) c.self.invariant)
 
 pub invariant_of-self-in-Some : goal.invariant_of-self-in-Some
 invariant_of-self-in-Some c =

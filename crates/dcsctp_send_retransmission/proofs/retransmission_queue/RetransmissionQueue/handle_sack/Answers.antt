@@ -16,7 +16,6 @@ returns-clause-turn c =
       timer = c.self.inside.timer;
       peer_window = c.self.inside.peer_window;
       partial_reliability = c.self.inside.partial_reliability;
-      message_interleaving = c.self.inside.interleaving;
       fast_retransmit_due = c.self.inside.fast_retransmit_due;
       reset_begun = c.self.inside.reset_begun;
       packets_retransmitted = c.self.inside.packets_retransmitted;

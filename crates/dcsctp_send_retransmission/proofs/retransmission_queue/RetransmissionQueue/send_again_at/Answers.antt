@@ -1,6 +1,7 @@
-use Rattle.std.proofs.Common.{◌≡◌, ◌+◌, ◌-◌, refl, ap, ◌∙◌, arith}
+use Rattle.std.proofs.Common.{◌≡◌, Bool, ◌+◌, ◌-◌, refl, ap, ◌∙◌, arith}
 use Rattle.dcsctp_machine.specs.declared.progress.Change.TheVariants.{SendAgain}
 use Rattle.dcsctp_machine.specs.transfer.Items.{size_of}
+use Rattle.dcsctp_machine.specs.transfer.Outstanding.{header, header_of}
 use Rattle.dcsctp_machine.specs.transfer.Retransmission.{RetransmissionState}
 use Rattle.dcsctp_send_retransmission.specs.declared.packet.Packet.{Packet}
 use Rattle.dcsctp_send_retransmission.specs.Sending.{Keeps}
@@ -9,8 +10,8 @@ use Rattle.dcsctp_send_retransmission.proofs.retransmission_queue.Retransmission
 
 pub returns-clause-fills : goal.returns-clause-fills
 returns-clause-fills c =
-    let size_is : c.size-size.result ≡ size_of c.args.self.now.outstanding.header c.item-item.result.now =
-    c.size-size.ensures ∙ ap (λ h. size_of h c.item-item.result.now) (c.header.ensures.value ∙ ap (λ (q : RetransmissionState). q.outstanding.header) c.self.view_is) in
+    let size_is : c.size-size.result ≡ size_of (header c.args.self.now.outstanding) c.item-item.result.now =
+    c.size-size.ensures ∙ ap (λ (b : Bool). size_of (header_of b) c.item-item.result.now) (c.is_interleaving.ensures ∙ ap (λ (q : RetransmissionState). q.outstanding.is_interleaved) c.self.view_is) in
     let after : Packet = record { tsns = c.push.new.self; room = c.args.packet.now.room - c.size-size.result } in
     let stage : RetransmissionState = record {
       outstanding = c.change_between.new.self;
@@ -18,7 +19,6 @@ returns-clause-fills c =
       timer = c.self.inside.timer;
       peer_window = c.self.inside.peer_window;
       partial_reliability = c.self.inside.partial_reliability;
-      message_interleaving = c.self.inside.interleaving;
       fast_retransmit_due = c.self.inside.fast_retransmit_due;
       reset_begun = c.self.inside.reset_begun;
       packets_retransmitted = c.self.inside.packets_retransmitted;

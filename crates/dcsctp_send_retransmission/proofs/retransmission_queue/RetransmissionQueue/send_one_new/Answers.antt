@@ -2,7 +2,7 @@ use Rattle.std.proofs.Common.{ℕ, inl, inr, ◌≡◌, ◌-◌, ◌*◌, ◌/�
 use Rattle.dcsctp_send_retransmission.specs.declared.packet.Packet.{Packet}
 use Rattle.dcsctp_machine.specs.transfer.Retransmission.{RetransmissionState}
 use Rattle.dcsctp_send_retransmission.specs.Sending.{Keeps, Fills}
-use Rattle.dcsctp_machine.specs.transfer.Outstanding.{OutstandingState}
+use Rattle.dcsctp_machine.specs.transfer.Outstanding.{OutstandingState, header}
 use Rattle.dcsctp_send_outstanding.specs.Fresh.{SendsFresh}
 use Rattle.dcsctp_send_queue.specs.Calls.{StopsTaking}
 use Rattle.dcsctp_send_streams.specs.Telling.{contents}
@@ -25,7 +25,6 @@ returns-in_err-sent-clause-fills c =
       timer = c.self.inside.timer;
       peer_window = c.self.inside.peer_window;
       partial_reliability = c.self.inside.partial_reliability;
-      message_interleaving = c.self.inside.interleaving;
       fast_retransmit_due = c.self.inside.fast_retransmit_due;
       reset_begun = c.self.inside.reset_begun;
       packets_retransmitted = c.self.inside.packets_retransmitted;
@@ -42,7 +41,6 @@ returns-in-None-clause-fills c =
       timer = c.self.inside.timer;
       peer_window = c.self.inside.peer_window;
       partial_reliability = c.self.inside.partial_reliability;
-      message_interleaving = c.self.inside.interleaving;
       fast_retransmit_due = c.self.inside.fast_retransmit_due;
       reset_begun = c.self.inside.reset_begun;
       packets_retransmitted = c.self.inside.packets_retransmitted;
@@ -60,7 +58,6 @@ returns-in_ok-push-in-Some-clause-fills c =
       timer = c.self.inside.timer;
       peer_window = c.self.inside.peer_window;
       partial_reliability = c.self.inside.partial_reliability;
-      message_interleaving = c.self.inside.interleaving;
       fast_retransmit_due = c.self.inside.fast_retransmit_due;
       reset_begun = c.self.inside.reset_begun;
       packets_retransmitted = c.self.inside.packets_retransmitted;
@@ -68,7 +65,7 @@ returns-in_ok-push-in-Some-clause-fills c =
     } in
     let after : Packet = record { tsns = c.push.new.self; room = c.saturating_sub-packet.result } in
     let told = rw c.in-Some.is at c.in_ok-sent.ensures.tries in
-    let M : RetransmissionState → Type 0 = λ q. c.args.max ≡ (min c.args.packet.now.room 65532 - q.outstanding.header) / 4 * 4 in
+    let M : RetransmissionState → Type 0 = λ q. c.args.max ≡ (min c.args.packet.now.room 65532 - header q.outstanding) / 4 * 4 in
     let tsns : after.tsns.items ≡ c.args.packet.now.tsns.items ++ c.in-Some.tsn ∷ [] = rw (c.in_ok-push-in-Some.ensures.items, c.in_ok-reserve.ensures.items) refl in
     let both = sends_fills c.args.now c.args.max old c.args.packet.now after c.len-place.result c.size_at-size.result c.in-Some.tsn c.send_next.new.self false told c.len-place.ensures.value c.size_at-size.ensures (subst M (sym c.self.view_is) c.requires.max.1) c.requires.max.0 tsns c.saturating_sub-packet.ensures in
     let P : RetransmissionState → Type 0 = λ q. Fills q c.args.packet.now (with_outstanding c.send_next.new.self false old) after in
@@ -82,7 +79,6 @@ returns-in_ok-push-in-Some-clause-less c = λ is_true.
       timer = c.self.inside.timer;
       peer_window = c.self.inside.peer_window;
       partial_reliability = c.self.inside.partial_reliability;
-      message_interleaving = c.self.inside.interleaving;
       fast_retransmit_due = c.self.inside.fast_retransmit_due;
       reset_begun = c.self.inside.reset_begun;
       packets_retransmitted = c.self.inside.packets_retransmitted;
@@ -90,7 +86,7 @@ returns-in_ok-push-in-Some-clause-less c = λ is_true.
     } in
     let after : Packet = record { tsns = c.push.new.self; room = c.saturating_sub-packet.result } in
     let told = rw c.in-Some.is at c.in_ok-sent.ensures.tries in
-    let M : RetransmissionState → Type 0 = λ q. c.args.max ≡ (min c.args.packet.now.room 65532 - q.outstanding.header) / 4 * 4 in
+    let M : RetransmissionState → Type 0 = λ q. c.args.max ≡ (min c.args.packet.now.room 65532 - header q.outstanding) / 4 * 4 in
     let tsns : after.tsns.items ≡ c.args.packet.now.tsns.items ++ c.in-Some.tsn ∷ [] = rw (c.in_ok-push-in-Some.ensures.items, c.in_ok-reserve.ensures.items) refl in
     let both = sends_fills c.args.now c.args.max old c.args.packet.now after c.len-place.result c.size_at-size.result c.in-Some.tsn c.send_next.new.self false told c.len-place.ensures.value c.size_at-size.ensures (subst M (sym c.self.view_is) c.requires.max.1) c.requires.max.0 tsns c.saturating_sub-packet.ensures in
     both.1
@@ -133,7 +129,7 @@ returns-in-None-clause-steps c = λ none_marked may.
 
 pub returns-in_ok-push-in-Some-clause-steps : goal.returns-in_ok-push-in-Some-clause-steps
 returns-in_ok-push-in-Some-clause-steps c =
-    let M : RetransmissionState → Type 0 = λ q. c.args.max ≡ (min c.args.packet.now.room 65532 - q.outstanding.header) / 4 * 4 in
+    let M : RetransmissionState → Type 0 = λ q. c.args.max ≡ (min c.args.packet.now.room 65532 - header q.outstanding) / 4 * 4 in
     let max_is = subst M (sym c.self.view_is) c.requires.max.1 in
     rw (← c.self.view_is) (λ none_marked may.
     let told = rw c.in-Some.is at c.in_ok-sent.ensures.takes in

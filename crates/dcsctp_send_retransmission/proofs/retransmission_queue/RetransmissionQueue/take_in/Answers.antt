@@ -15,16 +15,16 @@ pub returns-then-not-is_listed : goal.returns-then-not-is_listed
 returns-then-not-is_listed c =
     let item = c.item.result.now in
     let at : slice_get c.args.self.now.outstanding.items c.args.place ≡ Some item = rw (← c.self.view_is) c.item.ensures in
-    let unlisted : is_listed c.args.self.now.message_interleaving item ≡ false =
-    subst (λ (x : Item). is_listed c.args.self.now.message_interleaving x ≡ false) c.behind-self.view_is (sym c.is_listed.ensures ∙ c.if-not-is_listed.true) in
+    let unlisted : is_listed c.args.self.now.outstanding.is_interleaved item ≡ false =
+    subst (λ (x : Item). is_listed c.args.self.now.outstanding.is_interleaved x ≡ false) c.behind-self.view_is (sym c.is_listed.ensures ∙ c.if-not-is_listed.true) in
     rw (add-one, take_more c.args.self.now.outstanding.items c.args.place item at) (collects_skipped c.args.self.now _ item _ unlisted c.requires.row)
 
 pub returns-then-not-contains_key : goal.returns-then-not-contains_key
 returns-then-not-contains_key c =
     let item = c.item.result.now in
     let at : slice_get c.args.self.now.outstanding.items c.args.place ≡ Some item = rw (← c.self.view_is) c.item.ensures in
-    let listed : is_listed c.args.self.now.message_interleaving item ≡ true =
-    subst (λ (x : Item). is_listed c.args.self.now.message_interleaving x ≡ true) c.behind-self.view_is (sym c.is_listed.ensures ∙ c.if-not-is_listed.false) in
+    let listed : is_listed c.args.self.now.outstanding.is_interleaved item ≡ true =
+    subst (λ (x : Item). is_listed c.args.self.now.outstanding.is_interleaved x ≡ true) c.behind-self.view_is (sym c.is_listed.ensures ∙ c.if-not-is_listed.false) in
     let fragment = c.fragment.view_is ∙ ap (λ (x : Item). x.fragment) c.behind-self.view_is in
     let Absent : Fragment → Type 0 = λ f. is_some (lookup (is_at (key_cmp (f.stream, f.is_unordered))) c.args.numbers.now.entries) ≡ false in
     let absent = subst Absent fragment (sym c.contains_key.ensures ∙ c.if-not-contains_key.true) in
@@ -34,7 +34,7 @@ returns-then-not-contains_key c =
       refl,
       λ other is.
           let same : item ≡ other = cc in
-          subst (λ (x : Item). LacksRoom c.args.self.now.message_interleaving (limit_of c.args.self.now) (length c.args.numbers.now.entries) (take c.args.place c.args.self.now.outstanding.items) x) same
+          subst (λ (x : Item). LacksRoom c.args.self.now.outstanding.is_interleaved (limit_of c.args.self.now) (length c.args.numbers.now.entries) (take c.args.place c.args.self.now.outstanding.items) x) same
           (lacks_room c.args.self.now (take c.args.place c.args.self.now.outstanding.items) item c.args.numbers.now.entries listed c.requires.row (omega arith) absent),
     )
 
@@ -42,8 +42,8 @@ pub returns : goal.returns
 returns c =
     let item = c.item.result.now in
     let at : slice_get c.args.self.now.outstanding.items c.args.place ≡ Some item = rw (← c.self.view_is) c.item.ensures in
-    let listed : is_listed c.args.self.now.message_interleaving item ≡ true =
-    subst (λ (x : Item). is_listed c.args.self.now.message_interleaving x ≡ true) c.behind-self.view_is (sym c.is_listed.ensures ∙ c.if-not-is_listed.false) in
+    let listed : is_listed c.args.self.now.outstanding.is_interleaved item ≡ true =
+    subst (λ (x : Item). is_listed c.args.self.now.outstanding.is_interleaved x ≡ true) c.behind-self.view_is (sym c.is_listed.ensures ∙ c.if-not-is_listed.false) in
     let fragment = c.fragment.view_is ∙ ap (λ (x : Item). x.fragment) c.behind-self.view_is in
     let Updates : Fragment → Type 0 = λ f.
     (q : ℕ × Bool)

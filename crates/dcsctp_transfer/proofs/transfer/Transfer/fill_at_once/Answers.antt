@@ -1,6 +1,6 @@
 use Rattle.std.proofs.Common.{ap}
 use Rattle.dcsctp_machine.specs.transfer.Transfer.{Transfer}
-use Rattle.dcsctp_transfer.proofs.AtOnceLemmas.{header_after, header_refused, fills_at_once}
+use Rattle.dcsctp_transfer.proofs.AtOnceLemmas.{fills_at_once}
 use Rattle.dcsctp_transfer.proofs.transfer.Transfer.fill_at_once.Goals as goal
 
 pub returns : goal.returns
@@ -10,15 +10,3 @@ returns c =
     (ap (λ (t : Transfer). record t { retransmission = c.get_chunks_for_fast_retransmit.new.self }) c.self.view_is)
     c.in_ok-tsns.ensures.steps
     c.add_chunks.ensures
-
-pub invariant_of-self : goal.invariant_of-self
-invariant_of-self c =
-    header_refused c.args.now c.bytes_remaining-room.result c.self.inside.retransmission_queue c.get_chunks_for_fast_retransmit.new.self c.self.invariant c.in_err-tsns.ensures.steps
-
-pub add_chunks-requires-clause-header : goal.add_chunks-requires-clause-header
-add_chunks-requires-clause-header c =
-    header_after c.args.now c.bytes_remaining-room.result c.self.inside.retransmission_queue c.get_chunks_for_fast_retransmit.new.self c.in_ok-tsns.tsns.items c.self.invariant c.in_ok-tsns.ensures.steps
-
-pub invariant_of-self-2 : goal.invariant_of-self-2
-invariant_of-self-2 c =
-    header_after c.args.now c.bytes_remaining-room.result c.self.inside.retransmission_queue c.get_chunks_for_fast_retransmit.new.self c.in_ok-tsns.tsns.items c.self.invariant c.in_ok-tsns.ensures.steps

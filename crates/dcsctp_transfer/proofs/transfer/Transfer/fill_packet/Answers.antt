@@ -21,13 +21,12 @@ returns-clause-ok c =
     let told = tells_packet c.args.now c.bytes_remaining-room.result c.self.inside.retransmission_queue c.queue.inside.queue c.args.events.now c.get_chunks_to_send.new.self c.get_chunks_to_send.new.queue c.get_chunks_to_send.new.events c.get_chunks_to_send.result c.get_chunks_to_send.ensures.steps in
     let fills = subst (λ (bytes : ℕ). FillsUp bytes c.get_chunks_to_send.new.self c.get_chunks_to_send.new.queue c.in_ok-tsns.tsns.items) c.bytes_remaining-room.ensures.value c.in_ok-tsns.ensures.fills in
     let count = ap length c.deref.ensures.value in
-    let adds = subst (λ (n : ℕ). AddsChunks c.get_chunks_to_send.new.self.message_interleaving c.args.packet.now n c.add_chunks.new.packet) count c.add_chunks.ensures in
+    let adds = subst (λ (n : ℕ). AddsChunks c.get_chunks_to_send.new.self.outstanding.is_interleaved c.args.packet.now n c.add_chunks.new.packet) count c.add_chunks.ensures in
     let answer = ap not (c.is_empty-has_some.ensures ∙ ap (λ (n : ℕ). n == 0) (sym c.deref.ensures.len ∙ count)) in
     rw c.take_back.ensures
     (fills_some c.args.now c.args.self.now _ c.self.inside.retransmission_queue c.get_chunks_to_send.new.self c.args.queue.now c.get_chunks_to_send.new.queue _ _ c.args.packet.now c.add_chunks.new.packet c.in_ok-tsns.tsns.items (not c.is_empty-has_some.result)
     (ap (λ (t : Transfer). t.retransmission) c.self.view_is)
     (ap (λ (t : Transfer). record t { retransmission = c.get_chunks_to_send.new.self }) c.self.view_is)
-    c.self.invariant
     (sym c.may_have_data.ensures ∙ c.if-not-may_have_data.false)
     c.get_chunks_to_send.ensures.sends
     fills

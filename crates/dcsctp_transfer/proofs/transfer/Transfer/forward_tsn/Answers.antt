@@ -4,19 +4,13 @@ use Rattle.dcsctp_machine.specs.Timers.{moment_after}
 use Rattle.dcsctp_machine.specs.transfer.Transfer.{Transfer}
 use Rattle.dcsctp_machine.specs.transfer.Retransmission.{RetransmissionState, outstanding_count}
 use Rattle.dcsctp_transfer.specs.Forwarding.{PutsForward}
-use Rattle.dcsctp_transfer.proofs.ForwardingLemmas.{keeps_due, header_due, tells_due, never_due, forwards_due}
+use Rattle.dcsctp_transfer.proofs.ForwardingLemmas.{keeps_due, tells_due, never_due, forwards_due}
 use Rattle.dcsctp_transfer.proofs.transfer.Transfer.forward_tsn.Goals as goal
-
-pub invariant_of-self : goal.invariant_of-self
-invariant_of-self c = header_due c.should_send_forward_tsn.result c.args.now _ _ c.self.invariant c.should_send_forward_tsn.ensures.gives_up
 
 pub returns-in_err-should_send_forward_tsn-clause-told : goal.returns-in_err-should_send_forward_tsn-clause-told
 returns-in_err-should_send_forward_tsn-clause-told c =
     rw (err_from_is_err_and c.from_residual.result c.from_residual.ensures.1).1
     (tells_due c.should_send_forward_tsn.result c.args.now _ _ c.should_send_forward_tsn.ensures.gives_up)
-
-pub invariant_of-self-then-not-branch : goal.invariant_of-self-then-not-branch
-invariant_of-self-then-not-branch c = header_due c.should_send_forward_tsn.result c.args.now _ _ c.self.invariant c.should_send_forward_tsn.ensures.gives_up
 
 pub returns-then-not-branch-clause-ok : goal.returns-then-not-branch-clause-ok
 returns-then-not-branch-clause-ok c =
@@ -28,22 +22,16 @@ returns-then-not-branch-clause-ok c =
     c.in_ok-should_send_forward_tsn.ensures.gives_up.0
     (tells_due c.should_send_forward_tsn.result c.args.now _ _ c.should_send_forward_tsn.ensures.gives_up) refl (λ without. refl)
 
-pub invariant_of-self-in_err-put_forward_tsn : goal.invariant_of-self-in_err-put_forward_tsn
-invariant_of-self-in_err-put_forward_tsn c = header_due c.should_send_forward_tsn.result c.args.now _ _ c.self.invariant c.should_send_forward_tsn.ensures.gives_up
-
 pub returns-in_err-put_forward_tsn-clause-told : goal.returns-in_err-put_forward_tsn-clause-told
 returns-in_err-put_forward_tsn-clause-told c =
     rw (err_from_is_err_and c.from_residual-in_err-put_forward_tsn.result c.from_residual-in_err-put_forward_tsn.ensures.1).1
     (tells_due c.should_send_forward_tsn.result c.args.now _ _ c.should_send_forward_tsn.ensures.gives_up)
 
-pub invariant_of-self-2 : goal.invariant_of-self-2
-invariant_of-self-2 c = header_due c.should_send_forward_tsn.result c.args.now _ _ c.self.invariant c.should_send_forward_tsn.ensures.gives_up
-
 pub returns-clause-ok : goal.returns-clause-ok
 returns-clause-ok c =
     let keeps = keeps_due c.should_send_forward_tsn.result c.args.now _ _ c.should_send_forward_tsn.ensures.gives_up in
     let old_is = ap (λ (t : Transfer). t.retransmission) c.self.view_is in
-    let interleaving = keeps.interleaving ∙ ap (λ (r : RetransmissionState). r.message_interleaving) old_is in
+    let interleaving = keeps.is_interleaved ∙ ap (λ (r : RetransmissionState). r.outstanding.is_interleaved) old_is in
     forwards_due c.args.now c.args.self.now _ _ _ c.args.queue.now _ _ c.args.packet.now c.put_forward_tsn.new.packet (Some c.next_forward_tsn.result)
     old_is
     (ap (λ (t : Transfer). record t { retransmission = c.should_send_forward_tsn.new.self }) c.self.view_is)
