@@ -1,150 +1,129 @@
--- What each step of a flush does, by whether a growth was refused.
-use Rattle.std.proofs.Common.{◌≡◌, ◌||◌, ◌&&◌, ℕ, Bool, true, false, Option, None, Some, Result, Ok, Err, IsOk, List, [], refl, sym, ap, subst, ◌∙◌}
-use Rattle.std.proofs.lemmas.List.{append-nil}
-use Rattle.rand_core.specs.Stream.{Stream}
+-- What each step of a flush does, by whether an allocation failed.
+use Rattle.dcsctp_machine.specs.transfer.SendQueue.{has_data, SendQueueState}
+use Rattle.dcsctp_core.proofs.FirstLemmas.{Forwarded, BeforeData, fills_first, forwarded_where, transfer_is, before_data, begun_in_view, fills_behind, handed_of, until_of, same_view}
+use Rattle.dcsctp_core.specs.Flushing.{Fills, AcknowledgesBelow, AskCut, AsksWith, BeginsAt, FillsWith, ForwardsAt, HasNoData, KeepsSize, SendsUnlessEmpty, TellsData, TellsForward, TriesData, can_send_below, packet_for}
+use Rattle.dcsctp_transfer.specs.Filling.{Acknowledges, is_sack_wanted}
+use Rattle.std.proofs.Common.{◌≡◌, Bool, Err, IsOk, List, None, Ok, Option, Result, Some, [], ap, append_assoc, false, refl, subst, sym, true, ℕ, ◌++◌, ◌||◌, ◌∙◌}
+use Rattle.dcsctp_machine.specs.turns.FlushOutcomes.{Ask, FillsWhere, filled, first_ask, later_ask, may_abandon, may_forward, room_in, stage_of}
 use Rattle.dcsctp_wire_build.specs.Building.{Building, bytes_remaining}
-use Rattle.dcsctp_machine.specs.transfer.OwnResets.{ready_streams}
-use Rattle.dcsctp_machine.specs.Event.{Event}
 use Rattle.dcsctp_machine.specs.Packet.{Emission}
-use Rattle.dcsctp_machine.specs.transfer.Tracker.{is_acknowledgement_due, owes_acknowledgement}
-use Rattle.dcsctp_machine.specs.transfer.SendQueue.{SendQueueState, has_data}
-use Rattle.dcsctp_machine.specs.transfer.Transfer.{Transfer, is_none_ready}
-use Rattle.dcsctp_machine.specs.transfer.Retransmission.{outstanding_count}
-use Rattle.dcsctp_machine.specs.Endpoint.{held_in}
-use Rattle.dcsctp_machine.specs.turns.BegunResets.{streams_within, last_assigned_tsn}
-use Rattle.dcsctp_machine.specs.turns.FlushOutcomes.{Ask, first_ask, later_ask}
-use Rattle.dcsctp_transfer.specs.Filling.{TellsMore, is_sack_wanted, Acknowledges}
-use Rattle.dcsctp_transfer.proofs.TellingLemmas.{tells_then}
+use Rattle.dcsctp_machine.specs.Endpoint.{Endpoint}
+use Rattle.dcsctp_machine.specs.Event.{Event}
+use Rattle.dcsctp_machine.proofs.FilledAnswers.{GivesUntilFull, answer_filling}
+use Rattle.dcsctp_machine.specs.transfer.Abandoning.{GivesUpAll}
+use Rattle.dcsctp_machine.specs.transfer.Retransmission.{RetransmissionState}
+use Rattle.rand_core.specs.Stream.{Stream}
+use Rattle.dcsctp_machine.specs.transfer.Transfer.{Transfer, is_idle, may_give}
 use Rattle.dcsctp_core.specs.declared.context.Context.{Context}
 use Rattle.dcsctp_core.specs.declared.state.State.{State}
-use Rattle.dcsctp_core.specs.View.{View, transfer_of, view_of}
-use Rattle.dcsctp_core.specs.Flushing.{packet_for, AcknowledgesBelow, ForwardsAt, BeginsAt, HasNoData, HasNoReset, WantsNone, can_send_below, TriesData, Fills, FillsWith, AskCut, AsksWith, SendsUnlessEmpty, KeepsSize}
-use Rattle.dcsctp_core.proofs.FillLemmas.{idle_parts, idle_ready, requesting_none, begun_keeps, fills_later}
-use Rattle.dcsctp_core.proofs.FirstLemmas.{transfer_is, fills_first, IsBusy, cut_busy}
-use Rattle.dcsctp_core.proofs.FlushLemmas.{asks_for, ask_cut}
+use Rattle.dcsctp_core.specs.View.{View, endpoint_of, transfer_of, view_of}
+use Rattle.dcsctp_core.proofs.CutLemmas.{abandoning_completes, cut_untold, cut_within, gave_up_completes}
+use Rattle.std.proofs.lemmas.List.{append-nil}
+use Rattle.dcsctp_core.proofs.FlushLemmas.{ask_cut, asks_for}
+use Rattle.dcsctp_core.proofs.FillLemmas.{fills_later, idle_parts, idle_until, later_until, room_is_left, same_draft}
 
--- ---- where something may have been asked for
+-- ---- a later packet
 
-busy_by : (queue : SendQueueState) (found : Option Transfer) → (HasNoData queue found → ⊥) → IsBusy queue found
-busy_by queue None some = some tt
-busy_by queue (Some transfer) some = λ idle. some (idle_parts queue transfer idle).0
+-- Where an allocation failed, something was asked for.
+busy_by : (b : Bool) (queue : SendQueueState) (transfer : Transfer) → is_idle queue transfer ≡ b → (is_idle queue transfer ≡ true → ⊥) → is_idle queue transfer ≡ false
+busy_by false queue transfer is not_idle = is
+busy_by true queue transfer is not_idle = absurd (not_idle is)
 
-nothing_told : (events : List (Event (List ℕ))) → TellsMore events events
-nothing_told events = record { told = []; is = sym (append-nil events) }
-
--- ---- filling
+later_cut : {R : Type 0} (found : Option Transfer) (old new : View R) (draft : Emission) (packet : Building) → old.endpoint.below.transfer ≡ found → packet ≡ packet_for old.endpoint.options draft
+    → (HasNoData old.endpoint.below.queue found → ⊥) → TellsData found old packet new → AskCut later_ask old draft new.events
+later_cut None old new draft packet holds is some tells = cut_untold later_ask old draft new.events tells
+later_cut (Some transfer) old new draft packet holds is some tells =
+    let e : Endpoint = old.endpoint in
+    let room : bytes_remaining packet ≡ room_in e (filled draft []) = room_is_left e (filled draft []) packet (is ∙ ap (packet_for e.options) (sym (same_draft draft))) in
+    let u : GivesUntilFull later_ask e draft transfer =
+    later_until e draft transfer tells.sent
+    (subst (λ (n : ℕ). FillsWhere (may_give e.below.queue transfer.retransmission) e.moment (stage_of e.below.queue transfer.retransmission [] n) tells.sent) room tells.fills) in
+    let busy : is_idle e.below.queue transfer ≡ false = busy_by (is_idle e.below.queue transfer) e.below.queue transfer refl (λ idle. some (idle_parts e.below.queue transfer idle).0) in
+    cut_within later_ask old draft new.events u.sent.told tells.tells.front tells.tells.rest (answer_filling later_ask e draft transfer u holds busy) tells.tells.parts tells.tells.told
 
 pub later_returns : {R E : Type 0} (packet filled : Building) (old : Context R) (result : Result (Unit {0}) E) (new : Context R) → TriesData packet old result new filled
     → (HasNoData old.send_queue (transfer_of old.state) → IsOk result) → FillsWith later_ask packet old result new filled
 later_returns packet filled old (Ok done) new h idle = λ draft is. fills_later (view_of old) draft (view_of new) packet filled is h
 later_returns packet filled old (Err error) new h idle =
-    λ draft is. cut_busy later_ask (view_of old) draft (view_of new).events (busy_by old.send_queue (transfer_of old.state) (λ none. cc (idle none))) h
+    λ draft is. later_cut (transfer_of old.state) (view_of old) (view_of new) draft packet refl is (λ none. cc (idle none)) h
 
--- What acknowledges leaves what is in flight.
-data_stays : (queue : SendQueueState) (found : Option Transfer) (along : Bool) (old new : State) (packet filled : Building) → transfer_of old ≡ found → AcknowledgesBelow found along old packet new filled
-    → HasNoData queue found → HasNoData queue (transfer_of new)
-data_stays queue None along old new packet filled holds ack none = subst (HasNoData queue) (sym (ap transfer_of ack.0 ∙ holds)) tt
-data_stays queue (Some transfer) along old new packet filled holds ack none =
-    let found : transfer_of new ≡ Some ack.0 = ap transfer_of ack.1 ∙ transfer_is old transfer ack.0 holds in
-    subst (HasNoData queue) (sym found) (none.0, outstanding (is_sack_wanted along transfer) ack.0 ack.2 ∙ none.1)
+-- ---- a FORWARD-TSN
+
+forward_cut : {R : Type 0} (old : Context R) (found : Option Transfer) (along : Bool) (state : State) (draft : Emission) (packet acked : Building) (new : View R) → transfer_of old.state ≡ found
+    → AcknowledgesBelow found along old.state packet state acked → TellsForward (transfer_of state) (view_of (record old { state = state })) new → AskCut first_ask (view_of old) draft new.events
+forward_cut {R = R} old None along state draft packet acked new holds ack tells =
+    let none : transfer_of state ≡ None = ap transfer_of ack.0 ∙ holds in
+    cut_untold first_ask (view_of old) draft new.events (subst (λ (f : Option Transfer). TellsForward f (view_of (record old { state = state })) new) none tells)
+forward_cut {R = R} old (Some transfer) along state draft packet acked new holds ack tells =
+    let e : Endpoint = endpoint_of old in
+    let mid : Transfer = ack.0 in
+    let here : TellsForward (Some mid) (view_of (record old { state = state })) new =
+    subst (λ (f : Option Transfer). TellsForward f (view_of (record old { state = state })) new) (ap transfer_of ack.1 ∙ transfer_is old.state transfer mid holds) tells in
+    let t = here.1 in
+    let gives_up : GivesUpAll e.moment (stage_of e.below.queue transfer.retransmission [] 0) t.gave_up =
+    subst (λ (r : RetransmissionState). GivesUpAll e.moment (stage_of e.below.queue r [] 0) t.gave_up) (unchanged (is_sack_wanted along transfer) mid ack.2) t.gives_up in
+    cut_within first_ask (view_of old) draft new.events t.gave_up.told t.tells.front t.tells.rest
+    (abandoning_completes (may_abandon transfer.retransmission) e draft transfer t.gave_up holds here.0 refl gives_up) t.tells.parts t.tells.told
   where
-    outstanding : (b : Bool) (mid : Transfer) → Acknowledges b transfer packet mid filled → outstanding_count mid.retransmission ≡ outstanding_count transfer.retransmission
-    outstanding true mid h = ap (λ (t : Transfer). outstanding_count t.retransmission) h.0
-    outstanding false mid h = ap (λ (t : Transfer). outstanding_count t.retransmission) h.0
+    unchanged : (b : Bool) (mid : Transfer) → Acknowledges b transfer packet mid acked → mid.retransmission ≡ transfer.retransmission
+    unchanged true mid h = ap (λ (t : Transfer). t.retransmission) h.0
+    unchanged false mid h = ap (λ (t : Transfer). t.retransmission) h.0
 
--- What gives messages up leaves where nothing waits and nothing is outstanding what waits and what is in flight.
-forward_stays : {R : Type 0} (found : Option Transfer) (old new : View R) (packet filled : Building) → ForwardsAt found old packet new filled → found ≡ old.endpoint.below.transfer
-    → HasNoData old.endpoint.below.queue found → HasNoData new.endpoint.below.queue new.endpoint.below.transfer
-forward_stays {R = R} None old new packet filled forward holds none =
-    subst (λ (v : View R). HasNoData v.endpoint.below.queue v.endpoint.below.transfer) (sym forward.0) (subst (HasNoData old.endpoint.below.queue) holds tt)
-forward_stays {R = R} (Some transfer) old new packet filled forward holds none =
-    let same = forward.3.idle none.1 in
-    subst (λ (v : View R). HasNoData v.endpoint.below.queue v.endpoint.below.transfer) (sym forward.5)
-    (ap has_data same.2 ∙ none.0, ap (λ (t : Transfer). outstanding_count t.retransmission) same.1 ∙ none.1)
-
--- what it tells
-forward_tells : {R : Type 0} (found : Option Transfer) (old new : View R) (packet filled : Building) → ForwardsAt found old packet new filled → TellsMore old.events new.events
-forward_tells {R = R} None old new packet filled forward = subst (λ (v : View R). TellsMore old.events v.events) (sym forward.0) (nothing_told old.events)
-forward_tells (Some transfer) old new packet filled forward = record { told = forward.3.told; is = forward.3.tells }
-
--- no memory for a FORWARD-TSN
-pub forward_refused : {R : Type 0} (packet acked : Building) (old : Context R) (along : Bool) (state : State) (draft : Emission) (events : List (Event (List ℕ)))
-    → AcknowledgesBelow (transfer_of old.state) along old.state packet state acked → (HasNoData old.send_queue (transfer_of state) → ⊥) → TellsMore (view_of old).events events
-    → AskCut first_ask (view_of old) draft events
-forward_refused packet acked old along state draft events ack some tells =
-    cut_busy first_ask (view_of old) draft events
-    (busy_by old.send_queue (transfer_of old.state) (λ none. some (data_stays old.send_queue (transfer_of old.state) along old.state state packet acked refl ack none))) tells
+pub forward_refused : {R : Type 0} (packet acked : Building) (old : Context R) (along : Bool) (state : State) (draft : Emission) (new : Context R)
+    → AcknowledgesBelow (transfer_of old.state) along old.state packet state acked → TellsForward (transfer_of state) (view_of (record old { state = state })) (view_of new)
+    → AskCut first_ask (view_of old) draft (view_of new).events
+forward_refused packet acked old along state draft new ack tells = forward_cut old (transfer_of old.state) along state draft packet acked (view_of new) refl ack tells
 
 -- ---- a reset
 
--- What acknowledges leaves the streams that are ready.
-reset_stays : (queue : SendQueueState) (found : Option Transfer) (along : Bool) (old new : State) (packet filled : Building) → transfer_of old ≡ found → AcknowledgesBelow found along old packet new filled
-    → HasNoReset queue found → HasNoReset queue (transfer_of new)
-reset_stays queue None along old new packet filled holds ack none = subst (HasNoReset queue) (sym (ap transfer_of ack.0 ∙ holds)) tt
-reset_stays queue (Some transfer) along old new packet filled holds ack none =
-    subst (HasNoReset queue) (sym (ap transfer_of ack.1 ∙ transfer_is old transfer ack.0 holds)) none
+reset_cut : {R : Type 0} (old : Context R) (found : Option Transfer) (along : Bool) (state : State) (draft : Emission) (packet acked given_packet : Building) (given : View R) (events : List (Event (List ℕ)))
+    → transfer_of old.state ≡ found → along ≡ (has_data old.send_queue || can_send_below found) → packet ≡ packet_for old.options draft → AcknowledgesBelow found along old.state packet state acked
+    → ForwardsAt (transfer_of state) (view_of (record old { state = state })) acked given given_packet → events ≡ given.events → AskCut first_ask (view_of old) draft events
+reset_cut {R = R} old None along state draft packet acked given_packet given events holds is built ack forward same =
+    let up : ForwardsAt None (view_of old) acked given given_packet =
+    subst (λ (f : Option Transfer). ForwardsAt f (view_of old) acked given given_packet) holds
+    (subst (λ (s : State). ForwardsAt (transfer_of s) (view_of (record old { state = s })) acked given given_packet) ack.0 forward) in
+    cut_untold first_ask (view_of old) draft events (same ∙ ap (λ (v : View R). v.events) up.0)
+reset_cut {R = R} old (Some transfer) along state draft packet acked given_packet given events holds is built ack forward same =
+    let e : Endpoint = endpoint_of old in
+    let f : Forwarded (view_of old) draft transfer given given_packet = forwarded_where old transfer along state draft given packet acked given_packet holds is built ack forward in
+    cut_within first_ask (view_of old) draft events f.gave_up.told f.gave_up.told []
+    (gave_up_completes (may_forward first_ask e transfer.retransmission) e draft transfer _ f.gave_up f.next f.forwards holds refl f.gives_up)
+    (sym (append-nil f.gave_up.told)) (same ∙ ap (λ (v : View R). v.events) f.view)
 
--- So does what gives messages up, where nothing is outstanding.
-forward_leaves : {R : Type 0} (found : Option Transfer) (old new : View R) (packet filled : Building) → ForwardsAt found old packet new filled → found ≡ old.endpoint.below.transfer
-    → HasNoData old.endpoint.below.queue found → HasNoReset old.endpoint.below.queue found → HasNoReset new.endpoint.below.queue new.endpoint.below.transfer
-forward_leaves {R = R} None old new packet filled forward holds none ready =
-    subst (λ (v : View R). HasNoReset v.endpoint.below.queue v.endpoint.below.transfer) (sym forward.0) (subst (HasNoReset old.endpoint.below.queue) holds tt)
-forward_leaves {R = R} (Some transfer) old new packet filled forward holds none ready =
-    subst (λ (v : View R). HasNoReset v.endpoint.below.queue v.endpoint.below.transfer) (sym forward.5)
-    (ap (λ (q : SendQueueState). is_none_ready (ready_streams q)) (forward.3.idle none.1).2 ∙ ready)
-
--- What begins a reset leaves what waits as it is, where no stream is ready.
-begin_stays : {R : Type 0} (found : Option Transfer) (old new : View R) (packet filled : Building) → BeginsAt found old packet new filled → found ≡ old.endpoint.below.transfer
-    → HasNoReset old.endpoint.below.queue found → HasNoData old.endpoint.below.queue found → HasNoData new.endpoint.below.queue new.endpoint.below.transfer
-begin_stays {R = R} None old new packet filled begin holds ready none =
-    subst (λ (v : View R). HasNoData v.endpoint.below.queue v.endpoint.below.transfer) (sym begin.0) (subst (HasNoData old.endpoint.below.queue) holds tt)
-begin_stays {R = R} (Some transfer) old new packet filled begin holds ready none =
-    subst (λ (v : View R). HasNoData v.endpoint.below.queue v.endpoint.below.transfer) (sym begin.5) (
-      ap has_data (requesting_none (streams_within (bytes_remaining packet)) (bytes_remaining packet) (last_assigned_tsn transfer.retransmission) (held_in old.endpoint.core) begin.0 old.endpoint.below.queue begin.1 ready begin.2
-          begin.3) ∙ none.0,
-      (begun_keeps begin.0 transfer).count ∙ none.1,
-    )
-
--- It tells nothing.
-begin_tells : {R : Type 0} (found : Option Transfer) (old new : View R) (packet filled : Building) → BeginsAt found old packet new filled → new.events ≡ old.events
-begin_tells {R = R} None old new packet filled begin = ap (λ (v : View R). v.events) begin.0
-begin_tells {R = R} (Some transfer) old new packet filled begin = ap (λ (v : View R). v.events) begin.5
-
--- Nothing waits, nothing is outstanding and no stream is ready.
-abbrev HasNothing : SendQueueState → Option Transfer → Type 0
-HasNothing queue found = HasNoData queue found × HasNoReset queue found
-
-busy_or_none : (queue : SendQueueState) (found : Option Transfer) → (HasNothing queue found → ⊥) → IsBusy queue found
-busy_or_none queue None some = some (tt, tt)
-busy_or_none queue (Some transfer) some = λ idle. some ((idle_parts queue transfer idle).0, idle_ready queue transfer idle)
-
--- so behind what acknowledges and what gives messages up, where it was so before
-nothing_behind : {R : Type 0} (packet acked given_packet : Building) (old : Context R) (along : Bool) (state : State) (given : Context R)
-    → AcknowledgesBelow (transfer_of old.state) along old.state packet state acked → ForwardsAt (transfer_of state) (view_of (record old { state = state })) acked (view_of given) given_packet
-    → HasNothing old.send_queue (transfer_of old.state) → HasNothing given.send_queue (transfer_of given.state)
-nothing_behind packet acked given_packet old along state given ack forward none =
-    let waits : HasNoData old.send_queue (transfer_of state) = data_stays old.send_queue (transfer_of old.state) along old.state state packet acked refl ack none.0 in
-    let ready : HasNoReset old.send_queue (transfer_of state) = reset_stays old.send_queue (transfer_of old.state) along old.state state packet acked refl ack none.1 in
-    let mid : View _ = view_of (record old { state = state }) in
-    (forward_stays (transfer_of state) mid (view_of given) acked given_packet forward refl waits, forward_leaves (transfer_of state) mid (view_of given) acked given_packet forward refl waits ready)
-
--- a growth was refused behind them
-behind_refused : {R : Type 0} (packet acked given_packet : Building) (old : Context R) (along : Bool) (state : State) (given : Context R) (draft : Emission) (events : List (Event (List ℕ)))
-    → AcknowledgesBelow (transfer_of old.state) along old.state packet state acked → ForwardsAt (transfer_of state) (view_of (record old { state = state })) acked (view_of given) given_packet
-    → (HasNothing given.send_queue (transfer_of given.state) → ⊥) → TellsMore (view_of given).events events → AskCut first_ask (view_of old) draft events
-behind_refused packet acked given_packet old along state given draft events ack forward some tells =
-    let mid : View _ = view_of (record old { state = state }) in
-    cut_busy first_ask (view_of old) draft events
-    (busy_or_none old.send_queue (transfer_of old.state) (λ none. some (nothing_behind packet acked given_packet old along state given ack forward none)))
-    (tells_then (view_of old).events (view_of given).events events (forward_tells (transfer_of state) mid (view_of given) acked given_packet forward) tells)
-
--- no memory for a request
 pub reset_refused : {R : Type 0} (packet acked given_packet : Building) (old : Context R) (along : Bool) (state : State) (given : Context R) (draft : Emission) (events : List (Event (List ℕ)))
+    → along ≡ (has_data old.send_queue || can_send_below (transfer_of old.state)) → packet ≡ packet_for old.options draft
     → AcknowledgesBelow (transfer_of old.state) along old.state packet state acked → ForwardsAt (transfer_of state) (view_of (record old { state = state })) acked (view_of given) given_packet
-    → (HasNoReset given.send_queue (transfer_of given.state) → ⊥) → events ≡ (view_of given).events → AskCut first_ask (view_of old) draft events
-reset_refused packet acked given_packet old along state given draft events ack forward some same =
-    behind_refused packet acked given_packet old along state given draft events ack forward (λ none. some none.1)
-    (subst (TellsMore (view_of given).events) (sym same) (nothing_told (view_of given).events))
+    → events ≡ (view_of given).events → AskCut first_ask (view_of old) draft events
+reset_refused packet acked given_packet old along state given draft events is built ack forward same =
+    reset_cut old (transfer_of old.state) along state draft packet acked given_packet (view_of given) events refl is built ack forward same
+
+-- ---- data
+
+data_cut : {R : Type 0} (old : Context R) (found : Option Transfer) (along : Bool) (state : State) (draft : Emission) (packet acked given_packet request_packet : Building) (given here new : View R)
+    → transfer_of old.state ≡ found → along ≡ (has_data old.send_queue || can_send_below found) → packet ≡ packet_for old.options draft → AcknowledgesBelow found along old.state packet state acked
+    → ForwardsAt (transfer_of state) (view_of (record old { state = state })) acked given given_packet → BeginsAt given.endpoint.below.transfer given given_packet here request_packet
+    → (HasNoData here.endpoint.below.queue here.endpoint.below.transfer → ⊥) → TellsData here.endpoint.below.transfer here request_packet new → AskCut first_ask (view_of old) draft new.events
+data_cut {R = R} old None along state draft packet acked given_packet request_packet given here new holds is built ack forward begin some tells =
+    let same = same_view old along state given here packet acked given_packet request_packet holds ack forward begin in
+    cut_untold first_ask (view_of old) draft new.events
+    (subst (λ (f : Option Transfer). TellsData f (view_of old) request_packet new) holds (subst (λ (v : View R). TellsData v.endpoint.below.transfer v request_packet new) same.0 tells))
+data_cut {R = R} old (Some transfer) along state draft packet acked given_packet request_packet given here new holds is built ack forward begin some tells =
+    let e : Endpoint = endpoint_of old in
+    let d : BeforeData (view_of old) draft transfer here request_packet =
+    before_data (view_of old) draft transfer given here given_packet request_packet (forwarded_where old transfer along state draft given packet acked given_packet holds is built ack forward) begin in
+    let begun_view : View R = begun_in_view (view_of old) d.up.next d.up.gave_up (record transfer { tracker = d.up.tracker }) d.begun (handed_of d) in
+    let t : TellsData begun_view.endpoint.below.transfer begun_view request_packet new = subst (λ (v : View R). TellsData v.endpoint.below.transfer v request_packet new) d.view tells in
+    let u : GivesUntilFull first_ask e draft transfer =
+    until_of (view_of old) draft transfer here request_packet d t.sent (fills_behind (view_of old) draft transfer here request_packet d t.sent t.fills) in
+    let nothing : is_idle e.below.queue transfer ≡ true → HasNoData begun_view.endpoint.below.queue begun_view.endpoint.below.transfer = λ idle.
+    let n = idle_until first_ask e draft transfer u idle in (n.no_data, n.no_items) in
+    let busy : is_idle e.below.queue transfer ≡ false =
+    busy_by (is_idle e.below.queue transfer) e.below.queue transfer refl
+    (λ idle. some (subst (λ (v : View R). HasNoData v.endpoint.below.queue v.endpoint.below.transfer) (sym d.view) (nothing idle))) in
+    cut_within first_ask (view_of old) draft new.events u.sent.told (d.up.gave_up.told ++ t.tells.front) t.tells.rest (answer_filling first_ask e draft transfer u holds busy)
+    (ap (λ (es : List (Event (List ℕ))). d.up.gave_up.told ++ es) t.tells.parts ∙ sym (append_assoc d.up.gave_up.told t.tells.front t.tells.rest))
+    (t.tells.told ∙ append_assoc (view_of old).events d.up.gave_up.told t.tells.front)
 
 pub first_returns : {R E : Type 0} (packet acked given_packet request_packet filled : Building) (old : Context R) (along : Bool) (state : State) (given begun : Context R) (result : Result (Unit {0}) E) (new : Context R)
     → along ≡ (has_data old.send_queue || can_send_below (transfer_of old.state)) → AcknowledgesBelow (transfer_of old.state) along old.state packet state acked
@@ -154,23 +133,8 @@ pub first_returns : {R E : Type 0} (packet acked given_packet request_packet fil
 first_returns packet acked given_packet request_packet filled old along state given begun (Ok done) new is ack forward begin h idle =
     λ draft built. fills_first old along state draft (view_of given) (view_of begun) (view_of new) packet acked given_packet request_packet filled is built ack forward begin h
 first_returns packet acked given_packet request_packet filled old along state given begun (Err error) new is ack forward begin h idle =
-    λ draft built. behind_refused packet acked given_packet old along state given draft (view_of new).events ack forward
-    (λ none. cc (idle (begin_stays (transfer_of given.state) (view_of given) (view_of begun) given_packet request_packet begin refl none.1 none.0)))
-    (subst (λ (es : List (Event (List ℕ))). TellsMore es (view_of new).events) (begin_tells (transfer_of given.state) (view_of given) (view_of begun) given_packet request_packet begin) h)
-
--- no memory for a SACK
-wants_none : (queue : SendQueueState) (found : Option Transfer) (along : Bool) → (WantsNone found along → ⊥) → IsBusy queue found
-wants_none queue None along some = some tt
-wants_none queue (Some transfer) along some =
-    λ idle. let parts = idle_parts queue transfer idle in some (none (is_acknowledgement_due transfer.tracker) (owes_acknowledgement transfer.tracker) parts.1.1 parts.1.0)
-  where
-    none : (due owes : Bool) → due ≡ false → owes ≡ false → (due || (owes && along)) ≡ false
-    none due owes a b = ap (λ (x : Bool). x || (owes && along)) a ∙ ap (λ (x : Bool). x && along) b
-
-pub sack_refused : {R : Type 0} (packet : Building) (old : Context R) (along : Bool) (draft : Emission) → (WantsNone (transfer_of old.state) along → ⊥)
-    → AskCut first_ask (view_of old) draft (view_of old).events
-sack_refused packet old along draft some =
-    cut_busy first_ask (view_of old) draft (view_of old).events (wants_none old.send_queue (transfer_of old.state) along some) (nothing_told (view_of old).events)
+    λ draft built. data_cut old (transfer_of old.state) along state draft packet acked given_packet request_packet (view_of given) (view_of begun) (view_of new) refl is built ack forward begin
+    (λ none. cc (idle none)) h
 
 -- ---- and then the packet goes out
 

@@ -13,7 +13,8 @@ use Rattle.dcsctp_machine.specs.Endpoint.{Endpoint, held_in}
 use Rattle.dcsctp_machine.specs.Outcome.{Outcome, still, sends}
 use Rattle.dcsctp_machine.specs.control.Choices.{plain_contents}
 use Rattle.dcsctp_machine.specs.turns.FlushOutcomes.{Answer, draft_to, goes_out, is_none}
-use Rattle.dcsctp_machine.specs.turns.DataOutcomes.{with_transfer, SendsAtOnce, FastRetransmits}
+use Rattle.dcsctp_machine.specs.transfer.AtOnce.{SendsAtOnce}
+use Rattle.dcsctp_machine.specs.turns.DataOutcomes.{with_transfer, FastRetransmits, SendsLost}
 use Rattle.dcsctp_transfer.specs.Sacks.{FillsAtOnce}
 use Rattle.dcsctp_core.specs.declared.context.Context.{Context}
 use Rattle.dcsctp_core.specs.declared.state.State.{State}
@@ -24,11 +25,12 @@ use Rattle.dcsctp_core.specs.Flushing.{packet_of, packet_for, empty_packet, sent
 use Rattle.dcsctp_core.specs.Below.{FillsAtOnceBelow, at_once_below, GoesAtOnce, AtOnceAt}
 use Rattle.dcsctp_core.proofs.BelowLemmas.{below_view, moves_to, moves_from}
 use Rattle.dcsctp_core.proofs.Composing.{cut_first}
-use Rattle.dcsctp_core.proofs.FillLemmas.{data_kinds, data_fit}
+use Rattle.dcsctp_core.proofs.FillLemmas.{data_fit, room_is_left}
 use Rattle.dcsctp_core.proofs.FlushLemmas.{fits_by}
 use Rattle.dcsctp_core.proofs.LoopLemmas.{held_by_tcb, none_by_tcb, packet_to}
 use Rattle.dcsctp_core.proofs.Moving.{moves_still}
 use Rattle.dcsctp_core.proofs.SentLemmas.{body_of_chunks, none_as_bytes, sent_moves, built_bytes}
+use Rattle.dcsctp_machine.proofs.LostOutcomes.{some_lost}
 
 -- the packet that was filled, if it holds a chunk
 goes : {R : Type 0} (stream : R → Stream) (v : View R) (after : Transfer) (with_checksum : Bool) (tag : ℕ) (contents : List Content) (packet : Building) (new : View R)
@@ -45,7 +47,7 @@ goes stream v after with_checksum tag (content ∷ contents) packet new built is
 
 at_once_by : {R : Type 0} (stream : R → Stream) (v : View R) (held : Held) (transfer after : Transfer) (packet filled_packet : Building) (is_sent : Bool) (new : View R)
     → has_fast_retransmit transfer.retransmission ≡ true → held_in v.endpoint.core ≡ Some held → v.endpoint.below.transfer ≡ Some transfer
-    → packet ≡ packet_for v.endpoint.options (draft_to held) → FillsAtOnce transfer packet after filled_packet → KeepsSize filled_packet
+    → packet ≡ packet_for v.endpoint.options (draft_to held) → FillsAtOnce v.endpoint.moment transfer packet after filled_packet → KeepsSize filled_packet
     → is_sent ≡ not (is_none filled_packet.body) → new ≡ sent_where is_sent filled_packet (record v { endpoint = with_transfer v.endpoint after })
     → TakesIn stream AtOnceAt v new
 at_once_by {R = R} stream v held transfer after packet filled_packet is_sent new fast holds below built fills size sent_is is =
@@ -53,38 +55,38 @@ at_once_by {R = R} stream v held transfer after packet filled_packet is_sent new
     let draft : Emission = draft_to held in
     let chunks : List Plain = map unworked fills.chunks in
     let contents : List Content = plain_contents chunks in
+    let left : Transfer = record transfer { retransmission = fills.left } in
     let packed : filled_packet ≡ packet_of e.options draft.with_checksum draft.packet.tag contents =
     fills.adds
     ∙ ap (λ (b : Building). record b { body = b.body ++ flat_map chunk_bytes fills.chunks }) built
     ∙ ap (λ (bytes : List ℕ). record (packet_for e.options draft) { body = bytes }) (body_of_chunks fills.chunks) in
     let goes_if : is_sent ≡ not (is_none contents) = sent_is ∙ ap not (ap (λ (b : Building). is_none b.body) packed ∙ none_as_bytes contents) in
     let answer : Answer = record { acknowledgements = []; begun = None; data_chunks = chunks; told = []; after = e } in
-    let o : Outcome = goes_out (with_transfer e after) [] draft.with_checksum draft.packet.tag contents in
-    let turn : SendsAtOnce e held transfer o =
+    let o : Outcome = goes_out (with_transfer e left) [] draft.with_checksum draft.packet.tag contents in
+    let turn : SendsLost e held transfer o =
     record {
-      left = after;
+      left = fills.left;
+      tsns = fills.tsns;
+      sends = subst (λ (room : ℕ). SendsAtOnce e.moment room e.below.queue transfer.retransmission fills.left fills.tsns) (room_is_left e draft packet built) (fills.sends e.below.queue);
       chunks = chunks;
-      kind = data_kinds transfer.retransmission.outstanding.is_interleaved fills.chunks fills.are_data;
+      are = fills.are;
       fit = data_fit fills.chunks fills.fits;
       within = λ within. fits_by e draft answer filled_packet packed size within;
-      outstanding = fills.outstanding;
-      unacknowledged = fills.unacknowledged;
-      next_tsn = fills.next_tsn;
-      rest = fills.rest;
       is = refl;
     } in
     let by_fast : FastRetransmits (has_fast_retransmit transfer.retransmission) e held transfer o = subst (λ (b : Bool). FastRetransmits b e held transfer o) (sym fast) turn in
     record {
       outcome = o;
       turn = subst (λ (h : Option Held). GoesAtOnce e h e.below.transfer o) (sym holds) (subst (λ (t : Option Transfer). GoesAtOnce e (Some held) t o) (sym below) by_fast);
-      moves = goes stream v after draft.with_checksum draft.packet.tag contents filled_packet new packed
-          (is ∙ ap (λ (b : Bool). sent_where b filled_packet (record v { endpoint = with_transfer e after })) goes_if);
+      moves = goes stream v left draft.with_checksum draft.packet.tag contents filled_packet new packed
+          (is ∙ ap (λ (b : Bool). sent_where b filled_packet (record v { endpoint = with_transfer e after })) goes_if
+          ∙ ap (λ (t : Transfer). sent_where (not (is_none contents)) filled_packet (record v { endpoint = with_transfer e t })) fills.is);
     }
 
 at_once_where : {R : Type 0} (stream : R → Stream) (old : Context R) (tcb : TransmissionControlBlock) (state : State) (packet filled_packet : Building) (is_sent : Bool) (new : View R) (found : Option Transfer)
     → transfer_of old.state ≡ found → at_once_below found ≡ true → Some tcb ≡ tcb_of old.state
     → packet ≡ empty_packet old.options (tcb.capabilities.zero_checksum_method.0 == 0) tcb.peer.tag
-    → FillsAtOnceBelow found old.state packet state filled_packet → KeepsSize filled_packet
+    → FillsAtOnceBelow old.moment found old.state packet state filled_packet → KeepsSize filled_packet
     → is_sent ≡ not (is_none filled_packet.body) → new ≡ sent_where is_sent filled_packet (view_of (record old { state = state }))
     → TakesIn stream AtOnceAt (view_of old) new
 at_once_where stream old tcb state packet filled_packet is_sent new None below fast kept built fills size sent_is is = absurd (cc)
@@ -97,7 +99,7 @@ at_once_where {R = R} stream old tcb state packet filled_packet is_sent new (Som
 pub at_once_sent : {R : Type 0} (stream : R → Stream) (old : Context R) (tcb : TransmissionControlBlock) (state : State) (packet filled_packet : Building) (is_sent : Bool) (new : View R)
     → at_once_below (transfer_of old.state) ≡ true → Some tcb ≡ tcb_of old.state
     → packet ≡ empty_packet old.options (tcb.capabilities.zero_checksum_method.0 == 0) tcb.peer.tag
-    → FillsAtOnceBelow (transfer_of old.state) old.state packet state filled_packet → KeepsSize filled_packet
+    → FillsAtOnceBelow old.moment (transfer_of old.state) old.state packet state filled_packet → KeepsSize filled_packet
     → is_sent ≡ not (is_none filled_packet.body) → new ≡ sent_where is_sent filled_packet (view_of (record old { state = state }))
     → TakesIn stream AtOnceAt (view_of old) new
 at_once_sent stream old tcb state packet filled_packet is_sent new fast kept built fills size sent_is is =
@@ -125,10 +127,7 @@ at_once_no_peer stream old nobody =
 
 fast_where : (b : Bool) (e : Endpoint) (held : Held) (transfer : Transfer) → (o : Outcome) × FastRetransmits b e held transfer o
 fast_where false e held transfer = (still e, refl)
-fast_where true e held transfer = (
-  still (with_transfer e transfer),
-  record { left = transfer; chunks = []; kind = tt; fit = tt; within = λ within. within; outstanding = refl; unacknowledged = refl; next_tsn = refl; rest = refl; is = refl },
-)
+fast_where true e held transfer = some_lost e held transfer
 
 pub any_fast : (e : Endpoint) (held : Held) (transfer : Transfer) → (o : Outcome) × FastRetransmits (has_fast_retransmit transfer.retransmission) e held transfer o
 any_fast e held transfer = fast_where (has_fast_retransmit transfer.retransmission) e held transfer

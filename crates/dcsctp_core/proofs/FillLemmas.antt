@@ -1,13 +1,14 @@
 -- How a packet of a flush is filled, as an answer of the transfer layer.
-use Rattle.std.proofs.Common.{◌≡◌, ◌&&◌, ◌||◌, ◌==◌, not, nat_le, ℕ, zero, suc, Bool, true, false, Option, None, Some, List, [], ◌∷◌, ◌++◌, length, map, take, refl, sym, ap, subst, ◌∙◌, append_assoc, arith}
+use Rattle.dcsctp_machine.specs.transfer.Chunks.{AreChunks}
+use Rattle.std.proofs.Common.{◌≡◌, ◌==◌, ◌&&◌, ◌||◌, not, nat_le, ℕ, zero, suc, Bool, true, false, Option, None, Some, List, [], ◌∷◌, ◌++◌, length, map, take, refl, sym, ap, subst, ◌∙◌, append_assoc, arith, nat_lt}
 use Rattle.std.specs.Prelude.{if◌then◌else◌}
 use Rattle.std.specs.List.{AllByRecursion, flat_map}
-use Rattle.std.proofs.lemmas.List.{append-nil, map-append}
+use Rattle.std.proofs.lemmas.List.{append-nil}
 use Rattle.std.proofs.lemmas.Bool.Decides.{nat_tests}
 use Rattle.dcsctp_wire.specs.Content.{ChunkContent}
 use Rattle.dcsctp_wire.specs.ReadsBack.{FitsChunk}
 use Rattle.dcsctp_wire.specs.Spelling.{chunk_bytes}
-use Rattle.dcsctp_wire_build.specs.Building.{Building}
+use Rattle.dcsctp_wire_build.specs.Building.{Building, bytes_remaining}
 use Rattle.dcsctp_machine.specs.transfer.OwnResets.{ready_streams}
 use Rattle.dcsctp_machine.specs.declared.options.Options.{Options}
 use Rattle.dcsctp_machine.specs.Settings.{Ports, ports_of}
@@ -15,19 +16,23 @@ use Rattle.dcsctp_machine.specs.Event.{Event}
 use Rattle.dcsctp_machine.specs.Packet.{Plain, plain, unworked, Content, Emission}
 use Rattle.dcsctp_machine.specs.transfer.Tracker.{TrackerState, is_acknowledgement_due, owes_acknowledgement}
 use Rattle.dcsctp_machine.specs.transfer.SendQueue.{SendQueueState, has_data}
-use Rattle.dcsctp_machine.specs.transfer.Transfer.{Transfer, must_give, is_none_ready, is_idle}
-use Rattle.dcsctp_machine.specs.transfer.Retransmission.{can_send, outstanding_count}
+use Rattle.dcsctp_machine.specs.transfer.Transfer.{Transfer, is_none_ready, is_idle, may_give}
+use Rattle.dcsctp_machine.specs.transfer.Retransmission.{can_send, outstanding_count, RetransmissionState}
 use Rattle.dcsctp_machine.specs.declared.association.Held.{Held}
 use Rattle.dcsctp_machine.specs.Endpoint.{Endpoint, Timers, held_in}
 use Rattle.dcsctp_machine.specs.control.Choices.{plain_contents}
-use Rattle.dcsctp_machine.specs.turns.BegunResets.{BegunReset, stream_field, streams_within, last_assigned_tsn, begun_where, begun_in, request_contents, queue_requesting, transfer_begun, after_begun}
-use Rattle.dcsctp_machine.specs.turns.FlushOutcomes.{Told, amount_is_low, total_amount_is_low, message_is_sent, message_may_have_expired, message_has_expired, message_ends, told_event, Answer, answer_contents, filled, Ask, first_ask, later_ask, room_in, where_fits, begun_at, BeginsReset, wants_sack, IsForward, IsData, FitsPlain, is_none, next_forward, GivesUp, Gives, GivesWhere, AnsweredBelow, timers_with, nothing_waits}
-use Rattle.dcsctp_machine.specs.turns.FlushOutcomes as asks
+use Rattle.dcsctp_machine.specs.turns.BegunResets.{BegunReset, stream_field, streams_within, last_assigned_tsn, begun_where, begun_in, request_contents, queue_requesting, after_begun, retransmission_begun}
+use Rattle.dcsctp_machine.specs.turns.FlushOutcomes.{Told, amount_is_low, total_amount_is_low, message_is_sent, message_may_have_expired, message_has_expired, message_ends, told_event, Answer, answer_contents, filled, Ask, first_ask, later_ask, room_in, where_fits, begun_at, wants_sack, FitsPlain, Gives, GivesWhere, AnsweredBelow, timers_with, nothing_waits, told_content, FillsWhere, GivesUpWhere, forward_where, may_abandon, may_forward, stage_of}
 use Rattle.dcsctp_api.specs.Calls.{user_event}
-use Rattle.dcsctp_transfer.specs.Filling.{told_content, IsDataChunk, has_chunks, FillsPacket, with_chunk}
+use Rattle.dcsctp_transfer.specs.Filling.{has_chunks, FillsPacket, with_chunk}
 use Rattle.dcsctp_core.specs.View.{View}
 use Rattle.dcsctp_core.specs.Flushing.{packet_for, timers_where, Fills, FillsData}
 use Rattle.dcsctp_core.proofs.SentLemmas.{body_of, body_append, body_of_chunks, room_is}
+use Rattle.dcsctp_machine.proofs.FilledAnswers.{GivesUntilFull}
+use Rattle.dcsctp_machine.specs.transfer.Outstanding.{OutstandingState}
+use Rattle.dcsctp_machine.specs.transfer.Filling.{Stage}
+use Rattle.dcsctp_machine.proofs.ToldLemmas.{behind_events, told_behind}
+use Rattle.dcsctp_machine.specs.turns.FlushOutcomes as asks
 
 -- ---- what the user is told
 
@@ -44,31 +49,15 @@ told_user ports [] = refl
 told_user ports (first ∷ told) =
     ap (λ (e : Event (List ℕ)). e ∷ map told_content told) (sym (told_one ports first)) ∙ ap (λ (es : List (Event (List ℕ))). user_event ports (told_event first) ∷ es) (told_user ports told)
 
--- what is told in two steps
-told_then : (a b c : List (Event (List ℕ))) (front back : List Told) → b ≡ a ++ map told_content front → c ≡ b ++ map told_content back → c ≡ a ++ map told_content (front ++ back)
-told_then a b c front back first later =
-    later
-    ∙ ap (λ (es : List (Event (List ℕ))). es ++ map told_content back) first
-    ∙ append_assoc a (map told_content front) (map told_content back)
-    ∙ ap (λ (es : List (Event (List ℕ))). a ++ es) (sym (map-append told_content front back))
-
 -- ---- chunks with data
-
-pub data_kinds : (interleaving : Bool) (chunks : List ChunkContent) → AllByRecursion (IsDataChunk interleaving) chunks → AllByRecursion (IsData interleaving) (map unworked chunks)
-data_kinds interleaving [] h = tt
-data_kinds interleaving (chunk ∷ chunks) h = (h.0, data_kinds interleaving chunks h.1)
 
 pub data_fit : (chunks : List ChunkContent) → AllByRecursion FitsChunk chunks → AllByRecursion FitsPlain (map unworked chunks)
 data_fit [] h = tt
 data_fit (chunk ∷ chunks) h = (h.0, data_fit chunks h.1)
 
-none_of : (chunks : List ChunkContent) → is_none (map unworked chunks) ≡ not (has_chunks chunks)
-none_of [] = refl
-none_of (chunk ∷ chunks) = refl
-
-timers_are : (e : Endpoint) (chunks : List ChunkContent) (any : Bool) → any ≡ has_chunks chunks → timers_where any e ≡ timers_with e (map unworked chunks)
-timers_are e [] any is = ap (λ (b : Bool). timers_where b e) is
-timers_are e (chunk ∷ chunks) any is = ap (λ (b : Bool). timers_where b e) is
+timers_are : (e : Endpoint) (chunks : List ChunkContent) → timers_where (has_chunks chunks) e ≡ timers_with e (map unworked chunks)
+timers_are e [] = refl
+timers_are e (chunk ∷ chunks) = refl
 
 -- ---- where nothing waits
 
@@ -156,192 +145,164 @@ pub requesting_none : (count room last_tsn : ℕ) (held : Option Held) (begun : 
 requesting_none count room last_tsn held begun queue left none is hands =
     hands ∙ ap (λ (b : Option BegunReset). queue_requesting count b queue) (is ∙ none_begun first_ask held room last_tsn queue none)
 
--- what is asked where nothing waits changes nothing
-same_endpoint : (e : Endpoint) (transfer after : Transfer) (left : SendQueueState) → e.below.transfer ≡ Some transfer → after ≡ transfer → left ≡ e.below.queue
-    → record e { below = record { queue = left; transfer = Some after } } ≡ e
-same_endpoint e transfer after left holds same waits =
-    ap (λ (t : Transfer). record e { below = record { queue = left; transfer = Some t } }) same
-    ∙ ap (λ (q : SendQueueState). record e { below = record { queue = q; transfer = Some transfer } }) waits
-    ∙ ap (λ (t : Option Transfer). record e { below = record e.below { transfer = t } }) (sym holds)
+-- ---- what a packet is filled with
 
-no_chunks : (chunks : List ChunkContent) (any : Bool) → any ≡ has_chunks chunks → any ≡ false → chunks ≡ []
-no_chunks [] any is none = refl
-no_chunks (chunk ∷ chunks) any is none = absurd (cc)
+-- what an ask comes to, up to the data: where it begins
+abbrev pub start_of : {ask : Ask} {e : Endpoint} {draft : Emission} {transfer : Transfer} → GivesUntilFull ask e draft transfer → Stage
+start_of {e = e} {draft = draft} u =
+    stage_of (queue_requesting (streams_within (room_in e (filled draft (plain_contents (u.sacks ++ u.forwards))))) u.begun u.gave_up.waiting)
+    (retransmission_begun u.begun u.gave_up.queue) u.gave_up.told (room_in e (filled draft (plain_contents (u.sacks ++ u.forwards) ++ request_contents u.begun)))
 
--- what gives messages up, in front of data
-pub record Gave (ask : Ask) (e : Endpoint) (mid given : Transfer) (waits : SendQueueState) (events telling : List (Event (List ℕ))) (later : ℕ) (forwards : List Plain) : Type 0 where
-  pub told : List Told
-  pub tells : telling ≡ events ++ map told_content told
-  pub gives_up : GivesUp ask e mid later forwards
-  pub rest : given ≡ record mid { retransmission = given.retransmission }
-  pub partial_reliability : given.retransmission.partial_reliability ≡ mid.retransmission.partial_reliability
-  pub is_interleaved : given.retransmission.outstanding.is_interleaved ≡ mid.retransmission.outstanding.is_interleaved
-  pub idle : outstanding_count mid.retransmission ≡ 0
-      → (given ≡ mid) × (waits ≡ e.below.queue) × (told ≡ []) × (later ≡ e.no_forward_tsn_before) × (forwards ≡ [])
+-- the transfer layer then
+abbrev pub transfer_after : {ask : Ask} {e : Endpoint} {draft : Emission} {transfer : Transfer} → GivesUntilFull ask e draft transfer → Transfer
+transfer_after {transfer = transfer} u = record transfer { retransmission = u.sent.queue; tracker = u.tracker }
 
--- none is made
-pub gives_up_none : (ask : Ask) (e : Endpoint) (mid : Transfer) → GivesUp ask e mid e.no_forward_tsn_before []
-gives_up_none ask e mid =
-    record {
-      is_made = false;
-      later = refl;
-      none = λ is. refl;
-      in_first = λ is. refl;
-      in_time = λ early. refl;
-      negotiated = λ is. refl;
-      at_most_one = omega arith;
-      kind = tt;
-      fit = tt;
-    }
-
-gave_none : (ask : Ask) (e : Endpoint) (mid : Transfer) (events : List (Event (List ℕ))) → Gave ask e mid mid e.below.queue events events e.no_forward_tsn_before []
-gave_none ask e mid events =
-    record {
-      told = [];
-      tells = sym (append-nil events);
-      gives_up = gives_up_none ask e mid;
-      rest = refl;
-      partial_reliability = refl;
-      is_interleaved = refl;
-      idle = λ no_items. (refl, refl, refl, refl, refl);
-    }
-
--- the endpoint once it was given
-abbrev pub given_endpoint : Endpoint → Option BegunReset → Bool → ℕ → SendQueueState → Transfer → Endpoint
-given_endpoint e begun any later left after =
+-- the endpoint with this below it
+abbrev pub endpoint_given : Endpoint → Option BegunReset → Bool → ℕ → SendQueueState → Transfer → Endpoint
+endpoint_given e begun any later left after =
     record (after_begun begun e) { timers = timers_where any (after_begun begun e); no_forward_tsn_before = later; below = record { queue = left; transfer = Some after } }
 
--- A reset that is begun leaves this.
-pub record BegunKeeps (begun : Option BegunReset) (transfer : Transfer) : Type 0 where
-  pub count : outstanding_count (transfer_begun begun transfer).retransmission ≡ outstanding_count transfer.retransmission
-  pub partial_reliability : (transfer_begun begun transfer).retransmission.partial_reliability ≡ transfer.retransmission.partial_reliability
-  pub is_interleaved : (transfer_begun begun transfer).retransmission.outstanding.is_interleaved ≡ transfer.retransmission.outstanding.is_interleaved
-  pub timeout : (transfer_begun begun transfer).timeout ≡ transfer.timeout
-  pub tracker : (transfer_begun begun transfer).tracker ≡ transfer.tracker
-  pub reassembly : (transfer_begun begun transfer).reassembly ≡ transfer.reassembly
+abbrev pub given_endpoint : {ask : Ask} {e : Endpoint} {draft : Emission} {transfer : Transfer} → GivesUntilFull ask e draft transfer → Bool → Endpoint
+given_endpoint {e = e} u any = endpoint_given e u.begun any (forward_where u.next e.no_forward_tsn_before) u.sent.waiting (transfer_after u)
 
-pub begun_keeps : (begun : Option BegunReset) (transfer : Transfer) → BegunKeeps begun transfer
-begun_keeps None transfer = record { count = refl; partial_reliability = refl; is_interleaved = refl; timeout = refl; tracker = refl; reassembly = refl }
-begun_keeps (Some begun) transfer = record { count = refl; partial_reliability = refl; is_interleaved = refl; timeout = refl; tracker = refl; reassembly = refl }
-
--- The parts of an answer: the transfer layer once what acknowledges is in the packet, once what gives messages up is, and once data
--- is; and the queue behind what gives messages up, behind a reset that is begun, and behind data.
+-- A packet that was filled: what it came to up to the data, and the data in it.
 pub record Parts {R : Type 0} (ask : Ask) (old : View R) (draft : Emission) (transfer : Transfer) (new : View R) (filled_packet : Building) : Type 0 where
-  pub mid : Transfer
-  pub given : Transfer
-  pub after : Transfer
-  pub waits : SendQueueState
-  pub handed : SendQueueState
-  pub left : SendQueueState
-  pub telling : List (Event (List ℕ))
-  pub later : ℕ
-  pub sacks : List Plain
-  pub forwards : List Plain
-  pub begun : Option BegunReset
-  pub any : Bool
+  pub until : GivesUntilFull ask old.endpoint draft transfer
+  pub still : has_data (start_of until).waiting ≡ false → outstanding_count (start_of until).queue ≡ 0 → until.sent ≡ start_of until
+  pub chunks : List ChunkContent
+  pub are : AreChunks until.sent.queue.outstanding until.sent.tsns (map unworked chunks)
+  pub fits : AllByRecursion FitsChunk chunks
+  pub forwards_fit : AllByRecursion FitsPlain until.forwards
+  pub told : List Told
+  pub are_told : map told_content told ≡ until.sent.told
   pub holds : old.endpoint.below.transfer ≡ Some transfer
-  pub acknowledges : asks.Acknowledges (wants_sack ask old.endpoint.below.queue transfer) (room_in old.endpoint draft) transfer mid.tracker sacks
-  pub mid_is : mid ≡ record transfer { tracker = mid.tracker }
-  pub gave : Gave ask old.endpoint mid given waits old.events telling later forwards
-  pub begins : BeginsReset ask old.endpoint (room_in old.endpoint (filled draft (plain_contents (sacks ++ forwards)))) transfer begun
-  pub untouched : is_none_ready (ready_streams waits) ≡ true → handed ≡ waits
-  pub fills : FillsPacket (transfer_begun begun given) handed telling (packet_for old.endpoint.options (filled draft (plain_contents (sacks ++ forwards) ++ request_contents begun))) after left new.events filled_packet any
-  pub is : new ≡ record old { endpoint = given_endpoint old.endpoint begun any later left after; events = new.events }
-
-abbrev answer_from : Endpoint → List Plain → Option BegunReset → List ChunkContent → List Told → Bool → ℕ → SendQueueState → Transfer → Answer
-answer_from e sacks begun chunks told any later left after = answer_by sacks begun chunks told (given_endpoint e begun any later left after)
+  pub adds : filled_packet
+      ≡ record (packet_for old.endpoint.options (filled draft (plain_contents (until.sacks ++ until.forwards) ++ request_contents until.begun))) {
+        body = (packet_for old.endpoint.options (filled draft (plain_contents (until.sacks ++ until.forwards) ++ request_contents until.begun))).body ++ flat_map chunk_bytes chunks;
+      }
+  pub is : new ≡ record old { endpoint = given_endpoint until (has_chunks chunks); events = old.events ++ until.sent.told }
 
 abbrev answer_of : {R : Type 0} {ask : Ask} {old : View R} {draft : Emission} {transfer : Transfer} {new : View R} {filled_packet : Building} → Parts ask old draft transfer new filled_packet → Answer
-answer_of {old = old} p = answer_from old.endpoint (p.sacks ++ p.forwards) p.begun p.fills.chunks (p.gave.told ++ p.fills.told) p.any p.later p.left p.after
+answer_of {old = old} p = answer_by (p.until.sacks ++ p.until.forwards) p.until.begun p.chunks p.told (given_endpoint p.until (has_chunks p.chunks))
+
+-- ---- where nothing waits
 
 -- nothing is asked for, so none of it goes out
 no_sacks : (b : Bool) (room : ℕ) (transfer : Transfer) (after : TrackerState) (sacks : List Plain) → b ≡ false → asks.Acknowledges b room transfer after sacks → (after ≡ transfer.tracker) × (sacks ≡ [])
 no_sacks b room transfer after sacks is h = subst (λ (x : Bool). asks.Acknowledges x room transfer after sacks) is h
 
-same_mid : (transfer mid : Transfer) → mid ≡ record transfer { tracker = mid.tracker } → mid.tracker ≡ transfer.tracker → mid ≡ transfer
-same_mid transfer mid is tracker = is ∙ ap (λ (t : TrackerState). record transfer { tracker = t }) tracker
+-- nothing is outstanding, so nothing is abandoned
+and_none : (a b : Bool) → b ≡ false → (a && b) ≡ false
+and_none true b is = is
+and_none false b is = refl
+
+pub may_not : (ask : Ask) (e : Endpoint) (state : RetransmissionState) → outstanding_count state ≡ 0 → may_forward ask e state ≡ false
+may_not later_ask e state none = refl
+may_not first_ask e state none =
+    and_none (nat_le e.no_forward_tsn_before e.moment) (may_abandon state) (and_none state.partial_reliability (nat_lt 0 (outstanding_count state)) (ap (nat_lt 0) none))
+
+no_forwards : (b : Bool) (now : ℕ) (transfer : Transfer) (room : ℕ) (old new : Stage) (next : Option ℕ) (chunks : List Plain) → b ≡ false → GivesUpWhere b now transfer room old new next chunks
+    → (new ≡ old) × (next ≡ None) × (chunks ≡ [])
+no_forwards b now transfer room old new next chunks is h = subst (λ (x : Bool). GivesUpWhere x now transfer room old new next chunks) is h
+
+no_chunks : (outstanding : OutstandingState) (chunks : List ChunkContent) → AreChunks outstanding [] (map unworked chunks) → chunks ≡ []
+no_chunks outstanding [] h = refl
+no_chunks outstanding (chunk ∷ chunks) h = absurd h
+
+none_told : (told : List Told) → map told_content told ≡ [] → told ≡ []
+none_told [] is = refl
+none_told (first ∷ told) is = absurd (cc)
+
+-- Where nothing is asked for, nothing has changed up to the data.
+pub record IdleUntil (ask : Ask) (e : Endpoint) (draft : Emission) (transfer : Transfer) (u : GivesUntilFull ask e draft transfer) : Type 0 where
+  pub sacks : u.sacks ≡ []
+  pub tracker : u.tracker ≡ transfer.tracker
+  pub forwards : u.forwards ≡ []
+  pub next : u.next ≡ None
+  pub begun : u.begun ≡ None
+  pub no_data : has_data (start_of u).waiting ≡ false
+  pub no_items : outstanding_count (start_of u).queue ≡ 0
+  pub waiting : (start_of u).waiting ≡ e.below.queue
+  pub queue : (start_of u).queue ≡ transfer.retransmission
+  pub told : (start_of u).told ≡ []
+
+pub idle_until : (ask : Ask) (e : Endpoint) (draft : Emission) (transfer : Transfer) (u : GivesUntilFull ask e draft transfer) → is_idle e.below.queue transfer ≡ true → IdleUntil ask e draft transfer u
+idle_until ask e draft transfer u idle =
+    let parts = idle_parts e.below.queue transfer idle in
+    let none = no_sacks (wants_sack ask e.below.queue transfer) (room_in e draft) transfer u.tracker u.sacks (idle_wants ask e.below.queue transfer idle) u.acknowledges in
+    let up = no_forwards (may_forward ask e transfer.retransmission) e.moment transfer _ _ u.gave_up u.next u.forwards (may_not ask e transfer.retransmission parts.0.1) u.gives_up in
+    let waits : u.gave_up.waiting ≡ e.below.queue = ap (λ (s : Stage). s.waiting) up.0 in
+    let ready : is_none_ready (ready_streams u.gave_up.waiting) ≡ true = ap (λ (q : SendQueueState). is_none_ready (ready_streams q)) waits ∙ idle_ready e.below.queue transfer idle in
+    let begun : u.begun ≡ None = u.begins ∙ none_begun ask (held_in e.core) _ (last_assigned_tsn u.gave_up.queue) u.gave_up.waiting ready in
+    let left : (start_of u).waiting ≡ e.below.queue = ap (λ (b : Option BegunReset). queue_requesting (streams_within (room_in e (filled draft (plain_contents (u.sacks ++ u.forwards))))) b u.gave_up.waiting) begun ∙ waits in
+    let state : (start_of u).queue ≡ transfer.retransmission = ap (λ (b : Option BegunReset). retransmission_begun b u.gave_up.queue) begun ∙ ap (λ (s : Stage). s.queue) up.0 in
+    record {
+      sacks = none.1;
+      tracker = none.0;
+      forwards = up.2;
+      next = up.1;
+      begun = begun;
+      no_data = ap has_data left ∙ parts.0.0;
+      no_items = ap outstanding_count state ∙ parts.0.1;
+      waiting = left;
+      queue = state;
+      told = ap (λ (s : Stage). s.told) up.0;
+    }
+
+-- the answer out of these
+abbrev answer_out_of : Endpoint → Transfer → List Plain → Option BegunReset → List ChunkContent → List Told → Option ℕ → SendQueueState → RetransmissionState → TrackerState → Answer
+answer_out_of e transfer sacks begun chunks told next waiting queue tracker =
+    answer_by sacks begun chunks told (record (after_begun begun e) {
+      timers = timers_where (has_chunks chunks) (after_begun begun e);
+      no_forward_tsn_before = forward_where next e.no_forward_tsn_before;
+      below = record { queue = waiting; transfer = Some (record transfer { retransmission = queue; tracker = tracker }) };
+    })
 
 idle_answer : {R : Type 0} (ask : Ask) (old : View R) (draft : Emission) (transfer : Transfer) (new : View R) (filled_packet : Building) (p : Parts ask old draft transfer new filled_packet)
     → is_idle old.endpoint.below.queue transfer ≡ true → answer_of p ≡ nothing_waits old.endpoint
 idle_answer ask old draft transfer new filled_packet p idle =
     let e : Endpoint = old.endpoint in
-    let parts = idle_parts e.below.queue transfer idle in
-    let none = no_sacks (wants_sack ask e.below.queue transfer) (room_in e draft) transfer p.mid.tracker p.sacks (idle_wants ask e.below.queue transfer idle) p.acknowledges in
-    let mid : p.mid ≡ transfer = same_mid transfer p.mid p.mid_is none.0 in
-    let none_out : outstanding_count transfer.retransmission ≡ 0 = parts.0.1 in
-    let gave = p.gave.idle (ap (λ (t : Transfer). outstanding_count t.retransmission) mid ∙ none_out) in
-    let given : p.given ≡ transfer = gave.0 ∙ mid in
-    let ready : is_none_ready (ready_streams e.below.queue) ≡ true = idle_ready e.below.queue transfer idle in
-    let handed : p.handed ≡ e.below.queue = p.untouched (ap (λ (q : SendQueueState). is_none_ready (ready_streams q)) gave.1 ∙ ready) ∙ gave.1 in
-    let begun : p.begun ≡ None =
-    p.begins.is ∙ none_begun ask (held_in e.core) _ (last_assigned_tsn p.begins.retransmission) p.begins.queue (ap (λ (q : SendQueueState). is_none_ready (ready_streams q)) (p.begins.idle none_out).0 ∙ ready) in
-    let rests = p.fills.idle (ap has_data handed ∙ parts.0.0) ((begun_keeps p.begun p.given).count ∙ ap (λ (t : Transfer). outstanding_count t.retransmission) given ∙ none_out) in
-    let chunks : p.fills.chunks ≡ [] = no_chunks p.fills.chunks p.any p.fills.answers rests.0 in
-    let after : p.after ≡ transfer = rests.1 ∙ ap (λ (b : Option BegunReset). transfer_begun b p.given) begun ∙ given in
-    let told : List Told = p.gave.told ++ p.fills.told in
-    ap (λ (sacks : List Plain). answer_from e (sacks ++ p.forwards) p.begun p.fills.chunks told p.any p.later p.left p.after) none.1
-    ∙ ap (λ (forwards : List Plain). answer_from e forwards p.begun p.fills.chunks told p.any p.later p.left p.after) gave.4
-    ∙ ap (λ (begun : Option BegunReset). answer_from e [] begun p.fills.chunks told p.any p.later p.left p.after) begun
-    ∙ ap (λ (chunks : List ChunkContent). answer_from e [] None chunks told p.any p.later p.left p.after) chunks
-    ∙ ap (λ (told : List Told). answer_from e [] None [] (told ++ p.fills.told) p.any p.later p.left p.after) gave.2
-    ∙ ap (λ (told : List Told). answer_from e [] None [] told p.any p.later p.left p.after) rests.3
-    ∙ ap (λ (b : Bool). answer_from e [] None [] [] b p.later p.left p.after) rests.0
-    ∙ ap (λ (later : ℕ). answer_from e [] None [] [] false later p.left p.after) gave.3
-    ∙ ap (answer_by [] None [] []) (same_endpoint e transfer p.after p.left p.holds after (rests.2 ∙ handed))
+    let u : GivesUntilFull ask e draft transfer = p.until in
+    let n : IdleUntil ask e draft transfer u = idle_until ask e draft transfer u idle in
+    let sent : u.sent ≡ start_of u = p.still n.no_data n.no_items in
+    let chunks : p.chunks ≡ [] =
+    no_chunks u.sent.queue.outstanding p.chunks (subst (λ (tsns : List ℕ). AreChunks u.sent.queue.outstanding tsns (map unworked p.chunks)) (ap (λ (s : Stage). s.tsns) sent) p.are) in
+    let told : p.told ≡ [] = none_told p.told (p.are_told ∙ (ap (λ (s : Stage). s.told) sent ∙ n.told)) in
+    ap (λ (sacks : List Plain). answer_out_of e transfer (sacks ++ u.forwards) u.begun p.chunks p.told u.next u.sent.waiting u.sent.queue u.tracker) n.sacks
+    ∙ ap (λ (forwards : List Plain). answer_out_of e transfer forwards u.begun p.chunks p.told u.next u.sent.waiting u.sent.queue u.tracker) n.forwards
+    ∙ ap (λ (begun : Option BegunReset). answer_out_of e transfer [] begun p.chunks p.told u.next u.sent.waiting u.sent.queue u.tracker) n.begun
+    ∙ ap (λ (chunks : List ChunkContent). answer_out_of e transfer [] None chunks p.told u.next u.sent.waiting u.sent.queue u.tracker) chunks
+    ∙ ap (λ (told : List Told). answer_out_of e transfer [] None [] told u.next u.sent.waiting u.sent.queue u.tracker) told
+    ∙ ap (λ (next : Option ℕ). answer_out_of e transfer [] None [] [] next u.sent.waiting u.sent.queue u.tracker) n.next
+    ∙ ap (λ (waiting : SendQueueState). answer_out_of e transfer [] None [] [] None waiting u.sent.queue u.tracker) (ap (λ (s : Stage). s.waiting) sent ∙ n.waiting)
+    ∙ ap (λ (queue : RetransmissionState). answer_out_of e transfer [] None [] [] None e.below.queue queue u.tracker) (ap (λ (s : Stage). s.queue) sent ∙ n.queue)
+    ∙ ap (λ (tracker : TrackerState). answer_out_of e transfer [] None [] [] None e.below.queue transfer.retransmission tracker) n.tracker
+    ∙ ap (λ (t : Option Transfer). answer_by [] None [] [] (record e { below = record e.below { transfer = t } })) (sym p.holds)
 
--- no data: so none had to go
-rest_may : {R : Type 0} (ask : Ask) (old : View R) (draft : Emission) (transfer : Transfer) (new : View R) (filled_packet : Building) (p : Parts ask old draft transfer new filled_packet)
-    → is_none (map unworked p.fills.chunks) ≡ true → must_give (room_in old.endpoint (filled draft (plain_contents (p.sacks ++ p.forwards) ++ request_contents p.begun))) p.left p.after.retransmission ≡ false
-rest_may ask old draft transfer new filled_packet p none =
-    let false_any : p.any ≡ false = p.fills.answers ∙ not_true (has_chunks p.fills.chunks) (sym (none_of p.fills.chunks) ∙ none) in
-    ap (λ (room : ℕ). must_give room p.left p.after.retransmission) (sym (room_is old.endpoint (filled draft (plain_contents (p.sacks ++ p.forwards) ++ request_contents p.begun)))) ∙ p.fills.gives false_any
-  where
-    not_true : (b : Bool) → not b ≡ true → b ≡ false
-    not_true true is = absurd (cc)
-    not_true false is = refl
-
--- the same of the transfer layer before what came in was acknowledged
-gives_up_before : (ask : Ask) (e : Endpoint) (transfer mid : Transfer) (later : ℕ) (forwards : List Plain) → mid ≡ record transfer { tracker = mid.tracker } → GivesUp ask e mid later forwards
-    → GivesUp ask e transfer later forwards
-gives_up_before ask e transfer mid later forwards mid_is g =
-    record {
-      is_made = g.is_made;
-      later = g.later ∙ ap (λ (t : Transfer). if g.is_made then next_forward e t else e.no_forward_tsn_before) mid_is;
-      none = g.none;
-      in_first = g.in_first;
-      in_time = g.in_time;
-      negotiated = λ without. g.negotiated (ap (λ (t : Transfer). t.retransmission.partial_reliability) mid_is ∙ without);
-      at_most_one = g.at_most_one;
-      kind = subst (λ (b : Bool). AllByRecursion (IsForward b) forwards) (ap (λ (t : Transfer). t.retransmission.outstanding.is_interleaved) mid_is) g.kind;
-      fit = g.fit;
-    }
+-- ---- where something waits
 
 gives_by : {R : Type 0} (ask : Ask) (old : View R) (draft : Emission) (transfer : Transfer) (new : View R) (filled_packet : Building) (p : Parts ask old draft transfer new filled_packet)
     → Gives ask old.endpoint draft transfer (answer_of p)
 gives_by ask old draft transfer new filled_packet p =
-    let given : Transfer = transfer_begun p.begun p.given in
-    let keeps : BegunKeeps p.begun p.given = begun_keeps p.begun p.given in
-    let kept : p.after.tracker ≡ p.mid.tracker = ap (λ (t : Transfer). t.tracker) p.fills.rest ∙ keeps.tracker ∙ ap (λ (t : Transfer). t.tracker) p.gave.rest in
-    let interleaving : given.retransmission.outstanding.is_interleaved ≡ transfer.retransmission.outstanding.is_interleaved =
-    keeps.is_interleaved ∙ p.gave.is_interleaved ∙ ap (λ (t : Transfer). t.retransmission.outstanding.is_interleaved) p.mid_is in
-    let partial : given.retransmission.partial_reliability ≡ transfer.retransmission.partial_reliability =
-    keeps.partial_reliability ∙ p.gave.partial_reliability ∙ ap (λ (t : Transfer). t.retransmission.partial_reliability) p.mid_is in
+    let u : GivesUntilFull ask old.endpoint draft transfer = p.until in
     record {
-      left = p.after;
-      holds = refl;
-      sacks = p.sacks;
-      forwards = p.forwards;
+      sacks = u.sacks;
+      forwards = u.forwards;
       parts = refl;
-      acknowledges = subst (λ (t : TrackerState). asks.Acknowledges (wants_sack ask old.endpoint.below.queue transfer) (room_in old.endpoint draft) transfer t p.sacks) (sym kept) p.acknowledges;
-      gives_up = gives_up_before ask old.endpoint transfer p.mid p.later p.forwards p.mid_is p.gave.gives_up;
-      begins = p.begins;
-      kind = subst (λ (b : Bool). AllByRecursion (IsData b) (map unworked p.fills.chunks)) interleaving (data_kinds given.retransmission.outstanding.is_interleaved p.fills.chunks p.fills.are_data);
-      fit = data_fit p.fills.chunks p.fills.fits;
-      data_goes = rest_may ask old draft transfer new filled_packet p;
-      partial_reliability = p.fills.partial_reliability ∙ partial;
-      is_interleaved = p.fills.is_interleaved ∙ interleaving;
-      timeout = ap (λ (t : Transfer). t.timeout) p.fills.rest ∙ keeps.timeout ∙ ap (λ (t : Transfer). t.timeout) p.gave.rest ∙ ap (λ (t : Transfer). t.timeout) p.mid_is;
-      reassembly = ap (λ (t : Transfer). t.reassembly) p.fills.rest ∙ keeps.reassembly ∙ ap (λ (t : Transfer). t.reassembly) p.gave.rest ∙ ap (λ (t : Transfer). t.reassembly) p.mid_is;
+      tracker = u.tracker;
+      acknowledges = u.acknowledges;
+      gave_up = u.gave_up;
+      next = u.next;
+      gives_up = u.gives_up;
+      later = refl;
+      begins = u.begins;
+      sent = u.sent;
+      fills = u.fills;
+      chunks = p.are;
+      forwards_fit = p.forwards_fit;
+      data_fit = data_fit p.chunks p.fits;
+      told = p.are_told;
+      below = refl;
     }
 
 gives_where : {R : Type 0} (ask : Ask) (old : View R) (draft : Emission) (transfer : Transfer) (new : View R) (filled_packet : Building) (p : Parts ask old draft transfer new filled_packet) (b : Bool)
@@ -353,17 +314,32 @@ pub fills_by : {R : Type 0} (ask : Ask) (old : View R) (draft : Emission) (trans
     → Parts ask old draft transfer new filled_packet → Fills ask old draft new filled_packet
 fills_by {R = R} ask old draft transfer new filled_packet p =
     let e : Endpoint = old.endpoint in
+    let u : GivesUntilFull ask e draft transfer = p.until in
     record {
       answer = answer_of p;
-      kept = ap (λ (t : Timers). record (after_begun p.begun e) { timers = t; no_forward_tsn_before = p.later; below = record { queue = p.left; transfer = Some p.after } })
-          (timers_are (after_begun p.begun e) p.fills.chunks p.any p.fills.answers);
+      kept = ap (λ (t : Timers). record (after_begun u.begun e) { timers = t; no_forward_tsn_before = forward_where u.next e.no_forward_tsn_before; below = record { queue = u.sent.waiting; transfer = Some (transfer_after u) } })
+          (timers_are (after_begun u.begun e) p.chunks);
       by_transfer = subst (AnsweredBelow ask e draft (answer_of p)) (sym p.holds) (gives_where ask old draft transfer new filled_packet p (is_idle e.below.queue transfer) refl);
       endpoint = ap (λ (v : View R). v.endpoint) p.is;
-      events = told_then old.events p.telling new.events p.gave.told p.fills.told p.gave.tells p.fills.tells
-          ∙ ap (λ (es : List (Event (List ℕ))). old.events ++ es) (told_user (ports_of e.options) (p.gave.told ++ p.fills.told));
-      rest = p.is ∙ ap (λ (x : Endpoint). record old { endpoint = x; events = new.events }) (sym (ap (λ (v : View R). v.endpoint) p.is));
-      packet = packet_is e.options draft (p.sacks ++ p.forwards) p.begun p.fills.chunks (p.gave.told ++ p.fills.told) (answer_of p).after filled_packet p.fills.adds;
+      events = ap (λ (v : View R). v.events) p.is ∙ ap (λ (es : List (Event (List ℕ))). old.events ++ es) (sym p.are_told ∙ told_user (ports_of e.options) p.told);
+      rest = p.is ∙ ap (λ (v : View R). record old { endpoint = v.endpoint; events = v.events }) (sym p.is);
+      packet = packet_is e.options draft (u.sacks ++ u.forwards) u.begun p.chunks p.told (answer_of p).after filled_packet p.adds;
     }
+
+-- ---- the run that fills it
+
+-- What is told while a packet is filled goes behind what was told when messages were abandoned.
+pub told_after : (front : List (Event (List ℕ))) (b : Bool) (now : ℕ) (waiting : SendQueueState) (state : RetransmissionState) (room : ℕ) (sent : Stage)
+    → FillsWhere b now (stage_of waiting state [] room) sent → FillsWhere b now (stage_of waiting state front room) (behind_events front sent)
+told_after front b now waiting state room sent fills =
+    subst (λ (told : List (Event (List ℕ))). FillsWhere b now (stage_of waiting state told room) (behind_events front sent)) (append-nil front)
+    (told_behind front b now (stage_of waiting state [] room) sent fills)
+
+-- the same where nothing goes
+pub stays_behind : (front : List (Event (List ℕ))) (waiting : SendQueueState) (state : RetransmissionState) (room : ℕ) (sent : Stage) → sent ≡ stage_of waiting state [] room
+    → behind_events front sent ≡ stage_of waiting state front room
+stays_behind front waiting state room sent is =
+    ap (behind_events front) is ∙ ap (λ (told : List (Event (List ℕ))). stage_of waiting state told room) (append-nil front)
 
 -- ---- where no peer is held
 
@@ -383,33 +359,69 @@ fills_nothing {R = R} ask old draft new filled_packet holds same is =
 
 -- ---- a later packet
 
+-- what fills it is all it comes to
+abbrev pub later_until : (e : Endpoint) (draft : Emission) (transfer : Transfer) (sent : Stage)
+    → FillsWhere (may_give e.below.queue transfer.retransmission) e.moment (stage_of e.below.queue transfer.retransmission [] (room_in e (filled draft []))) sent → GivesUntilFull later_ask e draft transfer
+later_until e draft transfer sent fills =
+    record {
+      sacks = [];
+      forwards = [];
+      tracker = transfer.tracker;
+      acknowledges = (refl, refl);
+      gave_up = stage_of e.below.queue transfer.retransmission [] 0;
+      next = None;
+      gives_up = (refl, refl, refl);
+      begun = None;
+      begins = refl;
+      sent = sent;
+      fills = fills;
+    }
+
+-- The draft has as much room with nothing behind it.
+pub same_draft : (draft : Emission) → filled draft [] ≡ draft
+same_draft draft = ap (λ (contents : List Content). record draft { packet = record draft.packet { contents = contents } }) (append-nil draft.packet.contents)
+
+pub room_is_left : (e : Endpoint) (draft : Emission) (packet : Building) → packet ≡ packet_for e.options draft → bytes_remaining packet ≡ room_in e draft
+room_is_left e draft packet is = ap bytes_remaining is ∙ room_is e draft
+
+-- the view with this below its endpoint
+abbrev filled_view : {R : Type 0} → View R → Bool → SendQueueState → Transfer → List (Event (List ℕ)) → View R
+filled_view old any left after telling =
+    record old { endpoint = record old.endpoint { timers = timers_where any old.endpoint; below = record { queue = left; transfer = Some after } }; events = telling }
+
+-- what a packet that was filled leaves
+pub view_filled : {R : Type 0} (old : View R) (transfer after : Transfer) (left : SendQueueState) (packet filled_packet : Building) (any : Bool) (new : View R)
+    → (h : FillsPacket old.endpoint.moment transfer old.endpoint.below.queue old.events packet after left new.events filled_packet any) → new ≡ filled_view old any left after new.events
+    → new ≡ filled_view old (has_chunks h.chunks) h.sent.waiting (record transfer { retransmission = h.sent.queue }) (old.events ++ h.sent.told)
+view_filled old transfer after left packet filled_packet any new h is =
+    is
+    ∙ ap (λ (b : Bool). filled_view old b left after new.events) h.answers
+    ∙ ap (λ (q : SendQueueState). filled_view old (has_chunks h.chunks) q after new.events) h.queue
+    ∙ ap (λ (t : Transfer). filled_view old (has_chunks h.chunks) h.sent.waiting t new.events) h.is
+    ∙ ap (filled_view old (has_chunks h.chunks) h.sent.waiting (record transfer { retransmission = h.sent.queue })) h.tells
+
 later_by : {R : Type 0} (old : View R) (draft : Emission) (found : Option Transfer) (new : View R) (packet filled_packet : Building) → old.endpoint.below.transfer ≡ found
     → packet ≡ packet_for old.endpoint.options draft → FillsData found old packet new filled_packet → Fills later_ask old draft new filled_packet
 later_by old draft None new packet filled_packet holds is h = fills_nothing later_ask old draft new filled_packet holds h.0 (h.1 ∙ is)
 later_by old draft (Some transfer) new packet filled_packet holds is h =
+    let e : Endpoint = old.endpoint in
+    let filling = h.3 in
+    let behind : packet ≡ packet_for e.options (filled draft []) = is ∙ ap (packet_for e.options) (sym (same_draft draft)) in
+    let room : bytes_remaining packet ≡ room_in e (filled draft []) = room_is_left e (filled draft []) packet behind in
     fills_by later_ask old draft transfer new filled_packet
     (record {
-      mid = transfer;
-      given = transfer;
-      after = h.1;
-      waits = old.endpoint.below.queue;
-      handed = old.endpoint.below.queue;
-      left = h.2;
-      telling = old.events;
-      later = old.endpoint.no_forward_tsn_before;
-      sacks = [];
-      forwards = [];
-      begun = None;
-      any = h.0;
+      until = later_until e draft transfer filling.sent
+          (subst (λ (n : ℕ). FillsWhere (may_give e.below.queue transfer.retransmission) e.moment (stage_of e.below.queue transfer.retransmission [] n) filling.sent) room filling.fills);
+      still = λ no_data no_items. filling.idle no_data no_items ∙ ap (stage_of e.below.queue transfer.retransmission []) room;
+      chunks = filling.chunks;
+      are = filling.are;
+      fits = filling.fits;
+      forwards_fit = tt;
+      told = filling.told;
+      are_told = filling.are_told;
       holds = holds;
-      acknowledges = (refl, refl);
-      mid_is = refl;
-      gave = gave_none later_ask old.endpoint transfer old.events;
-      begins = record { queue = old.endpoint.below.queue; retransmission = transfer.retransmission; negotiated = λ without. (refl, refl); idle = λ none. (refl, refl); is = refl };
-      untouched = λ none. refl;
-      fills = subst (λ (b : Building). FillsPacket transfer old.endpoint.below.queue old.events b h.1 h.2 new.events filled_packet h.0)
-          (is ∙ ap (λ (contents : List Content). packet_for old.endpoint.options (record draft { packet = record draft.packet { contents = contents } })) (sym (append-nil draft.packet.contents))) h.3;
-      is = h.4;
+      adds = filling.adds ∙ ap (λ (b : Building). record b { body = b.body ++ flat_map chunk_bytes filling.chunks }) behind;
+      is = view_filled old transfer h.1 h.2 packet filled_packet h.0 new filling h.4;
     })
 
 pub fills_later : {R : Type 0} (old : View R) (draft : Emission) (new : View R) (packet filled_packet : Building) → packet ≡ packet_for old.endpoint.options draft

@@ -1,38 +1,35 @@
 -- How the first packet of a flush is filled: what acknowledges goes before data.
-use Rattle.std.proofs.Common.{◌≡◌, ◌||◌, ◌≤◌, ◌<◌, nat_le, ℕ, Bool, true, false, Option, None, Some, List, [], ◌∷◌, ◌++◌, length, map, append_assoc, refl, sym, ap, subst, ◌∙◌, arith}
-use Rattle.std.specs.Prelude.{if◌then◌else◌}
+use Rattle.std.proofs.Common.{◌≡◌, ◌||◌, ℕ, Bool, true, false, Option, None, Some, List, [], ◌∷◌, ◌++◌, map, append_assoc, refl, sym, ap, subst, ◌∙◌, ◌&&◌}
 use Rattle.std.specs.List.{AllByRecursion, flat_map}
-use Rattle.std.proofs.lemmas.Bool.Decides.{nat_tests}
 use Rattle.std.proofs.lemmas.List.{append-nil, map-append}
 use Rattle.dcsctp_wire_build.specs.Building.{Building, bytes_remaining}
-use Rattle.dcsctp_machine.specs.Settings.{ports_of}
 use Rattle.dcsctp_machine.specs.Event.{Event}
-use Rattle.dcsctp_machine.specs.Packet.{Plain, plain, unworked, Content, chunk_out, Emission}
+use Rattle.dcsctp_machine.specs.Packet.{Plain, plain, Content, chunk_out, Emission, plain_out}
 use Rattle.dcsctp_machine.specs.transfer.Reassembly.{remaining_bytes}
-use Rattle.dcsctp_machine.specs.transfer.Tracker.{sack_of}
+use Rattle.dcsctp_machine.specs.transfer.Tracker.{sack_of, TrackerState, sacked}
 use Rattle.dcsctp_machine.specs.transfer.SendQueue.{SendQueueState, has_data}
-use Rattle.dcsctp_machine.specs.transfer.Transfer.{Transfer, is_idle}
-use Rattle.dcsctp_machine.specs.transfer.Retransmission.{RetransmissionState, outstanding_count}
-use Rattle.dcsctp_machine.specs.transfer.Timeout.{TimeoutState}
+use Rattle.dcsctp_machine.specs.transfer.Transfer.{Transfer, may_give}
+use Rattle.dcsctp_machine.specs.transfer.Retransmission.{RetransmissionState}
 use Rattle.dcsctp_machine.specs.Endpoint.{Endpoint, Core, OutstandingRequest, held_in}
 use Rattle.dcsctp_machine.specs.Timers.{RunningTimer, started}
 use Rattle.dcsctp_machine.specs.control.Choices.{plain_contents}
-use Rattle.dcsctp_machine.specs.turns.BegunResets.{BegunReset, streams_within, last_assigned_tsn, begun_in, request_contents, reconfiguration_settings, transfer_begun, rto_of, core_asking, after_begun}
-use Rattle.dcsctp_machine.specs.turns.FlushOutcomes.{own_sack, told_event, Answer, answer_contents, filled, goes_out, Ask, first_ask, room_in, where_fits, wants_sack, IsForward, FitsPlain}
-use Rattle.dcsctp_machine.specs.turns.FlushOutcomes as asks
+use Rattle.dcsctp_machine.specs.turns.BegunResets.{BegunReset, streams_within, last_assigned_tsn, begun_in, request_contents, reconfiguration_settings, transfer_begun, rto_of, core_asking, after_begun, queue_requesting, retransmission_begun}
+use Rattle.dcsctp_machine.specs.turns.FlushOutcomes.{own_sack, filled, first_ask, room_in, where_fits, wants_sack, FitsPlain, FillsWhere, ForwardsWhere, GivesUpWhere, forward_where, Told, begun_at, may_abandon, may_forward, stage_of, told_content}
 use Rattle.dcsctp_wire.specs.Content.{ChunkContent, sack_chunk}
-use Rattle.dcsctp_wire.specs.ReadsBack.{FitsChunk}
 use Rattle.dcsctp_wire.specs.Spelling.{chunk_bytes}
-use Rattle.dcsctp_transfer.specs.Filling.{TellsMore, FillsPacket, is_sack_wanted, with_chunk, Acknowledges}
-use Rattle.dcsctp_transfer.specs.Forwarding.{Forwards}
+use Rattle.dcsctp_transfer.specs.Filling.{is_sack_wanted, with_chunk, Acknowledges, has_chunks}
 use Rattle.dcsctp_core.specs.declared.context.Context.{Context}
 use Rattle.dcsctp_core.specs.declared.state.State.{State}
 use Rattle.dcsctp_core.specs.declared.state.State.TheVariants.{Closed, CookieWait, CookieEchoed, Open}
 use Rattle.dcsctp_core.specs.View.{View, core_of, tie_of, t1_of, t2_of, outstanding_of, reconfiguration_of, transfer_of, endpoint_of, view_of}
-use Rattle.dcsctp_core.specs.Flushing.{packet_for, state_with, AcknowledgesBelow, forward_where, ForwardsAt, BeginsAt, FillsData, timers_where, Fills, AskCut, can_send_below}
-use Rattle.dcsctp_machine.proofs.AnswerLemmas.{some_answer, some_answered}
-use Rattle.dcsctp_core.proofs.FillLemmas.{told_user, Gave, gives_up_none, given_endpoint, requesting_none, fills_by, fills_nothing, chunk_packet}
-use Rattle.dcsctp_core.proofs.SentLemmas.{body_append, room_is}
+use Rattle.dcsctp_core.specs.Flushing.{packet_for, state_with, AcknowledgesBelow, ForwardsAt, BeginsAt, FillsData, timers_where, Fills, can_send_below, ForwardsNow, is_in_time}
+use Rattle.dcsctp_core.proofs.FillLemmas.{fills_by, fills_nothing, chunk_packet, endpoint_given, room_is_left, same_draft, stays_behind, told_after, view_filled}
+use Rattle.dcsctp_core.proofs.SentLemmas.{body_append}
+use Rattle.dcsctp_machine.proofs.FilledAnswers.{GivesUntilFull}
+use Rattle.dcsctp_machine.specs.transfer.Filling.{Stage}
+use Rattle.dcsctp_machine.specs.transfer.Items.{is_first_abandoned}
+use Rattle.dcsctp_machine.proofs.ToldLemmas.{behind_events}
+use Rattle.dcsctp_machine.specs.turns.FlushOutcomes as asks
 
 -- ---- a state with something else below its association
 
@@ -107,26 +104,22 @@ endpoint_with context old transfer holds =
 -- what the transfer layer says of the SACK is what the ask says
 record Acked (e : Endpoint) (draft : Emission) (b : Bool) (transfer mid : Transfer) (packet : Building) : Type 0 where
   sacks : List Plain
-  acknowledges : asks.Acknowledges b (room_in e draft) transfer mid.tracker sacks
-  mid_is : mid ≡ record transfer { tracker = mid.tracker }
+  tracker : TrackerState
+  acknowledges : asks.Acknowledges b (room_in e draft) transfer tracker sacks
+  mid_is : mid ≡ record transfer { tracker = tracker }
   is : packet ≡ packet_for e.options (filled draft (plain_contents sacks))
 
 acked : (e : Endpoint) (draft : Emission) (b : Bool) (transfer mid : Transfer) (before packet : Building) → before ≡ packet_for e.options draft → Acknowledges b transfer before mid packet
     → Acked e draft b transfer mid packet
 acked e draft false transfer mid before packet is h =
-    let nothing : filled draft [] ≡ draft = ap (λ (contents : List Content). record draft { packet = record draft.packet { contents = contents } }) (append-nil draft.packet.contents) in
-    record {
-      sacks = [];
-      acknowledges = (ap (λ (t : Transfer). t.tracker) h.0, refl);
-      mid_is = h.0 ∙ ap (λ (t : Transfer). record transfer { tracker = t.tracker }) (sym h.0);
-      is = h.1 ∙ is ∙ ap (packet_for e.options) (sym nothing);
-    }
+    record { sacks = []; tracker = transfer.tracker; acknowledges = (refl, refl); mid_is = h.0; is = h.1 ∙ is ∙ ap (packet_for e.options) (sym (same_draft draft)) }
 acked e draft true transfer mid before packet is h =
     let sack = sack_of transfer.tracker (remaining_bytes transfer.reassembly) in
     record {
       sacks = where_fits (room_in e draft) (own_sack transfer);
-      acknowledges = (ap (λ (t : Transfer). t.tracker) h.0, refl);
-      mid_is = h.0 ∙ ap (λ (t : Transfer). record transfer { tracker = t.tracker }) (sym h.0);
+      tracker = sacked transfer.tracker;
+      acknowledges = (refl, refl);
+      mid_is = h.0;
       is = h.1 ∙ ap (λ (b : Building). with_chunk b (sack_chunk sack)) is ∙ chunk_packet e draft (sack_chunk sack);
     }
 
@@ -140,109 +133,240 @@ filled_twice draft front back =
     ap (λ (contents : List Content). record draft { packet = record draft.packet { contents = contents } })
     (append_assoc draft.packet.contents (plain_contents front) (plain_contents back) ∙ ap (λ (contents : List Content). draft.packet.contents ++ contents) (sym (map-append plain front back)))
 
--- what the transfer layer says of a FORWARD-TSN is what the ask says
-record GivenUp (e : Endpoint) (draft : Emission) (mid given : Transfer) (waits : SendQueueState) (events telling : List (Event (List ℕ))) (next : Option ℕ) (packet : Building) : Type 0 where
-  forwards : List Plain
-  gave : Gave first_ask e mid given waits events telling (forward_where next e.no_forward_tsn_before) forwards
-  is : packet ≡ packet_for e.options (filled draft (plain_contents forwards))
-
--- of a chunk by whether it fits
-one_at_most : (b : Bool) (chunk : Plain) → length (if b then chunk ∷ [] else []) ≤ 1
-one_at_most true chunk = omega arith
-one_at_most false chunk = omega arith
-
-one_kind : (b interleaving : Bool) (chunk : Plain) → IsForward interleaving chunk → AllByRecursion (IsForward interleaving) (if b then chunk ∷ [] else [])
-one_kind true interleaving chunk kind = (kind, tt)
-one_kind false interleaving chunk kind = tt
-
-one_fits : (b : Bool) (room : ℕ) (chunk : ChunkContent) → nat_le (length (chunk_bytes chunk)) room ≡ b → (length (chunk_bytes chunk) ≤ room → FitsChunk chunk)
-    → AllByRecursion FitsPlain (if b then unworked chunk ∷ [] else [])
-one_fits true room chunk is fits = (fits (grind (arith, nat_tests)), tt)
-one_fits false room chunk is fits = tt
-
-given_up : (e : Endpoint) (draft : Emission) (mid given : Transfer) (waits : SendQueueState) (events telling : List (Event (List ℕ))) (next : Option ℕ) (before packet : Building)
-    → before ≡ packet_for e.options draft → (e.moment < e.no_forward_tsn_before → next ≡ None)
-    → Forwards e.moment mid e.below.queue events before given waits telling packet next
-    → GivenUp e draft mid given waits events telling next packet
-given_up e draft mid given waits events telling None before packet is early h =
-    record {
-      forwards = [];
-      gave = record {
-        told = h.told;
-        tells = h.tells;
-        gives_up = gives_up_none first_ask e mid;
-        rest = h.rest;
-        partial_reliability = h.partial_reliability;
-        is_interleaved = h.is_interleaved;
-        idle = λ no_items. let same = h.idle no_items in (same.1, same.2, same.3, refl, refl);
-      };
-      is = h.puts ∙ is ∙ ap (λ (contents : List Content). packet_for e.options (record draft { packet = record draft.packet { contents = contents } })) (sym (append-nil draft.packet.contents));
-    }
-given_up e draft mid given waits events telling (Some next) before packet is early h =
-    let puts = h.puts.1 in
-    let room : ℕ = room_in e draft in
-    let fits_in : Bool = nat_le (length (chunk_bytes puts.chunk)) room in
-    let interleaving : Bool = mid.retransmission.outstanding.is_interleaved in
-    let same_room : bytes_remaining before ≡ room = ap bytes_remaining is ∙ room_is e draft in
-    record {
-      forwards = where_fits room (unworked puts.chunk);
-      gave = record {
-        told = h.told;
-        tells = h.tells;
-        gives_up = record {
-          is_made = true;
-          later = h.puts.0;
-          none = λ not_made. absurd (cc);
-          in_first = λ is_later. absurd (cc);
-          in_time = λ soon. absurd (never (early soon));
-          negotiated = λ without. absurd (never (h.negotiated without).0);
-          at_most_one = one_at_most fits_in (unworked puts.chunk);
-          kind = one_kind fits_in interleaving (unworked puts.chunk) puts.kind;
-          fit = one_fits fits_in room puts.chunk refl (λ within. puts.fits (subst (λ (n : ℕ). length (chunk_bytes puts.chunk) ≤ n) (sym same_room) within));
-        };
-        rest = h.rest;
-        partial_reliability = h.partial_reliability;
-        is_interleaved = h.is_interleaved;
-        idle = λ no_items. absurd (never (h.idle no_items).0);
-      };
-      is = puts.is ∙ ap (λ (b : Building). with_chunk b puts.chunk) is ∙ chunk_packet e draft puts.chunk;
-    }
-  where
-    never : Some next ≡ None → ⊥
-    never none = cc
-
--- the view once messages were given up
-abbrev forwarded_view : {R : Type 0} → View R → Option ℕ → Transfer → SendQueueState → List (Event (List ℕ)) → View R
-forwarded_view old next given waits events =
-    record old {
-      endpoint = record old.endpoint { no_forward_tsn_before = forward_where next old.endpoint.no_forward_tsn_before; below = record { queue = waits; transfer = Some given } };
-      events = events;
-    }
-
--- the view once a reset was begun behind that
-abbrev begun_in_view : {R : Type 0} → View R → Option ℕ → Transfer → SendQueueState → SendQueueState → List (Event (List ℕ)) → Option BegunReset → View R
-begun_in_view old next given waits handed events begun =
-    record (forwarded_view old next given waits events) {
-      endpoint = record (after_begun begun (forwarded_view old next given waits events).endpoint) { below = record { queue = handed; transfer = Some (transfer_begun begun given) } };
-    }
-
 -- contents one behind the other
 filled_behind : (draft : Emission) (front back : List Content) → filled (filled draft front) back ≡ filled draft (front ++ back)
 filled_behind draft front back =
     ap (λ (contents : List Content). record draft { packet = record draft.packet { contents = contents } }) (append_assoc draft.packet.contents front back)
 
--- the packet with the request of a reset
-request_behind : (e : Endpoint) (draft : Emission) (begun : Option BegunReset) (packet filled_packet : Building) → packet ≡ packet_for e.options draft
-    → filled_packet ≡ record packet { body = packet.body ++ flat_map chunk_bytes (map chunk_out (request_contents begun)) } → filled_packet ≡ packet_for e.options (filled draft (request_contents begun))
-request_behind e draft begun packet filled_packet is adds =
+-- the packet with these contents behind what it holds
+contents_behind : (e : Endpoint) (draft : Emission) (contents : List Content) (packet filled_packet : Building) → packet ≡ packet_for e.options draft
+    → filled_packet ≡ record packet { body = packet.body ++ flat_map chunk_bytes (map chunk_out contents) } → filled_packet ≡ packet_for e.options (filled draft contents)
+contents_behind e draft contents packet filled_packet is adds =
     adds
-    ∙ ap (λ (b : Building). record b { body = b.body ++ flat_map chunk_bytes (map chunk_out (request_contents begun)) }) is
-    ∙ ap (λ (bytes : List ℕ). record (packet_for e.options draft) { body = bytes }) (sym (body_append draft.packet.contents (request_contents begun)))
+    ∙ ap (λ (b : Building). record b { body = b.body ++ flat_map chunk_bytes (map chunk_out contents) }) is
+    ∙ ap (λ (bytes : List ℕ). record (packet_for e.options draft) { body = bytes }) (sym (body_append draft.packet.contents contents))
 
--- What gives messages up leaves the retransmission timeout, and so a reset that is begun behind it starts the same timer.
+plain_chunks : (chunks : List Plain) → map plain_out chunks ≡ map chunk_out (plain_contents chunks)
+plain_chunks [] = refl
+plain_chunks (chunk ∷ chunks) = ap (λ (rest : List ChunkContent). plain_out chunk ∷ rest) (plain_chunks chunks)
+
+-- ---- what abandons messages
+
+-- the view once they are abandoned
+abbrev pub forwarded_view : {R : Type 0} → View R → Option ℕ → Stage → Transfer → View R
+forwarded_view old next gave_up mid =
+    record old {
+      endpoint = record old.endpoint {
+        no_forward_tsn_before = forward_where next old.endpoint.no_forward_tsn_before;
+        below = record { queue = gave_up.waiting; transfer = Some (record mid { retransmission = gave_up.queue }) };
+      };
+      events = old.events ++ gave_up.told;
+    }
+
+-- what the transfer layer says of a FORWARD-TSN is what the ask says
+record GivenUp {R : Type 0} (old : View R) (draft : Emission) (mid : Transfer) (given : View R) (packet : Building) : Type 0 where
+  gave_up : Stage
+  next : Option ℕ
+  forwards : List Plain
+  gives_up : GivesUpWhere (may_forward first_ask old.endpoint mid.retransmission) old.endpoint.moment mid (room_in old.endpoint draft)
+      (stage_of old.endpoint.below.queue mid.retransmission [] 0) gave_up next forwards
+  fit : AllByRecursion FitsPlain forwards
+  told : List Told
+  are_told : map told_content told ≡ gave_up.told
+  is : packet ≡ packet_for old.endpoint.options (filled draft (plain_contents forwards))
+  view : given ≡ forwarded_view old next gave_up mid
+
+given_up : {R : Type 0} (old : View R) (draft : Emission) (mid : Transfer) (given : View R) (before packet : Building) (b : Bool) → is_in_time old.endpoint ≡ b → old.endpoint.below.transfer ≡ Some mid
+    → before ≡ packet_for old.endpoint.options draft → ForwardsNow b mid old before given packet → GivenUp old draft mid given packet
+given_up {R = R} old draft mid given before packet false early holds is h =
+    let e : Endpoint = old.endpoint in
+    let start : Stage = stage_of e.below.queue mid.retransmission [] 0 in
+    record {
+      gave_up = start;
+      next = None;
+      forwards = [];
+      gives_up = subst (λ (b : Bool). GivesUpWhere (b && may_abandon mid.retransmission) e.moment mid (room_in e draft) start start None []) (sym early) (refl, refl, refl);
+      fit = tt;
+      told = [];
+      are_told = refl;
+      is = h.1 ∙ is ∙ ap (packet_for e.options) (sym (same_draft draft));
+      view = h.0
+          ∙ ap (λ (t : Option Transfer). record old { endpoint = record e { below = record e.below { transfer = t } } }) holds
+          ∙ ap (λ (es : List (Event (List ℕ))). record old { endpoint = record e { below = record { queue = e.below.queue; transfer = Some mid } }; events = es }) (sym (append-nil old.events));
+    }
+given_up {R = R} old draft mid given before packet true in_time holds is h =
+    let e : Endpoint = old.endpoint in
+    let forwards = h.3 in
+    let start : Stage = stage_of e.below.queue mid.retransmission [] 0 in
+    record {
+      gave_up = forwards.gave_up;
+      next = h.0;
+      forwards = forwards.chunks;
+      gives_up = subst (λ (b : Bool). GivesUpWhere (b && may_abandon mid.retransmission) e.moment mid (room_in e draft) start forwards.gave_up h.0 forwards.chunks) (sym in_time)
+          (subst (λ (room : ℕ). GivesUpWhere (may_abandon mid.retransmission) e.moment mid room start forwards.gave_up h.0 forwards.chunks) (room_is_left e draft before is) forwards.gives_up);
+      fit = forwards.fits;
+      told = forwards.told;
+      are_told = forwards.are_told;
+      is = contents_behind e draft (plain_contents forwards.chunks) before packet is
+          (forwards.adds ∙ ap (λ (chunks : List ChunkContent). record before { body = before.body ++ flat_map chunk_bytes chunks }) (plain_chunks forwards.chunks));
+      view = h.4
+          ∙ ap (λ (q : SendQueueState). view_with q h.1 given.events) forwards.queue
+          ∙ ap (λ (t : Transfer). view_with forwards.gave_up.waiting t given.events) forwards.is
+          ∙ ap (view_with forwards.gave_up.waiting (record mid { retransmission = forwards.gave_up.queue })) forwards.tells;
+    }
+  where
+    view_with : SendQueueState → Transfer → List (Event (List ℕ)) → View R
+    view_with queue transfer events =
+        record old {
+          endpoint = record old.endpoint { no_forward_tsn_before = forward_where h.0 old.endpoint.no_forward_tsn_before; below = record { queue = queue; transfer = Some transfer } };
+          events = events;
+        }
+
+-- ---- and a reset that is begun
+
+-- the view once it was begun behind that
+abbrev pub begun_in_view : {R : Type 0} → View R → Option ℕ → Stage → Transfer → Option BegunReset → SendQueueState → View R
+begun_in_view old next gave_up mid begun handed =
+    record (forwarded_view old next gave_up mid) {
+      endpoint = record (after_begun begun (forwarded_view old next gave_up mid).endpoint) {
+        below = record { queue = handed; transfer = Some (transfer_begun begun (record mid { retransmission = gave_up.queue })) };
+      };
+    }
+
+-- What acknowledges counts for nothing there.
+forwards_before : (b : Bool) (now : ℕ) (transfer : Transfer) (tracker : TrackerState) (room : ℕ) (state : RetransmissionState) (next : Option ℕ) (chunks : List Plain)
+    → ForwardsWhere b now (record transfer { tracker = tracker }) room state next chunks → ForwardsWhere b now transfer room state next chunks
+forwards_before false now transfer tracker room state next chunks h = h
+forwards_before true now transfer tracker room state next chunks h = h
+
+gives_up_before : (b : Bool) (now : ℕ) (transfer : Transfer) (tracker : TrackerState) (room : ℕ) (old new : Stage) (next : Option ℕ) (chunks : List Plain)
+    → GivesUpWhere b now (record transfer { tracker = tracker }) room old new next chunks → GivesUpWhere b now transfer room old new next chunks
+gives_up_before false now transfer tracker room old new next chunks h = h
+gives_up_before true now transfer tracker room old new next chunks h =
+    (h.0, forwards_before (is_first_abandoned new.queue.outstanding.items) now transfer tracker room new.queue next chunks h.1)
+
+-- What a packet holds before a reset is begun, as the ask says it.
+pub record Forwarded {R : Type 0} (old : View R) (draft : Emission) (transfer : Transfer) (given : View R) (packet : Building) : Type 0 where
+  pub sacks : List Plain
+  pub tracker : TrackerState
+  pub acknowledges : asks.Acknowledges (wants_sack first_ask old.endpoint.below.queue transfer) (room_in old.endpoint draft) transfer tracker sacks
+  pub gave_up : Stage
+  pub next : Option ℕ
+  pub forwards : List Plain
+  pub gives_up : GivesUpWhere (may_forward first_ask old.endpoint transfer.retransmission) old.endpoint.moment transfer (room_in old.endpoint (filled draft (plain_contents sacks)))
+      (stage_of old.endpoint.below.queue transfer.retransmission [] 0) gave_up next forwards
+  pub fit : AllByRecursion FitsPlain forwards
+  pub told : List Told
+  pub are_told : map told_content told ≡ gave_up.told
+  pub is : packet ≡ packet_for old.endpoint.options (filled draft (plain_contents (sacks ++ forwards)))
+  pub view : given ≡ forwarded_view old next gave_up (record transfer { tracker = tracker })
+
+pub forwarded : {R : Type 0} (old : View R) (draft : Emission) (transfer mid : Transfer) (given : View R) (before acked_packet given_packet : Building) → before ≡ packet_for old.endpoint.options draft
+    → Acknowledges (wants_sack first_ask old.endpoint.below.queue transfer) transfer before mid acked_packet
+    → ForwardsAt (Some mid) (acknowledged_view old mid) acked_packet given given_packet → Forwarded old draft transfer given given_packet
+forwarded {R = R} old draft transfer mid given before acked_packet given_packet built ack forward =
+    let e : Endpoint = old.endpoint in
+    let a = acked e draft (wants_sack first_ask e.below.queue transfer) transfer mid before acked_packet built ack in
+    let now : Transfer = record transfer { tracker = a.tracker } in
+    let up : GivenUp (acknowledged_view old now) (filled draft (plain_contents a.sacks)) now given given_packet =
+    given_up (acknowledged_view old now) (filled draft (plain_contents a.sacks)) now given acked_packet given_packet (is_in_time e) refl refl a.is
+    (subst (λ (t : Transfer). ForwardsAt (Some t) (acknowledged_view old t) acked_packet given given_packet) a.mid_is forward) in
+    record {
+      sacks = a.sacks;
+      tracker = a.tracker;
+      acknowledges = a.acknowledges;
+      gave_up = up.gave_up;
+      next = up.next;
+      forwards = up.forwards;
+      gives_up = gives_up_before (may_forward first_ask e transfer.retransmission) e.moment transfer a.tracker (room_in e (filled draft (plain_contents a.sacks)))
+          (stage_of e.below.queue transfer.retransmission [] 0) up.gave_up up.next up.forwards up.gives_up;
+      fit = up.fit;
+      told = up.told;
+      are_told = up.are_told;
+      is = up.is ∙ ap (packet_for e.options) (filled_twice draft a.sacks up.forwards);
+      view = up.view;
+    }
+
+-- the draft behind that
+abbrev pub behind_forwards : {R : Type 0} {old : View R} {draft : Emission} {transfer : Transfer} {given : View R} {packet : Building} → Forwarded old draft transfer given packet → Emission
+behind_forwards {draft = draft} f = filled draft (plain_contents (f.sacks ++ f.forwards))
+
+-- What a packet holds before data goes in, as the ask says it.
+pub record BeforeData {R : Type 0} (old : View R) (draft : Emission) (transfer : Transfer) (here : View R) (packet : Building) : Type 0 where
+  pub given : View R
+  pub given_packet : Building
+  pub up : Forwarded old draft transfer given given_packet
+  pub begun : Option BegunReset
+  pub begins : begun ≡ begun_at first_ask (held_in old.endpoint.core) (room_in old.endpoint (behind_forwards up)) (last_assigned_tsn up.gave_up.queue) up.gave_up.waiting
+  pub is : packet ≡ packet_for old.endpoint.options (filled draft (plain_contents (up.sacks ++ up.forwards) ++ request_contents begun))
+  pub view : here
+      ≡ begun_in_view old up.next up.gave_up (record transfer { tracker = up.tracker }) begun
+      (queue_requesting (streams_within (room_in old.endpoint (behind_forwards up))) begun up.gave_up.waiting)
+
+pub before_data : {R : Type 0} (old : View R) (draft : Emission) (transfer : Transfer) (given here : View R) (given_packet packet : Building) → Forwarded old draft transfer given given_packet
+    → BeginsAt given.endpoint.below.transfer given given_packet here packet → BeforeData old draft transfer here packet
+before_data {R = R} old draft transfer given here given_packet packet up begin =
+    let e : Endpoint = old.endpoint in
+    let now : Transfer = record transfer { tracker = up.tracker } in
+    let begins : BeginsAt (Some (record now { retransmission = up.gave_up.queue })) (forwarded_view old up.next up.gave_up now) given_packet here packet =
+    subst (λ (v : View R). BeginsAt v.endpoint.below.transfer v given_packet here packet) up.view begin in
+    let room : bytes_remaining given_packet ≡ room_in e (behind_forwards up) = room_is_left e (behind_forwards up) given_packet up.is in
+    record {
+      given = given;
+      given_packet = given_packet;
+      up = up;
+      begun = begins.0;
+      begins = begins.2 ∙ ap (λ (n : ℕ). begun_in (held_in e.core) n (last_assigned_tsn up.gave_up.queue) up.gave_up.waiting) room;
+      is = contents_behind e (behind_forwards up) (request_contents begins.0) given_packet packet up.is begins.4
+          ∙ ap (packet_for e.options) (filled_behind draft (plain_contents (up.sacks ++ up.forwards)) (request_contents begins.0));
+      view = begins.5
+          ∙ ap (begun_in_view old up.next up.gave_up now begins.0) (begins.3 ∙ ap (λ (n : ℕ). queue_requesting (streams_within n) begins.0 up.gave_up.waiting) room);
+    }
+
+-- what waits once the reset is begun, and what is in flight
+abbrev pub handed_of : {R : Type 0} {old : View R} {draft : Emission} {transfer : Transfer} {here : View R} {packet : Building} → BeforeData old draft transfer here packet → SendQueueState
+handed_of {old = old} d = queue_requesting (streams_within (room_in old.endpoint (behind_forwards d.up))) d.begun d.up.gave_up.waiting
+
+abbrev pub state_of : {R : Type 0} {old : View R} {draft : Emission} {transfer : Transfer} {here : View R} {packet : Building} → BeforeData old draft transfer here packet → RetransmissionState
+state_of d = retransmission_begun d.begun d.up.gave_up.queue
+
+abbrev pub room_of : {R : Type 0} {old : View R} {draft : Emission} {transfer : Transfer} {here : View R} {packet : Building} → BeforeData old draft transfer here packet → ℕ
+room_of {old = old} {draft = draft} d = room_in old.endpoint (filled draft (plain_contents (d.up.sacks ++ d.up.forwards) ++ request_contents d.begun))
+
+abbrev pub until_of : {R : Type 0} (old : View R) (draft : Emission) (transfer : Transfer) (here : View R) (packet : Building) (d : BeforeData old draft transfer here packet) (sent : Stage)
+    → FillsWhere (may_give (handed_of d) (state_of d)) old.endpoint.moment (stage_of (handed_of d) (state_of d) [] (room_of d)) sent → GivesUntilFull first_ask old.endpoint draft transfer
+until_of old draft transfer here packet d sent fills =
+    record {
+      sacks = d.up.sacks;
+      forwards = d.up.forwards;
+      tracker = d.up.tracker;
+      acknowledges = d.up.acknowledges;
+      gave_up = d.up.gave_up;
+      next = d.up.next;
+      gives_up = d.up.gives_up;
+      begun = d.begun;
+      begins = d.begins;
+      sent = behind_events d.up.gave_up.told sent;
+      fills = told_after d.up.gave_up.told (may_give (handed_of d) (state_of d)) old.endpoint.moment (handed_of d) (state_of d) (room_of d) sent fills;
+    }
+
+pub moment_begun : (begun : Option BegunReset) (e : Endpoint) → (after_begun begun e).moment ≡ e.moment
+moment_begun None e = refl
+moment_begun (Some begun) e = refl
+
+-- what fills it with data, as it stands behind that
+pub fills_behind : {R : Type 0} (old : View R) (draft : Emission) (transfer : Transfer) (here : View R) (packet : Building) (d : BeforeData old draft transfer here packet) (sent : Stage)
+    → FillsWhere (may_give (handed_of d) (state_of d)) (after_begun d.begun (forwarded_view old d.up.next d.up.gave_up (record transfer { tracker = d.up.tracker })).endpoint).moment
+    (stage_of (handed_of d) (state_of d) [] (bytes_remaining packet)) sent
+    → FillsWhere (may_give (handed_of d) (state_of d)) old.endpoint.moment (stage_of (handed_of d) (state_of d) [] (room_of d)) sent
+fills_behind old draft transfer here packet d sent fills =
+    subst (λ (n : ℕ). FillsWhere (may_give (handed_of d) (state_of d)) old.endpoint.moment (stage_of (handed_of d) (state_of d) [] n) sent) (room_is_left old.endpoint _ packet d.is)
+    (subst (λ (now : ℕ). FillsWhere (may_give (handed_of d) (state_of d)) now (stage_of (handed_of d) (state_of d) [] (bytes_remaining packet)) sent) (moment_begun d.begun _) fills)
+
+-- What abandons messages leaves the retransmission timeout, and so a reset that is begun behind it starts the same timer.
 begun_behind : (begun : Option BegunReset) (e : Endpoint) (any : Bool) (later : ℕ) (waits handed left : SendQueueState) (given after : Transfer) → rto_of (Some given) ≡ rto_of e.below.transfer
     → let f : Endpoint = record (after_begun begun (record e { no_forward_tsn_before = later; below = record { queue = waits; transfer = Some given } })) { below = record { queue = handed; transfer = Some (transfer_begun begun given) } } in
-    record f { timers = timers_where any f; below = record { queue = left; transfer = Some after } } ≡ given_endpoint e begun any later left after
+    record f { timers = timers_where any f; below = record { queue = left; transfer = Some after } } ≡ endpoint_given e begun any later left after
 begun_behind None e true later waits handed left given after same = refl
 begun_behind None e false later waits handed left given after same = refl
 begun_behind (Some begun) e true later waits handed left given after same =
@@ -261,89 +385,63 @@ begun_behind (Some begun) e false later waits handed left given after same =
       below = record { queue = left; transfer = Some after };
     } in f) same
 
-first_by : {R : Type 0} (old : View R) (draft : Emission) (transfer mid : Transfer) (given begun_view new : View R) (before acked_packet given_packet request_packet filled_packet : Building)
-    → old.endpoint.below.transfer ≡ Some transfer
-    → before ≡ packet_for old.endpoint.options draft
-    → Acknowledges (wants_sack first_ask old.endpoint.below.queue transfer) transfer before mid acked_packet
-    → ForwardsAt (Some mid) (acknowledged_view old mid) acked_packet given given_packet
-    → BeginsAt given.endpoint.below.transfer given given_packet begun_view request_packet
-    → FillsData begun_view.endpoint.below.transfer begun_view request_packet new filled_packet
-    → Fills first_ask old draft new filled_packet
-first_by {R = R} old draft transfer mid given begun_view new before acked_packet given_packet request_packet filled_packet holds is ack forward begin data_in =
+-- ---- with data
+
+first_by : {R : Type 0} (old : View R) (draft : Emission) (transfer : Transfer) (here new : View R) (packet filled_packet : Building) → old.endpoint.below.transfer ≡ Some transfer
+    → (d : BeforeData old draft transfer here packet) → FillsData here.endpoint.below.transfer here packet new filled_packet → Fills first_ask old draft new filled_packet
+first_by {R = R} old draft transfer here new packet filled_packet holds d data_in =
     let e : Endpoint = old.endpoint in
-    let a = acked e draft (wants_sack first_ask e.below.queue transfer) transfer mid before acked_packet is ack in
-    let next : Option ℕ = forward.0 in
-    let after : Transfer = forward.1 in
-    let waits : SendQueueState = forward.2 in
-    let up = given_up e (filled draft (plain_contents a.sacks)) mid after waits old.events given.events next acked_packet given_packet a.is forward.4 forward.3 in
-    let here : BeginsAt (Some after) (forwarded_view old next after waits given.events) given_packet begun_view request_packet =
-    subst (λ (v : View R). BeginsAt v.endpoint.below.transfer v given_packet begun_view request_packet) forward.5 begin in
-    let begun : Option BegunReset = here.0 in
-    let there : FillsData (Some (transfer_begun begun after)) (begun_in_view old next after waits here.1 given.events begun) request_packet new filled_packet =
-    subst (λ (v : View R). FillsData v.endpoint.below.transfer v request_packet new filled_packet) here.5 data_in in
-    let behind : Emission = filled draft (plain_contents (a.sacks ++ up.forwards)) in
-    let given_is : given_packet ≡ packet_for e.options behind = up.is ∙ ap (packet_for e.options) (filled_twice draft a.sacks up.forwards) in
-    let before_is : mid.retransmission ≡ transfer.retransmission = ap (λ (t : Transfer). t.retransmission) a.mid_is in
-    let timeout_is : after.timeout ≡ transfer.timeout = ap (λ (t : Transfer). t.timeout) forward.3.rest ∙ ap (λ (t : Transfer). t.timeout) a.mid_is in
+    let begun_view : View R = begun_in_view old d.up.next d.up.gave_up (record transfer { tracker = d.up.tracker }) d.begun (handed_of d) in
+    let there : FillsData (Some (transfer_begun d.begun (record transfer { tracker = d.up.tracker; retransmission = d.up.gave_up.queue }))) begun_view packet new filled_packet =
+    subst (λ (v : View R). FillsData v.endpoint.below.transfer v packet new filled_packet) d.view data_in in
+    let filling = there.3 in
+    let room : bytes_remaining packet ≡ room_of d = room_is_left e _ packet d.is in
     fills_by first_ask old draft transfer new filled_packet
     (record {
-      mid = mid;
-      given = after;
-      after = there.1;
-      waits = waits;
-      handed = here.1;
-      left = there.2;
-      telling = given.events;
-      later = forward_where next e.no_forward_tsn_before;
-      sacks = a.sacks;
-      forwards = up.forwards;
-      begun = begun;
-      any = there.0;
+      until = until_of old draft transfer here packet d filling.sent (fills_behind old draft transfer here packet d filling.sent filling.fills);
+      still = λ no_data no_items. stays_behind d.up.gave_up.told (handed_of d) (state_of d) (room_of d) filling.sent
+          (filling.idle no_data no_items ∙ ap (stage_of (handed_of d) (state_of d) []) room);
+      chunks = filling.chunks;
+      are = filling.are;
+      fits = filling.fits;
+      forwards_fit = d.up.fit;
+      told = d.up.told ++ filling.told;
+      are_told = map-append told_content d.up.told filling.told
+          ∙ (ap (λ (es : List (Event (List ℕ))). es ++ map told_content filling.told) d.up.are_told ∙ ap (λ (es : List (Event (List ℕ))). d.up.gave_up.told ++ es) filling.are_told);
       holds = holds;
-      acknowledges = a.acknowledges;
-      mid_is = a.mid_is;
-      gave = up.gave;
-      begins = record {
-        queue = waits;
-        retransmission = after.retransmission;
-        negotiated = λ without. let same = forward.3.negotiated (ap (λ (r : RetransmissionState). r.partial_reliability) before_is ∙ without) in
-            (same.2, ap (λ (t : Transfer). t.retransmission) same.1 ∙ before_is);
-        idle = λ none. let same = forward.3.idle (ap (λ (r : RetransmissionState). outstanding_count r) before_is ∙ none) in
-            (same.2, ap (λ (t : Transfer). t.retransmission) same.1 ∙ before_is);
-        is = here.2 ∙ ap (λ (room : ℕ). begun_in (held_in e.core) room (last_assigned_tsn after.retransmission) waits) (ap bytes_remaining given_is ∙ room_is e behind);
-      };
-      untouched = λ none. requesting_none (streams_within (bytes_remaining given_packet)) (bytes_remaining given_packet) (last_assigned_tsn after.retransmission) (held_in e.core) begun waits here.1 none here.2 here.3;
-      fills = subst (λ (b : Building). FillsPacket (transfer_begun begun after) here.1 given.events b there.1 there.2 new.events filled_packet there.0)
-          (request_behind e behind begun given_packet request_packet given_is here.4 ∙ ap (packet_for e.options) (filled_behind draft (plain_contents (a.sacks ++ up.forwards)) (request_contents begun))) there.3;
-      is = there.4
-          ∙ ap (λ (x : Endpoint). record old { endpoint = x; events = new.events })
-          (begun_behind begun e there.0 (forward_where next e.no_forward_tsn_before) waits here.1 there.2 after there.1 (ap (λ (t : TimeoutState). t.rto) timeout_is ∙ sym (ap rto_of holds)));
+      adds = filling.adds ∙ ap (λ (b : Building). record b { body = b.body ++ flat_map chunk_bytes filling.chunks }) d.is;
+      is = view_filled begun_view (transfer_begun d.begun (record transfer { tracker = d.up.tracker; retransmission = d.up.gave_up.queue })) there.1 there.2 packet filled_packet there.0 new filling there.4
+          ∙ ap (λ (x : Endpoint). record old { endpoint = x; events = old.events ++ d.up.gave_up.told ++ filling.sent.told })
+          (begun_behind d.begun e (has_chunks filling.chunks) (forward_where d.up.next e.no_forward_tsn_before) d.up.gave_up.waiting (handed_of d) filling.sent.waiting (record transfer { tracker = d.up.tracker; retransmission = d.up.gave_up.queue })
+          (record transfer { retransmission = filling.sent.queue; tracker = d.up.tracker }) (sym (ap rto_of holds)))
+          ∙ ap (λ (es : List (Event (List ℕ))). record old { endpoint = endpoint_given e d.begun (has_chunks filling.chunks) (forward_where d.up.next e.no_forward_tsn_before) filling.sent.waiting (record transfer { retransmission = filling.sent.queue; tracker = d.up.tracker }); events = es })
+          (append_assoc old.events d.up.gave_up.told filling.sent.told);
     })
 
 along_is : (found : Option Transfer) (queue : SendQueueState) (transfer : Transfer) (along : Bool) → found ≡ Some transfer → along ≡ (has_data queue || can_send_below found)
     → is_sack_wanted along transfer ≡ wants_sack first_ask queue transfer
 along_is found queue transfer along holds is = ap (λ (b : Bool). is_sack_wanted b transfer) (is ∙ ap (λ (f : Option Transfer). has_data queue || can_send_below f) holds)
 
-first_where : {R : Type 0} (old : Context R) (found : Option Transfer) (along : Bool) (state : State) (draft : Emission) (given begun_view new : View R) (before acked_packet given_packet request_packet filled_packet : Building)
-    → transfer_of old.state ≡ found → along ≡ (has_data old.send_queue || can_send_below found) → before ≡ packet_for old.options draft
-    → AcknowledgesBelow found along old.state before state acked_packet
-    → ForwardsAt (transfer_of state) (view_of (record old { state = state })) acked_packet given given_packet
-    → BeginsAt given.endpoint.below.transfer given given_packet begun_view request_packet
-    → FillsData begun_view.endpoint.below.transfer begun_view request_packet new filled_packet
-    → Fills first_ask (view_of old) draft new filled_packet
-first_where {R = R} old None along state draft given begun_view new before acked_packet given_packet request_packet filled_packet holds is built ack forward begin data_in =
-    let same : state ≡ old.state = ack.0 in
+-- ---- as the context tells it
+
+-- no peer is known, so nothing has changed
+pub same_view : {R : Type 0} (old : Context R) (along : Bool) (state : State) (given here : View R) (packet acked_packet given_packet request_packet : Building) → transfer_of old.state ≡ None
+    → AcknowledgesBelow None along old.state packet state acked_packet → ForwardsAt (transfer_of state) (view_of (record old { state = state })) acked_packet given given_packet
+    → BeginsAt given.endpoint.below.transfer given given_packet here request_packet → (here ≡ view_of old) × (request_packet ≡ packet)
+same_view {R = R} old along state given here packet acked_packet given_packet request_packet holds ack forward begin =
     let up : ForwardsAt None (view_of old) acked_packet given given_packet =
     subst (λ (f : Option Transfer). ForwardsAt f (view_of old) acked_packet given given_packet) holds
-    (subst (λ (s : State). ForwardsAt (transfer_of s) (view_of (record old { state = s })) acked_packet given given_packet) same forward) in
-    let at : BeginsAt None (view_of old) given_packet begun_view request_packet =
-    subst (λ (f : Option Transfer). BeginsAt f (view_of old) given_packet begun_view request_packet) holds
-    (subst (λ (v : View R). BeginsAt v.endpoint.below.transfer v given_packet begun_view request_packet) up.0 begin) in
-    let here : FillsData None (view_of old) request_packet new filled_packet =
-    subst (λ (f : Option Transfer). FillsData f (view_of old) request_packet new filled_packet) holds
-    (subst (λ (v : View R). FillsData v.endpoint.below.transfer v request_packet new filled_packet) at.0 data_in) in
-    fills_nothing first_ask (view_of old) draft new filled_packet holds here.0 (here.1 ∙ at.1 ∙ up.1 ∙ ack.1 ∙ built)
-first_where {R = R} old (Some transfer) along state draft given begun_view new before acked_packet given_packet request_packet filled_packet holds is built ack forward begin data_in =
+    (subst (λ (s : State). ForwardsAt (transfer_of s) (view_of (record old { state = s })) acked_packet given given_packet) ack.0 forward) in
+    let at : BeginsAt None (view_of old) given_packet here request_packet =
+    subst (λ (f : Option Transfer). BeginsAt f (view_of old) given_packet here request_packet) holds
+    (subst (λ (v : View R). BeginsAt v.endpoint.below.transfer v given_packet here request_packet) up.0 begin) in
+    (at.0, at.1 ∙ up.1 ∙ ack.1)
+
+pub forwarded_where : {R : Type 0} (old : Context R) (transfer : Transfer) (along : Bool) (state : State) (draft : Emission) (given : View R) (before acked_packet given_packet : Building)
+    → transfer_of old.state ≡ Some transfer → along ≡ (has_data old.send_queue || can_send_below (Some transfer)) → before ≡ packet_for old.options draft
+    → AcknowledgesBelow (Some transfer) along old.state before state acked_packet
+    → ForwardsAt (transfer_of state) (view_of (record old { state = state })) acked_packet given given_packet → Forwarded (view_of old) draft transfer given given_packet
+forwarded_where {R = R} old transfer along state draft given before acked_packet given_packet holds is built ack forward =
     let mid : Transfer = ack.0 in
     let at_state : ForwardsAt (transfer_of (state_with old.state mid)) (view_of (record old { state = state_with old.state mid })) acked_packet given given_packet =
     subst (λ (s : State). ForwardsAt (transfer_of s) (view_of (record old { state = s })) acked_packet given given_packet) ack.1 forward in
@@ -351,59 +449,34 @@ first_where {R = R} old (Some transfer) along state draft given begun_view new b
     subst (λ (f : Option Transfer). ForwardsAt f (view_of (record old { state = state_with old.state mid })) acked_packet given given_packet) (transfer_is old.state transfer mid holds) at_state in
     let view : view_of (record old { state = state_with old.state mid }) ≡ acknowledged_view (view_of old) mid =
     ap (λ (e : Endpoint). record (view_of old) { endpoint = e }) (endpoint_with old transfer mid holds) in
-    first_by (view_of old) draft transfer mid given begun_view new before acked_packet given_packet request_packet filled_packet holds built
+    forwarded (view_of old) draft transfer mid given before acked_packet given_packet built
     (subst (λ (b : Bool). Acknowledges b transfer before mid acked_packet) (along_is (Some transfer) old.send_queue transfer along refl is) ack.2)
     (subst (λ (v : View R). ForwardsAt (Some mid) v acked_packet given given_packet) view found)
-    begin data_in
 
-pub fills_first : {R : Type 0} (old : Context R) (along : Bool) (state : State) (draft : Emission) (given begun_view new : View R) (before acked_packet given_packet request_packet filled_packet : Building)
+first_where : {R : Type 0} (old : Context R) (found : Option Transfer) (along : Bool) (state : State) (draft : Emission) (given here new : View R) (before acked_packet given_packet request_packet filled_packet : Building)
+    → transfer_of old.state ≡ found → along ≡ (has_data old.send_queue || can_send_below found) → before ≡ packet_for old.options draft
+    → AcknowledgesBelow found along old.state before state acked_packet
+    → ForwardsAt (transfer_of state) (view_of (record old { state = state })) acked_packet given given_packet
+    → BeginsAt given.endpoint.below.transfer given given_packet here request_packet
+    → FillsData here.endpoint.below.transfer here request_packet new filled_packet
+    → Fills first_ask (view_of old) draft new filled_packet
+first_where {R = R} old None along state draft given here new before acked_packet given_packet request_packet filled_packet holds is built ack forward begin data_in =
+    let same = same_view old along state given here before acked_packet given_packet request_packet holds ack forward begin in
+    let at : FillsData None (view_of old) request_packet new filled_packet =
+    subst (λ (f : Option Transfer). FillsData f (view_of old) request_packet new filled_packet) holds
+    (subst (λ (v : View R). FillsData v.endpoint.below.transfer v request_packet new filled_packet) same.0 data_in) in
+    fills_nothing first_ask (view_of old) draft new filled_packet holds at.0 (at.1 ∙ same.1 ∙ built)
+first_where old (Some transfer) along state draft given here new before acked_packet given_packet request_packet filled_packet holds is built ack forward begin data_in =
+    first_by (view_of old) draft transfer here new request_packet filled_packet holds
+    (before_data (view_of old) draft transfer given here given_packet request_packet
+    (forwarded_where old transfer along state draft given before acked_packet given_packet holds is built ack forward) begin) data_in
+
+pub fills_first : {R : Type 0} (old : Context R) (along : Bool) (state : State) (draft : Emission) (given here new : View R) (before acked_packet given_packet request_packet filled_packet : Building)
     → along ≡ (has_data old.send_queue || can_send_below (transfer_of old.state)) → before ≡ packet_for old.options draft
     → AcknowledgesBelow (transfer_of old.state) along old.state before state acked_packet
     → ForwardsAt (transfer_of state) (view_of (record old { state = state })) acked_packet given given_packet
-    → BeginsAt given.endpoint.below.transfer given given_packet begun_view request_packet
-    → FillsData begun_view.endpoint.below.transfer begun_view request_packet new filled_packet
+    → BeginsAt given.endpoint.below.transfer given given_packet here request_packet
+    → FillsData here.endpoint.below.transfer here request_packet new filled_packet
     → Fills first_ask (view_of old) draft new filled_packet
-fills_first old along state draft given begun_view new before acked_packet given_packet request_packet filled_packet is built ack forward begin data_in =
-    first_where old (transfer_of old.state) along state draft given begun_view new before acked_packet given_packet request_packet filled_packet refl is built ack forward begin data_in
-
--- ---- where a growth was refused
-
--- what is told comes first of what comes of an ask
-pub told_first : (after : Endpoint) (told : List (Event Emission)) (with_checksum : Bool) (tag : ℕ) (contents : List Content)
-    → (rest : List (Event Emission)) × ((goes_out after told with_checksum tag contents).events ≡ told ++ rest)
-told_first after told with_checksum tag [] = ([], sym (append-nil told))
-told_first after told with_checksum tag (content ∷ contents) = (_, refl)
-
-busy_cut : {R : Type 0} (ask : Ask) (old : View R) (draft : Emission) (events : List (Event (List ℕ))) (transfer : Transfer) → old.endpoint.below.transfer ≡ Some transfer
-    → is_idle old.endpoint.below.queue transfer ≡ false → TellsMore old.events events → AskCut ask old draft events
-busy_cut ask old draft events transfer holds busy tells =
-    let e : Endpoint = old.endpoint in
-    let answer : Answer = some_answer ask e draft transfer tells.told in
-    let out = told_first answer.after (map told_event tells.told) draft.with_checksum draft.packet.tag (filled draft (answer_contents answer)).packet.contents in
-    record {
-      answer = answer;
-      allowed = some_answered ask e draft transfer tells.told holds busy;
-      front = map told_event tells.told;
-      rest = out.0;
-      parts = out.1;
-      added = tells.is ∙ ap (λ (es : List (Event (List ℕ))). old.events ++ es) (told_user (ports_of e.options) tells.told);
-    }
-
-busy_where : {R : Type 0} (ask : Ask) (old : View R) (draft : Emission) (events : List (Event (List ℕ))) (transfer : Transfer) (b : Bool) → old.endpoint.below.transfer ≡ Some transfer
-    → is_idle old.endpoint.below.queue transfer ≡ b → (is_idle old.endpoint.below.queue transfer ≡ true → ⊥) → TellsMore old.events events → AskCut ask old draft events
-busy_where ask old draft events transfer true holds is not_idle tells = absurd (not_idle is)
-busy_where ask old draft events transfer false holds is not_idle tells = busy_cut ask old draft events transfer holds is tells
-
--- A peer is held, and something may have been asked for.
-abbrev pub IsBusy : SendQueueState → Option Transfer → Type 0
-IsBusy queue None = ⊥
-IsBusy queue (Some transfer) = is_idle queue transfer ≡ true → ⊥
-
-cut_at : {R : Type 0} (ask : Ask) (old : View R) (draft : Emission) (events : List (Event (List ℕ))) (found : Option Transfer) → old.endpoint.below.transfer ≡ found
-    → IsBusy old.endpoint.below.queue found → TellsMore old.events events → AskCut ask old draft events
-cut_at ask old draft events None holds busy tells = absurd busy
-cut_at ask old draft events (Some transfer) holds busy tells = busy_where ask old draft events transfer (is_idle old.endpoint.below.queue transfer) holds refl busy tells
-
-pub cut_busy : {R : Type 0} (ask : Ask) (old : View R) (draft : Emission) (events : List (Event (List ℕ))) → IsBusy old.endpoint.below.queue old.endpoint.below.transfer → TellsMore old.events events
-    → AskCut ask old draft events
-cut_busy ask old draft events busy tells = cut_at ask old draft events old.endpoint.below.transfer refl busy tells
+fills_first old along state draft given here new before acked_packet given_packet request_packet filled_packet is built ack forward begin data_in =
+    first_where old (transfer_of old.state) along state draft given here new before acked_packet given_packet request_packet filled_packet refl is built ack forward begin data_in

@@ -25,7 +25,7 @@ use Rattle.dcsctp_core.specs.Flushing.{packet_for, Fills, AskCut, AsksFor, Flush
 use Rattle.dcsctp_core.proofs.Moving.{Drawn-append, moves_still}
 use Rattle.dcsctp_core.proofs.Composing.{events_behind}
 use Rattle.dcsctp_core.proofs.SentLemmas.{body_len, none_as_bytes, built_bytes}
-use Rattle.dcsctp_core.proofs.FirstLemmas.{told_first}
+use Rattle.dcsctp_core.proofs.CutLemmas.{told_first}
 
 -- ---- a packet that was filled goes out
 

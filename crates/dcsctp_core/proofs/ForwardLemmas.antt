@@ -1,5 +1,5 @@
 -- What gives messages up, as the view tells it.
-use Rattle.std.proofs.Common.{◌≡◌, ◌<◌, ℕ, Option, None, Some, List, sym, ap, subst, ◌∙◌}
+use Rattle.std.proofs.Common.{◌≡◌, ◌<◌, ℕ, Option, None, Some, List, sym, ap, subst, ◌∙◌, Bool, arith, false, nat_le, refl, true}
 use Rattle.dcsctp_wire_build.specs.Building.{Building}
 use Rattle.dcsctp_machine.specs.Event.{Event}
 use Rattle.dcsctp_machine.specs.transfer.Transfer.{Transfer}
@@ -9,8 +9,10 @@ use Rattle.dcsctp_transfer.specs.Forwarding.{Forwards}
 use Rattle.dcsctp_core.specs.declared.context.Context.{Context}
 use Rattle.dcsctp_core.specs.declared.state.State.{State}
 use Rattle.dcsctp_core.specs.View.{View, transfer_of, endpoint_of, view_of}
-use Rattle.dcsctp_core.specs.Flushing.{forward_where, ForwardsBelow, ForwardsAt}
+use Rattle.dcsctp_core.specs.Flushing.{ForwardsBelow, ForwardsNow, ForwardsAt}
+use Rattle.dcsctp_machine.specs.turns.FlushOutcomes.{forward_where}
 use Rattle.dcsctp_core.proofs.FirstLemmas.{endpoint_with}
+use Rattle.std.proofs.lemmas.Bool.Decides.{nat_tests}
 
 -- the endpoint with this queue, once the next FORWARD-TSN was put off
 abbrev put_off : {R : Type 0} → Context R → SendQueueState → Option ℕ → Endpoint → Endpoint
@@ -20,9 +22,9 @@ abbrev forwarded : {R : Type 0} → Context R → State → SendQueueState → L
 forwarded old state queue events next = record (view_of old) { endpoint = put_off old queue next (endpoint_of (record old { state = state })); events = events }
 
 pub forwards_below : {R : Type 0} (old : Context R) (new : View R) (found : Option Transfer) (state : State) (queue : SendQueueState) (events : List (Event (List ℕ))) (next : Option ℕ) (packet filled : Building)
-    → transfer_of old.state ≡ found → (old.moment < old.no_forward_tsn_before → next ≡ None) → new ≡ forwarded old state queue events next
+    → transfer_of old.state ≡ found → nat_le old.no_forward_tsn_before old.moment ≡ true → new ≡ forwarded old state queue events next
     → ForwardsBelow old.moment found old.send_queue (view_of old).events packet old.state state queue events filled next → ForwardsAt found (view_of old) packet new filled
-forwards_below old new None state queue events next packet filled holds early is h = (
+forwards_below old new None state queue events next packet filled holds in_time is h = (
   is
       ∙ ap (λ (s : State). forwarded old s queue events next) h.0
       ∙ ap (λ (q : SendQueueState). forwarded old old.state q events next) h.1
@@ -30,14 +32,14 @@ forwards_below old new None state queue events next packet filled holds early is
       ∙ ap (λ (n : Option ℕ). forwarded old old.state old.send_queue (view_of old).events n) h.4,
   h.3,
 )
-forwards_below {R = R} old new (Some transfer) state queue events next packet filled holds early is h =
+forwards_below {R = R} old new (Some transfer) state queue events next packet filled holds in_time is h =
     let after : Transfer = h.0 in
-    let told : events ≡ new.events = sym (ap (λ (v : View R). v.events) is) in (
+    let told : events ≡ new.events = sym (ap (λ (v : View R). v.events) is) in
+    subst (λ (b : Bool). ForwardsNow b transfer (view_of old) packet new filled) (sym in_time) (
       next,
       after,
       queue,
       subst (λ (es : List (Event (List ℕ))). Forwards old.moment transfer old.send_queue (view_of old).events packet after queue es filled next) told h.2,
-      early,
       is
           ∙ ap (λ (s : State). forwarded old s queue events next) h.1
           ∙ ap (λ (e : Endpoint). record (view_of old) { endpoint = put_off old queue next e; events = events }) (endpoint_with old transfer after holds)
@@ -46,3 +48,10 @@ forwards_below {R = R} old new (Some transfer) state queue events next packet fi
             events = es;
           }) told,
     )
+
+-- before its time
+pub forwards_early : {R : Type 0} (old : Context R) (found : Option Transfer) (packet : Building) → old.moment < old.no_forward_tsn_before → ForwardsAt found (view_of old) packet (view_of old) packet
+forwards_early old None packet early = (refl, refl)
+forwards_early old (Some transfer) packet early =
+    let late : nat_le old.no_forward_tsn_before old.moment ≡ false = grind (arith, nat_tests) in
+    subst (λ (b : Bool). ForwardsNow b transfer (view_of old) packet (view_of old) packet) (sym late) (refl, refl)

@@ -2,6 +2,7 @@ pub mod AskLemmas
 pub mod AtOnceLemmas
 pub mod BelowLemmas
 pub mod Composing
+pub mod CutLemmas
 pub mod EndLemmas
 pub mod FillLemmas
 pub mod FirstLemmas

@@ -10,7 +10,7 @@ use Rattle.dcsctp_machine.specs.Packet.{chunk_out}
 use Rattle.dcsctp_machine.specs.Reconfiguration.{RequestedReset}
 use Rattle.dcsctp_machine.specs.control.FlushChanges.{reset_request}
 use Rattle.dcsctp_machine.specs.turns.BegunResets.{streams_within, stream_field, BegunReset, last_assigned_tsn, begun_in, begun_where, transfer_begun, rto_of, held_begun, core_asking, after_begun}
-use Rattle.dcsctp_machine.proofs.AnswerLemmas.{request_len}
+use Rattle.dcsctp_machine.proofs.PacketLengths.{request_len}
 use Rattle.std.proofs.lemmas.Bool.Decides.{nat_tests}
 use Rattle.dcsctp_core.specs.Resetting.{IsStream, StartsReset, BeginsReset, request_begun, timer_begun, Begins, BeginsIn, BeginsBelow}
 use Rattle.std.specs.List.{AllByRecursion}

@@ -1,18 +1,20 @@
 -- A flush for which no packet is made: nothing has to go into one.
-use Rattle.std.proofs.Common.{◌≡◌, ◌==◌, ◌&&◌, ◌||◌, ℕ, zero, suc, Bool, true, false, nat_lt, nat_le, Option, None, Some, [], refl, sym, ap, subst, arith}
+use Rattle.dcsctp_machine.specs.transfer.Filling.{none as no_step}
+use Rattle.dcsctp_machine.proofs.MarkedItemLemmas.{fewer_marked}
+use Rattle.std.proofs.lemmas.Bool.Decides.{nat_tests}
+use Rattle.std.proofs.Common.{◌≡◌, ◌&&◌, ◌||◌, ℕ, zero, suc, Bool, true, false, nat_lt, Option, None, Some, [], refl, sym, ap, subst, arith, inl, ◌+◌}
 use Rattle.rand_core.specs.Stream.{Stream}
 use Rattle.dcsctp_machine.specs.transfer.OwnResets.{ready_streams}
 use Rattle.dcsctp_machine.specs.declared.association.Held.{Held}
 use Rattle.dcsctp_machine.specs.Packet.{Emission}
 use Rattle.dcsctp_machine.specs.transfer.SendQueue.{SendQueueState, has_data}
-use Rattle.dcsctp_machine.specs.transfer.Transfer.{Transfer, must_give, is_none_ready, is_idle}
-use Rattle.dcsctp_machine.specs.transfer.Retransmission.{RetransmissionState, can_send, has_free_tsn, least_chunk}
-use Rattle.dcsctp_machine.specs.transfer.Items.{marked_items}
+use Rattle.dcsctp_machine.specs.transfer.Transfer.{Transfer, is_none_ready, is_idle, may_give}
+use Rattle.dcsctp_machine.specs.transfer.Retransmission.{RetransmissionState, can_send}
+use Rattle.dcsctp_machine.specs.transfer.Items.{marked_items, is_first_abandoned}
 use Rattle.dcsctp_machine.specs.Endpoint.{Endpoint, held_in}
 use Rattle.dcsctp_machine.specs.turns.BegunResets.{last_assigned_tsn}
 use Rattle.dcsctp_machine.specs.turns.DataOutcomes.{flush_by, AnswersTo}
-use Rattle.dcsctp_machine.specs.turns.FlushOutcomes.{draft_to, flush_of, packets_allowed, Ask, first_ask, later_ask, room_in, begun_at, Acknowledges, Gives, GivesWhere, AnsweredBelow, nothing_waits}
-use Rattle.dcsctp_transfer.specs.Filling.{may_give}
+use Rattle.dcsctp_machine.specs.turns.FlushOutcomes.{draft_to, flush_of, packets_allowed, Ask, first_ask, later_ask, room_in, begun_at, Acknowledges, Gives, GivesWhere, AnsweredBelow, nothing_waits, FillsWhere, ForwardsWhere, GivesUpWhere, filled, may_forward, stage_of}
 use Rattle.dcsctp_core.specs.declared.context.Context.{Context}
 use Rattle.dcsctp_core.specs.declared.transmission_control_block.TransmissionControlBlock.{TransmissionControlBlock}
 use Rattle.dcsctp_core.specs.View.{View, core_of, tcb_of, transfer_of, held_of, endpoint_of, view_of}
@@ -22,24 +24,39 @@ use Rattle.dcsctp_core.proofs.Moving.{moves_still}
 use Rattle.dcsctp_core.proofs.FillLemmas.{none_begun}
 use Rattle.dcsctp_core.proofs.FlushLemmas.{flushes_none, flushes_last}
 use Rattle.dcsctp_core.proofs.LoopLemmas.{held_by_tcb, flush_no_peer}
+use Rattle.dcsctp_machine.specs.transfer.Abandoning.{NoneDue}
+use Rattle.dcsctp_machine.specs.declared.progress.Change.TheVariants.{Abandon}
+use Rattle.dcsctp_machine.specs.transfer.Filling.{Stage}
+use Rattle.dcsctp_machine.proofs.DueItemLemmas.{due_marked}
 
 -- ---- nothing has to be given
 
-and_end : (a b c : Bool) → (a && b && c && false) ≡ false
-and_end true true true = refl
-and_end true true false = refl
-and_end true false c = refl
-and_end false b c = refl
+-- No item waits to be sent again, so none is due to be abandoned.
+unmarked : (queue : SendQueueState) (state : RetransmissionState) → may_give queue state ≡ false → marked_items state.outstanding.items ≡ 0
+unmarked queue state is = go (marked_items state.outstanding.items) (has_data queue && can_send state) is
+  where
+    go : (n : ℕ) (b : Bool) → (nat_lt 0 n || b) ≡ false → n ≡ 0
+    go zero b is = refl
+    go (suc n) b is = absurd (grind (arith, nat_tests))
 
-not_all : (marked sends none fits free waits : Bool) → (marked || (waits && sends)) ≡ false → (sends && none && fits && free && waits) ≡ false
-not_all true sends none fits free waits is = absurd (cc)
-not_all false false none fits free waits is = refl
-not_all false true none fits free true is = absurd (cc)
-not_all false true none fits free false is = and_end none fits free
+none_due : (now : ℕ) (state : RetransmissionState) → marked_items state.outstanding.items ≡ 0 → NoneDue now state
+none_due now state none place due =
+    let less = fewer_marked Abandon (λ progress. refl) place (place + 1) place state.outstanding.items due.item (omega arith) (omega arith) due.at (due_marked now state.partial_reliability due.item due.due) in
+    omega (arith, less, none)
 
-not_given : (room : ℕ) (queue : SendQueueState) (state : RetransmissionState) → may_give queue state ≡ false → must_give room queue state ≡ false
-not_given room queue state is =
-    not_all (nat_lt 0 (marked_items state.outstanding.items)) (can_send state) (marked_items state.outstanding.items == 0) (nat_le (least_chunk state.outstanding.is_interleaved) room) (has_free_tsn state) (has_data queue) is
+-- So no message is abandoned, and no FORWARD-TSN goes.
+no_forward : (b : Bool) (now : ℕ) (queue : SendQueueState) (transfer : Transfer) (room : ℕ) → (b ≡ true → is_first_abandoned transfer.retransmission.outstanding.items ≡ false) → may_give queue transfer.retransmission ≡ false
+    → GivesUpWhere b now transfer room (stage_of queue transfer.retransmission [] 0) (stage_of queue transfer.retransmission [] 0) None []
+no_forward false now queue transfer room first none = (refl, refl, refl)
+no_forward true now queue transfer room first none = (
+  record { steps = no_step; none_left = none_due now transfer.retransmission (unmarked queue transfer.retransmission none) },
+  subst (λ (b : Bool). ForwardsWhere b now transfer room transfer.retransmission None []) (sym (first refl)) (refl, refl),
+)
+
+-- that is asked of the first packet alone
+in_first : (ask : Ask) (e : Endpoint) (state : RetransmissionState) (first : Bool) → (ask ≡ first_ask → first ≡ false) → may_forward ask e state ≡ true → first ≡ false
+in_first first_ask e state first h may = h refl
+in_first later_ask e state first h may = absurd (cc)
 
 -- Nor is a reset begun, where no stream is ready.
 rest_begun : (ask : Ask) (held : Option Held) (room last_tsn : ℕ) (queue : SendQueueState) → (ask ≡ first_ask → is_none_ready (ready_streams queue) ≡ true) → None ≡ begun_at ask held room last_tsn queue
@@ -48,38 +65,26 @@ rest_begun first_ask held room last_tsn queue none = sym (none_begun first_ask h
 
 gives_none : (ask : Ask) (e : Endpoint) (draft : Emission) (transfer : Transfer) → e.below.transfer ≡ Some transfer → NeedsNone ask e.below.queue (Some transfer) → Gives ask e draft transfer (nothing_waits e)
 gives_none ask e draft transfer holds needs =
+    let start : Stage = stage_of e.below.queue transfer.retransmission [] (room_in e (filled draft [])) in
     record {
-      left = transfer;
-      holds = holds;
       sacks = [];
       forwards = [];
       parts = refl;
+      tracker = transfer.tracker;
       acknowledges = subst (λ (b : Bool). Acknowledges b (room_in e draft) transfer transfer.tracker []) (sym needs.0) (refl, refl);
-      gives_up = record {
-        is_made = false;
-        later = refl;
-        none = λ is. refl;
-        in_first = λ is. refl;
-        in_time = λ early. refl;
-        negotiated = λ is. refl;
-        at_most_one = omega arith;
-        kind = tt;
-        fit = tt;
-      };
-      begins = record {
-        queue = e.below.queue;
-        retransmission = transfer.retransmission;
-        negotiated = λ without. (refl, refl);
-        idle = λ none. (refl, refl);
-        is = rest_begun ask (held_in e.core) _ (last_assigned_tsn transfer.retransmission) e.below.queue needs.1;
-      };
-      kind = tt;
-      fit = tt;
-      data_goes = λ none. not_given _ e.below.queue transfer.retransmission needs.2;
-      partial_reliability = refl;
-      is_interleaved = refl;
-      timeout = refl;
-      reassembly = refl;
+      gave_up = stage_of e.below.queue transfer.retransmission [] 0;
+      next = None;
+      gives_up = no_forward (may_forward ask e transfer.retransmission) e.moment e.below.queue transfer _
+          (in_first ask e transfer.retransmission (is_first_abandoned transfer.retransmission.outstanding.items) needs.2) needs.3;
+      later = refl;
+      begins = rest_begun ask (held_in e.core) _ (last_assigned_tsn transfer.retransmission) e.below.queue needs.1;
+      sent = start;
+      fills = subst (λ (b : Bool). FillsWhere b e.moment start start) (sym needs.3) (inl refl);
+      chunks = tt;
+      forwards_fit = tt;
+      data_fit = tt;
+      told = refl;
+      below = ap (λ (t : Option Transfer). record e.below { transfer = t }) holds;
     }
 
 gives_where : (b : Bool) (ask : Ask) (e : Endpoint) (draft : Emission) (transfer : Transfer) → e.below.transfer ≡ Some transfer → NeedsNone ask e.below.queue (Some transfer)

@@ -57,9 +57,9 @@ SacksBelow now sack (Some transfer) old told new telling result =
     (after : Transfer) × (new ≡ state_with old after) × HandlesSack now sack transfer told after telling result
 
 -- What was lost was put into a packet.
-abbrev pub FillsAtOnceBelow : Option Transfer → State → Building → State → Building → Type 0
-FillsAtOnceBelow None old packet new filled = (new ≡ old) × (filled ≡ packet)
-FillsAtOnceBelow (Some transfer) old packet new filled = (after : Transfer) × (new ≡ state_with old after) × FillsAtOnce transfer packet after filled
+abbrev pub FillsAtOnceBelow : ℕ → Option Transfer → State → Building → State → Building → Type 0
+FillsAtOnceBelow now None old packet new filled = (new ≡ old) × (filled ≡ packet)
+FillsAtOnceBelow now (Some transfer) old packet new filled = (after : Transfer) × (new ≡ state_with old after) × FillsAtOnce now transfer packet after filled
 
 -- does something wait that was lost, and is to be sent at once?
 abbrev pub at_once_below : Option Transfer → Bool

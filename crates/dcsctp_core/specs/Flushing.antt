@@ -1,5 +1,5 @@
 -- What is sent in a flush.
-use Rattle.std.specs.Prelude.{◌≡◌, ◌⊎◌, ◌≤◌, ◌<◌, ◌+◌, ℕ, length, Bool, true, false, not, Option, None, Some, Result, Ok, Err, List, [], ◌∷◌, ◌++◌, map}
+use Rattle.std.specs.Prelude.{◌≡◌, ◌⊎◌, ◌≤◌, ◌+◌, nat_le, ℕ, length, Bool, true, false, not, Option, None, Some, Result, Ok, Err, List, [], ◌∷◌, ◌++◌, map}
 use Rattle.std.specs.List.{flat_map}
 use Rattle.rand_core.specs.Stream.{Stream}
 use Rattle.dcsctp_wire_build.specs.Building.{Building, bytes_remaining}
@@ -10,16 +10,17 @@ use Rattle.dcsctp_machine.specs.Settings.{ports_of, packet_size_limit}
 use Rattle.dcsctp_machine.specs.Event.{Event, sent}
 use Rattle.dcsctp_machine.specs.Packet.{Content, chunk_out, Emission}
 use Rattle.dcsctp_machine.specs.transfer.SendQueue.{SendQueueState, has_data}
-use Rattle.dcsctp_machine.specs.transfer.Transfer.{Transfer, is_none_ready}
+use Rattle.dcsctp_machine.specs.transfer.Transfer.{Transfer, is_none_ready, may_give}
+use Rattle.dcsctp_machine.specs.transfer.Items.{is_first_abandoned}
 use Rattle.dcsctp_machine.specs.transfer.Retransmission.{can_send, outstanding_count}
 use Rattle.dcsctp_machine.specs.Endpoint.{Endpoint, Timers, heartbeats_begun, held_in}
 use Rattle.dcsctp_machine.specs.declared.association.Held.{Held}
 use Rattle.dcsctp_machine.specs.Outcome.{counted}
 use Rattle.dcsctp_machine.specs.turns.BegunResets.{BegunReset, last_assigned_tsn, begun_in, request_contents, after_begun, streams_within, queue_requesting, transfer_begun}
-use Rattle.dcsctp_machine.specs.turns.FlushOutcomes.{told_event, Answer, answer_contents, filled, asked, flush_of, packets_allowed, Ask, first_ask, wants_sack, AnsweredBelow, timers_with, Answered, Answers, is_none, later_ask, draft_to}
+use Rattle.dcsctp_machine.specs.turns.FlushOutcomes.{told_event, Answer, answer_contents, filled, asked, flush_of, packets_allowed, Ask, first_ask, wants_sack, AnsweredBelow, timers_with, Answered, Answers, is_none, later_ask, draft_to, forward_where}
 use Rattle.dcsctp_api.specs.Calls.{user_event}
-use Rattle.dcsctp_transfer.specs.Filling.{TellsMore, FillsPacket, may_give, Acknowledges, is_sack_wanted}
-use Rattle.dcsctp_transfer.specs.Forwarding.{Forwards}
+use Rattle.dcsctp_transfer.specs.Filling.{FillsPacket, TellsFilling, Acknowledges, is_sack_wanted}
+use Rattle.dcsctp_transfer.specs.Forwarding.{Forwards, TellsAbandoning}
 use Rattle.dcsctp_core.specs.declared.context.Context.{Context}
 use Rattle.dcsctp_core.specs.declared.state.State.{State}
 use Rattle.dcsctp_core.specs.Reconfiguring.{tcb_changed}
@@ -73,12 +74,15 @@ abbrev pub HasNoReset : SendQueueState → Option Transfer → Type 0
 HasNoReset queue None = Unit {0}
 HasNoReset queue (Some transfer) = is_none_ready (ready_streams queue) ≡ true
 
--- Nothing has to go into a packet to the peer: neither an acknowledgement nor data. In the first one no request to reset streams
--- has to go either.
+-- Nothing has to go into a packet to the peer: neither an acknowledgement nor data. In the first one neither a request to reset
+-- streams nor a FORWARD-TSN has to go either.
 abbrev pub NeedsNone : Ask → SendQueueState → Option Transfer → Type 0
 NeedsNone ask queue None = Unit {0}
 NeedsNone ask queue (Some transfer) =
-    (wants_sack ask queue transfer ≡ false) × (ask ≡ first_ask → is_none_ready (ready_streams queue) ≡ true) × (may_give queue transfer.retransmission ≡ false)
+    (wants_sack ask queue transfer ≡ false)
+    × (ask ≡ first_ask → is_none_ready (ready_streams queue) ≡ true)
+    × (ask ≡ first_ask → is_first_abandoned transfer.retransmission.outstanding.items ≡ false)
+    × (may_give queue transfer.retransmission ≡ false)
 
 -- No SACK is asked for.
 abbrev pub WantsNone : Option Transfer → Bool → Type 0
@@ -97,18 +101,12 @@ abbrev pub timers_where : Bool → Endpoint → Timers
 timers_where true e = heartbeats_begun e e.timers
 timers_where false e = e.timers
 
--- the moment before which no FORWARD-TSN is sent, by whether one was made
-abbrev pub forward_where : Option ℕ → ℕ → ℕ
-forward_where None before = before
-forward_where (Some next) before = next
-
--- What abandons messages was put into a packet, no sooner than it may, and nothing else has moved.
-abbrev pub ForwardsAt : {R : Type 0} → Option Transfer → View R → Building → View R → Building → Type 0
-ForwardsAt None old packet new filled = (new ≡ old) × (filled ≡ packet)
-ForwardsAt (Some transfer) old packet new filled =
+-- What abandons messages was put into a packet, if that may go now, and nothing else has moved.
+abbrev pub ForwardsNow : {R : Type 0} → Bool → Transfer → View R → Building → View R → Building → Type 0
+ForwardsNow false transfer old packet new filled = (new ≡ old) × (filled ≡ packet)
+ForwardsNow true transfer old packet new filled =
     (next : Option ℕ) × (after : Transfer) × (left : SendQueueState)
     × Forwards old.endpoint.moment transfer old.endpoint.below.queue old.events packet after left new.events filled next
-    × (old.endpoint.moment < old.endpoint.no_forward_tsn_before → next ≡ None)
     × (new ≡ record old {
       endpoint = record old.endpoint {
         no_forward_tsn_before = forward_where next old.endpoint.no_forward_tsn_before;
@@ -116,6 +114,15 @@ ForwardsAt (Some transfer) old packet new filled =
       };
       events = new.events;
     })
+
+-- may a FORWARD-TSN go at this moment?
+abbrev pub is_in_time : Endpoint → Bool
+is_in_time e = nat_le e.no_forward_tsn_before e.moment
+
+-- What abandons messages was put into a packet, no sooner than it may.
+abbrev pub ForwardsAt : {R : Type 0} → Option Transfer → View R → Building → View R → Building → Type 0
+ForwardsAt None old packet new filled = (new ≡ old) × (filled ≡ packet)
+ForwardsAt (Some transfer) old packet new filled = ForwardsNow (is_in_time old.endpoint) transfer old packet new filled
 
 -- A reset was begun if none is outstanding, one is ready and it fits. Its request is in the packet, and nothing else has changed.
 abbrev pub BeginsAt : {R : Type 0} → Option Transfer → View R → Building → View R → Building → Type 0
@@ -134,7 +141,7 @@ abbrev pub FillsData : {R : Type 0} → Option Transfer → View R → Building 
 FillsData None old packet new filled = (new ≡ old) × (filled ≡ packet)
 FillsData (Some transfer) old packet new filled =
     (any : Bool) × (after : Transfer) × (left : SendQueueState)
-    × FillsPacket transfer old.endpoint.below.queue old.events packet after left new.events filled any
+    × FillsPacket old.endpoint.moment transfer old.endpoint.below.queue old.events packet after left new.events filled any
     × (new ≡ record old {
       endpoint = record old.endpoint { timers = timers_where any old.endpoint; below = record { queue = left; transfer = Some after } };
       events = new.events;
@@ -185,15 +192,28 @@ AsksWith stream ask packet old (Ok is_sent) new =
 AsksWith stream ask packet old (Err error) new =
     (draft : Emission) → packet ≡ packet_for old.options draft → AskCut ask (view_of old) draft (view_of new).events
 
+-- If an allocation failed for data, the first events of some such filling were added.
+abbrev pub TellsData : {R : Type 0} → Option Transfer → View R → Building → View R → Type 0
+TellsData None old packet new = new.events ≡ old.events
+TellsData (Some transfer) old packet new =
+    TellsFilling old.endpoint.moment (bytes_remaining packet) transfer old.endpoint.below.queue old.events new.events
+
 -- What fills a packet with data does, by whether an allocation failed.
 abbrev pub TriesData : {R E : Type 0} → Building → Context R → Result (Unit {0}) E → Context R → Building → Type 0
 TriesData packet old (Ok done) new filled = FillsData (transfer_of old.state) (view_of old) packet (view_of new) filled
-TriesData packet old (Err error) new filled = TellsMore (view_of old).events (view_of new).events
+TriesData packet old (Err error) new filled = TellsData (transfer_of old.state) (view_of old) packet (view_of new)
+
+-- If an allocation failed for a FORWARD-TSN, the first events about messages that are abandoned were added; the packet may be made
+-- at this moment.
+abbrev pub TellsForward : {R : Type 0} → Option Transfer → View R → View R → Type 0
+TellsForward None old new = new.events ≡ old.events
+TellsForward (Some transfer) old new =
+    (is_in_time old.endpoint ≡ true) × TellsAbandoning old.endpoint.moment transfer old.endpoint.below.queue old.events new.events
 
 -- The FORWARD-TSN, by whether an allocation failed.
 abbrev pub TriesForward : {R E : Type 0} → Building → Context R → Result (Unit {0}) E → Context R → Building → Type 0
 TriesForward packet old (Ok done) new filled = ForwardsAt (transfer_of old.state) (view_of old) packet (view_of new) filled
-TriesForward packet old (Err error) new filled = TellsMore (view_of old).events (view_of new).events
+TriesForward packet old (Err error) new filled = TellsForward (transfer_of old.state) (view_of old) (view_of new)
 
 -- What begins a reset, by whether an allocation failed.
 abbrev pub TriesReset : {R E : Type 0} → Building → Context R → Result (Unit {0}) E → Context R → Building → Type 0

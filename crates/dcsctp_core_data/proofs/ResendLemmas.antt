@@ -55,7 +55,7 @@ out_plain e left with_checksum tag (content ∷ contents) = record { words = ref
 fast_plain : (b : Bool) (e : Endpoint) (held : Held) (transfer : Transfer) (o : Outcome) → FastRetransmits b e held transfer o → IsPlain e o
 fast_plain false e held transfer o h = subst (IsPlain e) (sym h) (record { words = refl; effects = refl; core = refl; options = refl })
 fast_plain true e held transfer o h =
-    subst (IsPlain e) (sym h.is) (out_plain e h.left (draft_to held).with_checksum (draft_to held).packet.tag (plain_contents h.chunks))
+    subst (IsPlain e) (sym h.is) (out_plain e (record transfer { retransmission = h.left }) (draft_to held).with_checksum (draft_to held).packet.tag (plain_contents h.chunks))
 
 -- ---- behind it comes a flush
 

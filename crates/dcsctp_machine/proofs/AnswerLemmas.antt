@@ -1,252 +1,101 @@
--- An ask that isn't idle may be answered whatever the user was told: where memory is refused while a packet is filled, this is
--- what completes its turn.
-use Rattle.std.proofs.Common.{◌≡◌, ◌≤◌, ◌+◌, ◌&&◌, ◌==◌, ℕ, zero, suc, Bool, true, false, cond, nat_le, Option, None, Some, List, [], ◌∷◌, ◌++◌, map, length, refl, sym, subst, ap, ◌∙◌, arith, length-append, flat_map, ◌*◌, take}
-use Rattle.std.specs.List.{AllByRecursion}
-use Rattle.std.proofs.lemmas.List.{append-nil, length-take, length-replicate, length-map}
-use Rattle.std.proofs.lemmas.Bool.Decides.{nat_tests}
-use Rattle.dcsctp_wire.specs.declared.chunk.user_data.DataFlags.{DataFlags}
-use Rattle.dcsctp_wire.specs.Content.{data_chunk, i_data_chunk, ParameterContent, outgoing_ssn_reset_request}
-use Rattle.dcsctp_wire.specs.Spelling.{chunk_bytes, other_bytes, data_fields, i_data_fields, zeros, parameter_value, parameter_len, parameter_bytes, list_bytes}
-use Rattle.dcsctp_machine.specs.transfer.OwnResets.{ready_streams}
-use Rattle.dcsctp_machine.specs.Packet.{Plain, unworked, plain_out, Content, chunk_out, Emission}
-use Rattle.dcsctp_machine.specs.transfer.Tracker.{TrackerState, sacked}
-use Rattle.dcsctp_machine.specs.transfer.SendQueue.{SendQueueState, has_data}
-use Rattle.dcsctp_machine.specs.transfer.Transfer.{Transfer, must_give, is_idle}
-use Rattle.dcsctp_machine.specs.transfer.Retransmission.{RetransmissionState, can_send, has_free_tsn, least_chunk}
-use Rattle.dcsctp_machine.specs.transfer.Items.{marked_items}
+-- An ask may be answered wherever its flush stands, and whatever the user was told of it already.
+use Rattle.std.proofs.Common.{◌≡◌, ◌∙◌, ℕ, zero, suc, Bool, true, false, Option, None, Some, List, [], ◌∷◌, ◌++◌, refl, sym, ap, subst}
+use Rattle.std.proofs.lemmas.List.{append-nil}
 use Rattle.dcsctp_machine.specs.Endpoint.{Endpoint, held_in}
-use Rattle.dcsctp_machine.specs.Outcome.{contents_len}
+use Rattle.dcsctp_machine.specs.Packet.{Plain, Content, Emission}
 use Rattle.dcsctp_machine.specs.control.Choices.{plain_contents}
-use Rattle.dcsctp_machine.specs.turns.FlushOutcomes.{own_sack, Told, Answer, answer_contents, filled, IsWithin, Ask, room_in, where_fits, wants_sack, Acknowledges, is_none, IsData, FitsPlain, Gives, GivesWhere, Answered, AnsweredBelow, timers_with, nothing_waits, asked, next_draft, later_ask, Answers, at_limit, at_empty, after_packet, first_ask, begun_at}
-use Rattle.std.specs.Int.{w16, w32, to_be_bytes}
-use Rattle.dcsctp_wire.specs.Format.{padding_of}
-use Rattle.dcsctp_machine.specs.declared.association.Held.{Held}
-use Rattle.dcsctp_machine.specs.Reconfiguration.{RequestedReset}
-use Rattle.dcsctp_machine.specs.control.FlushChanges.{reset_request}
-use Rattle.dcsctp_machine.specs.turns.BegunResets.{BegunReset, streams_within, last_assigned_tsn, begun_where, begun_in, request_contents, after_begun, stream_field}
+use Rattle.dcsctp_machine.specs.transfer.Abandoning.{GivesUpAll}
+use Rattle.dcsctp_machine.specs.transfer.Filling.{Stage}
+use Rattle.dcsctp_machine.specs.transfer.Items.{is_first_abandoned}
+use Rattle.dcsctp_machine.specs.transfer.Retransmission.{RetransmissionState}
+use Rattle.dcsctp_machine.specs.transfer.SendQueue.{SendQueueState}
+use Rattle.dcsctp_machine.specs.transfer.Transfer.{Transfer, may_give, is_idle}
+use Rattle.dcsctp_machine.specs.turns.BegunResets.{BegunReset, streams_within, last_assigned_tsn, request_contents, queue_requesting, retransmission_begun}
+use Rattle.dcsctp_machine.specs.turns.FlushOutcomes.{Answer, answer_contents, filled, asked, next_draft, IsWithin, nothing_waits, Ask, later_ask, room_in, wants_sack, stage_of, may_forward, GivesUpWhere, begun_at, GivesWhere, AnsweredBelow, Answered, Answers, at_limit, at_empty, after_packet}
+use Rattle.dcsctp_machine.proofs.AnswerParts.{sacks_where, tracker_where, acknowledges_where, some_forwarded, fills_where}
+use Rattle.dcsctp_machine.proofs.FilledAnswers.{Completes, completes_sooner, GivesUntilFull, answer_filling}
+use Rattle.dcsctp_machine.proofs.FilledOutcomes.{Filled, some_filled}
+use Rattle.dcsctp_machine.proofs.GivingUpOutcomes.{some_given_up}
 
--- ---- how long a packet is
+-- ---- messages are abandoned
 
-pub len_append : (xs ys : List Content) → contents_len (xs ++ ys) ≡ contents_len xs + contents_len ys
-len_append [] ys = omega arith
-len_append (x ∷ xs) ys =
-    let rest = len_append xs ys in
-    let one = length-append (chunk_bytes (chunk_out x)) (flat_map (λ content. chunk_bytes (chunk_out content)) (xs ++ ys)) in
-    let own = length-append (chunk_bytes (chunk_out x)) (flat_map (λ content. chunk_bytes (chunk_out content)) xs) in
-    omega (arith, rest, one, own)
-
-fits_len : (b : Bool) (room : ℕ) (chunk : Plain) → nat_le (length (chunk_bytes (plain_out chunk))) room ≡ b → contents_len (plain_contents (cond b (chunk ∷ []) [])) ≤ room
-fits_len true room chunk is =
-    let one = length-append (chunk_bytes (plain_out chunk)) [] in
-    let small : length (chunk_bytes (plain_out chunk)) ≤ room = grind (arith, nat_tests) in
-    omega (arith, one, small)
-fits_len false room chunk is = omega arith
-
-where_fits_len : (room : ℕ) (chunk : Plain) → contents_len (plain_contents (where_fits room chunk)) ≤ room
-where_fits_len room chunk = fits_len (nat_le (length (chunk_bytes (plain_out chunk))) room) room chunk refl
-
-pub three_within : (e : Endpoint) (draft : Emission) (one two three : List Content) → IsWithin e draft → contents_len one ≤ room_in e draft → contents_len two ≤ room_in e (filled draft one)
-    → contents_len three ≤ room_in e (filled draft (one ++ two)) → IsWithin e (filled draft (one ++ (two ++ three)))
-three_within e draft one two three within first second third =
-    let all = len_append draft.packet.contents (one ++ (two ++ three)) in
-    let last = len_append one (two ++ three) in
-    let both = len_append two three in
-    let front = len_append draft.packet.contents one in
-    let middle = len_append draft.packet.contents (one ++ two) in
-    let pair = len_append one two in
-    omega (arith, within, first, second, third, all, last, both, front, middle, pair)
-
--- ---- an answer
-
-abbrev sacks_where : Bool → ℕ → Transfer → List Plain
-sacks_where true room transfer = where_fits room (own_sack transfer)
-sacks_where false room transfer = []
-
-abbrev tracker_where : Bool → Transfer → TrackerState
-tracker_where true transfer = sacked transfer.tracker
-tracker_where false transfer = transfer.tracker
-
-acknowledges_where : (b : Bool) (room : ℕ) (transfer : Transfer) → Acknowledges b room transfer (tracker_where b transfer) (sacks_where b room transfer)
-acknowledges_where false room transfer = (refl, refl)
-acknowledges_where true room transfer = (refl, refl)
-
-sacks_len : (b : Bool) (room : ℕ) (transfer : Transfer) → contents_len (plain_contents (sacks_where b room transfer)) ≤ room
-sacks_len true room transfer = where_fits_len room (own_sack transfer)
-sacks_len false room transfer = omega arith
-
--- the least chunk with data
-abbrev no_flags : DataFlags
-no_flags = record { is_end = false; is_beginning = false; is_unordered = false; immediate_ack = false }
-
-abbrev least_of : Bool → Plain
-least_of false = unworked (data_chunk (record { flags = no_flags; tsn = 0; stream_id = 0; ssn = 0; ppid = 0; payload = 0 ∷ [] }))
-least_of true = unworked (i_data_chunk (record { flags = no_flags; tsn = 0; stream_id = 0; mid = 0; ppid_or_fsn = 0; payload = 0 ∷ [] }))
-
-least_len : (b : Bool) → length (chunk_bytes (plain_out (least_of b))) ≡ least_chunk b
-unfolding other_bytes data_fields i_data_fields
-least_len false = refl
-least_len true = refl
-
-least_kind : (b interleaving : Bool) → AllByRecursion (IsData interleaving) (cond b (least_of interleaving ∷ []) [])
-least_kind true false = (tt, tt)
-least_kind true true = (tt, tt)
-least_kind false interleaving = tt
-
-least_fits : (b interleaving : Bool) → AllByRecursion FitsPlain (cond b (least_of interleaving ∷ []) [])
-least_fits true false = (record { tsn = omega arith; stream_id = omega arith; ssn = omega arith; ppid = omega arith; len_fits = omega arith; payload_in_bytes = (omega arith, tt) }, tt)
-least_fits true true = (record { tsn = omega arith; stream_id = omega arith; mid = omega arith; ppid_or_fsn = omega arith; len_fits = omega arith; payload_in_bytes = (omega arith, tt) }, tt)
-least_fits false interleaving = tt
-
-and_false : (a b c d : Bool) → (a && b && false && c && d) ≡ false
-and_false true true c d = refl
-and_false true false c d = refl
-and_false false b c d = refl
-
--- It is left out only where it doesn't fit.
-least_goes : (b : Bool) (room : ℕ) (queue : SendQueueState) (state : RetransmissionState) → nat_le (least_chunk state.outstanding.is_interleaved) room ≡ b
-    → is_none (cond b (least_of state.outstanding.is_interleaved ∷ []) []) ≡ true → must_give room queue state ≡ false
-least_goes true room queue state is none = absurd (cc)
-least_goes false room queue state is none =
-    ap (λ (b : Bool). can_send state && marked_items state.outstanding.items == 0 && b && has_free_tsn state && has_data queue) is
-    ∙ and_false (can_send state) (marked_items state.outstanding.items == 0) (has_free_tsn state) (has_data queue)
-
--- ---- the request of a reset
-
-pub streams_len : (streams : List ℕ) → length (flat_map (to_be_bytes w16) streams) ≡ 2 * length streams
-streams_len [] = refl
-streams_len (stream ∷ streams) = let rest = streams_len streams in omega (arith, rest)
-
-pub request_len : (number : ℕ) (reset : RequestedReset) → contents_len (reset_request number reset ∷ []) ≡ 20 + 2 * length reset.streams + padding_of (20 + 2 * length reset.streams)
-unfolding parameter_bytes list_bytes
-request_len number reset =
-    let streams : List ℕ = flat_map (to_be_bytes w16) reset.streams in
-    let parameter : ParameterContent = outgoing_ssn_reset_request number number reset.last_tsn streams in
-    let value : List ℕ = parameter_value parameter in
-    omega (
-      arith,
-      streams_len reset.streams,
-      length-append (to_be_bytes w32 number ++ to_be_bytes w32 number ++ to_be_bytes w32 reset.last_tsn) streams,
-      length-append value (zeros (padding_of (parameter_len parameter))),
-      length-replicate {A = ℕ} (padding_of (parameter_len parameter)) 0,
-      length-append (parameter_bytes parameter) [],
-      length-append (chunk_bytes (chunk_out (reset_request number reset))) [],
-    )
-
--- Where it names as many streams as fit, its chunk fits.
-begun_len : (outstanding : Option ℕ) (number last_tsn room : ℕ) (streams : List ℕ) → length streams ≤ streams_within room → contents_len (request_contents (begun_where outstanding number last_tsn streams)) ≤ room
-begun_len None number last_tsn room [] few = omega arith
-begun_len None number last_tsn room (stream ∷ streams) few =
-    let all = request_len number (record { last_tsn = last_tsn; streams = stream ∷ streams }) in
-    omega (arith, few, all)
-begun_len (Some other) number last_tsn room [] few = omega arith
-begun_len (Some other) number last_tsn room (stream ∷ streams) few = omega arith
-
-begun_in_len : (held : Option Held) (room last_tsn : ℕ) (queue : SendQueueState) → contents_len (request_contents (begun_in held room last_tsn queue)) ≤ room
-begun_in_len None room last_tsn queue = omega arith
-begun_in_len (Some held) room last_tsn queue =
-    let streams : List ℕ = take (streams_within room) (ready_streams queue) in
-    let few = length-take (streams_within room) (ready_streams queue) in
-    let same = length-map streams stream_field in
-    begun_len held.own_outstanding held.own_next last_tsn room (map stream_field streams) (omega (arith, few, same))
-
-pub begun_at_len : (ask : Ask) (held : Option Held) (room last_tsn : ℕ) (queue : SendQueueState) → contents_len (request_contents (begun_at ask held room last_tsn queue)) ≤ room
-begun_at_len first_ask held room last_tsn queue = begun_in_len held room last_tsn queue
-begun_at_len later_ask held room last_tsn queue = omega arith
-
--- ---- what completes a turn
-
-abbrev pub transfer_told : Ask → Endpoint → Transfer → Transfer
-transfer_told ask e transfer = record transfer { tracker = tracker_where (wants_sack ask e.below.queue transfer) transfer }
-
-abbrev pub some_begun : Ask → Endpoint → Emission → Transfer → List Plain → Option BegunReset
-some_begun ask e draft transfer sacks =
-    begun_at ask (held_in e.core) (room_in e (filled draft (plain_contents sacks))) (last_assigned_tsn transfer.retransmission) e.below.queue
-
-abbrev pub some_answer : Ask → Endpoint → Emission → Transfer → List Told → Answer
-some_answer ask e draft transfer told =
-    let sacks : List Plain = sacks_where (wants_sack ask e.below.queue transfer) (room_in e draft) transfer in
-    let begun : Option BegunReset = some_begun ask e draft transfer sacks in
-    let chunks : List Plain = where_fits (room_in e (filled draft (plain_contents sacks ++ request_contents begun))) (least_of transfer.retransmission.outstanding.is_interleaved) in
-    record {
-      acknowledgements = sacks;
-      begun = begun;
-      data_chunks = chunks;
-      told = told;
-      after = record (after_begun begun e) { timers = timers_with (after_begun begun e) chunks; no_forward_tsn_before = e.no_forward_tsn_before; below = record e.below { transfer = Some (transfer_told ask e transfer) } };
-    }
-
-some_gives : (ask : Ask) (e : Endpoint) (draft : Emission) (transfer : Transfer) (told : List Told) → Gives ask e draft transfer (some_answer ask e draft transfer told)
-some_gives ask e draft transfer told =
+-- once messages were abandoned, which needs no further answer
+answer_given_up : (ask : Ask) (e : Endpoint) (draft : Emission) (transfer : Transfer) (gave_up : Stage) (next : Option ℕ) (forwards : List Plain)
+    → GivesUpWhere (may_forward ask e transfer.retransmission) e.moment transfer
+    (room_in e (filled draft (plain_contents (sacks_where (wants_sack ask e.below.queue transfer) (room_in e draft) transfer)))) (stage_of e.below.queue transfer.retransmission [] 0) gave_up next forwards
+    → e.below.transfer ≡ Some transfer → is_idle e.below.queue transfer ≡ false → Completes ask e draft gave_up.told
+answer_given_up ask e draft transfer gave_up next forwards gives_up holds busy =
     let wants : Bool = wants_sack ask e.below.queue transfer in
     let sacks : List Plain = sacks_where wants (room_in e draft) transfer in
-    let room : ℕ = room_in e (filled draft (plain_contents sacks ++ request_contents (some_begun ask e draft transfer sacks))) in
-    let interleaving : Bool = transfer.retransmission.outstanding.is_interleaved in
-    let test : Bool = nat_le (length (chunk_bytes (plain_out (least_of interleaving)))) room in
-    record {
-      left = transfer_told ask e transfer;
-      holds = refl;
+    let room : ℕ = room_in e (filled draft (plain_contents (sacks ++ forwards))) in
+    let begun : Option BegunReset = begun_at ask (held_in e.core) room (last_assigned_tsn gave_up.queue) gave_up.waiting in
+    let left : SendQueueState = queue_requesting (streams_within room) begun gave_up.waiting in
+    let queue : RetransmissionState = retransmission_begun begun gave_up.queue in
+    let start : Stage = stage_of left queue gave_up.told (room_in e (filled draft (plain_contents (sacks ++ forwards) ++ request_contents begun))) in
+    let full : Filled e.moment start gave_up.told = some_filled e.moment start in
+    let u : GivesUntilFull ask e draft transfer = record {
       sacks = sacks;
-      forwards = [];
-      parts = sym (append-nil sacks);
+      forwards = forwards;
+      tracker = tracker_where wants transfer;
       acknowledges = acknowledges_where wants (room_in e draft) transfer;
-      gives_up = record {
-        is_made = false;
-        later = refl;
-        none = λ is. refl;
-        in_first = λ is. refl;
-        in_time = λ early. refl;
-        negotiated = λ is. refl;
-        at_most_one = omega arith;
-        kind = tt;
-        fit = tt;
-      };
-      begins = record { queue = e.below.queue; retransmission = transfer.retransmission; negotiated = λ without. (refl, refl); idle = λ none. (refl, refl); is = refl };
-      kind = least_kind test interleaving;
-      fit = least_fits test interleaving;
-      data_goes = λ none. least_goes test room e.below.queue transfer.retransmission (ap (λ (n : ℕ). nat_le n room) (sym (least_len interleaving))) none;
-      partial_reliability = refl;
-      is_interleaved = refl;
-      timeout = refl;
-      reassembly = refl;
-    }
+      gave_up = gave_up;
+      next = next;
+      gives_up = gives_up;
+      begun = begun;
+      begins = refl;
+      sent = full.new;
+      fills = fills_where (may_give left queue) e.moment start full.new full.fills;
+    } in
+    completes_sooner ask e draft gave_up.told full.new.told full.rest full.told (answer_filling ask e draft transfer u holds busy)
 
-pub some_answered : (ask : Ask) (e : Endpoint) (draft : Emission) (transfer : Transfer) (told : List Told) → e.below.transfer ≡ Some transfer → is_idle e.below.queue transfer ≡ false
-    → Answered ask e draft (some_answer ask e draft transfer told)
-some_answered ask e draft transfer told holds busy =
-    let sacks : List Plain = sacks_where (wants_sack ask e.below.queue transfer) (room_in e draft) transfer in
-    let begun : List Content = request_contents (some_begun ask e draft transfer sacks) in
-    let room : ℕ = room_in e (filled draft (plain_contents sacks ++ begun)) in
-    let answer : Answer = some_answer ask e draft transfer told in
-    record {
-      kept = refl;
-      within = λ within. three_within e draft (plain_contents sacks) begun (plain_contents answer.data_chunks) within
-          (sacks_len (wants_sack ask e.below.queue transfer) (room_in e draft) transfer)
-          (begun_at_len ask (held_in e.core) (room_in e (filled draft (plain_contents sacks))) (last_assigned_tsn transfer.retransmission) e.below.queue)
-          (where_fits_len room (least_of transfer.retransmission.outstanding.is_interleaved));
-      by_transfer = subst (AnsweredBelow ask e draft answer) (sym holds)
-          (subst (λ (b : Bool). GivesWhere b ask e draft transfer answer) (sym busy) (some_gives ask e draft transfer told));
-    }
+-- a flush that stops while messages are abandoned
+pub answer_giving_up : (ask : Ask) (e : Endpoint) (draft : Emission) (transfer : Transfer) (gave_up : Stage) → e.below.transfer ≡ Some transfer → is_idle e.below.queue transfer ≡ false
+    → may_forward ask e transfer.retransmission ≡ true → GivesUpAll e.moment (stage_of e.below.queue transfer.retransmission [] 0) gave_up → Completes ask e draft gave_up.told
+answer_giving_up ask e draft transfer gave_up holds busy may gives_up =
+    let room : ℕ = room_in e (filled draft (plain_contents (sacks_where (wants_sack ask e.below.queue transfer) (room_in e draft) transfer))) in
+    let start : Stage = stage_of e.below.queue transfer.retransmission [] 0 in
+    let some = some_forwarded (is_first_abandoned gave_up.queue.outstanding.items) e.moment transfer room gave_up.queue in
+    answer_given_up ask e draft transfer gave_up some.next some.chunks
+    (subst (λ (b : Bool). GivesUpWhere b e.moment transfer room start gave_up some.next some.chunks) (sym may) (gives_up, some.is)) holds busy
 
--- ---- answers that a flush may get, wherever it stands
+-- ---- each ask
 
 nothing_behind : (e : Endpoint) (draft : Emission) → filled draft (answer_contents (nothing_waits e)) ≡ draft
 nothing_behind e draft = ap (λ (contents : List Content). record draft { packet = record draft.packet { contents = contents } }) (append-nil draft.packet.contents)
 
-nothing_answered : (ask : Ask) (e : Endpoint) (draft : Emission) → AnsweredBelow ask e draft (nothing_waits e) e.below.transfer → Answered ask e draft (nothing_waits e)
+nothing_answered : (ask : Ask) (e : Endpoint) (draft : Emission) → AnsweredBelow ask e draft (nothing_waits e) e.below.transfer → Completes ask e draft []
 nothing_answered ask e draft h =
-    record { kept = refl; within = λ within. subst (IsWithin e) (sym (nothing_behind e draft)) within; by_transfer = h }
+    record {
+      answer = nothing_waits e;
+      allowed = record { kept = refl; within = λ within. subst (IsWithin e) (sym (nothing_behind e draft)) within; by_transfer = h };
+      rest = [];
+      told = refl;
+    }
 
-any_answer_by : (ask : Ask) (e : Endpoint) (draft : Emission) (told : List Told) (transfer : Transfer) (b : Bool) → e.below.transfer ≡ Some transfer → is_idle e.below.queue transfer ≡ b
-    → (answer : Answer) × Answered ask e draft answer
-any_answer_by ask e draft told transfer true holds is = (
-  nothing_waits e,
-  nothing_answered ask e draft (subst (AnsweredBelow ask e draft (nothing_waits e)) (sym holds) (subst (λ (b : Bool). GivesWhere b ask e draft transfer (nothing_waits e)) (sym is) refl)),
-)
-any_answer_by ask e draft told transfer false holds is = (some_answer ask e draft transfer told, some_answered ask e draft transfer told holds is)
+busy_answer : (ask : Ask) (e : Endpoint) (draft : Emission) (transfer : Transfer) (may : Bool) → may_forward ask e transfer.retransmission ≡ may → e.below.transfer ≡ Some transfer
+    → is_idle e.below.queue transfer ≡ false → Completes ask e draft []
+busy_answer ask e draft transfer true may holds busy =
+    let (gave_up, gives_up) = some_given_up e.moment (stage_of e.below.queue transfer.retransmission [] 0) in
+    completes_sooner ask e draft [] gave_up.told gave_up.told refl (answer_giving_up ask e draft transfer gave_up holds busy may gives_up)
+busy_answer ask e draft transfer false may holds busy =
+    let room : ℕ = room_in e (filled draft (plain_contents (sacks_where (wants_sack ask e.below.queue transfer) (room_in e draft) transfer))) in
+    let start : Stage = stage_of e.below.queue transfer.retransmission [] 0 in
+    answer_given_up ask e draft transfer start None [] (subst (λ (b : Bool). GivesUpWhere b e.moment transfer room start start None []) (sym may) (refl, refl, refl)) holds busy
 
-any_answer_at : (ask : Ask) (e : Endpoint) (draft : Emission) (transfer : Option Transfer) → e.below.transfer ≡ transfer → (answer : Answer) × Answered ask e draft answer
-any_answer_at ask e draft None holds = (nothing_waits e, nothing_answered ask e draft (subst (AnsweredBelow ask e draft (nothing_waits e)) (sym holds) refl))
-any_answer_at ask e draft (Some transfer) holds = any_answer_by ask e draft [] transfer (is_idle e.below.queue transfer) holds refl
+answer_by : (ask : Ask) (e : Endpoint) (draft : Emission) (transfer : Transfer) (idle : Bool) → e.below.transfer ≡ Some transfer → is_idle e.below.queue transfer ≡ idle
+    → Completes ask e draft []
+answer_by ask e draft transfer true holds idle =
+    nothing_answered ask e draft (subst (AnsweredBelow ask e draft (nothing_waits e)) (sym holds) (subst (λ (b : Bool). GivesWhere b ask e draft transfer (nothing_waits e)) (sym idle) refl))
+answer_by ask e draft transfer false holds busy = busy_answer ask e draft transfer (may_forward ask e transfer.retransmission) refl holds busy
+
+answer_at : (ask : Ask) (e : Endpoint) (draft : Emission) (transfer : Option Transfer) → e.below.transfer ≡ transfer → Completes ask e draft []
+answer_at ask e draft None holds = nothing_answered ask e draft (subst (AnsweredBelow ask e draft (nothing_waits e)) (sym holds) refl)
+answer_at ask e draft (Some transfer) holds = answer_by ask e draft transfer (is_idle e.below.queue transfer) holds refl
+
+pub some_answer : (ask : Ask) (e : Endpoint) (draft : Emission) → Completes ask e draft []
+some_answer ask e draft = answer_at ask e draft e.below.transfer refl
+
+-- ---- the answers of a flush, wherever it stands
 
 -- the answers that go on from this one
 goes_on : (ask : Ask) (n : ℕ) (e : Endpoint) (draft : Emission) (answer : Answer) (contents : List Content) → (filled draft (answer_contents answer)).packet.contents ≡ contents → Answered ask e draft answer
@@ -258,12 +107,15 @@ goes_on ask n e draft answer (content ∷ contents) is h rest =
 pub any_answers : (ask : Ask) (n : ℕ) (e : Endpoint) (draft : Emission) → (answers : List Answer) × Answers ask n e draft answers
 any_answers ask zero e draft = ([], at_limit ask e draft)
 any_answers ask (suc n) e draft =
-    let first : (answer : Answer) × Answered ask e draft answer = any_answer_at ask e draft e.below.transfer refl in
-    let all : (answers : List Answer) × Answers ask (suc n) e draft (first.0 ∷ answers) =
-    goes_on ask n e draft first.0 (filled draft (answer_contents first.0)).packet.contents refl first.1 (any_answers later_ask n (asked e draft first.0).after (next_draft e.core draft)) in
-    (first.0 ∷ all.0, all.1)
+    let first = some_answer ask e draft in
+    let all : (answers : List Answer) × Answers ask (suc n) e draft (first.answer ∷ answers) =
+    goes_on ask n e draft first.answer (filled draft (answer_contents first.answer)).packet.contents refl first.allowed
+    (any_answers later_ask n (asked e draft first.answer).after (next_draft e.core draft)) in
+    (first.answer ∷ all.0, all.1)
 
 -- those that begin with this one
-pub answers_from : (ask : Ask) (n : ℕ) (e : Endpoint) (draft : Emission) (answer : Answer) → Answered ask e draft answer → (answers : List Answer) × Answers ask (suc n) e draft (answer ∷ answers)
+pub answers_from : (ask : Ask) (n : ℕ) (e : Endpoint) (draft : Emission) (answer : Answer) → Answered ask e draft answer
+    → (answers : List Answer) × Answers ask (suc n) e draft (answer ∷ answers)
 answers_from ask n e draft answer h =
-    goes_on ask n e draft answer (filled draft (answer_contents answer)).packet.contents refl h (any_answers later_ask n (asked e draft answer).after (next_draft e.core draft))
+    goes_on ask n e draft answer (filled draft (answer_contents answer)).packet.contents refl h
+    (any_answers later_ask n (asked e draft answer).after (next_draft e.core draft))

@@ -91,7 +91,7 @@ begun_by (answer ∷ answers) = answer.begun
 -- A later ask begins nothing.
 later_where : (b : Bool) (e : Endpoint) (draft : Emission) (transfer : Transfer) (answer : Answer) → GivesWhere b later_ask e draft transfer answer → answer.begun ≡ None
 later_where true e draft transfer answer h = ap (λ (a : Answer). a.begun) h
-later_where false e draft transfer answer h = h.begins.is
+later_where false e draft transfer answer h = h.begins
 
 later_below : (e : Endpoint) (draft : Emission) (transfer : Option Transfer) (answer : Answer) → AnsweredBelow later_ask e draft answer transfer → answer.begun ≡ None
 later_below e draft None answer h = ap (λ (a : Answer). a.begun) h
@@ -294,8 +294,8 @@ first_in held (Some own) room last_tsn queue is =
 first_where : (b : Bool) (e : Endpoint) (held : Held) (draft : Emission) (transfer : Transfer) (answer : Answer) → held_in e.core ≡ Some held → GivesWhere b first_ask e draft transfer answer → IsBegun answer.begun held
 first_where true e held draft transfer answer holds h = subst (λ (a : Answer). IsBegun a.begun held) (sym h) tt
 first_where false e held draft transfer answer holds h =
-    subst (λ (b : Option BegunReset). IsBegun b held) (sym h.begins.is)
-    (first_in held (held_in e.core) (room_in e (filled draft (plain_contents answer.acknowledgements))) (last_assigned_tsn h.begins.retransmission) h.begins.queue holds)
+    subst (λ (b : Option BegunReset). IsBegun b held) (sym h.begins)
+    (first_in held (held_in e.core) (room_in e (filled draft (plain_contents answer.acknowledgements))) (last_assigned_tsn h.gave_up.queue) h.gave_up.waiting holds)
 
 first_below : (e : Endpoint) (held : Held) (draft : Emission) (transfer : Option Transfer) (answer : Answer) → held_in e.core ≡ Some held → AnsweredBelow first_ask e draft answer transfer → IsBegun answer.begun held
 first_below e held draft None answer holds h = subst (λ (a : Answer). IsBegun a.begun held) (sym h) tt

@@ -115,13 +115,14 @@ fast_is : (b : Bool) (e : Endpoint) (held : Held) (transfer : Transfer) (o : Out
 fast_is false e held transfer o turn =
     subst (FastIs e held) (sym turn) (record { packets = []; core = refl; options = refl; signs = refl })
 fast_is true e held transfer o turn =
-    let out = goes_out_keeps (with_transfer e turn.left) [] (draft_to held).with_checksum (draft_to held).packet.tag (plain_contents turn.chunks) in
+    let base : Endpoint = with_transfer e (record transfer { retransmission = turn.left }) in
+    let out = goes_out_keeps base [] (draft_to held).with_checksum (draft_to held).packet.tag (plain_contents turn.chunks) in
     subst (FastIs e held) (sym turn.is)
     (record {
       packets = turn.chunks ∷ [];
       core = out.core;
       options = out.options;
-      signs = goes_out_signs (with_transfer e turn.left) [] (draft_to held).with_checksum (draft_to held).packet.tag (plain_contents turn.chunks) ∙ one_packet held.peer.tag turn.chunks;
+      signs = goes_out_signs base [] (draft_to held).with_checksum (draft_to held).packet.tag (plain_contents turn.chunks) ∙ one_packet held.peer.tag turn.chunks;
     })
 
 -- ---- a SACK

@@ -1,12 +1,12 @@
 -- Which options a socket can be made with, and what they mean for packets.
-use Rattle.std.specs.Prelude.{◌≡◌, ◌≤◌, ◌<◌, ◌^◌, ◌-◌, ◌*◌, ◌%◌, ℕ, pos, true, false, Some, None}
+use Rattle.std.specs.Prelude.{◌≡◌, ◌≤◌, ◌<◌, ◌^◌, ◌-◌, ◌*◌, ◌%◌, min, ℕ, pos, true, false, Some, None}
 use Rattle.std.specs.Duration.{as_nanos}
 use Rattle.dcsctp_machine.specs.declared.options.Options.{Options}
 use Rattle.dcsctp_wire.specs.declared.packet.WireOptions.{WireOptions}
 
--- the size of a packet that is sent: `mtu`, rounded down to a multiple of 4
+-- the size of a packet that is sent: `mtu`, or what the length of a chunk can say, rounded down to a multiple of 4
 abbrev pub packet_size_limit : Options → ℕ
-packet_size_limit options = options.mtu - options.mtu % 4
+packet_size_limit options = min options.mtu 65535 - min options.mtu 65535 % 4
 
 pub record IsValid (options : Options) : Type 0 where
   pub least_size : 32 ≤ packet_size_limit options

@@ -1,10 +1,16 @@
+pub mod Abandoning
 pub mod Acknowledging
 pub mod Arrivals
+pub mod AtOnce
+pub mod Chunks
 pub mod Congestion
+pub mod Filling
 pub mod Incoming
 pub mod IncomingStreams
+pub mod ItemMessages
 pub mod Items
 pub mod Messages
+pub mod NextItem
 pub mod Numbers
 pub mod Outstanding
 pub mod OwnResets
@@ -19,6 +25,7 @@ pub mod SendEvents
 pub mod SendQueue
 pub mod SendStreams
 pub mod Sending
+pub mod Skipping
 pub mod Timeout
 pub mod Tracker
 pub mod Transfer

@@ -20,7 +20,7 @@ use Rattle.dcsctp_machine.specs.control.FlushChanges.{reset_request}
 use Rattle.dcsctp_machine.specs.turns.BegunResets.{BegunReset, stream_field, streams_within, begun_where, begun_in, request_contents, core_asking, after_begun}
 use Rattle.dcsctp_machine.specs.turns.FlushOutcomes.{Ask, first_ask, later_ask, begun_at}
 use Rattle.dcsctp_machine.specs.Fitting.{FitsHeld, FitsCore, Sendable}
-use Rattle.dcsctp_machine.proofs.AnswerLemmas.{streams_len, begun_at_len}
+use Rattle.dcsctp_machine.proofs.PacketLengths.{streams_len, begun_at_len}
 use Rattle.dcsctp_machine_refinement.proofs.Bytes.{both, in_two}
 
 -- ---- its packet

@@ -24,9 +24,10 @@ use Rattle.dcsctp_machine.specs.turns.PreparedResets.{ResetRefusal, reset_refusa
 use Rattle.dcsctp_machine.specs.declared.arrivals.SkippedTo.{SkippedTo}
 use Rattle.dcsctp_machine.specs.transfer.Arrivals.{Arrival}
 use Rattle.dcsctp_machine.specs.transfer.Reassembly.{with_ready}
-use Rattle.dcsctp_machine.specs.turns.DataOutcomes.{DataWhere, TakeWhere, TakeTurn, with_transfer, with_tracker, flush_by, AnswersTo, FlushTurn, no_user_data_text, no_user_data_outcome, ReceiveTurn, DataTurn, ForwardTurn, SendsAtOnce, FastRetransmits, sack_taken, AcknowledgesBy, SackWhere, SackBy, SackTurn, acknowledging, AnswersPacket, EndWhere, EndsBy, delay_outcome, LossTurn}
+use Rattle.dcsctp_machine.specs.turns.DataOutcomes.{DataWhere, TakeWhere, TakeTurn, with_transfer, with_tracker, flush_by, AnswersTo, FlushTurn, no_user_data_text, no_user_data_outcome, ReceiveTurn, DataTurn, ForwardTurn, SendsLost, FastRetransmits, sack_taken, AcknowledgesBy, SackWhere, SackBy, SackTurn, acknowledging, AnswersPacket, EndWhere, EndsBy, delay_outcome, LossTurn}
 use Rattle.dcsctp_machine.specs.transfer.Acknowledging.{is_sack_valid}
 use Rattle.dcsctp_machine.specs.Fitting.{AllSent, FitsHeld, FitsEndpoint, IsSendable, Sendable, TurnFits}
+use Rattle.dcsctp_machine.proofs.KindLemmas.{chunks_are_data}
 use Rattle.dcsctp_machine.proofs.FlushKeeps.{goes_out_keeps}
 use Rattle.dcsctp_machine_refinement.proofs.FlushFits.{kept_fits, still_fits, data_sendable, where_fits_sendable, own_sack_sendable, told_sends, goes_out_sends, draft_sendable, flush_fits, behind_fits}
 use Rattle.dcsctp_machine_refinement.proofs.Sent.{all_sent_append}
@@ -101,16 +102,17 @@ delivered_send_nothing (item ∷ items) =
     all_sent_append IsSendable (told_by item.fragment.lifecycle (ends_delivery item)) (delivered items) (told_send_nothing item.fragment.lifecycle (ends_delivery item)) (delivered_send_nothing items)
 
 -- The packet of lost items holds data alone.
-at_once_fits : (e : Endpoint) (held : Held) (transfer : Transfer) (o : Outcome) → SendsAtOnce e held transfer o → FitsEndpoint e → FitsHeld held → TurnFits o
+at_once_fits : (e : Endpoint) (held : Held) (transfer : Transfer) (o : Outcome) → SendsLost e held transfer o → FitsEndpoint e → FitsHeld held → TurnFits o
 at_once_fits e held transfer o turn h fits =
-    let base : Endpoint = with_transfer e turn.left in
+    let left : Transfer = record transfer { retransmission = turn.left } in
+    let base : Endpoint = with_transfer e left in
     let with_checksum : Bool = (draft_to held).with_checksum in
     let contents : List Content = plain_contents turn.chunks in
     subst TurnFits (sym turn.is)
     (record {
-      after = kept_fits None base (goes_out base [] with_checksum held.peer.tag contents) (goes_out_keeps base [] with_checksum held.peer.tag contents) (transfer_fits e turn.left h);
+      after = kept_fits None base (goes_out base [] with_checksum held.peer.tag contents) (goes_out_keeps base [] with_checksum held.peer.tag contents) (transfer_fits e left h);
       sends = goes_out_sends base [] with_checksum held.peer.tag contents tt fits.peer.tag
-          (data_sendable transfer.retransmission.outstanding.is_interleaved turn.chunks turn.kind turn.fit);
+          (data_sendable turn.left.outstanding.is_interleaved turn.chunks (chunks_are_data turn.left.outstanding turn.tsns turn.chunks turn.are) turn.fit);
     })
 
 fast_fits : (b : Bool) (e : Endpoint) (held : Held) (transfer : Transfer) (o : Outcome) → FastRetransmits b e held transfer o → FitsEndpoint e → FitsHeld held → TurnFits o

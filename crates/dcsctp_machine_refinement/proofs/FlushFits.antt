@@ -17,8 +17,9 @@ use Rattle.dcsctp_machine.specs.Endpoint.{Endpoint, Core, closed, cookie_wait, c
 use Rattle.dcsctp_machine.specs.Outcome.{Outcome, still, behind}
 use Rattle.dcsctp_machine.specs.Deadlines.{T1Runs}
 use Rattle.dcsctp_machine.specs.control.Choices.{plain_contents}
-use Rattle.dcsctp_machine.specs.turns.FlushOutcomes.{own_sack, Told, amount_is_low, total_amount_is_low, message_is_sent, message_may_have_expired, message_has_expired, message_ends, told_event, Answer, answer_contents, filled, goes_out, asked, draft_to, next_draft, flush_of, Ask, first_ask, later_ask, where_fits, wants_sack, room_in, Acknowledges, IsForward, IsData, FitsPlain, nothing_waits, Gives, GivesWhere, AnsweredBelow, Answered, Answers, at_limit, at_empty, after_packet, packets_allowed, FlushAnswers, flush_answered}
+use Rattle.dcsctp_machine.specs.turns.FlushOutcomes.{may_forward, own_sack, Told, amount_is_low, total_amount_is_low, message_is_sent, message_may_have_expired, message_has_expired, message_ends, told_event, Answer, answer_contents, filled, goes_out, asked, draft_to, next_draft, flush_of, Ask, first_ask, later_ask, where_fits, wants_sack, room_in, Acknowledges, FitsPlain, nothing_waits, Gives, GivesWhere, AnsweredBelow, Answered, Answers, at_limit, at_empty, after_packet, packets_allowed, FlushAnswers, flush_answered}
 use Rattle.dcsctp_machine.specs.Fitting.{AllSent, FitsHeld, FitsCore, FitsEndpoint, IsSendable, Sendable, SendablePacket, TurnFits}
+use Rattle.dcsctp_machine.proofs.KindLemmas.{IsData, IsForward, chunks_are_data, forwards_are_forwards}
 use Rattle.dcsctp_machine.proofs.FlushKeeps.{Keeps, asked_keeps, begun_by, flush_keeps}
 use Rattle.dcsctp_machine_refinement.proofs.Sent.{all_sent_append}
 use Rattle.dcsctp_machine.specs.turns.BegunResets.{BegunReset, last_assigned_tsn, request_contents}
@@ -100,18 +101,19 @@ AnswerSends answer = AllByRecursion Sendable (answer_contents answer)
 given_sends : (ask : Ask) (e : Endpoint) (draft : Emission) (transfer : Transfer) (answer : Answer) → FitsEndpoint e → Gives ask e draft transfer answer → AnswerSends answer
 given_sends ask e draft transfer answer own h =
     let sacks : AllByRecursion Sendable (plain_contents h.sacks) =
-    sacks_sendable (wants_sack ask e.below.queue transfer) (room_in e draft) transfer h.left.tracker h.sacks h.acknowledges in
+    sacks_sendable (wants_sack ask e.below.queue transfer) (room_in e draft) transfer h.tracker h.sacks h.acknowledges in
     let forwards : AllByRecursion Sendable (plain_contents h.forwards) =
-    forwards_sendable transfer.retransmission.outstanding.is_interleaved h.forwards h.gives_up.kind h.gives_up.fit in
+    forwards_sendable h.gave_up.queue.outstanding.is_interleaved h.forwards
+    (forwards_are_forwards (may_forward ask e transfer.retransmission) e.moment transfer _ _ h.gave_up h.next h.forwards h.gives_up) h.forwards_fit in
     let room : ℕ = room_in e (filled draft (plain_contents answer.acknowledgements)) in
     let small : room < 2 ^ 16 = omega (arith, own.valid.greatest_size) in
     let request : AllByRecursion Sendable (request_contents answer.begun) =
-    subst (λ (b : Option BegunReset). AllByRecursion Sendable (request_contents b)) (sym h.begins.is)
-    (begun_sends ask (held_in e.core) room (last_assigned_tsn h.begins.retransmission) h.begins.queue (peer_fits e.core own.core) (omega arith) small) in
+    subst (λ (b : Option BegunReset). AllByRecursion Sendable (request_contents b)) (sym h.begins)
+    (begun_sends ask (held_in e.core) room (last_assigned_tsn h.gave_up.queue) h.gave_up.waiting (peer_fits e.core own.core) (omega arith) small) in
     both_sendable (plain_contents answer.acknowledgements) (request_contents answer.begun ++ plain_contents answer.data_chunks)
     (subst (λ (cs : List Plain). AllByRecursion Sendable (plain_contents cs)) (sym h.parts) (plain_sendable h.sacks h.forwards sacks forwards))
     (both_sendable (request_contents answer.begun) (plain_contents answer.data_chunks) request
-    (data_sendable transfer.retransmission.outstanding.is_interleaved answer.data_chunks h.kind h.fit))
+    (data_sendable h.sent.queue.outstanding.is_interleaved answer.data_chunks (chunks_are_data h.sent.queue.outstanding h.sent.tsns answer.data_chunks h.chunks) h.data_fit))
 
 nothing_sends : (e : Endpoint) (answer : Answer) → answer ≡ nothing_waits e → AnswerSends answer
 nothing_sends e answer is = subst AnswerSends (sym is) tt

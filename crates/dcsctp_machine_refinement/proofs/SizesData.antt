@@ -23,7 +23,7 @@ use Rattle.dcsctp_machine.specs.transfer.Acknowledging.{ends_delivery, told_by, 
 use Rattle.dcsctp_machine.specs.transfer.Items.{Item}
 use Rattle.dcsctp_machine.specs.transfer.Outstanding.{acknowledged_by}
 use Rattle.dcsctp_machine.specs.transfer.Retransmission.{has_fast_retransmit}
-use Rattle.dcsctp_machine.specs.turns.DataOutcomes.{DataWhere, with_transfer, with_tracker, flush_by, AnswersTo, FlushTurn, no_user_data_outcome, ReceiveTurn, DataTurn, ForwardTurn, SendsAtOnce, FastRetransmits, sack_taken, AcknowledgesBy, SackWhere, SackBy, SackTurn, acknowledging, EndWhere, EndsBy, TakeWhere, TakeTurn, delay_outcome, LossTurn}
+use Rattle.dcsctp_machine.specs.turns.DataOutcomes.{DataWhere, with_transfer, with_tracker, flush_by, AnswersTo, FlushTurn, no_user_data_outcome, ReceiveTurn, DataTurn, ForwardTurn, SendsLost, FastRetransmits, sack_taken, AcknowledgesBy, SackWhere, SackBy, SackTurn, acknowledging, EndWhere, EndsBy, TakeWhere, TakeTurn, delay_outcome, LossTurn}
 use Rattle.dcsctp_machine.specs.transfer.Acknowledging.{is_sack_valid}
 use Rattle.dcsctp_machine_refinement.proofs.Sizes.{AtLimit, IsShort, AllShort, TurnSizes, short_append, emits_sizes, flush_sizes}
 use Rattle.dcsctp_machine_refinement.proofs.SizesShutdown.{step_sizes}
@@ -80,11 +80,11 @@ out_sizes : (limit : ℕ) (e : Endpoint) (with_checksum : Bool) (tag : ℕ) (con
 out_sizes limit e with_checksum tag [] h short = (h, tt)
 out_sizes limit e with_checksum tag (content ∷ contents) h short = (h, (short, tt))
 
-at_once_sizes : (limit : ℕ) (e : Endpoint) (held : Held) (transfer : Transfer) (o : Outcome) → SendsAtOnce e held transfer o → AtLimit limit e → TurnSizes limit o
+at_once_sizes : (limit : ℕ) (e : Endpoint) (held : Held) (transfer : Transfer) (o : Outcome) → SendsLost e held transfer o → AtLimit limit e → TurnSizes limit o
 at_once_sizes limit e held transfer o turn h =
     let within : 12 + contents_len (plain_contents turn.chunks) ≤ packet_size_limit e.options = turn.within (omega (arith, h.0, h.1)) in
     subst (TurnSizes limit) (sym turn.is)
-    (out_sizes limit (with_transfer e turn.left) (draft_to held).with_checksum held.peer.tag (plain_contents turn.chunks) h (omega (arith, within, h.0)))
+    (out_sizes limit (with_transfer e (record transfer { retransmission = turn.left })) (draft_to held).with_checksum held.peer.tag (plain_contents turn.chunks) h (omega (arith, within, h.0)))
 
 fast_sizes : (b : Bool) (limit : ℕ) (e : Endpoint) (held : Held) (transfer : Transfer) (o : Outcome) → FastRetransmits b e held transfer o → AtLimit limit e → TurnSizes limit o
 fast_sizes false limit e held transfer o turn h = subst (TurnSizes limit) (sym turn) (h, tt)

@@ -64,7 +64,7 @@ forward_up e (Some transfer) tsn entries o turn h = subst UpAfter (sym turn.2) h
 fast_up : (b : Bool) (e : Endpoint) (held : Held) (transfer : Transfer) (o : Outcome) → FastRetransmits b e held transfer o → Up e → UpAfter o
 fast_up false e held transfer o turn h = subst UpAfter (sym turn) h
 fast_up true e held transfer o turn h =
-    let base : Endpoint = with_transfer e turn.left in
+    let base : Endpoint = with_transfer e (record transfer { retransmission = turn.left }) in
     let with_checksum : Bool = (draft_to held).with_checksum in
     subst UpAfter (sym turn.is)
     (kept_up None base (goes_out base [] with_checksum held.peer.tag (plain_contents turn.chunks)) (goes_out_keeps base [] with_checksum held.peer.tag (plain_contents turn.chunks)) h)

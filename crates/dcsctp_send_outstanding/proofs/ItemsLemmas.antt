@@ -12,7 +12,8 @@ use Rattle.dcsctp_machine.specs.declared.progress.Change.{Change}
 use Rattle.dcsctp_machine.specs.declared.progress.Progress.{Progress}
 use Rattle.dcsctp_send_outstanding.specs.declared.totals.Totals.{Totals}
 use Rattle.dcsctp_machine.specs.transfer.Progress.{is_in_flight, is_marked, is_unacknowledged, changed}
-use Rattle.dcsctp_send_outstanding.specs.Outstanding.{cursor_after, IsSummed, NoneMarkedBefore, NoneMarkedBetween, IsKept}
+use Rattle.dcsctp_send_outstanding.specs.Outstanding.{cursor_after, IsSummed, NoneMarkedBetween, IsKept}
+use Rattle.dcsctp_machine.specs.transfer.NextItem.{NoneMarkedBefore}
 use Rattle.dcsctp_send_outstanding.specs.NamedPlaces.{AreSettled}
 use Rattle.dcsctp_send_outstanding.specs.Totals.{total_with, total_without, HasRoom}
 use Rattle.dcsctp_machine.specs.transfer.Outstanding.{OutstandingState, header_of, reported}

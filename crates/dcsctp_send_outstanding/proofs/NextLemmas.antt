@@ -3,7 +3,7 @@ use Rattle.std.proofs.Common.{◌≡◌, ℕ, None, List, []}
 use Rattle.dcsctp_machine.specs.Event.{Event}
 use Rattle.dcsctp_machine.specs.transfer.SendQueue.{SendQueueState}
 use Rattle.dcsctp_machine.specs.transfer.Sending.{Drops, none, more, TakesNone}
-use Rattle.dcsctp_send_outstanding.specs.Next.{HasNone}
+use Rattle.dcsctp_machine.specs.transfer.NextItem.{HasNone}
 
 idle_after : (now : ℕ) (old queue : SendQueueState) (events : List (Event (List ℕ))) → Drops now old events queue → old.under_way ≡ None → queue.under_way ≡ None
 idle_after now old queue [] none idle = idle

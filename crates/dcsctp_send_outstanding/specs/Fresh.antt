@@ -1,19 +1,13 @@
 -- Chunks that are sent for the first time: their TSNs follow each other (RFC 9260, section 6.1).
-use Rattle.std.specs.Prelude.{◌≡◌, ℕ, zero, suc, ◌+◌, ◌%◌, ◌^◌, ◌<◌, ◌≤◌, List, [], ◌∷◌, ◌++◌, length}
+use Rattle.std.specs.Prelude.{◌≡◌, ℕ, zero, suc, ◌+◌, ◌%◌, ◌^◌, ◌≤◌, List, [], ◌∷◌, ◌++◌, length}
 use Rattle.dcsctp_machine.specs.transfer.Items.{Item, marked_items}
 use Rattle.dcsctp_machine.specs.transfer.Outstanding.{OutstandingState}
-use Rattle.dcsctp_machine.specs.transfer.Progress.{just_sent}
+use Rattle.dcsctp_machine.specs.transfer.Filling.{IsFresh}
 
 -- the TSNs of that many places from this one on
 abbrev pub tsns_from : ℕ → ℕ → ℕ → List ℕ
 tsns_from first place zero = []
 tsns_from first place (suc count) = ((first + place) % 2 ^ 32) ∷ tsns_from first (suc place) count
-
--- It is sent for the first time at this moment, with one byte at least.
-pub record IsFresh (now : ℕ) (item : Item) : Type 0 where
-  pub progress : item.progress ≡ just_sent
-  pub sent_at : item.sent_at ≡ now
-  pub some : 0 < length item.fragment.payload
 
 -- each of them does
 abbrev pub AllFresh : ℕ → List Item → Type 0

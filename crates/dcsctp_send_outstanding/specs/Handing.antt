@@ -7,7 +7,7 @@ use Rattle.dcsctp_machine.specs.transfer.Sending.{Takes, TakesNone}
 use Rattle.dcsctp_send_queue.specs.Calls.{StopsTaking}
 use Rattle.dcsctp_machine.specs.transfer.Items.{Item}
 use Rattle.dcsctp_machine.specs.transfer.Outstanding.{OutstandingState, next_tsn}
-use Rattle.dcsctp_send_outstanding.specs.Fresh.{IsFresh}
+use Rattle.dcsctp_machine.specs.transfer.Filling.{IsFresh}
 
 -- The next TSN goes to a new item, with what the send queue gives.
 pub record SendsItem (now max : ℕ) (reset_begun : Bool) (old : OutstandingState) (waiting : SendQueueState) (told : List (Event (List ℕ))) (new : OutstandingState) (left : SendQueueState) (telling : List (Event (List ℕ))) (tsn : ℕ) : Type 0 where

@@ -1,5 +1,5 @@
 -- What is kept beside the items of consecutive TSNs, and how items come (RFC 9260, section 6.1).
-use Rattle.std.specs.Prelude.{◌≡◌, ◌⊎◌, Result, Ok, Err, ℕ, ◌^◌, ◌<◌, ◌≤◌, min, max, Bool, true, false, Option, None, Some, List, [], ◌∷◌, ◌++◌, length, slice_get, if◌then◌else◌}
+use Rattle.std.specs.Prelude.{◌≡◌, ◌⊎◌, Result, Ok, Err, ℕ, ◌^◌, ◌<◌, ◌≤◌, min, max, Bool, false, Option, None, Some, List, [], ◌∷◌, ◌++◌, length, slice_get, if◌then◌else◌}
 use Rattle.std.specs.declared.alloc.AllocError.{AllocError}
 use Rattle.dcsctp_machine.specs.transfer.Items.{Item, bytes_in_flight, unacknowledged_bytes, unacknowledged_items, never_acknowledged_items, marked_items}
 use Rattle.dcsctp_send_outstanding.specs.declared.named_places.NamedPlaces.{NamedPlaces}
@@ -8,6 +8,7 @@ use Rattle.dcsctp_send_outstanding.specs.declared.totals.Totals.{Totals}
 use Rattle.dcsctp_send_outstanding.specs.NamedPlaces.{AreSettled}
 use Rattle.dcsctp_machine.specs.transfer.Outstanding.{OutstandingState, header_of, tsn_at, next_tsn, distance_to, acknowledged_by}
 use Rattle.dcsctp_machine.specs.transfer.Progress.{just_sent, is_marked}
+use Rattle.dcsctp_machine.specs.transfer.NextItem.{NoneMarkedBefore}
 
 -- The TSN of each item leads to its place.
 abbrev pub FindsPlaces : OutstandingState → Type 0
@@ -25,20 +26,9 @@ pub record IsSummed (header : ℕ) (items : List Item) (totals : Totals) : Type 
   pub never : totals.never_acknowledged_items ≡ never_acknowledged_items items
   pub marked : totals.marked_items ≡ marked_items items
 
--- no item before this place waits to be sent again
-abbrev pub NoneMarkedBefore : ℕ → List Item → Type 0
-NoneMarkedBefore place items = (k : ℕ) (item : Item) → k < place → slice_get items k ≡ Some item → is_marked item.progress.state ≡ false
-
 -- no item from this place on and before that one waits to be sent again
 abbrev pub NoneMarkedBetween : ℕ → ℕ → List Item → Type 0
 NoneMarkedBetween start end items = (k : ℕ) (item : Item) → start ≤ k → k < end → slice_get items k ≡ Some item → is_marked item.progress.state ≡ false
-
--- the item at this place waits to be sent again
-pub record IsMarkedAt (place : ℕ) (items : List Item) : Type 0 where
-  pub within : place < length items
-  pub item : Item
-  pub at : slice_get items place ≡ Some item
-  pub is : is_marked item.progress.state ≡ true
 
 pub record IsKept (is_interleaved : Bool) (cursor : ℕ) (items : List Item) (totals : Totals) (named : NamedPlaces) : Type 0 where
   -- TSNs can be compared (RFC 9260, section 1.6)

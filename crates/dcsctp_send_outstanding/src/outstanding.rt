@@ -61,8 +61,8 @@ impl Outstanding {
     ghost use Rattle.std.specs.Prelude.{◌<◌, ◌-◌, ◌%◌, ◌^◌, ◌↔◌, [], IsTrue, IfSome, IfNone, IfOk, Some, None, length, drop, slice_get};
     ghost use Rattle.dcsctp_machine.specs.transfer.Items.{size_of, bytes_in_flight, unacknowledged_bytes, unacknowledged_items, never_acknowledged_items, marked_items, changed_between};
     ghost use Rattle.dcsctp_machine.specs.transfer.Progress.{is_marked};
-    ghost use Rattle.dcsctp_send_outstanding.specs.Next.{IsNextMarked, HasNone};
-    ghost use Rattle.dcsctp_send_outstanding.specs.Outstanding.{FindsPlaces, TriesNext, IsMarkedAt, NoneMarkedBetween};
+    ghost use Rattle.dcsctp_machine.specs.transfer.NextItem.{IsNextMarked, HasNone, IsMarkedAt};
+    ghost use Rattle.dcsctp_send_outstanding.specs.Outstanding.{FindsPlaces, TriesNext, NoneMarkedBetween};
     ghost use Rattle.dcsctp_machine.specs.transfer.Outstanding.{header, next_tsn, tsn_at, distance_to};
     ghost use Rattle.dcsctp_send_outstanding.specs.Handing.{TriesItem};
     ghost use Rattle.dcsctp_send_outstanding.specs.NamedPlaces.{IsLeftBetween};

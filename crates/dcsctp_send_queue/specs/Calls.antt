@@ -1,5 +1,5 @@
 -- What is left of a send queue if an allocation fails.
-use Rattle.std.specs.Prelude.{◌≡◌, ◌⊎◌, ℕ, true, Some, List, ◌++◌}
+use Rattle.std.specs.Prelude.{◌≡◌, ◌⊎◌, ℕ, ◌+◌, true, None, Some, List, ◌++◌}
 use Rattle.dcsctp_machine.specs.Event.{Event}
 use Rattle.dcsctp_machine.specs.declared.sending.UnderWay.{UnderWay}
 use Rattle.dcsctp_machine.specs.transfer.SendStreams.{Waiting, front_of, is_expired, stream_at, IsNext}
@@ -7,8 +7,9 @@ use Rattle.dcsctp_machine.specs.transfer.SendQueue.{SendQueueState}
 use Rattle.dcsctp_machine.specs.transfer.Sending.{Chooses, Drops, drop_events, produced_events, IsNamed}
 use Rattle.dcsctp_send_streams.specs.Telling.{TellsFront}
 
--- The message that is dropped next, and the events about it.
+-- The message that is dropped next, and the events about it. No message is under way.
 pub record DropsNext (now : ℕ) (queue : SendQueueState) (events : List (Event (List ℕ))) : Type 0 where
+  pub idle : queue.under_way ≡ None
   pub place : ℕ
   pub message : Waiting
   pub next : IsNext queue.streams place

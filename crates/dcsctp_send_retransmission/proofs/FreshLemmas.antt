@@ -39,7 +39,7 @@ pub fresh_one : (now max : ℕ) (old new : OutstandingState) (tsn : ℕ) (before
 fresh_one now max old new tsn before after sends tsns =
     record {
       fresh = sends.item ∷ [];
-      each = (record { progress = sends.is_first.progress; sent_at = sends.is_first.sent_at; some = sends.is_first.some }, tt);
+      each = (record { progress = sends.is_first.progress; sent_at = sends.is_first.sent_at }, tt);
       grows = sends.grows;
       tsns = tsns ∙ ap (λ (t : ℕ). before ++ t ∷ []) sends.tsn_is;
     }

@@ -10,12 +10,14 @@ use Rattle.dcsctp_machine.specs.declared.progress.Change.TheVariants.{Abandon}
 use Rattle.dcsctp_machine.specs.transfer.Progress.{is_marked, is_unacknowledged}
 use Rattle.dcsctp_send_outstanding.specs.Outstanding.{MayAddEnd}
 use Rattle.dcsctp_machine.specs.transfer.Outstanding.{OutstandingState}
-use Rattle.dcsctp_send_outstanding.specs.Messages.{EndsDropped}
+use Rattle.dcsctp_machine.specs.transfer.ItemMessages.{EndsDropped}
 use Rattle.dcsctp_send_outstanding.proofs.ItemsLemmas.{le_or_lt, slice_get_pushed}
 use Rattle.dcsctp_send_retransmission.specs.Queue.{MayGrow, GivesUp}
 use Rattle.dcsctp_machine.specs.transfer.Retransmission.{RetransmissionState}
-use Rattle.dcsctp_send_retransmission.specs.States.{Stage, is_due, Closes, GivesUpAt, Steps, none, more}
-use Rattle.dcsctp_send_retransmission.specs.GivingUp.{NoneAwaitedBefore, NoneDue, GivesUpFirst, StopsGivingUp, GivesUpIf}
+use Rattle.dcsctp_machine.specs.transfer.Filling.{Stage, Closes, GivesUpAt, Steps, none, more}
+use Rattle.dcsctp_machine.specs.transfer.NextItem.{is_due}
+use Rattle.dcsctp_send_retransmission.specs.GivingUp.{StopsGivingUp, GivesUpIf}
+use Rattle.dcsctp_machine.specs.transfer.Abandoning.{NoneAwaitedBefore, NoneDue, GivesUpFirst}
 use Rattle.dcsctp_send_retransmission.proofs.QueueLemmas.{gives_up_grows}
 
 -- ---- items that aren't awaited

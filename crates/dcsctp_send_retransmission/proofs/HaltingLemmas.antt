@@ -1,5 +1,5 @@
 -- Lemmas on why no more chunks go into a packet.
-use Rattle.std.proofs.Common.{◌≡◌, ◌∙◌, inl, inr, nat_lt, ℕ, zero, suc, ◌+◌, ◌-◌, ◌^◌, ◌<◌, ◌≤◌, min, Bool, true, false, if◌then◌else◌, Some, Result, Ok, Err, IfOk, OnOk, List, [], ◌∷◌, ◌++◌, refl, ap, Vec, arith}
+use Rattle.std.proofs.Common.{◌≡◌, ◌∙◌, inl, inr, nat_lt, ℕ, zero, suc, ◌+◌, ◌-◌, ◌^◌, ◌<◌, ◌≤◌, min, Bool, true, false, if◌then◌else◌, Some, Result, Ok, Err, IfOk, OnOk, List, [], ◌∷◌, ◌++◌, refl, sym, subst, ap, Vec, arith}
 use Rattle.std.specs.List.{slice_get}
 use Rattle.std.specs.declared.alloc.Global.{Global}
 use Rattle.std.specs.declared.alloc.AllocError.{AllocError}
@@ -12,14 +12,15 @@ use Rattle.dcsctp_machine.specs.declared.progress.Progress.{Progress}
 use Rattle.dcsctp_machine.specs.declared.progress.Change.{Change}
 use Rattle.dcsctp_machine.specs.declared.progress.Change.TheVariants.{SendAgain, Abandon}
 use Rattle.dcsctp_machine.specs.transfer.Progress.{is_marked, changed}
-use Rattle.dcsctp_send_outstanding.specs.Outstanding.{IsMarkedAt, MayAddEnd}
+use Rattle.dcsctp_send_outstanding.specs.Outstanding.{MayAddEnd}
+use Rattle.dcsctp_machine.specs.transfer.NextItem.{IsMarkedAt, IsNextMarked, FirstStays, is_due, WaitsForRoom, HaltsAgain, HaltsNew, Halts}
 use Rattle.dcsctp_machine.specs.transfer.Outstanding.{OutstandingState, next_tsn}
 use Rattle.dcsctp_send_retransmission.specs.Queue.{GivesUp}
 use Rattle.dcsctp_machine.specs.transfer.Retransmission.{RetransmissionState, counted_again}
 use Rattle.dcsctp_send_retransmission.specs.declared.packet.Packet.{Packet}
 use Rattle.dcsctp_send_retransmission.specs.Sending.{Filled, Fills, none as none_packed}
-use Rattle.dcsctp_send_outstanding.specs.Next.{IsNextMarked}
-use Rattle.dcsctp_send_retransmission.specs.Halting.{WaitsForRoom, HaltsAgain, HaltsNew, Halts, SendsAgain, GoesAgain, FillsUp}
+use Rattle.dcsctp_send_retransmission.specs.Halting.{SendsAgain, GoesAgain, FillsUp}
+use Rattle.dcsctp_send_retransmission.specs.States.{SendsAt}
 
 -- the change leaves no item marked
 abbrev pub Unmarks : Change → Type 0
@@ -102,45 +103,53 @@ waits_for_room place old new room left next again =
     rw (again.0, again.1) (record { place = place; next = next; item = next.marked.item; at = next.marked.at; longer = again.2 next.marked.item next.marked.at })
 
 -- what a try to send the first marked item again leaves
-pub goes_again : (r : Result Bool AllocError) (place : ℕ) (old between new : RetransmissionState) (room left : ℕ) → marked_items between.outstanding.items ≤ marked_items old.outstanding.items → IsNextMarked place between.outstanding.items → IfOk r (SendsAgain place between.outstanding room new.outstanding left) → IfOk r (GoesAgain old new left)
-goes_again (Ok true) place old between new room left fewer next again =
+pub goes_again : (r : Result Bool AllocError) (now place : ℕ) (old between new : RetransmissionState) (before after : Packet) → marked_items between.outstanding.items ≤ marked_items old.outstanding.items
+    → (next : IsNextMarked place between.outstanding.items) → is_due now between.partial_reliability next.marked.item ≡ false
+    → IfOk r (SendsAgain place between.outstanding before.room new.outstanding after.room) → IfOk r (SendsAt place next.marked.item between before new after) → IfOk r (GoesAgain now old new after.room)
+goes_again (Ok true) now place old between new before after fewer next stays again sends =
     let items = ap (λ (m : OutstandingState). marked_items m.items) again in
     let one = fewer_marked (SendAgain (next_tsn between.outstanding)) (λ progress. refl) place (place + 1) place between.outstanding.items next.marked.item (omega arith) (omega arith) next.marked.at next.marked.is in
     omega arith
-goes_again (Ok false) place old between new room left fewer next again =
-    let items = ap (λ (m : OutstandingState). marked_items m.items) again.0 in (
+goes_again (Ok false) now place old between new before after fewer next stays again sends =
+    let items = ap (λ (m : OutstandingState). marked_items m.items) again.0 in
+    let here : FirstStays now between = record { place = place; next = next; stays = stays } in (
       omega arith,
-      inr (inr (waits_for_room place between.outstanding new.outstanding room left next again)),
+      inr (subst (FirstStays now) (sym sends.0) here, inr (waits_for_room place between.outstanding new.outstanding before.room after.room next again)),
     )
-goes_again (Err error) place old between new room left fewer next again = tt
+goes_again (Err error) now place old between new before after fewer next stays again sends = tt
 
 -- counting changes no reason
-pub halts_counted : (size room : ℕ) (queue : RetransmissionState) → HaltsAgain room queue → HaltsAgain room (counted_again size queue)
-halts_counted size room queue halts = go (nat_lt 0 size)
+pub halts_counted : (now size room : ℕ) (queue : RetransmissionState) → HaltsAgain now room queue → HaltsAgain now room (counted_again size queue)
+halts_counted now size room queue halts = go (nat_lt 0 size) halts
   where
-    go : (b : Bool) → HaltsAgain room (if b then record queue { packets_retransmitted = min (queue.packets_retransmitted + 1) (2 ^ 64 - 1); bytes_retransmitted = min (queue.bytes_retransmitted + size) (2 ^ 64 - 1) } else queue)
-    go true = halts
-    go false = halts
+    go : (b : Bool) → HaltsAgain now room queue → HaltsAgain now room (if b then record queue { packets_retransmitted = min (queue.packets_retransmitted + 1) (2 ^ 64 - 1); bytes_retransmitted = min (queue.bytes_retransmitted + size) (2 ^ 64 - 1) } else queue)
+    go true (inl none_left) = inl none_left
+    go true (inr (stays, why)) = inr (record { place = stays.place; next = stays.next; stays = stays.stays }, why)
+    go false halts = halts
 
 -- some wait to be sent again
-pub halts_marked : (room : ℕ) (queue : RetransmissionState) (waiting : SendQueueState) → HaltsAgain room queue → (marked_items queue.outstanding.items ≡ 0 → ⊥) → Halts room queue waiting
-halts_marked room queue waiting (inl none_left) some = absurd (some none_left)
-halts_marked room queue waiting (inr reason) some = inl reason
+pub halts_marked : (now room : ℕ) (queue : RetransmissionState) (waiting : SendQueueState) → HaltsAgain now room queue → (marked_items queue.outstanding.items ≡ 0 → ⊥) → Halts now room queue waiting
+halts_marked now room queue waiting (inl none_left) some = absurd (some none_left)
+halts_marked now room queue waiting (inr reason) some = inl reason
 
 -- none waits to be sent again
-pub halts_new : {E : Type 0} (r : Result Unit E) (room : ℕ) (old queue : RetransmissionState) (waiting : SendQueueState) → marked_items old.outstanding.items ≡ 0 → marked_items queue.outstanding.items ≡ marked_items old.outstanding.items → OnOk r (HaltsNew room queue waiting) → OnOk r (Halts room queue waiting)
-halts_new (Ok done) room old queue waiting none_left same halts = inr (same ∙ none_left, halts)
-halts_new (Err error) room old queue waiting none_left same halts = tt
+pub halts_new : {E : Type 0} (r : Result Unit E) (now room : ℕ) (old queue : RetransmissionState) (waiting : SendQueueState) → marked_items old.outstanding.items ≡ 0 → marked_items queue.outstanding.items ≡ marked_items old.outstanding.items → OnOk r (HaltsNew room queue waiting) → OnOk r (Halts now room queue waiting)
+halts_new (Ok done) now room old queue waiting none_left same halts = inr (same ∙ none_left, halts)
+halts_new (Err error) now room old queue waiting none_left same halts = tt
 
 -- the timer is no reason
-pub fills_up_timed : {E : Type 0} (r : Result (Vec ℕ Global) E) (bytes : ℕ) (queue : RetransmissionState) (timer : TimerModel) (waiting : SendQueueState) → IfOk r (λ tsns. FillsUp bytes queue waiting tsns.items) → IfOk r (λ tsns. FillsUp bytes (record queue { timer = timer }) waiting tsns.items)
-fills_up_timed (Ok tsns) bytes queue timer waiting fills =
-    record { used = fills.used; packed = fills.packed; room = fills.room; sum = fills.sum; halts = fills.halts }
-fills_up_timed (Err error) bytes queue timer waiting fills = tt
+pub fills_up_timed : {E : Type 0} (r : Result (Vec ℕ Global) E) (now bytes : ℕ) (queue : RetransmissionState) (timer : TimerModel) (waiting : SendQueueState) → IfOk r (λ tsns. FillsUp now bytes queue waiting tsns.items) → IfOk r (λ tsns. FillsUp now bytes (record queue { timer = timer }) waiting tsns.items)
+fills_up_timed (Ok tsns) now bytes queue timer waiting fills =
+    record { used = fills.used; packed = fills.packed; room = fills.room; sum = fills.sum; halts = timed fills.halts }
+  where
+    timed : Halts now fills.room queue waiting → Halts now fills.room (record queue { timer = timer }) waiting
+    timed (inl (stays, why)) = inl (record { place = stays.place; next = stays.next; stays = stays.stays }, why)
+    timed (inr anew) = inr anew
+fills_up_timed (Err error) now bytes queue timer waiting fills = tt
 
 -- a packet that was empty is filled up
-pub fills_up : (bytes : ℕ) (old new : RetransmissionState) (before after : Packet) (waiting : SendQueueState) → before.tsns.items ≡ [] → before.room ≡ bytes → Fills old before new after → Halts after.room new waiting → FillsUp bytes new waiting after.tsns.items
-fills_up bytes old new before after waiting empty room fills halts =
+pub fills_up : (now bytes : ℕ) (old new : RetransmissionState) (before after : Packet) (waiting : SendQueueState) → before.tsns.items ≡ [] → before.room ≡ bytes → Fills old before new after → Halts now after.room new waiting → FillsUp now bytes new waiting after.tsns.items
+fills_up now bytes old new before after waiting empty room fills halts =
     let start : Filled bytes old before = record { used = 0; packed = rw empty none_packed; sum = omega arith } in
     let filled = fills.filling bytes start in
     record { used = filled.used; packed = filled.packed; room = after.room; sum = filled.sum; halts = halts }

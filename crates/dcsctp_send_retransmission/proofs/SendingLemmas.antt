@@ -141,7 +141,7 @@ sends_keeps now max old new tsn reset sends =
 pub size_fits : (header room max len : ℕ) → max ≡ (min room 65532 - header) / 4 * 4 → 0 < max → len ≤ max → chunk_size header len ≤ room
 size_fits header room max len is some at_most = omega arith
 
-pub sends_fills : (now max : ℕ) (old : RetransmissionState) (before after : Packet) (place size tsn : ℕ) (new : OutstandingState) (reset : Bool) → SendsNext now max old.outstanding new tsn → place ≡ length old.outstanding.items → IfSome (slice_get new.items place) (λ item. size ≡ size_of (header new) item) → max ≡ (min before.room 65532 - header old.outstanding) / 4 * 4 → 0 < max → after.tsns.items ≡ before.tsns.items ++ tsn ∷ [] → after.room ≡ before.room - size → Fills old before (with_outstanding new reset old) after × (after.room < before.room)
+pub sends_fills : (now max : ℕ) (old : RetransmissionState) (before after : Packet) (place size tsn : ℕ) (new : OutstandingState) (reset : Bool) → SendsNext now max old.outstanding new tsn → place ≡ length old.outstanding.items → IfSome (slice_get new.items place) (λ item. size ≡ size_of (header new) item) → max ≡ (min before.room 65532 - (header old.outstanding)) / 4 * 4 → 0 < max → after.tsns.items ≡ before.tsns.items ++ tsn ∷ [] → after.room ≡ before.room - size → Fills old before (with_outstanding new reset old) after × (after.room < before.room)
 sends_fills now max old before after place size tsn new reset sends place_is sized max_is some tsns room =
     let items = ap (λ (m : OutstandingState). m.items) sends.grows in
     let first = ap (λ (m : OutstandingState). m.first_tsn) sends.grows in

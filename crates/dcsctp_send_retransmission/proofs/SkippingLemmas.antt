@@ -15,7 +15,8 @@ use Rattle.dcsctp_send_retransmission.specs.declared.forward_tsn.Skipped.TheVari
 use Rattle.dcsctp_machine.specs.transfer.Items.{Item}
 use Rattle.dcsctp_send_retransmission.specs.declared.retransmission_queue.forwarding.LastNumbers.{LastNumbers}
 use Rattle.dcsctp_machine.specs.transfer.Retransmission.{RetransmissionState}
-use Rattle.dcsctp_send_retransmission.specs.Forwarding.{stream_entry, messages_entry, IsRow, Says, goes_on, is_same, is_listed, last_on, last_listed, entry_for, NoneTwice, number_of, ListsEntries, LacksRoom}
+use Rattle.dcsctp_send_retransmission.specs.Forwarding.{stream_entry, messages_entry, Says}
+use Rattle.dcsctp_machine.specs.transfer.Skipping.{IsRow, goes_on, is_same, is_listed, last_on, last_listed, entry_for, NoneTwice, number_of, ListsEntries, LacksRoom}
 use Rattle.dcsctp_send_retransmission.specs.Skipping.{numbers_of, ssn_entry, mid_entry, limit_of, Collects, Skips}
 
 -- the order of a map's keys

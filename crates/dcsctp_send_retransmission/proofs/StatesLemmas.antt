@@ -1,5 +1,5 @@
 -- Lemmas on how a packet is filled.
-use Rattle.std.proofs.Common.{◌≡◌, ◌⊎◌, ◌∙◌, ◌+◌, ◌-◌, Bool, ◌<◌, true, false, ◌^◌, ℕ, zero, suc, Option, Some, Result, Ok, Err, OnOk, OnErr, IfOk, IfSome, ◌++◌, subst, inl, inr, List, [], ◌∷◌, length, refl, ap, sym, arith}
+use Rattle.std.proofs.Common.{◌≡◌, ◌⊎◌, ◌∙◌, ◌+◌, ◌-◌, ◌*◌, ◌/◌, min, Bool, ◌<◌, true, false, ◌^◌, ℕ, zero, suc, Option, Some, Result, Ok, Err, OnOk, OnErr, IfOk, IfSome, ◌++◌, subst, inl, inr, List, [], ◌∷◌, length, refl, ap, sym, arith}
 use Rattle.std.specs.List.{slice_get}
 use Rattle.std.specs.declared.alloc.AllocError.{AllocError}
 use Rattle.dcsctp_api.specs.declared.events.SocketEvent.{SocketEvent}
@@ -8,16 +8,18 @@ use Rattle.dcsctp_machine.specs.transfer.Sending.{Takes}
 use Rattle.dcsctp_send_queue.specs.Calls.{StopsDiscarding}
 use Rattle.dcsctp_machine.specs.Event.{Event}
 use Rattle.dcsctp_send_streams.specs.Telling.{contents}
-use Rattle.dcsctp_machine.specs.transfer.Items.{Item, size_of, changed_between}
+use Rattle.dcsctp_machine.specs.transfer.Items.{Item, size_of, marked_items, changed_between}
 use Rattle.dcsctp_send_retransmission.specs.declared.packet.Packet.{Packet}
 use Rattle.dcsctp_machine.specs.declared.progress.Change.{Change}
 use Rattle.dcsctp_machine.specs.declared.progress.Change.TheVariants.{SendAgain}
 use Rattle.dcsctp_machine.specs.transfer.Progress.{is_marked}
 use Rattle.dcsctp_machine.specs.transfer.Outstanding.{OutstandingState, header}
-use Rattle.dcsctp_send_outstanding.specs.Next.{IsNextMarked}
-use Rattle.dcsctp_machine.specs.transfer.Retransmission.{RetransmissionState}
+use Rattle.dcsctp_machine.specs.transfer.NextItem.{IsNextMarked, is_due}
+use Rattle.dcsctp_machine.specs.transfer.Retransmission.{RetransmissionState, can_send}
 use Rattle.dcsctp_send_retransmission.proofs.SendingLemmas.{last_pushed, with_outstanding}
-use Rattle.dcsctp_send_retransmission.specs.States.{Stage, stage, is_due, DropsRestAt, Closes, RefusesClosing, payload_room, SendsNew, StepAgain, StepNew, counting, GoesFilling, StopsFilling, Steps, none, more, Stops, Goes, SendsAt, SendsMarked, SendsFirst, is_first_marked}
+use Rattle.dcsctp_send_retransmission.specs.States.{stage, RefusesClosing, GoesFilling, StopsFilling, Stops, Goes, SendsAt}
+use Rattle.dcsctp_machine.specs.transfer.Filling.{Stage, DropsRestAt, Closes, payload_room, SendsNew, StepAgain, MayAdd, StepNew, counting, Steps, none, more, SendsMarked}
+use Rattle.dcsctp_machine.specs.transfer.AtOnce.{SendsFirst, is_first_marked}
 use Rattle.dcsctp_send_outstanding.specs.Handing.{SendsItem}
 
 -- there is one item at a place
@@ -138,7 +140,14 @@ pub on_err_map : {A E : Type 0} {P Q : Type 0} (r : Result A E) → (P → Q) �
 on_err_map (Ok done) f p = tt
 on_err_map (Err error) f p = f p
 
-pub refuses_rest : (last : Item) (waiting : SendQueueState) (told telling : List (Event (List ℕ))) (is_end : Bool) → is_end ≡ false
-    → (telling ≡ told) ⊎ StopsDiscarding waiting last.fragment.stream last.fragment.message_id told telling → RefusesClosing last waiting told telling is_end
-refuses_rest last waiting told telling true is_false refused = absurd (cc)
-refuses_rest last waiting told telling false is_false refused = refused
+pub refuses_rest : (items : List Item) (last : Item) (waiting : SendQueueState) (told telling : List (Event (List ℕ))) (is_end : Bool) → is_end ≡ false → length items + 1 < 2 ^ 31
+    → (telling ≡ told) ⊎ StopsDiscarding waiting last.fragment.stream last.fragment.message_id told telling → RefusesClosing items last waiting told telling is_end
+refuses_rest items last waiting told telling true is_false room refused = absurd (cc)
+refuses_rest items last waiting told telling false is_false room (inl nothing) = inl nothing
+refuses_rest items last waiting told telling false is_false room (inr stops) = inr (room, stops)
+
+-- Room for a payload is room for a word of it.
+pub may_add : (max : ℕ) (old : RetransmissionState) (waiting : SendQueueState) (events : List SocketEvent) (tsns : List ℕ) (room : ℕ) → can_send old ≡ true → marked_items old.outstanding.items ≡ 0
+    → length old.outstanding.items + 1 < 2 ^ 31 → 0 < max → max ≡ (min room 65532 - header old.outstanding) / 4 * 4 → MayAdd (stage old waiting events tsns room)
+may_add max old waiting events tsns room allowed none_marked few some is =
+    record { allowed = allowed; none_marked = none_marked; fits = omega (arith, some, is); comparable = few }

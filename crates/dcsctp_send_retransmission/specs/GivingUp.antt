@@ -1,31 +1,9 @@
 -- Which messages are abandoned before a FORWARD-TSN (RFC 3758, sections 3.5 and 4.1).
-use Rattle.std.specs.Prelude.{Result, Ok, Err, ◌≡◌, ◌<◌, ℕ, Bool, true, false, Some, List, slice_get}
+use Rattle.std.specs.Prelude.{Result, Ok, Err, ◌≡◌, ℕ, Bool, true, false}
 use Rattle.std.specs.declared.alloc.AllocError.{AllocError}
-use Rattle.dcsctp_machine.specs.transfer.Items.{Item}
-use Rattle.dcsctp_machine.specs.transfer.Progress.{is_unacknowledged}
-use Rattle.dcsctp_machine.specs.transfer.Retransmission.{RetransmissionState}
-use Rattle.dcsctp_send_retransmission.specs.States.{Stage, is_due, GivesUpAt, RefusesUpAt, Steps}
-
--- Each item before this place was acknowledged or abandoned.
-abbrev pub NoneAwaitedBefore : ℕ → List Item → Type 0
-NoneAwaitedBefore place items = (k : ℕ) (item : Item) → k < place → slice_get items k ≡ Some item → is_unacknowledged item.progress.state ≡ false
-
--- The item at this place is due to be abandoned, and none before it is awaited.
-pub record IsDueAt (now place : ℕ) (queue : RetransmissionState) : Type 0 where
-  pub none_awaited : NoneAwaitedBefore place queue.outstanding.items
-  pub item : Item
-  pub at : slice_get queue.outstanding.items place ≡ Some item
-  pub due : is_due now queue.partial_reliability item ≡ true
-
--- No such item is left.
-abbrev pub NoneDue : ℕ → RetransmissionState → Type 0
-NoneDue now queue = (place : ℕ) → IsDueAt now place queue → ⊥
-
--- The message of such an item is abandoned.
-pub record GivesUpFirst (now : ℕ) (old new : Stage) : Type 0 where
-  pub place : ℕ
-  pub is_due : IsDueAt now place old.queue
-  pub gives_up : GivesUpAt now place old new
+use Rattle.dcsctp_send_retransmission.specs.States.{RefusesUpAt}
+use Rattle.dcsctp_machine.specs.transfer.Filling.{Stage, GivesUpAt, Steps}
+use Rattle.dcsctp_machine.specs.transfer.Abandoning.{IsDueAt, NoneDue, GivesUpFirst}
 
 -- An allocation fails for abandoning the message of the item at this place. The first of its events are added, and nothing else
 -- has happened.

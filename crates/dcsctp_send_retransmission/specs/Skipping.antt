@@ -4,7 +4,7 @@ use Rattle.std.specs.Option.{option_map}
 use Rattle.dcsctp_machine.specs.transfer.Items.{Item}
 use Rattle.dcsctp_send_retransmission.specs.declared.retransmission_queue.forwarding.LastNumbers.{LastNumbers}
 use Rattle.dcsctp_machine.specs.transfer.Retransmission.{RetransmissionState}
-use Rattle.dcsctp_send_retransmission.specs.Forwarding.{entry_limit, last_listed, entry_for, LacksRoom, IsRow}
+use Rattle.dcsctp_machine.specs.transfer.Skipping.{entry_limit, last_listed, entry_for, LacksRoom, IsRow}
 
 -- the numbers of an item's message
 abbrev pub numbers_of : Item → LastNumbers

@@ -1,17 +1,22 @@
 -- Lemmas on chunks that go into a packet: their sizes, and their room.
-use Rattle.std.proofs.Common.{◌≡◌, ◌∙◌, Bool, ℕ, zero, suc, ◌+◌, ◌-◌, ◌^◌, ◌<◌, ◌≤◌, List, [], ◌∷◌, ◌++◌, length, drop, get_or, append_assoc, length-append, refl, ap, sym, subst, arith}
-use Rattle.std.specs.List.{AllByRecursion, flat_map}
+use Rattle.std.proofs.Common.{◌≡◌, ◌∙◌, Bool, Some, ℕ, zero, suc, ◌+◌, ◌-◌, ◌%◌, ◌^◌, ◌<◌, ◌≤◌, List, [], ◌∷◌, ◌++◌, length, map, take, drop, get_or, append_assoc, length-append, refl, ap, sym, subst, arith}
+use Rattle.std.specs.List.{AllByRecursion, flat_map, slice_get}
+use Rattle.std.proofs.lemmas.Option.{slice_get_within}
 use Rattle.std.proofs.lemmas.List.{append-nil}
 use Rattle.std.proofs.lemmas.Grind.{flat_map-append}
 use Rattle.dcsctp_wire.specs.Content.{DataContent, IDataContent, ChunkContent, data_chunk, i_data_chunk}
 use Rattle.dcsctp_wire.specs.ReadsBack.{IsByte, FitsChunk}
 use Rattle.dcsctp_wire.specs.Spelling.{chunk_bytes, data_fields, i_data_fields}
+use Rattle.dcsctp_wire.specs.declared.chunk.user_data.DataFlags.{DataFlags}
 use Rattle.dcsctp_wire.proofs.Lengths.{length-chunk_bytes, length-data_fields, length-i_data_fields}
 use Rattle.dcsctp_wire_build.specs.Building.{Building, bytes_remaining}
-use Rattle.dcsctp_machine.specs.transfer.Items.{chunk_size}
-use Rattle.dcsctp_machine.specs.transfer.Outstanding.{OutstandingState}
-use Rattle.dcsctp_send_retransmission.specs.Sending.{PackedFrom, HandsOut, none as none_packed, more as more_packed}
-use Rattle.dcsctp_transfer.specs.Filling.{IsDataChunk}
+use Rattle.dcsctp_machine.specs.Packet.{unworked}
+use Rattle.dcsctp_machine.specs.transfer.Chunks.{byte_field, flags_said, data_said, i_data_said, chunk_said, IsChunkOf, AreChunks}
+use Rattle.dcsctp_machine.specs.transfer.Items.{Item, chunk_size}
+use Rattle.dcsctp_machine.specs.transfer.Outstanding.{OutstandingState, header_of, header, distance_to}
+use Rattle.dcsctp_machine.specs.transfer.Sending.{Fragment}
+use Rattle.dcsctp_send_outstanding.specs.Outstanding.{FindsPlaces}
+use Rattle.dcsctp_send_retransmission.specs.Sending.{HasFragment, PackedFrom, HandsOut, none as none_packed, more as more_packed}
 use Rattle.dcsctp_transfer.specs.Adding.{HasChunk, HaveChunks, none, more, HasChunkWithin, AddsChunk, AddsChunkOf, AddsChunks, HasRest}
 
 -- ---- sizes
@@ -29,11 +34,67 @@ pub i_data_size : (chunk : IDataContent) → 20 + length chunk.payload < 2 ^ 16 
 i_data_size chunk short =
     omega (arith, short, length-chunk_bytes (i_data_chunk chunk), length-i_data_fields chunk, length-append (i_data_fields chunk) chunk.payload)
 
--- What fits into a packet has a length that fits its field.
-pub short_enough : (packet : Building) (size header len : ℕ) → packet.size ≤ 65535 → size ≤ bytes_remaining packet → size ≡ chunk_size header len → header + len < 2 ^ 16
-short_enough packet size header len small within is = omega arith
+-- Each byte is as its field holds it.
+bytes_said : (xs : List ℕ) → AllByRecursion IsByte xs → map byte_field xs ≡ xs
+bytes_said [] each = refl
+bytes_said (x ∷ xs) each =
+    let here : byte_field x ≡ x = omega (arith, each.0) in
+    rw (here, bytes_said xs each.1) refl
+
+pub data_is : (flags : DataFlags) (tsn stream_id ssn ppid : ℕ) (payload : List ℕ) (part : Fragment) → flags ≡ flags_said part → tsn < 2 ^ 32 → payload ≡ part.payload → AllByRecursion IsByte payload
+    → data_chunk (record { flags = flags; tsn = tsn; stream_id = stream_id; ssn = ssn; ppid = ppid; payload = payload })
+    ≡ data_chunk (record (data_said tsn part) { stream_id = stream_id; ssn = ssn; ppid = ppid })
+data_is flags tsn stream_id ssn ppid payload part flags_are small payload_is bytes =
+    let said : tsn % 2 ^ 32 ≡ tsn = omega arith in
+    rw (said, flags_are, ← payload_is, bytes_said payload bytes) refl
+
+pub i_data_is : (flags : DataFlags) (tsn stream_id mid ppid_or_fsn : ℕ) (payload : List ℕ) (part : Fragment) → flags ≡ flags_said part → tsn < 2 ^ 32 → payload ≡ part.payload → AllByRecursion IsByte payload
+    → i_data_chunk (record { flags = flags; tsn = tsn; stream_id = stream_id; mid = mid; ppid_or_fsn = ppid_or_fsn; payload = payload })
+    ≡ i_data_chunk (record (i_data_said tsn part) { stream_id = stream_id; mid = mid; ppid_or_fsn = ppid_or_fsn })
+i_data_is flags tsn stream_id mid ppid_or_fsn payload part flags_are small payload_is bytes =
+    let said : tsn % 2 ^ 32 ≡ tsn = omega arith in
+    rw (said, flags_are, ← payload_is, bytes_said payload bytes) refl
 
 -- ---- the chunk of a TSN
+
+-- The TSN leads to its place.
+pub found_at : (outstanding : OutstandingState) (tsn size : ℕ) → FindsPlaces outstanding → (has : HasChunk outstanding tsn size) → distance_to outstanding tsn ≡ has.place
+found_at outstanding tsn size places has = ap (distance_to outstanding) has.is ∙ places has.place (slice_get_within outstanding.items has.place has.item has.at)
+
+pub no_chunk : (outstanding : OutstandingState) (tsn size : ℕ) → FindsPlaces outstanding → length outstanding.items ≤ distance_to outstanding tsn → HasChunk outstanding tsn size → ⊥
+no_chunk outstanding tsn size places beyond has =
+    let place = found_at outstanding tsn size places has in
+    let within = slice_get_within outstanding.items has.place has.item has.at in
+    omega (arith, place, within, beyond)
+
+-- the fragment that is found there is its item's
+is_found : (outstanding : OutstandingState) (tsn size : ℕ) (part : Fragment) → FindsPlaces outstanding → HasFragment (distance_to outstanding tsn) part outstanding.items → (has : HasChunk outstanding tsn size)
+    → has.item.fragment ≡ part
+is_found outstanding tsn size part places found has =
+    let both : Some has.item ≡ Some found.item = sym has.at ∙ (ap (slice_get outstanding.items) (sym (found_at outstanding tsn size places has)) ∙ found.at) in
+    let same : has.item ≡ found.item = cc in
+    ap (λ (item : Item). item.fragment) same ∙ found.is
+
+pub adds_chunk : (outstanding : OutstandingState) (interleaving : Bool) (tsn : ℕ) (part : Fragment) (chunk : ChunkContent) (old new : Building) → interleaving ≡ outstanding.is_interleaved → FindsPlaces outstanding
+    → HasFragment (distance_to outstanding tsn) part outstanding.items → chunk ≡ chunk_said interleaving tsn part → FitsChunk chunk
+    → length (chunk_bytes chunk) ≡ chunk_size (header_of interleaving) (length part.payload) → new ≡ record old { body = old.body ++ chunk_bytes chunk } → AddsChunkOf outstanding tsn old new
+adds_chunk outstanding interleaving tsn part chunk old new mode places found says fits size_is is size has =
+    let same = is_found outstanding tsn size part places found has in
+    record {
+      chunk = chunk;
+      of = record {
+        place = has.place;
+        item = has.item;
+        at = has.at;
+        is = has.is;
+        says = ap unworked (says ∙ (ap (λ (b : Bool). chunk_said b tsn part) mode ∙ ap (chunk_said outstanding.is_interleaved tsn) (sym same)));
+      };
+      is = is;
+      fits = fits;
+      size_is = size_is
+          ∙ (ap (λ (b : Bool). chunk_size (header_of b) (length part.payload)) mode
+          ∙ (ap (λ (f : Fragment). chunk_size (header outstanding) (length f.payload)) (sym same) ∙ sym has.size_is));
+    }
 
 -- ---- the chunks of TSNs
 
@@ -92,8 +153,8 @@ room_left old new chunk size rest is size_is within =
     omega (arith, left, length-append old.body (chunk_bytes chunk), size_is, within)
 
 -- what is left once it is added
-pub rest_after : (interleaving : Bool) (outstanding : OutstandingState) (i d : ℕ) (tsns : List ℕ) (old new : Building) → i < length tsns → HasRest outstanding i tsns old → AddsChunkOf interleaving outstanding (get_or tsns i d) old new → HasRest outstanding (suc i) tsns new
-rest_after interleaving outstanding i d tsns old new within rest adds =
+pub rest_after : (outstanding : OutstandingState) (i d : ℕ) (tsns : List ℕ) (old new : Building) → i < length tsns → HasRest outstanding i tsns old → AddsChunkOf outstanding (get_or tsns i d) old new → HasRest outstanding (suc i) tsns new
+rest_after outstanding i d tsns old new within rest adds =
     let next = next_of outstanding i d tsns old within rest in
     let one = adds next.size next.chunk in
     record {
@@ -104,19 +165,20 @@ rest_after interleaving outstanding i d tsns old new within rest adds =
 
 -- ---- what was added
 
-pub adds_none : (interleaving : Bool) (packet : Building) → AddsChunks interleaving packet 0 packet
-adds_none interleaving packet =
-    record {
-      chunks = [];
-      is = ap (λ (body : List ℕ). record packet { body = body }) (sym (append-nil packet.body));
-      fits = tt;
-      are_data = tt;
-      count_is = refl;
-    }
+pub adds_none : (outstanding : OutstandingState) (packet : Building) → AddsChunks outstanding [] packet packet
+adds_none outstanding packet =
+    record { chunks = []; are = tt; is = ap (λ (body : List ℕ). record packet { body = body }) (sym (append-nil packet.body)); fits = tt }
 
 all_with : (P : ChunkContent → Type 0) (chunks : List ChunkContent) (chunk : ChunkContent) → AllByRecursion P chunks → P chunk → AllByRecursion P (chunks ++ chunk ∷ [])
 all_with P [] chunk all here = (here, tt)
 all_with P (x ∷ xs) chunk all here = (all.0, all_with P xs chunk all.1 here)
+
+are_with : (outstanding : OutstandingState) (tsns : List ℕ) (tsn : ℕ) (chunks : List ChunkContent) (chunk : ChunkContent) → AreChunks outstanding tsns (map unworked chunks) → IsChunkOf outstanding tsn (unworked chunk)
+    → AreChunks outstanding (tsns ++ tsn ∷ []) (map unworked (chunks ++ chunk ∷ []))
+are_with outstanding [] tsn [] chunk are of = (of, tt)
+are_with outstanding [] tsn (first ∷ chunks) chunk are of = absurd are
+are_with outstanding (other ∷ tsns) tsn [] chunk are of = absurd are
+are_with outstanding (other ∷ tsns) tsn (first ∷ chunks) chunk are of = (are.0, are_with outstanding tsns tsn chunks chunk are.1 of)
 
 bytes_with : (body : List ℕ) (chunks : List ChunkContent) (chunk : ChunkContent) → (body ++ flat_map chunk_bytes chunks) ++ chunk_bytes chunk ≡ body ++ flat_map chunk_bytes (chunks ++ chunk ∷ [])
 bytes_with body chunks chunk =
@@ -124,20 +186,26 @@ bytes_with body chunks chunk =
     ∙ ap (λ (bytes : List ℕ). body ++ bytes)
     (ap (λ (bytes : List ℕ). flat_map chunk_bytes chunks ++ bytes) (sym (append-nil (chunk_bytes chunk))) ∙ sym (flat_map-append chunk_bytes chunks (chunk ∷ [])))
 
-pub adds_one : (interleaving : Bool) (start old new : Building) (count size : ℕ) → AddsChunks interleaving start count old → AddsChunk interleaving old size new → AddsChunks interleaving start (suc count) new
-adds_one interleaving start old new count size adds one =
+adds_one : (outstanding : OutstandingState) (tsns : List ℕ) (tsn : ℕ) (start old new : Building) (size : ℕ) → AddsChunks outstanding tsns start old → AddsChunk outstanding tsn old size new → AddsChunks outstanding (tsns ++ tsn ∷ []) start new
+adds_one outstanding tsns tsn start old new size adds one =
     record {
       chunks = adds.chunks ++ one.chunk ∷ [];
+      are = are_with outstanding tsns tsn adds.chunks one.chunk adds.are one.of;
       is = one.is
           ∙ (ap (λ (packet : Building). record packet { body = packet.body ++ chunk_bytes one.chunk }) adds.is
           ∙ ap (λ (body : List ℕ). record start { body = body }) (bytes_with start.body adds.chunks one.chunk));
       fits = all_with FitsChunk adds.chunks one.chunk adds.fits one.fits;
-      are_data = all_with (IsDataChunk interleaving) adds.chunks one.chunk adds.are_data one.is_data;
-      count_is = omega (arith, length-append adds.chunks (one.chunk ∷ []), adds.count_is);
     }
 
+take_next : (xs : List ℕ) (i d : ℕ) → i < length xs → take (suc i) xs ≡ take i xs ++ get_or xs i d ∷ []
+take_next [] i d within = absurd (omega arith)
+take_next (x ∷ xs) zero d within = refl
+take_next (x ∷ xs) (suc i) d within = ap (λ (rest : List ℕ). x ∷ rest) (take_next xs i d (omega arith))
+
 -- the next one, behind those so far
-pub adds_next : (interleaving : Bool) (outstanding : OutstandingState) (i d : ℕ) (tsns : List ℕ) (start old new : Building) → i < length tsns → HasRest outstanding i tsns old → AddsChunks interleaving start i old → AddsChunkOf interleaving outstanding (get_or tsns i d) old new → AddsChunks interleaving start (suc i) new
-adds_next interleaving outstanding i d tsns start old new within rest adds added =
+pub adds_next : (outstanding : OutstandingState) (i d : ℕ) (tsns : List ℕ) (start old new : Building) → i < length tsns → HasRest outstanding i tsns old → AddsChunks outstanding (take i tsns) start old → AddsChunkOf outstanding (get_or tsns i d) old new
+    → AddsChunks outstanding (take (suc i) tsns) start new
+adds_next outstanding i d tsns start old new within rest adds added =
     let next = next_of outstanding i d tsns old within rest in
-    adds_one interleaving start old new i next.size adds (added next.size next.chunk)
+    subst (λ (taken : List ℕ). AddsChunks outstanding taken start new) (sym (take_next tsns i d within))
+    (adds_one outstanding (take i tsns) (get_or tsns i d) start old new next.size adds (added next.size next.chunk))

@@ -1,87 +1,153 @@
 -- A packet that is filled, from what was handed out and added.
-use Rattle.std.proofs.Common.{◌≡◌, ◌∙◌, ℕ, zero, suc, ◌==◌, ◌||◌, not, ◌<◌, nat_lt, Bool, true, false, List, [], ◌∷◌, length, refl, ap, sym, subst, arith}
+use Rattle.std.proofs.Common.{suc, zero, ◌≡◌, ◌∙◌, inl, inr, ℕ, ◌==◌, ◌&&◌, ◌||◌, not, ◌<◌, nat_lt, Bool, true, false, Ok, Vec, List, [], ◌∷◌, length, map, refl, ap, sym, subst, arith}
 use Rattle.std.proofs.lemmas.List.{append-nil}
 use Rattle.std.proofs.lemmas.Bool.Decides.{nat_tests}
-use Rattle.std.specs.List.{AllByRecursion}
+use Rattle.std.specs.declared.alloc.Global.{Global}
+use Rattle.dcsctp_api.specs.declared.events.SocketEvent.{SocketEvent}
 use Rattle.dcsctp_wire.specs.Content.{ChunkContent}
 use Rattle.dcsctp_wire_build.specs.Building.{Building, bytes_remaining}
 use Rattle.dcsctp_machine.specs.Event.{Event}
+use Rattle.dcsctp_machine.specs.Packet.{unworked}
+use Rattle.dcsctp_machine.specs.transfer.Chunks.{AreChunks}
+use Rattle.dcsctp_machine.specs.transfer.Filling.{Stage, FillsPacket as Fills}
+use Rattle.dcsctp_machine.specs.transfer.Items.{Item, marked_items}
+use Rattle.dcsctp_machine.specs.Timers.{TimerModel}
+use Rattle.dcsctp_machine.specs.transfer.NextItem.{Halts}
+use Rattle.dcsctp_machine.specs.transfer.Outstanding.{OutstandingState}
 use Rattle.dcsctp_machine.specs.transfer.SendQueue.{SendQueueState, has_data}
-use Rattle.dcsctp_machine.specs.transfer.Transfer.{Transfer, must_give}
-use Rattle.dcsctp_machine.specs.transfer.Retransmission.{RetransmissionState, outstanding_count}
-use Rattle.dcsctp_send_retransmission.specs.Sending.{Sends}
+use Rattle.dcsctp_machine.specs.transfer.Transfer.{Transfer, may_give}
+use Rattle.dcsctp_machine.specs.transfer.Retransmission.{RetransmissionState, outstanding_count, can_send}
+use Rattle.dcsctp_machine.specs.turns.FlushOutcomes.{stage_of, FillsWhere}
+use Rattle.dcsctp_machine.proofs.TellingLemmas.{tells_filled}
+use Rattle.dcsctp_machine.proofs.ToldLemmas.{behind_events, filled_before}
+use Rattle.dcsctp_send_streams.specs.Telling.{contents}
+use Rattle.dcsctp_send_outstanding.specs.Outstanding.{FindsPlaces}
 use Rattle.dcsctp_send_retransmission.specs.Halting.{FillsUp}
-use Rattle.dcsctp_transfer.specs.Filling.{TellsMore, IsDataChunk, has_chunks, FillsPacket}
+use Rattle.dcsctp_send_retransmission.specs.States.{stage, StopsFilling, SendsPacket}
 use Rattle.dcsctp_transfer.specs.Adding.{AddsChunks}
-use Rattle.dcsctp_transfer.proofs.GivingLemmas.{gives_no_data, gives_nothing}
+use Rattle.dcsctp_transfer.specs.Filling.{has_chunks, FillsPacket, TellsFilling}
+use Rattle.dcsctp_transfer.proofs.RoomLemmas.{halts_there}
+use Rattle.dcsctp_transfer.proofs.StoppedLemmas.{stops_filling}
+
+-- A filling is one whether or not data may go.
+fills_where : (b : Bool) (now : ℕ) (old new : Stage) → Fills now old new → FillsWhere b now old new
+fills_where true now old new fills = fills
+fills_where false now old new fills = inr fills
 
 -- ---- nothing waits, and nothing is outstanding
 
-pub none_waits : (a b : Bool) → (a || b) ≡ false → a ≡ false
-none_waits true b is = is
-none_waits false b is = refl
+none_waits : (a b : Bool) → (a || b) ≡ false → (a ≡ false) × (b ≡ false)
+none_waits true b is = absurd (cc)
+none_waits false b is = (refl, is)
 
-pub fills_none : (transfer : Transfer) (waiting : SendQueueState) (events : List (Event (List ℕ))) (packet : Building) → has_data waiting ≡ false → FillsPacket transfer waiting events packet transfer waiting events packet false
-fills_none transfer waiting events packet nothing =
+no_items : (items : List Item) → nat_lt 0 (length items) ≡ false → items ≡ []
+no_items [] is = refl
+no_items (item ∷ items) is = absurd (grind (arith, nat_tests))
+
+may_give_none : (waiting : SendQueueState) (state : RetransmissionState) → has_data waiting ≡ false → state.outstanding.items ≡ [] → may_give waiting state ≡ false
+may_give_none waiting state nothing empty =
+    ap (λ (items : List Item). nat_lt 0 (marked_items items) || (has_data waiting && can_send state)) empty ∙ ap (λ (b : Bool). b && can_send state) nothing
+
+pub fills_none : (now : ℕ) (transfer : Transfer) (waiting : SendQueueState) (events : List (Event (List ℕ))) (packet : Building) → (has_data waiting || nat_lt 0 (outstanding_count transfer.retransmission)) ≡ false
+    → FillsPacket now transfer waiting events packet transfer waiting events packet false
+fills_none now transfer waiting events packet idle =
+    let both = none_waits (has_data waiting) (nat_lt 0 (outstanding_count transfer.retransmission)) idle in
+    let start : Stage = stage_of waiting transfer.retransmission [] (bytes_remaining packet) in
     record {
+      sent = start;
+      fills = subst (λ (b : Bool). FillsWhere b now start start) (sym (may_give_none waiting transfer.retransmission both.0 (no_items transfer.retransmission.outstanding.items both.1))) (inl refl);
+      idle = λ nothing none_out. refl;
       chunks = [];
-      told = [];
-      adds = ap (λ (body : List ℕ). record packet { body = body }) (sym (append-nil packet.body));
+      are = tt;
       fits = tt;
-      are_data = tt;
+      adds = ap (λ (body : List ℕ). record packet { body = body }) (sym (append-nil packet.body));
+      told = [];
+      are_told = refl;
       tells = sym (append-nil events);
       answers = refl;
-      gives = λ empty. gives_no_data (bytes_remaining packet) waiting transfer.retransmission nothing;
-      rest = refl;
-      partial_reliability = refl;
-      is_interleaved = refl;
-      idle = λ no_data no_items. (refl, refl, refl, refl);
+      queue = refl;
+      is = refl;
     }
 
 -- ---- else
+
+positive : (n : ℕ) → 0 < n → not (n == 0) ≡ true
+positive n some = grind (arith, nat_tests)
+
+as_many : (outstanding : OutstandingState) (tsns : List ℕ) (chunks : List ChunkContent) → AreChunks outstanding tsns (map unworked chunks) → not (length tsns == 0) ≡ has_chunks chunks
+as_many outstanding [] [] are = refl
+as_many outstanding [] (chunk ∷ chunks) are = absurd are
+as_many outstanding (tsn ∷ tsns) [] are = absurd are
+as_many outstanding (tsn ∷ tsns) (chunk ∷ chunks) are = positive (length (tsn ∷ tsns)) (omega arith)
 
 some_waits : (a : Bool) (items : ℕ) → (a || nat_lt 0 items) ≡ true → a ≡ false → items ≡ 0 → ⊥
 some_waits true items is none empty = absurd (cc)
 some_waits false zero is none empty = absurd (cc)
 some_waits false (suc items) is none empty = absurd (omega arith)
 
-positive : (n : ℕ) → 0 < n → not (n == 0) ≡ true
-positive n some = grind (arith, nat_tests)
+-- The timer is no reason.
+untimed : (now room : ℕ) (queue : RetransmissionState) (timer : TimerModel) (waiting : SendQueueState) → Halts now room (record queue { timer = timer }) waiting → Halts now room queue waiting
+untimed now room queue timer waiting (inl (stays, why)) = inl (record { place = stays.place; next = stays.next; stays = stays.stays }, why)
+untimed now room queue timer waiting (inr anew) = inr anew
 
-answer_is : (chunks : List ChunkContent) (count : ℕ) → length chunks ≡ count → not (count == 0) ≡ has_chunks chunks
-answer_is [] count is = rw (← is) refl
-answer_is (chunk ∷ chunks) count is = positive count (omega (arith, is))
+-- what was sent, once the timer runs
+sent_packet : (now bytes : ℕ) (before after : RetransmissionState) (waiting left : SendQueueState) (events telling : List SocketEvent) (tsns : Vec ℕ Global)
+    → SendsPacket now bytes before waiting events after left telling (Ok tsns) → FillsUp now bytes after left tsns.items → (0 < length tsns.items → FindsPlaces after.outstanding)
+    → (room : ℕ) × Fills now (stage before waiting events [] bytes) (stage after left telling tsns.items room)
+sent_packet now bytes before after waiting left events telling tsns sends up places =
+    let sent : Stage = stage sends.sent left telling tsns.items sends.fills.room in
+    let same : sent.queue.outstanding ≡ after.outstanding = ap (λ (q : RetransmissionState). q.outstanding) (sym sends.is) in
+    let halts = halts_there now bytes (stage before waiting events [] bytes) sent after left refl refl sends.fills.fills same places up in (
+      sends.fills.room,
+      record {
+        sent = sent;
+        fills = sends.fills.fills;
+        halts = untimed now sends.fills.room sends.sent _ left (rw sends.is at halts);
+        is = ap (λ (q : RetransmissionState). stage q left telling tsns.items sends.fills.room) sends.is;
+      },
+    )
 
-no_tsns : (tsns : List ℕ) → not (length tsns == 0) ≡ false → tsns ≡ []
-no_tsns [] is = refl
-no_tsns (tsn ∷ tsns) is =
-    let some = positive (length (tsn ∷ tsns)) (omega arith) in
-    let both : true ≡ false = sym some ∙ is in absurd (cc)
-
-pub fills_some : (now : ℕ) (old new : Transfer) (before after : RetransmissionState) (shown : SendQueueState) (left : SendQueueState) (events telling : List (Event (List ℕ))) (packet filled : Building) (tsns : List ℕ) (any : Bool)
-    → before ≡ old.retransmission
-    → new ≡ record old { retransmission = after }
+pub fills_some : (now bytes : ℕ) (old new : Transfer) (before after : RetransmissionState) (waiting shown left : SendQueueState) (events telling : List SocketEvent) (packet filled : Building) (tsns : Vec ℕ Global) (any : Bool)
+    → before ≡ old.retransmission → waiting ≡ shown → bytes ≡ bytes_remaining packet → new ≡ record old { retransmission = after }
     → (has_data shown || nat_lt 0 (outstanding_count old.retransmission)) ≡ true
-    → Sends now before after → FillsUp (bytes_remaining packet) after left tsns → TellsMore events telling → AddsChunks after.outstanding.is_interleaved packet (length tsns) filled
-    → any ≡ not (length tsns == 0)
-    → FillsPacket old shown events packet new left telling filled any
-fills_some now old new before after shown left events telling packet filled tsns any old_is new_is work sends fills tells adds answer =
+    → SendsPacket now bytes before waiting events after left telling (Ok tsns) → FillsUp now bytes after left tsns.items → (0 < length tsns.items → FindsPlaces after.outstanding)
+    → AddsChunks after.outstanding tsns.items packet filled → any ≡ not (length tsns.items == 0)
+    → FillsPacket now old shown (contents events) packet new left (contents telling) filled any
+fills_some now bytes old new before after waiting shown left events telling packet filled tsns any old_is shown_is bytes_is new_is some sends up places adds answer =
+    let (room, fills) = sent_packet now bytes before after waiting left events telling tsns sends up places in
+    let start : Stage = stage_of shown old.retransmission [] (bytes_remaining packet) in
+    let begins : stage before waiting events [] bytes ≡ behind_events (contents events) start = rw (old_is, shown_is, bytes_is, append-nil (contents events)) refl in
+    let end : Stage = stage after left telling tsns.items room in
+    let (stripped, does, is) = filled_before (contents events) now start end (subst (λ (s : Stage). Fills now s end) begins fills) in
+    let tells = tells_filled now start stripped does in
     record {
+      sent = stripped;
+      fills = fills_where (may_give shown old.retransmission) now start stripped does;
+      idle = λ nothing none_out. absurd (some_waits (has_data shown) (outstanding_count old.retransmission) some nothing none_out);
       chunks = adds.chunks;
-      told = tells.told;
-      adds = adds.is;
+      are = subst (λ (s : Stage). AreChunks s.queue.outstanding s.tsns (map unworked adds.chunks)) is adds.are;
       fits = adds.fits;
-      are_data = subst (λ (b : Bool). AllByRecursion (IsDataChunk b) adds.chunks)
-          (ap (λ (q : RetransmissionState). q.outstanding.is_interleaved) sends.is ∙ (sends.keeps.is_interleaved ∙ ap (λ (r : RetransmissionState). r.outstanding.is_interleaved) old_is)) adds.are_data;
-      tells = tells.is;
-      answers = answer ∙ answer_is adds.chunks (length tsns) adds.count_is;
-      gives = λ empty.
-          ap (λ (t : Transfer). must_give (bytes_remaining packet) left t.retransmission) new_is
-          ∙ gives_nothing (bytes_remaining packet) after left tsns fills (no_tsns tsns (sym answer ∙ empty));
-      rest = new_is ∙ ap (λ (r : RetransmissionState). record old { retransmission = r }) (sym (ap (λ (t : Transfer). t.retransmission) new_is));
-      partial_reliability = ap (λ (t : Transfer). t.retransmission.partial_reliability) new_is
-          ∙ (ap (λ (q : RetransmissionState). q.partial_reliability) sends.is ∙ (sends.keeps.partial_reliability ∙ ap (λ (r : RetransmissionState). r.partial_reliability) old_is));
-      is_interleaved = ap (λ (t : Transfer). t.retransmission.outstanding.is_interleaved) new_is
-          ∙ (ap (λ (q : RetransmissionState). q.outstanding.is_interleaved) sends.is ∙ (sends.keeps.is_interleaved ∙ ap (λ (r : RetransmissionState). r.outstanding.is_interleaved) old_is));
-      idle = λ nothing no_items. absurd (some_waits (has_data shown) (outstanding_count old.retransmission) work nothing no_items);
+      adds = adds.is;
+      told = tells.told;
+      are_told = sym tells.is;
+      tells = ap (λ (s : Stage). s.told) is;
+      answers = answer ∙ as_many after.outstanding tsns.items adds.chunks adds.are;
+      queue = ap (λ (s : Stage). s.waiting) is;
+      is = new_is ∙ ap (λ (s : Stage). record old { retransmission = s.queue }) is;
+    }
+
+-- ---- if an allocation fails
+
+pub tells_filling : (now bytes : ℕ) (old : Transfer) (before after : RetransmissionState) (waiting shown left : SendQueueState) (events telling : List SocketEvent) (room : ℕ)
+    → before ≡ old.retransmission → waiting ≡ shown → bytes ≡ room → StopsFilling now (stage before waiting events [] bytes) (stage after left telling [] bytes)
+    → TellsFilling now room old shown (contents events) (contents telling)
+tells_filling now bytes old before after waiting shown left events telling room old_is shown_is bytes_is stops =
+    let start : Stage = stage_of shown old.retransmission [] room in
+    let end : Stage = stage after left telling [] bytes in
+    let begins : stage before waiting events [] bytes ≡ behind_events (contents events) start = rw (old_is, shown_is, bytes_is, append-nil (contents events)) refl in
+    let told = stops_filling (contents events) now start end (subst (λ (s : Stage). StopsFilling now s end) begins stops) in
+    record {
+      sent = told.filled.new;
+      fills = fills_where (may_give shown old.retransmission) now start told.filled.new told.filled.fills;
+      tells = record { front = told.first; rest = told.filled.rest; parts = told.filled.told; told = told.tells };
     }

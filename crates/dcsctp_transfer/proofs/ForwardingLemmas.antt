@@ -1,70 +1,84 @@
--- What tells the peer to wait no longer, from what was given up.
-use Rattle.std.proofs.Common.{◌≡◌, ◌∙◌, ℕ, ◌+◌, ◌^◌, ◌<◌, ◌≤◌, ◌&&◌, Result, Ok, Err, Bool, true, false, Option, None, List, ◌++◌, length, length-append, map, refl, ap, sym, subst, arith}
-use Rattle.std.specs.List.{AllByRecursion}
+-- The chunk that tells the peer to wait no longer, as the machine says it.
+use Rattle.std.proofs.Common.{◌≡◌, ◌∙◌, ℕ, ◌+◌, ◌^◌, ◌<◌, ◌≤◌, nat_le, if◌then◌else◌, Bool, true, false, List, [], ◌∷◌, ◌++◌, length, length-append, map, take, refl, ap, sym, subst, arith}
+use Rattle.std.proofs.lemmas.Bool.Decides.{nat_tests}
+use Rattle.std.proofs.lemmas.List.{append-nil}
+use Rattle.std.specs.List.{AllByRecursion, flat_map}
 use Rattle.std.specs.Int.{w32, to_be_bytes}
-use Rattle.std.specs.declared.alloc.AllocError.{AllocError}
-use Rattle.dcsctp_wire.specs.Content.{forward_tsn_chunk, i_forward_tsn_chunk}
+use Rattle.dcsctp_wire.specs.Content.{ChunkContent, forward_tsn_chunk, i_forward_tsn_chunk}
 use Rattle.dcsctp_wire.specs.ReadsBack.{IsByte, FitsChunk}
 use Rattle.dcsctp_wire.specs.Spelling.{chunk_bytes}
+use Rattle.dcsctp_wire.specs.declared.chunk.forward_tsn.SkippedStream.{SkippedStream}
+use Rattle.dcsctp_wire.specs.declared.chunk.forward_tsn.SkippedMessages.{SkippedMessages}
 use Rattle.dcsctp_wire.proofs.Lengths.{length-chunk_bytes}
-use Rattle.dcsctp_wire_build.specs.Building.{Building}
-use Rattle.dcsctp_machine.specs.Event.{Event}
-use Rattle.dcsctp_machine.specs.Packet.{unworked}
-use Rattle.dcsctp_machine.specs.transfer.SendQueue.{SendQueueState}
-use Rattle.dcsctp_machine.specs.transfer.Transfer.{Transfer}
-use Rattle.dcsctp_machine.specs.transfer.Retransmission.{RetransmissionState, outstanding_count}
-use Rattle.dcsctp_machine.specs.turns.FlushOutcomes.{IsForward}
+use Rattle.dcsctp_wire_build.specs.Building.{Building, bytes_remaining}
+use Rattle.dcsctp_machine.specs.Packet.{unworked, plain_out}
 use Rattle.dcsctp_machine.specs.transfer.Items.{Item}
+use Rattle.dcsctp_machine.specs.transfer.Retransmission.{RetransmissionState}
+use Rattle.dcsctp_machine.specs.transfer.Skipping.{entry_limit, entry_bytes, forward_chunk, ListsEntries, IsRow, SaysForward}
+use Rattle.dcsctp_machine.specs.turns.FlushOutcomes.{FitsPlain, where_fits}
+use Rattle.dcsctp_send_retransmission.specs.declared.forward_tsn.ForwardTsn.{ForwardTsn}
 use Rattle.dcsctp_send_retransmission.specs.declared.forward_tsn.Skipped.{Skipped}
 use Rattle.dcsctp_send_retransmission.specs.declared.forward_tsn.Skipped.TheVariants.{Streams, Messages}
-use Rattle.dcsctp_send_retransmission.specs.Sending.{Keeps}
-use Rattle.dcsctp_send_retransmission.specs.States.{Stage, is_due, Steps, none, more}
-use Rattle.dcsctp_send_retransmission.specs.GivingUp.{GivesUpFirst, GivesUpDue}
-use Rattle.dcsctp_send_retransmission.specs.Forwarding.{Lists}
-use Rattle.dcsctp_send_retransmission.specs.SkippedBytes.{ReadsAs}
-use Rattle.dcsctp_send_retransmission.proofs.GivingUpLemmas.{gives_up_at}
-use Rattle.dcsctp_send_retransmission.proofs.SendingLemmas.{keeps_refl, keeps_trans, gives_up_keeps}
-use Rattle.dcsctp_transfer.specs.Filling.{told_content, TellsMore, with_chunk}
-use Rattle.dcsctp_transfer.specs.Forwarding.{forward_said, PutsForward, PutsWhere, Forwards}
-use Rattle.dcsctp_transfer.proofs.TellingLemmas.{tells_then, tells_given_up, tells_steps, tells_unclosed}
+use Rattle.dcsctp_send_retransmission.specs.Forwarding.{stream_entry, messages_entry, entry_count, Lists, Says}
+use Rattle.dcsctp_send_retransmission.specs.SkippedBytes.{stream_bytes, messages_bytes, skipped_bytes, ReadsAs}
+use Rattle.dcsctp_transfer.specs.Filling.{with_chunk}
+use Rattle.dcsctp_transfer.specs.Forwarding.{forward_said, PutsForward}
 
--- ---- what stays while messages are given up
+-- ---- the entries, as they lie in memory
 
-keeps_steps : (now : ℕ) (old new : Stage) → Steps (GivesUpFirst now) old new → Keeps old.queue new.queue
-keeps_steps now old new none = keeps_refl old.queue
-keeps_steps now old new (more between new' steps step) =
-    keeps_trans old.queue between.queue new'.queue (keeps_steps now old between steps)
-    (gives_up_keeps step.place between.queue new'.queue (gives_up_at now step.place between new' step.gives_up))
+streams_said : (streams : List SkippedStream) → flat_map stream_bytes streams ≡ flat_map (entry_bytes false) (map stream_entry streams)
+streams_said [] = refl
+streams_said (entry ∷ streams) = ap (λ (bytes : List ℕ). stream_bytes entry ++ bytes) (streams_said streams)
 
-pub keeps_due : {A : Type 0} (r : Result A AllocError) (now : ℕ) (old new : Stage) → GivesUpDue now old new r → Keeps old.queue new.queue
-keeps_due (Ok done) now old new h = keeps_steps now old new h.0
-keeps_due (Err error) now old new h =
-    subst (λ (queue : RetransmissionState). Keeps old.queue queue) (sym (ap (λ (s : Stage). s.queue) h.refuses.is)) (keeps_steps now old h.at h.steps)
+messages_said : (messages : List SkippedMessages) → flat_map messages_bytes messages ≡ flat_map (entry_bytes true) (map messages_entry messages)
+messages_said [] = refl
+messages_said (entry ∷ messages) = ap (λ (bytes : List ℕ). messages_bytes entry ++ bytes) (messages_said messages)
 
--- what the user is told
-tells_first : (now : ℕ) (old new : Stage) → GivesUpFirst now old new → TellsMore old.told new.told
-tells_first now old new step = tells_given_up now step.place old new step.gives_up
+stream_count : (streams : List SkippedStream) → length (map stream_entry streams) ≡ length streams
+stream_count [] = refl
+stream_count (entry ∷ streams) = let rest = stream_count streams in omega (arith, rest)
 
-pub tells_due : {A : Type 0} (r : Result A AllocError) (now : ℕ) (old new : Stage) → GivesUpDue now old new r → TellsMore old.told new.told
-tells_due (Ok done) now old new h = tells_steps (GivesUpFirst now) (tells_first now) old new h.0
-tells_due (Err error) now old new h =
-    let refused = h.refuses.refused in
-    tells_then old.told h.at.told new.told (tells_steps (GivesUpFirst now) (tells_first now) old h.at h.steps)
-    (tells_unclosed refused.last h.at.waiting h.at.told new.told refused.last.fragment.is_end refused.tells)
+messages_count : (messages : List SkippedMessages) → length (map messages_entry messages) ≡ length messages
+messages_count [] = refl
+messages_count (entry ∷ messages) = let rest = messages_count messages in omega (arith, rest)
 
--- ---- without partial reliability
+-- the entries of a chunk
+record SaysEntries (interleaving : Bool) (row : List Item) (skipped : Skipped) : Type 0 where
+  entries : List ((ℕ × Bool) × ℕ)
+  count : entry_count skipped ≡ length entries
+  lists : ListsEntries interleaving row entries
+  said : (tsn : ℕ) (bytes : List ℕ) → bytes ≡ skipped_bytes skipped → forward_said tsn bytes skipped ≡ forward_chunk interleaving tsn entries
 
-no_steps : (now : ℕ) (old new : Stage) → old.queue.partial_reliability ≡ false → Steps (GivesUpFirst now) old new → new ≡ old
-no_steps now old new not_negotiated none = refl
-no_steps now old new not_negotiated (more between new' steps step) =
-    absurd (never step.is_due.item between.queue.partial_reliability ((keeps_steps now old between steps).partial_reliability ∙ not_negotiated) step.is_due.due)
-  where
-    never : (item : Item) (negotiated : Bool) → negotiated ≡ false → is_due now negotiated item ≡ true → ⊥
-    never item negotiated without due = let both : false ≡ true = sym (ap (λ (b : Bool). is_due now b item) without) ∙ due in cc
+says_entries : (interleaving : Bool) (row : List Item) (skipped : Skipped) → Lists interleaving row skipped → SaysEntries interleaving row skipped
+says_entries false row (Streams streams) lists =
+    record {
+      entries = map stream_entry streams.items;
+      count = sym (stream_count streams.items);
+      lists = lists;
+      said = λ tsn bytes is. ap (forward_tsn_chunk tsn) (is ∙ streams_said streams.items);
+    }
+says_entries false row (Messages messages) lists = absurd lists
+says_entries true row (Streams streams) lists = absurd lists
+says_entries true row (Messages messages) lists =
+    record {
+      entries = map messages_entry messages.items;
+      count = sym (messages_count messages.items);
+      lists = lists;
+      said = λ tsn bytes is. ap (i_forward_tsn_chunk tsn) (is ∙ messages_said messages.items);
+    }
 
--- a chunk is due only with it
-pub never_due : (negotiated test due : Bool) → due ≡ (negotiated && test) → due ≡ true → negotiated ≡ false → ⊥
-never_due negotiated test due is was without = let both : false ≡ true = sym (is ∙ ap (λ (b : Bool). b && test) without) ∙ was in cc
+says_forward : (state : RetransmissionState) (forward : ForwardTsn) (bytes : List ℕ) → Says state forward → bytes ≡ skipped_bytes forward.skipped
+    → SaysForward state (forward_said forward.new_cumulative_tsn bytes forward.skipped)
+says_forward state forward bytes says is =
+    let interleaving = state.outstanding.is_interleaved in
+    let says_all = says_entries interleaving (take says.count state.outstanding.items) forward.skipped says.lists in
+    record {
+      count = says.count;
+      entries = says_all.entries;
+      row = subst (λ (n : ℕ). IsRow interleaving (entry_limit interleaving state.congestion.mtu) n says.count state.outstanding.items) says_all.count says.row;
+      lists = says_all.lists;
+      is = says_all.said forward.new_cumulative_tsn bytes is ∙ ap (λ (tsn : ℕ). forward_chunk interleaving tsn says_all.entries) says.cumulative;
+    }
 
 -- ---- the chunk
 
@@ -78,52 +92,34 @@ said_fits tsn entries (Streams streams) tsn_fits bytes reads short =
 said_fits tsn entries (Messages messages) tsn_fits bytes reads short =
     record { tsn_fits = tsn_fits; len_fits = short; streams_fit = record { whole = omega (arith, reads.0); entries_in_bytes = bytes } }
 
-said_kind : (interleaving : Bool) (row : List Item) (tsn : ℕ) (entries : List ℕ) (skipped : Skipped) → Lists interleaving row skipped → IsForward interleaving (unworked (forward_said tsn entries skipped))
-said_kind false row tsn entries (Streams streams) lists = tt
-said_kind false row tsn entries (Messages messages) lists = absurd lists
-said_kind true row tsn entries (Streams streams) lists = absurd lists
-said_kind true row tsn entries (Messages messages) lists = tt
-
-pub puts_forward : (interleaving : Bool) (row : List Item) (tsn : ℕ) (entries : List ℕ) (skipped : Skipped) (packet filled : Building)
-    → Lists interleaving row skipped → ReadsAs skipped entries → tsn < 2 ^ 32 → AllByRecursion IsByte entries → packet.size ≤ 65535
-    → filled ≡ with_chunk packet (forward_said tsn entries skipped) → PutsForward interleaving packet filled
-puts_forward interleaving row tsn entries skipped packet filled lists reads tsn_fits bytes small is =
-    let long = said_len tsn entries skipped in
+pub puts_forward : (state : RetransmissionState) (forward : ForwardTsn) (entries : List ℕ) (packet filled : Building) → Says state forward → entries ≡ skipped_bytes forward.skipped → ReadsAs forward.skipped entries
+    → forward.new_cumulative_tsn < 2 ^ 32 → AllByRecursion IsByte entries → packet.size ≤ 65535 → filled ≡ with_chunk packet (forward_said forward.new_cumulative_tsn entries forward.skipped)
+    → PutsForward state packet filled
+puts_forward state forward entries packet filled says said reads tsn_fits bytes small is =
+    let long = said_len forward.new_cumulative_tsn entries forward.skipped in
     record {
-      chunk = forward_said tsn entries skipped;
-      kind = said_kind interleaving row tsn entries skipped lists;
-      fits = λ within. said_fits tsn entries skipped tsn_fits bytes reads (omega (arith, long, small, within));
+      chunk = forward_said forward.new_cumulative_tsn entries forward.skipped;
+      says = says_forward state forward entries says said;
+      fits = λ within. said_fits forward.new_cumulative_tsn entries forward.skipped tsn_fits bytes reads (omega (arith, long, small, within));
       is = is;
     }
 
--- ---- all of it
+-- ---- the chunk, if it fits
 
--- messages were given up, as many as were due
-pub forwards_due : (now : ℕ) (old new : Transfer) (before after : Stage) (shown : SendQueueState) (events telling : List (Event (List ℕ))) (packet filled : Building) (next : Option ℕ)
-    → before.queue ≡ old.retransmission
-    → new ≡ record old { retransmission = after.queue }
-    → before.waiting ≡ shown → before.told ≡ events → after.told ≡ telling
-    → (outstanding_count old.retransmission ≡ 0 → ⊥)
-    → Steps (GivesUpFirst now) before after → TellsMore before.told after.told
-    → PutsWhere next now old packet filled → (old.retransmission.partial_reliability ≡ false → next ≡ None)
-    → Forwards now old shown events packet new after.waiting telling filled next
-forwards_due now old new before after shown events telling packet filled next old_is new_is shown_is was_told is_told some steps tells puts negotiated =
-    let keeps : Keeps before.queue after.queue = keeps_steps now before after steps in
-    record {
-      told = tells.told;
-      puts = puts;
-      tells = sym is_told ∙ (tells.is ∙ ap (λ (es : List (Event (List ℕ))). es ++ map told_content tells.told) was_told);
-      rest = new_is ∙ ap (λ (r : RetransmissionState). record old { retransmission = r }) (sym (ap (λ (t : Transfer). t.retransmission) new_is));
-      partial_reliability = ap (λ (t : Transfer). t.retransmission.partial_reliability) new_is
-          ∙ (keeps.partial_reliability ∙ ap (λ (r : RetransmissionState). r.partial_reliability) old_is);
-      is_interleaved = ap (λ (t : Transfer). t.retransmission.outstanding.is_interleaved) new_is
-          ∙ (keeps.is_interleaved ∙ ap (λ (r : RetransmissionState). r.outstanding.is_interleaved) old_is);
-      negotiated = λ without.
-          let same : after ≡ before = no_steps now before after (ap (λ (r : RetransmissionState). r.partial_reliability) old_is ∙ without) steps in (
-            negotiated without,
-            new_is ∙ ap (λ (r : RetransmissionState). record old { retransmission = r }) (ap (λ (s : Stage). s.queue) same ∙ old_is),
-            ap (λ (s : Stage). s.waiting) same ∙ shown_is,
-            sym is_told ∙ (ap (λ (s : Stage). s.told) same ∙ was_told),
-          );
-      idle = λ no_items. absurd (some no_items);
-    }
+-- The packet has what fits into it.
+pub record AddsFitting (packet filled : Building) (chunk : ChunkContent) : Type 0 where
+  pub fits : AllByRecursion FitsPlain (where_fits (bytes_remaining packet) (unworked chunk))
+  pub adds : filled ≡ record packet { body = packet.body ++ flat_map chunk_bytes (map plain_out (where_fits (bytes_remaining packet) (unworked chunk))) }
+
+pub adds_fitting : (packet filled : Building) (chunk : ChunkContent) → filled ≡ with_chunk packet chunk → (length (chunk_bytes chunk) ≤ bytes_remaining packet → FitsChunk chunk) → AddsFitting packet filled chunk
+adds_fitting packet filled chunk is fits = by_room (nat_le (length (chunk_bytes chunk)) (bytes_remaining packet)) refl is
+  where
+    by_room : (b : Bool) → nat_le (length (chunk_bytes chunk)) (bytes_remaining packet) ≡ b → filled ≡ (if b then record packet { body = packet.body ++ chunk_bytes chunk } else packet)
+        → AddsFitting packet filled chunk
+    by_room true within there =
+        record {
+          fits = rw within (fits (grind (arith, nat_tests)), tt);
+          adds = rw within (there ∙ ap (λ (bytes : List ℕ). record packet { body = packet.body ++ bytes }) (sym (append-nil (chunk_bytes chunk))));
+        }
+    by_room false beyond there =
+        record { fits = rw beyond tt; adds = rw beyond (there ∙ ap (λ (body : List ℕ). record packet { body = body }) (sym (append-nil packet.body))) }

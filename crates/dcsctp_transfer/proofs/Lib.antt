@@ -1,9 +1,11 @@
+pub mod AbandoningLemmas
 pub mod AddingLemmas
-pub mod AtOnceLemmas
 pub mod FillingLemmas
 pub mod ForwardingLemmas
-pub mod GivingLemmas
 pub mod ReceivingLemmas
+pub mod RoomLemmas
 pub mod SackLemmas
 pub mod SacksLemmas
-pub mod TellingLemmas
+pub mod StoppedLemmas
+pub mod StoppedTakingLemmas
+pub mod StoppedUpLemmas

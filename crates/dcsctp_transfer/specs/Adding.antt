@@ -1,16 +1,15 @@
 -- Chunks of what is outstanding, as they go into a packet.
-use Rattle.std.specs.Prelude.{◌≡◌, ℕ, ◌+◌, ◌≤◌, Bool, true, false, if◌then◌else◌, Some, List, [], ◌∷◌, ◌++◌, drop, length, slice_get}
+use Rattle.std.specs.Prelude.{◌≡◌, ℕ, ◌+◌, ◌≤◌, Some, List, [], ◌∷◌, ◌++◌, map, drop, length, slice_get}
 use Rattle.std.specs.List.{AllByRecursion, flat_map}
-use Rattle.dcsctp_wire.specs.Content.{SackContent, DataContent, IDataContent, ChunkContent, data_chunk, i_data_chunk}
+use Rattle.dcsctp_wire.specs.Content.{SackContent, ChunkContent}
 use Rattle.dcsctp_wire.specs.ReadsBack.{FitsChunk}
 use Rattle.dcsctp_wire.specs.Spelling.{chunk_bytes}
-use Rattle.dcsctp_wire.specs.declared.chunk.user_data.DataFlags.{DataFlags}
-use Rattle.dcsctp_machine.specs.transfer.Sending.{Fragment}
 use Rattle.dcsctp_wire_build.specs.Building.{Building, bytes_remaining}
 use Rattle.dcsctp_receive_tracker.specs.declared.data_tracker.SelectiveAck.{SelectiveAck}
+use Rattle.dcsctp_machine.specs.Packet.{unworked}
+use Rattle.dcsctp_machine.specs.transfer.Chunks.{IsChunkOf, AreChunks}
 use Rattle.dcsctp_machine.specs.transfer.Items.{Item, size_of}
 use Rattle.dcsctp_machine.specs.transfer.Outstanding.{OutstandingState, header, tsn_at}
-use Rattle.dcsctp_transfer.specs.Filling.{IsDataChunk}
 
 -- The TSN is that of an item, whose chunk is that long.
 pub record HasChunk (outstanding : OutstandingState) (tsn size : ℕ) : Type 0 where
@@ -31,25 +30,24 @@ pub record HasChunkWithin (room : ℕ) (outstanding : OutstandingState) (tsn : �
   pub chunk : HasChunk outstanding tsn size
   pub within : size ≤ room
 
--- A chunk with data was put into a packet, which is that long.
-pub record AddsChunk (interleaving : Bool) (old : Building) (size : ℕ) (new : Building) : Type 0 where
+-- The chunk of this TSN was put into a packet, and is that long.
+pub record AddsChunk (outstanding : OutstandingState) (tsn : ℕ) (old : Building) (size : ℕ) (new : Building) : Type 0 where
   pub chunk : ChunkContent
+  pub of : IsChunkOf outstanding tsn (unworked chunk)
   pub is : new ≡ record old { body = old.body ++ chunk_bytes chunk }
   pub fits : FitsChunk chunk
-  pub is_data : IsDataChunk interleaving chunk
   pub size_is : length (chunk_bytes chunk) ≡ size
 
 -- the chunk of a TSN, by how long it is
-abbrev pub AddsChunkOf : Bool → OutstandingState → ℕ → Building → Building → Type 0
-AddsChunkOf interleaving outstanding tsn old new = (size : ℕ) → HasChunk outstanding tsn size → AddsChunk interleaving old size new
+abbrev pub AddsChunkOf : OutstandingState → ℕ → Building → Building → Type 0
+AddsChunkOf outstanding tsn old new = (size : ℕ) → HasChunk outstanding tsn size → AddsChunk outstanding tsn old size new
 
--- So many chunks with data were put into a packet.
-pub record AddsChunks (interleaving : Bool) (old : Building) (count : ℕ) (new : Building) : Type 0 where
+-- The chunks of these TSNs were put into a packet.
+pub record AddsChunks (outstanding : OutstandingState) (tsns : List ℕ) (old new : Building) : Type 0 where
   pub chunks : List ChunkContent
+  pub are : AreChunks outstanding tsns (map unworked chunks)
   pub is : new ≡ record old { body = old.body ++ flat_map chunk_bytes chunks }
   pub fits : AllByRecursion FitsChunk chunks
-  pub are_data : AllByRecursion (IsDataChunk interleaving) chunks
-  pub count_is : length chunks ≡ count
 
 -- The chunks of the TSNs from this place on fit into what is left of the packet.
 pub record HasRest (outstanding : OutstandingState) (place : ℕ) (tsns : List ℕ) (packet : Building) : Type 0 where
@@ -66,35 +64,3 @@ said_by sack =
       gap_ack_blocks = sack.gap_ack_blocks.items;
       duplicate_tsns = sack.duplicate_tsns.items;
     }
-
--- ---- what a fragment says
-
--- its flags as it is sent: it isn't to be acknowledged at once
-abbrev pub flags_said : Fragment → DataFlags
-flags_said part = record { is_end = part.is_end; is_beginning = part.is_beginning; is_unordered = part.is_unordered; immediate_ack = false }
-
--- as DATA (RFC 9260, section 3.3.1)
-abbrev pub data_said : ℕ → Fragment → DataContent
-data_said tsn part =
-    record { flags = flags_said part; tsn = tsn; stream_id = part.stream; ssn = part.ssn; ppid = part.ppid; payload = part.payload }
-
--- A first fragment names its protocol, and each other one its number.
-abbrev pub ppid_or_fsn : Fragment → ℕ
-ppid_or_fsn part = if part.is_beginning then part.ppid else part.fsn
-
--- as I-DATA (RFC 8260, section 2.1)
-abbrev pub i_data_said : ℕ → Fragment → IDataContent
-i_data_said tsn part =
-    record {
-      flags = flags_said part;
-      tsn = tsn;
-      stream_id = part.stream;
-      mid = part.mid;
-      ppid_or_fsn = ppid_or_fsn part;
-      payload = part.payload;
-    }
-
--- under this TSN, with interleaving or without
-abbrev pub chunk_said : Bool → ℕ → Fragment → ChunkContent
-chunk_said true tsn part = i_data_chunk (i_data_said tsn part)
-chunk_said false tsn part = data_chunk (data_said tsn part)

@@ -1,63 +1,56 @@
 -- How a packet is filled: with data, and with what acknowledges data (RFC 9260, sections 6.1 and 6.2).
-use Rattle.std.specs.Prelude.{◌≡◌, ℕ, ◌&&◌, ◌||◌, nat_le, nat_lt, length, if◌then◌else◌, Bool, true, false, List, [], ◌∷◌, ◌++◌, map}
+use Rattle.std.specs.Prelude.{◌≡◌, ℕ, ◌&&◌, ◌||◌, nat_le, length, if◌then◌else◌, Bool, true, false, List, [], ◌∷◌, ◌++◌, map}
 use Rattle.std.specs.List.{AllByRecursion, flat_map}
 use Rattle.dcsctp_wire.specs.Content.{ChunkContent, sack_chunk}
 use Rattle.dcsctp_wire.specs.ReadsBack.{FitsChunk}
 use Rattle.dcsctp_wire.specs.Spelling.{chunk_bytes}
 use Rattle.dcsctp_wire_build.specs.Building.{Building, bytes_remaining}
-use Rattle.dcsctp_machine.specs.Event.{Event, buffered_amount_low, total_buffered_amount_low, lifecycle_message_fully_sent, lifecycle_message_maybe_expired, lifecycle_message_expired, lifecycle_end}
-use Rattle.dcsctp_machine.specs.transfer.Items.{marked_items}
-use Rattle.dcsctp_machine.specs.transfer.Reassembly.{remaining_bytes}
-use Rattle.dcsctp_machine.specs.transfer.SendQueue.{SendQueueState, has_data}
-use Rattle.dcsctp_machine.specs.transfer.Transfer.{Transfer, must_give}
-use Rattle.dcsctp_machine.specs.transfer.Retransmission.{RetransmissionState, can_send, outstanding_count}
-use Rattle.dcsctp_machine.specs.transfer.Tracker.{is_acknowledgement_due, owes_acknowledgement, sack_of, sacked}
-use Rattle.dcsctp_machine.specs.turns.FlushOutcomes.{Told, amount_is_low, total_amount_is_low, message_is_sent, message_may_have_expired, message_has_expired, message_ends, IsData}
+use Rattle.dcsctp_machine.specs.Event.{Event}
 use Rattle.dcsctp_machine.specs.Packet.{unworked}
-
--- what an event says by which the user is told this
-abbrev pub told_content : Told → Event (List ℕ)
-told_content (amount_is_low stream) = buffered_amount_low stream
-told_content total_amount_is_low = total_buffered_amount_low
-told_content (message_is_sent id) = lifecycle_message_fully_sent id
-told_content (message_may_have_expired id) = lifecycle_message_maybe_expired id
-told_content (message_has_expired id) = lifecycle_message_expired id
-told_content (message_ends id) = lifecycle_end id
-
--- The user was told some of that, and nothing else.
-pub record TellsMore (before after : List (Event (List ℕ))) : Type 0 where
-  pub told : List Told
-  pub is : after ≡ before ++ map told_content told
-
--- DATA, or with interleaving I-DATA
-abbrev pub IsDataChunk : Bool → ChunkContent → Type 0
-IsDataChunk interleaving chunk = IsData interleaving (unworked chunk)
+use Rattle.dcsctp_machine.specs.transfer.Chunks.{AreChunks}
+use Rattle.dcsctp_machine.specs.transfer.Filling.{Stage}
+use Rattle.dcsctp_machine.specs.transfer.Reassembly.{remaining_bytes}
+use Rattle.dcsctp_machine.specs.transfer.Retransmission.{outstanding_count}
+use Rattle.dcsctp_machine.specs.transfer.SendQueue.{SendQueueState, has_data}
+use Rattle.dcsctp_machine.specs.transfer.Tracker.{is_acknowledgement_due, owes_acknowledgement, sack_of, sacked}
+use Rattle.dcsctp_machine.specs.transfer.Transfer.{Transfer, may_give}
+use Rattle.dcsctp_machine.specs.turns.FlushOutcomes.{Told, told_content, stage_of, FillsWhere}
+use Rattle.dcsctp_send_streams.specs.Telling.{TellsFront}
 
 -- is there any?
 abbrev pub has_chunks : List ChunkContent → Bool
 has_chunks [] = false
 has_chunks (chunk ∷ chunks) = true
 
--- May data be sent: what waits to be sent again, or a message if the windows allow more?
-abbrev pub may_give : SendQueueState → RetransmissionState → Bool
-may_give queue state = nat_lt 0 (marked_items state.outstanding.items) || (has_data queue && can_send state)
+-- ---- data
 
--- Chunks with data were put into a packet, or none, and the user was told of it.
-pub record FillsPacket (old : Transfer) (waiting : SendQueueState) (events : List (Event (List ℕ))) (packet : Building) (new : Transfer) (left : SendQueueState) (telling : List (Event (List ℕ))) (filled : Building) (any : Bool) : Type 0 where
+-- what the queues do while a packet with that much room is filled
+abbrev pub FillsData : ℕ → ℕ → Transfer → SendQueueState → Stage → Type 0
+FillsData now room transfer waiting sent =
+    FillsWhere (may_give waiting transfer.retransmission) now (stage_of waiting transfer.retransmission [] room) sent
+
+-- Chunks with data were put into a packet, or none, and the user was told of it. Where nothing waits and nothing is outstanding,
+-- nothing has changed.
+pub record FillsPacket (now : ℕ) (old : Transfer) (waiting : SendQueueState) (events : List (Event (List ℕ))) (packet : Building) (new : Transfer) (left : SendQueueState) (telling : List (Event (List ℕ))) (filled : Building) (any : Bool) : Type 0 where
+  pub sent : Stage
+  pub fills : FillsData now (bytes_remaining packet) old waiting sent
+  pub idle : has_data waiting ≡ false → outstanding_count old.retransmission ≡ 0 → sent ≡ stage_of waiting old.retransmission [] (bytes_remaining packet)
   pub chunks : List ChunkContent
-  pub told : List Told
-  pub adds : filled ≡ record packet { body = packet.body ++ flat_map chunk_bytes chunks }
+  pub are : AreChunks sent.queue.outstanding sent.tsns (map unworked chunks)
   pub fits : AllByRecursion FitsChunk chunks
-  pub are_data : AllByRecursion (IsDataChunk old.retransmission.outstanding.is_interleaved) chunks
-  pub tells : telling ≡ events ++ map told_content told
+  pub adds : filled ≡ record packet { body = packet.body ++ flat_map chunk_bytes chunks }
+  pub told : List Told
+  pub are_told : map told_content told ≡ sent.told
+  pub tells : telling ≡ events ++ sent.told
   pub answers : any ≡ has_chunks chunks
-  -- Nothing went in: so nothing had to.
-  pub gives : any ≡ false → must_give (bytes_remaining packet) left new.retransmission ≡ false
-  pub rest : new ≡ record old { retransmission = new.retransmission }
-  pub partial_reliability : new.retransmission.partial_reliability ≡ old.retransmission.partial_reliability
-  pub is_interleaved : new.retransmission.outstanding.is_interleaved ≡ old.retransmission.outstanding.is_interleaved
-  -- If nothing waits and nothing is outstanding, nothing changes.
-  pub idle : has_data waiting ≡ false → outstanding_count old.retransmission ≡ 0 → (any ≡ false) × (new ≡ old) × (left ≡ waiting) × (told ≡ [])
+  pub queue : left ≡ sent.waiting
+  pub is : new ≡ record old { retransmission = sent.queue }
+
+-- If an allocation failed, the user was told the first part of what some such filling tells.
+pub record TellsFilling (now room : ℕ) (old : Transfer) (waiting : SendQueueState) (before after : List (Event (List ℕ))) : Type 0 where
+  pub sent : Stage
+  pub fills : FillsData now room old waiting sent
+  pub tells : TellsFront before sent.told after
 
 -- ---- what acknowledges
 

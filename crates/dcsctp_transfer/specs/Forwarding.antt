@@ -1,53 +1,56 @@
 -- What tells the peer to wait no longer for messages that were abandoned (RFC 3758, section 3.5; RFC 8260, section 2.3.1).
-use Rattle.std.specs.Prelude.{◌≡◌, ◌≤◌, ℕ, min, length, Bool, false, Option, None, Some, List, [], ◌++◌, map}
+use Rattle.std.specs.Prelude.{◌≡◌, ◌≤◌, ℕ, length, Option, List, [], ◌++◌, map}
+use Rattle.std.specs.List.{AllByRecursion, flat_map}
 use Rattle.dcsctp_wire.specs.Content.{ChunkContent, forward_tsn_chunk, i_forward_tsn_chunk}
 use Rattle.dcsctp_wire.specs.ReadsBack.{FitsChunk}
 use Rattle.dcsctp_wire.specs.Spelling.{chunk_bytes}
 use Rattle.dcsctp_wire_build.specs.Building.{Building, bytes_remaining}
 use Rattle.dcsctp_machine.specs.Event.{Event}
-use Rattle.dcsctp_machine.specs.Packet.{unworked}
-use Rattle.dcsctp_machine.specs.Timers.{moment_after}
-use Rattle.dcsctp_machine.specs.transfer.Retransmission.{outstanding_count}
+use Rattle.dcsctp_machine.specs.Packet.{Plain, plain_out}
+use Rattle.dcsctp_machine.specs.transfer.Abandoning.{GivesUpAll}
+use Rattle.dcsctp_machine.specs.transfer.Filling.{Stage}
+use Rattle.dcsctp_machine.specs.transfer.Retransmission.{RetransmissionState}
 use Rattle.dcsctp_machine.specs.transfer.SendQueue.{SendQueueState}
+use Rattle.dcsctp_machine.specs.transfer.Skipping.{SaysForward}
 use Rattle.dcsctp_machine.specs.transfer.Transfer.{Transfer}
-use Rattle.dcsctp_machine.specs.turns.FlushOutcomes.{Told, IsForward}
+use Rattle.dcsctp_machine.specs.turns.FlushOutcomes.{Told, told_content, FitsPlain, stage_of, may_abandon, GivesUpWhere}
+use Rattle.dcsctp_send_streams.specs.Telling.{TellsFront}
 use Rattle.dcsctp_send_retransmission.specs.declared.forward_tsn.Skipped.{Skipped}
 use Rattle.dcsctp_send_retransmission.specs.declared.forward_tsn.Skipped.TheVariants.{Streams, Messages}
-use Rattle.dcsctp_transfer.specs.Filling.{told_content, with_chunk}
+use Rattle.dcsctp_transfer.specs.Filling.{with_chunk}
 
--- the chunk with this new cumulative TSN and these entries
+-- the chunk with this new cumulative TSN, and with entries as they lie in memory
 abbrev pub forward_said : ℕ → List ℕ → Skipped → ChunkContent
 forward_said tsn entries (Streams streams) = forward_tsn_chunk tsn entries
 forward_said tsn entries (Messages messages) = i_forward_tsn_chunk tsn entries
 
--- A FORWARD-TSN, or with interleaving an I-FORWARD-TSN, was put after the other chunks, if it fits; its numbers fit their fields
--- then.
-pub record PutsForward (interleaving : Bool) (packet filled : Building) : Type 0 where
+-- What skips messages was put after the other chunks, if it fits; its numbers fit their fields then.
+pub record PutsForward (state : RetransmissionState) (packet filled : Building) : Type 0 where
   pub chunk : ChunkContent
-  pub kind : IsForward interleaving (unworked chunk)
+  pub says : SaysForward state chunk
   pub fits : length (chunk_bytes chunk) ≤ bytes_remaining packet → FitsChunk chunk
   pub is : filled ≡ with_chunk packet chunk
 
--- the moment before which the next one isn't made, after one at this moment
-abbrev pub next_after : ℕ → Transfer → ℕ
-next_after now transfer = moment_after now (min 200000000 transfer.timeout.srtt)
+-- what the queues do before a FORWARD-TSN, and which chunks that brings
+abbrev pub GivesUp : ℕ → ℕ → Transfer → SendQueueState → Stage → Option ℕ → List Plain → Type 0
+GivesUp now room transfer waiting gave_up next chunks =
+    GivesUpWhere (may_abandon transfer.retransmission) now transfer room (stage_of waiting transfer.retransmission [] 0) gave_up next chunks
 
--- One was made, before the next of which this moment has to come; or none was.
-abbrev pub PutsWhere : Option ℕ → ℕ → Transfer → Building → Building → Type 0
-PutsWhere None now old packet filled = filled ≡ packet
-PutsWhere (Some next) now old packet filled =
-    (next ≡ next_after now old) × PutsForward old.retransmission.outstanding.is_interleaved packet filled
-
--- Messages may have been abandoned, and the user was told of it. If a chunk was made, the result says when the next one may be
--- made.
+-- Messages were abandoned, and the user was told of it. If a chunk was made, the result says when the next one may be made.
 pub record Forwards (now : ℕ) (old : Transfer) (waiting : SendQueueState) (events : List (Event (List ℕ))) (packet : Building) (new : Transfer) (left : SendQueueState) (telling : List (Event (List ℕ))) (filled : Building) (next : Option ℕ) : Type 0 where
+  pub gave_up : Stage
+  pub chunks : List Plain
+  pub gives_up : GivesUp now (bytes_remaining packet) old waiting gave_up next chunks
+  pub fits : AllByRecursion FitsPlain chunks
+  pub adds : filled ≡ record packet { body = packet.body ++ flat_map chunk_bytes (map plain_out chunks) }
   pub told : List Told
-  pub puts : PutsWhere next now old packet filled
-  pub tells : telling ≡ events ++ map told_content told
-  pub rest : new ≡ record old { retransmission = new.retransmission }
-  pub partial_reliability : new.retransmission.partial_reliability ≡ old.retransmission.partial_reliability
-  pub is_interleaved : new.retransmission.outstanding.is_interleaved ≡ old.retransmission.outstanding.is_interleaved
-  -- Without partial reliability nothing is abandoned.
-  pub negotiated : old.retransmission.partial_reliability ≡ false → (next ≡ None) × (new ≡ old) × (left ≡ waiting) × (telling ≡ events)
-  -- If nothing is outstanding, nothing changes.
-  pub idle : outstanding_count old.retransmission ≡ 0 → (next ≡ None) × (new ≡ old) × (left ≡ waiting) × (told ≡ [])
+  pub are_told : map told_content told ≡ gave_up.told
+  pub tells : telling ≡ events ++ gave_up.told
+  pub queue : left ≡ gave_up.waiting
+  pub is : new ≡ record old { retransmission = gave_up.queue }
+
+-- If an allocation failed, the user was told the first part of what is told then.
+pub record TellsAbandoning (now : ℕ) (old : Transfer) (waiting : SendQueueState) (before after : List (Event (List ℕ))) : Type 0 where
+  pub gave_up : Stage
+  pub gives_up : GivesUpAll now (stage_of waiting old.retransmission [] 0) gave_up
+  pub tells : TellsFront before gave_up.told after

@@ -1,20 +1,21 @@
 -- What a SACK does to an association's data (RFC 9260, sections 6.2.1 and 6.3).
-use Rattle.std.specs.Prelude.{Bool, true, false, Result, Ok, Err, ◌≡◌, ℕ, List, ◌++◌}
+use Rattle.std.specs.Prelude.{Bool, true, false, Result, Ok, Err, ◌≡◌, ℕ, List, ◌++◌, map}
 use Rattle.std.specs.List.{AllByRecursion, flat_map}
 use Rattle.std.specs.declared.alloc.AllocError.{AllocError}
 use Rattle.dcsctp_wire.specs.Content.{ChunkContent, SackContent}
 use Rattle.dcsctp_wire.specs.ReadsBack.{FitsChunk}
 use Rattle.dcsctp_wire.specs.Spelling.{chunk_bytes}
-use Rattle.dcsctp_wire_build.specs.Building.{Building}
+use Rattle.dcsctp_wire_build.specs.Building.{Building, bytes_remaining}
 use Rattle.dcsctp_machine.specs.Event.{Event}
 use Rattle.dcsctp_machine.specs.transfer.Acknowledging.{is_sack_valid, has_acknowledged, delivered_by}
-use Rattle.dcsctp_machine.specs.transfer.Items.{unacknowledged_items}
-use Rattle.dcsctp_machine.specs.transfer.Outstanding.{next_tsn}
-use Rattle.dcsctp_machine.specs.transfer.Retransmission.{outstanding_count}
+use Rattle.dcsctp_machine.specs.Packet.{unworked}
+use Rattle.dcsctp_machine.specs.transfer.AtOnce.{SendsAtOnce}
+use Rattle.dcsctp_machine.specs.transfer.Chunks.{AreChunks}
+use Rattle.dcsctp_machine.specs.transfer.Retransmission.{RetransmissionState}
+use Rattle.dcsctp_machine.specs.transfer.SendQueue.{SendQueueState}
 use Rattle.dcsctp_machine.specs.transfer.Transfer.{Transfer}
 use Rattle.dcsctp_machine.specs.turns.TransferMoves.{TakesSack, lost_all}
 use Rattle.dcsctp_send_streams.specs.Telling.{TellsFront}
-use Rattle.dcsctp_transfer.specs.Filling.{IsDataChunk}
 use Rattle.dcsctp_transfer.specs.declared.sacks.HandledSack.{HandledSack}
 use Rattle.dcsctp_transfer.specs.declared.sacks.HandledSack.TheVariants.{Invalid, Valid}
 
@@ -37,13 +38,13 @@ abbrev pub lost_where : Bool → ℕ → Transfer → Transfer
 lost_where true now transfer = lost_all now transfer
 lost_where false now transfer = transfer
 
--- Chunks that were lost were put into a packet, or none.
-pub record FillsAtOnce (old : Transfer) (packet : Building) (new : Transfer) (filled : Building) : Type 0 where
+-- Chunks that were lost were put into a packet, or none. Nothing else of the queues moves, whatever waits.
+pub record FillsAtOnce (now : ℕ) (old : Transfer) (packet : Building) (new : Transfer) (filled : Building) : Type 0 where
+  pub left : RetransmissionState
+  pub tsns : List ℕ
+  pub sends : (waiting : SendQueueState) → SendsAtOnce now (bytes_remaining packet) waiting old.retransmission left tsns
   pub chunks : List ChunkContent
-  pub adds : filled ≡ record packet { body = packet.body ++ flat_map chunk_bytes chunks }
+  pub are : AreChunks left.outstanding tsns (map unworked chunks)
   pub fits : AllByRecursion FitsChunk chunks
-  pub are_data : AllByRecursion (IsDataChunk old.retransmission.outstanding.is_interleaved) chunks
-  pub outstanding : outstanding_count new.retransmission ≡ outstanding_count old.retransmission
-  pub unacknowledged : unacknowledged_items new.retransmission.outstanding.items ≡ unacknowledged_items old.retransmission.outstanding.items
-  pub next_tsn : next_tsn new.retransmission.outstanding ≡ next_tsn old.retransmission.outstanding
-  pub rest : new ≡ record old { retransmission = new.retransmission }
+  pub adds : filled ≡ record packet { body = packet.body ++ flat_map chunk_bytes chunks }
+  pub is : new ≡ record old { retransmission = left }

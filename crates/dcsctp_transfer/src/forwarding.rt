@@ -9,8 +9,8 @@ ghost use Rattle.dcsctp_machine.specs.Timers.{moment_after};
 ghost use Rattle.dcsctp_machine.specs.transfer.Retransmission.{outstanding_count};
 ghost use Rattle.dcsctp_send_streams.specs.Telling.{contents};
 ghost use Rattle.dcsctp_send_retransmission.specs.SkippedBytes.{ReadsAs};
-ghost use Rattle.dcsctp_transfer.specs.Filling.{TellsMore, with_chunk};
-ghost use Rattle.dcsctp_transfer.specs.Forwarding.{forward_said, PutsForward, Forwards};
+ghost use Rattle.dcsctp_transfer.specs.Filling.{with_chunk};
+ghost use Rattle.dcsctp_transfer.specs.Forwarding.{forward_said, PutsForward, Forwards, TellsAbandoning};
 
 use crate::queued_messages::QueuedMessages;
 use crate::sending::in_bytes;
@@ -41,7 +41,7 @@ impl Transfer {
         packet: &mut SctpPacketBuilder,
     ) -> Result<Option<SocketTime>, AllocError>
         ensures ok { IfOk result (λ next. Forwards now self.old queue.old (contents events.old) packet.old self.new queue.new (contents events.new) packet.new next) }
-        ensures told { OnErr result (TellsMore (contents events.old) (contents events.new)) }
+        ensures told { OnErr result (TellsAbandoning now self.old queue.old (contents events.old) (contents events.new)) }
         ensures kept { OnErr result (packet.new ≡ packet.old) }
         ensures idle { outstanding_count self.old.retransmission ≡ 0 → IsOk result }
     {
@@ -74,7 +74,7 @@ fn put_forward_tsn(
     alloc: Global,
     packet: &mut SctpPacketBuilder,
 ) -> Result<(), AllocError>
-    ensures ok { OnOk result (PutsForward queue.now.outstanding.is_interleaved packet.old packet.new) }
+    ensures ok { OnOk result (PutsForward queue.now packet.old packet.new) }
     ensures kept { OnErr result (packet.new ≡ packet.old) }
 {
     let forward = queue.create_forward_tsn()?;

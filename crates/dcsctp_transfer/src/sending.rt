@@ -9,13 +9,16 @@ ghost use Rattle.dcsctp_wire.specs.Spelling.{chunk_bytes};
 ghost use Rattle.dcsctp_wire_build.specs.Building.{bytes_remaining};
 ghost use Rattle.dcsctp_machine.specs.transfer.SendQueue.{has_data};
 ghost use Rattle.dcsctp_machine.specs.transfer.Retransmission.{outstanding_count, has_fast_retransmit, can_send};
+ghost use Rattle.dcsctp_machine.specs.transfer.Chunks.{flags_said, ppid_or_fsn, data_said, i_data_said, chunk_said};
 ghost use Rattle.dcsctp_machine.specs.transfer.Outstanding.{header_of};
+ghost use Rattle.dcsctp_send_outstanding.specs.Outstanding.{FindsPlaces};
 ghost use Rattle.dcsctp_send_streams.specs.Telling.{contents};
-ghost use Rattle.dcsctp_machine.specs.transfer.Items.{chunk_size};
+ghost use Rattle.dcsctp_machine.specs.transfer.Items.{chunk_size, is_first_abandoned};
 ghost use Rattle.dcsctp_send_retransmission.specs.Sending.{HandsOut};
-ghost use Rattle.dcsctp_transfer.specs.Filling.{IsDataChunk, TellsMore, FillsPacket, may_give, is_sack_wanted, with_chunk, Acknowledges};
+ghost use Rattle.dcsctp_transfer.specs.Filling.{TellsFilling, FillsPacket, is_sack_wanted, with_chunk, Acknowledges};
+ghost use Rattle.dcsctp_machine.specs.transfer.Transfer.{may_give};
 ghost use Rattle.dcsctp_transfer.specs.Sacks.{FillsAtOnce};
-ghost use Rattle.dcsctp_transfer.specs.Adding.{HasChunkWithin, AddsChunkOf, AddsChunks, said_by, flags_said, ppid_or_fsn, data_said, i_data_said, chunk_said};
+ghost use Rattle.dcsctp_transfer.specs.Adding.{HasChunkWithin, AddsChunkOf, AddsChunks, said_by};
 
 use crate::queued_messages::QueuedMessages;
 use crate::transfer::Transfer;
@@ -41,8 +44,8 @@ impl Transfer {
         now: SocketTime,
         packet: &mut SctpPacketBuilder,
     ) -> Result<bool, AllocError>
-        ensures ok { IfOk result (λ any. FillsPacket self.old queue.old (contents events.old) packet.old self.new queue.new (contents events.new) packet.new any) }
-        ensures told { OnErr result (TellsMore (contents events.old) (contents events.new)) }
+        ensures ok { IfOk result (λ any. FillsPacket now self.old queue.old (contents events.old) packet.old self.new queue.new (contents events.new) packet.new any) }
+        ensures told { OnErr result (TellsFilling now (bytes_remaining packet.old) self.old queue.old (contents events.old) (contents events.new)) }
         ensures kept { OnErr result (packet.new ≡ packet.old) }
         ensures idle { has_data queue.old ≡ false → outstanding_count self.old.retransmission ≡ 0 → IsOk result }
     {
@@ -76,7 +79,7 @@ impl Transfer {
         now: SocketTime,
         packet: &mut SctpPacketBuilder,
     ) -> Result<(), AllocError>
-        ensures { OnOk result (FillsAtOnce self.old packet.old self.new packet.new) }
+        ensures { OnOk result (FillsAtOnce now self.old packet.old self.new packet.new) }
     {
         let room = packet.bytes_remaining();
         let tsns = self
@@ -128,7 +131,7 @@ impl Transfer {
     /// May anything go into the first packet of a flush: a SACK, a FORWARD-TSN, or data? A delayed SACK
     /// counts if `also_if_delayed`.
     pub fn may_fill_first(&self, queue: &QueuedMessages, also_if_delayed: bool) -> bool
-        ensures { result ≡ false → (is_sack_wanted also_if_delayed self.now ≡ false) × (may_give queue.now self.now.retransmission ≡ false) }
+        ensures { result ≡ false → (is_sack_wanted also_if_delayed self.now ≡ false) × (is_first_abandoned self.now.retransmission.outstanding.items ≡ false) × (may_give queue.now self.now.retransmission ≡ false) }
     {
         self.data_tracker.is_acknowledgement_due()
             || (self.data_tracker.owes_acknowledgement() && also_if_delayed)
@@ -167,7 +170,8 @@ fn add_sack(sack: &SelectiveAck, packet: &mut SctpPacketBuilder)
 fn add_chunks(queue: &RetransmissionQueue, tsns: &[u32], packet: &mut SctpPacketBuilder)
     requires small { packet.old.size ≤ 65535 }
     requires room { HandsOut (bytes_remaining packet.old) queue.now.outstanding tsns.now }
-    ensures { AddsChunks queue.now.outstanding.is_interleaved packet.old (length tsns.now) packet.new }
+    ensures adds { AddsChunks queue.now.outstanding tsns.now packet.old packet.new }
+    ensures places { 0 < length tsns.now → FindsPlaces queue.now.outstanding }
 {
     for tsn in tsns {
         add_chunk(queue, *tsn, packet);
@@ -179,7 +183,8 @@ fn add_chunks(queue: &RetransmissionQueue, tsns: &[u32], packet: &mut SctpPacket
 fn add_chunk(queue: &RetransmissionQueue, tsn: u32, packet: &mut SctpPacketBuilder)
     requires small { packet.old.size ≤ 65535 }
     requires room { HasChunkWithin (bytes_remaining packet.old) queue.now.outstanding tsn }
-    ensures { AddsChunkOf queue.now.outstanding.is_interleaved queue.now.outstanding tsn packet.old packet.new }
+    ensures adds { AddsChunkOf queue.now.outstanding tsn packet.old packet.new }
+    ensures places { FindsPlaces queue.now.outstanding }
 {
     if let Some(fragment) = queue.chunk(tsn) {
         packet.add(&chunk_of(tsn, fragment, queue.is_interleaving()));
@@ -190,7 +195,6 @@ fn add_chunk(queue: &RetransmissionQueue, tsn: u32, packet: &mut SctpPacketBuild
 #[inline(always)]
 fn chunk_of<'a>(tsn: u32, fragment: &'a DataToSend, interleaving: bool) -> Chunk<'a>
     requires { header_of interleaving + length fragment.now.payload < 2 ^ 16 }
-    ensures is_data { IsDataChunk interleaving (chunk_content result) }
     ensures says { chunk_content result ≡ chunk_said interleaving tsn fragment.now }
     ensures fits { FitsChunk (chunk_content result) }
     ensures size { length (chunk_bytes (chunk_content result)) ≡ chunk_size (header_of interleaving) (length fragment.now.payload) }
@@ -213,7 +217,6 @@ fn chunk_of<'a>(tsn: u32, fragment: &'a DataToSend, interleaving: bool) -> Chunk
 #[inline(always)]
 fn data_of<'a>(tsn: u32, stream_id: u16, ssn: u16, ppid: u32, fragment: &'a DataToSend) -> Chunk<'a>
     requires { 16 + length fragment.now.payload < 2 ^ 16 }
-    ensures is_data { IsDataChunk false (chunk_content result) }
     ensures says { chunk_content result ≡ data_chunk (record (data_said tsn fragment.now) { stream_id = stream_id; ssn = ssn; ppid = ppid }) }
     ensures fits { FitsChunk (chunk_content result) }
     ensures size { length (chunk_bytes (chunk_content result)) ≡ chunk_size 16 (length fragment.now.payload) }
@@ -238,7 +241,6 @@ fn i_data_of<'a>(
     fragment: &'a DataToSend,
 ) -> Chunk<'a>
     requires { 20 + length fragment.now.payload < 2 ^ 16 }
-    ensures is_data { IsDataChunk true (chunk_content result) }
     ensures says { chunk_content result ≡ i_data_chunk (record (i_data_said tsn fragment.now) { stream_id = stream_id; mid = mid; ppid_or_fsn = ppid_or_fsn }) }
     ensures fits { FitsChunk (chunk_content result) }
     ensures size { length (chunk_bytes (chunk_content result)) ≡ chunk_size 20 (length fragment.now.payload) }

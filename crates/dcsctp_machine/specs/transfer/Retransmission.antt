@@ -84,14 +84,6 @@ abbrev pub can_send : RetransmissionState → Bool
 can_send state =
     (in_flight state == 0) || (nat_lt (in_flight state) state.congestion.cwnd && nat_lt (in_flight state) state.peer_window)
 
--- the least that a chunk with data takes up: its header and one byte, padded (RFC 9260, section 3.3.1; RFC 8260, section 2.1)
-abbrev pub least_chunk : Bool → ℕ
-least_chunk is_interleaved = if is_interleaved then 24 else 20
-
--- Is there a TSN that can still be told from those that are outstanding (RFC 9260, section 1.6)?
-abbrev pub has_free_tsn : RetransmissionState → Bool
-has_free_tsn state = nat_lt (outstanding_count state + 1) (2 ^ 31)
-
 -- ---- moves
 
 -- with these items

@@ -1,12 +1,12 @@
 -- The transfer layer: what an association has in flight and has received; and what waits to be sent.
-use Rattle.std.specs.Prelude.{◌==◌, ℕ, nat_le, not, ◌&&◌, Bool, true, false, Option, None, Some, List, [], ◌∷◌}
+use Rattle.std.specs.Prelude.{◌==◌, ℕ, nat_lt, not, ◌&&◌, ◌||◌, Bool, true, false, Option, None, Some, List, [], ◌∷◌}
 use Rattle.dcsctp_machine.specs.declared.capabilities.Capabilities.{Capabilities}
 use Rattle.dcsctp_machine.specs.declared.options.Options.{Options}
 use Rattle.dcsctp_machine.specs.transfer.Items.{marked_items}
 use Rattle.dcsctp_machine.specs.transfer.Outstanding.{next_tsn}
 use Rattle.dcsctp_machine.specs.transfer.OwnResets.{ready_streams}
 use Rattle.dcsctp_machine.specs.transfer.Reassembly.{ReassemblyState, new_reassembly}
-use Rattle.dcsctp_machine.specs.transfer.Retransmission.{RetransmissionState, new_retransmission, outstanding_count, can_send, least_chunk, has_free_tsn}
+use Rattle.dcsctp_machine.specs.transfer.Retransmission.{RetransmissionState, new_retransmission, outstanding_count, can_send}
 use Rattle.dcsctp_machine.specs.transfer.SendQueue.{SendQueueState, empty_queue, has_data}
 use Rattle.dcsctp_machine.specs.transfer.Timeout.{TimeoutState, new_timeout}
 use Rattle.dcsctp_machine.specs.transfer.Tracker.{TrackerState, new_tracker, owes_acknowledgement, is_acknowledgement_due}
@@ -39,11 +39,9 @@ pub record Below : Type 0 where
   -- None: the peer isn't known
   pub transfer : Option Transfer
 
--- Does data have to go into a packet that has that many bytes of room? Not if the windows don't allow, if a chunk that is sent
--- again is too long for it, or if nothing waits that may be sent.
-abbrev pub must_give : ℕ → SendQueueState → RetransmissionState → Bool
-must_give room queue state =
-    can_send state && marked_items state.outstanding.items == 0 && nat_le (least_chunk state.outstanding.is_interleaved) room && has_free_tsn state && has_data queue
+-- May data be sent: what waits to be sent again, or a message if the windows allow more?
+abbrev pub may_give : SendQueueState → RetransmissionState → Bool
+may_give queue state = nat_lt 0 (marked_items state.outstanding.items) || (has_data queue && can_send state)
 
 -- is no stream to be reset?
 abbrev pub is_none_ready : List ℕ → Bool

@@ -63,9 +63,12 @@ queue_requesting count None queue = queue
 queue_requesting count (Some begun) queue = queue_handing_out count queue
 
 -- what is in flight once this was begun: streams are reset before what is sent next
+abbrev pub retransmission_begun : Option BegunReset → RetransmissionState → RetransmissionState
+retransmission_begun None state = state
+retransmission_begun (Some begun) state = with_reset_begun state
+
 abbrev pub transfer_begun : Option BegunReset → Transfer → Transfer
-transfer_begun None transfer = transfer
-transfer_begun (Some begun) transfer = record transfer { retransmission = with_reset_begun transfer.retransmission }
+transfer_begun begun transfer = record transfer { retransmission = retransmission_begun begun transfer.retransmission }
 
 -- the reconfiguration timer: each wait is twice the last one, without a limit, and it never stops by itself (RFC 6525, section
 -- 5.1.1)

@@ -11,15 +11,15 @@ use Rattle.dcsctp_machine.specs.declared.arrivals.SkippedTo.{SkippedTo}
 use Rattle.dcsctp_machine.specs.transfer.Arrivals.{Arrival}
 use Rattle.dcsctp_machine.specs.transfer.Reassembly.{with_ready}
 use Rattle.dcsctp_machine.specs.transfer.Acknowledging.{is_sack_valid, has_acknowledged, delivered_by}
-use Rattle.dcsctp_machine.specs.transfer.Items.{unacknowledged_items}
-use Rattle.dcsctp_machine.specs.transfer.Outstanding.{next_tsn}
-use Rattle.dcsctp_machine.specs.transfer.Retransmission.{outstanding_count, has_fast_retransmit}
+use Rattle.dcsctp_machine.specs.transfer.AtOnce.{SendsAtOnce}
+use Rattle.dcsctp_machine.specs.transfer.Chunks.{AreChunks}
+use Rattle.dcsctp_machine.specs.transfer.Retransmission.{RetransmissionState, has_fast_retransmit}
 use Rattle.dcsctp_machine.specs.transfer.Transfer.{Transfer}
 use Rattle.dcsctp_machine.specs.transfer.Tracker.{TrackerState, after_packet_end, is_acknowledgement_due, sacked, delay_over}
 use Rattle.dcsctp_machine.specs.Endpoint.{Endpoint, held_in}
 use Rattle.dcsctp_machine.specs.Outcome.{Outcome, still, reports, emits, behind, to_peer}
 use Rattle.dcsctp_machine.specs.control.Choices.{plain_contents}
-use Rattle.dcsctp_machine.specs.turns.FlushOutcomes.{Answer, goes_out, draft_to, flush_of, room_in, where_fits, IsWithin, own_sack, IsData, FitsPlain, filled, FlushAnswers}
+use Rattle.dcsctp_machine.specs.turns.FlushOutcomes.{Answer, goes_out, draft_to, flush_of, room_in, where_fits, IsWithin, own_sack, FitsPlain, filled, FlushAnswers}
 use Rattle.dcsctp_machine.specs.turns.HeartbeatOutcomes.{error_counted}
 use Rattle.dcsctp_machine.specs.turns.ShutdownOutcomes.{step_outcome}
 use Rattle.dcsctp_machine.specs.turns.TransferMoves.{ReceivesData, MovesForward, TakesSack, lost_all}
@@ -85,22 +85,21 @@ abbrev pub no_tcb_text : List ℕ
 no_tcb_text = codes "No TCB"
 
 -- A packet of lost items, whatever the congestion window is: as many as fit (RFC 9260, section 7.2.4).
-pub record SendsAtOnce (e : Endpoint) (held : Held) (transfer : Transfer) (o : Outcome) : Type 0 where
-  pub left : Transfer
+pub record SendsLost (e : Endpoint) (held : Held) (transfer : Transfer) (o : Outcome) : Type 0 where
+  pub left : RetransmissionState
+  pub tsns : List ℕ
+  pub sends : SendsAtOnce e.moment (room_in e (draft_to held)) e.below.queue transfer.retransmission left tsns
   pub chunks : List Plain
-  pub kind : AllByRecursion (IsData transfer.retransmission.outstanding.is_interleaved) chunks
+  pub are : AreChunks left.outstanding tsns chunks
   pub fit : AllByRecursion FitsPlain chunks
   pub within : IsWithin e (draft_to held) → IsWithin e (filled (draft_to held) (plain_contents chunks))
-  pub outstanding : outstanding_count left.retransmission ≡ outstanding_count transfer.retransmission
-  pub unacknowledged : unacknowledged_items left.retransmission.outstanding.items ≡ unacknowledged_items transfer.retransmission.outstanding.items
-  pub next_tsn : next_tsn left.retransmission.outstanding ≡ next_tsn transfer.retransmission.outstanding
-  pub rest : left ≡ record transfer { retransmission = left.retransmission }
-  pub is : o ≡ goes_out (with_transfer e left) [] (draft_to held).with_checksum (draft_to held).packet.tag (plain_contents chunks)
+  pub is : o
+      ≡ goes_out (with_transfer e (record transfer { retransmission = left })) [] (draft_to held).with_checksum (draft_to held).packet.tag (plain_contents chunks)
 
 -- One is sent if it waits.
 abbrev pub FastRetransmits : Bool → Endpoint → Held → Transfer → Outcome → Type 0
 FastRetransmits false e held transfer o = o ≡ still e
-FastRetransmits true e held transfer o = SendsAtOnce e held transfer o
+FastRetransmits true e held transfer o = SendsLost e held transfer o
 
 -- the endpoint once a SACK was taken into account: if it acknowledges something, no error counts
 abbrev pub sack_taken : Endpoint → Transfer → Transfer → Endpoint

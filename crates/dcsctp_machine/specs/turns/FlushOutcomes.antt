@@ -1,6 +1,6 @@
 -- A flush: what waits is sent under the peer's tag, at most `max_burst` packets of it (RFC 9260, section 6.1). The transfer layer
 -- is asked to fill one packet after another, and the flush is what its answers make of it.
-use Rattle.std.specs.Prelude.{◌≡◌, ◌==◌, ◌≤◌, ◌<◌, ◌+◌, ◌-◌, min, nat_le, ◌&&◌, ◌||◌, Option, None, Some, ℕ, ℤ, pos, negsuc, suc, zero, Bool, true, false, List, [], ◌∷◌, ◌++◌, map, length, if◌then◌else◌}
+use Rattle.std.specs.Prelude.{◌≡◌, ◌⊎◌, ◌==◌, ◌≤◌, ◌+◌, ◌-◌, min, nat_le, nat_lt, ◌&&◌, ◌||◌, Option, None, Some, ℕ, ℤ, pos, negsuc, suc, zero, Bool, true, false, List, [], ◌∷◌, ◌++◌, map, length, if◌then◌else◌}
 use Rattle.std.specs.List.{AllByRecursion}
 use Rattle.dcsctp_machine.specs.declared.association.Held.{Held}
 use Rattle.dcsctp_machine.specs.declared.word.Word.{Word}
@@ -8,17 +8,21 @@ use Rattle.dcsctp_machine.specs.Settings.{packet_size_limit}
 use Rattle.dcsctp_machine.specs.Event.{Event, sent, packets_in, buffered_amount_low, total_buffered_amount_low, lifecycle_message_fully_sent, lifecycle_message_maybe_expired, lifecycle_message_expired, lifecycle_end}
 use Rattle.dcsctp_machine.specs.Packet.{Plain, unworked, plain_out, Content, Emission}
 use Rattle.dcsctp_machine.specs.transfer.SendQueue.{SendQueueState, has_data}
-use Rattle.dcsctp_machine.specs.transfer.Transfer.{Transfer, must_give, is_idle}
-use Rattle.dcsctp_machine.specs.transfer.Retransmission.{outstanding_count}
-use Rattle.dcsctp_machine.specs.transfer.Retransmission.{RetransmissionState, can_send}
+use Rattle.dcsctp_machine.specs.transfer.Abandoning.{GivesUpAll}
+use Rattle.dcsctp_machine.specs.transfer.Chunks.{AreChunks}
+use Rattle.dcsctp_machine.specs.transfer.Filling.{Stage, FillsPacket}
+use Rattle.dcsctp_machine.specs.transfer.Items.{is_first_abandoned}
+use Rattle.dcsctp_machine.specs.transfer.Retransmission.{RetransmissionState, outstanding_count, can_send}
+use Rattle.dcsctp_machine.specs.transfer.Skipping.{SaysForward}
+use Rattle.dcsctp_machine.specs.transfer.Transfer.{Transfer, may_give, is_idle}
 use Rattle.dcsctp_machine.specs.transfer.Reassembly.{remaining_bytes}
 use Rattle.dcsctp_machine.specs.transfer.Tracker.{TrackerState, is_acknowledgement_due, owes_acknowledgement, sack_of, sacked}
-use Rattle.dcsctp_machine.specs.turns.BegunResets.{BegunReset, last_assigned_tsn, begun_in, request_contents, begun_effects, after_begun}
+use Rattle.dcsctp_machine.specs.turns.BegunResets.{BegunReset, streams_within, last_assigned_tsn, begun_in, request_contents, begun_effects, queue_requesting, retransmission_begun, after_begun}
 use Rattle.dcsctp_machine.specs.Endpoint.{Endpoint, Core, closed, cookie_wait, cookie_echoed, open_in, Timers, heartbeats_begun, held_in}
 use Rattle.dcsctp_machine.specs.Timers.{moment_after}
 use Rattle.dcsctp_machine.specs.Outcome.{Outcome, contents_len, still, quiet, sends, behind, noting, then_outcome}
 use Rattle.dcsctp_machine.specs.control.Choices.{plain_contents}
-use Rattle.dcsctp_wire.specs.Content.{data_chunk, sack_chunk, i_data_chunk, forward_tsn_chunk, i_forward_tsn_chunk}
+use Rattle.dcsctp_wire.specs.Content.{ChunkContent, sack_chunk}
 use Rattle.dcsctp_wire.specs.ReadsBack.{FitsChunk}
 use Rattle.dcsctp_wire.specs.Spelling.{chunk_bytes}
 
@@ -40,6 +44,15 @@ told_event (message_is_sent id) = lifecycle_message_fully_sent id
 told_event (message_may_have_expired id) = lifecycle_message_maybe_expired id
 told_event (message_has_expired id) = lifecycle_message_expired id
 told_event (message_ends id) = lifecycle_end id
+
+-- the same, as it is told to a user
+abbrev pub told_content : Told → Event (List ℕ)
+told_content (amount_is_low stream) = buffered_amount_low stream
+told_content total_amount_is_low = total_buffered_amount_low
+told_content (message_is_sent id) = lifecycle_message_fully_sent id
+told_content (message_may_have_expired id) = lifecycle_message_maybe_expired id
+told_content (message_has_expired id) = lifecycle_message_expired id
+told_content (message_ends id) = lifecycle_end id
 
 -- The answer if a packet is to be filled: what goes after the chunks that it holds, the events, and the endpoint after that.
 pub record Answer : Type 0 where
@@ -104,8 +117,7 @@ IsWithin e emission = 12 + contents_len emission.packet.contents ≤ packet_size
 abbrev pub nothing_waits : Endpoint → Answer
 nothing_waits e = record { acknowledgements = []; begun = None; data_chunks = []; told = []; after = e }
 
--- Which packet of a flush is to be filled: what acknowledges, what abandons messages and what resets streams goes into the first
--- alone.
+-- Which packet of a flush is to be filled. A SACK, a FORWARD-TSN and the request of a stream reset go into the first alone.
 pub data Ask : Type 0 where
   first_ask : Ask
   later_ask : Ask
@@ -134,38 +146,53 @@ abbrev pub Acknowledges : Bool → ℕ → Transfer → TrackerState → List Pl
 Acknowledges false room transfer after chunks = (after ≡ transfer.tracker) × (chunks ≡ [])
 Acknowledges true room transfer after chunks = (after ≡ sacked transfer.tracker) × (chunks ≡ where_fits room (own_sack transfer))
 
--- a FORWARD-TSN, or with interleaving an I-FORWARD-TSN (RFC 3758, section 3.2; RFC 8260, section 2.3.1)
-abbrev pub IsForward : Bool → Plain → Type 0
-IsForward false (unworked (forward_tsn_chunk tsn streams)) = Unit {0}
-IsForward true (unworked (i_forward_tsn_chunk tsn streams)) = Unit {0}
-IsForward interleaving chunk = ⊥
-
--- DATA, or with interleaving I-DATA (RFC 9260, section 3.3.1; RFC 8260, section 2.1)
-abbrev pub IsData : Bool → Plain → Type 0
-IsData false (unworked (data_chunk chunk)) = Unit {0}
-IsData true (unworked (i_data_chunk chunk)) = Unit {0}
-IsData interleaving chunk = ⊥
-
 -- Its numbers fit their fields.
 abbrev pub FitsPlain : Plain → Type 0
 FitsPlain chunk = FitsChunk (plain_out chunk)
 
--- No FORWARD-TSN is sent again before 200 milliseconds have passed, or the round trip (RFC 3758, section 3.5).
-abbrev pub next_forward : Endpoint → Transfer → ℕ
-next_forward e transfer = moment_after e.moment (min 200000000 transfer.timeout.srtt)
+-- ---- what the queues do while a packet is filled
 
--- The FORWARD-TSN goes into the first packet, if partial reliability was negotiated, no sooner than it may. Whether one is made
--- is the transfer layer's choice.
-pub record GivesUp (ask : Ask) (e : Endpoint) (transfer : Transfer) (after : ℕ) (chunks : List Plain) : Type 0 where
-  pub is_made : Bool
-  pub later : after ≡ (if is_made then next_forward e transfer else e.no_forward_tsn_before)
-  pub none : is_made ≡ false → chunks ≡ []
-  pub in_first : ask ≡ later_ask → is_made ≡ false
-  pub in_time : e.moment < e.no_forward_tsn_before → is_made ≡ false
-  pub negotiated : transfer.retransmission.partial_reliability ≡ false → is_made ≡ false
-  pub at_most_one : length chunks ≤ 1
-  pub kind : AllByRecursion (IsForward transfer.retransmission.outstanding.is_interleaved) chunks
-  pub fit : AllByRecursion FitsPlain chunks
+-- what a packet with that much room begins with
+abbrev pub stage_of : SendQueueState → RetransmissionState → List (Event (List ℕ)) → ℕ → Stage
+stage_of waiting state told room = record { queue = state; waiting = waiting; told = told; tsns = []; room = room }
+
+-- the moment before which no FORWARD-TSN is sent, after one at this moment: 200 milliseconds later, or the round trip (RFC 3758,
+-- section 3.5)
+abbrev pub next_forward : ℕ → Transfer → ℕ
+next_forward now transfer = moment_after now (min 200000000 transfer.timeout.srtt)
+
+-- May messages be abandoned: was it negotiated, and is something outstanding?
+abbrev pub may_abandon : RetransmissionState → Bool
+may_abandon state = state.partial_reliability && nat_lt 0 (outstanding_count state)
+
+-- May they be abandoned for a FORWARD-TSN in this packet? That is so in the first one, from the moment on from which the next may
+-- be sent.
+abbrev pub may_forward : Ask → Endpoint → RetransmissionState → Bool
+may_forward later_ask e state = false
+may_forward first_ask e state = nat_le e.no_forward_tsn_before e.moment && may_abandon state
+
+-- A FORWARD-TSN is made if the first item was abandoned, and goes if it fits. Before that moment no other one is made, also if it
+-- didn't fit.
+abbrev pub ForwardsWhere : Bool → ℕ → Transfer → ℕ → RetransmissionState → Option ℕ → List Plain → Type 0
+ForwardsWhere false now transfer room state next chunks = (next ≡ None) × (chunks ≡ [])
+ForwardsWhere true now transfer room state next chunks =
+    (next ≡ Some (next_forward now transfer)) × ((chunk : ChunkContent) × SaysForward state chunk × (chunks ≡ where_fits room (unworked chunk)))
+
+-- Before it, messages are abandoned that may not be sent any more.
+abbrev pub GivesUpWhere : Bool → ℕ → Transfer → ℕ → Stage → Stage → Option ℕ → List Plain → Type 0
+GivesUpWhere false now transfer room old new next chunks = (new ≡ old) × (next ≡ None) × (chunks ≡ [])
+GivesUpWhere true now transfer room old new next chunks =
+    GivesUpAll now old new × ForwardsWhere (is_first_abandoned new.queue.outstanding.items) now transfer room new.queue next chunks
+
+-- the moment before which no FORWARD-TSN is sent, by whether one was made
+abbrev pub forward_where : Option ℕ → ℕ → ℕ
+forward_where None before = before
+forward_where (Some next) before = next
+
+-- The packet is filled with data. If none may go, nothing changes but that the timer may be set as it is when a packet is full.
+abbrev pub FillsWhere : Bool → ℕ → Stage → Stage → Type 0
+FillsWhere false now old new = (new ≡ old) ⊎ FillsPacket now old new
+FillsWhere true now old new = FillsPacket now old new
 
 -- is the list empty?
 abbrev pub is_none : {A : Type 0} → List A → Bool
@@ -176,34 +203,35 @@ abbrev pub begun_at : Ask → Option Held → ℕ → ℕ → SendQueueState →
 begun_at first_ask held room last_tsn queue = begun_in held room last_tsn queue
 begun_at later_ask held room last_tsn queue = None
 
--- The request of a reset goes only into the first packet. It is begun after messages are abandoned; that changes nothing if
--- nothing is outstanding, or without partial reliability.
-pub record BeginsReset (ask : Ask) (e : Endpoint) (room : ℕ) (transfer : Transfer) (begun : Option BegunReset) : Type 0 where
-  pub queue : SendQueueState
-  pub retransmission : RetransmissionState
-  pub negotiated : transfer.retransmission.partial_reliability ≡ false → (queue ≡ e.below.queue) × (retransmission ≡ transfer.retransmission)
-  pub idle : outstanding_count transfer.retransmission ≡ 0 → (queue ≡ e.below.queue) × (retransmission ≡ transfer.retransmission)
-  pub is : begun ≡ begun_at ask (held_in e.core) room (last_assigned_tsn retransmission) queue
-
--- What the transfer layer of an association gives: what acknowledges, what abandons messages, and data, which is missing only if
--- none can go (RFC 9260, section 6.1).
+-- What the transfer layer of an association gives: what acknowledges, what abandons messages, a request to reset streams, and data
+-- as far as it may go.
 pub record Gives (ask : Ask) (e : Endpoint) (draft : Emission) (transfer : Transfer) (answer : Answer) : Type 0 where
-  pub left : Transfer
-  pub holds : answer.after.below.transfer ≡ Some left
   pub sacks : List Plain
   pub forwards : List Plain
   pub parts : answer.acknowledgements ≡ sacks ++ forwards
-  pub acknowledges : Acknowledges (wants_sack ask e.below.queue transfer) (room_in e draft) transfer left.tracker sacks
-  pub gives_up : GivesUp ask e transfer answer.after.no_forward_tsn_before forwards
-  pub begins : BeginsReset ask e (room_in e (filled draft (plain_contents answer.acknowledgements))) transfer answer.begun
-  pub kind : AllByRecursion (IsData transfer.retransmission.outstanding.is_interleaved) answer.data_chunks
-  pub fit : AllByRecursion FitsPlain answer.data_chunks
-  pub data_goes : is_none answer.data_chunks ≡ true
-      → must_give (room_in e (filled draft (plain_contents answer.acknowledgements ++ request_contents answer.begun))) answer.after.below.queue left.retransmission ≡ false
-  pub partial_reliability : left.retransmission.partial_reliability ≡ transfer.retransmission.partial_reliability
-  pub is_interleaved : left.retransmission.outstanding.is_interleaved ≡ transfer.retransmission.outstanding.is_interleaved
-  pub timeout : left.timeout ≡ transfer.timeout
-  pub reassembly : left.reassembly ≡ transfer.reassembly
+  pub tracker : TrackerState
+  pub acknowledges : Acknowledges (wants_sack ask e.below.queue transfer) (room_in e draft) transfer tracker sacks
+  -- once messages were abandoned
+  pub gave_up : Stage
+  pub next : Option ℕ
+  pub gives_up : GivesUpWhere (may_forward ask e transfer.retransmission) e.moment transfer (room_in e (filled draft (plain_contents sacks)))
+      (stage_of e.below.queue transfer.retransmission [] 0) gave_up next forwards
+  pub later : answer.after.no_forward_tsn_before ≡ forward_where next e.no_forward_tsn_before
+  pub begins : answer.begun
+      ≡ begun_at ask (held_in e.core) (room_in e (filled draft (plain_contents answer.acknowledgements))) (last_assigned_tsn gave_up.queue) gave_up.waiting
+  -- once the packet is full
+  pub sent : Stage
+  pub fills : let left : SendQueueState =
+      queue_requesting (streams_within (room_in e (filled draft (plain_contents answer.acknowledgements)))) answer.begun gave_up.waiting in
+      let begun : RetransmissionState = retransmission_begun answer.begun gave_up.queue in
+      FillsWhere (may_give left begun) e.moment
+      (stage_of left begun gave_up.told (room_in e (filled draft (plain_contents answer.acknowledgements ++ request_contents answer.begun)))) sent
+  pub chunks : AreChunks sent.queue.outstanding sent.tsns answer.data_chunks
+  pub forwards_fit : AllByRecursion FitsPlain forwards
+  pub data_fit : AllByRecursion FitsPlain answer.data_chunks
+  pub told : map told_content answer.told ≡ sent.told
+  pub below : answer.after.below
+      ≡ record { queue = sent.waiting; transfer = Some (record transfer { retransmission = sent.queue; tracker = tracker }) }
 
 -- If the association is idle, nothing happens.
 abbrev pub GivesWhere : Bool → Ask → Endpoint → Emission → Transfer → Answer → Type 0

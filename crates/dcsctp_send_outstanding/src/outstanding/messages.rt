@@ -1,7 +1,7 @@
 //! Messages among the items: where they lie, and the end of one that is abandoned (RFC 3758, section 3.5).
 
 ghost use Rattle.std.specs.Prelude.{◌≡◌, ◌<◌, ◌+◌, ◌^◌};
-ghost use Rattle.dcsctp_send_outstanding.specs.Messages.{IsEndOf};
+ghost use Rattle.dcsctp_machine.specs.transfer.ItemMessages.{IsEndOf};
 
 use super::Outstanding;
 use crate::item::Item;
@@ -13,7 +13,7 @@ use std::alloc::{AllocError, Global};
 impl Outstanding {
     ghost use Rattle.std.specs.Prelude.{◌⊎◌, ◌==◌, OnOk, OnErr, length};
     ghost use Rattle.dcsctp_send_outstanding.specs.Outstanding.{MayAddEnd};
-    ghost use Rattle.dcsctp_send_outstanding.specs.Messages.{AtPlace, StartsMessage, EndsMessage, IsMessage, DropsRest};
+    ghost use Rattle.dcsctp_machine.specs.transfer.ItemMessages.{AtPlace, StartsMessage, EndsMessage, IsMessage, DropsRest};
     ghost use Rattle.dcsctp_send_streams.specs.Telling.{contents};
     ghost use Rattle.dcsctp_send_queue.specs.Calls.{StopsDiscarding};
 

@@ -105,7 +105,7 @@ impl Backlog {
         ensures ok { IfOk result (NextUnexpired now self.new.streams) }
         ensures told { OnOk result (DropsAll now (queue_of self.old) (contents events.old) (queue_of self.new) (contents events.new)) }
         ensures err { OnErr result (DropsSome now (queue_of self.old) (queue_of self.new)) }
-        ensures front { (max : ℕ) → OnErr result (StopsTaking now max (queue_of self.old) (contents events.old) (queue_of self.new) (contents events.new)) }
+        ensures front { (max : ℕ) → self.old.under_way ≡ None → OnErr result (StopsTaking now max (queue_of self.old) (contents events.old) (queue_of self.new) (contents events.new)) }
     {
         while let Some(place) = self.streams.next_place() {
             if !self.is_front_expired(place, now) {

@@ -4,7 +4,8 @@ ghost use Rattle.std.specs.Prelude.{◌≡◌, ◌++◌, true, OnOk, OnErr};
 ghost use Rattle.std.specs.Option.{option_map};
 ghost use Rattle.dcsctp_machine.specs.Ids.{lifecycle_number};
 ghost use Rattle.dcsctp_send_streams.specs.Telling.{contents, TellsFront};
-ghost use Rattle.dcsctp_send_retransmission.specs.States.{is_used_up, is_over, is_due, maybe_expired};
+ghost use Rattle.dcsctp_machine.specs.transfer.Filling.{maybe_expired};
+ghost use Rattle.dcsctp_machine.specs.transfer.NextItem.{is_used_up, is_over, is_due};
 
 use super::RetransmissionQueue;
 use dcsctp_api::{Events, LifecycleId, SocketEvent, SocketTime};
@@ -18,9 +19,10 @@ impl RetransmissionQueue {
     ghost use Rattle.dcsctp_machine.specs.Timers.{expires_at};
     ghost use Rattle.dcsctp_machine.specs.transfer.Items.{is_first_abandoned};
     ghost use Rattle.dcsctp_send_retransmission.specs.Queue.{MayGrow, GivesUp};
-    ghost use Rattle.dcsctp_send_outstanding.specs.Messages.{AtPlace};
+    ghost use Rattle.dcsctp_machine.specs.transfer.ItemMessages.{AtPlace};
     ghost use Rattle.dcsctp_machine.specs.transfer.Progress.{is_unacknowledged};
-    ghost use Rattle.dcsctp_send_retransmission.specs.States.{RefusesUpAt, RefusesClosing, GivesUpAt, Closes, stage};
+    ghost use Rattle.dcsctp_send_retransmission.specs.States.{RefusesUpAt, RefusesClosing, stage};
+    ghost use Rattle.dcsctp_machine.specs.transfer.Filling.{GivesUpAt, Closes};
     ghost use Rattle.dcsctp_send_retransmission.specs.GivingUp.{GivesUpDue, GivesUpIf};
 
     // Is the message of the item at the place to be abandoned instead of being sent again?
@@ -64,7 +66,7 @@ impl RetransmissionQueue {
         ensures may { MayGrow self.old self.new }
         ensures ok { AtPlace self.old.outstanding.items place (λ last. OnOk result ((tsns : List ℕ) (room : ℕ) → Closes now last (stage self.old queue.old events.old tsns room) (stage self.new queue.new events.new tsns room) last.fragment.is_end)) }
         ensures err { OnErr result ((self.new ≡ self.old) × (queue.new ≡ queue.old)) }
-        ensures front { AtPlace self.old.outstanding.items place (λ last. OnErr result (RefusesClosing last queue.old (contents events.old) (contents events.new) last.fragment.is_end)) }
+        ensures front { AtPlace self.old.outstanding.items place (λ last. OnErr result (RefusesClosing self.old.outstanding.items last queue.old (contents events.old) (contents events.new) last.fragment.is_end)) }
     {
         let last = &self.outstanding.item(place).fragment;
         if last.is_end {

@@ -2,7 +2,8 @@
 
 ghost use Rattle.std.specs.Prelude.{◌≡◌, ◌<◌, ◌||◌, not, [], IfOk, length, map, slice_get, Some, take};
 ghost use Rattle.dcsctp_machine.specs.transfer.Items.{Item};
-ghost use Rattle.dcsctp_send_retransmission.specs.Forwarding.{stream_entry, messages_entry, NoneTwice};
+ghost use Rattle.dcsctp_send_retransmission.specs.Forwarding.{stream_entry, messages_entry};
+ghost use Rattle.dcsctp_machine.specs.transfer.Skipping.{NoneTwice};
 ghost use Rattle.dcsctp_send_retransmission.specs.Skipping.{ssn_entry, mid_entry};
 
 use super::RetransmissionQueue;
@@ -20,7 +21,8 @@ pub(super) struct LastNumbers {
 }
 
 impl RetransmissionQueue {
-    ghost use Rattle.dcsctp_send_retransmission.specs.Forwarding.{goes_on, entry_limit, Says};
+    ghost use Rattle.dcsctp_send_retransmission.specs.Forwarding.{Says};
+    ghost use Rattle.dcsctp_machine.specs.transfer.Skipping.{goes_on, entry_limit};
     ghost use Rattle.dcsctp_send_retransmission.specs.Skipping.{Collects, Skips, TakesIn};
 
     /// What a FORWARD-TSN says, or with interleaving an I-FORWARD-TSN (RFC 3758, section 3.5; RFC 8260,

@@ -13,10 +13,12 @@ impl RetransmissionQueue {
     ghost use Rattle.dcsctp_api.specs.declared.events.SocketEvent.{SocketEvent};
     ghost use Rattle.dcsctp_machine.specs.transfer.Items.{marked_items};
     ghost use Rattle.dcsctp_machine.specs.transfer.Retransmission.{has_fast_retransmit, timer_with};
-    ghost use Rattle.dcsctp_send_outstanding.specs.Next.{IsNextMarked};
-    ghost use Rattle.dcsctp_send_retransmission.specs.Halting.{HaltsAgain, SendsAgain, GoesAgain};
-    ghost use Rattle.dcsctp_send_retransmission.specs.States.{SendsMarked, HaltsAtOnce, SendsFirst, restarted, TriesAtOnce, stage, is_due, StepAgain, Goes, SendsAt};
-    ghost use Rattle.dcsctp_send_outstanding.specs.Messages.{AtPlace};
+    ghost use Rattle.dcsctp_machine.specs.transfer.NextItem.{IsNextMarked, HaltsAgain, is_due};
+    ghost use Rattle.dcsctp_send_retransmission.specs.Halting.{SendsAgain, GoesAgain};
+    ghost use Rattle.dcsctp_send_retransmission.specs.States.{TriesAtOnce, stage, Goes, SendsAt};
+    ghost use Rattle.dcsctp_machine.specs.transfer.Filling.{SendsMarked, StepAgain};
+    ghost use Rattle.dcsctp_machine.specs.transfer.AtOnce.{HaltsAtOnce, SendsFirst, restarted};
+    ghost use Rattle.dcsctp_machine.specs.transfer.ItemMessages.{AtPlace};
     ghost use Rattle.dcsctp_send_retransmission.specs.Sending.{Keeps, Fills, HandsOut};
 
     // Puts marked chunks into the packet, the first ones first, while they fit and the windows allow.
@@ -28,7 +30,7 @@ impl RetransmissionQueue {
         packet: &mut Packet,
     ) -> Result<(), AllocError>
         ensures fills { Fills self.old packet.old self.new packet.new }
-        ensures halts { OnOk result (HaltsAgain packet.new.room self.new) }
+        ensures halts { OnOk result (HaltsAgain now packet.new.room self.new) }
         ensures few { OnOk result (length packet.new.tsns.items + marked_items self.new.outstanding.items ≤ length packet.old.tsns.items + marked_items self.old.outstanding.items) }
         ensures steps { Goes now (StepAgain now) (stage self.old queue.old events.old packet.old.tsns.items packet.old.room) (stage self.new queue.new events.new packet.new.tsns.items packet.new.room) result }
     {
@@ -50,7 +52,7 @@ impl RetransmissionQueue {
     ) -> Result<bool, AllocError>
         ensures fills { Fills self.old packet.old self.new packet.new }
         ensures one { IfOk result (λ sent. length packet.new.tsns.items ≡ length packet.old.tsns.items + (if sent then 1 else 0)) }
-        ensures again { IfOk result (GoesAgain self.old self.new packet.new.room) }
+        ensures again { IfOk result (GoesAgain now self.old self.new packet.new.room) }
         ensures steps { Goes now (StepAgain now) (stage self.old queue.old events.old packet.old.tsns.items packet.old.room) (stage self.new queue.new events.new packet.new.tsns.items packet.new.room) result }
     {
         match self.next_to_send_again(events, queue, now)? {

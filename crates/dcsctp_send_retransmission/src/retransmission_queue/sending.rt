@@ -15,9 +15,10 @@ impl RetransmissionQueue {
     ghost use Rattle.dcsctp_machine.specs.transfer.Outstanding.{header};
     ghost use Rattle.dcsctp_machine.specs.transfer.Retransmission.{can_send};
     ghost use Rattle.dcsctp_send_outstanding.specs.Fresh.{SendsFresh, EndsFresh};
-    ghost use Rattle.dcsctp_send_outstanding.specs.Next.{HasNone};
-    ghost use Rattle.dcsctp_send_retransmission.specs.Halting.{HaltsNew, Halts, FillsUp};
-    ghost use Rattle.dcsctp_send_retransmission.specs.States.{stage, StepNew, Goes, GoesFilling, TriesPacket, SendsPacket};
+    ghost use Rattle.dcsctp_machine.specs.transfer.NextItem.{HasNone, HaltsNew, Halts};
+    ghost use Rattle.dcsctp_send_retransmission.specs.Halting.{FillsUp};
+    ghost use Rattle.dcsctp_send_retransmission.specs.States.{stage, Goes, GoesFilling, TriesPacket, SendsPacket};
+    ghost use Rattle.dcsctp_machine.specs.transfer.Filling.{StepNew};
     ghost use Rattle.dcsctp_send_retransmission.specs.Sending.{Keeps, Fills, Sends};
 
     /// The TSNs of the chunks that go into a packet with that many bytes of room. First come those that are
@@ -37,7 +38,7 @@ impl RetransmissionQueue {
         bytes: usize,
     ) -> Result<Vec<u32>, AllocError>
         ensures sends { Sends now self.old self.new }
-        ensures fills { IfOk result (λ tsns. FillsUp bytes self.new queue.new tsns.items) }
+        ensures fills { IfOk result (λ tsns. FillsUp now bytes self.new queue.new tsns.items) }
         ensures fresh { IfOk result (λ tsns. EndsFresh now self.old.outstanding self.new.outstanding tsns.items) }
         ensures steps { SendsPacket now bytes self.old queue.old events.old self.new queue.new events.new result }
     {
@@ -67,7 +68,7 @@ impl RetransmissionQueue {
     ) -> Result<Vec<u32>, AllocError>
         requires { packet.tsns.items ≡ [] }
         ensures keeps { Keeps self.old self.new }
-        ensures fills { IfOk result (λ tsns. FillsUp packet.room self.new queue.new tsns.items) }
+        ensures fills { IfOk result (λ tsns. FillsUp now packet.room self.new queue.new tsns.items) }
         ensures fresh { IfOk result (λ tsns. EndsFresh now self.old.outstanding self.new.outstanding tsns.items) }
         ensures steps { TriesPacket now packet.room self.old queue.old events.old self.new queue.new events.new result }
     {
@@ -85,7 +86,7 @@ impl RetransmissionQueue {
         packet: &mut Packet,
     ) -> Result<(), AllocError>
         ensures fills { Fills self.old packet.old self.new packet.new }
-        ensures halts { OnOk result (Halts packet.new.room self.new queue.new) }
+        ensures halts { OnOk result (Halts now packet.new.room self.new queue.new) }
         ensures fresh { packet.old.tsns.items ≡ [] → OnOk result (EndsFresh now self.old.outstanding self.new.outstanding packet.new.tsns.items) }
         ensures steps { GoesFilling now (stage self.old queue.old events.old packet.old.tsns.items packet.old.room) (stage self.new queue.new events.new packet.new.tsns.items packet.new.room) result }
     {

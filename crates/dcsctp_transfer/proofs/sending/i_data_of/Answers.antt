@@ -1,8 +1,13 @@
 use Rattle.std.proofs.Common.{◌∙◌, ap, length, arith}
 use Rattle.dcsctp_wire.specs.Content.{IDataContent, i_data_content}
 use Rattle.dcsctp_machine.specs.transfer.Sending.{Fragment}
-use Rattle.dcsctp_transfer.proofs.AddingLemmas.{i_data_size}
+use Rattle.dcsctp_transfer.proofs.AddingLemmas.{i_data_size, i_data_is}
 use Rattle.dcsctp_transfer.proofs.sending.i_data_of.Goals as goal
+
+pub returns-clause-says : goal.returns-clause-says
+returns-clause-says c =
+    i_data_is c.flags_of-flags.result c.args.tsn c.args.stream_id c.args.mid c.args.ppid_or_fsn c.in_bytes.result.now c.args.fragment.now c.flags_of-flags.ensures c.ranges.tsn.fits
+    (c.in_bytes.ensures.same ∙ (c.deref.ensures.value ∙ ap (λ (part : Fragment). part.payload) c.fragment.view_is)) c.in_bytes.ensures.fit
 
 pub returns-clause-fits : goal.returns-clause-fits
 returns-clause-fits c =

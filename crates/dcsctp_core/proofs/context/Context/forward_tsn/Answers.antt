@@ -1,3 +1,4 @@
+use Rattle.std.proofs.lemmas.Bool.Decides.{nat_tests}
 use Rattle.std.proofs.Common.{Option, arith, sym, subst}
 use Rattle.dcsctp_machine.specs.transfer.Transfer.{Transfer}
 use Rattle.dcsctp_core.specs.Flushing.{ForwardsAt}
@@ -14,4 +15,4 @@ returns-clause-turn g c =
     let is = found old.state tcb c.in-Some.ensures.tcb in
     subst (λ (f : Option Transfer). ForwardsAt f (view_of old) c.args.packet.now (view_of c.delay_forward_tsn.new.self) c.forward_tsn.new.packet) (sym is)
     (forwards_below old (view_of c.delay_forward_tsn.new.self) _ (left_with old.state tcb after) c.forward_tsn.new.queue _ c.in_ok-next.next c.args.packet.now c.forward_tsn.new.packet
-    is (λ early. absurd (grind arith)) c.delay_forward_tsn.ensures (after, lent old.state tcb after c.in-Some.ensures.tcb, c.in_ok-next.ensures.ok))
+    is (grind (arith, nat_tests)) c.delay_forward_tsn.ensures (after, lent old.state tcb after c.in-Some.ensures.tcb, c.in_ok-next.ensures.ok))

@@ -43,5 +43,5 @@ returns g c =
     let is = found old.state tcb c.in-Some.ensures.tcb in
     at_once_sent g.R.Rng.stream old tcb (left_with old.state tcb after) _ c.fill_at_once.new.packet _ (view_of c.send_unless_empty.new.self)
     (ap at_once_below is ∙ sym c.has_data_at_once.ensures ∙ c.if-not-has_data_at_once.false) c.in-Some.ensures.tcb c.in_ok-packet.ensures
-    (subst (λ (f : Option Transfer). FillsAtOnceBelow f old.state c.in_ok-packet.packet (left_with old.state tcb after) c.fill_at_once.new.packet) (sym is) (after, lent old.state tcb after c.in-Some.ensures.tcb, c.in_ok-fill_at_once.ensures))
+    (subst (λ (f : Option Transfer). FillsAtOnceBelow old.moment f old.state c.in_ok-packet.packet (left_with old.state tcb after) c.fill_at_once.new.packet) (sym is) (after, lent old.state tcb after c.in-Some.ensures.tcb, c.in_ok-fill_at_once.ensures))
     c.send_unless_empty.ensures.size c.in_ok-send_unless_empty.ensures.sends.0 c.in_ok-send_unless_empty.ensures.sends.1

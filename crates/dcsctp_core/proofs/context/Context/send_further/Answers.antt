@@ -43,4 +43,4 @@ returns-then-not-may_fill g c =
     λ held holds. loop_ends g.R.Rng.stream held c.args.allowed (view_of c.args.self.now) c.loop-left.left (view_of here) (view_of here) false c.loop-left-test.true refl (c.loop-left.invariant held holds)
     (asks_none g.R.Rng.stream later_ask (view_of here) held
     (subst (λ (f : Option Transfer). NeedsNone later_ask here.send_queue f) (sym (found here.state c.in-Some.tcb.now c.in-Some.ensures))
-    (refl, λ is. absurd (cc), sym c.may_fill.ensures ∙ c.if-not-may_fill.true)))
+    (refl, λ is. absurd (cc), λ is. absurd (cc), sym c.may_fill.ensures ∙ c.if-not-may_fill.true)))

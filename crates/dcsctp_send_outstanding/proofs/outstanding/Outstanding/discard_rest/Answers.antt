@@ -9,7 +9,7 @@ use Rattle.dcsctp_send_queue.specs.Calls.{StopsDiscarding}
 use Rattle.dcsctp_send_streams.specs.Telling.{contents}
 use Rattle.dcsctp_machine.specs.transfer.Items.{Item}
 use Rattle.dcsctp_send_outstanding.specs.declared.item.Item.TheInside.{Inside}
-use Rattle.dcsctp_send_outstanding.specs.Messages.{IsEndOf}
+use Rattle.dcsctp_machine.specs.transfer.ItemMessages.{IsEndOf}
 use Rattle.dcsctp_send_outstanding.specs.Totals.{total_with}
 use Rattle.dcsctp_send_outstanding.proofs.MessageLemmas.{index_at}
 use Rattle.dcsctp_send_outstanding.proofs.SettledLemmas.{settled_pushed}

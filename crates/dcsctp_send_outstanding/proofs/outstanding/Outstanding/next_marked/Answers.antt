@@ -1,5 +1,5 @@
 use Rattle.std.proofs.Common.{subst}
-use Rattle.dcsctp_send_outstanding.specs.Outstanding.{NoneMarkedBefore}
+use Rattle.dcsctp_machine.specs.transfer.NextItem.{NoneMarkedBefore}
 use Rattle.dcsctp_machine.specs.transfer.Outstanding.{OutstandingState}
 use Rattle.dcsctp_send_outstanding.proofs.ItemsLemmas.{none_marked_around}
 use Rattle.dcsctp_send_outstanding.proofs.outstanding.Outstanding.next_marked.Goals as goal

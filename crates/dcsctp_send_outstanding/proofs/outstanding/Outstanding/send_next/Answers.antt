@@ -36,10 +36,9 @@ returns-in-None-clause-none c =
 
 pub returns-in-Some-clause-takes : goal.returns-in-Some-clause-takes
 returns-in-Some-clause-takes c =
-    let told = rw c.in-Some.is at c.in_ok-produce.ensures.size in
     record {
       item = record { fragment = c.in-Some.fragment; progress = c.new.result; sent_at = c.args.now; begins_after_reset = c.args.begins_after_reset };
-      is_fresh = record { progress = c.new.ensures; sent_at = refl; some = told.0 };
+      is_fresh = record { progress = c.new.ensures; sent_at = refl };
       begins = refl;
       takes = rw c.in-Some.is at c.in_ok-produce.ensures.ok;
       grows = rw (c.push_back_reserved.ensures.items, c.in_ok-reserve.ensures.items, ← c.self.view_is) refl;

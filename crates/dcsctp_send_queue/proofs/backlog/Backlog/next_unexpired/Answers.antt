@@ -1,6 +1,7 @@
 use Rattle.std.proofs.Common.{inl, refl, ◌++◌, [], append_assoc, ap, sym, ◌∙◌, arith, rules}
 use Rattle.std.proofs.lemmas.Result.{err_from_is_err_and}
 use Rattle.dcsctp_send_queue.proofs.FrontLemmas.{front_from}
+use Rattle.dcsctp_send_queue.proofs.GoingOnLemmas.{drops-under_way}
 use Rattle.dcsctp_send_streams.specs.Telling.{contents}
 use Rattle.dcsctp_machine.specs.transfer.Sending.{none, more, drop_events}
 use Rattle.dcsctp_machine.specs.transfer.SendQueue.{SendQueueState}
@@ -41,7 +42,7 @@ loop-place-preserved c =
     }
 
 pub returns-in_err-drop_front-clause-front : goal.returns-in_err-drop_front-clause-front
-returns-in_err-drop_front-clause-front c max =
+returns-in_err-drop_front-clause-front c max idle =
     let next = c.in-Some.ensures.some in
     let front = next_front _ _ next in
     rw (err_from_is_err_and c.from_residual.result c.from_residual.ensures.1).1 (rw c.in_err-drop_front.ensures.err (record {
@@ -49,6 +50,7 @@ returns-in_err-drop_front-clause-front c max =
       drops = c.loop-place.invariant.drops;
       coming = drop_events c.in-Some.place 0 front.0 (queue_of c.loop-place.self);
       next = inl (record {
+        idle = drops-under_way _ _ _ _ c.loop-place.invariant.drops ∙ idle;
         place = c.in-Some.place;
         message = front.0;
         next = next;

@@ -3,7 +3,8 @@ use Rattle.dcsctp_machine.specs.transfer.Items.{marked_items}
 use Rattle.dcsctp_machine.specs.transfer.Retransmission.{RetransmissionState}
 use Rattle.dcsctp_machine.specs.transfer.Outstanding.{OutstandingState}
 use Rattle.std.proofs.lemmas.Result.{err_from_is_err_and}
-use Rattle.dcsctp_send_retransmission.specs.States.{Stage, stage, StepNew, Goes, none, counting}
+use Rattle.dcsctp_send_retransmission.specs.States.{stage, Goes}
+use Rattle.dcsctp_machine.specs.transfer.Filling.{Stage, StepNew, none, counting}
 use Rattle.dcsctp_send_retransmission.proofs.StatesLemmas.{goes_filling}
 use Rattle.dcsctp_send_retransmission.proofs.FreshLemmas.{fresh_none, ends_fresh, ends_fresh_ok}
 use Rattle.dcsctp_send_retransmission.proofs.HaltingLemmas.{halts_counted, halts_marked, halts_new}
@@ -24,13 +25,13 @@ returns-clause-fills c =
 
 pub returns-then-marked_items-ne0-clause-halts : goal.returns-then-marked_items-ne0-clause-halts
 returns-then-marked_items-ne0-clause-halts c =
-    halts_marked c.send_again.new.packet.room c.count_sent_again.new.self c.send_again.new.queue
-    (rw c.count_sent_again.ensures (halts_counted c.saturating_sub.result c.send_again.new.packet.room c.send_again.new.self c.in_ok-send_again.ensures.halts))
+    halts_marked c.args.now c.send_again.new.packet.room c.count_sent_again.new.self c.send_again.new.queue
+    (rw c.count_sent_again.ensures (halts_counted c.args.now c.saturating_sub.result c.send_again.new.packet.room c.send_again.new.self c.in_ok-send_again.ensures.halts))
     (λ e. c.if-marked_items-ne0.true (c.marked_items.ensures ∙ (ap (λ (q : RetransmissionState). marked_items q.outstanding.items) c.self.view_is ∙ e)))
 
 pub returns-clause-halts : goal.returns-clause-halts
 returns-clause-halts c =
-    halts_new c.send_new.result c.send_new.new.packet.room c.count_sent_again.new.self c.send_new.new.self c.send_new.new.queue
+    halts_new c.send_new.result c.args.now c.send_new.new.packet.room c.count_sent_again.new.self c.send_new.new.self c.send_new.new.queue
     (sym (ap (λ (q : RetransmissionState). marked_items q.outstanding.items) c.self.view_is) ∙ (sym c.marked_items.ensures ∙ c.if-marked_items-ne0.false))
     c.send_new.ensures.marks c.send_new.ensures.halts
 

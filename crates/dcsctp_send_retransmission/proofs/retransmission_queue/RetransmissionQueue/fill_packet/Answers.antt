@@ -1,13 +1,14 @@
 use Rattle.std.proofs.Common.{ℕ, List, [], subst, refl}
 use Rattle.std.proofs.lemmas.Result.{err_from_is_err_and}
-use Rattle.dcsctp_send_retransmission.specs.States.{stage, FillsStage, StopsFilling}
+use Rattle.dcsctp_send_retransmission.specs.States.{stage, StopsFilling}
+use Rattle.dcsctp_machine.specs.transfer.Filling.{FillsStage}
 use Rattle.dcsctp_send_retransmission.proofs.StatesLemmas.{stops_filling_any}
 use Rattle.dcsctp_send_retransmission.proofs.HaltingLemmas.{fills_up}
 use Rattle.dcsctp_send_retransmission.proofs.retransmission_queue.RetransmissionQueue.fill_packet.Goals as goal
 
 pub returns-clause-fills : goal.returns-clause-fills
 returns-clause-fills c =
-    fills_up c.args.packet.room c.args.self.now c.fill.new.self c.args.packet c.fill.new.packet c.fill.new.queue c.requires refl c.fill.ensures.fills c.in_ok-fill.ensures.halts
+    fills_up c.args.now c.args.packet.room c.args.self.now c.fill.new.self c.args.packet c.fill.new.packet c.fill.new.queue c.requires refl c.fill.ensures.fills c.in_ok-fill.ensures.halts
 
 pub returns-clause-fresh : goal.returns-clause-fresh
 returns-clause-fresh c = c.in_ok-fill.ensures.fresh c.requires

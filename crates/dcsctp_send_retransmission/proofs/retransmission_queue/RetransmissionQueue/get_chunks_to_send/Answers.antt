@@ -5,7 +5,7 @@ use Rattle.dcsctp_send_retransmission.proofs.retransmission_queue.Retransmission
 pub returns-clause-fills : goal.returns-clause-fills
 returns-clause-fills c =
     let filled = c.fill_packet-filled.new.self in
-    rw c.keep_timer.ensures (fills_up_timed c.fill_packet-filled.result c.args.bytes filled (timer_with c.args.now filled.outstanding.items filled.timer) c.fill_packet-filled.new.queue c.fill_packet-filled.ensures.fills)
+    rw c.keep_timer.ensures (fills_up_timed c.fill_packet-filled.result c.args.now c.args.bytes filled (timer_with c.args.now filled.outstanding.items filled.timer) c.fill_packet-filled.new.queue c.fill_packet-filled.ensures.fills)
 
 pub returns-clause-fresh : goal.returns-clause-fresh
 returns-clause-fresh c =

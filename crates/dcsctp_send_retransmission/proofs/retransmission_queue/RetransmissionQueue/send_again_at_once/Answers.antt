@@ -2,7 +2,8 @@ use Rattle.std.proofs.Common.{◌∙◌, true, Ok, sym, refl, ap, inl, inr, arit
 use Rattle.std.proofs.lemmas.Result.{err_from_is_err_and}
 use Rattle.dcsctp_machine.specs.transfer.Items.{marked_items}
 use Rattle.dcsctp_machine.specs.transfer.Retransmission.{RetransmissionState}
-use Rattle.dcsctp_send_retransmission.specs.States.{stage, SendsMarked, none}
+use Rattle.dcsctp_send_retransmission.specs.States.{stage}
+use Rattle.dcsctp_machine.specs.transfer.Filling.{SendsMarked, none}
 use Rattle.dcsctp_send_retransmission.proofs.HaltingLemmas.{goes_again, waits_for_room}
 use Rattle.dcsctp_send_retransmission.proofs.SendingLemmas.{fills_none, fills_trans, keeps_refl}
 use Rattle.dcsctp_send_retransmission.proofs.StatesLemmas.{goes_at, sends_first_here, sends_first_later}
@@ -48,8 +49,9 @@ pub loop-place-smaller : goal.loop-place-smaller
 loop-place-smaller c =
     let next = rw (sym c.next_marked.ensures.same) at c.in-Some.ensures.some in
     let same = ap (λ (q : RetransmissionState). marked_items q.outstanding.items) c.next_marked.ensures.same in
-    let again = goes_again (Ok true) c.in-Some.place c.next_marked.new.self c.next_marked.new.self c.send_again_at.new.self c.loop-place.packet.room c.send_again_at.new.packet.room (omega arith) next
-    (rw c.if-not-branch.false at c.in_ok-send_again_at.ensures.again) in
+    let stays = sym (c.is_to_be_given_up.ensures next.marked.item next.marked.at) ∙ c.if-is_to_be_given_up.false in
+    let again = goes_again (Ok true) c.args.now c.in-Some.place c.next_marked.new.self c.next_marked.new.self c.send_again_at.new.self c.loop-place.packet c.send_again_at.new.packet (omega arith) next stays
+    (rw c.if-not-branch.false at c.in_ok-send_again_at.ensures.again) (rw c.if-not-branch.false at (c.in_ok-send_again_at.ensures.sends next.marked.item next.marked.at)) in
     omega arith
 
 pub loop-place-preserved : goal.loop-place-preserved

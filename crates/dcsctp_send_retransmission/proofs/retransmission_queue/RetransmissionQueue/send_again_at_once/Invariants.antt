@@ -3,7 +3,9 @@ use Rattle.dcsctp_api.specs.declared.events.SocketEvent.{SocketEvent}
 use Rattle.dcsctp_machine.specs.transfer.SendQueue.{SendQueueState}
 use Rattle.dcsctp_machine.specs.transfer.Items.{marked_items}
 use Rattle.dcsctp_send_retransmission.specs.Sending.{Fills}
-use Rattle.dcsctp_send_retransmission.specs.States.{stage, SendsMarked, SendsFirst, Steps}
+use Rattle.dcsctp_send_retransmission.specs.States.{stage}
+use Rattle.dcsctp_machine.specs.transfer.Filling.{SendsMarked, Steps}
+use Rattle.dcsctp_machine.specs.transfer.AtOnce.{SendsFirst}
 use Rattle.dcsctp_send_retransmission.proofs.retransmission_queue.RetransmissionQueue.send_again_at_once.Given as goal
 
 abbrev pub invariant-loop-place : goal.invariant-loop-place

@@ -1,7 +1,8 @@
 use Rattle.std.proofs.Common.{inl, inr, ap, sym, ◌∙◌}
 use Rattle.std.proofs.lemmas.Result.{err_from_is_err_and}
 use Rattle.dcsctp_machine.specs.transfer.Retransmission.{can_send}
-use Rattle.dcsctp_send_retransmission.specs.States.{stage, StepAgain}
+use Rattle.dcsctp_send_retransmission.specs.States.{stage}
+use Rattle.dcsctp_machine.specs.transfer.Filling.{StepAgain}
 use Rattle.dcsctp_send_retransmission.proofs.StatesLemmas.{goes_at}
 use Rattle.dcsctp_send_retransmission.proofs.SendingLemmas.{fills_trans, fills_none}
 use Rattle.dcsctp_send_retransmission.proofs.HaltingLemmas.{goes_again}
@@ -25,12 +26,16 @@ returns-else-not-can_send_data-clause-fills c =
 
 pub returns-then-not-can_send_data-clause-again : goal.returns-then-not-can_send_data-clause-again
 returns-then-not-can_send_data-clause-again c =
-    (c.in_ok-next_to_send_again.ensures.fewer, inr (inl (sym c.can_send_data.ensures ∙ c.if-not-can_send_data.true)))
+    let next = rw c.in-Some.is at c.in_ok-next_to_send_again.ensures.found in
+    let stays = rw c.in-Some.is at c.in_ok-next_to_send_again.ensures.stays in
+    (c.in_ok-next_to_send_again.ensures.fewer, inr (record { place = c.in-Some.place; next = next; stays = stays next.marked.item next.marked.at }, inl (sym c.can_send_data.ensures ∙ c.if-not-can_send_data.true)))
 
 pub returns-else-not-can_send_data-clause-again : goal.returns-else-not-can_send_data-clause-again
 returns-else-not-can_send_data-clause-again c =
     let next = rw c.in-Some.is at c.in_ok-next_to_send_again.ensures.found in
-    goes_again c.send_again_at.result c.in-Some.place c.args.self.now c.next_to_send_again.new.self c.send_again_at.new.self c.args.packet.now.room c.send_again_at.new.packet.room c.in_ok-next_to_send_again.ensures.fewer next c.send_again_at.ensures.again
+    let stays = rw c.in-Some.is at c.in_ok-next_to_send_again.ensures.stays in
+    goes_again c.send_again_at.result c.args.now c.in-Some.place c.args.self.now c.next_to_send_again.new.self c.send_again_at.new.self c.args.packet.now c.send_again_at.new.packet c.in_ok-next_to_send_again.ensures.fewer next
+    (stays next.marked.item next.marked.at) c.send_again_at.ensures.again (c.send_again_at.ensures.sends next.marked.item next.marked.at)
 
 pub returns-in-None-clause-again : goal.returns-in-None-clause-again
 returns-in-None-clause-again c =

@@ -1,4 +1,4 @@
-use Rattle.std.proofs.Common.{ℕ, inl, inr, ◌≡◌, ◌-◌, ◌*◌, ◌/◌, min, [], ◌∷◌, ◌++◌, ap, ◌∙◌, false, refl, sym, subst}
+use Rattle.std.proofs.Common.{ℕ, inl, inr, ◌≡◌, ◌+◌, ◌-◌, ◌*◌, ◌/◌, ◌^◌, ◌<◌, min, length, [], ◌∷◌, ◌++◌, ap, ◌∙◌, false, refl, sym, subst}
 use Rattle.dcsctp_send_retransmission.specs.declared.packet.Packet.{Packet}
 use Rattle.dcsctp_machine.specs.transfer.Retransmission.{RetransmissionState}
 use Rattle.dcsctp_send_retransmission.specs.Sending.{Keeps, Fills}
@@ -7,8 +7,9 @@ use Rattle.dcsctp_send_outstanding.specs.Fresh.{SendsFresh}
 use Rattle.dcsctp_send_queue.specs.Calls.{StopsTaking}
 use Rattle.dcsctp_send_streams.specs.Telling.{contents}
 use Rattle.std.proofs.lemmas.Result.{err_from_is_err_and}
-use Rattle.dcsctp_send_retransmission.specs.States.{stage, none, more}
-use Rattle.dcsctp_send_retransmission.proofs.StatesLemmas.{sends_new}
+use Rattle.dcsctp_send_retransmission.specs.States.{stage}
+use Rattle.dcsctp_machine.specs.transfer.Filling.{none, more}
+use Rattle.dcsctp_send_retransmission.proofs.StatesLemmas.{sends_new, may_add}
 use Rattle.dcsctp_send_retransmission.proofs.FreshLemmas.{fresh_none, fresh_one}
 use Rattle.dcsctp_send_retransmission.proofs.SendingLemmas.{keeps_refl, fills_same, with_outstanding, sends_fills}
 use Rattle.dcsctp_send_retransmission.proofs.retransmission_queue.RetransmissionQueue.send_one_new.Goals as goal
@@ -118,25 +119,26 @@ returns-in_err-sent-clause-steps c = λ none_marked may.
       queue = rw (c.in_err-sent.ensures.takes.0, c.self.view_is) refl;
       refused = elim c.in_err-sent.ensures.takes.1 [
         | inl nothing ↦ inl nothing
-        | inr stops ↦ inr (inr (none_marked, subst S c.requires.max.1 stops))
+        | inr stops ↦ inr (inr (may_add c.args.max c.args.self.now c.args.queue.now c.args.events.now c.args.packet.now.tsns.items c.args.packet.now.room may none_marked c.requires.few c.requires.max.0 c.requires.max.1, subst S c.requires.max.1 stops))
       ];
     })
 
 pub returns-in-None-clause-steps : goal.returns-in-None-clause-steps
 returns-in-None-clause-steps c = λ none_marked may.
     let told = rw c.in-None.is at c.in_ok-sent.ensures.takes in
-    more (stage c.args.self.now c.args.queue.now c.args.events.now c.args.packet.now.tsns.items c.args.packet.now.room) _ none (may, none_marked, inr (record { takes = told.1; is = rw (told.0, c.self.view_is, c.in_ok-reserve.ensures.items) refl }))
+    more (stage c.args.self.now c.args.queue.now c.args.events.now c.args.packet.now.tsns.items c.args.packet.now.room) _ none (may_add c.args.max c.args.self.now c.args.queue.now c.args.events.now c.args.packet.now.tsns.items c.args.packet.now.room may none_marked c.requires.few c.requires.max.0 c.requires.max.1, inr (record { takes = told.1; is = rw (told.0, c.self.view_is, c.in_ok-reserve.ensures.items) refl }))
 
 pub returns-in_ok-push-in-Some-clause-steps : goal.returns-in_ok-push-in-Some-clause-steps
 returns-in_ok-push-in-Some-clause-steps c =
     let M : RetransmissionState → Type 0 = λ q. c.args.max ≡ (min c.args.packet.now.room 65532 - header q.outstanding) / 4 * 4 in
     let max_is = subst M (sym c.self.view_is) c.requires.max.1 in
+    let L : RetransmissionState → Type 0 = λ q. length q.outstanding.items + 1 < 2 ^ 31 in
+    let few = subst L (sym c.self.view_is) c.requires.few in
     rw (← c.self.view_is) (λ none_marked may.
     let told = rw c.in-Some.is at c.in_ok-sent.ensures.takes in
     let after : Packet = record { tsns = c.push.new.self; room = c.saturating_sub-packet.result } in
     let tsns : after.tsns.items ≡ c.args.packet.now.tsns.items ++ c.in-Some.tsn ∷ [] = rw (c.in_ok-push-in-Some.ensures.items, c.in_ok-reserve.ensures.items) refl in
     more _ _ none (
-      may,
-      none_marked,
+      may_add c.args.max _ c.args.queue.now c.args.events.now c.args.packet.now.tsns.items c.args.packet.now.room may none_marked few c.requires.max.0 max_is,
       inl (sends_new c.args.now c.args.max _ c.args.packet.now after c.len-place.result c.size_at-size.result c.in-Some.tsn c.send_next.new.self c.args.queue.now c.send_next.new.queue c.args.events.now c.send_next.new.events told c.len-place.ensures.value c.size_at-size.ensures max_is tsns c.saturating_sub-packet.ensures),
     ))

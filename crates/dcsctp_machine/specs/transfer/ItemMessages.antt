@@ -1,11 +1,11 @@
 -- The items of one message, and what it is to drop the rest of it (RFC 3758, section 3.5).
 use Rattle.std.specs.Prelude.{◌≡◌, ◌+◌, ◌%◌, ◌^◌, ◌<◌, ◌≤◌, ℕ, Bool, true, false, None, Some, List, [], ◌∷◌, ◌++◌, length, slice_get}
+use Rattle.dcsctp_machine.specs.declared.progress.ItemState.TheVariants.{Abandoned}
 use Rattle.dcsctp_machine.specs.Event.{Event}
+use Rattle.dcsctp_machine.specs.transfer.Items.{Item}
+use Rattle.dcsctp_machine.specs.transfer.Outstanding.{OutstandingState}
 use Rattle.dcsctp_machine.specs.transfer.SendQueue.{SendQueueState}
 use Rattle.dcsctp_machine.specs.transfer.Sending.{DiscardsNamed}
-use Rattle.dcsctp_machine.specs.transfer.Items.{Item}
-use Rattle.dcsctp_machine.specs.declared.progress.ItemState.TheVariants.{Abandoned}
-use Rattle.dcsctp_machine.specs.transfer.Outstanding.{OutstandingState}
 
 -- it holds of the item at this place
 abbrev pub AtPlace : List Item → ℕ → (Item → Type 0) → Type 0

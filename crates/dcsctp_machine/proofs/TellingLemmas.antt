@@ -1,22 +1,16 @@
 -- What the user is told while a packet is filled.
-use Rattle.std.proofs.Common.{◌≡◌, ◌∙◌, ◌⊎◌, inl, inr, ℕ, ◌-◌, Bool, true, false, if◌then◌else◌, Option, None, Some, Result, Ok, Err, Vec, List, [], ◌∷◌, ◌++◌, map, length, append_assoc, refl, ap, sym}
+use Rattle.std.proofs.Common.{◌≡◌, ◌∙◌, ◌⊎◌, inl, inr, ℕ, ◌-◌, Bool, true, false, if◌then◌else◌, Option, None, Some, List, [], ◌∷◌, ◌++◌, map, length, append_assoc, refl, ap, sym}
 use Rattle.std.proofs.lemmas.List.{append-nil, map-append}
-use Rattle.std.specs.declared.alloc.AllocError.{AllocError}
-use Rattle.std.specs.declared.alloc.Global.{Global}
 use Rattle.dcsctp_machine.specs.Event.{Event}
-use Rattle.dcsctp_machine.specs.turns.FlushOutcomes.{Told, amount_is_low, total_amount_is_low, message_is_sent, message_may_have_expired, message_has_expired, message_ends}
-use Rattle.dcsctp_api.specs.declared.events.SocketEvent.{SocketEvent}
-use Rattle.dcsctp_machine.specs.transfer.SendStreams.{Waiting, Stream, stream_at}
-use Rattle.dcsctp_send_streams.specs.Telling.{contents, TellsFront}
-use Rattle.dcsctp_machine.specs.transfer.SendEvents.{expiry_events, sent_events, falls_low, low_events}
 use Rattle.dcsctp_machine.specs.declared.sending.UnderWay.{UnderWay}
-use Rattle.dcsctp_machine.specs.transfer.SendQueue.{SendQueueState}
-use Rattle.dcsctp_machine.specs.transfer.Sending.{Drops, none as none_dropped, more as more_dropped, DropsAll, drop_events, part_events, last_events, is_last, produced_events, DiscardsNamed}
-use Rattle.dcsctp_send_queue.specs.Calls.{StopsTaking, DropsNext, PartNext}
+use Rattle.dcsctp_machine.specs.transfer.Abandoning.{GivesUpFirst, GivesUpAll}
+use Rattle.dcsctp_machine.specs.transfer.Filling.{Stage, maybe_expired, Closes, GivesUpAt, SendsNew, FindsNone, StepAgain, StepNew, Steps, none, more, counting, FillsPacket}
 use Rattle.dcsctp_machine.specs.transfer.Items.{Item}
-use Rattle.dcsctp_machine.specs.transfer.Retransmission.{RetransmissionState}
-use Rattle.dcsctp_send_retransmission.specs.States.{Stage, stage, maybe_expired, Closes, GivesUpAt, SendsNew, FindsNone, StepAgain, StepNew, Steps, none, more, RefusesClosing, Refused, Stops, counting, TriesPacket, SendsPacket}
-use Rattle.dcsctp_transfer.specs.Filling.{told_content, TellsMore}
+use Rattle.dcsctp_machine.specs.transfer.SendEvents.{expiry_events, sent_events, falls_low, low_events}
+use Rattle.dcsctp_machine.specs.transfer.SendQueue.{SendQueueState}
+use Rattle.dcsctp_machine.specs.transfer.SendStreams.{Waiting, Stream, stream_at}
+use Rattle.dcsctp_machine.specs.transfer.Sending.{Drops, none as none_dropped, more as more_dropped, DropsAll, drop_events, part_events, last_events, is_last, produced_events, DiscardsNamed}
+use Rattle.dcsctp_machine.specs.turns.FlushOutcomes.{Told, amount_is_low, total_amount_is_low, message_is_sent, message_may_have_expired, message_has_expired, message_ends, told_content, FillsWhere}
 
 abbrev Events : Type 0
 Events = List (Event (List ℕ))
@@ -44,16 +38,6 @@ told_both a b first later =
 told_if : (b : Bool) (told : Told) → AreTold (if b then told_content told ∷ [] else [])
 told_if true told = record { told = told ∷ []; is = refl }
 told_if false told = told_none
-
--- a front part of them
-told_front : (front rest : Events) (told : List Told) → front ++ rest ≡ map told_content told → AreTold front
-told_front [] rest told is = told_none
-told_front (x ∷ xs) rest [] is = absurd (cc)
-told_front (x ∷ xs) rest (t ∷ ts) is =
-    let here : x ≡ told_content t = cc in
-    let later : xs ++ rest ≡ map told_content ts = cc in
-    let others = told_front xs rest ts later in
-    record { told = t ∷ others.told; is = ap (λ (y : Event (List ℕ)). y ∷ xs) here ∙ ap (λ (ys : Events). told_content t ∷ ys) others.is }
 
 told_low : (stream : Stream) (total_threshold total by : ℕ) → AreTold (low_events stream total_threshold total by)
 told_low stream total_threshold total by =
@@ -98,7 +82,12 @@ told_drops now old new events (more_dropped before queue place message drops nex
 
 -- ---- what is told more
 
-tells_same : (before after : Events) → after ≡ before → TellsMore before after
+-- The user was told some of that, and nothing else.
+pub record TellsMore (before after : Events) : Type 0 where
+  pub told : List Told
+  pub is : after ≡ before ++ map told_content told
+
+pub tells_same : (before after : Events) → after ≡ before → TellsMore before after
 tells_same before after same = record { told = []; is = same ∙ sym (append-nil before) }
 
 tells_these : (before events after : Events) → AreTold events → after ≡ before ++ events → TellsMore before after
@@ -112,10 +101,6 @@ tells_then a b c first later =
           ∙ (ap (λ (x : Events). x ++ map told_content later.told) first.is
           ∙ (append_assoc a (map told_content first.told) (map told_content later.told) ∙ ap (λ (x : Events). a ++ x) (sym (map-append told_content first.told later.told))));
     }
-
-tells_front : (before whole after : Events) → AreTold whole → TellsFront before whole after → TellsMore before after
-tells_front before whole after told tells =
-    tells_these before tells.front after (told_front tells.front tells.rest told.told (sym tells.parts ∙ told.is)) tells.told
 
 -- ---- steps
 
@@ -151,58 +136,30 @@ tells_anew_by now old new (inl sends) =
 tells_anew_by now old new (inr finds) = tells_dropped now old.waiting new.waiting old.told new.told finds.takes.drops
 
 tells_anew : (now : ℕ) (old new : Stage) → StepNew now old new → TellsMore old.told new.told
-tells_anew now old new step = tells_anew_by now old new step.2
+tells_anew now old new step = tells_anew_by now old new step.1
 
 pub tells_steps : (Step : Stage → Stage → Type 0) → ((a b : Stage) → Step a b → TellsMore a.told b.told) → (old new : Stage) → Steps Step old new → TellsMore old.told new.told
 tells_steps Step each old new none = tells_same old.told old.told refl
 tells_steps Step each old new (more between new' steps step) =
     tells_then old.told between.told new'.told (tells_steps Step each old between steps) (each between new' step)
 
--- ---- where memory is refused
+-- ---- all of it
 
-pub tells_unclosed : (last : Item) (waiting : SendQueueState) (before after : Events) (is_end : Bool) → RefusesClosing last waiting before after is_end → TellsMore before after
-tells_unclosed last waiting before after true tells = tells_front before _ after (told_maybe last.fragment.lifecycle) tells
-tells_unclosed last waiting before after false (inl same) = tells_same before after same
-tells_unclosed last waiting before after false (inr stops) =
-    tells_front before _ after (told_drop stops.named.place stops.named.under_way.sent stops.named.message waiting) stops.tells
+tells_first : (now : ℕ) (old new : Stage) → GivesUpFirst now old new → TellsMore old.told new.told
+tells_first now old new step = tells_given_up now step.place old new step.gives_up
 
-told_coming : (now max : ℕ) (old queue : SendQueueState) (events : Events) → DropsNext now queue events ⊎ PartNext now max old queue events → AreTold events
-told_coming now max old queue events (inl drops) = told_same events _ drops.is (told_drop drops.place 0 drops.message queue)
-told_coming now max old queue events (inr part) = told_same events _ part.is (told_produced part.place max part.message part.under_way queue)
+pub tells_abandoned : (now : ℕ) (old new : Stage) → GivesUpAll now old new → TellsMore old.told new.told
+tells_abandoned now old new h = tells_steps (GivesUpFirst now) (tells_first now) old new h.steps
 
-tells_stopped : (now max : ℕ) (old new : SendQueueState) (before after : Events) → StopsTaking now max old before new after → TellsMore before after
-tells_stopped now max old new before after stops =
-    tells_then before (before ++ stops.events) after (tells_these before stops.events (before ++ stops.events) (told_drops now old new stops.events stops.drops) refl)
-    (tells_front (before ++ stops.events) stops.coming after (told_coming now max old new stops.coming stops.next) stops.tells)
+pub tells_filled : (now : ℕ) (old new : Stage) → FillsPacket now old new → TellsMore old.told new.told
+tells_filled now old new h =
+    let fills = h.fills in
+    tells_then old.told h.sent.told new.told
+    (tells_then old.told fills.resent.told h.sent.told (tells_steps (StepAgain now) (tells_again now) old fills.resent fills.again)
+    (tells_steps (StepNew now) (tells_anew now) (counting old.room fills.resent) h.sent fills.anew))
+    (tells_same h.sent.told new.told (ap (λ (s : Stage). s.told) h.is))
 
-tells_refused : (now : ℕ) (at : Stage) (left : SendQueueState) (after : Events) → Refused now at left after → TellsMore at.told after
-tells_refused now at left after (inl same) = tells_same at.told after same.1
-tells_refused now at left after (inr (inl refuses)) =
-    tells_unclosed refuses.refused.last at.waiting at.told after refuses.refused.last.fragment.is_end refuses.refused.tells
-tells_refused now at left after (inr (inr stops)) = tells_stopped now _ at.waiting left at.told after stops.1
-
-tells_stops : (now : ℕ) (Step : Stage → Stage → Type 0) → ((a b : Stage) → Step a b → TellsMore a.told b.told) → (old new : Stage) → Stops now Step old new → TellsMore old.told new.told
-tells_stops now Step each old new stops =
-    tells_then old.told stops.at.told new.told (tells_steps Step each old stops.at stops.steps) (tells_refused now stops.at new.waiting new.told stops.refused)
-
--- ---- a packet
-
-tells_tried : (r : Result (Vec ℕ Global) AllocError) (now bytes : ℕ) (old : RetransmissionState) (waiting : SendQueueState) (events : List SocketEvent) (new : RetransmissionState) (left : SendQueueState) (telling : List SocketEvent)
-    → TriesPacket now bytes old waiting events new left telling r → TellsMore (contents events) (contents telling)
-tells_tried (Ok tsns) now bytes old waiting events new left telling tries =
-    let fills = tries.fills in
-    tells_then (contents events) fills.resent.told (contents telling)
-    (tells_steps (StepAgain now) (tells_again now) (stage old waiting events [] bytes) fills.resent fills.again)
-    (tells_steps (StepNew now) (tells_anew now) (counting bytes fills.resent) (stage new left telling tsns.items tries.room) fills.anew)
-tells_tried (Err error) now bytes old waiting events new left telling (inl stops) =
-    tells_stops now (StepAgain now) (tells_again now) (stage old waiting events [] bytes) (stage new left telling [] bytes) stops
-tells_tried (Err error) now bytes old waiting events new left telling (inr stops) =
-    tells_then (contents events) stops.resent.told (contents telling)
-    (tells_steps (StepAgain now) (tells_again now) (stage old waiting events [] bytes) stops.resent stops.again)
-    (tells_stops now (StepNew now) (tells_anew now) (counting bytes stops.resent) (stage new left telling [] bytes) stops.stops)
-
--- all that is told while a packet is filled
-pub tells_packet : (now bytes : ℕ) (old : RetransmissionState) (waiting : SendQueueState) (events : List SocketEvent) (new : RetransmissionState) (left : SendQueueState) (telling : List SocketEvent) (r : Result (Vec ℕ Global) AllocError)
-    → SendsPacket now bytes old waiting events new left telling r → TellsMore (contents events) (contents telling)
-tells_packet now bytes old waiting events new left telling r sends =
-    tells_tried r now bytes old waiting events sends.sent left telling sends.fills
+pub tells_where : (b : Bool) (now : ℕ) (old new : Stage) → FillsWhere b now old new → TellsMore old.told new.told
+tells_where true now old new h = tells_filled now old new h
+tells_where false now old new (inl same) = tells_same old.told new.told (ap (λ (s : Stage). s.told) same)
+tells_where false now old new (inr h) = tells_filled now old new h

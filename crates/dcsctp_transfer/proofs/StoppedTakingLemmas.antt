@@ -1,0 +1,119 @@
+-- If an allocation fails for what the send queue gives, what the user was told is the first part of what some whole filling tells.
+use Rattle.std.proofs.Common.{◌≡◌, ◌∙◌, inl, inr, ℕ, ◌-◌, false, List, [], ◌∷◌, ◌++◌, append_assoc, refl, ap, sym, subst}
+use Rattle.dcsctp_machine.specs.Event.{Event}
+use Rattle.dcsctp_machine.specs.transfer.Filling.{Stage, payload_room, SendsNew, StepAgain, MayAdd, StepNew, Steps, more, counting}
+use Rattle.dcsctp_machine.specs.transfer.Items.{Item, size_of}
+use Rattle.dcsctp_machine.specs.transfer.Outstanding.{header, next_tsn}
+use Rattle.dcsctp_machine.specs.transfer.Progress.{just_sent}
+use Rattle.dcsctp_machine.specs.transfer.SendQueue.{SendQueueState}
+use Rattle.dcsctp_machine.specs.transfer.Sending.{Drops, more as one_more_dropped, fragment, size_produced, produced, produced_events}
+use Rattle.dcsctp_machine.proofs.FilledOutcomes.{Filled, filled_from_new, filled_from_dropped}
+use Rattle.dcsctp_machine.proofs.SendingOutcomes.{none_marked}
+use Rattle.dcsctp_machine.proofs.TakingOutcomes.{drops_idle}
+use Rattle.dcsctp_send_streams.specs.Telling.{TellsFront}
+use Rattle.dcsctp_send_queue.specs.Calls.{DropsNext, PartNext, StopsTaking}
+
+abbrev Events : Type 0
+Events = List (Event (List ℕ))
+
+-- The packet is filled, and what was told behind these events is the first part of what is told then.
+pub record FillsTelling (front : Events) (now : ℕ) (old : Stage) (telling : Events) : Type 0 where
+  pub first : Events
+  pub filled : Filled now old first
+  pub tells : telling ≡ front ++ first
+
+-- Less was told than that.
+pub told_less : (now : ℕ) (old : Stage) (first after whole : Events) → whole ≡ first ++ after → Filled now old whole → Filled now old first
+told_less now old first after whole is filled =
+    record {
+      new = filled.new;
+      fills = filled.fills;
+      rest = after ++ filled.rest;
+      told = filled.told ∙ (ap (λ (es : Events). es ++ filled.rest) is ∙ append_assoc first after filled.rest);
+    }
+
+-- Nothing of a further step was told.
+pub fills_same : (front : Events) (now : ℕ) (old mid : Stage) (telling : Events) → Filled now old mid.told → telling ≡ front ++ mid.told → FillsTelling front now old telling
+fills_same front now old mid telling filled same = record { first = mid.told; filled = filled; tells = same }
+
+-- The first part of a further step was told.
+fills_front : (front : Events) (now : ℕ) (old : Stage) (before whole telling : Events) → Filled now old (before ++ whole) → TellsFront (front ++ before) whole telling → FillsTelling front now old telling
+fills_front front now old before whole telling filled tells =
+    record {
+      first = before ++ tells.front;
+      filled = told_less now old (before ++ tells.front) tells.rest (before ++ whole)
+          (ap (λ (es : Events). before ++ es) tells.parts ∙ sym (append_assoc before tells.front tells.rest)) filled;
+      tells = tells.told ∙ append_assoc front before tells.front;
+    }
+
+-- ---- what the send queue gives next
+
+drops_front : (front : Events) (now : ℕ) (old resent mid : Stage) (left : SendQueueState) (telling : Events) → Steps (StepAgain now) old resent → Steps (StepNew now) (counting old.room resent) mid → MayAdd mid
+    → (events : Events) → Drops now mid.waiting events left → (coming : Events) → DropsNext now left coming → TellsFront (front ++ (mid.told ++ events)) coming telling → FillsTelling front now old telling
+drops_front front now old resent mid left telling again anew may events drops coming next tells =
+    let idle = sym (drops_idle now mid.waiting left events drops) ∙ next.idle in
+    let all = filled_from_dropped now old resent mid _ _ again anew may idle (one_more_dropped events left next.place next.message drops next.next next.front next.expired) in
+    fills_front front now old (mid.told ++ events) coming telling
+    (subst (Filled now old) (ap (λ (es : Events). mid.told ++ (events ++ es)) (sym next.is) ∙ sym (append_assoc mid.told events coming)) all) tells
+
+-- the item with the fragment that is taken next
+abbrev next_item : (now : ℕ) → (mid : Stage) → (left : SendQueueState) → (coming : Events) → PartNext now (payload_room (header mid.queue.outstanding) mid.room) mid.waiting left coming → Item
+next_item now mid left coming next =
+    record {
+      fragment = fragment next.under_way next.message (size_produced (payload_room (header mid.queue.outstanding) mid.room) next.message next.under_way);
+      progress = just_sent;
+      sent_at = now;
+      begins_after_reset = mid.queue.reset_begun;
+    }
+
+-- the stage once it is
+abbrev next_stage : (now : ℕ) → (mid : Stage) → (left : SendQueueState) → (events : Events) → (coming : Events) → PartNext now (payload_room (header mid.queue.outstanding) mid.room) mid.waiting left coming → Stage
+next_stage now mid left events coming next = record mid {
+  queue = record mid.queue { outstanding = record mid.queue.outstanding { items = mid.queue.outstanding.items ++ next_item now mid left coming next ∷ [] }; reset_begun = false };
+  waiting = produced next.place (payload_room (header mid.queue.outstanding) mid.room) next.message next.under_way left;
+  told = (mid.told ++ events) ++ produced_events next.place (payload_room (header mid.queue.outstanding) mid.room) next.message next.under_way left;
+  tsns = mid.tsns ++ next_tsn mid.queue.outstanding ∷ [];
+  room = mid.room - size_of (header mid.queue.outstanding) (next_item now mid left coming next);
+}
+
+sends_next : (now : ℕ) (mid : Stage) (left : SendQueueState) (events : Events) → Drops now mid.waiting events left → (coming : Events) (next : PartNext now (payload_room (header mid.queue.outstanding) mid.room) mid.waiting left coming)
+    → SendsNew now mid (next_stage now mid left events coming next)
+sends_next now mid left events drops coming next =
+    record {
+      item = next_item now mid left coming next;
+      is_fresh = record { progress = refl; sent_at = refl };
+      begins = refl;
+      takes = record {
+        queue = left;
+        told = mid.told ++ events;
+        drops = record { events = events; drops = drops; told = refl };
+        place = next.place;
+        message = next.message;
+        under_way = next.under_way;
+        front = next.front;
+        chosen = next.chosen;
+        is = refl;
+        left = refl;
+        events = refl;
+      };
+      is = refl;
+    }
+
+sends_front : (front : Events) (now : ℕ) (old resent mid : Stage) (left : SendQueueState) (telling : Events) → Steps (StepAgain now) old resent → Steps (StepNew now) (counting old.room resent) mid → MayAdd mid
+    → (events : Events) → Drops now mid.waiting events left → (coming : Events) → PartNext now (payload_room (header mid.queue.outstanding) mid.room) mid.waiting left coming → TellsFront (front ++ (mid.told ++ events)) coming telling
+    → FillsTelling front now old telling
+sends_front front now old resent mid left telling again anew may events drops coming next tells =
+    let sent : Stage = next_stage now mid left events coming next in
+    let step : StepNew now mid sent = (may, inl (sends_next now mid left events drops coming next)) in
+    let all = filled_from_new now old resent sent again (more mid sent anew step) (none_marked mid.queue.outstanding.items (next_item now mid left coming next) refl may.none_marked) in
+    fills_front front now old (mid.told ++ events) coming telling (subst (Filled now old) (ap (λ (es : Events). (mid.told ++ events) ++ es) (sym next.is)) all) tells
+
+-- An allocation fails for what the send queue gives.
+pub taking_front : (front : Events) (now : ℕ) (old resent mid : Stage) (left : SendQueueState) (telling : Events) → Steps (StepAgain now) old resent → Steps (StepNew now) (counting old.room resent) mid → MayAdd mid
+    → StopsTaking now (payload_room (header mid.queue.outstanding) mid.room) mid.waiting (front ++ mid.told) left telling → FillsTelling front now old telling
+taking_front front now old resent mid left telling again anew may stops =
+    let tells = subst (λ (es : Events). TellsFront es stops.coming telling) (append_assoc front mid.told stops.events) stops.tells in
+    elim stops.next [
+      | inl next ↦ drops_front front now old resent mid left telling again anew may stops.events stops.drops stops.coming next tells
+      | inr next ↦ sends_front front now old resent mid left telling again anew may stops.events stops.drops stops.coming next tells
+    ]
