@@ -54,6 +54,33 @@ state unacked 0
 skip ForwardTsn { new_cumulative_tsn: 11, skipped: Streams([SkippedStream { stream_id: 3, ssn: 0 }]) }
 send 1000 [12]
 
+# a message is abandoned though the windows are full
+# a message is abandoned though the windows are full: The timeout leaves a congestion window of 1,000. What was sent first fills it, and the packet. The other message may not be sent again
+begin 100 8000 1 0
+add 3 984
+times 0
+name 7
+add 4 984
+send 1000 [100]
+send 1000 [101]
+tells OnBufferedAmountLow(3)
+tells OnBufferedAmountLow(4)
+tells OnLifecycleMessageFullySent(7)
+tells
+now 1000
+time-out is-over 1
+state cwnd 1000
+forward due 0
+tells
+send 1000 [100]
+tells OnLifecycleMessageMaybeExpired(7)
+tells OnLifecycleEnd(7)
+tells
+send 1000 []
+sack 100 100000 valid 1
+forward due 1
+skip ForwardTsn { new_cumulative_tsn: 101, skipped: Streams([SkippedStream { stream_id: 4, ssn: 0 }]) }
+
 # a message is given up after its lifetime
 begin 10 8000 1 0
 lifetime 1000
