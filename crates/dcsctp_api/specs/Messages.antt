@@ -4,6 +4,7 @@ use Rattle.dcsctp_machine.specs.declared.message.Message.{Message}
 use Rattle.dcsctp_machine.specs.declared.message.SendOptions.{SendOptions}
 use Rattle.dcsctp_machine.specs.transfer.Messages.{MessageContent, message_content}
 use Rattle.dcsctp_machine.specs.transfer.Transfer.{Transfer}
+use Rattle.dcsctp_machine.specs.transfer.IncomingStreams.{StreamModel}
 use Rattle.dcsctp_machine.specs.Endpoint.{Endpoint}
 use Rattle.dcsctp_machine.specs.Outcome.{Outcome}
 use Rattle.dcsctp_machine.specs.Turn.{Input, user_sends}
@@ -72,6 +73,14 @@ ready_below (Some transfer) = transfer.reassembly.incoming.ready
 -- the messages that are ready to be taken, in order
 abbrev pub ready_messages : Endpoint → List MessageContent
 ready_messages e = ready_below e.below.transfer
+
+abbrev pub streams_below : Option Transfer → List (ℕ × StreamModel)
+streams_below None = []
+streams_below (Some transfer) = transfer.reassembly.incoming.streams
+
+-- what was received and isn't ready, by streams
+abbrev pub incoming_streams : Endpoint → List (ℕ × StreamModel)
+incoming_streams e = streams_below e.below.transfer
 
 -- It is the first of these, or there is none.
 abbrev pub IsFirst : List MessageContent → Option Message → Type 0

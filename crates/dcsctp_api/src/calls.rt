@@ -2,7 +2,9 @@
 
 ghost use Rattle.std.specs.Prelude.{◌≡◌, true, false, IsOk, ◌<◌, map, length};
 ghost use Rattle.dcsctp_api.specs.Calls.{UserView, PollsEvent, HandlesInput, Connects, Closes, ShutsDown, takes_shutdown, Sets, with_setting, stream_shown, is_closed, socket_state_of};
-ghost use Rattle.dcsctp_api.specs.Messages.{Sends, SendsMany, TakesNext, ready_messages};
+ghost use Rattle.dcsctp_api.specs.Messages.{Sends, SendsMany, TakesNext, ready_messages, incoming_streams};
+ghost use Rattle.dcsctp_machine.specs.transfer.Incoming.{AreInOrder};
+ghost use Rattle.dcsctp_machine.specs.transfer.SendQueue.{IsWellFormed};
 ghost use Rattle.dcsctp_api.specs.Resets.{ResetsOwn};
 ghost use Rattle.dcsctp_machine.specs.Ids.{stream_numbers};
 ghost use Rattle.dcsctp_machine.specs.transfer.Messages.{message_content};
@@ -163,9 +165,11 @@ pub trait DcSctpSocket {
     fn get_stream_priority(&self, stream_id: StreamId) -> u16
         ensures { result ≡ (stream_shown (user_view self.now) stream_id.0).priority };
 
-    /// The payload bytes that wait to be sent on a stream. Allocates nothing.
+    /// The payload bytes that wait to be sent on a stream. Allocates nothing. Each stream stands once, and a
+    /// message of which some fragments were sent is the oldest of its stream.
     fn buffered_amount(&self, stream_id: StreamId) -> usize
-        ensures { result ≡ (stream_shown (user_view self.now) stream_id.0).amount };
+        ensures amount { result ≡ (stream_shown (user_view self.now) stream_id.0).amount }
+        ensures queue { IsWellFormed (user_view self.now).endpoint.below.queue };
 
     /// The low threshold of a stream, in bytes. `SocketEvent::OnBufferedAmountLow` is added when its buffered
     /// amount falls from above the threshold to it or below. Allocates nothing.

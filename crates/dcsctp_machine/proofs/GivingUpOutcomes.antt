@@ -5,7 +5,7 @@ use Rattle.std.specs.List.{slice_get}
 use Rattle.std.proofs.lemmas.List.{append-nil}
 use Rattle.std.proofs.lemmas.List.Sums.{sum_by_push}
 use Rattle.dcsctp_machine.specs.declared.progress.Change.TheVariants.{Abandon}
-use Rattle.dcsctp_machine.specs.declared.progress.ItemState.{ItemState}
+use Rattle.dcsctp_machine.specs.declared.progress.Progress.{Progress}
 use Rattle.dcsctp_machine.specs.declared.progress.ItemState.TheVariants.{Abandoned}
 use Rattle.dcsctp_machine.specs.Event.{Event}
 use Rattle.dcsctp_machine.specs.transfer.Abandoning.{NoneDue, GivesUpFirst, GivesUpAll}
@@ -47,7 +47,7 @@ ending_keeps : (now : ℕ) (begins : Bool) (last : Item) (old new : OutstandingS
 ending_keeps now begins last old new true ends =
     let items = ap (λ (m : OutstandingState). marked_items m.items) ends.grows in
     let all = sum_by_push marked_count old.items ends.item in
-    let zero_more = ap (λ (s : ItemState). counted (is_marked s) 1) ends.is_end.is_abandoned in
+    let zero_more = ap (λ (p : Progress). counted (is_marked p.state) 1) ends.is_end.progress in
     record {
       stays = λ k item at. ap (λ (m : OutstandingState). slice_get m.items k) ends.grows ∙ slice_get_stays old.items ends.item k item at;
       marked = omega arith;
@@ -144,7 +144,7 @@ drops_named now last old named =
       drops = record {
         is_dropped = true;
         drops = record { named = named; left = refl; events = refl };
-        ends = record { item = end_of now old.queue.reset_begun last; is_end = record { is_abandoned = refl; sent_at = refl; begins_after_reset = refl; is = refl }; grows = refl };
+        ends = record { item = end_of now old.queue.reset_begun last; is_end = record { progress = refl; sent_at = refl; begins_after_reset = refl; is = refl }; grows = refl };
       };
       is = refl;
     }

@@ -6,7 +6,7 @@ ghost use Rattle.std.specs.Prelude.{◌≡◌, ◌==◌, ◌+◌, ◌≤◌, tru
 ghost use Rattle.std.specs.List.{list_any, sum_by};
 ghost use Rattle.dcsctp_machine.specs.Ids.{stream_numbers};
 ghost use Rattle.dcsctp_receive_reassembly.specs.Reassembly.{incoming_of};
-ghost use Rattle.dcsctp_machine.specs.transfer.Incoming.{held_bytes, SameIncoming, TakesData};
+ghost use Rattle.dcsctp_machine.specs.transfer.Incoming.{held_bytes, AreInOrder, SameIncoming, TakesData};
 ghost use Rattle.dcsctp_machine.specs.transfer.Reassembly.{names_stream, waiting_bytes, Handles, HandlesAll, HandlesFront};
 ghost use Rattle.dcsctp_receive_reassembly.specs.Queue.{waiting_of};
 ghost use Rattle.dcsctp_machine.specs.transfer.Messages.{message_content};

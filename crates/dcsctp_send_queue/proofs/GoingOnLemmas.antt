@@ -3,11 +3,10 @@ use Rattle.std.proofs.Common.{◌≡◌, ◌≢◌, ◌==◌, ◌%◌, nat_le, �
 use Rattle.std.proofs.lemmas.Bool.Decides.{nat_tests}
 use Rattle.std.specs.List.{insert}
 use Rattle.dcsctp_machine.specs.Event.{Event}
-use Rattle.dcsctp_machine.specs.transfer.SendQueue.{SendQueueState, changed, with_stream, used}
+use Rattle.dcsctp_machine.specs.transfer.SendQueue.{SendQueueState, changed, with_stream, used, IsUnderWay, CanGoOn}
 use Rattle.dcsctp_machine.specs.declared.sending.UnderWay.{UnderWay}
-use Rattle.dcsctp_machine.specs.transfer.SendStreams.{Waiting, Stream, unused, front_of, counted, stream_at}
-use Rattle.dcsctp_send_streams.specs.Ranking.{IsFound, IsAscending}
-use Rattle.dcsctp_send_queue.specs.Backlog.{IsUnderWay, CanGoOn}
+use Rattle.dcsctp_machine.specs.transfer.SendStreams.{Waiting, Stream, unused, front_of, counted, stream_at, IsAscending}
+use Rattle.dcsctp_send_streams.specs.Ranking.{IsFound}
 use Rattle.dcsctp_machine.specs.transfer.Sending.{Chooses, IsNamed, Drops, none, more, reduced, after_part, after_last, produced, is_last}
 use Rattle.dcsctp_send_streams.proofs.StreamLemmas.{stream_at-set, length-set_at}
 use Rattle.dcsctp_send_streams.proofs.NextLemmas.{same_place}

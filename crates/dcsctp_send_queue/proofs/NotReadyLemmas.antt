@@ -3,8 +3,8 @@ use Rattle.std.proofs.Common.{◌≡◌, nat_lt, ℕ, zero, suc, ◌+◌, ◌<�
 use Rattle.std.proofs.lemmas.Bool.Decides.{nat_tests}
 use Rattle.dcsctp_machine.specs.transfer.Transfer.{is_none_ready}
 use Rattle.dcsctp_machine.specs.declared.sending.UnderWay.{UnderWay}
-use Rattle.dcsctp_machine.specs.transfer.SendStreams.{Stream, is_pausing, stream_at}
-use Rattle.dcsctp_send_streams.specs.Ranking.{count_pausing, IsFound, IsAscending}
+use Rattle.dcsctp_machine.specs.transfer.SendStreams.{Stream, is_pausing, stream_at, IsAscending}
+use Rattle.dcsctp_send_streams.specs.Ranking.{count_pausing, IsFound}
 use Rattle.dcsctp_send_streams.proofs.CountLemmas.{one_pausing, count-cons}
 use Rattle.dcsctp_send_streams.proofs.NextLemmas.{absent_at}
 use Rattle.dcsctp_machine.specs.transfer.OwnResets.{is_under_way, is_ready}

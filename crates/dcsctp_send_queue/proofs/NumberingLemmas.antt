@@ -2,8 +2,8 @@
 use Rattle.std.proofs.Common.{◌≡◌, ◌∙◌, ℕ, Option, Some, Ok, List, set, refl}
 use Rattle.dcsctp_machine.specs.transfer.SendQueue.{SendQueueState, front_counted, renumbered, numbered_anew}
 use Rattle.dcsctp_machine.specs.declared.sending.UnderWay.{UnderWay}
-use Rattle.dcsctp_machine.specs.transfer.SendStreams.{Stream, unused, stream_at}
-use Rattle.dcsctp_send_streams.specs.Ranking.{IsFound, IsAscending}
+use Rattle.dcsctp_machine.specs.transfer.SendStreams.{Stream, unused, stream_at, IsAscending}
+use Rattle.dcsctp_send_streams.specs.Ranking.{IsFound}
 use Rattle.dcsctp_send_queue.proofs.QueueLemmas.{changed_at, found_in-at}
 
 -- The next number of the stream at its place is the message's now.

@@ -3,10 +3,9 @@ use Rattle.std.proofs.Common.{◌≡◌, ◌≢◌, ◌==◌, nat_lt, ℕ, zero,
 use Rattle.std.proofs.lemmas.Bool.Decides.{nat_tests}
 use Rattle.std.specs.List.{insert}
 use Rattle.dcsctp_machine.specs.declared.sending.UnderWay.{UnderWay}
-use Rattle.dcsctp_machine.specs.transfer.SendStreams.{Waiting, Stream, front_of, stream_at}
-use Rattle.dcsctp_send_streams.specs.Ranking.{IsFound, IsBelow, IsAscending}
-use Rattle.dcsctp_machine.specs.transfer.SendQueue.{changed, with_stream, is_used, found_in}
-use Rattle.dcsctp_send_queue.specs.Backlog.{IsUnderWay}
+use Rattle.dcsctp_machine.specs.transfer.SendStreams.{Waiting, Stream, front_of, stream_at, IsBelow, IsAscending}
+use Rattle.dcsctp_send_streams.specs.Ranking.{IsFound}
+use Rattle.dcsctp_machine.specs.transfer.SendQueue.{changed, with_stream, is_used, found_in, IsUnderWay}
 use Rattle.dcsctp_send_streams.proofs.StreamLemmas.{length-set_at}
 
 pub same_test : (a b : ℕ) → a ≡ b → (a == b) ≡ true

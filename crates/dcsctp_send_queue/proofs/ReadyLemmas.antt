@@ -5,9 +5,8 @@ use Rattle.dcsctp_machine.specs.declared.ids.StreamId.{StreamId}
 use Rattle.dcsctp_machine.specs.declared.sending.UnderWay.{UnderWay}
 use Rattle.dcsctp_machine.specs.transfer.SendStreams.{Stream, handed_out, stream_at}
 use Rattle.dcsctp_send_streams.specs.Ranking.{IsFound}
-use Rattle.dcsctp_machine.specs.transfer.SendQueue.{changed}
+use Rattle.dcsctp_machine.specs.transfer.SendQueue.{changed, CanGoOn}
 use Rattle.dcsctp_machine.specs.transfer.OwnResets.{is_ready, handing_out}
-use Rattle.dcsctp_send_queue.specs.Backlog.{CanGoOn}
 use Rattle.dcsctp_send_streams.proofs.NextLemmas.{absent_at}
 use Rattle.dcsctp_send_queue.proofs.ResetLemmas.{can_go_on-map, changed_absent}
 

@@ -1,14 +1,14 @@
 -- What a reset does to streams.
 use Rattle.std.proofs.Common.{◌≡◌, ◌≢◌, ◌==◌, ℕ, zero, suc, ◌-◌, ◌+◌, ◌^◌, ◌<◌, min, true, false, Option, None, Some, Result, Ok, Err, OnOk, OnErr, ◌⊎◌, inl, inr, List, [], ◌∷◌, length, set, map, take, refl, sym, ap, subst, ◌∙◌, arith}
 use Rattle.std.proofs.lemmas.Bool.Decides.{nat_tests}
-use Rattle.dcsctp_machine.specs.transfer.SendQueue.{SendQueueState, changed, used, stream_of, put_back}
+use Rattle.dcsctp_machine.specs.transfer.SendQueue.{SendQueueState, changed, used, stream_of, put_back, IsUnderWay, CanGoOn}
 use Rattle.dcsctp_machine.specs.declared.sending.UnderWay.{UnderWay}
-use Rattle.dcsctp_machine.specs.transfer.SendStreams.{Waiting, Stream, unused, front_of, raised, paused, committed, rolled_back, stream_at}
+use Rattle.dcsctp_machine.specs.transfer.SendStreams.{Waiting, Stream, unused, front_of, raised, paused, committed, rolled_back, stream_at, IsAscending}
 use Rattle.dcsctp_machine.specs.declared.sending.Pause.{Pause}
 use Rattle.dcsctp_machine.specs.declared.sending.Pause.TheVariants.{Open, Pausing, HandedOut}
-use Rattle.dcsctp_send_streams.specs.Ranking.{IsFound, IsAscending}
+use Rattle.dcsctp_send_streams.specs.Ranking.{IsFound}
 use Rattle.dcsctp_send_queue.specs.declared.backlog.Backlog.{Backlog}
-use Rattle.dcsctp_send_queue.specs.Backlog.{queue_of, IsUnderWay, CanGoOn}
+use Rattle.dcsctp_send_queue.specs.Backlog.{queue_of}
 use Rattle.dcsctp_machine.specs.transfer.OwnResets.{prepared_stream, prepared_open, prepared_in, prepare_events_in, is_open, dropped_size, count_under_way}
 use Rattle.dcsctp_send_queue.specs.Leaving.{DropsSome, pause_events, after_pause, size_not_begun}
 use Rattle.dcsctp_machine.specs.transfer.Sending.{none}

@@ -3,12 +3,11 @@ use Rattle.std.proofs.Common.{◌≡◌, ℕ, zero, suc, ◌-◌, ◌+◌, ◌<�
 use Rattle.dcsctp_machine.specs.declared.sending.Pause.{Pause}
 use Rattle.dcsctp_machine.specs.declared.sending.Pause.TheVariants.{Open, Pausing, HandedOut}
 use Rattle.dcsctp_machine.specs.declared.sending.Turn.{Turn}
-use Rattle.dcsctp_machine.specs.transfer.SendStreams.{Waiting, Stream, front_of, without_front, stream_at, turn_if, IsNext}
-use Rattle.dcsctp_send_streams.specs.Ranking.{IsFound, IsAscending}
-use Rattle.dcsctp_machine.specs.transfer.SendQueue.{SendQueueState}
+use Rattle.dcsctp_machine.specs.transfer.SendStreams.{Waiting, Stream, front_of, without_front, stream_at, turn_if, IsNext, IsAscending}
+use Rattle.dcsctp_send_streams.specs.Ranking.{IsFound}
+use Rattle.dcsctp_machine.specs.transfer.SendQueue.{SendQueueState, IsUnderWay}
 use Rattle.dcsctp_machine.specs.transfer.Sending.{without_rest}
 use Rattle.dcsctp_send_queue.specs.Leaving.{HasRest, HasMore}
-use Rattle.dcsctp_send_queue.specs.Backlog.{IsUnderWay}
 use Rattle.dcsctp_machine.specs.declared.sending.UnderWay.{UnderWay}
 use Rattle.dcsctp_send_streams.proofs.StreamLemmas.{stream_at-set, length-set_at}
 use Rattle.dcsctp_send_streams.proofs.NextLemmas.{same_place, absent_at}

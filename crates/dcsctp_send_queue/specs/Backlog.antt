@@ -1,4 +1,4 @@
--- A send queue apart from memory, and its message under way.
+-- A send queue apart from memory.
 use Rattle.std.specs.Prelude.{◌≡◌, ◌<◌, ℕ, Option, None, Some, List, length}
 use Rattle.dcsctp_machine.specs.declared.sending.UnderWay.{UnderWay}
 use Rattle.dcsctp_machine.specs.transfer.SendStreams.{Waiting, Stream, front_of, stream_at}
@@ -17,18 +17,3 @@ queue_of backlog =
       is_interleaved = backlog.is_interleaved;
       next_message_id = backlog.next_message_id;
     }
-
--- The message under way is the oldest of its stream, and a part of it was sent.
-pub record IsUnderWay (streams : List Stream) (under_way : UnderWay) : Type 0 where
-  pub place : ℕ
-  pub within : place < length streams
-  pub is : (stream_at streams place).id ≡ under_way.stream_id.0
-  pub message : Waiting
-  pub front : front_of (stream_at streams place).messages ≡ Some message
-  pub begun : 0 < under_way.sent
-  pub unfinished : under_way.sent < length message.payload
-
--- If a message is under way, it can go on.
-abbrev pub CanGoOn : List Stream → Option UnderWay → Type 0
-CanGoOn streams None = Unit {0}
-CanGoOn streams (Some under_way) = IsUnderWay streams under_way

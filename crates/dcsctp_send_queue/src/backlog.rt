@@ -38,14 +38,14 @@ pub struct Backlog {
 }
 
 impl Backlog {
-    ghost use Rattle.dcsctp_send_queue.specs.Backlog.{queue_of, CanGoOn, IsUnderWay};
-    ghost use Rattle.dcsctp_machine.specs.transfer.SendQueue.{has_data, changed, used, put_back, with_threshold, with_priority, may_send};
+    ghost use Rattle.dcsctp_send_queue.specs.Backlog.{queue_of};
+    ghost use Rattle.dcsctp_machine.specs.transfer.SendQueue.{CanGoOn, IsUnderWay, has_data, changed, used, put_back, with_threshold, with_priority, may_send};
     ghost use Rattle.dcsctp_machine.specs.transfer.OwnResets.{with_used, count_under_way};
     ghost use Rattle.dcsctp_machine.specs.turns.SettingOutcomes.{stream_priority, stream_low_threshold, set_in_queue};
     ghost use Rattle.std.specs.Prelude.{◌≡◌, ◌==◌, ◌+◌, ◌-◌, ◌<◌, ◌++◌, length, Some, None, Ok, Err, OnOk, OnErr, IfOk, IfSome};
-    ghost use Rattle.dcsctp_machine.specs.transfer.SendStreams.{Waiting, unused, front_of, with_message, stream_at};
+    ghost use Rattle.dcsctp_machine.specs.transfer.SendStreams.{Waiting, unused, front_of, with_message, stream_at, IsAscending};
     ghost use Rattle.dcsctp_send_streams.specs.Telling.{contents, TellsFront};
-    ghost use Rattle.dcsctp_send_streams.specs.Ranking.{IsFound, IsAscending};
+    ghost use Rattle.dcsctp_send_streams.specs.Ranking.{IsFound};
     ghost use Rattle.dcsctp_machine.specs.transfer.Sending.{reduced, without_rest, drop_events, part_events};
     ghost use Rattle.dcsctp_send_queue.specs.Leaving.{HasMore, HasRest};
 

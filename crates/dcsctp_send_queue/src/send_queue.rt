@@ -20,8 +20,8 @@ pub struct SendQueue {
 }
 
 impl Model for SendQueue {
-    ghost use Rattle.dcsctp_machine.specs.transfer.SendQueue.{SendQueueState};
-    ghost use Rattle.dcsctp_send_queue.specs.Backlog.{queue_of, CanGoOn};
+    ghost use Rattle.dcsctp_machine.specs.transfer.SendQueue.{SendQueueState, CanGoOn};
+    ghost use Rattle.dcsctp_send_queue.specs.Backlog.{queue_of};
 
     ghost Value = { SendQueueState };
 
@@ -36,7 +36,7 @@ impl SendQueue {
     ghost use Rattle.dcsctp_machine.specs.transfer.OwnResets.{queue_committed, queue_rolled_back, queue_handing_out, ready_streams, handing_out, prepared, prepare_events};
     ghost use Rattle.dcsctp_send_streams.specs.Fragment.{HasSize};
     ghost use Rattle.std.specs.Prelude.{◌≡◌, ◌+◌, ◌-◌, ◌<◌, ◌++◌, vec_len, IfSome, OnOk, OnErr, IfOk, take, not};
-    ghost use Rattle.dcsctp_machine.specs.transfer.SendQueue.{empty_queue, restarted, has_data, changed, used, stream_of, numbered_for, queued, with_added, may_send, with_threshold, with_priority};
+    ghost use Rattle.dcsctp_machine.specs.transfer.SendQueue.{empty_queue, IsWellFormed, restarted, has_data, changed, used, stream_of, numbered_for, queued, with_added, may_send, with_threshold, with_priority};
     ghost use Rattle.dcsctp_machine.specs.transfer.Transfer.{is_none_ready};
     ghost use Rattle.dcsctp_machine.specs.turns.SettingOutcomes.{stream_priority, stream_low_threshold, set_in_queue};
     ghost use Rattle.dcsctp_send_streams.specs.Telling.{contents, TellsFront};
@@ -205,7 +205,8 @@ impl SendQueue {
 
     /// The payload bytes that wait on the stream; 0 for one that was never used.
     pub fn buffered_amount(&self, stream_id: StreamId) -> usize
-        ensures { result ≡ (stream_of self.now stream_id.0).amount }
+        ensures amount { result ≡ (stream_of self.now stream_id.0).amount }
+        ensures queue { IsWellFormed self.now }
     {
         match self.backlog.streams.find(stream_id) {
             Ok(place) => self.backlog.streams.at(place).amount(),

@@ -4,6 +4,7 @@ use Rattle.std.specs.List.{slice_get}
 use Rattle.std.specs.declared.alloc.AllocError.{AllocError}
 use Rattle.std.proofs.lemmas.Option.{slice_get_within}
 use Rattle.dcsctp_machine.specs.transfer.Items.{Item, changed_item, changed_between}
+use Rattle.dcsctp_machine.specs.declared.progress.Progress.{Progress}
 use Rattle.dcsctp_machine.specs.declared.progress.ItemState.{ItemState}
 use Rattle.dcsctp_machine.specs.declared.progress.ItemState.TheVariants.{InFlight, Marked, Acknowledged, Abandoned}
 use Rattle.dcsctp_machine.specs.declared.progress.Change.TheVariants.{Abandon}
@@ -76,7 +77,7 @@ gives_up_stays place old new up k x at before =
 -- ---- one message
 
 ends_adds : (now : ℕ) (begins : Bool) (last : Item) (old new : OutstandingState) (is_dropped : Bool) → EndsDropped now begins last old new is_dropped → MayAddEnd old new
-ends_adds now begins last old new true ends = inr (record { item = ends.item; is_abandoned = ends.is_end.is_abandoned; grows = ends.grows })
+ends_adds now begins last old new true ends = inr (record { item = ends.item; is_abandoned = ap (λ (p : Progress). p.state) ends.is_end.progress; grows = ends.grows })
 ends_adds now begins last old new false same = inl same
 
 -- what is done for a message beside its items

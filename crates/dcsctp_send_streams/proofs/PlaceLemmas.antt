@@ -2,8 +2,8 @@
 use Rattle.std.proofs.Common.{◌≡◌, ℕ, zero, suc, below_more, ◌-◌, ◌+◌, ◌<◌, ◌≤◌, Option, Err, List, [], ◌∷◌, length, refl, sym, ap, ◌∙◌, arith}
 use Rattle.std.specs.List.{insert, remove}
 use Rattle.dcsctp_machine.specs.declared.sending.Turn.{Turn}
-use Rattle.dcsctp_machine.specs.transfer.SendStreams.{with_turns, Stream, stream_at, turn_of, turns_of}
-use Rattle.dcsctp_send_streams.specs.Ranking.{IsBelow, IsAscending, IsRanked, IsFound}
+use Rattle.dcsctp_machine.specs.transfer.SendStreams.{with_turns, Stream, stream_at, turn_of, turns_of, IsBelow, IsAscending}
+use Rattle.dcsctp_send_streams.specs.Ranking.{IsRanked, IsFound}
 use Rattle.dcsctp_send_streams.proofs.StreamLemmas.{ascending_at, turns_of-split}
 
 -- up to a stream of lesser number, all have lesser numbers

@@ -4,9 +4,9 @@ use Rattle.std.specs.List.{remove}
 use Rattle.dcsctp_machine.specs.declared.sending.Turn.{Turn}
 use Rattle.dcsctp_machine.specs.declared.sending.Pause.{Pause}
 use Rattle.dcsctp_machine.specs.declared.sending.Pause.TheVariants.{Open, Pausing, HandedOut}
-use Rattle.dcsctp_machine.specs.transfer.SendStreams.{comes_after, with_turn, with_turns, Waiting, Stream, is_pausing, counted, stream_at, turn_if, turn_of, turns_of}
+use Rattle.dcsctp_machine.specs.transfer.SendStreams.{comes_after, with_turn, with_turns, Waiting, Stream, is_pausing, counted, stream_at, turn_if, turn_of, turns_of, IsBelow, IsAscending}
 use Rattle.dcsctp_send_streams.specs.Turns.{IsOrdered, Holds}
-use Rattle.dcsctp_send_streams.specs.Ranking.{IsBelow, IsAscending, IsRanked}
+use Rattle.dcsctp_send_streams.specs.Ranking.{IsRanked}
 use Rattle.dcsctp_send_streams.proofs.TurnLemmas.{IsOrdered-with_turn, with_turn-with_turn}
 
 pub IsBelow-at : (id : ℕ) (streams : List Stream) (k : ℕ) → IsBelow id streams → k < length streams → id < (stream_at streams k).id

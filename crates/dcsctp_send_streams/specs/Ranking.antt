@@ -2,17 +2,7 @@
 use Rattle.std.specs.Prelude.{◌≡◌, ℕ, ◌<◌, ◌≤◌, Result, Ok, Err, List, [], ◌∷◌, length}
 use Rattle.std.specs.List.{count_by}
 use Rattle.dcsctp_machine.specs.declared.sending.Turn.{Turn}
-use Rattle.dcsctp_machine.specs.transfer.SendStreams.{Stream, is_pausing, turns_of, stream_at}
-
--- this number is less than those of all the streams
-abbrev pub IsBelow : ℕ → List Stream → Type 0
-IsBelow id [] = Unit {0}
-IsBelow id (stream ∷ streams) = (id < stream.id) × IsBelow id streams
-
--- The streams stand by their numbers.
-abbrev pub IsAscending : List Stream → Type 0
-IsAscending [] = Unit {0}
-IsAscending (stream ∷ streams) = IsBelow stream.id streams × IsAscending streams
+use Rattle.dcsctp_machine.specs.transfer.SendStreams.{Stream, IsAscending, is_pausing, turns_of, stream_at}
 
 -- These are the streams and their turns, and there is room for one turn of each.
 pub record IsRanked (streams : List Stream) (turns : List Turn) (room : ℕ) : Type 0 where

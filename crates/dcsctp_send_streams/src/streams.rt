@@ -35,8 +35,8 @@ impl Model for Streams {
 impl Streams {
     ghost use Rattle.std.specs.List.{list_any};
     ghost use Rattle.std.specs.Prelude.{◌≡◌, ◌-◌, ◌<◌, [], length, is_some, map, slice_set, insert, OnOk, OnErr, IfSome, IfNone};
-    ghost use Rattle.dcsctp_machine.specs.transfer.SendStreams.{front_of, with_message, without_front, paused, handed_out, begun_anew, raised, counted, committed, rolled_back, stream_at, turn_of, turns_of, IsNext};
-    ghost use Rattle.dcsctp_send_streams.specs.Ranking.{count_pausing, IsAscending, IsFound};
+    ghost use Rattle.dcsctp_machine.specs.transfer.SendStreams.{front_of, with_message, without_front, paused, handed_out, begun_anew, raised, counted, committed, rolled_back, stream_at, turn_of, turns_of, IsNext, IsAscending};
+    ghost use Rattle.dcsctp_send_streams.specs.Ranking.{count_pausing, IsFound};
 
     /// No streams. Allocates nothing.
     pub fn new(alloc: Global) -> Streams

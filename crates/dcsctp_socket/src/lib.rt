@@ -44,4 +44,5 @@ pub use dcsctp_api::{
     StateCookie, StreamId, ZERO_CHECKSUM_ALTERNATE_ERROR_DETECTION_METHOD_LOWER_LAYER_DTLS,
     ZERO_CHECKSUM_ALTERNATE_ERROR_DETECTION_METHOD_NONE, ZeroChecksumAlternateErrorDetectionMethod,
 };
+pub use dcsctp_core::{Context, State, TransmissionControlBlock, TxErrorCounter};
 pub use socket::Socket;

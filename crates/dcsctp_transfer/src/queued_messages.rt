@@ -28,7 +28,7 @@ impl Model for QueuedMessages {
 
 impl QueuedMessages {
     ghost use Rattle.std.specs.Prelude.{◌≡◌, ◌<◌, vec_len, OnOk, OnErr};
-    ghost use Rattle.dcsctp_machine.specs.transfer.SendQueue.{empty_queue, queued, with_added, numbered_for, restarted, has_data, stream_of};
+    ghost use Rattle.dcsctp_machine.specs.transfer.SendQueue.{empty_queue, IsWellFormed, queued, with_added, numbered_for, restarted, has_data, stream_of};
     ghost use Rattle.dcsctp_machine.specs.transfer.Messages.{message_content};
     ghost use Rattle.dcsctp_machine.specs.turns.SettingOutcomes.{stream_priority, stream_low_threshold, set_in_queue};
 
@@ -88,7 +88,8 @@ impl QueuedMessages {
 
     /// The payload bytes that wait to be sent on this stream.
     pub fn buffered_amount(&self, stream_id: StreamId) -> usize
-        ensures { result ≡ (stream_of self.now stream_id.0).amount }
+        ensures amount { result ≡ (stream_of self.now stream_id.0).amount }
+        ensures queue { IsWellFormed self.now }
     {
         self.queue.buffered_amount(stream_id)
     }

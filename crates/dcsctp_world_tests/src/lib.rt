@@ -7,6 +7,8 @@
 #[cfg(test)]
 mod checks;
 #[cfg(test)]
+mod messages;
+#[cfg(test)]
 mod outside;
 #[cfg(test)]
 mod worlds;

@@ -43,7 +43,7 @@ pub fn new_world(rt: &impl Abort, alloc: Global, method: u32) -> World<TwoWords>
 }
 
 // Such a world, after the handshake.
-fn world_behind_handshake(rt: &impl Abort, alloc: Global, method: u32) -> World<TwoWords> {
+pub fn world_behind_handshake(rt: &impl Abort, alloc: Global, method: u32) -> World<TwoWords> {
     let mut world = new_world(rt, alloc, method);
     world.run(&HANDSHAKE).expect(rt, "the handshake failed");
     world

@@ -3,7 +3,8 @@
 use Rattle.std.specs.Prelude.{◌≡◌, ℕ, ◌+◌, ◌-◌, ◌^◌, min, Option, None, Some, List, [], ◌==◌, not, if◌then◌else◌, ◌∷◌, ◌++◌, length, Bool}
 use Rattle.std.specs.BTreeMap.{is_at}
 use Rattle.std.specs.Ordering.{nat_cmp}
-use Rattle.std.specs.Map.{lookup}
+use Rattle.std.specs.Map.{keys_of, lookup}
+use Rattle.std.specs.List.Sorted.{IsStrictlySortedBy}
 use Rattle.dcsctp_machine.specs.transfer.Messages.{MessageContent}
 use Rattle.dcsctp_machine.specs.declared.arrivals.Numbering.{Numbering}
 use Rattle.dcsctp_machine.specs.declared.arrivals.Numbering.TheVariants.{Ordered, Unordered, InterleavedOrdered, InterleavedUnordered}
@@ -41,6 +42,10 @@ stream_or_new id (Some stream) = stream
 -- The stream of this identifier. A missing one is like one on which nothing was received.
 abbrev pub stream_on : ℕ → List (ℕ × StreamModel) → StreamModel
 stream_on id streams = stream_or_new id (lookup (is_at (nat_cmp id)) streams)
+
+-- The streams ascend by their identifiers, so each stands once.
+abbrev pub AreInOrder : List (ℕ × StreamModel) → Type 0
+AreInOrder streams = IsStrictlySortedBy nat_cmp (keys_of streams)
 
 -- Each stream is unchanged.
 abbrev pub KeepsStreams : List (ℕ × StreamModel) → List (ℕ × StreamModel) → Type 0

@@ -4,6 +4,7 @@ use Rattle.dcsctp_machine.specs.declared.progress.ItemState.TheVariants.{Abandon
 use Rattle.dcsctp_machine.specs.Event.{Event}
 use Rattle.dcsctp_machine.specs.transfer.Items.{Item}
 use Rattle.dcsctp_machine.specs.transfer.Outstanding.{OutstandingState}
+use Rattle.dcsctp_machine.specs.transfer.Progress.{just_sent}
 use Rattle.dcsctp_machine.specs.transfer.SendQueue.{SendQueueState}
 use Rattle.dcsctp_machine.specs.transfer.Sending.{DiscardsNamed}
 
@@ -32,9 +33,9 @@ pub record EndsMessage (place end : ℕ) (items : List Item) : Type 0 where
 abbrev pub IsMessage : ℕ → ℕ → ℕ → List Item → Type 0
 IsMessage place start end items = StartsMessage place start items × EndsMessage place end items
 
--- the end of a message, whose last item is this one so far: it is abandoned, and has no payload
+-- the end of a message, whose last item is this one so far: it is abandoned, was never sent, and has no payload
 pub record IsEndOf (now : ℕ) (begins : Bool) (last item : Item) : Type 0 where
-  pub is_abandoned : item.progress.state ≡ Abandoned
+  pub progress : item.progress ≡ record just_sent { state = Abandoned }
   pub sent_at : item.sent_at ≡ now
   pub begins_after_reset : item.begins_after_reset ≡ begins
   pub is : item.fragment ≡ record last.fragment {

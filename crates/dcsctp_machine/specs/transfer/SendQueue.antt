@@ -1,5 +1,5 @@
 -- The send queue: every message that waits to be sent (RFC 9260, section 6.9; RFC 8260, section 2.1). It outlasts an association.
-use Rattle.std.specs.Prelude.{ℕ, ◌+◌, ◌-◌, ◌^◌, ◌%◌, ◌==◌, min, nat_lt, not, Bool, true, false, Option, None, Some, is_some, List, [], ◌∷◌, length, map, if◌then◌else◌}
+use Rattle.std.specs.Prelude.{◌≡◌, ℕ, ◌+◌, ◌-◌, ◌^◌, ◌%◌, ◌==◌, ◌<◌, min, nat_lt, not, Bool, true, false, Option, None, Some, is_some, List, [], ◌∷◌, length, map, if◌then◌else◌}
 use Rattle.std.specs.Option.{option_map}
 use Rattle.std.specs.List.{list_any}
 use Rattle.std.specs.Duration.{as_nanos, max_nanos}
@@ -8,7 +8,7 @@ use Rattle.dcsctp_machine.specs.declared.message.SendOptions.{SendOptions}
 use Rattle.dcsctp_machine.specs.Ids.{lifecycle_number}
 use Rattle.dcsctp_machine.specs.transfer.Messages.{MessageContent}
 use Rattle.dcsctp_machine.specs.declared.sending.UnderWay.{UnderWay}
-use Rattle.dcsctp_machine.specs.transfer.SendStreams.{Waiting, Stream, unused, with_message, next_numbers, counted, begun_anew, raised, turn_of}
+use Rattle.dcsctp_machine.specs.transfer.SendStreams.{Waiting, Stream, IsAscending, front_of, stream_at, unused, with_message, next_numbers, counted, begun_anew, raised, turn_of}
 
 -- What waits to be sent, of all streams.
 pub record SendQueueState : Type 0 where
@@ -41,6 +41,28 @@ empty_queue options =
       is_interleaved = false;
       next_message_id = 0;
     }
+
+-- ---- what is true of it at all times
+
+-- The message under way is the oldest of its stream, and a part of it was sent.
+pub record IsUnderWay (streams : List Stream) (under_way : UnderWay) : Type 0 where
+  pub place : ℕ
+  pub within : place < length streams
+  pub is : (stream_at streams place).id ≡ under_way.stream_id.0
+  pub message : Waiting
+  pub front : front_of (stream_at streams place).messages ≡ Some message
+  pub begun : 0 < under_way.sent
+  pub unfinished : under_way.sent < length message.payload
+
+-- If a message is under way, it can go on.
+abbrev pub CanGoOn : List Stream → Option UnderWay → Type 0
+CanGoOn streams None = Unit {0}
+CanGoOn streams (Some under_way) = IsUnderWay streams under_way
+
+-- Each stream stands once, and the message under way can go on.
+pub record IsWellFormed (queue : SendQueueState) : Type 0 where
+  pub ascending : IsAscending queue.streams
+  pub can : CanGoOn queue.streams queue.under_way
 
 -- ---- a stream of it
 

@@ -120,6 +120,18 @@ abbrev pub size_of : List Waiting → ℕ
 size_of [] = 0
 size_of (message ∷ messages) = length message.payload + size_of messages
 
+-- ---- streams in order
+
+-- this number is less than those of all the streams
+abbrev pub IsBelow : ℕ → List Stream → Type 0
+IsBelow id [] = Unit {0}
+IsBelow id (stream ∷ streams) = (id < stream.id) × IsBelow id streams
+
+-- The streams ascend by their numbers, so each stands once.
+abbrev pub IsAscending : List Stream → Type 0
+IsAscending [] = Unit {0}
+IsAscending (stream ∷ streams) = IsBelow stream.id streams × IsAscending streams
+
 -- ---- whose turn it is: streams are asked by priority, the greatest first, then by number, the least first
 
 -- Is the first asked after the other?

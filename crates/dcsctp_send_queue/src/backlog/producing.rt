@@ -8,7 +8,8 @@ use dcsctp_send_streams::{DataToSend, UnderWay};
 use std::alloc::AllocError;
 
 impl Backlog {
-    ghost use Rattle.dcsctp_send_queue.specs.Backlog.{queue_of, CanGoOn, IsUnderWay};
+    ghost use Rattle.dcsctp_send_queue.specs.Backlog.{queue_of};
+    ghost use Rattle.dcsctp_machine.specs.transfer.SendQueue.{CanGoOn, IsUnderWay, is_front_unordered, numbered_anew, numbered_for};
     ghost use Rattle.std.specs.Option.{option_map};
     ghost use Rattle.std.specs.Prelude.{◌≡◌, ◌==◌, ◌+◌, ◌-◌, ◌<◌, ◌++◌, ℕ, length, Some, None, Ok, OnOk, OnErr, IfOk, IfSome};
     ghost use Rattle.dcsctp_machine.specs.transfer.SendStreams.{Waiting, front_of, is_expired, stream_at};
@@ -16,7 +17,6 @@ impl Backlog {
     ghost use Rattle.dcsctp_send_streams.specs.Fragment.{HasSize};
     ghost use Rattle.dcsctp_machine.specs.transfer.Sending.{fragment, after_part, part_events, after_last, last_events, DropsAll, size_produced, produced, produced_events, begun, TakesNext, DiscardsNamed};
     ghost use Rattle.dcsctp_send_queue.specs.Leaving.{HasMore, HasRest, DropsSome, NextUnexpired};
-    ghost use Rattle.dcsctp_machine.specs.transfer.SendQueue.{is_front_unordered, numbered_anew, numbered_for};
     ghost use Rattle.dcsctp_send_queue.specs.Calls.{StopsTaking, StopsDiscarding};
 
     /// The oldest message of the stream as it is begun, before its first fragment.

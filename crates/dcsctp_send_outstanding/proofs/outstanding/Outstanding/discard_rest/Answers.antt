@@ -7,6 +7,7 @@ use Rattle.std.specs.List.{slice_get}
 use Rattle.dcsctp_machine.specs.transfer.Sending.{DiscardsNamed}
 use Rattle.dcsctp_send_queue.specs.Calls.{StopsDiscarding}
 use Rattle.dcsctp_send_streams.specs.Telling.{contents}
+use Rattle.dcsctp_machine.specs.declared.progress.Progress.{Progress}
 use Rattle.dcsctp_machine.specs.transfer.Items.{Item}
 use Rattle.dcsctp_send_outstanding.specs.declared.item.Item.TheInside.{Inside}
 use Rattle.dcsctp_machine.specs.transfer.ItemMessages.{IsEndOf}
@@ -26,14 +27,14 @@ invariant_of-self-then-branch c =
     let P : Item → Type 0 = λ item. c.add.new.self ≡ total_with item.progress c.size-size.result c.self.inside.totals in
     let added = subst P c.item.view_is c.add.ensures in
     rw (c.push_back_reserved.ensures.items, c.in_ok-reserve.ensures.items)
-    (kept_pushed _ _ _ _ _ _ _ _ c.self.invariant room c.size-size.ensures added (ap is_marked (let e = c.end_of_message-item.ensures in e.is_abandoned)) (settled_pushed _ _ _ c.self.invariant.settled))
+    (kept_pushed _ _ _ _ _ _ _ _ c.self.invariant room c.size-size.ensures added (ap (λ (p : Progress). is_marked p.state) (let e = c.end_of_message-item.ensures in e.progress)) (settled_pushed _ _ _ c.self.invariant.settled))
 
 pub returns-then-branch-clause-may : goal.returns-then-branch-clause-may
 returns-then-branch-clause-may c =
     let is = c.end_of_message-item.ensures in
     inr (record {
       item = c.end_of_message-item.result;
-      is_abandoned = is.is_abandoned;
+      is_abandoned = ap (λ (p : Progress). p.state) is.progress;
       grows = rw (c.push_back_reserved.ensures.items, c.in_ok-reserve.ensures.items, ← c.self.view_is) refl;
     })
 

@@ -5,8 +5,8 @@ use Rattle.dcsctp_machine.specs.transfer.Sending.{produced_events}
 use Rattle.dcsctp_send_queue.proofs.FrontLemmas.{front_from}
 use Rattle.dcsctp_send_queue.proofs.GoingOnLemmas.{can_go_on-produced, drops-under_way}
 use Rattle.dcsctp_send_queue.proofs.FragmentLemmas.{has_size}
-use Rattle.dcsctp_machine.specs.transfer.SendQueue.{SendQueueState}
-use Rattle.dcsctp_send_queue.specs.Backlog.{queue_of, CanGoOn}
+use Rattle.dcsctp_machine.specs.transfer.SendQueue.{SendQueueState, CanGoOn}
+use Rattle.dcsctp_send_queue.specs.Backlog.{queue_of}
 use Rattle.dcsctp_send_queue.proofs.backlog.Backlog.begin_next.Goals as goal
 
 pub returns-in_err-place-clause-can : goal.returns-in_err-place-clause-can

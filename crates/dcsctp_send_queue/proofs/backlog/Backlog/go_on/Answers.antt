@@ -5,8 +5,8 @@ use Rattle.dcsctp_send_streams.specs.Telling.{contents}
 use Rattle.dcsctp_machine.specs.transfer.Sending.{none, produced_events}
 use Rattle.dcsctp_send_queue.proofs.GoingOnLemmas.{can_go_on-produced, chosen_going}
 use Rattle.dcsctp_send_queue.proofs.FragmentLemmas.{has_size}
-use Rattle.dcsctp_machine.specs.transfer.SendQueue.{SendQueueState}
-use Rattle.dcsctp_send_queue.specs.Backlog.{queue_of, CanGoOn}
+use Rattle.dcsctp_machine.specs.transfer.SendQueue.{SendQueueState, CanGoOn}
+use Rattle.dcsctp_send_queue.specs.Backlog.{queue_of}
 use Rattle.dcsctp_send_queue.proofs.backlog.Backlog.go_on.Goals as goal
 
 pub returns-clause-ok : goal.returns-clause-ok

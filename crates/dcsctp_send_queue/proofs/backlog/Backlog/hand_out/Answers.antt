@@ -2,9 +2,9 @@ use Rattle.std.proofs.Common.{◌+◌, ap, sym, subst, refl, ◌∙◌, List, ge
 use Rattle.dcsctp_machine.specs.Ids.{stream_numbers}
 use Rattle.dcsctp_machine.specs.declared.ids.StreamId.{StreamId}
 use Rattle.dcsctp_machine.specs.transfer.SendStreams.{Stream, handed_out}
-use Rattle.dcsctp_machine.specs.transfer.SendQueue.{changed, SendQueueState}
+use Rattle.dcsctp_machine.specs.transfer.SendQueue.{changed, SendQueueState, CanGoOn}
 use Rattle.dcsctp_send_queue.proofs.ReadyLemmas.{handing_out-step, handing_out-all, can_go_on-handing_out}
-use Rattle.dcsctp_send_queue.specs.Backlog.{queue_of, CanGoOn}
+use Rattle.dcsctp_send_queue.specs.Backlog.{queue_of}
 use Rattle.dcsctp_send_queue.proofs.backlog.Backlog.hand_out.Goals as goal
 
 pub loop-id-preserved : goal.loop-id-preserved
