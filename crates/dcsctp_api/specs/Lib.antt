@@ -2,6 +2,7 @@ pub mod Calls
 pub mod Cookie
 pub mod Events
 pub mod Messages
+pub mod Metrics
 pub mod Resets
 pub mod Time
 pub use Rattle.dcsctp_machine.specs.Event

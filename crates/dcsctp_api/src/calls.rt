@@ -5,7 +5,9 @@ ghost use Rattle.dcsctp_api.specs.Calls.{UserView, PollsEvent, HandlesInput, Con
 ghost use Rattle.dcsctp_api.specs.Messages.{Sends, SendsMany, TakesNext, ready_messages, incoming_streams};
 ghost use Rattle.dcsctp_machine.specs.transfer.Incoming.{AreInOrder};
 ghost use Rattle.dcsctp_machine.specs.transfer.SendQueue.{IsWellFormed};
+ghost use Rattle.dcsctp_api.specs.Metrics.{ShowsMetrics};
 ghost use Rattle.dcsctp_api.specs.Resets.{ResetsOwn};
+ghost use Rattle.dcsctp_machine.specs.Handover.{readiness_of};
 ghost use Rattle.dcsctp_machine.specs.Ids.{stream_numbers};
 ghost use Rattle.dcsctp_machine.specs.transfer.Messages.{message_content};
 ghost use Rattle.dcsctp_machine.specs.turns.SettingOutcomes.{stream_priority, stream_low_threshold, longest_message};
@@ -14,8 +16,9 @@ ghost use Rattle.dcsctp_api.specs.Time.{Advances, OnlyMovesClock};
 
 use crate::errors::{BatchSendError, ResetStreamsError, SendError, SocketFault};
 use crate::events::SocketEvent;
+use crate::metrics::Metrics;
 use crate::state::SocketState;
-use dcsctp_machine::{Message, Options, SendOptions, SocketTime, StreamId};
+use dcsctp_machine::{HandoverReadiness, Message, Options, SendOptions, SocketTime, StreamId};
 
 /// The calls of an SCTP socket that makes no system call: packets go in, events come out.
 ///
@@ -141,6 +144,19 @@ pub trait DcSctpSocket {
     /// How many messages are ready to be taken. Allocates nothing.
     fn messages_ready_count(&self) -> usize
         ensures { result ≡ length (ready_messages (user_view self.now).endpoint) };
+
+    /// What was counted over the socket's life, and how its association is; `None` where the peer isn't known.
+    /// Allocates nothing.
+    fn get_metrics(&self) -> Option<Metrics>
+        ensures { ShowsMetrics (user_view self.now).endpoint result };
+
+    /// Why the socket can't be handed over to another process now. A closed socket can; else an association has
+    /// to be established, and nothing of it may be unfinished. With the option
+    /// `enable_handover_with_outstanding_data` what is sent may be. Allocates nothing. Of
+    /// what was received, each stream stands once.
+    fn get_handover_readiness(&self) -> HandoverReadiness
+        ensures reasons { result.0 ≡ readiness_of (user_view self.now).endpoint }
+        ensures streams { AreInOrder (incoming_streams (user_view self.now).endpoint) };
 
     /// The state of the association.
     fn state(&self) -> SocketState

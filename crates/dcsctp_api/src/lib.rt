@@ -7,12 +7,13 @@ mod calls;
 mod errors;
 mod events;
 mod laws;
+mod metrics;
 mod state;
 mod state_cookie;
 
 pub use calls::DcSctpSocket;
 pub use dcsctp_machine::{
-    Association, Capabilities, ErrorKind, Held, LifecycleId, Message, Options, Pair, Phase, PpId,
+    Association, Capabilities, ErrorKind, HandoverReadiness, Held, LifecycleId, Message, Options, Pair, Phase, PpId,
     ReconfigurationResponseResult, SctpImplementation, SendOptions, SocketTime, StreamId, Word,
     ZERO_CHECKSUM_ALTERNATE_ERROR_DETECTION_METHOD_LOWER_LAYER_DTLS,
     ZERO_CHECKSUM_ALTERNATE_ERROR_DETECTION_METHOD_NONE, ZeroChecksumAlternateErrorDetectionMethod,
@@ -23,5 +24,6 @@ pub use laws::{
     lifecycle_id_hash, lifecycle_id_order, pp_id_hash, send_options_default, socket_time_order,
     state_cookie_reads_back, stream_id_hash, stream_id_order,
 };
+pub use metrics::Metrics;
 pub use state::SocketState;
 pub use state_cookie::StateCookie;

@@ -65,13 +65,13 @@ pub struct Context<R> {
     tx_error_counter: TxErrorCounter,
 
     // How many packets were handed in.
-    rx_packets_count: usize,
+    pub(crate) rx_packets_count: usize,
 
     // How many packets were emitted.
-    tx_packets_count: usize,
+    pub(crate) tx_packets_count: usize,
 
     // How many messages the user has queued.
-    tx_messages_count: usize,
+    pub(crate) tx_messages_count: usize,
 
     // The moment before which no FORWARD-TSN is sent (RFC 3758, section 3.5).
     pub(crate) no_forward_tsn_before: SocketTime,

@@ -11,6 +11,7 @@ mod following;
 mod phases;
 mod reconfiguration;
 mod resetting;
+mod showing;
 mod state;
 mod transmission_control_block;
 mod tx_error_counter;

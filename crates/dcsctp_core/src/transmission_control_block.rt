@@ -1,13 +1,17 @@
 //! An association with a peer (RFC 9260, section 14.2).
 
-ghost use Rattle.std.specs.Prelude.{◌≡◌, ◌==◌, Some, IfOk};
+ghost use Rattle.std.specs.Prelude.{◌≡◌, ◌==◌, Some, bit_or, is_some, IfOk};
+ghost use Rattle.dcsctp_machine.specs.Readiness.{reason_where, pending_stream_reset_request};
 ghost use Rattle.dcsctp_machine.specs.Settings.{IsValid};
+ghost use Rattle.dcsctp_machine.specs.transfer.Incoming.{AreInOrder};
+ghost use Rattle.dcsctp_machine.specs.transfer.Readiness.{transfer_readiness};
 ghost use Rattle.dcsctp_core.specs.View.{held_of, number_of, IsNew};
 ghost use Rattle.dcsctp_core.specs.Flushing.{empty_packet};
 
 use dcsctp_api::{
     Association, Capabilities, Held, Options, Pair, Phase, ReconfigurationResponseResult, StreamId,
 };
+use dcsctp_machine::HandoverReadiness;
 use dcsctp_send_timer::Timer;
 use dcsctp_transfer::Transfer;
 use dcsctp_wire_build::SctpPacketBuilder;
@@ -126,6 +130,17 @@ impl TransmissionControlBlock {
             options.mtu,
         )?;
         Ok(builder.write_checksum(!self.capabilities.zero_checksum_enabled()))
+    }
+
+    /// Why the association can't be handed over to another process. `with_outstanding_data`: what is in
+    /// flight goes along.
+    pub fn get_handover_readiness(&self, with_outstanding_data: bool) -> HandoverReadiness
+        ensures reasons { result.0 ≡ bit_or (reason_where (is_some self.now.reset_request) pending_stream_reset_request)
+            (transfer_readiness with_outstanding_data self.now.transfer) }
+        ensures streams { AreInOrder self.now.transfer.reassembly.incoming.streams }
+    {
+        HandoverReadiness::PENDING_STREAM_RESET_REQUEST & self.reset_request.is_some()
+            | self.transfer.get_handover_readiness(with_outstanding_data)
     }
 
     /// The number of our outstanding request, if there is one. Allocates nothing.

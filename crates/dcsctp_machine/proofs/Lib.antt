@@ -45,6 +45,8 @@ pub mod PreparedFacts
 pub mod RangesFacts
 pub mod RangesLemmas
 pub mod ReadBackLemmas
+pub mod ReadinessFacts
+pub mod ReadinessLemmas
 pub mod ReassemblyLemmas
 pub mod ReconfigurationFacts
 pub mod ReconfigurationLemmas

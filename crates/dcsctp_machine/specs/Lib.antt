@@ -8,6 +8,7 @@ pub mod Ids
 pub mod Offer
 pub mod Outcome
 pub mod Packet
+pub mod Readiness
 pub mod Reconfiguration
 pub mod Settings
 pub mod Schedule
@@ -23,5 +24,6 @@ pub mod turns
 pub mod Laws
 pub mod Fitting
 pub mod Following
+pub mod Handover
 pub mod TimeTurns
 pub mod Deadlines

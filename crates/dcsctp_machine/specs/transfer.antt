@@ -16,6 +16,7 @@ pub mod Outstanding
 pub mod OwnResets
 pub mod Progress
 pub mod Ranges
+pub mod Readiness
 pub mod Reassembly
 pub mod Reports
 pub mod Retransmission

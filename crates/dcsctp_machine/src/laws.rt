@@ -1,6 +1,7 @@
 //! Laws of the definitions, each the contract of a function without a body.
 
-ghost use Rattle.std.specs.Prelude.{◌<◌, ◌^◌};
+ghost use Rattle.std.specs.Prelude.{◌≡◌, ◌<◌, ◌^◌, ◌||◌, ℕ, bit_or};
+ghost use Rattle.dcsctp_machine.specs.Readiness.{has_reason};
 ghost use Rattle.dcsctp_machine.specs.Settings.{FitsOptions};
 ghost use Rattle.dcsctp_machine.specs.Laws.{NegotiationIsMutual, AnswerKeepsAgreement, CookieReadsBack, InitLeavesAssociation, InitBringsOnePacket, InitPacketLeavesAssociation, OfferReadsBack, CapabilitiesHoldOffer, RefusedPacketAddsOneError, AdmittedPacketsMayBeWorked, ChunksAreControlled, ActsAreControlled, TimersAreControlled, PacketsAreControlled, DeliveriesAreControlled, FlushKeepsLimits, SocketsKeepOptions};
 ghost use Rattle.dcsctp_machine.specs.TimeTurns.{TimePassesQuietly};
@@ -132,4 +133,10 @@ pub fn sockets_keep_options()
 /// COOKIE ACK.
 pub fn time_passes_quietly()
     ensures { TimePassesQuietly }
+{}
+
+/// `a | b` contains one of some reasons where `a` or `b` does.
+pub fn readiness_contains()
+    ensures { (a b reasons : ℕ)
+        → has_reason (bit_or a b) reasons ≡ (has_reason a reasons || has_reason b reasons) }
 {}

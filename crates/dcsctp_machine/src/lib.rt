@@ -7,6 +7,7 @@ mod association;
 mod capabilities;
 mod congestion;
 mod ends;
+mod handover;
 mod ids;
 mod kinds;
 mod laws;
@@ -25,6 +26,7 @@ pub use capabilities::Capabilities;
 pub use congestion::{Acknowledged, CongestionControl};
 pub use dcsctp_wire::ReconfigurationResponseResult;
 pub use ends::{AbortReason, Violation};
+pub use handover::HandoverReadiness;
 pub use ids::{LifecycleId, PpId, StreamId};
 pub use kinds::{
     BackoffAlgorithm, ErrorKind, SctpImplementation,
@@ -36,7 +38,7 @@ pub use laws::{
     chunks_are_controlled, cookie_reads_back, deliveries_are_controlled, flush_keeps_limits,
     init_brings_one_packet, init_leaves_association, init_packet_leaves_association,
     negotiation_is_mutual, offer_reads_back, options_fit, packets_are_controlled,
-    refused_packet_adds_one_error, sockets_keep_options, time_passes_quietly,
+    readiness_contains, refused_packet_adds_one_error, sockets_keep_options, time_passes_quietly,
     timers_are_controlled,
 };
 pub use message::{Message, SendOptions, copied_messages};

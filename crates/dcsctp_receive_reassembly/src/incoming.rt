@@ -3,14 +3,16 @@
 
 ghost use Rattle.std.specs.Prelude.{◌≡◌, ℕ, ◌+◌, ◌^◌, ◌<◌, map, true, IfOk, OnOk, OnErr, IsSome, IfSome, IfNone, length, [], ◌∷◌};
 ghost use Rattle.std.specs.BTreeMap.{get};
+ghost use Rattle.std.specs.List.{list_any};
 ghost use Rattle.std.specs.Ordering.{nat_cmp};
 ghost use Rattle.dcsctp_receive_reassembly.specs.Held.{capped};
 ghost use Rattle.dcsctp_machine.specs.transfer.IncomingStreams.{ready_bytes, streams_bytes};
 ghost use Rattle.dcsctp_machine.specs.transfer.Messages.{message_content};
+ghost use Rattle.dcsctp_machine.specs.transfer.Readiness.{holds_parts, is_unassembled};
 ghost use Rattle.dcsctp_receive_reassembly.specs.Streams.{chunk_of};
 ghost use Rattle.dcsctp_machine.specs.transfer.IncomingStreams.{TakesOnStream};
 ghost use Rattle.dcsctp_receive_reassembly.specs.Reassembly.{incoming_of, entry_of, Balances};
-ghost use Rattle.dcsctp_machine.specs.transfer.Incoming.{stream_on, nothing, received_more, KeepsStreams, SameIncoming, TakesUnorderedData, TakesStreamData, TakesChunk, TakesData};
+ghost use Rattle.dcsctp_machine.specs.transfer.Incoming.{AreInOrder, stream_on, nothing, received_more, KeepsStreams, SameIncoming, TakesUnorderedData, TakesStreamData, TakesChunk, TakesData};
 
 use crate::arrivals::Data;
 use crate::numbers::number_near;
@@ -119,6 +121,19 @@ fn take_on(
     }
 }
 
+// Does something of a stream wait for more?
+fn any_holds_parts(streams: &BTreeMap<u16, Stream>) -> bool
+    ensures any { result ≡ list_any (λ entry. holds_parts entry.1) (map entry_of streams.now.entries) }
+    ensures order { AreInOrder (map entry_of streams.now.entries) }
+{
+    for (_, stream) in streams.iter() {
+        if stream.holds_parts() {
+            return true;
+        }
+    }
+    false
+}
+
 impl Incoming {
     /// Nothing was received yet.
     pub fn new(alloc: Global) -> Incoming
@@ -210,6 +225,14 @@ impl Incoming {
         self.take_numbered(tsn_number, chunk)?;
         self.last_tsn_number = tsn_number;
         Ok(())
+    }
+
+    /// Does something wait for more: a message for an earlier one, or parts for the others?
+    pub fn is_unassembled(&self) -> bool
+        ensures unassembled { result ≡ is_unassembled (incoming_of self.now) }
+        ensures streams { AreInOrder (incoming_of self.now).streams }
+    {
+        any_holds_parts(&self.streams) || !self.unordered.is_empty()
     }
 
     /// Takes the message that became ready first.

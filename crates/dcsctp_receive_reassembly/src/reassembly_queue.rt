@@ -17,7 +17,7 @@ use crate::incoming::Incoming;
 use crate::named::NamedStreams;
 use crate::numbers::is_tsn_beyond;
 use dcsctp_api::{Message, StreamId};
-use dcsctp_machine::SkippedTo;
+use dcsctp_machine::{HandoverReadiness, SkippedTo};
 use std::alloc::{AllocError, Global};
 use std::collections::VecDeque;
 use std::fmt;
@@ -80,6 +80,7 @@ impl fmt::Debug for ReassemblyQueue {
 impl ReassemblyQueue {
     ghost use Rattle.std.specs.Prelude.{◌*◌, nat_le, ◌∷◌, IfSome, IfNone};
     ghost use Rattle.dcsctp_machine.specs.transfer.Reassembly.{new_reassembly, is_above_watermark, with_ready, queued_bytes, remaining_bytes, can_count, is_deferred, with_deferred, AddsData, SkipsData, with_deferred_forward, is_forward_deferred, deferring, Leaves, StaysDeferred};
+    ghost use Rattle.dcsctp_machine.specs.transfer.Readiness.{reassembly_readiness};
     ghost use Rattle.dcsctp_receive_reassembly.specs.Queue.{SameQueue};
 
     /// Nothing was received yet, and at most `max_size` bytes are kept. Allocates nothing.
@@ -114,6 +115,16 @@ impl ReassemblyQueue {
         ensures { result ≡ self.now.incoming.messages_received }
     {
         self.incoming.messages_received
+    }
+
+    /// Why what was received can't be handed over to another process: a reset of streams is deferred, or
+    /// something waits for more.
+    pub fn get_handover_readiness(&self) -> HandoverReadiness
+        ensures reasons { result.0 ≡ reassembly_readiness self.now }
+        ensures streams { AreInOrder self.now.incoming.streams }
+    {
+        HandoverReadiness::STREAM_RESET_DEFERRED & self.deferral.is_some()
+            | HandoverReadiness::STREAM_HAS_UNASSEMBLED_CHUNKS & self.incoming.is_unassembled()
     }
 
     /// How many more bytes can be kept: the receive window that is announced to the peer (RFC 9260, section

@@ -10,6 +10,7 @@ ghost use Rattle.dcsctp_receive_reassembly.specs.Held.{capped};
 ghost use Rattle.dcsctp_machine.specs.transfer.Runs.{runs_bytes, wholes_bytes};
 ghost use Rattle.dcsctp_machine.specs.transfer.IncomingStreams.{stream_bytes};
 ghost use Rattle.dcsctp_machine.specs.transfer.Messages.{MessageContent, message_content};
+ghost use Rattle.dcsctp_machine.specs.transfer.Readiness.{holds_parts};
 ghost use Rattle.dcsctp_receive_reassembly.specs.declared.stream.Waiting.{Waiting};
 ghost use Rattle.dcsctp_receive_reassembly.specs.Streams.{stream_of, waits_as, HoldsPlace, chunk_of};
 ghost use Rattle.dcsctp_machine.specs.transfer.IncomingStreams.{is_waiting, is_due, delivered_from, deliveries_from, delivered_as, next_after, ready_with, NothingTaken, WaitsAmong, TakesOrdered, TakesAhead, TakesUnordered, next_past, runs_up_to, skipped, skipped_in_order, skipped_out_of_order, skip_deliveries, skip_bytes, data_part, TakesOnStream, new_stream};
@@ -425,6 +426,13 @@ impl Stream {
     {
         self.last_unordered = number;
         drop_messages(&mut self.unordered, &UpTo(number))
+    }
+
+    /// Does something of it wait for more: a message for an earlier one, or parts for the others?
+    pub fn holds_parts(&self) -> bool
+        ensures { result ≡ holds_parts (stream_of self.now) }
+    {
+        !self.waiting.is_empty() || !self.ordered.is_empty() || !self.unordered.is_empty()
     }
 
     /// How many bytes of the stream are kept, at most `usize::MAX`.

@@ -5,6 +5,7 @@ ghost use Rattle.std.specs.Prelude.{◌<◌};
 
 use crate::backlog::Backlog;
 use dcsctp_api::{Events, Message, Options, SendOptions, SocketTime, StreamId};
+use dcsctp_machine::HandoverReadiness;
 use dcsctp_send_streams::{DataToSend, QueuedMessage, Streams};
 use std::alloc::{AllocError, Global};
 use std::marker::Model;
@@ -46,6 +47,7 @@ impl SendQueue {
     ghost use Rattle.dcsctp_send_queue.specs.Leaving.{DropsSome};
     ghost use Rattle.dcsctp_send_queue.specs.Resets.{IsUsedAtMost};
     ghost use Rattle.dcsctp_machine.specs.Ids.{stream_numbers};
+    ghost use Rattle.dcsctp_machine.specs.transfer.Readiness.{queue_readiness};
 
     /// A queue with no messages, which numbers them as for no interleaving. Allocates nothing.
     pub fn new(alloc: Global, options: &Options) -> SendQueue
@@ -201,6 +203,15 @@ impl SendQueue {
         ensures { self.new ≡ queue_rolled_back self.old }
     {
         self.backlog.streams.roll_back_all();
+    }
+
+    /// Why what waits can't be handed over to another process. `with_outstanding_data`: messages go along.
+    pub fn get_handover_readiness(&self, with_outstanding_data: bool) -> HandoverReadiness
+        ensures { result.0 ≡ queue_readiness with_outstanding_data self.now }
+    {
+        let waits = !with_outstanding_data && self.backlog.streams.has_messages();
+        HandoverReadiness::SEND_QUEUE_NOT_EMPTY & waits
+            | HandoverReadiness::PENDING_STREAM_RESET & self.backlog.streams.has_paused()
     }
 
     /// The payload bytes that wait on the stream; 0 for one that was never used.

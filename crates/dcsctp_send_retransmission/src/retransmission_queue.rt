@@ -10,7 +10,7 @@ mod resending;
 mod sending;
 
 use dcsctp_api::SocketTime;
-use dcsctp_machine::{BackoffAlgorithm, Change, CongestionControl, Options};
+use dcsctp_machine::{BackoffAlgorithm, Change, CongestionControl, HandoverReadiness, Options};
 use dcsctp_send_outstanding::Outstanding;
 use dcsctp_send_queue::DataToSend;
 use dcsctp_send_timer::Timer;
@@ -67,6 +67,7 @@ impl RetransmissionQueue {
     ghost use Rattle.std.specs.Duration.{as_nanos};
     ghost use Rattle.dcsctp_machine.specs.transfer.Retransmission.{new_retransmission, outstanding_count, window_left, retransmission_deadline, can_send, timer_with, with_duration, with_reset_begun, counted_again};
     ghost use Rattle.dcsctp_machine.specs.Timers.{expires_at};
+    ghost use Rattle.dcsctp_machine.specs.transfer.Readiness.{retransmission_readiness};
     ghost use Rattle.dcsctp_machine.specs.transfer.Items.{unacknowledged_items, marked_items};
     ghost use Rattle.dcsctp_send_outstanding.specs.Outstanding.{FindsPlaces};
     ghost use Rattle.dcsctp_machine.specs.transfer.Outstanding.{next_tsn, distance_to};
@@ -183,6 +184,18 @@ impl RetransmissionQueue {
         ensures { result ≡ self.now.bytes_retransmitted }
     {
         self.bytes_retransmitted
+    }
+
+    /// Why what is in flight can't be handed over to another process. `with_outstanding_data`: it goes along.
+    pub fn get_handover_readiness(&self, with_outstanding_data: bool) -> HandoverReadiness
+        ensures { result.0 ≡ retransmission_readiness with_outstanding_data self.now }
+    {
+        let flies = !with_outstanding_data && self.outstanding.len() != 0;
+        let lost = !with_outstanding_data && self.outstanding.marked_items() != 0;
+        HandoverReadiness::RETRANSMISSION_QUEUE_OUTSTANDING_DATA & flies
+            | HandoverReadiness::RETRANSMISSION_QUEUE_FAST_RECOVERY
+                & self.congestion.recovery_exit.is_some()
+            | HandoverReadiness::RETRANSMISSION_QUEUE_NOT_EMPTY & lost
     }
 
     /// When the retransmission timer expires next; none if it doesn't run.

@@ -55,6 +55,7 @@ impl OutgoingStream {
     ghost use Rattle.dcsctp_machine.specs.transfer.SendEvents.{expiries};
     ghost use Rattle.dcsctp_machine.specs.transfer.SendStreams.{size_of, unused, is_pausing, front_of, with_message, without_front, paused, resumed, handed_out, begun_anew, raised, next_numbers, counted, committed, rolled_back, turn_of};
     ghost use Rattle.std.specs.Option.{option_copied};
+    ghost use Rattle.dcsctp_machine.specs.transfer.Readiness.{is_paused};
 
     /// A stream that was never used. Allocates nothing.
     pub fn new(alloc: Global, id: StreamId, priority: u16, threshold: usize) -> OutgoingStream
@@ -106,6 +107,16 @@ impl OutgoingStream {
         ensures { result ≡ self.now.pause }
     {
         self.pause
+    }
+
+    /// Is it to be reset, or was its reset requested?
+    pub fn is_paused(&self) -> bool
+        ensures { result ≡ is_paused self.now }
+    {
+        match self.pause {
+            Pause::Pausing | Pause::HandedOut => true,
+            Pause::Open => false,
+        }
     }
 
     /// One if it is to be reset and wasn't handed out yet, else none.

@@ -36,6 +36,7 @@ impl Streams {
     ghost use Rattle.std.specs.List.{list_any};
     ghost use Rattle.std.specs.Prelude.{◌≡◌, ◌-◌, ◌<◌, [], length, is_some, map, slice_set, insert, OnOk, OnErr, IfSome, IfNone};
     ghost use Rattle.dcsctp_machine.specs.transfer.SendStreams.{front_of, with_message, without_front, paused, handed_out, begun_anew, raised, counted, committed, rolled_back, stream_at, turn_of, turns_of, IsNext, IsAscending};
+    ghost use Rattle.dcsctp_machine.specs.transfer.Readiness.{has_messages, is_paused};
     ghost use Rattle.dcsctp_send_streams.specs.Ranking.{count_pausing, IsFound};
 
     /// No streams. Allocates nothing.
@@ -128,6 +129,20 @@ impl Streams {
         ensures { result ≡ list_any (λ stream. is_some (turn_of stream)) self.now }
     {
         !self.turns.as_slice().is_empty()
+    }
+
+    /// Does a message wait on any stream, or is one under way?
+    pub fn has_messages(&self) -> bool
+        ensures { result ≡ list_any has_messages self.now }
+    {
+        self.items.iter().any(|stream| stream.front().is_some())
+    }
+
+    /// Is any stream to be reset, or was its reset requested?
+    pub fn has_paused(&self) -> bool
+        ensures { result ≡ list_any is_paused self.now }
+    {
+        self.items.iter().any(|stream| stream.is_paused())
     }
 
     /// Adds a message after the others of the stream. `Err`: an allocation failed, and nothing has changed.

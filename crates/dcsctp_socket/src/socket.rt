@@ -3,7 +3,7 @@
 ghost use Rattle.dcsctp_socket.specs.SocketView.{Settles};
 
 use dcsctp_api::{
-    Association, BatchSendError, DcSctpSocket, Message, Options, Pair, ResetStreamsError,
+    Association, BatchSendError, DcSctpSocket, HandoverReadiness, Message, Metrics, Options, Pair, ResetStreamsError,
     SendError, SendOptions, SocketEvent, SocketFault, SocketState, SocketTime, StreamId,
 };
 use dcsctp_core::Context;
@@ -299,6 +299,14 @@ impl<R: Rng + Drop> DcSctpSocket for Socket<R> {
             None => 0,
             Some(tcb) => tcb.transfer.messages_ready_count(),
         }
+    }
+
+    fn get_metrics(&self) -> Option<Metrics> {
+        self.context.metrics()
+    }
+
+    fn get_handover_readiness(&self) -> HandoverReadiness {
+        self.context.get_handover_readiness()
     }
 
     fn state(&self) -> SocketState {

@@ -154,6 +154,29 @@ fn pairs_of(socket: &Socket<TwoWords>) -> Option<[u32; 4]> {
     }
 }
 
+// How many packets were sent, and how many were handed in.
+fn packets_of(socket: &Socket<TwoWords>) -> Option<(usize, usize)> {
+    let metrics = socket.get_metrics()?;
+    Some((metrics.tx_packets_count, metrics.rx_packets_count))
+}
+
+// How many packets had chunks that were sent again, and the bytes of these.
+fn again_of(socket: &Socket<TwoWords>) -> Option<(usize, u64)> {
+    let metrics = socket.get_metrics()?;
+    Some((metrics.rtx_packets_count, metrics.rtx_bytes_count))
+}
+
+fn unacknowledged_of(socket: &Socket<TwoWords>) -> Option<usize> {
+    let metrics = socket.get_metrics()?;
+    Some(metrics.unack_data_count)
+}
+
+// Interleaving, and no checksum
+fn uses_of(socket: &Socket<TwoWords>) -> Option<(bool, bool)> {
+    let metrics = socket.get_metrics()?;
+    Some((metrics.uses_message_interleaving, metrics.uses_zero_checksum))
+}
+
 /// A question has to be answered so.
 pub fn is_asked(
     rt: &impl Abort,
@@ -171,6 +194,18 @@ pub fn is_asked(
         "failed" => shows(rt, line, &socket.has_failed(), expected),
         "longest" => shows(rt, line, &socket.options().max_message_size, expected),
         "mtu" => shows(rt, line, &socket.options().mtu, expected),
+        "metrics" => shows(rt, line, &socket.get_metrics(), expected),
+        "packets" => shows(rt, line, &packets_of(socket), expected),
+        "again" => shows(rt, line, &again_of(socket), expected),
+        "unacknowledged" => shows(rt, line, &unacknowledged_of(socket), expected),
+        "uses" => shows(rt, line, &uses_of(socket), expected),
+        "ready" => shows(
+            rt,
+            line,
+            &socket.get_handover_readiness().is_ready(),
+            expected,
+        ),
+        "readiness" => shows(rt, line, &socket.get_handover_readiness(), expected),
         _ => fails(rt, line, "no such line"),
     }
 }

@@ -33,6 +33,8 @@ mod lifecycles;
 #[cfg(test)]
 mod messages;
 #[cfg(test)]
+mod metrics;
+#[cfg(test)]
 mod packets;
 #[cfg(test)]
 mod pairs;

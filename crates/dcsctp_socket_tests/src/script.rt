@@ -22,6 +22,8 @@
 //! takes-too PACKET            is handed this packet, while events wait
 //! message = ..                takes a message, which has this stream, protocol and length
 //! state = .., tag = .., association = .., pairs = .., failed = .., longest = .., mtu = ..
+//! metrics = .., packets = .., again = .., unacknowledged = .., uses = ..
+//! ready = .., readiness = ..  may it be handed over, and why not?
 //! ```
 //!
 //! Ahead of these, and at the end, no event may be left:

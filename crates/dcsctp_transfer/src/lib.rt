@@ -9,6 +9,7 @@ mod receiving;
 mod resets;
 mod sacks;
 mod sending;
+mod showing;
 mod transfer;
 
 pub use dcsctp_receive::{Data, Numbering, SkippedTo};

@@ -1,7 +1,7 @@
 //! What waits to be sent. It outlasts an association.
 
 use dcsctp_api::{Message, SendOptions};
-use dcsctp_machine::{Options, SocketTime, StreamId};
+use dcsctp_machine::{HandoverReadiness, Options, SocketTime, StreamId};
 use dcsctp_send::SendQueue;
 use std::alloc::{AllocError, Global};
 use std::marker::Model;
@@ -30,6 +30,7 @@ impl QueuedMessages {
     ghost use Rattle.std.specs.Prelude.{◌≡◌, ◌<◌, vec_len, OnOk, OnErr};
     ghost use Rattle.dcsctp_machine.specs.transfer.SendQueue.{empty_queue, IsWellFormed, queued, with_added, numbered_for, restarted, has_data, stream_of};
     ghost use Rattle.dcsctp_machine.specs.transfer.Messages.{message_content};
+    ghost use Rattle.dcsctp_machine.specs.transfer.Readiness.{queue_readiness};
     ghost use Rattle.dcsctp_machine.specs.turns.SettingOutcomes.{stream_priority, stream_low_threshold, set_in_queue};
 
     /// No messages, which are numbered as for no interleaving. Allocates nothing.
@@ -77,6 +78,13 @@ impl QueuedMessages {
         ensures { self.new ≡ numbered_for enabled self.old }
     {
         self.queue.enable_message_interleaving(enabled);
+    }
+
+    /// Why they can't be handed over to another process. `with_outstanding_data`: they go along.
+    pub fn get_handover_readiness(&self, with_outstanding_data: bool) -> HandoverReadiness
+        ensures { result.0 ≡ queue_readiness with_outstanding_data self.now }
+    {
+        self.queue.get_handover_readiness(with_outstanding_data)
     }
 
     /// The payload bytes that wait to be sent, of all streams together. They stop at `usize::MAX`.
