@@ -1,5 +1,6 @@
 //! How a call on a socket can fail for reasons that lie outside SCTP.
 
+use dcsctp_machine::HandoverReadiness;
 use std::alloc::{AllocError, AllocFailed};
 use thiserror::Error;
 
@@ -52,6 +53,22 @@ pub enum ResetStreamsError {
     /// Resets of streams weren't negotiated (RFC 6525, section 5.1.1).
     #[error("peer does not support stream resetting")]
     NotSupported,
+}
+
+/// Why a socket can't be handed over to another process.
+#[derive(Clone, Copy, Debug, PartialEq, Eq, Error)]
+pub enum HandoverError {
+    /// It isn't ready, for these reasons.
+    #[error("socket is not in a ready state for handover")]
+    NotReady(HandoverReadiness),
+}
+
+/// Why a socket can't be restored from a snapshot.
+#[derive(Clone, Copy, Debug, PartialEq, Eq, Error)]
+pub enum RestoreError {
+    /// It has an association, or begins one.
+    #[error("cannot restore state: socket is not closed")]
+    SocketNotClosed,
 }
 
 /// A failed allocation is `OutOfMemory`.

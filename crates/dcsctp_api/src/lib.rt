@@ -3,6 +3,15 @@
 //! `laws` holds what a user may rely on of the comparisons and hashes of these types.
 #![tactic(auto)]
 
+/// A snapshot of a socket, by which it is handed over to another process.
+pub mod handover {
+    pub use dcsctp_machine::{
+        HandoverCapabilities, HandoverOrderedStream, HandoverOutgoingStream,
+        HandoverOutstandingData, HandoverReadiness, HandoverReceive, HandoverSocketState,
+        HandoverStreamMessage, HandoverTransmission, HandoverUnorderedStream, SocketHandoverState,
+    };
+}
+
 mod calls;
 mod errors;
 mod events;
@@ -13,12 +22,14 @@ mod state_cookie;
 
 pub use calls::DcSctpSocket;
 pub use dcsctp_machine::{
-    Association, Capabilities, ErrorKind, HandoverReadiness, Held, LifecycleId, Message, Options, Pair, Phase, PpId,
-    ReconfigurationResponseResult, SctpImplementation, SendOptions, SocketTime, StreamId, Word,
-    ZERO_CHECKSUM_ALTERNATE_ERROR_DETECTION_METHOD_LOWER_LAYER_DTLS,
+    Association, Capabilities, ErrorKind, HandoverReadiness, Held, LifecycleId, Message, Options,
+    Pair, Phase, PpId, ReconfigurationResponseResult, SctpImplementation, SendOptions, SocketTime,
+    StreamId, Word, ZERO_CHECKSUM_ALTERNATE_ERROR_DETECTION_METHOD_LOWER_LAYER_DTLS,
     ZERO_CHECKSUM_ALTERNATE_ERROR_DETECTION_METHOD_NONE, ZeroChecksumAlternateErrorDetectionMethod,
 };
-pub use errors::{BatchSendError, ResetStreamsError, SendError, SocketFault};
+pub use errors::{
+    BatchSendError, HandoverError, ResetStreamsError, RestoreError, SendError, SocketFault,
+};
 pub use events::{Events, SocketEvent};
 pub use laws::{
     lifecycle_id_hash, lifecycle_id_order, pp_id_hash, send_options_default, socket_time_order,

@@ -16,3 +16,5 @@ mod moments;
 mod options;
 #[cfg(test)]
 mod sending;
+#[cfg(test)]
+mod snapshots;

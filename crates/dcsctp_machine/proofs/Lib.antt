@@ -63,6 +63,8 @@ pub mod SendingOutcomes
 pub mod SettingFacts
 pub mod ShutdownFacts
 pub mod ShutdownLemmas
+pub mod SnapshotFacts
+pub mod SnapshotLemmas
 pub mod SocketLemmas
 pub mod StandardFacts
 pub mod TakingOutcomes

@@ -15,7 +15,7 @@ readiness_below e (Some transfer) = transfer_readiness e.options.enable_handover
 abbrev pub readiness_open : Endpoint → OpenPhase → Held → ℕ
 readiness_open e established held =
     bit_or (queue_readiness e.options.enable_handover_with_outstanding_data e.below.queue)
-      (bit_or (reason_where (is_some held.own_outstanding) pending_stream_reset_request) (readiness_below e e.below.transfer))
+    (bit_or (reason_where (is_some held.own_outstanding) pending_stream_reset_request) (readiness_below e e.below.transfer))
 readiness_open e shutdown_pending held = wrong_connection_state
 readiness_open e shutdown_sent held = wrong_connection_state
 readiness_open e shutdown_received held = wrong_connection_state

@@ -11,6 +11,8 @@ pub mod Packet
 pub mod Readiness
 pub mod Reconfiguration
 pub mod Settings
+pub mod Snapshot
+pub mod SnapshotItems
 pub mod Schedule
 pub mod Sockets
 pub mod Timers

@@ -16,8 +16,10 @@ mod options;
 mod progress;
 mod schedule;
 mod sending;
+mod snapshot;
 mod time;
 mod tracking;
+mod validity;
 mod word;
 
 pub use arrivals::{Numbering, SkippedTo, Taken};
@@ -46,6 +48,11 @@ pub use options::Options;
 pub use progress::{Change, ItemState, Progress};
 pub use schedule::{Act, Call, Outside, Side, Step};
 pub use sending::{Pause, Turn, UnderWay};
+pub use snapshot::{
+    HandoverCapabilities, HandoverOrderedStream, HandoverOutgoingStream, HandoverOutstandingData,
+    HandoverReceive, HandoverSocketState, HandoverStreamMessage, HandoverTransmission,
+    HandoverUnorderedStream, SocketHandoverState,
+};
 pub use time::SocketTime;
 pub use tracking::{AckState, TsnRange};
 pub use word::Word;

@@ -1,5 +1,5 @@
 -- Whose turn it is among streams.
-use Rattle.std.specs.Prelude.{◌≡◌, ℕ, ◌<◌, ◌≤◌, Result, Ok, Err, List, [], ◌∷◌, length}
+use Rattle.std.specs.Prelude.{◌≡◌, ℕ, ◌<◌, ◌≤◌, Result, Ok, Err, List, length}
 use Rattle.std.specs.List.{count_by}
 use Rattle.dcsctp_machine.specs.declared.sending.Turn.{Turn}
 use Rattle.dcsctp_machine.specs.transfer.SendStreams.{Stream, IsAscending, is_pausing, turns_of, stream_at}

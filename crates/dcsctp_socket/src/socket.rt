@@ -3,8 +3,9 @@
 ghost use Rattle.dcsctp_socket.specs.SocketView.{Settles};
 
 use dcsctp_api::{
-    Association, BatchSendError, DcSctpSocket, HandoverReadiness, Message, Metrics, Options, Pair, ResetStreamsError,
-    SendError, SendOptions, SocketEvent, SocketFault, SocketState, SocketTime, StreamId,
+    Association, BatchSendError, DcSctpSocket, HandoverReadiness, Message, Metrics, Options, Pair,
+    ResetStreamsError, SendError, SendOptions, SocketEvent, SocketFault, SocketState, SocketTime,
+    StreamId,
 };
 use dcsctp_core::Context;
 use dcsctp_core_decisions::poll_timeout;

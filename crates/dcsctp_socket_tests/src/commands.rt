@@ -174,7 +174,10 @@ fn unacknowledged_of(socket: &Socket<TwoWords>) -> Option<usize> {
 // Interleaving, and no checksum
 fn uses_of(socket: &Socket<TwoWords>) -> Option<(bool, bool)> {
     let metrics = socket.get_metrics()?;
-    Some((metrics.uses_message_interleaving, metrics.uses_zero_checksum))
+    Some((
+        metrics.uses_message_interleaving,
+        metrics.uses_zero_checksum,
+    ))
 }
 
 /// A question has to be answered so.

@@ -30,7 +30,9 @@ fn unordered() -> SendOptions {
 
 // A sends by this call, and its third packet has to have that chunk.
 fn sends_it(rt: &impl Abort, world: &mut World<TwoWords>, call: Call) {
-    world.apply(&Step::Call(Side::A, call)).expect(rt, "no call");
+    world
+        .apply(&Step::Call(Side::A, call))
+        .expect(rt, "no call");
     let [_, _, packet] = world.packets(Side::A) else {
         rt.panic("there are not three packets")
     };

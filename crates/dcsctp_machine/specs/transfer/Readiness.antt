@@ -26,13 +26,13 @@ is_paused stream = not (is_open stream.pause)
 abbrev pub queue_readiness : Bool → SendQueueState → ℕ
 queue_readiness with_data queue =
     bit_or (reason_where (not with_data && list_any has_messages queue.streams) send_queue_not_empty)
-      (reason_where (list_any is_paused queue.streams) pending_stream_reset)
+    (reason_where (list_any is_paused queue.streams) pending_stream_reset)
 
 abbrev pub retransmission_readiness : Bool → RetransmissionState → ℕ
 retransmission_readiness with_data state =
     bit_or (reason_where (not with_data && nat_lt 0 (outstanding_count state)) retransmission_queue_outstanding_data)
-      (bit_or (reason_where (is_some state.congestion.recovery_exit) retransmission_queue_fast_recovery)
-        (reason_where (not with_data && nat_lt 0 (marked_items state.outstanding.items)) retransmission_queue_not_empty))
+    (bit_or (reason_where (is_some state.congestion.recovery_exit) retransmission_queue_fast_recovery)
+    (reason_where (not with_data && nat_lt 0 (marked_items state.outstanding.items)) retransmission_queue_not_empty))
 
 -- ---- what was received
 
@@ -50,11 +50,11 @@ is_unassembled incoming = list_any (λ entry. holds_parts entry.1) incoming.stre
 abbrev pub reassembly_readiness : ReassemblyState → ℕ
 reassembly_readiness queue =
     bit_or (reason_where (is_some queue.deferral) stream_reset_deferred)
-      (reason_where (is_unassembled queue.incoming) stream_has_unassembled_chunks)
+    (reason_where (is_unassembled queue.incoming) stream_has_unassembled_chunks)
 
 -- ---- all of an association
 
 abbrev pub transfer_readiness : Bool → Transfer → ℕ
 transfer_readiness with_data transfer =
     bit_or (retransmission_readiness with_data transfer.retransmission)
-      (bit_or (tracker_readiness transfer.tracker) (reassembly_readiness transfer.reassembly))
+    (bit_or (tracker_readiness transfer.tracker) (reassembly_readiness transfer.reassembly))

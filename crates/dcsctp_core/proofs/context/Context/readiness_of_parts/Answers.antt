@@ -1,4 +1,4 @@
-use Rattle.std.proofs.Common.{◌≡◌, sym, subst, Option, None}
+use Rattle.std.proofs.Common.{subst, Option}
 use Rattle.std.specs.List.Sorted.{IsStrictlySortedBy}
 use Rattle.dcsctp_machine.specs.transfer.Incoming.{AreInOrder}
 use Rattle.dcsctp_api.specs.Messages.{streams_below}
