@@ -1,4 +1,4 @@
-//! Snapshots: which are valid, and how a refusal reads.
+//! Snapshots: which are valid, why none can be made, and how a refusal reads.
 
 use crate::checks::same;
 use dcsctp_api::handover::{HandoverSocketState, HandoverUnorderedStream, SocketHandoverState};
@@ -64,4 +64,48 @@ fn refusals_of_a_handover_are_displayed(rt: HostRuntime) {
     let expected = "socket is not in a ready state for handover, \
         cannot restore state: socket is not closed";
     same(&rt, "Display", texts.as_str(), expected);
+}
+
+/// A number, the text of its reasons, and whether it is ready.
+static READINESS: [(u32, &str, bool); 5] = [
+    (0, "", true),
+    (3, "wrong_connection_state,send_queue_not_empty", false),
+    (32, "", false),
+    (
+        2560,
+        "retransmission_queue_outstanding_data,retransmission_queue_not_empty",
+        false,
+    ),
+    (
+        1 + 4 + 8 + 16,
+        "wrong_connection_state,pending_stream_reset_request,data_tracker_tsn_blocks_pending,pending_stream_reset",
+        false,
+    ),
+];
+
+#[test]
+fn readiness_names_its_reasons(rt: HostRuntime) {
+    for (number, text, is_ready) in &READINESS {
+        let readiness = HandoverReadiness(*number);
+        let found = format!(in rt.alloc(); "{readiness}").expect(&rt, "memory");
+        same(&rt, text, found.as_str(), *text);
+        let found = format!(in rt.alloc(); "{readiness:?}").expect(&rt, "memory");
+        same(&rt, text, found.as_str(), *text);
+        same(&rt, text, readiness.is_ready(), *is_ready);
+    }
+}
+
+#[test]
+fn readiness_holds_the_reasons_of_both(rt: HostRuntime) {
+    let both = HandoverReadiness::SEND_QUEUE_NOT_EMPTY | HandoverReadiness::STREAM_RESET_DEFERRED;
+    same(&rt, "66", both.0, 66);
+    let first = both.contains(HandoverReadiness::SEND_QUEUE_NOT_EMPTY);
+    same(&rt, "the first", first, true);
+    let second = both.contains(HandoverReadiness::STREAM_RESET_DEFERRED);
+    same(&rt, "the second", second, true);
+    let another = both.contains(HandoverReadiness::PENDING_STREAM_RESET);
+    same(&rt, "another", another, false);
+    same(&rt, "where it holds", (both & true).0, 66);
+    same(&rt, "where it doesn't", (both & false).0, 0);
+    same(&rt, "default", HandoverReadiness::default().0, 0);
 }

@@ -4,7 +4,8 @@
 use crate::messages::message;
 use crate::side::Side;
 use dcsctp_socket::{
-    DcSctpSocket, Pair, Phase, SendOptions, Socket, SocketFault, SocketState, SocketTime, StreamId,
+    DcSctpSocket, HandoverReadiness, Metrics, Pair, Phase, SendOptions, Socket, SocketFault,
+    SocketState, SocketTime, StreamId,
 };
 use dcsctp_testing::TwoWords;
 use std::process::Abort;
@@ -23,6 +24,8 @@ struct Answers {
     priority: u16,
     buffered: usize,
     threshold: usize,
+    metrics: Option<Metrics>,
+    readiness: HandoverReadiness,
 }
 
 // Asks a socket all of it.
@@ -41,6 +44,8 @@ fn ask(socket: &Socket<TwoWords>, stream: StreamId) -> Answers {
         priority: socket.get_stream_priority(stream),
         buffered: socket.buffered_amount(stream),
         threshold: socket.buffered_amount_low_threshold(stream),
+        metrics: socket.get_metrics(),
+        readiness: socket.get_handover_readiness(),
     }
 }
 

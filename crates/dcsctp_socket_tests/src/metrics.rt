@@ -15,6 +15,7 @@ const METRICS: &str = r#"
     B sends any
     A receives
     A sends any
+    A packets = Some((2, 1))
     B receives
     B tells OnConnected
     B sends any
@@ -66,13 +67,40 @@ const METRICS: &str = r#"
     A tells OnConnected
     A uses = Some((false, false))
 
-    // Of 5,000 bytes two chunks of 1,160 go out; 2,680 bytes wait, for three packets of 1,163 bytes of payload.
+    // Of 4,646 bytes two chunks of 1,160 go out; 2,326 bytes wait, for two packets of 1,163 bytes.
     == what waits counts by packets
     option max_burst 2
     A opens
-    A send 1 5000 = Ok(())
+    A send 1 4646 = Ok(())
+    each 0..2 A sends any of 1188
+    A unacknowledged = Some(4)
+
+    == one byte more takes another packet
+    option max_burst 2
+    A opens
+    A send 1 4647 = Ok(())
     each 0..2 A sends any of 1188
     A unacknowledged = Some(5)
+
+    // What counts for a socket's life goes on, as does what the peer was; the rest begins anew.
+    == another association
+    A opens
+    A send 1 1 = Ok(())
+    A tells OnBufferedAmountLow(1)
+    A sends any of 32
+    A waits 500
+    A sends any of 32
+    A again = Some((1, 20))
+    A packets = Some((4, 2))
+    A closes
+    A sends any
+    A tells OnClosed
+    A metrics = None
+    A takes COOKIE_ECHO
+    A tells OnConnected
+    A sends any
+    A again = Some((0, 0))
+    A packets = Some((6, 3))
 
     // Two chunks of 20 and 24 bytes go again in one packet, and again once the next timeout is over.
     == what is sent again counts with its headers
@@ -132,6 +160,16 @@ const READINESS: &str = r#"
     A waits 500
     each 0..2 A sends any
     A readiness = retransmission_queue_outstanding_data,retransmission_queue_not_empty
+
+    // Three SACKs say that TSN 100 is missing before 101, 102 and 103.
+    == what is sent again fast
+    A opens
+    each 0..4 A send 1 1 = Ok(()); A tells OnBufferedAmountLow(1); A sends any of 32
+    A takes 13881388 00000007 00000000 03000014 00000063 00100000 00010000 00020002
+    A takes 13881388 00000007 00000000 03000014 00000063 00100000 00010000 00020003
+    A takes 13881388 00000007 00000000 03000014 00000063 00100000 00010000 00020004
+    A sends any of 32
+    A readiness = retransmission_queue_outstanding_data,retransmission_queue_fast_recovery
 
     == what may go along
     option enable_handover_with_outstanding_data true
