@@ -24,12 +24,15 @@ pub record ShowsCapabilities (capabilities : Capabilities) (metrics : Metrics) :
   pub incoming : metrics.negotiated_maximum_incoming_streams ≡ capabilities.negotiated_maximum_incoming_streams
   pub outgoing : metrics.negotiated_maximum_outgoing_streams ≡ capabilities.negotiated_maximum_outgoing_streams
 
--- in how many packets of that many bytes the payloads that wait would go, each with a header of 12 bytes and one chunk's of 16
--- (RFC 9260, sections 3.1 and 3.3.1)
-abbrev pub packets_waiting : ℕ → SendQueueState → ℕ
-packets_waiting mtu queue = div_ceil queue.total_amount (mtu - 28)
+-- a packet's header and one of DATA (RFC 9260, sections 3.1 and 3.3.1)
+abbrev pub headers : ℕ
+headers = 28
 
--- the chunks that are neither acknowledged nor abandoned, and those that the waiting messages would take
+-- how many packets the payloads that wait would take if they were one message
+abbrev pub packets_waiting : ℕ → SendQueueState → ℕ
+packets_waiting mtu queue = div_ceil queue.total_amount (mtu - headers)
+
+-- the chunks that are neither acknowledged nor abandoned, and that estimate of those that wait
 abbrev pub unacknowledged_data : ℕ → SendQueueState → RetransmissionState → ℕ
 unacknowledged_data mtu queue state =
     min (unacknowledged_items state.outstanding.items + packets_waiting mtu queue) (2 ^ 64 - 1)

@@ -152,8 +152,8 @@ pub trait DcSctpSocket {
 
     /// Why the socket can't be handed over to another process now. A closed socket can; else an association has
     /// to be established, and nothing of it may be unfinished. With the option
-    /// `enable_handover_with_outstanding_data` what is sent may be. Allocates nothing. Of
-    /// what was received, each stream stands once.
+    /// `enable_handover_with_outstanding_data` what is sent may be. Messages that are ready make no difference:
+    /// take them first. Of what was received, each stream stands once. Allocates nothing.
     fn get_handover_readiness(&self) -> HandoverReadiness
         ensures reasons { result.0 ≡ readiness_of (user_view self.now).endpoint }
         ensures streams { AreInOrder (incoming_streams (user_view self.now).endpoint) };

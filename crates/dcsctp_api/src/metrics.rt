@@ -25,8 +25,8 @@ pub struct Metrics {
     /// The smoothed round trip time (RFC 9260, section 6.3.1).
     pub srtt: Duration,
 
-    /// How many chunks were sent that are neither acknowledged nor abandoned, and how many more the waiting
-    /// messages would take in packets of `mtu` bytes.
+    /// How many chunks were sent that are neither acknowledged nor abandoned, and an estimate of how many the
+    /// waiting messages would take: their bytes, divided by `mtu` less 28 and rounded up.
     pub unack_data_count: usize,
 
     /// How many packets were handed in over the socket's life, readable or not.
@@ -38,7 +38,8 @@ pub struct Metrics {
     /// The receive window that the peer announced last, in bytes, without what is in flight.
     pub peer_rwnd_bytes: u32,
 
-    /// What the peer is, by the cookie of its INIT ACK; not known if the peer began the association.
+    /// What the peer is, by the cookie of the last INIT ACK that made a peer known; not known before there was
+    /// one.
     pub peer_implementation: SctpImplementation,
 
     /// Is user data interleaved (RFC 8260)?

@@ -32,7 +32,7 @@ closed_is_valid options = refl
 
 -- Nothing else counts there: this one has zero checksum, and a list that isn't valid.
 closed_is_valid_with_all : (options : Options) →
-    is_valid_snapshot options (record empty_snapshot { tx = record empty_send_part { queued_messages = empty_queued_part ∷ [] } }) ≡ true
+    is_valid_snapshot options (record empty_snapshot { capabilities = record no_capabilities { zero_checksum = true }; tx = record empty_send_part { queued_messages = empty_queued_part ∷ [] } }) ≡ true
 closed_is_valid_with_all options = refl
 
 -- ---- verification tags

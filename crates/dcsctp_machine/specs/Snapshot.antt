@@ -191,9 +191,9 @@ has_bytes_or_is_abandoned sent = sent.is_abandoned || not (length sent.payload =
 abbrev pub tsns_between : ℕ → ℕ → ℕ
 tsns_between last next = (next + (2 ^ 32 - 1 - last)) % 2 ^ 32
 
--- There are as many outstanding data as TSNs that were used and aren't acknowledged. That count is one modulo 2^32, as TSNs are.
+-- There are as many outstanding data as TSNs that were used and aren't acknowledged.
 abbrev pub outstanding_count_fits : SendPart → Bool
-outstanding_count_fits tx = length tx.outstanding_data % 2 ^ 32 == tsns_between tx.last_cumulative_tsn_ack tx.next_tsn
+outstanding_count_fits tx = length tx.outstanding_data == tsns_between tx.last_cumulative_tsn_ack tx.next_tsn
 
 -- The message has bytes that weren't sent.
 abbrev pub is_valid_queued : QueuedPart → Bool

@@ -59,7 +59,7 @@ impl HandoverReadiness {
     /// No reason: a handover may take place.
     pub const READY: HandoverReadiness = HandoverReadiness(0);
 
-    /// No association is open and not shutting down.
+    /// An association is being set up or shut down.
     pub const WRONG_CONNECTION_STATE: HandoverReadiness = HandoverReadiness(1);
 
     /// Messages wait to be sent.
@@ -71,13 +71,13 @@ impl HandoverReadiness {
     /// A TSN is missing before others that were received.
     pub const DATA_TRACKER_TSN_BLOCKS_PENDING: HandoverReadiness = HandoverReadiness(8);
 
-    /// A stream is to be reset.
+    /// An own stream is to be reset, or its reset isn't answered.
     pub const PENDING_STREAM_RESET: HandoverReadiness = HandoverReadiness(16);
 
     /// A reset of the peer's streams is deferred.
     pub const STREAM_RESET_DEFERRED: HandoverReadiness = HandoverReadiness(64);
 
-    /// Parts of messages wait for the rest.
+    /// Parts of messages wait for the rest, or whole ones for an earlier one.
     pub const STREAM_HAS_UNASSEMBLED_CHUNKS: HandoverReadiness = HandoverReadiness(128);
 
     /// Data isn't acknowledged.

@@ -135,7 +135,7 @@ pub fn time_passes_quietly()
     ensures { TimePassesQuietly }
 {}
 
-/// `a | b` contains one of some reasons where `a` or `b` does.
+/// `a | b` contains one of some reasons exactly where `a` or `b` does.
 pub fn readiness_contains()
     ensures { (a b reasons : ℕ)
         → has_reason (bit_or a b) reasons ≡ (has_reason a reasons || has_reason b reasons) }

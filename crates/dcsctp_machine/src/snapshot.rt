@@ -232,7 +232,7 @@ pub struct HandoverReceive {
     /// The number of the peer's last request to reset streams that was deferred and then carried out.
     pub last_completed_deferred_reset_req_sn: u32,
 
-    /// The number of the peer's last request to reset streams that was carried out.
+    /// The number of the peer's last request to reset streams that was accepted.
     pub last_completed_reset_req_sn: u32,
 
     /// The streams on which ordered messages were received.

@@ -132,7 +132,7 @@ impl HandoverTransmission {
         ensures { result ≡ outstanding_count_fits (send_part self.now) }
     {
         let used = self.next_tsn.wrapping_sub(self.last_cumulative_tsn_ack);
-        self.outstanding_data.len() % 0x1_0000_0000 == used.wrapping_sub(1) as usize
+        self.outstanding_data.len() == used.wrapping_sub(1) as usize
     }
 
     // Can all of it be restored?

@@ -232,8 +232,7 @@ impl DataTracker {
         }
     }
 
-    /// The last TSN before the first that is missing. A SACK acknowledges all up to it as received
-    /// (RFC 9260, sections 3.3.4 and 6.2).
+    /// The last TSN before the first that is missing: a SACK acknowledges all up to it (RFC 9260, section 6.2).
     pub fn last_cumulative_acked_tsn(&self) -> u32
         ensures { result ≡ self.now.cumulative % 2 ^ 32 }
     {
@@ -304,8 +303,7 @@ impl DataTracker {
         is_due(self.acknowledgement, false)
     }
 
-    /// Was data received that isn't acknowledged yet? Then a SACK may go along with other chunks (RFC 9260,
-    /// section 6.1).
+    /// Is received data to be acknowledged? A SACK may go along with other chunks (RFC 9260, section 6.1).
     pub fn owes_acknowledgement(&self) -> bool
         ensures { result ≡ owes_acknowledgement self.now }
     {

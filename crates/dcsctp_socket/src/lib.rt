@@ -38,10 +38,10 @@ mod socket;
 
 pub use dcsctp_api as api;
 pub use dcsctp_api::{
-    Association, BatchSendError, Capabilities, DcSctpSocket, ErrorKind, Events, HandoverReadiness,
-    Held, LifecycleId, Message, Metrics, Options, Pair, Phase, PpId, ReconfigurationResponseResult,
-    ResetStreamsError, SctpImplementation, SendError, SendOptions, SocketEvent, SocketFault,
-    SocketState, SocketTime, StateCookie, StreamId,
+    Association, BatchSendError, Capabilities, DcSctpSocket, ErrorKind, Events, HandoverError,
+    HandoverReadiness, Held, LifecycleId, Message, Metrics, Options, Pair, Phase, PpId,
+    ReconfigurationResponseResult, ResetStreamsError, RestoreError, SctpImplementation, SendError,
+    SendOptions, SocketEvent, SocketFault, SocketState, SocketTime, StateCookie, StreamId,
     ZERO_CHECKSUM_ALTERNATE_ERROR_DETECTION_METHOD_LOWER_LAYER_DTLS,
     ZERO_CHECKSUM_ALTERNATE_ERROR_DETECTION_METHOD_NONE, ZeroChecksumAlternateErrorDetectionMethod,
 };

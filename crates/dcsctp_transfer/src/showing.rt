@@ -3,21 +3,24 @@
 ghost use Rattle.std.specs.Prelude.{◌≡◌, ◌<◌};
 ghost use Rattle.dcsctp_machine.specs.transfer.Incoming.{AreInOrder};
 ghost use Rattle.dcsctp_machine.specs.transfer.Readiness.{transfer_readiness};
-ghost use Rattle.dcsctp_api.specs.Metrics.{ShowsTransfer};
+ghost use Rattle.dcsctp_api.specs.Metrics.{headers, ShowsTransfer};
 
 use crate::queued_messages::QueuedMessages;
 use crate::transfer::Transfer;
 use dcsctp_api::{Metrics, SctpImplementation};
 use dcsctp_machine::HandoverReadiness;
 
+// A packet's header and one of DATA (RFC 9260, sections 3.1 and 3.3.1).
+const HEADERS: usize = 28;
+
 impl Transfer {
     /// What is shown of what is in flight, of the path and of the peer's window, with packets of `mtu` bytes.
-    /// All else is 0, false or unknown.
+    /// The caller sets the rest.
     pub fn metrics(&self, queue: &QueuedMessages, mtu: usize) -> Metrics
-        requires { 28 < mtu }
+        requires { headers < mtu }
         ensures { ShowsTransfer mtu queue.now self.now result }
     {
-        let waiting = queue.total_buffered_amount().div_ceil(mtu - 28);
+        let waiting = queue.total_buffered_amount().div_ceil(mtu - HEADERS);
         Metrics {
             tx_packets_count: 0,
             tx_messages_count: 0,
@@ -39,6 +42,7 @@ impl Transfer {
             negotiated_maximum_outgoing_streams: 0,
         }
     }
+
     /// Why the association can't be handed over to another process. `with_outstanding_data`: what is in
     /// flight goes along.
     pub fn get_handover_readiness(&self, with_outstanding_data: bool) -> HandoverReadiness
