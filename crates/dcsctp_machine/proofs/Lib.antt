@@ -48,6 +48,7 @@ pub mod ReadBackLemmas
 pub mod ReadinessFacts
 pub mod ReadinessLemmas
 pub mod ReassemblyLemmas
+pub mod ReceivedPartLemmas
 pub mod ReconfigurationFacts
 pub mod ReconfigurationLemmas
 pub mod ReportLemmas

@@ -18,6 +18,8 @@ pub mod Progress
 pub mod Ranges
 pub mod Readiness
 pub mod Reassembly
+pub mod ReceivedParts
+pub mod ReceivedReadBack
 pub mod Reports
 pub mod Retransmission
 pub mod RoundTrip

@@ -5,6 +5,7 @@ ghost use Rattle.dcsctp_machine.specs.Readiness.{has_reason};
 ghost use Rattle.dcsctp_machine.specs.Settings.{FitsOptions};
 ghost use Rattle.dcsctp_machine.specs.Laws.{NegotiationIsMutual, AnswerKeepsAgreement, CookieReadsBack, InitLeavesAssociation, InitBringsOnePacket, InitPacketLeavesAssociation, OfferReadsBack, CapabilitiesHoldOffer, RefusedPacketAddsOneError, AdmittedPacketsMayBeWorked, ChunksAreControlled, ActsAreControlled, TimersAreControlled, PacketsAreControlled, DeliveriesAreControlled, FlushKeepsLimits, SocketsKeepOptions};
 ghost use Rattle.dcsctp_machine.specs.TimeTurns.{TimePassesQuietly};
+ghost use Rattle.dcsctp_machine.specs.transfer.ReceivedReadBack.{TrackerReadsBack, SameTsnsAreNew, StreamsReadBack};
 
 use crate::options::Options;
 use dcsctp_wire::one_reading;
@@ -139,4 +140,13 @@ pub fn time_passes_quietly()
 pub fn readiness_contains()
     ensures { (a b reasons : ℕ)
         → has_reason (bit_or a b) reasons ≡ (has_reason a reasons || has_reason b reasons) }
+{}
+
+/// What a snapshot has of what was received reads back. The restored tracker has the same last TSN, and the
+/// same TSNs are new to it if none was missing before another. Each restored stream goes on with the same
+/// number, modulo 2^32, and nothing waits on it.
+pub fn received_parts_read_back()
+    ensures tracker { TrackerReadsBack }
+    ensures tsns { SameTsnsAreNew }
+    ensures streams { StreamsReadBack }
 {}

@@ -1,3 +1,4 @@
+pub mod HandoverLemmas
 pub mod NamedLemmas
 pub mod NamedTableLemmas
 pub mod PartBytes

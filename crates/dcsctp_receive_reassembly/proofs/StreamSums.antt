@@ -17,7 +17,7 @@ use Rattle.dcsctp_receive_reassembly.specs.Reassembly.{entry_of}
 use Rattle.dcsctp_machine.specs.transfer.Incoming.{stream_on}
 use Rattle.dcsctp_receive_reassembly.proofs.ReassemblyLemmas.{stream_on-get, stream_on-other, same_key}
 
-abbrev bytes_of : Stream → ℕ
+abbrev pub bytes_of : Stream → ℕ
 bytes_of stream = stream_bytes (stream_of stream)
 
 pub streams_bytes-values : (entries : List (ℕ × Stream)) → streams_bytes (map entry_of entries) ≡ sum_by bytes_of (values_of entries)

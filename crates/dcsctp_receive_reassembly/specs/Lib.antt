@@ -1,3 +1,4 @@
+pub mod Handover
 pub mod Held
 pub mod NamedFields
 pub mod NamedStreams

@@ -1,5 +1,5 @@
 -- Incoming streams in memory, as the machine has them.
-use Rattle.std.specs.Prelude.{◌≡◌, ℕ, ◌+◌, take, drop, None, List, ◌∷◌, ◌++◌, map}
+use Rattle.std.specs.Prelude.{◌≡◌, ℕ, take, drop, None, List, ◌∷◌, ◌++◌, map}
 use Rattle.dcsctp_receive_reassembly.specs.declared.arrivals.Data.{Data}
 use Rattle.dcsctp_receive_reassembly.specs.declared.stream.Stream.{Stream}
 use Rattle.dcsctp_receive_reassembly.specs.declared.stream.Waiting.{Waiting}

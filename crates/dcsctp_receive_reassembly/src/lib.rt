@@ -3,6 +3,7 @@
 #![tactic(auto)]
 
 mod arrivals;
+mod handover;
 mod incoming;
 mod joining;
 mod named;

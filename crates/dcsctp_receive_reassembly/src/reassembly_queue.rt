@@ -13,11 +13,13 @@ ghost use Rattle.dcsctp_machine.specs.transfer.Messages.{message_content};
 ghost use Rattle.dcsctp_receive_reassembly.specs.Streams.{chunk_of};
 
 use crate::arrivals::Data;
+use crate::handover::{ordered_streams, restored_streams};
 use crate::incoming::Incoming;
 use crate::named::NamedStreams;
 use crate::numbers::is_tsn_beyond;
+use crate::stream::FIRST_NUMBER;
 use dcsctp_api::{Message, StreamId};
-use dcsctp_machine::{HandoverReadiness, SkippedTo};
+use dcsctp_machine::{HandoverReadiness, HandoverReceive, SkippedTo};
 use std::alloc::{AllocError, Global};
 use std::collections::VecDeque;
 use std::fmt;
@@ -81,6 +83,8 @@ impl ReassemblyQueue {
     ghost use Rattle.std.specs.Prelude.{◌*◌, nat_le, ◌∷◌, IfSome, IfNone};
     ghost use Rattle.dcsctp_machine.specs.transfer.Reassembly.{new_reassembly, is_above_watermark, with_ready, queued_bytes, remaining_bytes, can_count, is_deferred, with_deferred, AddsData, SkipsData, with_deferred_forward, is_forward_deferred, deferring, Leaves, StaysDeferred};
     ghost use Rattle.dcsctp_machine.specs.transfer.Readiness.{reassembly_readiness};
+    ghost use Rattle.dcsctp_machine.specs.transfer.ReceivedParts.{with_reassembly, RestoresReassembly};
+    ghost use Rattle.dcsctp_machine.specs.Snapshot.{received_part};
     ghost use Rattle.dcsctp_receive_reassembly.specs.Queue.{SameQueue};
 
     /// Nothing was received yet, and at most `max_size` bytes are kept. Allocates nothing.
@@ -125,6 +129,33 @@ impl ReassemblyQueue {
     {
         HandoverReadiness::STREAM_RESET_DEFERRED & self.deferral.is_some()
             | HandoverReadiness::STREAM_HAS_UNASSEMBLED_CHUNKS & self.incoming.is_unassembled()
+    }
+
+    /// Adds what a snapshot has of it: the TSN that was handled last, and for each stream the number of its
+    /// next ordered message. `Err`: an allocation failed, and nothing has changed.
+    pub fn add_to_handover_state(&self, rx: &mut HandoverReceive) -> Result<(), AllocError>
+        ensures ok { OnOk result (received_part rx.new ≡ with_reassembly self.now (received_part rx.old)) }
+        ensures err { OnErr result (received_part rx.new ≡ received_part rx.old) }
+    {
+        rx.ordered_streams = ordered_streams(self.incoming.alloc, &self.incoming.streams)?;
+        rx.unordered_streams.clear();
+        rx.last_assembled_tsn = (self.incoming.last_tsn_number % 0x1_0000_0000) as u32;
+        Ok(())
+    }
+
+    /// A queue that was just made goes on with the streams of the snapshot, behind its last TSN. If a stream
+    /// stands twice there, the first counts. `Err`: an allocation failed, and nothing has changed.
+    pub fn restore_from_state(&mut self, rx: &HandoverReceive) -> Result<(), AllocError>
+        requires { self.old.incoming.streams ≡ [] }
+        ensures ok { OnOk result (RestoresReassembly (received_part rx.now) self.old self.new) }
+        ensures err { OnErr result (self.new ≡ self.old) }
+    {
+        self.incoming.streams = restored_streams(
+            self.incoming.alloc,
+            rx.ordered_streams.as_slice(),
+        )?;
+        self.incoming.last_tsn_number = FIRST_NUMBER + u64::from(rx.last_assembled_tsn);
+        Ok(())
     }
 
     /// How many more bytes can be kept: the receive window that is announced to the peer (RFC 9260, section

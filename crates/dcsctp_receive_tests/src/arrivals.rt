@@ -2,6 +2,7 @@
 
 use crate::receiver::Receiver;
 use dcsctp_api::StreamId;
+use dcsctp_machine::HandoverOrderedStream;
 use dcsctp_receive_reassembly::Numbering;
 use dcsctp_testing::{Row, Takes, run_steps};
 use std::alloc::AllocGlobal;
@@ -58,6 +59,12 @@ pub enum Step {
 
     /// Is the window full, and are nine tenths of it in use?
     Fills(bool, bool),
+
+    /// A snapshot has this last TSN of it, and these streams.
+    Shows(u32, &'static [HandoverOrderedStream]),
+
+    /// A new queue with a window of that many bytes goes on from a snapshot: the last TSN, and the streams.
+    Restores(usize, u32, &'static [HandoverOrderedStream]),
 }
 
 /// Takes the steps one after the other. The test ends at the first that fails.
@@ -87,6 +94,8 @@ impl Takes<Step> for Receiver {
             Step::Remains(remaining) => self.remains(row, remaining),
             Step::Counts(messages) => self.counts(row, messages),
             Step::Fills(is_full, is_above) => self.fills(row, is_full, is_above),
+            Step::Shows(last, streams) => self.shows(row, last, streams),
+            Step::Restores(window, last, streams) => self.restore(row, window, last, streams),
         }
     }
 }

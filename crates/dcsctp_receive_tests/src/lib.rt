@@ -5,6 +5,8 @@
 #[cfg(test)]
 mod arrivals;
 #[cfg(test)]
+mod handover;
+#[cfg(test)]
 mod messages;
 #[cfg(test)]
 mod packets;

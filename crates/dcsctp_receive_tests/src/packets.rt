@@ -52,6 +52,13 @@ pub enum Step {
 
     /// Is the delay over at this moment?
     TimesOut(u64, bool),
+
+    /// A snapshot has this last TSN of it, and whether data was received.
+    Shows(u32, bool),
+
+    /// A new tracker, whose first TSN is this one, goes on from a snapshot: the last TSN, and whether data
+    /// was received.
+    Restores(u32, u32, bool),
 }
 
 /// Takes the steps one after the other. The test ends at the first that fails.
@@ -84,6 +91,8 @@ impl Takes<Step> for Tracker {
             Step::Expires(nanos) => self.expires(row, nanos),
             Step::HasNoTimer => self.has_no_timer(row),
             Step::TimesOut(nanos, is_over) => self.times_out(row, nanos, is_over),
+            Step::Shows(last, is_seen) => self.shows(row, last, is_seen),
+            Step::Restores(first, last, is_seen) => self.restore(first, last, is_seen),
         }
     }
 }

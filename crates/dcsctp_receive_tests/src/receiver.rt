@@ -2,6 +2,7 @@
 
 use crate::arrivals::Part;
 use dcsctp_api::{Message, PpId, StreamId};
+use dcsctp_machine::{HandoverOrderedStream, HandoverReceive};
 use dcsctp_receive_reassembly::{Data, Numbering, ReassemblyQueue, SkippedTo};
 use dcsctp_testing::Row;
 use std::alloc::{AllocError, Global};
@@ -143,5 +144,29 @@ impl Receiver {
     pub fn fills(&self, row: &mut Row, is_full: bool, is_above: bool) {
         row.same(self.queue.is_full(), is_full);
         row.same(self.queue.is_above_watermark(), is_above);
+    }
+
+    /// Asserts what a snapshot has of it: its last TSN, and the streams.
+    pub fn shows(&self, row: &mut Row, last: u32, streams: &[HandoverOrderedStream]) {
+        let mut rx = HandoverReceive::empty(self.alloc);
+        row.done(self.queue.add_to_handover_state(&mut rx).is_ok());
+        row.same(rx.last_assembled_tsn, last);
+        row.same(rx.ordered_streams.as_slice(), streams);
+    }
+
+    /// Replaces it with a new one, which goes on from what a snapshot has.
+    pub fn restore(
+        &mut self,
+        row: &mut Row,
+        window: usize,
+        last: u32,
+        streams: &[HandoverOrderedStream],
+    ) {
+        let mut rx = HandoverReceive::empty(self.alloc);
+        rx.last_assembled_tsn = last;
+        row.done(rx.ordered_streams.extend_from_slice(streams).is_ok());
+        let mut queue = ReassemblyQueue::new(self.alloc, window);
+        row.done(queue.restore_from_state(&rx).is_ok());
+        self.queue = queue;
     }
 }

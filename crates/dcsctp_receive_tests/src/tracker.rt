@@ -1,6 +1,6 @@
 //! A data tracker, as the tests of this crate use it. Each check notes in the row what fails.
 
-use dcsctp_machine::{Options, SocketTime};
+use dcsctp_machine::{HandoverReceive, Options, SocketTime};
 use dcsctp_receive_tracker::DataTracker;
 use dcsctp_testing::Row;
 use std::alloc::Global;
@@ -138,5 +138,25 @@ impl Tracker {
     /// Asserts whether the delay is over at this moment.
     pub fn times_out(&mut self, row: &mut Row, nanos: u64, is_over: bool) {
         row.same(self.received.handle_timeout(at(nanos)), is_over);
+    }
+
+    /// Asserts what a snapshot has of it: its last TSN, and whether data was received.
+    pub fn shows(&self, row: &mut Row, last: u32, is_seen: bool) {
+        let mut rx = HandoverReceive::empty(self.alloc);
+        self.received.add_to_handover_state(&mut rx);
+        row.same(
+            (rx.last_cumulative_acked_tsn, rx.seen_packet),
+            (last, is_seen),
+        );
+    }
+
+    /// Replaces it with a new one, which goes on from what a snapshot has.
+    pub fn restore(&mut self, first: u32, last: u32, is_seen: bool) {
+        let mut rx = HandoverReceive::empty(self.alloc);
+        rx.last_cumulative_acked_tsn = last;
+        rx.seen_packet = is_seen;
+        let mut received = DataTracker::new(self.alloc, &Options::default(), first);
+        received.restore_from_state(&rx);
+        self.received = received;
     }
 }

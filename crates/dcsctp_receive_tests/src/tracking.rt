@@ -2,7 +2,7 @@
 
 use crate::packets::Step::{
     Acknowledges, Begins, Expires, GoesAlong, HasNoTimer, HasSizes, HasTimeout, IsCumulative,
-    IsDue, IsValid, Observes, Receives, Skips, TimesOut,
+    IsDue, IsValid, Observes, Receives, Restores, Shows, Skips, TimesOut,
 };
 use crate::packets::{Step, run};
 
@@ -208,6 +208,38 @@ fn forward_tsns_skip_what_is_missing(rt: HostRuntime) {
         ("beyond all", Skips(20, true)),
         ("beyond all", IsCumulative(20)),
         ("beyond all", Acknowledges(20, &[], 0)),
+    ];
+    run(&rt, STEPS);
+}
+
+#[test]
+fn a_new_tracker_goes_on_behind_a_snapshot(rt: HostRuntime) {
+    static STEPS: &[(&str, Step)] = &[
+        ("three", Begins(10)),
+        ("three", Receives(&[10, 11, 12], true)),
+        ("three", Shows(12, true)),
+        ("restored", Restores(500, 12, true)),
+        ("restored", Shows(12, true)),
+        ("restored", IsCumulative(12)),
+        ("nothing is owed", GoesAlong(false)),
+        ("nothing is owed", HasNoTimer),
+        ("the next", Receives(&[13], true)),
+        ("the next", IsCumulative(13)),
+        ("data was received before", IsDue(false)),
+        ("the last again", Receives(&[12], false)),
+        ("the last again", Acknowledges(13, &[], 1)),
+        ("across the wrap", Begins(0xffff_ffff)),
+        ("across the wrap", Receives(&[0xffff_ffff, 0, 1], true)),
+        ("across the wrap", Shows(1, true)),
+        ("across the wrap", Restores(500, 1, true)),
+        ("all again", Receives(&[0xffff_ffff, 0, 1], false)),
+        ("the next", Receives(&[2], true)),
+        ("none", Begins(10)),
+        ("none", Shows(9, false)),
+        ("none", Restores(500, 9, false)),
+        ("the first", Receives(&[10], true)),
+        ("the first", IsDue(true)),
+        ("the first", Shows(10, true)),
     ];
     run(&rt, STEPS);
 }

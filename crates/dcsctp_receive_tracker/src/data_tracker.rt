@@ -11,7 +11,7 @@ ghost use Rattle.dcsctp_receive_tracker.specs.Acknowledging.{IsWithinReach};
 ghost use Rattle.dcsctp_machine.specs.transfer.Tracker.{number_of, block_bytes, acknowledgement_delay, after_arrival, is_due, with_duplicate};
 
 use crate::received::{Received, advance};
-use dcsctp_machine::{AckState, BackoffAlgorithm, HandoverReadiness, Options, SocketTime};
+use dcsctp_machine::{AckState, BackoffAlgorithm, Options, SocketTime};
 use dcsctp_send_timer::Timer;
 use dcsctp_wire::SackChunk;
 use std::alloc::{AllocError, Global};
@@ -165,13 +165,13 @@ impl SelectiveAck {
 #[derive(Debug, Drop)]
 pub struct DataTracker {
     alloc: Global,
-    received: Received,
+    pub(crate) received: Received,
 
     // What came again since the last SACK.
     duplicates: Vec<u32>,
 
     // Was any data received?
-    has_seen_data: bool,
+    pub(crate) has_seen_data: bool,
 
     acknowledgement: AckState,
     delay: Timer,
@@ -205,7 +205,6 @@ impl DataTracker {
     ghost use Rattle.dcsctp_receive_tracker.specs.Acknowledging.{RunsWhereDelayed};
     ghost use Rattle.dcsctp_machine.specs.transfer.Tracker.{new_tracker, is_valid_tsn, is_new_tsn, observed, is_forward, after_forward, after_packet_end, is_acknowledgement_due, acknowledged, after_moment, stopped, owes_acknowledgement, with_timeout};
     ghost use Rattle.dcsctp_machine.specs.Timers.{running_deadline, expires_at};
-    ghost use Rattle.dcsctp_machine.specs.transfer.Readiness.{tracker_readiness};
 
     /// Nothing was received yet, and `peer_initial_tsn` is the TSN that is to come first. The one before it
     /// counts as received (RFC 9260, section 6.2), which is 2^32 - 1 if the first is 0. Allocates nothing.
@@ -287,13 +286,6 @@ impl DataTracker {
             self.acknowledgement = AckState::Delayed;
             self.delay.start(now);
         }
-    }
-
-    /// Why what was received can't be handed over to another process: a TSN is missing before others.
-    pub fn get_handover_readiness(&self) -> HandoverReadiness
-        ensures { result.0 ≡ tracker_readiness self.now }
-    {
-        HandoverReadiness::DATA_TRACKER_TSN_BLOCKS_PENDING & !self.received.ranges.is_empty()
     }
 
     /// Is a SACK due, whatever else is sent?

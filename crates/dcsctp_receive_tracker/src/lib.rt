@@ -3,6 +3,7 @@
 #![tactic(auto)]
 
 mod data_tracker;
+mod handover;
 mod received;
 
 pub use data_tracker::{DataTracker, SelectiveAck};

@@ -1,0 +1,15 @@
+use Rattle.std.proofs.Common.{◌≡◌, ℕ, map}
+use Rattle.dcsctp_machine.specs.transfer.Incoming.{stream_on}
+use Rattle.dcsctp_machine.specs.transfer.IncomingStreams.{streams_bytes}
+use Rattle.dcsctp_machine.specs.transfer.ReceivedParts.{restored_stream}
+use Rattle.dcsctp_receive_reassembly.specs.Handover.{restored_over}
+use Rattle.dcsctp_receive_reassembly.specs.Reassembly.{entry_of}
+use Rattle.dcsctp_receive_reassembly.proofs.handover.restored_streams.Given as goal
+
+-- With those that are left, which stand before these, all are restored.
+abbrev pub invariant-loop-state : goal.invariant-loop-state
+invariant-loop-state l =
+    record {
+      streams : (id : ℕ) → restored_over l.state-iterator.iter.rest.now id (stream_on id (map entry_of l.streams.entries)) ≡ restored_stream id l.states;
+      bytes : streams_bytes (map entry_of l.streams.entries) ≡ 0;
+    }
