@@ -32,6 +32,7 @@ pub mod InitPacketLemmas
 pub mod ItemMessageLemmas
 pub mod KindLemmas
 pub mod LawLemmas
+pub mod LifetimeFacts
 pub mod LimitLemmas
 pub mod LostOutcomes
 pub mod MarkedItemLemmas
@@ -42,6 +43,7 @@ pub mod PacketLengths
 pub mod PackingLemmas
 pub mod PlainLemmas
 pub mod PreparedFacts
+pub mod QueuedPartFacts
 pub mod RangesFacts
 pub mod RangesLemmas
 pub mod ReadBackLemmas

@@ -24,6 +24,7 @@ pub mod World
 pub mod Turn
 pub mod turns
 pub mod Laws
+pub mod Lifetimes
 pub mod Fitting
 pub mod Following
 pub mod Handover

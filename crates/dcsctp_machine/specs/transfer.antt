@@ -15,6 +15,7 @@ pub mod Numbers
 pub mod Outstanding
 pub mod OwnResets
 pub mod Progress
+pub mod QueuedParts
 pub mod Ranges
 pub mod Readiness
 pub mod Reassembly
