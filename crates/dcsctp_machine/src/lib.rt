@@ -11,6 +11,7 @@ mod handover;
 mod ids;
 mod kinds;
 mod laws;
+mod lifetimes;
 mod message;
 mod options;
 mod progress;
@@ -43,6 +44,7 @@ pub use laws::{
     readiness_contains, received_parts_read_back, refused_packet_adds_one_error,
     sockets_keep_options, time_passes_quietly, timers_are_controlled,
 };
+pub use lifetimes::{millis_ahead, moment_at};
 pub use message::{Message, SendOptions, copied_messages};
 pub use options::Options;
 pub use progress::{Change, ItemState, Progress};
