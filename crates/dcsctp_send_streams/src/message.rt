@@ -1,18 +1,44 @@
 //! A message that waits.
 
+ghost use Rattle.std.specs.Option.{option_map};
 ghost use Rattle.std.specs.Prelude.{◌≡◌, ◌≤◌, drop, vec_len};
+ghost use Rattle.dcsctp_machine.specs.Ids.{lifecycle_number};
+ghost use Rattle.dcsctp_machine.specs.transfer.QueuedParts.{limit_of, name_of};
 
 use crate::data::DataToSend;
 use dcsctp_api::{
     Events, LifecycleId, Message, PpId, SendOptions, SocketEvent, SocketTime, StreamId,
 };
-use dcsctp_machine::UnderWay;
+use dcsctp_machine::{HandoverStreamMessage, UnderWay, millis_ahead, moment_at};
 use std::alloc::{AllocError, Global};
 use std::marker::Model;
 
 // The longest payload whose rest is moved to its front and not copied. It holds this many bytes at most for its
 // last fragment, until that is acknowledged.
 const LONGEST_MOVED: usize = 2048;
+
+// How often a message of a snapshot may be sent again if there is no limit.
+const NO_LIMIT: u16 = 65535;
+
+// How often a message may be sent again, by the number that a snapshot has for it.
+fn limit_of(count: u16) -> Option<u16>
+    ensures { result ≡ limit_of count }
+{
+    if count == NO_LIMIT {
+        return None;
+    }
+    Some(count)
+}
+
+// The name of a message, by the number that a snapshot has for it.
+fn name_of(number: u64) -> Option<LifecycleId>
+    ensures { option_map lifecycle_number result ≡ name_of number }
+{
+    if number == 0 {
+        return None;
+    }
+    Some(LifecycleId::from(number))
+}
 
 /// A message that waits whole, or of which some fragments were sent. Its payload isn't empty.
 ///
@@ -62,6 +88,8 @@ impl QueuedMessage {
     ghost use Rattle.dcsctp_machine.specs.transfer.SendStreams.{is_expired};
     ghost use Rattle.dcsctp_send_streams.specs.Fragment.{CopiesRest};
     ghost use Rattle.dcsctp_machine.specs.transfer.Sending.{fragment};
+    ghost use Rattle.dcsctp_machine.specs.SnapshotItems.{queued_part};
+    ghost use Rattle.dcsctp_machine.specs.transfer.QueuedParts.{whole_message, waiting_again};
 
     /// The message that is added at the moment `now`.
     pub fn new(
@@ -90,6 +118,27 @@ impl QueuedMessage {
             expires_at: options.lifetime.map(|lifetime| now + lifetime),
             lifecycle_id: options.lifecycle_id,
         }
+    }
+
+    /// The message that a snapshot has, as it waits again if the snapshot is restored at the moment `now`. The
+    /// payload is copied. `Err`: an allocation failed.
+    pub fn from_handover(
+        alloc: Global,
+        now: SocketTime,
+        part: &HandoverStreamMessage,
+    ) -> Result<QueuedMessage, AllocError>
+        requires { 0 < vec_len part.now.payload }
+        ensures { IfOk result (λ message. message ≡ waiting_again now (queued_part part.now)) }
+    {
+        Ok(QueuedMessage {
+            message_id: part.message_id,
+            ppid: PpId(part.ppid),
+            is_unordered: part.unordered,
+            payload: Vec::from_slice(alloc, part.payload.as_slice())?,
+            max_retransmissions: limit_of(part.max_retransmissions),
+            expires_at: part.expires_in_ms.map(|millis| moment_at(now, millis)),
+            lifecycle_id: name_of(part.lifecycle_id),
+        })
     }
 
     /// The bytes of its payload, of which there is one at least.
@@ -152,6 +201,32 @@ impl QueuedMessage {
             events.add(SocketEvent::OnLifecycleMessageFullySent(id))?;
         }
         Ok(())
+    }
+
+    /// What a snapshot that is made at the moment `now` has of it if it waits whole. The payload is copied.
+    /// `Err`: an allocation failed.
+    pub fn handover_message(
+        &self,
+        alloc: Global,
+        now: SocketTime,
+        stream_id: StreamId,
+    ) -> Result<HandoverStreamMessage, AllocError>
+        ensures { IfOk result (λ part. queued_part part ≡ whole_message now stream_id.0 self.now) }
+    {
+        Ok(HandoverStreamMessage {
+            stream_id: stream_id.0,
+            ppid: self.ppid.0,
+            payload: Vec::from_slice(alloc, self.payload.as_slice())?,
+            unordered: self.is_unordered,
+            expires_in_ms: self.expires_at.map(|moment| millis_ahead(now, moment)),
+            max_retransmissions: self.max_retransmissions.unwrap_or(NO_LIMIT),
+            lifecycle_id: self.lifecycle_id.map_or(0, |id| id.value()),
+            message_id: self.message_id,
+            remaining_offset: 0,
+            mid: None,
+            ssn: None,
+            fsn: 0,
+        })
     }
 
     /// The next fragment, of that many bytes, which are copied. It isn't the last.

@@ -1,8 +1,8 @@
 //! What waits on one stream.
 
 use crate::message::QueuedMessage;
-use dcsctp_api::{Events, StreamId};
-use dcsctp_machine::{Pause, Turn};
+use dcsctp_api::{Events, SocketTime, StreamId};
+use dcsctp_machine::{HandoverOutgoingStream, HandoverStreamMessage, Pause, Turn};
 use std::alloc::{AllocError, Global};
 use std::collections::VecDeque;
 use std::marker::Model;
@@ -56,6 +56,9 @@ impl OutgoingStream {
     ghost use Rattle.dcsctp_machine.specs.transfer.SendStreams.{size_of, unused, is_pausing, front_of, with_message, without_front, paused, resumed, handed_out, begun_anew, raised, next_numbers, counted, committed, rolled_back, turn_of};
     ghost use Rattle.std.specs.Option.{option_copied};
     ghost use Rattle.dcsctp_machine.specs.transfer.Readiness.{is_paused};
+    ghost use Rattle.std.specs.Prelude.{map, IfOk};
+    ghost use Rattle.dcsctp_machine.specs.SnapshotItems.{queued_part};
+    ghost use Rattle.dcsctp_machine.specs.transfer.QueuedParts.{whole_message, stream_given, emptied, stream_restored, with_rest};
 
     /// A stream that was never used. Allocates nothing.
     pub fn new(alloc: Global, id: StreamId, priority: u16, threshold: usize) -> OutgoingStream
@@ -178,6 +181,36 @@ impl OutgoingStream {
         Ok(())
     }
 
+    /// What a snapshot has of its numbers and its priority.
+    pub fn handover_stream(&self) -> HandoverOutgoingStream
+        ensures { result ≡ stream_given self.now }
+    {
+        HandoverOutgoingStream {
+            id: self.id.0,
+            next_ssn: self.next_ssn,
+            next_unordered_mid: self.next_unordered_mid,
+            next_ordered_mid: self.next_mid,
+            priority: self.priority,
+        }
+    }
+
+    /// What a snapshot that is made at the moment `now` has of its messages if all wait whole. `Err`: an
+    /// allocation failed.
+    pub fn handover_messages(
+        &self,
+        alloc: Global,
+        now: SocketTime,
+    ) -> Result<Vec<HandoverStreamMessage>, AllocError>
+        ensures { IfOk result (λ parts. map queued_part parts.items ≡ map (whole_message now self.now.id) self.now.messages) }
+    {
+        let mut parts = Vec::with_capacity(alloc, self.messages.len())?;
+        for place in 0..self.messages.len() {
+            let message = &self.messages[place];
+            parts.push(message.handover_message(alloc, now, self.id)?)?;
+        }
+        Ok(parts)
+    }
+
     /// Adds a message after the others. `Err`: an allocation failed, and nothing has changed.
     pub fn push(&mut self, message: QueuedMessage) -> Result<(), AllocError>
         ensures ok { OnOk result (self.new ≡ with_message message self.old) }
@@ -187,6 +220,36 @@ impl OutgoingStream {
         self.messages.push_back(message)?;
         self.amount = self.amount.saturating_add(size);
         Ok(())
+    }
+
+    /// Adds a message after the others, of which so many bytes are to be sent. `Err`: an allocation failed,
+    /// and nothing has changed.
+    pub fn push_rest(&mut self, message: QueuedMessage, rest: usize) -> Result<(), AllocError>
+        ensures ok { OnOk result (self.new ≡ with_rest message rest self.old) }
+        ensures err { OnErr result (self.new ≡ self.old) }
+    {
+        self.messages.push_back(message)?;
+        self.amount = self.amount.saturating_add(rest);
+        Ok(())
+    }
+
+    /// Drops all its messages, and counts them from 0 again. It keeps its priority and its threshold.
+    pub fn empty(&mut self)
+        ensures { self.new ≡ emptied self.old }
+    {
+        self.messages.clear();
+        self.amount = 0;
+        self.begin_anew();
+    }
+
+    /// Gives it the numbers and the priority that a snapshot has.
+    pub fn restore(&mut self, named: &HandoverOutgoingStream)
+        ensures { self.new ≡ stream_restored named.now self.old }
+    {
+        self.next_ssn = named.next_ssn;
+        self.next_mid = named.next_ordered_mid;
+        self.next_unordered_mid = named.next_unordered_mid;
+        self.priority = named.priority;
     }
 
     /// Takes its oldest message.

@@ -4,7 +4,7 @@ use crate::message::QueuedMessage;
 use crate::stream::OutgoingStream;
 use crate::turns::move_turn;
 use dcsctp_api::StreamId;
-use dcsctp_machine::Turn;
+use dcsctp_machine::{HandoverOutgoingStream, Turn};
 use std::alloc::{AllocError, Global};
 use std::marker::Model;
 
@@ -38,6 +38,7 @@ impl Streams {
     ghost use Rattle.dcsctp_machine.specs.transfer.SendStreams.{front_of, with_message, without_front, paused, handed_out, begun_anew, raised, counted, committed, rolled_back, stream_at, turn_of, turns_of, IsNext, IsAscending};
     ghost use Rattle.dcsctp_machine.specs.transfer.Readiness.{has_messages, is_paused};
     ghost use Rattle.dcsctp_send_streams.specs.Ranking.{count_pausing, IsFound};
+    ghost use Rattle.dcsctp_machine.specs.transfer.QueuedParts.{emptied, stream_restored, with_rest};
 
     /// No streams. Allocates nothing.
     pub fn new(alloc: Global) -> Streams
@@ -159,6 +160,26 @@ impl Streams {
         Ok(())
     }
 
+    /// Adds a message after the others of the stream, of which so many bytes are to be sent. `Err`: an
+    /// allocation failed, and nothing has changed.
+    pub fn push_rest(
+        &mut self,
+        place: usize,
+        message: QueuedMessage,
+        rest: usize,
+    ) -> Result<(), AllocError>
+        requires { place < length self.old }
+        ensures ok { OnOk result (self.new ≡ slice_set self.old place (with_rest message rest (stream_at self.old place))) }
+        ensures err { OnErr result (self.new ≡ self.old) }
+    {
+        let stream = &mut self.items[place];
+        let before = stream.turn();
+        stream.push_rest(message, rest)?;
+        let after = stream.turn();
+        move_turn(&mut self.turns, before, after);
+        Ok(())
+    }
+
     /// Takes the oldest message of the stream.
     #[inline(always)]
     pub fn pop(&mut self, place: usize) -> Option<QueuedMessage>
@@ -240,6 +261,32 @@ impl Streams {
         move_turn(&mut self.turns, before, after);
     }
 
+    /// Gives the stream the numbers and the priority that a snapshot has.
+    pub fn restore(&mut self, place: usize, named: &HandoverOutgoingStream)
+        requires { place < length self.old }
+        ensures { self.new ≡ slice_set self.old place (stream_restored named.now (stream_at self.old place)) }
+    {
+        let stream = &mut self.items[place];
+        let before = stream.turn();
+        stream.restore(named);
+        let after = stream.turn();
+        move_turn(&mut self.turns, before, after);
+    }
+
+    /// Drops the messages of the stream, and counts them from 0 again.
+    pub fn empty(&mut self, place: usize)
+        requires { place < length self.old }
+        ensures { self.new ≡ slice_set self.old place (emptied (stream_at self.old place)) }
+    {
+        let stream = &mut self.items[place];
+        let before = stream.turn();
+        let was_pausing = stream.count_pausing();
+        stream.empty();
+        let after = stream.turn();
+        move_turn(&mut self.turns, before, after);
+        self.pausing = self.pausing.saturating_sub(was_pausing);
+    }
+
     /// Sets the stream's priority.
     pub fn set_priority(&mut self, place: usize, priority: u16)
         requires { place < length self.old }
@@ -294,6 +341,15 @@ impl Streams {
     {
         for place in 0..self.len() {
             self.begin_anew(place);
+        }
+    }
+
+    /// Drops all messages, and counts those of each stream from 0 again.
+    pub fn empty_all(&mut self)
+        ensures { self.new ≡ map emptied self.old }
+    {
+        for place in 0..self.len() {
+            self.empty(place);
         }
     }
 

@@ -1,0 +1,7 @@
+use Rattle.std.proofs.Common.{◌≡◌}
+use Rattle.dcsctp_machine.specs.transfer.QueuedParts.{emptied}
+use Rattle.dcsctp_send_streams.proofs.Mapped.{mapped_to}
+use Rattle.dcsctp_send_streams.proofs.streams.Streams.empty_all.Given as goal
+
+abbrev pub invariant-loop-place : goal.invariant-loop-place
+invariant-loop-place l = l.self ≡ mapped_to l.place emptied l.initial.self
