@@ -3,6 +3,7 @@
 ghost use Rattle.std.specs.Prelude.{◌≡◌, ◌&&◌};
 ghost use Rattle.dcsctp_machine.specs.transfer.SendEvents.{falls_low};
 
+mod handover;
 mod producing;
 mod resetting;
 

@@ -5,7 +5,7 @@ ghost use Rattle.std.specs.Prelude.{◌<◌};
 
 use crate::backlog::Backlog;
 use dcsctp_api::{Events, Message, Options, SendOptions, SocketTime, StreamId};
-use dcsctp_machine::HandoverReadiness;
+use dcsctp_machine::{HandoverReadiness, HandoverTransmission};
 use dcsctp_send_streams::{DataToSend, QueuedMessage, Streams};
 use std::alloc::{AllocError, Global};
 use std::marker::Model;
@@ -48,6 +48,8 @@ impl SendQueue {
     ghost use Rattle.dcsctp_send_queue.specs.Resets.{IsUsedAtMost};
     ghost use Rattle.dcsctp_machine.specs.Ids.{stream_numbers};
     ghost use Rattle.dcsctp_machine.specs.transfer.Readiness.{queue_readiness};
+    ghost use Rattle.dcsctp_machine.specs.transfer.QueuedParts.{with_queue};
+    ghost use Rattle.dcsctp_machine.specs.Snapshot.{send_part};
 
     /// A queue with no messages, which numbers them as for no interleaving. Allocates nothing.
     pub fn new(alloc: Global, options: &Options) -> SendQueue
@@ -212,6 +214,30 @@ impl SendQueue {
         let waits = !with_outstanding_data && self.backlog.streams.has_messages();
         HandoverReadiness::SEND_QUEUE_NOT_EMPTY & waits
             | HandoverReadiness::PENDING_STREAM_RESET & self.backlog.streams.has_paused()
+    }
+
+    /// Adds what a snapshot that is made at the moment `now` has of it: the numbers and the priorities of all
+    /// streams, and, if they go along, the messages that wait, with the one under way. `Err`: an allocation
+    /// failed, and nothing was added.
+    pub fn add_to_handover_state(
+        &self,
+        now: SocketTime,
+        with_outstanding_data: bool,
+        tx: &mut HandoverTransmission,
+    ) -> Result<(), AllocError>
+        ensures ok { OnOk result (send_part tx.new ≡ with_queue now with_outstanding_data self.now (send_part tx.old)) }
+        ensures err { OnErr result (send_part tx.new ≡ send_part tx.old) }
+    {
+        let streams = self.backlog.handover_streams()?;
+        let messages = if with_outstanding_data {
+            self.backlog.handover_messages(now)?
+        } else {
+            Vec::new(self.backlog.alloc)
+        };
+        tx.next_outgoing_message_id = self.backlog.next_message_id;
+        tx.streams = streams;
+        tx.queued_messages = messages;
+        Ok(())
     }
 
     /// The payload bytes that wait on the stream; 0 for one that was never used.

@@ -1,0 +1,9 @@
+use Rattle.std.proofs.Common.{◌≡◌, take, map}
+use Rattle.std.specs.List.{flat_map}
+use Rattle.dcsctp_machine.specs.SnapshotItems.{queued_part}
+use Rattle.dcsctp_machine.specs.transfer.QueuedParts.{messages_given}
+use Rattle.dcsctp_send_queue.proofs.backlog.Backlog.handover_messages.Given as goal
+
+-- The messages of the streams so far.
+abbrev pub invariant-loop-place : goal.invariant-loop-place
+invariant-loop-place l = map queued_part l.all.items ≡ flat_map (messages_given l.now l.self.under_way) (take l.place l.self.streams)
