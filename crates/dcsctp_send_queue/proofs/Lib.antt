@@ -6,4 +6,5 @@ pub mod NumberingLemmas
 pub mod QueueLemmas
 pub mod ReadyLemmas
 pub mod ResetLemmas
+pub mod RestoringLemmas
 pub mod WaitingLemmas

@@ -6,6 +6,7 @@ ghost use Rattle.dcsctp_machine.specs.transfer.SendEvents.{falls_low};
 mod handover;
 mod producing;
 mod resetting;
+mod restoring;
 
 use dcsctp_api::{Events, SocketEvent, StreamId};
 use dcsctp_send_streams::{OutgoingStream, QueuedMessage, Streams, UnderWay};

@@ -33,10 +33,11 @@ impl Model for SendQueue {
 
 impl SendQueue {
     ghost use Rattle.std.specs.Option.{option_map};
+    ghost use Rattle.std.specs.List.{list_all};
     ghost use Rattle.dcsctp_machine.specs.transfer.Messages.{message_content};
     ghost use Rattle.dcsctp_machine.specs.transfer.OwnResets.{queue_committed, queue_rolled_back, queue_handing_out, ready_streams, handing_out, prepared, prepare_events};
     ghost use Rattle.dcsctp_send_streams.specs.Fragment.{HasSize};
-    ghost use Rattle.std.specs.Prelude.{◌≡◌, ◌+◌, ◌-◌, ◌<◌, ◌++◌, vec_len, IfSome, OnOk, OnErr, IfOk, take, not};
+    ghost use Rattle.std.specs.Prelude.{◌≡◌, ◌+◌, ◌-◌, ◌<◌, ◌++◌, vec_len, true, IfSome, OnOk, OnErr, IfOk, take, not};
     ghost use Rattle.dcsctp_machine.specs.transfer.SendQueue.{empty_queue, IsWellFormed, restarted, has_data, changed, used, stream_of, numbered_for, queued, with_added, may_send, with_threshold, with_priority};
     ghost use Rattle.dcsctp_machine.specs.transfer.Transfer.{is_none_ready};
     ghost use Rattle.dcsctp_machine.specs.turns.SettingOutcomes.{stream_priority, stream_low_threshold, set_in_queue};
@@ -48,8 +49,8 @@ impl SendQueue {
     ghost use Rattle.dcsctp_send_queue.specs.Resets.{IsUsedAtMost};
     ghost use Rattle.dcsctp_machine.specs.Ids.{stream_numbers};
     ghost use Rattle.dcsctp_machine.specs.transfer.Readiness.{queue_readiness};
-    ghost use Rattle.dcsctp_machine.specs.transfer.QueuedParts.{with_queue};
-    ghost use Rattle.dcsctp_machine.specs.Snapshot.{send_part};
+    ghost use Rattle.dcsctp_machine.specs.transfer.QueuedParts.{with_queue, queue_restored};
+    ghost use Rattle.dcsctp_machine.specs.Snapshot.{send_part, is_valid_queued};
 
     /// A queue with no messages, which numbers them as for no interleaving. Allocates nothing.
     pub fn new(alloc: Global, options: &Options) -> SendQueue
@@ -237,6 +238,26 @@ impl SendQueue {
         tx.next_outgoing_message_id = self.backlog.next_message_id;
         tx.streams = streams;
         tx.queued_messages = messages;
+        Ok(())
+    }
+
+    /// Puts what the snapshot has, restored at the moment `now`, in the place of what waits. A message of
+    /// which a part was sent goes on there if it is the first of its stream, and no other goes on. Thresholds
+    /// stay, as do priorities of streams that the snapshot doesn't name. `Err`: an allocation failed, and only
+    /// some of it is restored.
+    pub fn restore_from_state(
+        &mut self,
+        now: SocketTime,
+        tx: &HandoverTransmission,
+    ) -> Result<(), AllocError>
+        requires { list_all is_valid_queued (send_part tx.now).queued_messages ≡ true }
+        ensures { OnOk result (self.new ≡ queue_restored now (send_part tx.now) self.old) }
+    {
+        self.backlog.empty();
+        self.backlog.restore_streams(tx.streams.as_slice())?;
+        self.backlog
+            .restore_messages(now, tx.queued_messages.as_slice())?;
+        self.backlog.next_message_id = tx.next_outgoing_message_id;
         Ok(())
     }
 

@@ -1,0 +1,9 @@
+use Rattle.dcsctp_machine.specs.transfer.QueuedParts.{stream_restored}
+use Rattle.dcsctp_send_queue.proofs.ResetLemmas.{change_used}
+use Rattle.dcsctp_send_queue.specs.Backlog.{queue_of}
+use Rattle.dcsctp_send_queue.proofs.backlog.Backlog.restore_stream.Goals as goal
+
+pub returns-clause-ok : goal.returns-clause-ok
+returns-clause-ok c =
+    change_used (queue_of c.args.self.now) (queue_of c.use_stream.new.self) c.in_ok-place.place c.args.named.now.id (stream_restored c.args.named.now) c.restore.new.self
+    c.in_ok-place.ensures.ok c.in_ok-place.ensures.ascending c.in_ok-place.ensures.place c.restore.ensures

@@ -1,0 +1,13 @@
+use Rattle.std.proofs.Common.{◌≡◌, drop}
+use Rattle.dcsctp_machine.specs.transfer.SendQueue.{CanGoOn}
+use Rattle.dcsctp_machine.specs.transfer.QueuedParts.{streams_restored}
+use Rattle.dcsctp_send_queue.specs.Backlog.{queue_of}
+use Rattle.dcsctp_send_queue.proofs.backlog.Backlog.restore_streams.Given as goal
+
+-- With the streams that are left, all are restored.
+abbrev pub invariant-loop-named : goal.invariant-loop-named
+invariant-loop-named l =
+    record {
+      queue : streams_restored (drop l.named-index l.list) (queue_of l.self) ≡ streams_restored l.list (queue_of l.initial.self);
+      can : CanGoOn l.initial.self.streams l.initial.self.under_way → CanGoOn l.self.streams l.self.under_way;
+    }

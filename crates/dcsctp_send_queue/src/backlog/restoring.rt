@@ -1,0 +1,145 @@
+//! What waits again once a snapshot is restored.
+
+ghost use Rattle.std.specs.Prelude.{◌≡◌};
+ghost use Rattle.dcsctp_machine.specs.SnapshotItems.{queued_part};
+ghost use Rattle.dcsctp_machine.specs.transfer.QueuedParts.{progress_again};
+
+use super::Backlog;
+use dcsctp_api::{SocketTime, StreamId};
+use dcsctp_machine::{HandoverOutgoingStream, HandoverStreamMessage};
+use dcsctp_send_streams::{QueuedMessage, UnderWay};
+use std::alloc::AllocError;
+
+// How far a message has come of which a part was sent.
+fn progress_again(part: &HandoverStreamMessage) -> UnderWay
+    ensures { result ≡ progress_again (queued_part part.now) }
+{
+    UnderWay {
+        stream_id: StreamId(part.stream_id),
+        ssn: part.ssn.unwrap_or(0),
+        mid: part.mid.unwrap_or(0),
+        next_fsn: part.fsn,
+        sent: part.remaining_offset,
+    }
+}
+
+impl Backlog {
+    ghost use Rattle.std.specs.Prelude.{◌≡◌, ◌+◌, ◌-◌, ◌^◌, ◌<◌, true, is_some, [], ◌∷◌, min, map, length, OnOk, OnErr};
+    ghost use Rattle.std.specs.List.{list_all};
+    ghost use Rattle.dcsctp_send_queue.specs.Backlog.{queue_of};
+    ghost use Rattle.dcsctp_machine.specs.SnapshotItems.{queued_part};
+    ghost use Rattle.dcsctp_machine.specs.Snapshot.{is_valid_queued};
+    ghost use Rattle.dcsctp_machine.specs.transfer.OwnResets.{with_used};
+    ghost use Rattle.dcsctp_machine.specs.transfer.SendQueue.{CanGoOn, changed, stream_of};
+    ghost use Rattle.dcsctp_machine.specs.transfer.SendStreams.{front_of};
+    ghost use Rattle.dcsctp_machine.specs.transfer.QueuedParts.{queue_emptied, streams_restored, goes_on, with_rest, message_restored, messages_restored};
+
+    /// Drops all messages. The streams keep their priorities and their thresholds.
+    pub fn empty(&mut self)
+        ensures value { queue_of self.new ≡ queue_emptied (queue_of self.old) }
+        ensures can { CanGoOn self.new.streams self.new.under_way }
+    {
+        self.streams.empty_all();
+        self.under_way = None;
+        self.total_amount = 0;
+    }
+
+    // Gives a stream the numbers and the priority that the snapshot has. `Err`: an allocation failed.
+    fn restore_stream(&mut self, named: &HandoverOutgoingStream) -> Result<(), AllocError>
+        ensures ok { OnOk result (queue_of self.new ≡ streams_restored (named.now ∷ []) (queue_of self.old)) }
+        ensures can { CanGoOn self.old.streams self.old.under_way → CanGoOn self.new.streams self.new.under_way }
+    {
+        let place = self.use_stream(StreamId(named.id))?;
+        self.streams.restore(place, named);
+        Ok(())
+    }
+
+    /// Gives the streams the numbers and the priorities that the snapshot has. `Err`: an allocation failed.
+    pub fn restore_streams(&mut self, list: &[HandoverOutgoingStream]) -> Result<(), AllocError>
+        ensures ok { OnOk result (queue_of self.new ≡ streams_restored list.now (queue_of self.old)) }
+        ensures can { CanGoOn self.old.streams self.old.under_way → CanGoOn self.new.streams self.new.under_way }
+    {
+        for named in list {
+            self.restore_stream(named)?;
+        }
+        Ok(())
+    }
+
+    // Does a message wait on the stream?
+    fn has_message(&self, stream_id: StreamId) -> bool
+        ensures { result ≡ is_some (front_of (stream_of (queue_of self.now) stream_id.0).messages) }
+    {
+        match self.streams.find(stream_id) {
+            Ok(place) => self.streams.at(place).front().is_some(),
+            Err(_) => false,
+        }
+    }
+
+    // Does the message go on where it was?
+    fn goes_on(&self, part: &HandoverStreamMessage) -> bool
+        ensures { result ≡ goes_on (queued_part part.now) (queue_of self.now) }
+    {
+        part.remaining_offset > 0
+            && self.under_way.is_none()
+            && !self.has_message(StreamId(part.stream_id))
+    }
+
+    // Puts a message behind the others of its stream, of which so many bytes are to be sent. `Err`: an
+    // allocation failed.
+    fn put_rest(
+        &mut self,
+        stream_id: StreamId,
+        message: QueuedMessage,
+        rest: usize,
+    ) -> Result<(), AllocError>
+        ensures ok { OnOk result (queue_of self.new ≡ record (with_used stream_id.0 (queue_of self.old)) {
+          streams = changed stream_id.0 (with_rest message rest) (with_used stream_id.0 (queue_of self.old)).streams;
+          total_amount = min (self.old.total_amount + rest) (2 ^ 64 - 1);
+        }) }
+        ensures can { CanGoOn self.old.streams self.old.under_way → CanGoOn self.new.streams self.new.under_way }
+    {
+        let place = self.use_stream(stream_id)?;
+        self.streams.push_rest(place, message, rest)?;
+        self.total_amount = self.total_amount.saturating_add(rest);
+        Ok(())
+    }
+
+    // Puts a message of the snapshot behind the others of its stream. `Err`: an allocation failed.
+    fn restore_message(
+        &mut self,
+        now: SocketTime,
+        part: &HandoverStreamMessage,
+    ) -> Result<(), AllocError>
+        requires { part.now.remaining_offset < length part.now.payload.items }
+        ensures ok { OnOk result (queue_of self.new ≡ message_restored now (queued_part part.now) (queue_of self.old)) }
+        ensures can { CanGoOn self.old.streams self.old.under_way → CanGoOn self.new.streams self.new.under_way }
+    {
+        let stream_id = StreamId(part.stream_id);
+        let goes_on = self.goes_on(part);
+        let message = QueuedMessage::from_handover(self.alloc, now, part)?;
+        if goes_on {
+            let rest = part.payload.len() - part.remaining_offset;
+            self.put_rest(stream_id, message, rest)?;
+            self.under_way = Some(progress_again(part));
+        } else {
+            self.put_rest(stream_id, message, part.payload.len())?;
+        }
+        Ok(())
+    }
+
+    /// Puts the messages of the snapshot behind the others of their streams. `Err`: an allocation failed.
+    pub fn restore_messages(
+        &mut self,
+        now: SocketTime,
+        parts: &[HandoverStreamMessage],
+    ) -> Result<(), AllocError>
+        requires { list_all is_valid_queued (map queued_part parts.now) ≡ true }
+        ensures ok { OnOk result (queue_of self.new ≡ messages_restored now (map queued_part parts.now) (queue_of self.old)) }
+        ensures can { CanGoOn self.old.streams self.old.under_way → CanGoOn self.new.streams self.new.under_way }
+    {
+        for part in parts {
+            self.restore_message(now, part)?;
+        }
+        Ok(())
+    }
+}
