@@ -13,6 +13,7 @@ pub mod Messages
 pub mod NextItem
 pub mod Numbers
 pub mod Outstanding
+pub mod OutstandingParts
 pub mod OwnResets
 pub mod Progress
 pub mod QueuedParts
