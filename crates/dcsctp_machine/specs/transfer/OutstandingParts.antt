@@ -121,5 +121,6 @@ retransmission_restored now tx state =
         items = items_again now tx.outstanding_data;
       };
       congestion = record state.congestion { cwnd = tx.cwnd; ssthresh = tx.ssthresh; partial_bytes_acked = tx.partial_bytes_acked };
+      peer_window = tx.rwnd;
       timer = timer_with now (items_again now tx.outstanding_data) state.timer;
     }
