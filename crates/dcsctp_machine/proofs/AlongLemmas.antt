@@ -1,5 +1,5 @@
 -- What holds of each turn of a socket that may come, whatever goes in, holds along each call and each run.
-use Rattle.std.proofs.Common.{◌≡◌, ℕ, Bool, true, false, Option, None, Some, List, [], ◌∷◌, ◌++◌, map, sym, subst}
+use Rattle.std.proofs.Common.{◌≡◌, ℕ, zero, suc, Bool, true, false, Option, None, Some, List, [], ◌∷◌, ◌++◌, map, sym, subst}
 use Rattle.std.specs.Prelude.{nat_le, if◌then◌else◌}
 use Rattle.std.specs.List.{AllByRecursion}
 use Rattle.dcsctp_machine.specs.declared.options.Options.{Options}
@@ -7,13 +7,14 @@ use Rattle.dcsctp_machine.specs.declared.schedule.Side.{Side}
 use Rattle.dcsctp_machine.specs.declared.schedule.Side.TheVariants as sides
 use Rattle.dcsctp_machine.specs.declared.ends.AbortReason.TheVariants.{CloseCalled, TooManyErrors}
 use Rattle.dcsctp_machine.specs.declared.ends.AbortReason.{AbortReason}
-use Rattle.dcsctp_machine.specs.Schedule.{connect_call, close_call, shutdown_call, advance_call, set_call, send_call, send_many_call, reset_call, take_call, StepContent, call_step, delivery_step, OutsideContent, input_outside, ActContent, step_act, outside_act}
+use Rattle.dcsctp_machine.specs.Schedule.{connect_call, close_call, shutdown_call, advance_call, set_call, send_call, send_many_call, reset_call, take_call, hand_over_call, StepContent, call_step, delivery_step, OutsideContent, input_outside, ActContent, step_act, outside_act}
 use Rattle.dcsctp_wire.specs.Content.{ChunkContent}
 use Rattle.dcsctp_machine.specs.Packet.{Content, init, init_ack, cookie_echo, cookie_ack, re_config, abort, shutdown, shutdown_ack, shutdown_complete, plain, Packet, content_in, packet_in}
 use Rattle.dcsctp_machine.specs.Admission.{Admission, all_chunks, shutdown_acks_alone, refused, admits, shutdown_acks_in}
 use Rattle.dcsctp_machine.specs.Endpoint.{Endpoint, Core, closed, cookie_wait, cookie_echoed, open_in, fresh_endpoint}
 use Rattle.dcsctp_machine.specs.Following.{Following, next_chunk, packet_end, dropped_rest}
 use Rattle.dcsctp_machine.specs.control.Acts.{connect, abort_with, t1_expires, shut_down, shutdown_repeats, flushes}
+use Rattle.dcsctp_machine.specs.control.Acts as acts
 use Rattle.dcsctp_machine.specs.Turn.{Input, arrival, refusal, packet_begins, chunk_input, packet_ends, act_input, user_sets, user_sends, user_resets, user_takes, timer_expires, time_passes, unreadable_text}
 use Rattle.dcsctp_machine.specs.TimeTurns.{Timer, t1_timer, own_timer, t2_timer, timers_in, deadline, has_come, has_restart, t2_input, expiry_input, inputs_behind, after_expiries, ExpiryThen, ExpiryTurns, MomentTurns, TimeTurns}
 use Rattle.dcsctp_machine.specs.turns.HeartbeatOutcomes.{is_exhausted}
@@ -21,7 +22,8 @@ use Rattle.dcsctp_machine.specs.turns.MessageOutcomes.{Sending, sending_of}
 use Rattle.dcsctp_machine.specs.turns.OwnTimers.{OwnTimer}
 use Rattle.dcsctp_machine.specs.turns.SettingOutcomes.{Setting}
 use Rattle.dcsctp_machine.specs.CallTurns.{Turned, IsTurn, Turns, AlongTurns, AfterChunk, ChunkTurns, WholeTurns, AdmittedTurns, HandleInput, unreadable, readable, after_all}
-use Rattle.dcsctp_machine.specs.Sockets.{Both, of_side, of_other, StepTurns, DeliveryTurns, numbered, with_turns, Worked, SocketRun, turns_after, endpoint_after, packets_shown, side_of_act, OutsideTurns, TurnsOfAct}
+use Rattle.dcsctp_machine.specs.Handover.{readiness_of}
+use Rattle.dcsctp_machine.specs.Sockets.{inputs_of_handover, Both, of_side, of_other, StepTurns, DeliveryTurns, numbered, with_turns, Worked, SocketRun, turns_after, endpoint_after, packets_shown, side_of_act, OutsideTurns, TurnsOfAct}
 
 pub along_append : (Good : Endpoint → Turned → Type 0) (e : Endpoint) (xs ys : List Turned) → AlongTurns Good e xs → AlongTurns Good (after_all e xs) ys → AlongTurns Good e (xs ++ ys)
 along_append Good e [] ys first second = second
@@ -46,6 +48,7 @@ pub record MayCome (May : Input → Type 0) : Type 0 where
   pub sends : (messages : List Sending) → May (user_sends messages)
   pub resets : (ids : List ℕ) → May (user_resets ids)
   pub takes : May user_takes
+  pub hands_over : May (act_input acts.hands_over)
   pub own_expires : (timer : OwnTimer) → May (timer_expires timer)
   pub passes : (moment : ℕ) → May (time_passes moment)
 
@@ -70,6 +73,7 @@ anything_may_come =
       sends = λ messages. tt;
       resets = λ ids. tt;
       takes = tt;
+      hands_over = tt;
       own_expires = λ timer. tt;
       passes = λ moment. tt;
     }
@@ -119,6 +123,10 @@ behind_may May come e (open_in phase my held) = too_many_may May come (is_exhaus
 after_may : (May : Input → Type 0) → MayCome May → (e : Endpoint) (has_expired : Bool) → AllByRecursion May (after_expiries e has_expired)
 after_may May come e false = tt
 after_may May come e true = behind_may May come e e.core
+
+handover_may : (May : Input → Type 0) → MayCome May → (readiness : ℕ) → AllByRecursion May (inputs_of_handover readiness)
+handover_may May come zero = (come.hands_over, tt)
+handover_may May come (suc reasons) = tt
 
 -- ---- each call
 
@@ -210,6 +218,7 @@ module _ (Good : Endpoint → Turned → Type 0) (May : Input → Type 0) (come 
       turns_along e (user_sends (map (sending_of options) messages) ∷ []) ts (come.sends (map (sending_of options) messages), tt) turns
   step_along e packets (call_step side (reset_call ids)) ts turns = turns_along e (user_resets ids ∷ []) ts (come.resets ids, tt) turns
   step_along e packets (call_step side take_call) ts turns = turns_along e (user_takes ∷ []) ts (come.takes, tt) turns
+  step_along e packets (call_step side hand_over_call) ts turns = turns_along e (inputs_of_handover (readiness_of e)) ts (handover_may May come (readiness_of e)) turns
   step_along e packets (delivery_step side number) ts turns = delivery_along e (numbered number packets) ts turns
 
   outside_along : (e : Endpoint) (outside : OutsideContent) (ts : List Turned) → OutsideTurns e outside ts → AlongTurns Good e ts

@@ -1,4 +1,4 @@
--- The own abort at an endpoint is a turn of its association.
+-- The own abort at an endpoint is a turn of its association, and so is a handover.
 use Rattle.std.proofs.Common.{◌≡◌, Bool, true, false, List, [], ◌∷◌, refl, sym, subst, ap}
 use Rattle.std.specs.Prelude.{if◌then◌else◌}
 use Rattle.dcsctp_machine.specs.declared.association.Held.{Held}
@@ -6,12 +6,13 @@ use Rattle.dcsctp_machine.specs.declared.ends.AbortReason.{AbortReason}
 use Rattle.dcsctp_machine.specs.declared.ends.AbortReason.TheVariants as reasons
 use Rattle.dcsctp_machine.specs.Cause.{causes_of}
 use Rattle.dcsctp_machine.specs.Packet.{abort}
-use Rattle.dcsctp_machine.specs.Endpoint.{Endpoint, Core, closed, cookie_wait, cookie_echoed, open_in}
+use Rattle.dcsctp_machine.specs.Endpoint.{Endpoint, Core, closed, cookie_wait, cookie_echoed, open_in, established, shutdown_pending, shutdown_sent, shutdown_received, shutdown_ack_sent}
 use Rattle.dcsctp_machine.specs.Outcome.{Outcome, quiet, sends, fits}
 use Rattle.dcsctp_machine.specs.turns.EndOutcomes.{ended_outcome, end_of, abort_to, aborting_outcome}
+use Rattle.dcsctp_machine.specs.turns.HandoverOutcomes.{hand_over_outcome}
 use Rattle.dcsctp_machine.specs.control.Effect.{ended, emitted_alone}
 use Rattle.dcsctp_machine.specs.control.Choices.{Choices}
-use Rattle.dcsctp_machine.specs.control.Acts.{abort_with, act_change}
+use Rattle.dcsctp_machine.specs.control.Acts.{abort_with, hands_over, act_change}
 use Rattle.dcsctp_machine.specs.Controlled.{Sign, packet_sent, has_ended, signs_of_events, IsControlled, ControlledAct}
 use Rattle.dcsctp_machine.proofs.ControlHandshake.{no_choices, still_controlled}
 
@@ -38,3 +39,19 @@ aborting_at e (open_in phase my held) reason is = (no_choices e (fits e (abort_t
 
 pub aborting_controlled : (e : Endpoint) (o : Outcome) (reason : AbortReason) → o ≡ aborting_outcome e e.core reason → ControlledAct e (abort_with reason) o
 aborting_controlled e o reason turn = subst (ControlledAct e (abort_with reason)) (sym turn) (aborting_at e e.core reason refl)
+
+-- ---- a handover
+
+hand_over_at : (e : Endpoint) (core : Core) → e.core ≡ core
+    → (choices : Choices) × IsControlled e (hand_over_outcome e core) (act_change e.options core hands_over choices)
+hand_over_at e closed is = (no_choices e true, still_controlled e closed is)
+hand_over_at e (cookie_wait my) is = (no_choices e true, still_controlled e (cookie_wait my) is)
+hand_over_at e (cookie_echoed my held cookie) is = (no_choices e true, still_controlled e (cookie_echoed my held cookie) is)
+hand_over_at e (open_in established my held) is = (no_choices e true, record { core = refl; options = refl; signs = refl; effects = refl; following = refl })
+hand_over_at e (open_in shutdown_pending my held) is = (no_choices e true, still_controlled e (open_in shutdown_pending my held) is)
+hand_over_at e (open_in shutdown_sent my held) is = (no_choices e true, still_controlled e (open_in shutdown_sent my held) is)
+hand_over_at e (open_in shutdown_received my held) is = (no_choices e true, still_controlled e (open_in shutdown_received my held) is)
+hand_over_at e (open_in shutdown_ack_sent my held) is = (no_choices e true, still_controlled e (open_in shutdown_ack_sent my held) is)
+
+pub hand_over_controlled : (e : Endpoint) (o : Outcome) → o ≡ hand_over_outcome e e.core → ControlledAct e hands_over o
+hand_over_controlled e o turn = subst (ControlledAct e hands_over) (sym turn) (hand_over_at e e.core refl)

@@ -27,7 +27,7 @@ use Rattle.dcsctp_machine.proofs.PlainLemmas.{plain_controlled}
 use Rattle.dcsctp_machine.proofs.ResetLemmas.{reset_controlled}
 use Rattle.dcsctp_machine.proofs.LawLemmas.{names_read_back}
 use Rattle.dcsctp_machine.proofs.ControlHandshake.{choices_of, ControlledAt, still_controlled, init_ack_controlled, cookie_ack_controlled, abort_controlled, connect_controlled}
-use Rattle.dcsctp_machine.proofs.ControlEnds.{aborting_controlled}
+use Rattle.dcsctp_machine.proofs.ControlEnds.{aborting_controlled, hand_over_controlled}
 use Rattle.dcsctp_machine.proofs.ShutdownLemmas.{step_controlled, shut_down_controlled, shutdown_controlled, shutdown_ack_controlled, shutdown_complete_controlled, t2_again_controlled, repeated_controlled}
 use Rattle.dcsctp_machine.proofs.TimerLemmas.{t1_again_controlled, t1_gives_up_controlled}
 use Rattle.dcsctp_machine.proofs.ControlEcho.{cookie_echo_controlled}
@@ -187,6 +187,6 @@ acts_are_controlled e shut_down o turn = shut_down_controlled e o turn
 acts_are_controlled e step_of_shutdown o turn = step_controlled e o turn
 acts_are_controlled e shutdown_repeats o turn = t2_again_controlled e o turn
 acts_are_controlled e (abort_with reason) o turn = aborting_controlled e o reason turn
-acts_are_controlled e hands_over o turn = turn
+acts_are_controlled e hands_over o turn = hand_over_controlled e o turn
 acts_are_controlled e flushes o turn = flushed_act e o (flush_turn_at e o turn)
 acts_are_controlled e (request_again reset) o turn = turn

@@ -13,6 +13,7 @@ pub mod Reconfiguration
 pub mod Settings
 pub mod Snapshot
 pub mod SnapshotItems
+pub mod SocketSnapshot
 pub mod Schedule
 pub mod Sockets
 pub mod Timers

@@ -31,6 +31,8 @@ pub data CallContent : Type 0 where
   reset_call : List ℕ → CallContent
   -- The message that became ready first is taken.
   take_call : CallContent
+  -- The socket is handed over to another process.
+  hand_over_call : CallContent
 
 -- a step of a schedule
 pub data StepContent : Type 0 where
@@ -62,6 +64,7 @@ call_content (calls.Send message options) = send_call (message_content message) 
 call_content (calls.SendMany messages options) = send_many_call (map message_content messages.items) options
 call_content (calls.ResetStreams ids) = reset_call (stream_numbers ids.items)
 call_content calls.GetNextMessage = take_call
+call_content calls.GetHandoverStateAndClose = hand_over_call
 
 abbrev pub step_content : Step → StepContent
 step_content (steps.Call side call) = call_step side (call_content call)

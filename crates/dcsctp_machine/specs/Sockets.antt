@@ -7,14 +7,15 @@ use Rattle.dcsctp_machine.specs.declared.ends.AbortReason.TheVariants.{CloseCall
 use Rattle.dcsctp_machine.specs.declared.options.Options.{Options}
 use Rattle.dcsctp_machine.specs.declared.schedule.Side.{Side}
 use Rattle.dcsctp_machine.specs.declared.schedule.Side.TheVariants as sides
-use Rattle.dcsctp_machine.specs.Schedule.{CallContent, connect_call, close_call, shutdown_call, StepContent, call_step, delivery_step, OutsideContent, input_outside, ActContent, step_act, outside_act, advance_call, set_call, send_call, send_many_call, reset_call, take_call}
+use Rattle.dcsctp_machine.specs.Schedule.{CallContent, connect_call, close_call, shutdown_call, StepContent, call_step, delivery_step, OutsideContent, input_outside, ActContent, step_act, outside_act, advance_call, set_call, send_call, send_many_call, reset_call, take_call, hand_over_call}
 use Rattle.dcsctp_machine.specs.Settings.{ports_of}
 use Rattle.dcsctp_machine.specs.Event.{Event, event_map, packets_in}
 use Rattle.dcsctp_machine.specs.Packet.{emission_bytes}
 use Rattle.dcsctp_machine.specs.Endpoint.{Endpoint, fresh_endpoint, association_of}
-use Rattle.dcsctp_machine.specs.Turn.{act_input, user_sets, user_sends, user_resets, user_takes}
+use Rattle.dcsctp_machine.specs.Handover.{readiness_of}
+use Rattle.dcsctp_machine.specs.Turn.{Input, act_input, user_sets, user_sends, user_resets, user_takes}
 use Rattle.dcsctp_machine.specs.turns.MessageOutcomes.{sending_of}
-use Rattle.dcsctp_machine.specs.control.Acts.{connect, shut_down, abort_with}
+use Rattle.dcsctp_machine.specs.control.Acts.{connect, shut_down, abort_with, hands_over}
 use Rattle.dcsctp_machine.specs.TimeTurns.{AdvanceTurns}
 use Rattle.dcsctp_machine.specs.CallTurns.{Turned, Turns, HandleInput, after_all, events_of}
 
@@ -44,6 +45,11 @@ abbrev pub DeliveryTurns : Endpoint → Option (List ℕ) → List Turned → Ty
 DeliveryTurns e None turns = turns ≡ []
 DeliveryTurns e (Some bytes) turns = HandleInput e bytes turns
 
+-- A socket that isn't ready isn't handed over, and nothing happens.
+abbrev pub inputs_of_handover : ℕ → List Input
+inputs_of_handover zero = act_input hands_over ∷ []
+inputs_of_handover (suc reasons) = []
+
 -- the outcome of a user's call
 abbrev pub UserTurns : Endpoint → CallContent → List Turned → Type 0
 UserTurns e connect_call turns = Turns e (act_input connect ∷ []) turns
@@ -55,6 +61,7 @@ UserTurns e (send_call message options) turns = Turns e (user_sends (sending_of 
 UserTurns e (send_many_call messages options) turns = Turns e (user_sends (map (sending_of options) messages) ∷ []) turns
 UserTurns e (reset_call ids) turns = Turns e (user_resets ids ∷ []) turns
 UserTurns e take_call turns = Turns e (user_takes ∷ []) turns
+UserTurns e hand_over_call turns = Turns e (inputs_of_handover (readiness_of e)) turns
 
 abbrev pub side_of : StepContent → Side
 side_of (call_step side call) = side

@@ -4,6 +4,7 @@ use Rattle.dcsctp_machine.specs.declared.kinds.ErrorKind.TheVariants.{ParseFaile
 use Rattle.dcsctp_machine.specs.Packet.{Content, init, init_ack, cookie_echo, cookie_ack, re_config, abort, shutdown, shutdown_ack, shutdown_complete, plain, is_data}
 use Rattle.dcsctp_machine.specs.Endpoint.{Endpoint, Core, open_in, shutdown_sent}
 use Rattle.dcsctp_machine.specs.Outcome.{Outcome, still, count_up, reports}
+use Rattle.dcsctp_machine.specs.turns.HandoverOutcomes.{hand_over_outcome}
 use Rattle.dcsctp_machine.specs.turns.HandshakeOutcomes.{InitTurn, ConnectTurn, InitAckTurn, CookieAckTurn}
 use Rattle.dcsctp_machine.specs.turns.CookieEchoOutcomes.{CookieEchoTurn}
 use Rattle.dcsctp_machine.specs.turns.EndOutcomes.{abort_outcome, aborting_outcome}
@@ -92,7 +93,7 @@ ActTurn e shut_down o = o ≡ shut_down_outcome e e.core
 ActTurn e step_of_shutdown o = o ≡ step_outcome e e.core
 ActTurn e shutdown_repeats o = o ≡ t2_again_outcome e
 ActTurn e (abort_with reason) o = o ≡ aborting_outcome e e.core reason
-ActTurn e hands_over o = ControlledAct e hands_over o
+ActTurn e hands_over o = o ≡ hand_over_outcome e e.core
 ActTurn e flushes o = FlushTurn e o
 ActTurn e (request_again reset) o = ControlledAct e (request_again reset) o
 

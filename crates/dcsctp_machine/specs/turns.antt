@@ -3,6 +3,7 @@ pub mod CookieEchoOutcomes
 pub mod DataOutcomes
 pub mod EndOutcomes
 pub mod FlushOutcomes
+pub mod HandoverOutcomes
 pub mod HandshakeOutcomes
 pub mod HeartbeatOutcomes
 pub mod MessageOutcomes

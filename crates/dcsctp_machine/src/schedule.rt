@@ -54,6 +54,9 @@ pub enum Call {
 
     /// It takes the message that became ready first.
     GetNextMessage,
+
+    /// It hands its socket over to another process.
+    GetHandoverStateAndClose,
 }
 
 // The same numbers.
@@ -99,6 +102,7 @@ impl Call {
             }
             Call::ResetStreams(ids) => Ok(Call::ResetStreams(copied_streams(ids)?)),
             Call::GetNextMessage => Ok(Call::GetNextMessage),
+            Call::GetHandoverStateAndClose => Ok(Call::GetHandoverStateAndClose),
         }
     }
 }

@@ -8,6 +8,7 @@ mod ExpiryMoves
 pub mod Follow
 mod FlushFits
 mod Fresh
+mod HandoverTurns
 mod HandshakeEnds
 mod HandshakeReads
 mod HandshakeRuns

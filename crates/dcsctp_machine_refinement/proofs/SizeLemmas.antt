@@ -17,6 +17,7 @@ use Rattle.dcsctp_machine.specs.CallTurns.{Turned, IsTurn, AlongTurns, events_of
 use Rattle.dcsctp_machine.specs.Sockets.{of_side, turns_after}
 use Rattle.dcsctp_machine.proofs.AlongLemmas.{run_along_where}
 use Rattle.dcsctp_machine_refinement.specs.OneSocket.{IsWithinLimit, SocketsKeepSizes}
+use Rattle.dcsctp_machine_refinement.proofs.HandoverTurns.{hand_over_sizes}
 use Rattle.dcsctp_machine_refinement.proofs.Sizes.{AtLimit, AllShort, TurnSizes, short_append}
 use Rattle.dcsctp_machine_refinement.proofs.SizesChunks.{timer_sizes, reset_sizes, plain_sizes}
 use Rattle.dcsctp_machine_refinement.proofs.SizesData.{flush_turn_sizes, end_sizes, take_sizes, send_sizes, resets_sizes}
@@ -46,7 +47,7 @@ act_sizes limit e shut_down o may turn h = subst (TurnSizes limit) (sym turn) (s
 act_sizes limit e step_of_shutdown o may turn h = subst (TurnSizes limit) (sym turn) (step_sizes limit e e.core h)
 act_sizes limit e shutdown_repeats o may turn h = subst (TurnSizes limit) (sym turn) (t2_again_sizes limit e h)
 act_sizes limit e (abort_with reason) o may turn h = subst (TurnSizes limit) (sym turn) (aborting_sizes limit e e.core reason h)
-act_sizes limit e hands_over o may turn h = absurd may
+act_sizes limit e hands_over o may turn h = hand_over_sizes limit e o turn h
 act_sizes limit e flushes o may turn h = flush_turn_sizes limit e o turn h
 act_sizes limit e (request_again reset) o may turn h = absurd may
 

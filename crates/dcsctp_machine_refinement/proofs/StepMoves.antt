@@ -5,7 +5,7 @@ use Rattle.std.specs.List.{slice_get}
 use Rattle.dcsctp_machine.specs.declared.ends.AbortReason.{AbortReason}
 use Rattle.dcsctp_machine.specs.declared.ends.AbortReason.TheVariants.{CloseCalled}
 use Rattle.dcsctp_machine.specs.declared.options.Options.{Options}
-use Rattle.dcsctp_machine.specs.Schedule.{connect_call, close_call, shutdown_call, advance_call, set_call, send_call, send_many_call, reset_call, take_call, StepContent, call_step, delivery_step}
+use Rattle.dcsctp_machine.specs.Schedule.{connect_call, close_call, shutdown_call, advance_call, set_call, send_call, send_many_call, reset_call, take_call, hand_over_call, StepContent, call_step, delivery_step}
 use Rattle.dcsctp_machine.specs.Settings.{FitsOptions}
 use Rattle.dcsctp_machine.specs.Endpoint.{Endpoint}
 use Rattle.dcsctp_machine.specs.Turn.{Input, act_input, user_sets, user_sends, user_resets, user_takes}
@@ -17,12 +17,14 @@ use Rattle.dcsctp_machine.specs.turns.MessageOutcomes.{Sending, sending_of}
 use Rattle.dcsctp_machine.specs.Fitting.{FitsEndpoint, TurnFits}
 use Rattle.dcsctp_machine.specs.CallTurns.{Turned, IsTurn, Turns}
 use Rattle.dcsctp_machine.specs.control.Effect.{Effect, unchanged}
-use Rattle.dcsctp_machine.specs.control.Acts.{shut_down, abort_with, flushes}
+use Rattle.dcsctp_machine.specs.control.Acts.{shut_down, abort_with, hands_over, flushes}
 use Rattle.dcsctp_machine.specs.World.{SideState}
-use Rattle.dcsctp_machine.specs.Sockets.{endpoint_after, packets_shown, StepTurns}
+use Rattle.dcsctp_machine.specs.Handover.{readiness_of}
+use Rattle.dcsctp_machine.specs.Sockets.{inputs_of_handover, endpoint_after, packets_shown, StepTurns}
 use Rattle.dcsctp_machine.proofs.DataLemmas.{flushed_act, send_at, resets_at, take_at}
 use Rattle.dcsctp_machine_refinement.proofs.DataFits.{send_fits, resets_fits, take_fits}
 use Rattle.dcsctp_machine_refinement.proofs.Aborting.{aborting_fits}
+use Rattle.dcsctp_machine_refinement.proofs.HandoverTurns.{hand_over_fits}
 use Rattle.dcsctp_machine_refinement.proofs.ShutdownFits.{shut_down_fits}
 use Rattle.dcsctp_machine_refinement.proofs.Follow.{Followed, after_last, follow_idle}
 use Rattle.dcsctp_machine_refinement.proofs.TimeMoves.{clock_follows}
@@ -43,6 +45,16 @@ shut_down_moves : Below → (options : Options) (turns : List Turned) (side : Si
 shut_down_moves law options turns side theirs more h turn =
     let e : Endpoint = endpoint_after options turns in
     act_moves law options turns side theirs shut_down more (λ p q core choices. refl) h (λ o is. subst TurnFits (sym is) (shut_down_fits e e.core h.fits h.fits.core)) turn
+
+-- ---- a handover
+
+-- Nothing happens if the socket isn't ready.
+hand_over_moves : Below → (options : Options) (turns : List Turned) (side : SideState) (theirs : List Effect) (readiness : ℕ) (more : List Turned) → Followed options turns side
+    → Turns (endpoint_after options turns) (inputs_of_handover readiness) more → SideMoves options turns side theirs more
+hand_over_moves law options turns side theirs zero more h turn =
+    act_moves law options turns side theirs hands_over more (λ p q core choices. refl) h (λ o is. hand_over_fits (endpoint_after options turns) o is h.fits) turn
+hand_over_moves law options turns side theirs (suc reasons) [] h turn = nothing_happens options turns side theirs [] h refl
+hand_over_moves law options turns side theirs (suc reasons) (t ∷ more) h turn = absurd turn
 
 -- ---- the time
 
@@ -153,6 +165,8 @@ step_moves law options other turns others side theirs (call_step which (send_man
     send_moves law options turns side theirs.past (map (sending_of how) messages) more h done
 step_moves law options other turns others side theirs (call_step which (reset_call ids)) more h k fits done = resets_moves law options turns side theirs.past ids more h done
 step_moves law options other turns others side theirs (call_step which take_call) more h k fits done = take_moves law options turns side theirs.past more h done
+step_moves law options other turns others side theirs (call_step which hand_over_call) more h k fits done =
+    hand_over_moves law options turns side theirs.past (readiness_of (endpoint_after options turns)) more h done
 step_moves law options other turns others side theirs (delivery_step which zero) more h k fits done = nothing_happens options turns side theirs.past more h done
 step_moves law options other turns others side theirs (delivery_step which (suc index)) more h k fits done =
     delivery_moves law options other turns others side theirs index (slice_get (packets_shown other others) index) more h k fits refl done

@@ -12,6 +12,7 @@ use Rattle.dcsctp_machine.specs.CallTurns.{Turned, IsTurn, AlongTurns, after_all
 use Rattle.dcsctp_machine.specs.Sockets.{of_side, turns_after}
 use Rattle.dcsctp_machine.proofs.AlongLemmas.{MayCome, run_along_where}
 use Rattle.dcsctp_machine_refinement.specs.Deadlines.{SocketsRunT1}
+use Rattle.dcsctp_machine_refinement.proofs.HandoverTurns.{hand_over_up}
 use Rattle.dcsctp_machine_refinement.proofs.Resets.{reset_up}
 use Rattle.dcsctp_machine_refinement.proofs.T1Turns.{Up, UpAfter, init_up, connect_up, init_ack_up, cookie_ack_up, echo_up, abort_up, aborting_up, again_up, gives_up_up}
 use Rattle.dcsctp_machine_refinement.proofs.T1Chunks.{plain_up, timer_up}
@@ -23,7 +24,6 @@ use Rattle.dcsctp_machine_refinement.proofs.T1Data.{flush_turn_up, end_up, take_
 
 -- an act that a call or a timer brings
 abbrev pub IsMade : Act → Type 0
-IsMade hands_over = ⊥
 IsMade (request_again reset) = ⊥
 IsMade act = Unit {0}
 
@@ -49,6 +49,7 @@ these_may_come =
       sends = λ messages. tt;
       resets = λ ids. tt;
       takes = tt;
+      hands_over = tt;
       own_expires = λ timer. tt;
       passes = λ moment. tt;
     }
@@ -79,7 +80,7 @@ act_up e shut_down o may turn h = subst UpAfter (sym turn) (shut_down_up e e.cor
 act_up e step_of_shutdown o may turn h = subst UpAfter (sym turn) (step_up e e.core h)
 act_up e shutdown_repeats o may turn h = subst UpAfter (sym turn) (t2_again_up e h)
 act_up e (abort_with reason) o may turn h = subst UpAfter (sym turn) (aborting_up e e.core reason h)
-act_up e hands_over o may turn h = absurd may
+act_up e hands_over o may turn h = hand_over_up e o turn h
 act_up e flushes o may turn h = flush_turn_up e o turn h
 act_up e (request_again reset) o may turn h = absurd may
 
