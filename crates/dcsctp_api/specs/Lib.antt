@@ -1,6 +1,7 @@
 pub mod Calls
 pub mod Cookie
 pub mod Events
+pub mod Handover
 pub mod Messages
 pub mod Metrics
 pub mod Resets

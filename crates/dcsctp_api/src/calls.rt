@@ -1,7 +1,8 @@
 //! The calls of a socket.
 
-ghost use Rattle.std.specs.Prelude.{◌≡◌, true, false, IsOk, ◌<◌, map, length};
+ghost use Rattle.std.specs.Prelude.{◌≡◌, ◌≢◌, true, false, IsOk, ◌<◌, map, length};
 ghost use Rattle.dcsctp_api.specs.Calls.{UserView, PollsEvent, HandlesInput, Connects, Closes, ShutsDown, takes_shutdown, Sets, with_setting, stream_shown, is_closed, socket_state_of};
+ghost use Rattle.dcsctp_api.specs.Handover.{HandsOver};
 ghost use Rattle.dcsctp_api.specs.Messages.{Sends, SendsMany, TakesNext, ready_messages, incoming_streams};
 ghost use Rattle.dcsctp_machine.specs.transfer.Incoming.{AreInOrder};
 ghost use Rattle.dcsctp_machine.specs.transfer.SendQueue.{IsWellFormed};
@@ -14,11 +15,13 @@ ghost use Rattle.dcsctp_machine.specs.turns.SettingOutcomes.{stream_priority, st
 ghost use Rattle.dcsctp_machine.specs.TimeTurns.{Waits, next_moment};
 ghost use Rattle.dcsctp_api.specs.Time.{Advances, OnlyMovesClock};
 
-use crate::errors::{BatchSendError, ResetStreamsError, SendError, SocketFault};
+use crate::errors::{BatchSendError, HandoverError, ResetStreamsError, SendError, SocketFault};
 use crate::events::SocketEvent;
 use crate::metrics::Metrics;
 use crate::state::SocketState;
-use dcsctp_machine::{HandoverReadiness, Message, Options, SendOptions, SocketTime, StreamId};
+use dcsctp_machine::{
+    HandoverReadiness, Message, Options, SendOptions, SocketHandoverState, SocketTime, StreamId,
+};
 
 /// The calls of an SCTP socket that makes no system call: packets go in, events come out.
 ///
@@ -152,11 +155,28 @@ pub trait DcSctpSocket {
 
     /// Why the socket can't be handed over to another process now. A closed socket can; else an association has
     /// to be established, and nothing of it may be unfinished. With the option
-    /// `enable_handover_with_outstanding_data` what is sent may be. Messages that are ready make no difference:
-    /// take them first. Of what was received, each stream stands once. Allocates nothing.
+    /// `enable_handover_with_outstanding_data` what is sent may be unfinished. Messages that are ready make no
+    /// difference, but a handover loses them: take them first. Of what was received, each stream stands once.
+    /// Allocates nothing.
     fn get_handover_readiness(&self) -> HandoverReadiness
         ensures reasons { result.0 ≡ readiness_of (user_view self.now).endpoint }
         ensures streams { AreInOrder (incoming_streams (user_view self.now).endpoint) };
+
+    /// Hands the socket over to another process: returns its snapshot, from which a socket there is restored,
+    /// and ends the association here. The peer isn't told, and the last event is `SocketEvent::OnClosed`. The
+    /// snapshot has what is sent as well, with the option `enable_handover_with_outstanding_data`. What waits
+    /// stays here too, so don't use this socket for the same messages again. On a closed socket the snapshot is
+    /// that of a closed one, and nothing happens.
+    ///
+    /// `HandoverError::NotReady`: the socket can't be handed over now, for the reasons that
+    /// `get_handover_readiness` gives. Nothing has changed, and nothing is allocated. If an allocation fails,
+    /// nothing has changed but that the socket has failed.
+    fn get_handover_state_and_close(
+        &mut self,
+    ) -> Result<Result<SocketHandoverState, HandoverError>, SocketFault>
+        ensures call { HandsOver (user_view self.old) result (user_view self.new) }
+        ensures refused { (user_view self.old).failed ≡ false
+            → readiness_of (user_view self.old).endpoint ≢ 0 → IsOk result };
 
     /// The state of the association.
     fn state(&self) -> SocketState

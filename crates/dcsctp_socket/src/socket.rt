@@ -3,10 +3,11 @@
 ghost use Rattle.dcsctp_socket.specs.SocketView.{Settles};
 
 use dcsctp_api::{
-    Association, BatchSendError, DcSctpSocket, HandoverReadiness, Message, Metrics, Options, Pair,
+    Association, BatchSendError, DcSctpSocket, HandoverError, HandoverReadiness, Message, Metrics, Options, Pair,
     ResetStreamsError, SendError, SendOptions, SocketEvent, SocketFault, SocketState, SocketTime,
     StreamId,
 };
+use dcsctp_api::handover::SocketHandoverState;
 use dcsctp_core::Context;
 use dcsctp_core_decisions::poll_timeout;
 use dcsctp_machine::time_passes_quietly;
@@ -118,11 +119,13 @@ impl<R: Rng + Drop> Socket<R> {
 }
 
 impl<R: Rng + Drop> DcSctpSocket for Socket<R> {
-    ghost use Rattle.std.specs.Prelude.{◌≡◌, ◌<◌, true, false, map, IsOk, OnOk, IsErrOf};
+    ghost use Rattle.std.specs.Prelude.{◌≡◌, ◌≢◌, ◌<◌, true, false, map, IsOk, OnOk, IsErrOf};
     ghost use Rattle.dcsctp_api.specs.Calls.{PollsEvent, HandlesInput, Connects, Closes, ShutsDown, takes_shutdown, Sets, with_setting, is_closed};
     ghost use Rattle.dcsctp_machine.specs.turns.SettingOutcomes.{stream_priority, stream_low_threshold, longest_message};
     ghost use Rattle.dcsctp_machine.specs.TimeTurns.{Waits, next_moment};
     ghost use Rattle.dcsctp_api.specs.Time.{Advances, OnlyMovesClock};
+    ghost use Rattle.dcsctp_api.specs.Handover.{HandsOver};
+    ghost use Rattle.dcsctp_machine.specs.Handover.{readiness_of};
     ghost use Rattle.dcsctp_api.specs.Messages.{Sends, SendsMany, TakesNext};
     ghost use Rattle.dcsctp_api.specs.Resets.{ResetsOwn};
     ghost use Rattle.dcsctp_machine.specs.Ids.{stream_numbers};
@@ -308,6 +311,25 @@ impl<R: Rng + Drop> DcSctpSocket for Socket<R> {
 
     fn get_handover_readiness(&self) -> HandoverReadiness {
         self.context.get_handover_readiness()
+    }
+
+    fn get_handover_state_and_close(
+        &mut self,
+    ) -> Result<Result<SocketHandoverState, HandoverError>, SocketFault>
+        ensures call { HandsOver (user_view_of self.old) result (user_view_of self.new) }
+        ensures refused { self.old.failed ≡ false → readiness_of self.old.view.endpoint ≢ 0
+            → IsOk result }
+        // The words are what the generator gave, in order.
+        ensures drawn { OnOk result (Drawn (R.stream self.old.view.generator) self.new.view.words
+            (R.stream self.new.view.generator)) }
+        ensures failed { IsErrOf result SocketFault.Failed → self.new ≡ self.old }
+    {
+        // A socket that has failed is not handed over.
+        if self.failed {
+            return Err(SocketFault::Failed);
+        }
+        let outcome = dcsctp_socket_calls::get_handover_state_and_close(&mut self.context);
+        settled(&mut self.failed, outcome)
     }
 
     fn state(&self) -> SocketState {

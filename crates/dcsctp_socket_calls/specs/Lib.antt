@@ -1,3 +1,4 @@
+pub mod HandoverParts
 pub mod MessageParts
 pub mod Parts
 pub mod ResetParts

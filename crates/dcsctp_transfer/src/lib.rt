@@ -4,6 +4,7 @@
 #![tactic(auto)]
 
 mod forwarding;
+mod handover;
 mod queued_messages;
 mod receiving;
 mod resets;

@@ -1,6 +1,6 @@
 -- How one side grows in an act.
 use Rattle.std.specs.Prelude.{◌≡◌, ℕ, true, false, Option, None, Some, Result, Ok, Err, List, [], ◌∷◌, ◌++◌, ◌⊎◌, map, length}
-use Rattle.dcsctp_machine.specs.Schedule.{CallContent, connect_call, close_call, shutdown_call, ActContent, call_step, delivery_step, step_act, advance_call, set_call, send_call, send_many_call, reset_call, take_call, OutsideContent, input_outside, outside_act}
+use Rattle.dcsctp_machine.specs.Schedule.{CallContent, connect_call, close_call, shutdown_call, ActContent, call_step, delivery_step, step_act, advance_call, set_call, send_call, send_many_call, reset_call, take_call, hand_over_call, OutsideContent, input_outside, outside_act}
 use Rattle.dcsctp_machine.specs.Event.{Event, packets_in}
 use Rattle.dcsctp_machine.specs.Endpoint.{Endpoint, association_of}
 use Rattle.dcsctp_machine.specs.Settings.{ports_of}
@@ -9,13 +9,14 @@ use Rattle.dcsctp_machine.specs.Sockets.{numbered}
 use Rattle.dcsctp_api.specs.declared.errors.SocketFault.{SocketFault}
 use Rattle.dcsctp_api.specs.declared.errors.SocketFault.TheVariants.{OutOfMemory, Failed}
 use Rattle.dcsctp_api.specs.Calls.{UserView, user_event, Follows}
+use Rattle.dcsctp_api.specs.Handover.{IsHandoverAnswer}
 use Rattle.dcsctp_api.specs.Messages.{refusal_in, IsBatchAnswer, ready_messages, IsFirst}
 use Rattle.dcsctp_api.specs.Resets.{reset_refusal_in}
 use Rattle.dcsctp_machine.specs.transfer.Messages.{MessageContent}
 use Rattle.dcsctp_machine.specs.turns.MessageOutcomes.{MessageRefusal, message_refusal, sending_of, RefusedMessage, refused_from}
 use Rattle.dcsctp_machine.specs.turns.PreparedResets.{ResetRefusal, reset_refusal}
 use Rattle.dcsctp_world.specs.declared.act.Reply.{Reply}
-use Rattle.dcsctp_world.specs.declared.act.Reply.TheVariants.{NoCall, Done, Sent, SentMany, Reset, Taken}
+use Rattle.dcsctp_world.specs.declared.act.Reply.TheVariants.{NoCall, Done, Sent, SentMany, Reset, Taken, HandedOver}
 use Rattle.dcsctp_world.specs.Shown.{SideShown}
 
 -- The new list begins with the old one.
@@ -97,6 +98,7 @@ WasCalled (Sent answer) = Unit {0}
 WasCalled (SentMany answer) = Unit {0}
 WasCalled (Reset answer) = Unit {0}
 WasCalled (Taken message) = Unit {0}
+WasCalled (HandedOver answer) = Unit {0}
 
 -- Turns of this kind move the socket, and each list grows by what they show; no event waits. If a call was made, its words and
 -- pairs are theirs; if none was, nothing changed.
@@ -198,6 +200,11 @@ abbrev pub IsTaken : List MessageContent → Reply → Type 0
 IsTaken ready (Taken message) = IsFirst ready message
 IsTaken ready reply = ⊥
 
+-- It is what `get_handover_state_and_close` answers.
+abbrev pub IsHandedOver : Endpoint → Reply → Type 0
+IsHandedOver e (HandedOver answer) = IsHandoverAnswer e answer
+IsHandedOver e reply = ⊥
+
 -- It is what a call of this endpoint's user answers.
 abbrev pub IsCallReply : Endpoint → CallContent → Reply → Type 0
 IsCallReply e connect_call reply = reply ≡ Done
@@ -209,6 +216,7 @@ IsCallReply e (send_call message options) reply = IsSent (message_refusal e mess
 IsCallReply e (send_many_call messages options) reply = IsSentMany (refused_from 0 e (map (sending_of options) messages)) reply
 IsCallReply e (reset_call ids) reply = IsReset (reset_refusal e) reply
 IsCallReply e take_call reply = IsTaken (ready_messages e) reply
+IsCallReply e hand_over_call reply = IsHandedOver e reply
 
 -- It is what an act from outside answers.
 abbrev pub IsOutsideReply : OutsideContent → Reply → Type 0

@@ -4,7 +4,8 @@ ghost use Rattle.std.specs.Prelude.{◌≡◌, ◌↔◌, IsTrue, map};
 ghost use Rattle.dcsctp_machine.specs.Schedule.{act_content, AreHonest};
 ghost use Rattle.dcsctp_machine.specs.Sockets.{side_of_act};
 
-use dcsctp_api::{BatchSendError, Message, ResetStreamsError, SendError};
+use dcsctp_api::handover::SocketHandoverState;
+use dcsctp_api::{BatchSendError, HandoverError, Message, ResetStreamsError, SendError};
 use dcsctp_machine::{Act, Outside, Side, Step};
 
 /// What the call of an act answered.
@@ -27,6 +28,9 @@ pub enum Reply {
 
     /// What `get_next_message` answered.
     Taken(Option<Message>),
+
+    /// What `get_handover_state_and_close` answered.
+    HandedOver(Result<SocketHandoverState, HandoverError>),
 }
 
 /// The side at which an act happens.

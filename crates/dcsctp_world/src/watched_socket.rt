@@ -3,7 +3,7 @@
 ghost use Rattle.std.specs.Prelude.{◌≡◌, [], ◌∷◌, map, IfOk, IsErrOf, IsOkUnless};
 ghost use Rattle.std.specs.Option.{option_map};
 ghost use Rattle.dcsctp_machine.specs.Settings.{IsValid};
-ghost use Rattle.dcsctp_machine.specs.Schedule.{call_content, act_content, send_call, send_many_call, reset_call, take_call};
+ghost use Rattle.dcsctp_machine.specs.Schedule.{call_content, act_content, send_call, send_many_call, reset_call, take_call, hand_over_call};
 ghost use Rattle.dcsctp_machine.specs.Ids.{stream_numbers};
 ghost use Rattle.dcsctp_machine.specs.transfer.Messages.{message_content};
 ghost use Rattle.dcsctp_machine.specs.CallTurns.{HandleInput};
@@ -122,6 +122,7 @@ fn make_call<R: Rng + Drop>(socket: &mut Socket<R>, call: &Call) -> Result<Reply
         Call::SendMany(messages, options) => send_many(socket, messages, options),
         Call::ResetStreams(stream_ids) => reset_streams(socket, stream_ids),
         Call::GetNextMessage => take_message(socket),
+        Call::GetHandoverStateAndClose => hand_over(socket),
     }
 }
 
@@ -189,6 +190,17 @@ fn take_message<R: Rng + Drop>(socket: &mut Socket<R>) -> Result<Reply, SocketFa
         return Err(SocketFault::Failed);
     }
     Ok(Reply::Taken(socket.get_next_message()))
+}
+
+// The user hands the socket over. The errors are those of the call.
+fn hand_over<R: Rng + Drop>(socket: &mut Socket<R>) -> Result<Reply, SocketFault>
+    ensures call { Called (UserTurns socket.old.view.endpoint hand_over_call)
+        (IsCallReply socket.old.view.endpoint hand_over_call)
+        (user_view_of socket.old) result (user_view_of socket.new) }
+    ensures failed { IsErrOf result SocketFault.Failed → socket.new ≡ socket.old }
+{
+    let answer = socket.get_handover_state_and_close()?;
+    Ok(Reply::HandedOver(answer))
 }
 
 // The packet of this number, counted from 1.

@@ -1,0 +1,27 @@
+-- What the calls that hand a socket over do.
+use Rattle.std.specs.Prelude.{◌≡◌, ◌≢◌, Result, Ok, Err, List}
+use Rattle.dcsctp_machine.specs.Endpoint.{Endpoint}
+use Rattle.dcsctp_machine.specs.Handover.{readiness_of}
+use Rattle.dcsctp_machine.specs.Snapshot.{snapshot}
+use Rattle.dcsctp_machine.specs.SocketSnapshot.{snapshot_of}
+use Rattle.dcsctp_machine.specs.Sockets.{inputs_of_handover}
+use Rattle.dcsctp_machine.specs.CallTurns.{Turned, Turns}
+use Rattle.dcsctp_machine.specs.declared.snapshot.SocketHandoverState.{SocketHandoverState}
+use Rattle.dcsctp_api.specs.declared.errors.HandoverError.{HandoverError}
+use Rattle.dcsctp_api.specs.declared.errors.HandoverError.TheVariants.{NotReady}
+use Rattle.dcsctp_api.specs.declared.errors.SocketFault.{SocketFault}
+use Rattle.dcsctp_api.specs.declared.errors.SocketFault.TheVariants.{OutOfMemory, Failed}
+use Rattle.dcsctp_api.specs.Calls.{UserView, Follows, FailsWhole, StaysFailed}
+
+-- What is answered: the snapshot of a socket that is ready, or why it isn't.
+abbrev pub IsHandoverAnswer : Endpoint → Result SocketHandoverState HandoverError → Type 0
+IsHandoverAnswer e (Ok state) = (readiness_of e ≡ 0) × (snapshot state ≡ snapshot_of e)
+IsHandoverAnswer e (Err (NotReady readiness)) = (readiness_of e ≢ 0) × (readiness.0 ≡ readiness_of e)
+
+-- The call has the turns of a handover, and returns what it has to. Or an allocation failed, and nothing else has changed.
+abbrev pub HandsOver : UserView → Result (Result SocketHandoverState HandoverError) SocketFault → UserView → Type 0
+HandsOver old (Ok answer) new =
+    IsHandoverAnswer old.endpoint answer
+    × (turns : List Turned) × Turns old.endpoint (inputs_of_handover (readiness_of old.endpoint)) turns × Follows old turns new
+HandsOver old (Err OutOfMemory) new = FailsWhole old new
+HandsOver old (Err Failed) new = StaysFailed old new

@@ -1,0 +1,23 @@
+-- What the call that hands a socket over does, by its parts.
+use Rattle.std.specs.Prelude.{◌≡◌, Result, Ok, Err, List}
+use Rattle.rand_core.specs.Stream.{Stream}
+use Rattle.dcsctp_machine.specs.Endpoint.{Endpoint}
+use Rattle.dcsctp_machine.specs.Handover.{readiness_of}
+use Rattle.dcsctp_machine.specs.Sockets.{inputs_of_handover}
+use Rattle.dcsctp_machine.specs.CallTurns.{Turned, Turns}
+use Rattle.dcsctp_machine.specs.declared.snapshot.SocketHandoverState.{SocketHandoverState}
+use Rattle.dcsctp_api.specs.declared.errors.HandoverError.{HandoverError}
+use Rattle.dcsctp_api.specs.Handover.{IsHandoverAnswer}
+use Rattle.dcsctp_core.specs.declared.context.Context.{Context}
+use Rattle.dcsctp_core.specs.View.{view_of, call_start}
+use Rattle.dcsctp_socket_calls.specs.Parts.{CallMoved}
+
+-- the turns of a handover
+abbrev pub HandoverTurns : Endpoint → List Turned → Type 0
+HandoverTurns e turns = Turns e (inputs_of_handover (readiness_of e)) turns
+
+-- The socket was handed over, or that was refused, as the result says. Or an allocation failed, and nothing has changed.
+abbrev pub WorksHandover : {R E : Type 0} → (R → Stream) → Context R → Result (Result SocketHandoverState HandoverError) E → Context R → Type 0
+WorksHandover stream old (Ok answer) new =
+    IsHandoverAnswer (view_of old).endpoint answer × CallMoved stream HandoverTurns (view_of old) (view_of new)
+WorksHandover stream old (Err error) new = view_of new ≡ call_start (view_of old)
