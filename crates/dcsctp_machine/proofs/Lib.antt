@@ -38,6 +38,7 @@ pub mod LostOutcomes
 pub mod MarkedItemLemmas
 pub mod MayBeWorkedLemmas
 pub mod MessageFacts
+pub mod OutstandingPartFacts
 pub mod PackedLemmas
 pub mod PacketLengths
 pub mod PackingLemmas
