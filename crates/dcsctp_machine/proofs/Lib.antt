@@ -24,6 +24,7 @@ pub mod FlushLemmas
 pub mod ForwardEntries
 pub mod ForwardOutcomes
 pub mod GivingUpOutcomes
+pub mod HandoverFacts
 pub mod HandshakeFacts
 pub mod HandshakeTurnFacts
 pub mod HeartbeatFacts

@@ -1,5 +1,5 @@
 -- Outside examples of specs/Lifetimes.
-use Rattle.std.proofs.Common.{◌≡◌, ℤ, pos, negsuc, ◌-◌, ◌+◌, ◌*◌, ◌^◌, refl}
+use Rattle.std.proofs.Common.{◌≡◌, pos, negsuc, ◌-◌, ◌*◌, ◌^◌, refl}
 use Rattle.dcsctp_machine.specs.Lifetimes.{millis_ahead, moment_at}
 
 now_is_not_over : millis_ahead 5 5 ≡ pos 0

@@ -1,7 +1,7 @@
 -- Outside examples of specs/transfer/QueuedParts: two messages wait on stream 1, of which three bytes of the first were sent.
-use Rattle.std.proofs.Common.{◌≡◌, ℕ, negsuc, pos, true, false, None, Some, List, [], ◌∷◌, refl}
+use Rattle.std.proofs.Common.{◌≡◌, true, false, None, Some, [], ◌∷◌, refl}
 use Rattle.dcsctp_machine.specs.declared.sending.Pause.TheVariants.{Open}
-use Rattle.dcsctp_machine.specs.Snapshot.{SendPart, empty_send_part}
+use Rattle.dcsctp_machine.specs.Snapshot.{empty_send_part}
 use Rattle.dcsctp_machine.specs.transfer.QueuedParts.{with_queue, queue_restored}
 use Rattle.dcsctp_machine.specs.transfer.SendQueue.{SendQueueState}
 use Rattle.dcsctp_machine.specs.transfer.SendStreams.{Stream, Waiting}

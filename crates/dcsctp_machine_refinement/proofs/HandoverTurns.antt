@@ -1,5 +1,5 @@
 -- A handover leaves numbers that fit their fields and no packet, and T1 runs after it if it has to.
-use Rattle.std.proofs.Common.{ℕ, List, [], sym, subst}
+use Rattle.std.proofs.Common.{ℕ, [], sym, subst}
 use Rattle.dcsctp_machine.specs.Event as events
 use Rattle.dcsctp_machine.specs.Endpoint.{Endpoint, Core, closed, cookie_wait, cookie_echoed, open_in, established, shutdown_pending, shutdown_sent, shutdown_received, shutdown_ack_sent}
 use Rattle.dcsctp_machine.specs.Fitting.{FitsEndpoint, TurnFits}

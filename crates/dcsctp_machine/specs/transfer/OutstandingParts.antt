@@ -7,7 +7,7 @@ use Rattle.dcsctp_machine.specs.Lifetimes.{millisecond, millis_ahead, moment_at}
 use Rattle.dcsctp_machine.specs.Snapshot.{SendPart}
 use Rattle.dcsctp_machine.specs.SnapshotItems.{OutstandingPart}
 use Rattle.dcsctp_machine.specs.transfer.Items.{Item}
-use Rattle.dcsctp_machine.specs.transfer.Outstanding.{OutstandingState, next_tsn}
+use Rattle.dcsctp_machine.specs.transfer.Outstanding.{next_tsn}
 use Rattle.dcsctp_machine.specs.transfer.Progress.{is_marked, is_abandoned}
 use Rattle.dcsctp_machine.specs.transfer.QueuedParts.{no_limit, limit_of, name_of}
 use Rattle.dcsctp_machine.specs.transfer.Retransmission.{RetransmissionState, timer_with}

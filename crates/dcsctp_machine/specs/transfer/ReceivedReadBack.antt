@@ -1,9 +1,9 @@
 -- What a snapshot has of what was received reads back.
-use Rattle.std.specs.Prelude.{◌≡◌, ℕ, ◌+◌, ◌%◌, ◌^◌, List, [], ◌∷◌}
+use Rattle.std.specs.Prelude.{◌≡◌, ℕ, ◌+◌, ◌%◌, ◌^◌, []}
 use Rattle.dcsctp_machine.specs.declared.options.Options.{Options}
 use Rattle.dcsctp_machine.specs.Snapshot.{ReceivePart}
 use Rattle.dcsctp_machine.specs.transfer.Incoming.{stream_on}
-use Rattle.dcsctp_machine.specs.transfer.IncomingStreams.{StreamModel, new_stream}
+use Rattle.dcsctp_machine.specs.transfer.IncomingStreams.{new_stream}
 use Rattle.dcsctp_machine.specs.transfer.Reassembly.{ReassemblyState}
 use Rattle.dcsctp_machine.specs.transfer.ReceivedParts.{with_tracker, tracker_restored, with_reassembly, restored_stream}
 use Rattle.dcsctp_machine.specs.transfer.Tracker.{TrackerState, new_tracker, is_new_tsn}
