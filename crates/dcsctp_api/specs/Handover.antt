@@ -1,17 +1,19 @@
--- What the calls that hand a socket over do.
-use Rattle.std.specs.Prelude.{◌≡◌, ◌≢◌, Result, Ok, Err, List}
-use Rattle.dcsctp_machine.specs.Endpoint.{Endpoint}
+-- What the calls that hand a socket over and restore it do.
+use Rattle.std.specs.Prelude.{◌≡◌, ◌≢◌, ◌⊎◌, true, false, Result, Ok, Err, List, []}
+use Rattle.dcsctp_machine.specs.Endpoint.{Endpoint, Core}
 use Rattle.dcsctp_machine.specs.Handover.{readiness_of}
-use Rattle.dcsctp_machine.specs.Snapshot.{snapshot}
+use Rattle.dcsctp_machine.specs.Snapshot.{Snapshot, snapshot}
 use Rattle.dcsctp_machine.specs.SocketSnapshot.{snapshot_of}
-use Rattle.dcsctp_machine.specs.Sockets.{inputs_of_handover}
+use Rattle.dcsctp_machine.specs.Sockets.{inputs_of_handover, inputs_of_restore}
 use Rattle.dcsctp_machine.specs.CallTurns.{Turned, Turns}
 use Rattle.dcsctp_machine.specs.declared.snapshot.SocketHandoverState.{SocketHandoverState}
 use Rattle.dcsctp_api.specs.declared.errors.HandoverError.{HandoverError}
 use Rattle.dcsctp_api.specs.declared.errors.HandoverError.TheVariants.{NotReady}
+use Rattle.dcsctp_api.specs.declared.errors.RestoreError.{RestoreError}
+use Rattle.dcsctp_api.specs.declared.errors.RestoreError.TheVariants.{SocketNotClosed}
 use Rattle.dcsctp_api.specs.declared.errors.SocketFault.{SocketFault}
 use Rattle.dcsctp_api.specs.declared.errors.SocketFault.TheVariants.{OutOfMemory, Failed}
-use Rattle.dcsctp_api.specs.Calls.{UserView, Follows, FailsWhole, StaysFailed}
+use Rattle.dcsctp_api.specs.Calls.{UserView, Follows, FailsWhole, RanOut, StaysFailed, is_closed}
 
 -- What is answered: the snapshot of a socket that is ready, or why it isn't.
 abbrev pub IsHandoverAnswer : Endpoint → Result SocketHandoverState HandoverError → Type 0
@@ -25,3 +27,19 @@ HandsOver old (Ok answer) new =
     × (turns : List Turned) × Turns old.endpoint (inputs_of_handover (readiness_of old.endpoint)) turns × Follows old turns new
 HandsOver old (Err OutOfMemory) new = FailsWhole old new
 HandsOver old (Err Failed) new = StaysFailed old new
+
+-- What is answered: only a closed socket is restored.
+abbrev pub IsRestoreAnswer : Core → Result (Unit {0}) RestoreError → Type 0
+IsRestoreAnswer core (Ok done) = is_closed core ≡ true
+IsRestoreAnswer core (Err SocketNotClosed) = is_closed core ≡ false
+
+-- the turns of a restore
+abbrev pub RestoreTurns : Endpoint → Snapshot → List Turned → Type 0
+RestoreTurns e state turns = Turns e (inputs_of_restore e.core state) turns
+
+-- The call has the turns of a restore, and returns what it has to. Or an allocation failed, and the first of the call's events may
+-- have been added.
+abbrev pub Restores : Snapshot → UserView → Result (Result (Unit {0}) RestoreError) SocketFault → UserView → Type 0
+Restores state old (Ok answer) new = IsRestoreAnswer old.endpoint.core answer × (turns : List Turned) × RestoreTurns old.endpoint state turns × Follows old turns new
+Restores state old (Err OutOfMemory) new = RanOut old (λ turns. (turns ≡ []) ⊎ RestoreTurns old.endpoint state turns) new
+Restores state old (Err Failed) new = StaysFailed old new

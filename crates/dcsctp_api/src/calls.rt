@@ -1,8 +1,8 @@
 //! The calls of a socket.
 
-ghost use Rattle.std.specs.Prelude.{◌≡◌, ◌≢◌, true, false, IsOk, ◌<◌, map, length};
+ghost use Rattle.std.specs.Prelude.{◌≡◌, ◌≢◌, [], true, false, IsOk, ◌<◌, map, length};
 ghost use Rattle.dcsctp_api.specs.Calls.{UserView, PollsEvent, HandlesInput, Connects, Closes, ShutsDown, takes_shutdown, Sets, with_setting, stream_shown, is_closed, socket_state_of};
-ghost use Rattle.dcsctp_api.specs.Handover.{HandsOver};
+ghost use Rattle.dcsctp_api.specs.Handover.{HandsOver, Restores};
 ghost use Rattle.dcsctp_api.specs.Messages.{Sends, SendsMany, TakesNext, ready_messages, incoming_streams};
 ghost use Rattle.dcsctp_machine.specs.transfer.Incoming.{AreInOrder};
 ghost use Rattle.dcsctp_machine.specs.transfer.SendQueue.{IsWellFormed};
@@ -10,12 +10,16 @@ ghost use Rattle.dcsctp_api.specs.Metrics.{ShowsMetrics};
 ghost use Rattle.dcsctp_api.specs.Resets.{ResetsOwn};
 ghost use Rattle.dcsctp_machine.specs.Handover.{readiness_of};
 ghost use Rattle.dcsctp_machine.specs.Ids.{stream_numbers};
+ghost use Rattle.dcsctp_machine.specs.Snapshot.{snapshot, is_valid_snapshot};
+ghost use Rattle.dcsctp_machine.specs.Sockets.{inputs_of_restore};
 ghost use Rattle.dcsctp_machine.specs.transfer.Messages.{message_content};
 ghost use Rattle.dcsctp_machine.specs.turns.SettingOutcomes.{stream_priority, stream_low_threshold, longest_message};
 ghost use Rattle.dcsctp_machine.specs.TimeTurns.{Waits, next_moment};
 ghost use Rattle.dcsctp_api.specs.Time.{Advances, OnlyMovesClock};
 
-use crate::errors::{BatchSendError, HandoverError, ResetStreamsError, SendError, SocketFault};
+use crate::errors::{
+    BatchSendError, HandoverError, ResetStreamsError, RestoreError, SendError, SocketFault,
+};
 use crate::events::SocketEvent;
 use crate::metrics::Metrics;
 use crate::state::SocketState;
@@ -177,6 +181,24 @@ pub trait DcSctpSocket {
         ensures call { HandsOver (user_view self.old) result (user_view self.new) }
         ensures refused { (user_view self.old).failed ≡ false
             → readiness_of (user_view self.old).endpoint ≢ 0 → IsOk result };
+
+    /// Restores a closed socket from a snapshot, which another socket with these options gave: its association
+    /// goes on here, with its tags, numbers and streams. The event is `SocketEvent::OnConnected`, and then what
+    /// waits is sent. What waited here before is dropped. No heartbeat is sent until data is. Use each
+    /// snapshot once: two sockets that go on from it confuse the peer. The snapshot of a closed socket changes
+    /// nothing.
+    ///
+    /// The snapshot has to be valid for the options of this socket, which `SocketHandoverState::is_valid` tells.
+    /// `RestoreError::SocketNotClosed`: the socket has an association, or begins one. Nothing has changed, and
+    /// nothing is allocated.
+    fn restore_from_state(
+        &mut self,
+        state: &SocketHandoverState,
+    ) -> Result<Result<(), RestoreError>, SocketFault>
+        requires { is_valid_snapshot (user_view self.old).endpoint.options (snapshot state.now) ≡ true }
+        ensures call { Restores (snapshot state.now) (user_view self.old) result (user_view self.new) }
+        ensures idle { (user_view self.old).failed ≡ false
+            → inputs_of_restore (user_view self.old).endpoint.core (snapshot state.now) ≡ [] → IsOk result };
 
     /// The state of the association.
     fn state(&self) -> SocketState

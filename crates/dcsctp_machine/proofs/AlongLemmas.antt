@@ -5,9 +5,11 @@ use Rattle.std.specs.List.{AllByRecursion}
 use Rattle.dcsctp_machine.specs.declared.options.Options.{Options}
 use Rattle.dcsctp_machine.specs.declared.schedule.Side.{Side}
 use Rattle.dcsctp_machine.specs.declared.schedule.Side.TheVariants as sides
+use Rattle.dcsctp_machine.specs.declared.snapshot.HandoverSocketState.{HandoverSocketState}
+use Rattle.dcsctp_machine.specs.declared.snapshot.HandoverSocketState.TheVariants as states
 use Rattle.dcsctp_machine.specs.declared.ends.AbortReason.TheVariants.{CloseCalled, TooManyErrors}
 use Rattle.dcsctp_machine.specs.declared.ends.AbortReason.{AbortReason}
-use Rattle.dcsctp_machine.specs.Schedule.{connect_call, close_call, shutdown_call, advance_call, set_call, send_call, send_many_call, reset_call, take_call, hand_over_call, StepContent, call_step, delivery_step, OutsideContent, input_outside, ActContent, step_act, outside_act}
+use Rattle.dcsctp_machine.specs.Schedule.{connect_call, close_call, shutdown_call, advance_call, set_call, send_call, send_many_call, reset_call, take_call, hand_over_call, StepContent, call_step, delivery_step, OutsideContent, input_outside, handover_outside, restore_outside, ActContent, step_act, outside_act}
 use Rattle.dcsctp_wire.specs.Content.{ChunkContent}
 use Rattle.dcsctp_machine.specs.Packet.{Content, init, init_ack, cookie_echo, cookie_ack, re_config, abort, shutdown, shutdown_ack, shutdown_complete, plain, Packet, content_in, packet_in}
 use Rattle.dcsctp_machine.specs.Admission.{Admission, all_chunks, shutdown_acks_alone, refused, admits, shutdown_acks_in}
@@ -15,7 +17,7 @@ use Rattle.dcsctp_machine.specs.Endpoint.{Endpoint, Core, closed, cookie_wait, c
 use Rattle.dcsctp_machine.specs.Following.{Following, next_chunk, packet_end, dropped_rest}
 use Rattle.dcsctp_machine.specs.control.Acts.{connect, abort_with, t1_expires, shut_down, shutdown_repeats, flushes}
 use Rattle.dcsctp_machine.specs.control.Acts as acts
-use Rattle.dcsctp_machine.specs.Turn.{Input, arrival, refusal, packet_begins, chunk_input, packet_ends, act_input, user_sets, user_sends, user_resets, user_takes, timer_expires, time_passes, unreadable_text}
+use Rattle.dcsctp_machine.specs.Turn.{Input, arrival, refusal, packet_begins, chunk_input, packet_ends, act_input, user_sets, user_sends, user_resets, user_takes, timer_expires, time_passes, restores, unreadable_text}
 use Rattle.dcsctp_machine.specs.TimeTurns.{Timer, t1_timer, own_timer, t2_timer, timers_in, deadline, has_come, has_restart, t2_input, expiry_input, inputs_behind, after_expiries, ExpiryThen, ExpiryTurns, MomentTurns, TimeTurns}
 use Rattle.dcsctp_machine.specs.turns.HeartbeatOutcomes.{is_exhausted}
 use Rattle.dcsctp_machine.specs.turns.MessageOutcomes.{Sending, sending_of}
@@ -23,7 +25,9 @@ use Rattle.dcsctp_machine.specs.turns.OwnTimers.{OwnTimer}
 use Rattle.dcsctp_machine.specs.turns.SettingOutcomes.{Setting}
 use Rattle.dcsctp_machine.specs.CallTurns.{Turned, IsTurn, Turns, AlongTurns, AfterChunk, ChunkTurns, WholeTurns, AdmittedTurns, HandleInput, unreadable, readable, after_all}
 use Rattle.dcsctp_machine.specs.Handover.{readiness_of}
-use Rattle.dcsctp_machine.specs.Sockets.{inputs_of_handover, Both, of_side, of_other, StepTurns, DeliveryTurns, numbered, with_turns, Worked, SocketRun, turns_after, endpoint_after, packets_shown, side_of_act, OutsideTurns, TurnsOfAct}
+use Rattle.dcsctp_machine.specs.Snapshot.{Snapshot, is_valid_snapshot}
+use Rattle.dcsctp_machine.specs.SocketSnapshot.{snapshot_of}
+use Rattle.dcsctp_machine.specs.Sockets.{inputs_of_handover, inputs_of_snapshot, inputs_of_restore, inputs_where_valid, inputs_of_both, Both, of_side, of_other, StepTurns, DeliveryTurns, numbered, with_turns, Worked, SocketRun, turns_after, endpoint_after, packets_shown, side_of_act, OutsideTurns, TurnsOfAct}
 
 pub along_append : (Good : Endpoint → Turned → Type 0) (e : Endpoint) (xs ys : List Turned) → AlongTurns Good e xs → AlongTurns Good (after_all e xs) ys → AlongTurns Good e (xs ++ ys)
 along_append Good e [] ys first second = second
@@ -49,6 +53,7 @@ pub record MayCome (May : Input → Type 0) : Type 0 where
   pub resets : (ids : List ℕ) → May (user_resets ids)
   pub takes : May user_takes
   pub hands_over : May (act_input acts.hands_over)
+  pub restored : (state : Snapshot) → May (restores state)
   pub own_expires : (timer : OwnTimer) → May (timer_expires timer)
   pub passes : (moment : ℕ) → May (time_passes moment)
 
@@ -74,6 +79,7 @@ anything_may_come =
       resets = λ ids. tt;
       takes = tt;
       hands_over = tt;
+      restored = λ state. tt;
       own_expires = λ timer. tt;
       passes = λ moment. tt;
     }
@@ -127,6 +133,24 @@ after_may May come e true = behind_may May come e e.core
 handover_may : (May : Input → Type 0) → MayCome May → (readiness : ℕ) → AllByRecursion May (inputs_of_handover readiness)
 handover_may May come zero = (come.hands_over, tt)
 handover_may May come (suc reasons) = tt
+
+snapshot_may : (May : Input → Type 0) → MayCome May → (connection : HandoverSocketState) (state : Snapshot) → AllByRecursion May (inputs_of_snapshot connection state)
+snapshot_may May come states.Closed state = tt
+snapshot_may May come states.Connected state = (come.restored state, (come.flushed, tt))
+
+restore_may : (May : Input → Type 0) → MayCome May → (core : Core) (state : Snapshot) → AllByRecursion May (inputs_of_restore core state)
+restore_may May come closed state = snapshot_may May come state.socket_state state
+restore_may May come (cookie_wait my) state = tt
+restore_may May come (cookie_echoed my held cookie) state = tt
+restore_may May come (open_in phase my held) state = tt
+
+valid_may : (May : Input → Type 0) → MayCome May → (is_valid : Bool) (core : Core) (state : Snapshot) → AllByRecursion May (inputs_where_valid is_valid core state)
+valid_may May come true core state = restore_may May come core state
+valid_may May come false core state = tt
+
+both_may : (May : Input → Type 0) → MayCome May → (readiness : ℕ) (is_valid : Bool) (state : Snapshot) → AllByRecursion May (inputs_of_both readiness is_valid state)
+both_may May come zero is_valid state = (come.hands_over, valid_may May come is_valid closed state)
+both_may May come (suc reasons) is_valid state = tt
 
 -- ---- each call
 
@@ -223,6 +247,11 @@ module _ (Good : Endpoint → Turned → Type 0) (May : Input → Type 0) (come 
 
   outside_along : (e : Endpoint) (outside : OutsideContent) (ts : List Turned) → OutsideTurns e outside ts → AlongTurns Good e ts
   outside_along e (input_outside side bytes) ts turns = input_along_where e bytes ts turns
+  outside_along e (handover_outside side) ts turns =
+      turns_along e (inputs_of_both (readiness_of e) (is_valid_snapshot e.options (snapshot_of e)) (snapshot_of e)) ts
+      (both_may May come (readiness_of e) (is_valid_snapshot e.options (snapshot_of e)) (snapshot_of e)) turns
+  outside_along e (restore_outside side state) ts turns =
+      turns_along e (inputs_where_valid (is_valid_snapshot e.options state) e.core state) ts (valid_may May come (is_valid_snapshot e.options state) e.core state) turns
 
   act_along_where : (e : Endpoint) (packets : List (List ℕ)) (act : ActContent) (ts : List Turned) → TurnsOfAct e packets act ts → AlongTurns Good e ts
   act_along_where e packets (step_act step) ts turns = step_along e packets step ts turns

@@ -11,6 +11,7 @@ pub mod ControlEnds
 pub mod ControlHandshake
 pub mod ControlInit
 pub mod ControlLemmas
+pub mod ControlRestores
 pub mod CookieEchoFacts
 pub mod DataLemmas
 pub mod DeliveryLemmas
@@ -59,6 +60,7 @@ pub mod ReportLemmas
 pub mod ResendingOutcomes
 pub mod ResetFacts
 pub mod ResetLemmas
+pub mod RestoreFacts
 pub mod SackLemmas
 pub mod SackOutcomeLemmas
 pub mod SendEventLemmas

@@ -9,7 +9,7 @@ use Rattle.dcsctp_machine.specs.Outcome.{Outcome}
 use Rattle.dcsctp_machine.specs.control.Acts.{Act, shutdown_repeats, flushes}
 use Rattle.dcsctp_machine.specs.turns.OwnTimers.{timer_act}
 use Rattle.dcsctp_machine.specs.Controlled.{ControlledAct}
-use Rattle.dcsctp_machine.specs.Turn.{Input, arrival, refusal, packet_begins, chunk_input, packet_ends, act_input, user_sets, user_sends, user_resets, user_takes, timer_expires, time_passes, Turn, BeginTurn, has_data}
+use Rattle.dcsctp_machine.specs.Turn.{Input, arrival, refusal, packet_begins, chunk_input, packet_ends, act_input, user_sets, user_sends, user_resets, user_takes, timer_expires, time_passes, restores, Turn, BeginTurn, has_data}
 use Rattle.dcsctp_machine.specs.CallTurns.{Turned, IsTurn, AlongTurns, after_all}
 use Rattle.dcsctp_machine.specs.Sockets.{Both, of_side, Worked, SocketRun, turns_after, endpoint_after, TurnsOfAct}
 use Rattle.dcsctp_machine.specs.Laws.{SocketsKeepOptions}
@@ -18,6 +18,7 @@ use Rattle.dcsctp_machine.proofs.DataLemmas.{flushed_act, end_at, take_at, send_
 use Rattle.dcsctp_machine.proofs.HeartbeatLemmas.{timer_controlled}
 use Rattle.dcsctp_machine.proofs.AlongLemmas.{act_along, run_along}
 use Rattle.dcsctp_machine.proofs.ControlLemmas.{begin_stands, acts_are_controlled}
+use Rattle.dcsctp_machine.proofs.ControlRestores.{restore_stands}
 
 -- ---- one socket
 
@@ -40,6 +41,7 @@ turn_keeps e (user_resets ids) o turn = kept_by_act e flushes o (flushed_act e o
 turn_keeps e user_takes o turn = kept_by_act e flushes o (flushed_act e o (take_at e e.below.transfer o turn))
 turn_keeps e (timer_expires timer) o turn = kept_by_act e (timer_act e timer) o (timer_controlled e timer o turn)
 turn_keeps e (time_passes moment) o turn = same_of_equal e.options o.after.options (ap (λ (x : Outcome). x.after.options) turn)
+turn_keeps e (restores state) o turn = elim (restore_stands e state o turn) [ inl rests ↦ same_of_equal e.options o.after.options (ap (λ (x : Outcome). x.after.options) rests) | inr resumes ↦ resumes.controlled.options ]
 
 -- ---- calls and runs
 

@@ -6,7 +6,7 @@ use Rattle.dcsctp_machine.specs.Packet.{Introduction, Content, init, init_ack, c
 use Rattle.dcsctp_machine.specs.Endpoint.{Endpoint, Core, closed, cookie_wait, cookie_echoed, open_in, established, shutdown_pending, shutdown_sent, shutdown_received, shutdown_ack_sent}
 use Rattle.dcsctp_machine.specs.declared.options.Options.{Options}
 use Rattle.dcsctp_machine.specs.Settings.{SameOptions, ports_of}
-use Rattle.dcsctp_machine.specs.control.Effect.{Effect, draws, sends, holds, connects, ends, begins, completes, fails, accepts, performs, drawn_in}
+use Rattle.dcsctp_machine.specs.control.Effect.{Effect, draws, sends, holds, connects, ends, begins, completes, fails, accepts, performs, resumes, drawn_in}
 use Rattle.dcsctp_machine.specs.Outcome.{Outcome, count_up, fits, emits}
 use Rattle.dcsctp_machine.specs.Following.{Following, next_chunk, packet_end, dropped_rest}
 use Rattle.dcsctp_machine.specs.Event.{Event, sent}
@@ -193,6 +193,7 @@ drawn_in-append (completes my number ∷ xs) ys = drawn_in-append xs ys
 drawn_in-append (fails number ∷ xs) ys = drawn_in-append xs ys
 drawn_in-append (accepts number ∷ xs) ys = drawn_in-append xs ys
 drawn_in-append (performs peer number ∷ xs) ys = drawn_in-append xs ys
+drawn_in-append (resumes link own last ∷ xs) ys = drawn_in-append xs ys
 
 pub pairs_of-append : (xs ys : List Turned) → pairs_of (xs ++ ys) ≡ pairs_of xs ++ pairs_of ys
 pairs_of-append xs ys = ap drawn_in (effects_of-append xs ys) ∙ drawn_in-append (effects_of xs) (effects_of ys)

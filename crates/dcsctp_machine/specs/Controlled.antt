@@ -8,7 +8,7 @@ use Rattle.dcsctp_machine.specs.Packet.{Content, Packet, Emission}
 use Rattle.dcsctp_machine.specs.Event.{Event, sent, connected, closed, aborted, streams_reset_failed, streams_reset_performed, incoming_stream_reset}
 use Rattle.dcsctp_machine.specs.Endpoint.{Endpoint}
 use Rattle.dcsctp_machine.specs.Outcome.{Outcome}
-use Rattle.dcsctp_machine.specs.control.Effect.{Effect, draws, sends, holds, connects, ends, begins, completes, fails, accepts, performs, noted, Change}
+use Rattle.dcsctp_machine.specs.control.Effect.{Effect, draws, sends, holds, connects, ends, begins, completes, fails, accepts, performs, resumes, noted, Change}
 use Rattle.dcsctp_machine.specs.control.Choices.{Choices}
 use Rattle.dcsctp_machine.specs.control.Acts.{Act, act_change, ChunkChange}
 
@@ -44,6 +44,7 @@ signs_of_effects (draws pair ∷ effects) = signs_of_effects effects
 signs_of_effects (holds link ∷ effects) = signs_of_effects effects
 signs_of_effects (begins number ∷ effects) = signs_of_effects effects
 signs_of_effects (accepts number ∷ effects) = signs_of_effects effects
+signs_of_effects (resumes link own last ∷ effects) = signs_of_effects effects
 
 pub record IsControlled (e : Endpoint) (o : Outcome) (change : Change) : Type 0 where
   pub core : o.after.core ≡ change.core

@@ -1,7 +1,7 @@
 -- What one side has done so far, newest first, and where in it each effect may be.
 use Rattle.std.specs.Prelude.{◌≡◌, ◌≢◌, ℕ, ◌+◌, ◌%◌, ◌^◌, Option, None, Some, List, [], ◌∷◌, ◌⊎◌}
 use Rattle.dcsctp_machine.specs.declared.association.Pair.{Pair}
-use Rattle.dcsctp_machine.specs.control.Effect.{Link, Effect, draws, sends, holds, connects, ends, begins, completes, fails, accepts, performs}
+use Rattle.dcsctp_machine.specs.control.Effect.{Link, Effect, draws, sends, holds, connects, ends, begins, completes, fails, accepts, performs, resumes}
 use Rattle.dcsctp_machine.specs.control.FlushChanges.{next_number}
 
 -- It is one of these.
@@ -28,6 +28,7 @@ FreshDraw (completes my number) earlier = Unit {0}
 FreshDraw (fails number) earlier = Unit {0}
 FreshDraw (accepts number) earlier = Unit {0}
 FreshDraw (performs peer number) earlier = Unit {0}
+FreshDraw (resumes link own last) earlier = Unit {0}
 
 -- No verification tag is drawn twice by this side.
 abbrev pub HasFreshTags : List Effect → Type 0
@@ -39,6 +40,7 @@ HasFreshTags past = Each FreshDraw past
 abbrev pub current : List Effect → Option Link
 current [] = None
 current (holds link ∷ earlier) = Some link
+current (resumes link own last ∷ earlier) = Some link
 current (ends ∷ earlier) = None
 current (draws pair ∷ earlier) = current earlier
 current (sends packet ∷ earlier) = current earlier
@@ -53,6 +55,7 @@ current (performs peer number ∷ earlier) = current earlier
 abbrev pub unconnected : List Effect → Option Link
 unconnected [] = None
 unconnected (holds link ∷ earlier) = Some link
+unconnected (resumes link own last ∷ earlier) = Some link
 unconnected (connects link ∷ earlier) = None
 unconnected (ends ∷ earlier) = None
 unconnected (draws pair ∷ earlier) = unconnected earlier
@@ -63,10 +66,11 @@ unconnected (fails number ∷ earlier) = unconnected earlier
 unconnected (accepts number ∷ earlier) = unconnected earlier
 unconnected (performs peer number ∷ earlier) = unconnected earlier
 
--- the number that its own request has to carry: its own first TSN, and then one more each time
+-- the number that its own request has to carry: its own first TSN or what it was restored with, and then one more each time
 abbrev pub number_to_begin : List Effect → Option ℕ
 number_to_begin [] = None
 number_to_begin (holds link ∷ earlier) = Some link.my.first_tsn
+number_to_begin (resumes link own last ∷ earlier) = Some own
 number_to_begin (begins number ∷ earlier) = Some (next_number number)
 number_to_begin (ends ∷ earlier) = None
 number_to_begin (draws pair ∷ earlier) = number_to_begin earlier
@@ -81,6 +85,7 @@ number_to_begin (performs peer number ∷ earlier) = number_to_begin earlier
 abbrev pub outstanding : List Effect → Option ℕ
 outstanding [] = None
 outstanding (holds link ∷ earlier) = None
+outstanding (resumes link own last ∷ earlier) = None
 outstanding (begins number ∷ earlier) = Some number
 outstanding (completes my number ∷ earlier) = None
 outstanding (fails number ∷ earlier) = None
@@ -95,6 +100,7 @@ outstanding (performs peer number ∷ earlier) = outstanding earlier
 abbrev pub requests_begun : List Effect → ℕ
 requests_begun [] = 0
 requests_begun (holds link ∷ earlier) = 0
+requests_begun (resumes link own last ∷ earlier) = 0
 requests_begun (begins number ∷ earlier) = requests_begun earlier + 1
 requests_begun (ends ∷ earlier) = 0
 requests_begun (draws pair ∷ earlier) = requests_begun earlier
@@ -105,10 +111,12 @@ requests_begun (fails number ∷ earlier) = requests_begun earlier
 requests_begun (accepts number ∷ earlier) = requests_begun earlier
 requests_begun (performs peer number ∷ earlier) = requests_begun earlier
 
--- the number that a request of the peer has to carry to be accepted: its first TSN, and then one more each time
+-- the number that a request of the peer has to carry to be accepted: its first TSN or the one behind what was restored, and then
+-- one more each time
 abbrev pub number_to_accept : List Effect → Option ℕ
 number_to_accept [] = None
 number_to_accept (holds link ∷ earlier) = Some (link.peer.first_tsn % 2 ^ 32)
+number_to_accept (resumes link own last ∷ earlier) = Some (next_number last)
 number_to_accept (accepts number ∷ earlier) = Some (next_number number)
 number_to_accept (ends ∷ earlier) = None
 number_to_accept (draws pair ∷ earlier) = number_to_accept earlier
@@ -123,6 +131,7 @@ number_to_accept (performs peer number ∷ earlier) = number_to_accept earlier
 abbrev pub number_to_perform : List Effect → Option ℕ
 number_to_perform [] = None
 number_to_perform (holds link ∷ earlier) = None
+number_to_perform (resumes link own last ∷ earlier) = None
 number_to_perform (accepts number ∷ earlier) = Some number
 number_to_perform (performs peer number ∷ earlier) = None
 number_to_perform (ends ∷ earlier) = None
@@ -146,7 +155,8 @@ peer_of (Some link) = Some link.peer
 
 -- In one lifetime an association connects at most once, and as it is then. Its own requests go up by one from its own first TSN,
 -- one at a time. Each has at most one end, under its own pair. The peer's accepted requests go up by one from its first TSN. Each
--- is performed at most once, under its pair, and none that wasn't accepted.
+-- is performed at most once, under its pair, and none that wasn't accepted. An association that is restored takes the place of
+-- none, and its numbers go on from those of the snapshot.
 abbrev pub InPlace : Effect → List Effect → Type 0
 InPlace (connects link) earlier = unconnected earlier ≡ Some link
 InPlace (begins number) earlier = (number_to_begin earlier ≡ Some number) × (outstanding earlier ≡ None)
@@ -157,4 +167,5 @@ InPlace (performs peer number) earlier = (number_to_perform earlier ≡ Some num
 InPlace (draws pair) earlier = Unit {0}
 InPlace (sends packet) earlier = Unit {0}
 InPlace (holds link) earlier = Unit {0}
+InPlace (resumes link own last) earlier = current earlier ≡ None
 InPlace ends earlier = Unit {0}

@@ -12,6 +12,7 @@ use Rattle.dcsctp_machine.specs.declared.schedule.Outside.TheVariants as outside
 use Rattle.dcsctp_machine.specs.declared.schedule.Act.{Act}
 use Rattle.dcsctp_machine.specs.declared.schedule.Act.TheVariants as acts
 use Rattle.dcsctp_machine.specs.Ids.{stream_numbers}
+use Rattle.dcsctp_machine.specs.Snapshot.{Snapshot, snapshot}
 use Rattle.dcsctp_machine.specs.transfer.Messages.{MessageContent, message_content}
 use Rattle.dcsctp_machine.specs.turns.SettingOutcomes.{Setting, stream_priority, stream_low_threshold, longest_message}
 
@@ -45,6 +46,10 @@ pub data StepContent : Type 0 where
 pub data OutsideContent : Type 0 where
   -- this socket is handed these bytes, which no socket needs to have emitted
   input_outside : Side → List ℕ → OutsideContent
+  -- This socket is handed over, and restored from its own snapshot.
+  handover_outside : Side → OutsideContent
+  -- this socket is restored from this snapshot, which no socket needs to have given
+  restore_outside : Side → Snapshot → OutsideContent
 
 -- what was done
 pub data ActContent : Type 0 where
@@ -72,6 +77,8 @@ step_content (steps.Deliver side number) = delivery_step side number
 
 abbrev pub outside_content : Outside → OutsideContent
 outside_content (outsides.Input side bytes) = input_outside side bytes.items
+outside_content (outsides.Handover side) = handover_outside side
+outside_content (outsides.Restore side state) = restore_outside side (snapshot state)
 
 abbrev pub act_content : Act → ActContent
 act_content (acts.Step step) = step_act (step_content step)

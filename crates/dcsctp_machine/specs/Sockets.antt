@@ -1,21 +1,25 @@
 -- Two sockets and every list of acts. What is the outcome of each call, each delivery and each act from outside? What does a side
 -- show?
-use Rattle.std.specs.Prelude.{◌≡◌, ℕ, zero, suc, Option, None, Some, List, [], ◌∷◌, ◌++◌, map}
+use Rattle.std.specs.Prelude.{◌≡◌, ℕ, zero, suc, Bool, true, false, Option, None, Some, List, [], ◌∷◌, ◌++◌, map}
 use Rattle.std.specs.List.{slice_get}
 use Rattle.dcsctp_machine.specs.declared.association.Association.{Association}
 use Rattle.dcsctp_machine.specs.declared.ends.AbortReason.TheVariants.{CloseCalled}
 use Rattle.dcsctp_machine.specs.declared.options.Options.{Options}
 use Rattle.dcsctp_machine.specs.declared.schedule.Side.{Side}
 use Rattle.dcsctp_machine.specs.declared.schedule.Side.TheVariants as sides
-use Rattle.dcsctp_machine.specs.Schedule.{CallContent, connect_call, close_call, shutdown_call, StepContent, call_step, delivery_step, OutsideContent, input_outside, ActContent, step_act, outside_act, advance_call, set_call, send_call, send_many_call, reset_call, take_call, hand_over_call}
+use Rattle.dcsctp_machine.specs.declared.snapshot.HandoverSocketState.{HandoverSocketState}
+use Rattle.dcsctp_machine.specs.declared.snapshot.HandoverSocketState.TheVariants as states
+use Rattle.dcsctp_machine.specs.Schedule.{CallContent, connect_call, close_call, shutdown_call, StepContent, call_step, delivery_step, OutsideContent, input_outside, handover_outside, restore_outside, ActContent, step_act, outside_act, advance_call, set_call, send_call, send_many_call, reset_call, take_call, hand_over_call}
 use Rattle.dcsctp_machine.specs.Settings.{ports_of}
 use Rattle.dcsctp_machine.specs.Event.{Event, event_map, packets_in}
 use Rattle.dcsctp_machine.specs.Packet.{emission_bytes}
-use Rattle.dcsctp_machine.specs.Endpoint.{Endpoint, fresh_endpoint, association_of}
+use Rattle.dcsctp_machine.specs.Endpoint.{Endpoint, Core, closed, fresh_endpoint, association_of}
 use Rattle.dcsctp_machine.specs.Handover.{readiness_of}
-use Rattle.dcsctp_machine.specs.Turn.{Input, act_input, user_sets, user_sends, user_resets, user_takes}
+use Rattle.dcsctp_machine.specs.Snapshot.{Snapshot, is_valid_snapshot}
+use Rattle.dcsctp_machine.specs.SocketSnapshot.{snapshot_of}
+use Rattle.dcsctp_machine.specs.Turn.{Input, restores, act_input, user_sets, user_sends, user_resets, user_takes}
 use Rattle.dcsctp_machine.specs.turns.MessageOutcomes.{sending_of}
-use Rattle.dcsctp_machine.specs.control.Acts.{connect, shut_down, abort_with, hands_over}
+use Rattle.dcsctp_machine.specs.control.Acts.{connect, shut_down, abort_with, hands_over, flushes}
 use Rattle.dcsctp_machine.specs.TimeTurns.{AdvanceTurns}
 use Rattle.dcsctp_machine.specs.CallTurns.{Turned, Turns, HandleInput, after_all, events_of}
 
@@ -74,12 +78,36 @@ StepTurns e packets (delivery_step side number) turns = DeliveryTurns e (numbere
 
 -- ---- acts from outside
 
+-- A connected socket's snapshot restores its association, and what waits is sent. That of a closed one changes nothing.
+abbrev pub inputs_of_snapshot : HandoverSocketState → Snapshot → List Input
+inputs_of_snapshot states.Closed state = []
+inputs_of_snapshot states.Connected state = restores state ∷ act_input flushes ∷ []
+
+-- Only a closed socket is restored.
+abbrev pub inputs_of_restore : Core → Snapshot → List Input
+inputs_of_restore closed state = inputs_of_snapshot state.socket_state state
+inputs_of_restore core state = []
+
+-- None is restored from a snapshot that isn't valid.
+abbrev pub inputs_where_valid : Bool → Core → Snapshot → List Input
+inputs_where_valid true core state = inputs_of_restore core state
+inputs_where_valid false core state = []
+
+-- A socket that is ready is handed over, and restored from its snapshot.
+abbrev pub inputs_of_both : ℕ → Bool → Snapshot → List Input
+inputs_of_both zero is_valid state = act_input hands_over ∷ inputs_where_valid is_valid closed state
+inputs_of_both (suc reasons) is_valid state = []
+
 abbrev pub side_of_outside : OutsideContent → Side
 side_of_outside (input_outside side bytes) = side
+side_of_outside (handover_outside side) = side
+side_of_outside (restore_outside side state) = side
 
--- its outcome at its side: whatever the bytes say
+-- its outcome at its side: whatever the bytes say, and whatever the snapshot has
 abbrev pub OutsideTurns : Endpoint → OutsideContent → List Turned → Type 0
 OutsideTurns e (input_outside side bytes) turns = HandleInput e bytes turns
+OutsideTurns e (handover_outside side) turns = Turns e (inputs_of_both (readiness_of e) (is_valid_snapshot e.options (snapshot_of e)) (snapshot_of e)) turns
+OutsideTurns e (restore_outside side state) turns = Turns e (inputs_where_valid (is_valid_snapshot e.options state) e.core state) turns
 
 -- ---- acts
 

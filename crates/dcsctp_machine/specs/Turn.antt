@@ -4,6 +4,7 @@ use Rattle.dcsctp_machine.specs.declared.kinds.ErrorKind.TheVariants.{ParseFaile
 use Rattle.dcsctp_machine.specs.Packet.{Content, init, init_ack, cookie_echo, cookie_ack, re_config, abort, shutdown, shutdown_ack, shutdown_complete, plain, is_data}
 use Rattle.dcsctp_machine.specs.Endpoint.{Endpoint, Core, open_in, shutdown_sent}
 use Rattle.dcsctp_machine.specs.Outcome.{Outcome, still, count_up, reports}
+use Rattle.dcsctp_machine.specs.Snapshot.{Snapshot}
 use Rattle.dcsctp_machine.specs.turns.HandoverOutcomes.{hand_over_outcome}
 use Rattle.dcsctp_machine.specs.turns.HandshakeOutcomes.{InitTurn, ConnectTurn, InitAckTurn, CookieAckTurn}
 use Rattle.dcsctp_machine.specs.turns.CookieEchoOutcomes.{CookieEchoTurn}
@@ -14,6 +15,7 @@ use Rattle.dcsctp_machine.specs.turns.OwnTimers.{OwnTimer, TimerTurn}
 use Rattle.dcsctp_machine.specs.turns.PlainOutcomes.{PlainTurn}
 use Rattle.dcsctp_machine.specs.turns.PreparedResets.{OwnResetsTurn}
 use Rattle.dcsctp_machine.specs.turns.ResetOutcomes.{ResetTurn}
+use Rattle.dcsctp_machine.specs.turns.RestoreOutcomes.{RestoreTurn}
 use Rattle.dcsctp_machine.specs.turns.SettingOutcomes.{Setting, setting_outcome}
 use Rattle.dcsctp_machine.specs.turns.ShutdownOutcomes.{step_outcome, shut_down_outcome, shutdown_outcome, shutdown_ack_outcome, shutdown_complete_outcome, t2_again_outcome, shutdown_repeated}
 use Rattle.dcsctp_machine.specs.turns.TimerOutcomes.{T1AgainTurn, t1_gives_up_outcome}
@@ -45,6 +47,8 @@ pub data Input : Type 0 where
   timer_expires : OwnTimer → Input
   -- The clock is moved to this moment.
   time_passes : ℕ → Input
+  -- A closed socket goes on from this snapshot.
+  restores : Snapshot → Input
 
 -- the text for bytes that are no packet
 abbrev pub unreadable_text : List ℕ
@@ -114,3 +118,4 @@ Turn e (user_resets ids) o = OwnResetsTurn e ids o
 Turn e user_takes o = TakeTurn e e.below.transfer o
 Turn e (timer_expires timer) o = TimerTurn e timer o
 Turn e (time_passes moment) o = o ≡ still (clock_at moment e)
+Turn e (restores state) o = RestoreTurn e e.core state o

@@ -1,11 +1,14 @@
 -- Two sides and every schedule: what each does, and what is delivered to it of all that the other ever sent.
 use Rattle.std.specs.Prelude.{◌≡◌, ℕ, List, [], ◌∷◌, ◌⊎◌}
+use Rattle.dcsctp_machine.specs.declared.association.Pair.{Pair}
+use Rattle.dcsctp_machine.specs.declared.capabilities.Capabilities.{Capabilities}
 use Rattle.dcsctp_machine.specs.declared.options.Options.{Options}
 use Rattle.dcsctp_machine.specs.Packet.{Introduction, Content, init, cookie_echo, abort, shutdown, shutdown_ack, shutdown_complete, Packet}
 use Rattle.dcsctp_machine.specs.Endpoint.{Core, closed, own_tag}
 use Rattle.dcsctp_machine.specs.control.Effect.{Effect, sends, Change}
 use Rattle.dcsctp_machine.specs.control.Choices.{Choices}
 use Rattle.dcsctp_machine.specs.control.Acts.{Act, act_change, chunk_change, ChunkChange}
+use Rattle.dcsctp_machine.specs.control.ResumeChanges.{resumed_held, resume_change}
 use Rattle.dcsctp_machine.specs.Admission.{shutdown_acks_in}
 use Rattle.dcsctp_machine.specs.Past.{Has}
 
@@ -32,11 +35,13 @@ abbrev pub after_changes : SideState → List Change → SideState
 after_changes side [] = side
 after_changes side (change ∷ changes) = after_changes (after_change side change) changes
 
--- One turn of the association: an act, or a chunk of any packet.
+-- One turn of the association: an act, a chunk of any packet, or a restore from any snapshot where there is none.
 pub data ControlTurn (options : Options) (core : Core) (change : Change) : Type 0 where
   acted : (act : Act) (choices : Choices) → change ≡ act_change options core act choices → ControlTurn options core change
   worked : (header : ℕ) (content : Content) (choices : Choices)
       → change ≡ chunk_change options core header content choices → ControlTurn options core change
+  resumed : (my peer : Pair) (capabilities : Capabilities) (own last : ℕ) → core ≡ closed
+      → change ≡ resume_change my (resumed_held peer capabilities own last) → ControlTurn options core change
 
 abbrev pub ControlTurns : Options → Core → List Change → Type 0
 ControlTurns options core [] = Unit {0}

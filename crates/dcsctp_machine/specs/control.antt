@@ -4,5 +4,6 @@ pub mod FlushChanges
 pub mod HandshakeChanges
 pub mod CookieEchoChanges
 pub mod ResetChanges
+pub mod ResumeChanges
 pub mod ShutdownChanges
 pub mod Acts

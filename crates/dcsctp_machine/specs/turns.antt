@@ -12,6 +12,7 @@ pub mod PlainOutcomes
 pub mod PreparedResets
 pub mod ReconfigurationOutcomes
 pub mod ResetOutcomes
+pub mod RestoreOutcomes
 pub mod SettingOutcomes
 pub mod ShutdownOutcomes
 pub mod TimerOutcomes

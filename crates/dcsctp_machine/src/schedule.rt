@@ -6,6 +6,7 @@ ghost use Rattle.dcsctp_machine.specs.Schedule.{call_content, step_content};
 
 use crate::ids::StreamId;
 use crate::message::{Message, SendOptions, copied_messages};
+use crate::snapshot::SocketHandoverState;
 use crate::time::SocketTime;
 use std::alloc::AllocError;
 
@@ -124,6 +125,12 @@ impl Step {
 pub enum Outside {
     /// This socket is handed these bytes, which no socket needs to have emitted.
     Input(Side, Vec<u8>),
+
+    /// This socket is handed over, and restored from its own snapshot.
+    Handover(Side),
+
+    /// This socket is restored from this snapshot, which no socket needs to have given.
+    Restore(Side, SocketHandoverState),
 }
 
 /// What was done to two sockets.

@@ -4,7 +4,7 @@ use Rattle.dcsctp_machine.specs.declared.association.Pair.{Pair}
 use Rattle.dcsctp_machine.specs.declared.options.Options.{Options}
 use Rattle.dcsctp_machine.specs.Offer.{Offer, offer_of}
 use Rattle.dcsctp_machine.specs.Laws.{AnswerKeepsAgreement}
-use Rattle.dcsctp_machine.specs.control.Effect.{Effect, draws, sends, holds, connects, ends, begins, completes, fails, accepts, performs, Change}
+use Rattle.dcsctp_machine.specs.control.Effect.{Effect, draws, sends, holds, connects, ends, begins, completes, fails, accepts, performs, resumes, Change}
 use Rattle.dcsctp_machine.specs.control.FlushChanges.{next_number}
 use Rattle.dcsctp_machine.specs.Past.{Has, Each, HasFreshTags, InPlace, current, my_of, outstanding, number_to_begin, requests_begun}
 use Rattle.dcsctp_machine.specs.World.{SideState, after_changes, after_change, Which, at_a, at_b, Move, MoveChanges, Step, World, step_after, world_after, StepChanges, Run, steps_of}
@@ -75,48 +75,70 @@ crossed one other h link connected =
 
 -- ---- own requests and their numbers
 
+-- None was restored.
+abbrev NoneResumed : List Effect → Type 0
+NoneResumed [] = Unit {0}
+NoneResumed (resumes link own last ∷ earlier) = ⊥
+NoneResumed (effect ∷ earlier) = NoneResumed earlier
+
+none_resumed : (my_offer their_offer : Offer) (mine theirs : List Effect) → TruePast my_offer their_offer mine theirs → NoneResumed mine
+none_resumed my_offer their_offer [] theirs h = tt
+none_resumed my_offer their_offer (draws pair ∷ earlier) theirs h = none_resumed my_offer their_offer earlier theirs h.1
+none_resumed my_offer their_offer (sends packet ∷ earlier) theirs h = none_resumed my_offer their_offer earlier theirs h.1
+none_resumed my_offer their_offer (holds link ∷ earlier) theirs h = none_resumed my_offer their_offer earlier theirs h.1
+none_resumed my_offer their_offer (connects link ∷ earlier) theirs h = none_resumed my_offer their_offer earlier theirs h.1
+none_resumed my_offer their_offer (ends ∷ earlier) theirs h = none_resumed my_offer their_offer earlier theirs h.1
+none_resumed my_offer their_offer (begins number ∷ earlier) theirs h = none_resumed my_offer their_offer earlier theirs h.1
+none_resumed my_offer their_offer (completes my number ∷ earlier) theirs h = none_resumed my_offer their_offer earlier theirs h.1
+none_resumed my_offer their_offer (fails number ∷ earlier) theirs h = none_resumed my_offer their_offer earlier theirs h.1
+none_resumed my_offer their_offer (accepts number ∷ earlier) theirs h = none_resumed my_offer their_offer earlier theirs h.1
+none_resumed my_offer their_offer (performs peer number ∷ earlier) theirs h = none_resumed my_offer their_offer earlier theirs h.1
+none_resumed my_offer their_offer (resumes link own last ∷ earlier) theirs h = absurd h.0
+
 -- the next own number is the own first TSN and as many more as were begun
-next_counted : (past : List Effect) (number : ℕ) (my : Pair) → Each InPlace past → number_to_begin past ≡ Some number → my_of (current past) ≡ Some my
+next_counted : (past : List Effect) (number : ℕ) (my : Pair) → Each InPlace past → NoneResumed past → number_to_begin past ≡ Some number → my_of (current past) ≡ Some my
     → number % 2 ^ 32 ≡ (my.first_tsn + requests_begun past) % 2 ^ 32
-next_counted [] number my rules n m = absurd (cc)
-next_counted (draws pair ∷ earlier) number my rules n m = next_counted earlier number my rules.1 n m
-next_counted (sends packet ∷ earlier) number my rules n m = next_counted earlier number my rules.1 n m
-next_counted (holds link ∷ earlier) number my rules n m =
+next_counted [] number my rules none n m = absurd (cc)
+next_counted (draws pair ∷ earlier) number my rules none n m = next_counted earlier number my rules.1 none n m
+next_counted (sends packet ∷ earlier) number my rules none n m = next_counted earlier number my rules.1 none n m
+next_counted (holds link ∷ earlier) number my rules none n m =
     let same_number : link.my.first_tsn ≡ number = cc in
     let same_pair : link.my ≡ my = cc in
     let same_first : link.my.first_tsn ≡ my.first_tsn = ap (λ (p : Pair). p.first_tsn) same_pair in
     omega arith
-next_counted (connects link ∷ earlier) number my rules n m = next_counted earlier number my rules.1 n m
-next_counted (ends ∷ earlier) number my rules n m = absurd (cc)
-next_counted (begins before ∷ earlier) number my rules n m =
+next_counted (connects link ∷ earlier) number my rules none n m = next_counted earlier number my rules.1 none n m
+next_counted (ends ∷ earlier) number my rules none n m = absurd (cc)
+next_counted (begins before ∷ earlier) number my rules none n m =
     let same_number : next_number before ≡ number = cc in
-    let counted : before % 2 ^ 32 ≡ (my.first_tsn + requests_begun earlier) % 2 ^ 32 = next_counted earlier before my rules.1 rules.0.0 m in
+    let counted : before % 2 ^ 32 ≡ (my.first_tsn + requests_begun earlier) % 2 ^ 32 = next_counted earlier before my rules.1 none rules.0.0 m in
     omega arith
-next_counted (completes own before ∷ earlier) number my rules n m = next_counted earlier number my rules.1 n m
-next_counted (fails before ∷ earlier) number my rules n m = next_counted earlier number my rules.1 n m
-next_counted (accepts before ∷ earlier) number my rules n m = next_counted earlier number my rules.1 n m
-next_counted (performs peer before ∷ earlier) number my rules n m = next_counted earlier number my rules.1 n m
+next_counted (completes own before ∷ earlier) number my rules none n m = next_counted earlier number my rules.1 none n m
+next_counted (fails before ∷ earlier) number my rules none n m = next_counted earlier number my rules.1 none n m
+next_counted (accepts before ∷ earlier) number my rules none n m = next_counted earlier number my rules.1 none n m
+next_counted (performs peer before ∷ earlier) number my rules none n m = next_counted earlier number my rules.1 none n m
+next_counted (resumes link own last ∷ earlier) number my rules none n m = absurd none
 
 -- the outstanding number is the last of those
 pub record Counted (number : ℕ) (my : Pair) (begun : ℕ) : Type 0 where
   pub last : (number + 1) % 2 ^ 32 ≡ (my.first_tsn + begun) % 2 ^ 32
   pub some_begun : 1 ≤ begun
 
-outstanding_counted : (past : List Effect) (number : ℕ) (my : Pair) → Each InPlace past → outstanding past ≡ Some number → my_of (current past) ≡ Some my → Counted number my (requests_begun past)
-outstanding_counted [] number my rules n m = absurd (cc)
-outstanding_counted (draws pair ∷ earlier) number my rules n m = outstanding_counted earlier number my rules.1 n m
-outstanding_counted (sends packet ∷ earlier) number my rules n m = outstanding_counted earlier number my rules.1 n m
-outstanding_counted (holds link ∷ earlier) number my rules n m = absurd (cc)
-outstanding_counted (connects link ∷ earlier) number my rules n m = outstanding_counted earlier number my rules.1 n m
-outstanding_counted (ends ∷ earlier) number my rules n m = absurd (cc)
-outstanding_counted (begins before ∷ earlier) number my rules n m =
+outstanding_counted : (past : List Effect) (number : ℕ) (my : Pair) → Each InPlace past → NoneResumed past → outstanding past ≡ Some number → my_of (current past) ≡ Some my → Counted number my (requests_begun past)
+outstanding_counted [] number my rules none n m = absurd (cc)
+outstanding_counted (draws pair ∷ earlier) number my rules none n m = outstanding_counted earlier number my rules.1 none n m
+outstanding_counted (sends packet ∷ earlier) number my rules none n m = outstanding_counted earlier number my rules.1 none n m
+outstanding_counted (holds link ∷ earlier) number my rules none n m = absurd (cc)
+outstanding_counted (connects link ∷ earlier) number my rules none n m = outstanding_counted earlier number my rules.1 none n m
+outstanding_counted (ends ∷ earlier) number my rules none n m = absurd (cc)
+outstanding_counted (begins before ∷ earlier) number my rules none n m =
     let same_number : before ≡ number = cc in
-    let counted : before % 2 ^ 32 ≡ (my.first_tsn + requests_begun earlier) % 2 ^ 32 = next_counted earlier before my rules.1 rules.0.0 m in
+    let counted : before % 2 ^ 32 ≡ (my.first_tsn + requests_begun earlier) % 2 ^ 32 = next_counted earlier before my rules.1 none rules.0.0 m in
     record { last = omega arith; some_begun = omega arith }
-outstanding_counted (completes own before ∷ earlier) number my rules n m = absurd (cc)
-outstanding_counted (fails before ∷ earlier) number my rules n m = absurd (cc)
-outstanding_counted (accepts before ∷ earlier) number my rules n m = outstanding_counted earlier number my rules.1 n m
-outstanding_counted (performs peer before ∷ earlier) number my rules n m = outstanding_counted earlier number my rules.1 n m
+outstanding_counted (completes own before ∷ earlier) number my rules none n m = absurd (cc)
+outstanding_counted (fails before ∷ earlier) number my rules none n m = absurd (cc)
+outstanding_counted (accepts before ∷ earlier) number my rules none n m = outstanding_counted earlier number my rules.1 none n m
+outstanding_counted (performs peer before ∷ earlier) number my rules none n m = outstanding_counted earlier number my rules.1 none n m
+outstanding_counted (resumes link own last ∷ earlier) number my rules none n m = absurd none
 
 -- So none of the first bears the number before the first TSN.
 not_before : (number begun : ℕ) (my : Pair) → Counted number my begun → begun ≤ 2 ^ 32 - 1 → number ≡ number_before my → ⊥
@@ -140,11 +162,12 @@ performed my_offer their_offer (ends ∷ earlier) theirs rules h = (tt, performe
 performed my_offer their_offer (begins number ∷ earlier) theirs rules h = (tt, performed my_offer their_offer earlier theirs rules.1 h.1)
 performed my_offer their_offer (completes my number ∷ earlier) theirs rules h =
     let found : requests_begun earlier ≤ 2 ^ 32 - 1 → Has (performs my number) theirs = λ few. performed_where theirs my number earlier
-    (outstanding_counted earlier number my rules.1 rules.0.0 rules.0.1) few h.0 in
+    (outstanding_counted earlier number my rules.1 (none_resumed my_offer their_offer earlier theirs h.1) rules.0.0 rules.0.1) few h.0 in
     (found, performed my_offer their_offer earlier theirs rules.1 h.1)
 performed my_offer their_offer (fails number ∷ earlier) theirs rules h = (tt, performed my_offer their_offer earlier theirs rules.1 h.1)
 performed my_offer their_offer (accepts number ∷ earlier) theirs rules h = (tt, performed my_offer their_offer earlier theirs rules.1 h.1)
 performed my_offer their_offer (performs peer number ∷ earlier) theirs rules h = (tt, performed my_offer their_offer earlier theirs rules.1 h.1)
+performed my_offer their_offer (resumes link own last ∷ earlier) theirs rules h = (tt, performed my_offer their_offer earlier theirs rules.1 h.1)
 
 -- ---- the theorem
 

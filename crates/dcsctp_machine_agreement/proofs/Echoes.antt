@@ -4,7 +4,7 @@ use Rattle.std.proofs.Common.{◌≡◌, ℕ, List, [], ◌∷◌, ◌++◌, inl
 use Rattle.dcsctp_machine.specs.Offer.{Offer}
 use Rattle.dcsctp_machine.specs.Packet.{Content, init, init_ack, cookie_echo, cookie_ack, re_config, abort, shutdown, shutdown_ack, shutdown_complete, plain}
 use Rattle.dcsctp_machine.specs.Endpoint.{Core, closed, cookie_wait, cookie_echoed, open_in}
-use Rattle.dcsctp_machine.specs.control.Effect.{Effect, draws, sends, holds, connects, ends, begins, completes, fails, accepts, performs}
+use Rattle.dcsctp_machine.specs.control.Effect.{Effect, draws, sends, holds, connects, ends, begins, completes, fails, accepts, performs, resumes}
 use Rattle.dcsctp_machine.specs.World.{after_effects}
 use Rattle.dcsctp_machine_agreement.proofs.Facts.{NoEcho, OneEcho, AllBehind, TrueCore}
 use Rattle.dcsctp_machine_agreement.proofs.Growth.{Within, same, after_within, peer_grows}
@@ -69,6 +69,7 @@ effect_only echoed (completes my number) h = tt
 effect_only echoed (fails number) h = tt
 effect_only echoed (accepts number) h = tt
 effect_only echoed (performs peer number) h = tt
+effect_only echoed (resumes link own last) h = tt
 
 pub free_is_only : (echoed : List ℕ) (effects : List Effect) → AllEchoFree effects → AllEchoOnly echoed effects
 free_is_only echoed [] h = tt

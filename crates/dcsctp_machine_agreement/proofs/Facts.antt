@@ -10,7 +10,7 @@ use Rattle.dcsctp_machine.specs.Cookie.{Cookie, cookie_at}
 use Rattle.dcsctp_machine.specs.Reconfiguration.{ResetParameter, outgoing_reset_request, incoming_reset_request, reconfiguration_response, other_reset_parameter}
 use Rattle.dcsctp_machine.specs.Packet.{Introduction, Content, init, init_ack, cookie_echo, cookie_ack, re_config, plain}
 use Rattle.dcsctp_machine.specs.Endpoint.{Core, closed, cookie_wait, cookie_echoed, open_in}
-use Rattle.dcsctp_machine.specs.control.Effect.{Link, Effect, draws, sends, holds, connects, completes, performs}
+use Rattle.dcsctp_machine.specs.control.Effect.{Link, Effect, draws, sends, holds, connects, completes, performs, resumes}
 use Rattle.dcsctp_machine.specs.Past.{Has}
 
 -- Names: `mine` and `theirs` are the pasts of the side that is spoken of and of the other, `my_offer` and
@@ -125,10 +125,12 @@ pub record Found (my_offer their_offer : Offer) (theirs : List Effect) (link : L
   pub capabilities : link.capabilities ≡ negotiated my_offer their_offer
   pub held : Has (holds (agreed_link their_offer my_offer link.peer link.my)) theirs
 
+-- Of two sides none is restored.
 abbrev pub TrueEffect : Offer → Offer → List Effect → List Effect → Effect → Type 0
 TrueEffect my_offer their_offer mine theirs (sends packet) = TrueContents my_offer their_offer mine theirs packet.tag packet.contents
 TrueEffect my_offer their_offer mine theirs (connects link) = Found my_offer their_offer theirs link
 TrueEffect my_offer their_offer mine theirs (completes my number) = Has (performs my number) theirs ⊎ (number ≡ number_before my)
+TrueEffect my_offer their_offer mine theirs (resumes link own last) = ⊥
 TrueEffect my_offer their_offer mine theirs effect = Unit {0}
 
 -- Each effect is true by what came before it, and by what the other did so far.

@@ -7,7 +7,7 @@ use Rattle.dcsctp_machine.specs.declared.association.Held.{Held}
 use Rattle.dcsctp_machine.specs.Offer.{Offer}
 use Rattle.dcsctp_machine.specs.Reconfiguration.{ResetParameter, outgoing_reset_request, incoming_reset_request, reconfiguration_response, other_reset_parameter}
 use Rattle.dcsctp_machine.specs.Packet.{Content, init, init_ack, cookie_echo, cookie_ack, re_config, abort, shutdown, shutdown_ack, shutdown_complete, plain}
-use Rattle.dcsctp_machine.specs.control.Effect.{Effect, draws, sends, holds, connects, ends, begins, completes, fails, accepts, performs}
+use Rattle.dcsctp_machine.specs.control.Effect.{Effect, draws, sends, holds, connects, ends, begins, completes, fails, accepts, performs, resumes}
 use Rattle.dcsctp_machine.specs.Past.{Has}
 use Rattle.dcsctp_machine.specs.World.{after_effects}
 use Rattle.dcsctp_machine_agreement.proofs.Facts.{TrueResult, TrueParameter, TrueParameters, TrueFront, TrueContents, TrueEffect, TruePast, TrueEffects, PeerFacts}
@@ -97,6 +97,7 @@ effect_grows my_offer their_offer mine theirs mine' theirs' (completes my number
 effect_grows my_offer their_offer mine theirs mine' theirs' (fails number) v w h = tt
 effect_grows my_offer their_offer mine theirs mine' theirs' (accepts number) v w h = tt
 effect_grows my_offer their_offer mine theirs mine' theirs' (performs peer number) v w h = tt
+effect_grows my_offer their_offer mine theirs mine' theirs' (resumes link own last) v w h = h
 
 -- the other side did more
 pub past_grows : (my_offer their_offer : Offer) (mine theirs theirs' : List Effect) → Within theirs theirs'

@@ -1,17 +1,18 @@
 -- What each effect says of the association after its turn; emissions and flushes say it truly.
-use Rattle.std.proofs.Common.{◌≡◌, ℕ, Bool, true, false, Option, None, Some, List, [], ◌∷◌, ◌++◌, ◌⊎◌, inl, inr, refl, sym, subst, ◌∙◌}
+use Rattle.std.proofs.Common.{◌≡◌, ℕ, Bool, true, false, Option, None, Some, List, [], ◌∷◌, ◌++◌, ◌⊎◌, inl, inr, refl, sym, subst, ap, ◌∙◌}
 use Rattle.dcsctp_machine.specs.declared.association.Pair.{Pair}
 use Rattle.dcsctp_machine.specs.declared.association.Held.{Held}
 use Rattle.dcsctp_machine.specs.Packet.{Plain, Content}
 use Rattle.dcsctp_machine.specs.Reconfiguration.{RequestedReset}
 use Rattle.dcsctp_machine.specs.Endpoint.{Core, closed, open_in, established}
 use Rattle.dcsctp_machine.specs.Following.{Following}
-use Rattle.dcsctp_machine.specs.control.Effect.{Link, Effect, draws, holds, connects, ends, begins, completes, performs, Change, emitted, emitted_alone, link_of, link_in}
+use Rattle.dcsctp_machine.specs.control.Effect.{Link, Effect, draws, holds, connects, ends, begins, completes, performs, resumes, Change, emitted, emitted_alone, link_of, link_in}
 use Rattle.dcsctp_machine.specs.control.Choices.{plain_contents, Filling, Choices}
 use Rattle.dcsctp_machine.specs.control.FlushChanges.{reset_to_begin, further_packets, chunks_behind, flushed_with, flush_where, flush}
 use Rattle.dcsctp_machine.specs.control.Acts.{sent_by}
 use Rattle.dcsctp_machine.specs.Past.{Has}
-use Rattle.dcsctp_machine_agreement.specs.OneSide.{IsEstablished, outstanding_in, MayDraw, Means}
+use Rattle.dcsctp_machine.specs.control.ResumeChanges.{resume_change}
+use Rattle.dcsctp_machine_agreement.specs.OneSide.{IsEstablished, outstanding_in, MayDraw, IsShown, Means}
 
 -- ---- one effect and several
 
@@ -19,6 +20,7 @@ use Rattle.dcsctp_machine_agreement.specs.OneSide.{IsEstablished, outstanding_in
 abbrev pub Says : Core → Effect → Type 0
 Says core (draws pair) = ⊥
 Says core (holds link) = link_in core ≡ Some link
+Says core (resumes link own last) = link_in core ≡ Some link
 Says core (connects link) = IsEstablished core link
 Says core ends = core ≡ closed
 Says core (begins number) = outstanding_in core ≡ Some number
@@ -69,12 +71,17 @@ pub record Meant (core : Core) (change : Change) : Type 0 where
   pub says : AllMean core change.core change.effects
   pub newly_held : (link : Link) → link_in change.core ≡ Some link → (link_in core ≡ Some link) ⊎ Has (holds link) change.effects
 
-pub means_by : (core : Core) (change : Change) → Meant core change → Means core change
-means_by core change m =
-    let tells : (effect : Effect) → Has effect change.effects → Tells core change.core effect = λ effect h. tells_of core change.core effect change.effects m.says h in
+some_same : (link other : Link) → Some other ≡ Some link → link ≡ other
+some_same link other e = cc
+
+means_of : (core : Core) (change : Change) → AllMean core change.core change.effects
+    → ((link : Link) → link_in change.core ≡ Some link → (link_in core ≡ Some link) ⊎ IsShown link change.effects) → Means core change
+means_of core change says shown =
+    let tells : (effect : Effect) → Has effect change.effects → Tells core change.core effect = λ effect h. tells_of core change.core effect change.effects says h in
     record {
       held = λ link h. tells (holds link) h;
-      newly_held = m.newly_held;
+      restored = λ link own last h. tells (resumes link own last) h;
+      newly_held = shown;
       connected = λ link h. tells (connects link) h;
       ended = λ h. tells ends h;
       drawn = λ pair h. tells (draws pair) h;
@@ -82,6 +89,15 @@ means_by core change m =
       completed = λ my number h. tells (completes my number) h;
       performed = λ peer number h. tells (performs peer number) h;
     }
+
+pub means_by : (core : Core) (change : Change) → Meant core change → Means core change
+means_by core change m = means_of core change m.says (λ link e. elim (m.newly_held link e) [ inl same ↦ inl same | inr held ↦ inr (inl held) ])
+
+-- a restore
+pub resume_means : (core : Core) (my : Pair) (held : Held) → Means core (resume_change my held)
+resume_means core my held =
+    means_of core (resume_change my held) (refl, (record { held = held; phase = refl; linked = refl }, tt))
+    (λ link e. inr (inr (held.own_next, held.peer_last, inl (ap (λ (l : Link). resumes l held.own_next held.peer_last) (some_same link (link_of my held) e)))))
 
 -- The same association is held, or none.
 pub same_meant : {core after : Core} {effects : List Effect} {following : Following} → link_in after ≡ link_in core → AllSay after effects

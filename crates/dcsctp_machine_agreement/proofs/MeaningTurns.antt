@@ -11,6 +11,7 @@ use Rattle.dcsctp_machine.specs.Packet.{Introduction, Content, init, init_ack, c
 use Rattle.dcsctp_machine.specs.Endpoint.{Core, closed, cookie_wait, cookie_echoed, open_in, OpenPhase, established, shutdown_ack_sent}
 use Rattle.dcsctp_machine.specs.Following.{next_chunk}
 use Rattle.dcsctp_machine.specs.control.Effect.{Link, holds, connects, Change, link_of, link_in}
+use Rattle.dcsctp_machine.specs.control.ResumeChanges.{resumed_held}
 use Rattle.dcsctp_machine.specs.control.Choices.{Filling, Choices}
 use Rattle.dcsctp_machine.specs.control.FlushChanges.{reset_request, Flushed, flush}
 use Rattle.dcsctp_machine.specs.control.HandshakeChanges.{introduction_of, connect_change, init_change, echo_change, held_by_init_ack, init_ack_change, cookie_ack_change, t1_again_change, t1_gives_up_change}
@@ -18,9 +19,9 @@ use Rattle.dcsctp_machine.specs.control.CookieEchoChanges.{Resolution, establish
 use Rattle.dcsctp_machine.specs.control.ResetChanges.{re_config_change, reset_worked}
 use Rattle.dcsctp_machine.specs.control.ShutdownChanges.{shutdown_step_change}
 use Rattle.dcsctp_machine.specs.control.Acts.{Act, connect, t1_expires, shut_down, step_of_shutdown, shutdown_repeats, abort_with, hands_over, flushes, request_again, sent_by, flush_change, request_sent, request_again_change, act_change, violation_change, plain_change, chunk_change}
-use Rattle.dcsctp_machine.specs.World.{acted, worked}
-use Rattle.dcsctp_machine_agreement.specs.OneSide.{EffectsMean}
-use Rattle.dcsctp_machine_agreement.proofs.Meaning.{AllSay, all_say-append, Meant, means_by, same_meant, drawn_meant, ended_meant, alone_says, end_says-alone, flush_link, flush_says, sent_says, connects_says}
+use Rattle.dcsctp_machine.specs.World.{acted, worked, resumed}
+use Rattle.dcsctp_machine_agreement.specs.OneSide.{Means, EffectsMean}
+use Rattle.dcsctp_machine_agreement.proofs.Meaning.{AllSay, all_say-append, Meant, means_by, resume_means, same_meant, drawn_meant, ended_meant, alone_says, end_says-alone, flush_link, flush_says, sent_says, connects_says}
 use Rattle.dcsctp_machine_agreement.proofs.MeaningResets.{reset_link, reset_says}
 use Rattle.dcsctp_machine_agreement.proofs.MeaningShutdown.{step_link, step_says, step_meant, call_meant, aborts_meant, again_meant, abort_meant, shutdown_meant, shutdown_ack_meant, shutdown_complete_meant, hand_over_meant}
 
@@ -199,3 +200,4 @@ chunk_meant options core header (plain chunk) choices = other_meant core choices
 pub effects_mean : EffectsMean
 effects_mean options core change (acted act choices is) = means_by core change (subst (Meant core) (sym is) (act_meant options core act choices))
 effects_mean options core change (worked header content choices is) = means_by core change (subst (Meant core) (sym is) (chunk_meant options core header content choices))
+effects_mean options core change (resumed my peer capabilities own last closes is) = subst (Means core) (sym is) (resume_means core my (resumed_held peer capabilities own last))

@@ -17,7 +17,7 @@ use Rattle.dcsctp_machine.specs.control.CookieEchoChanges.{Resolution, establish
 use Rattle.dcsctp_machine.specs.control.ResetChanges.{re_config_change}
 use Rattle.dcsctp_machine.specs.control.ShutdownChanges.{shutdown_step_change_in, shutdown_step_change, shutdown_call_change, abort_call_change, shutdown_again_change, abort_change, shutdown_change, shutdown_ack_change, shutdown_complete_change}
 use Rattle.dcsctp_machine.specs.control.Acts.{Act, connect, t1_expires, shut_down, step_of_shutdown, shutdown_repeats, abort_with, hands_over, flushes, request_again, flush_change, hand_over_change, request_sent, request_again_change, act_change, then_changes, violation_change, plain_change, chunk_change}
-use Rattle.dcsctp_machine.specs.World.{acted, worked}
+use Rattle.dcsctp_machine.specs.World.{acted, worked, resumed}
 use Rattle.dcsctp_machine_agreement.specs.OneSide.{ends_in, OneEnd, it_ends, it_stays, EndsOnce}
 use Rattle.dcsctp_machine_agreement.proofs.OneSideNoEnds.{no_ends-alone, one_end-alone, no_ends-flush, no_ends-sent, no_ends-reset}
 
@@ -233,3 +233,4 @@ chunk_ends_once options core header (plain chunk) choices = other_ends_once core
 pub ends_once : EndsOnce
 ends_once options core change (acted act choices is) = subst (OneEnd core) (sym is) (act_ends_once options core act choices)
 ends_once options core change (worked header content choices is) = subst (OneEnd core) (sym is) (chunk_ends_once options core header content choices)
+ends_once options core change (resumed my peer capabilities own last none is) = subst (OneEnd core) (sym is) (stays_open refl)

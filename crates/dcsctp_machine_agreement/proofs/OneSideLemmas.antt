@@ -6,11 +6,12 @@ use Rattle.dcsctp_machine.specs.declared.capabilities.Capabilities.{Capabilities
 use Rattle.dcsctp_wire.specs.declared.reconfiguration.ReconfigurationResponseResult.TheVariants.{InProgress}
 use Rattle.dcsctp_machine.specs.Packet.{Plain, Content, Packet}
 use Rattle.dcsctp_machine.specs.Reconfiguration.{RequestedReset}
-use Rattle.dcsctp_machine.specs.control.Effect.{Link, Effect, draws, sends, holds, connects, begins, emitted, link_of}
+use Rattle.dcsctp_machine.specs.control.Effect.{Link, Effect, draws, sends, holds, connects, begins, resumes, emitted, link_of}
 use Rattle.dcsctp_machine.specs.control.Choices.{plain_contents, Filling, Choices}
 use Rattle.dcsctp_machine.specs.control.FlushChanges.{Flushed, next_number, reset_to_begin, further_packets, flushed_with, flush_where, flush}
 use Rattle.dcsctp_machine.specs.control.HandshakeChanges.{new_held}
 use Rattle.dcsctp_machine.specs.control.Acts.{sent_by}
+use Rattle.dcsctp_machine.specs.control.ResumeChanges.{resumed_held}
 use Rattle.dcsctp_machine.specs.Past.{Each, InPlace, current, unconnected, number_to_begin, outstanding, number_to_accept, number_to_perform}
 use Rattle.dcsctp_machine.specs.World.{after_effects}
 
@@ -107,6 +108,21 @@ stands-new my peer capabilities past in_place = record {
   accepts_next = ap (λ (n : ℕ). Some n) (first_number peer.first_tsn);
   performs_last = λ e. absurd (cc);
   in_place = (tt, in_place);
+}
+
+-- where one is restored
+pub stands-resumed : (my peer : Pair) (capabilities : Capabilities) (own last : ℕ) (past : List Effect) → current past ≡ None → Each InPlace past
+    → Stands (link_of my (resumed_held peer capabilities own last)) (Some (link_of my (resumed_held peer capabilities own last))) (resumed_held peer capabilities own last) (resumes (link_of my (resumed_held peer capabilities own last)) own last ∷ past)
+stands-resumed my peer capabilities own last past none in_place = record {
+  same_peer = refl;
+  same_capabilities = refl;
+  is_current = refl;
+  is_waiting = refl;
+  begins_next = refl;
+  is_outstanding = refl;
+  accepts_next = refl;
+  performs_last = λ e. absurd (cc);
+  in_place = (none, in_place);
 }
 
 -- ---- the effects of a flush

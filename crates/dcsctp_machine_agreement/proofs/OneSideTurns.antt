@@ -2,6 +2,7 @@
 use Rattle.std.proofs.Common.{ℕ, Bool, true, false, Option, None, Some, List, [], ◌∷◌, refl, sym, subst}
 use Rattle.dcsctp_machine.specs.declared.association.Pair.{Pair}
 use Rattle.dcsctp_machine.specs.declared.association.Held.{Held}
+use Rattle.dcsctp_machine.specs.declared.capabilities.Capabilities.{Capabilities}
 use Rattle.dcsctp_machine.specs.declared.options.Options.{Options}
 use Rattle.dcsctp_machine.specs.Cookie.{cookie_at}
 use Rattle.dcsctp_machine.specs.Cause.{Cause, causes_of}
@@ -15,9 +16,10 @@ use Rattle.dcsctp_machine.specs.control.FlushChanges.{reset_request}
 use Rattle.dcsctp_machine.specs.control.ResetChanges.{re_config_change}
 use Rattle.dcsctp_machine.specs.control.ShutdownChanges.{shutdown_step_change_in, shutdown_step_change, shutdown_call_change, abort_call_change, shutdown_again_change, abort_change, shutdown_change, shutdown_ack_change, shutdown_complete_change}
 use Rattle.dcsctp_machine.specs.control.Acts.{Act, connect, t1_expires, shut_down, step_of_shutdown, shutdown_repeats, abort_with, hands_over, flushes, request_again, flush_change, hand_over_change, request_sent, request_again_change, act_change, then_changes, violation_change, plain_change, chunk_change}
-use Rattle.dcsctp_machine.specs.World.{SideState, after_effects, after_change, after_changes, ControlTurn, acted, worked, ControlTurns, SideRun, side_after}
+use Rattle.dcsctp_machine.specs.control.ResumeChanges.{resumed_held, resume_change}
+use Rattle.dcsctp_machine.specs.World.{SideState, after_effects, after_change, after_changes, ControlTurn, acted, worked, resumed, ControlTurns, SideRun, side_after}
 use Rattle.dcsctp_machine_agreement.specs.OneSide.{EffectsInPlace, Leaves, PastIsState}
-use Rattle.dcsctp_machine_agreement.proofs.OneSideLemmas.{Stands, after_effects-append, sent_leads}
+use Rattle.dcsctp_machine_agreement.proofs.OneSideLemmas.{Stands, after_effects-append, stands-connects, stands-resumed, sent_leads}
 use Rattle.dcsctp_machine_agreement.proofs.OneSideResets.{reset_leads}
 use Rattle.dcsctp_machine_agreement.proofs.OneSideHandshake.{Good, Keeps, good_in_place, good-sends, good-emitted, good-emitted_alone, good-ends, good-ended_alone, stands_open, stands_echoed, connect_keeps, init_keeps, init_ack_keeps, cookie_ack_keeps, t1_again_keeps, t1_gives_up_keeps, echo_keeps}
 
@@ -138,9 +140,15 @@ chunk_keeps options core header shutdown_ack choices past good = shutdown_ack_ke
 chunk_keeps options core header (shutdown_complete reflected) choices past good = shutdown_complete_keeps core past good
 chunk_keeps options core header (plain chunk) choices past good = other_keeps core choices.is_violation choices past good
 
+-- where none was
+resume_keeps : (my peer : Pair) (capabilities : Capabilities) (own last : ℕ) → Keeps closed (resume_change my (resumed_held peer capabilities own last))
+resume_keeps my peer capabilities own last past good = stands_open established (stands-connects (stands-resumed my peer capabilities own last past good.none good.in_place))
+
 turn_keeps : (options : Options) (core : Core) (change : Change) → ControlTurn options core change → Keeps core change
 turn_keeps options core change (acted act choices is) = subst (Keeps core) (sym is) (act_keeps options core act choices)
 turn_keeps options core change (worked header content choices is) = subst (Keeps core) (sym is) (chunk_keeps options core header content choices)
+turn_keeps options core change (resumed my peer capabilities own last none is) =
+    subst (Keeps core) (sym is) (subst (λ (c : Core). Keeps c (resume_change my (resumed_held peer capabilities own last))) (sym none) (resume_keeps my peer capabilities own last))
 
 -- ---- every run
 

@@ -4,7 +4,7 @@ use Rattle.dcsctp_machine.specs.declared.options.Options.{Options}
 use Rattle.dcsctp_machine.specs.declared.association.Pair.{Pair}
 use Rattle.dcsctp_machine.specs.declared.association.Held.{Held}
 use Rattle.dcsctp_machine.specs.Endpoint.{Core, closed, cookie_wait, cookie_echoed, open_in, established}
-use Rattle.dcsctp_machine.specs.control.Effect.{Link, Effect, draws, holds, connects, ends, begins, completes, fails, performs, Change, link_of, link_in}
+use Rattle.dcsctp_machine.specs.control.Effect.{Link, Effect, draws, holds, connects, ends, begins, completes, fails, performs, resumes, Change, link_of, link_in}
 use Rattle.dcsctp_wire.specs.declared.reconfiguration.ReconfigurationResponseResult.{ReconfigurationResponseResult}
 use Rattle.dcsctp_wire.specs.declared.reconfiguration.ReconfigurationResponseResult.TheVariants.{SuccessNothingToDo, SuccessPerformed, Denied, ErrorWrongSSN, ErrorRequestAlreadyInProgress, ErrorBadSequenceNumber}
 use Rattle.dcsctp_machine.specs.Reconfiguration.{ResetParameter, reconfiguration_response}
@@ -55,10 +55,15 @@ MayDraw (cookie_wait my) = ⊥
 MayDraw (cookie_echoed my held cookie) = ⊥
 MayDraw (open_in phase my held) = Unit {0}
 
+-- From here on this is the association: a handshake made it, or it was restored.
+abbrev pub IsShown : Link → List Effect → Type 0
+IsShown link effects = Has (holds link) effects ⊎ ((own : ℕ) × (last : ℕ) × Has (resumes link own last) effects)
+
 pub record Means (core : Core) (change : Change) : Type 0 where
   -- A shown association exists then, and a new one is shown.
   pub held : (link : Link) → Has (holds link) change.effects → link_in change.core ≡ Some link
-  pub newly_held : (link : Link) → link_in change.core ≡ Some link → (link_in core ≡ Some link) ⊎ Has (holds link) change.effects
+  pub restored : (link : Link) (own last : ℕ) → Has (resumes link own last) change.effects → link_in change.core ≡ Some link
+  pub newly_held : (link : Link) → link_in change.core ≡ Some link → (link_in core ≡ Some link) ⊎ IsShown link change.effects
   -- OnConnected finds Established.
   pub connected : (link : Link) → Has (connects link) change.effects → IsEstablished change.core link
   pub ended : Has ends change.effects → change.core ≡ closed

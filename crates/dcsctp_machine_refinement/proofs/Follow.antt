@@ -11,7 +11,7 @@ use Rattle.dcsctp_machine.specs.Outcome.{Outcome}
 use Rattle.dcsctp_machine.specs.Settings.{SameOptions}
 use Rattle.dcsctp_machine.specs.CallTurns.{Turned, after_all, effects_of, events_of, pairs_of}
 use Rattle.dcsctp_machine.specs.Controlled.{IsControlled}
-use Rattle.dcsctp_machine.specs.control.Effect.{Link, Effect, draws, sends, holds, connects, ends, begins, completes, fails, accepts, performs, drawn_in, noted, Change, unchanged, link_in}
+use Rattle.dcsctp_machine.specs.control.Effect.{Link, Effect, draws, sends, holds, connects, ends, begins, completes, fails, accepts, performs, resumes, drawn_in, noted, Change, unchanged, link_in}
 use Rattle.dcsctp_machine.specs.Laws.{AllControlled}
 use Rattle.dcsctp_machine.specs.Past.{Has, HasFreshTags}
 use Rattle.dcsctp_machine.specs.World.{SideState, after_effects, after_change, after_changes, ControlTurn, ControlTurns}
@@ -85,6 +85,7 @@ drawn_noted (completes my number ∷ effects) = drawn_noted effects
 drawn_noted (fails number ∷ effects) = drawn_noted effects
 drawn_noted (accepts number ∷ effects) = drawn_noted effects
 drawn_noted (performs peer number ∷ effects) = drawn_noted effects
+drawn_noted (resumes link own last ∷ effects) = drawn_noted effects
 
 pub noted_after : (effects past : List Effect) → noted (after_effects effects past) ≡ after_effects (noted effects) (noted past)
 noted_after [] past = refl
@@ -98,6 +99,7 @@ noted_after (completes my number ∷ effects) past = noted_after effects (comple
 noted_after (fails number ∷ effects) past = noted_after effects (fails number ∷ past)
 noted_after (accepts number ∷ effects) past = noted_after effects (accepts number ∷ past)
 noted_after (performs peer number ∷ effects) past = noted_after effects (performs peer number ∷ past)
+noted_after (resumes link own last ∷ effects) past = noted_after effects (resumes link own last ∷ past)
 
 pub after_both : (xs ys past : List Effect) → after_effects (xs ++ ys) past ≡ after_effects ys (after_effects xs past)
 after_both [] ys past = refl

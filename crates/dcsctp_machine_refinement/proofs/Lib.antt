@@ -21,6 +21,7 @@ mod PacketMoves
 mod PlainFits
 mod RequestAgain
 mod Resets
+mod RestoreTurns
 mod Sendable
 mod ShutdownFits
 mod Sent

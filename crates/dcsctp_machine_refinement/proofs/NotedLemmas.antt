@@ -1,7 +1,7 @@
 -- What the noted past leaves, without its packets, is what the whole past leaves.
 use Rattle.std.proofs.Common.{◌≡◌, ℕ, ◌+◌, ◌-◌, ◌^◌, ◌≤◌, List, [], ◌∷◌, inl, inr, refl, subst, ap, ◌∙◌}
 use Rattle.dcsctp_machine.specs.declared.association.Pair.{Pair}
-use Rattle.dcsctp_machine.specs.control.Effect.{Effect, draws, sends, holds, connects, ends, begins, completes, fails, accepts, performs, noted}
+use Rattle.dcsctp_machine.specs.control.Effect.{Effect, draws, sends, holds, connects, ends, begins, completes, fails, accepts, performs, resumes, noted}
 use Rattle.dcsctp_machine.specs.Past.{Has, Each, InPlace, current, unconnected, number_to_begin, outstanding, requests_begun, number_to_accept, number_to_perform, my_of, peer_of}
 use Rattle.dcsctp_machine_agreement.specs.Agreement.{FindsPerformed}
 
@@ -19,6 +19,7 @@ current-noted (completes my number ∷ past) = current-noted past
 current-noted (fails number ∷ past) = current-noted past
 current-noted (accepts number ∷ past) = current-noted past
 current-noted (performs peer number ∷ past) = current-noted past
+current-noted (resumes link own last ∷ past) = refl
 
 unconnected-noted : (past : List Effect) → unconnected (noted past) ≡ unconnected past
 unconnected-noted [] = refl
@@ -32,6 +33,7 @@ unconnected-noted (completes my number ∷ past) = unconnected-noted past
 unconnected-noted (fails number ∷ past) = unconnected-noted past
 unconnected-noted (accepts number ∷ past) = unconnected-noted past
 unconnected-noted (performs peer number ∷ past) = unconnected-noted past
+unconnected-noted (resumes link own last ∷ past) = refl
 
 number_to_begin-noted : (past : List Effect) → number_to_begin (noted past) ≡ number_to_begin past
 number_to_begin-noted [] = refl
@@ -45,6 +47,7 @@ number_to_begin-noted (completes my number ∷ past) = number_to_begin-noted pas
 number_to_begin-noted (fails number ∷ past) = number_to_begin-noted past
 number_to_begin-noted (accepts number ∷ past) = number_to_begin-noted past
 number_to_begin-noted (performs peer number ∷ past) = number_to_begin-noted past
+number_to_begin-noted (resumes link own last ∷ past) = refl
 
 outstanding-noted : (past : List Effect) → outstanding (noted past) ≡ outstanding past
 outstanding-noted [] = refl
@@ -58,6 +61,7 @@ outstanding-noted (completes my number ∷ past) = refl
 outstanding-noted (fails number ∷ past) = refl
 outstanding-noted (accepts number ∷ past) = outstanding-noted past
 outstanding-noted (performs peer number ∷ past) = outstanding-noted past
+outstanding-noted (resumes link own last ∷ past) = refl
 
 number_to_accept-noted : (past : List Effect) → number_to_accept (noted past) ≡ number_to_accept past
 number_to_accept-noted [] = refl
@@ -71,6 +75,7 @@ number_to_accept-noted (completes my number ∷ past) = number_to_accept-noted p
 number_to_accept-noted (fails number ∷ past) = number_to_accept-noted past
 number_to_accept-noted (accepts number ∷ past) = refl
 number_to_accept-noted (performs peer number ∷ past) = number_to_accept-noted past
+number_to_accept-noted (resumes link own last ∷ past) = refl
 
 number_to_perform-noted : (past : List Effect) → number_to_perform (noted past) ≡ number_to_perform past
 number_to_perform-noted [] = refl
@@ -84,6 +89,7 @@ number_to_perform-noted (completes my number ∷ past) = number_to_perform-noted
 number_to_perform-noted (fails number ∷ past) = number_to_perform-noted past
 number_to_perform-noted (accepts number ∷ past) = refl
 number_to_perform-noted (performs peer number ∷ past) = refl
+number_to_perform-noted (resumes link own last ∷ past) = refl
 
 requests_begun-noted : (past : List Effect) → requests_begun (noted past) ≡ requests_begun past
 requests_begun-noted [] = refl
@@ -97,6 +103,7 @@ requests_begun-noted (completes my number ∷ past) = requests_begun-noted past
 requests_begun-noted (fails number ∷ past) = requests_begun-noted past
 requests_begun-noted (accepts number ∷ past) = requests_begun-noted past
 requests_begun-noted (performs peer number ∷ past) = requests_begun-noted past
+requests_begun-noted (resumes link own last ∷ past) = refl
 
 -- ---- each effect in its place
 
@@ -112,6 +119,7 @@ in_place-noted (completes my number ∷ past) each = ((outstanding-noted past �
 in_place-noted (fails number ∷ past) each = (outstanding-noted past ∙ each.0, in_place-noted past each.1)
 in_place-noted (accepts number ∷ past) each = (number_to_accept-noted past ∙ each.0, in_place-noted past each.1)
 in_place-noted (performs peer number ∷ past) each = ((number_to_perform-noted past ∙ each.0.0, ap peer_of (current-noted past) ∙ each.0.1), in_place-noted past each.1)
+in_place-noted (resumes link own last ∷ past) each = (current-noted past ∙ each.0, in_place-noted past each.1)
 
 -- ---- performed requests
 
@@ -137,6 +145,8 @@ performs_noted my number (accepts other ∷ past) (inl is) = inl is
 performs_noted my number (accepts other ∷ past) (inr has) = inr (performs_noted my number past has)
 performs_noted my number (performs peer other ∷ past) (inl is) = inl is
 performs_noted my number (performs peer other ∷ past) (inr has) = inr (performs_noted my number past has)
+performs_noted my number (resumes link own last ∷ past) (inl is) = inl is
+performs_noted my number (resumes link own last ∷ past) (inr has) = inr (performs_noted my number past has)
 
 pub performed-noted : (theirs mine : List Effect) → Each (FindsPerformed theirs) mine → Each (FindsPerformed (noted theirs)) (noted mine)
 performed-noted theirs [] each = tt
@@ -151,3 +161,4 @@ performed-noted theirs (completes my number ∷ mine) each =
 performed-noted theirs (fails number ∷ mine) each = (tt, performed-noted theirs mine each.1)
 performed-noted theirs (accepts number ∷ mine) each = (tt, performed-noted theirs mine each.1)
 performed-noted theirs (performs peer number ∷ mine) each = (tt, performed-noted theirs mine each.1)
+performed-noted theirs (resumes link own last ∷ mine) each = (tt, performed-noted theirs mine each.1)

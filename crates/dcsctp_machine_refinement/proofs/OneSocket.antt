@@ -10,9 +10,9 @@ use Rattle.dcsctp_machine.specs.Outcome.{Outcome, quiet, sends as sends_packet, 
 use Rattle.dcsctp_machine.proofs.DataLemmas.{flushed_act, end_at, send_at, resets_at, take_at}
 use Rattle.dcsctp_machine.specs.turns.OwnTimers.{timer_act}
 use Rattle.dcsctp_machine.proofs.HeartbeatLemmas.{timer_controlled}
-use Rattle.dcsctp_machine.specs.Turn.{Input, arrival, refusal, packet_begins, chunk_input, packet_ends, act_input, user_sets, user_sends, user_resets, user_takes, timer_expires, time_passes, has_data}
+use Rattle.dcsctp_machine.specs.Turn.{Input, arrival, refusal, packet_begins, chunk_input, packet_ends, act_input, user_sets, user_sends, user_resets, user_takes, timer_expires, time_passes, restores, has_data}
 use Rattle.dcsctp_machine.specs.turns.HandshakeOutcomes.{pair_from, renewed_pair, renewed_outcome, init_ack_emission, init_outcome}
-use Rattle.dcsctp_machine.specs.control.Effect.{Effect, draws, sends, holds, connects, ends, begins, completes, fails, accepts, performs, noted, Change}
+use Rattle.dcsctp_machine.specs.control.Effect.{Effect, draws, sends, holds, connects, ends, begins, completes, fails, accepts, performs, resumes, noted, Change}
 use Rattle.dcsctp_machine.specs.control.Acts.{Act, shutdown_repeats, flushes}
 use Rattle.dcsctp_machine.specs.Controlled.{ControlledChunk, ControlledAct}
 use Rattle.dcsctp_machine.specs.CallTurns.{Turned, IsTurn, AlongTurns}
@@ -27,6 +27,10 @@ use Rattle.dcsctp_machine.proofs.ControlLemmas.{begin_stands}
 use Rattle.dcsctp_machine.proofs.PlainLemmas.{plain_controlled}
 use Rattle.dcsctp_machine.proofs.ResetLemmas.{reset_controlled}
 use Rattle.dcsctp_machine_agreement.specs.OneSide.{AnswersEndRequests}
+use Rattle.dcsctp_machine.specs.Snapshot.{Snapshot}
+use Rattle.dcsctp_machine.specs.transfer.Transfer.{Transfer}
+use Rattle.dcsctp_machine.specs.turns.RestoreOutcomes.{restored_outcome}
+use Rattle.dcsctp_machine.proofs.ControlRestores.{restore_stands}
 use Rattle.dcsctp_machine_refinement.specs.OneSocket.{EndsByAnswer, SocketRequestsEndByAnswers}
 
 -- ---- one turn
@@ -52,7 +56,9 @@ noted_happened effect (fails number ∷ effects) (inr has) = inr (noted_happened
 noted_happened effect (accepts number ∷ effects) (inl is) = inl is
 noted_happened effect (accepts number ∷ effects) (inr has) = inr (noted_happened effect effects has)
 noted_happened effect (performs peer number ∷ effects) (inl is) = inl is
+noted_happened effect (resumes link own last ∷ effects) (inl is) = inl is
 noted_happened effect (performs peer number ∷ effects) (inr has) = inr (noted_happened effect effects has)
+noted_happened effect (resumes link own last ∷ effects) (inr has) = inr (noted_happened effect effects has)
 
 -- a turn whose effects end no request
 record EndsNone (effects : List Effect) : Type 0 where
@@ -128,6 +134,13 @@ chunk_ends law e tag shutdown_ack t h = by_chunk law e tag shutdown_ack t h.is (
 chunk_ends law e tag (shutdown_complete reflected) t h = by_chunk law e tag (shutdown_complete reflected) t h.is (shutdown_complete_controlled e tag reflected t.outcome h.comes)
 chunk_ends law e tag (plain chunk) t h = by_chunk law e tag (plain chunk) t h.is (plain_controlled e tag chunk t.outcome h.comes)
 
+restore_ends_none : (e : Endpoint) (state : Snapshot) (transfer : Transfer) → EndsNone (restored_outcome e state transfer).effects
+restore_ends_none e state transfer =
+    record {
+      completed = λ my number has. elim has [ inl is ↦ absurd (cc) | inr (inl is) ↦ absurd (cc) | inr (inr none) ↦ absurd none ];
+      failed = λ number has. elim has [ inl is ↦ absurd (cc) | inr (inl is) ↦ absurd (cc) | inr (inr none) ↦ absurd none ];
+    }
+
 -- the laws that this rests on
 pub record EndLaws : Type 0 where
   pub answers : AnswersEndRequests
@@ -147,6 +160,8 @@ turn_ends law e (user_resets ids) t h = by_act law.answers e flushes t (flushed_
 turn_ends law e user_takes t h = by_act law.answers e flushes t (flushed_act e t.outcome (take_at e e.below.transfer t.outcome h.comes))
 turn_ends law e (timer_expires timer) t h = by_act law.answers e (timer_act e timer) t (timer_controlled e timer t.outcome h.comes)
 turn_ends law e (time_passes moment) t h = same_ends t _ h.comes nothing_ended
+turn_ends law e (restores state) t h =
+    elim (restore_stands e state t.outcome h.comes) [ inl rests ↦ same_ends t _ rests nothing_ended | inr restored ↦ same_ends t _ restored.is (restore_ends_none e state restored.transfer) ]
 
 -- ---- a run
 

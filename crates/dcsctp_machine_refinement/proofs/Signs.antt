@@ -2,7 +2,7 @@
 use Rattle.std.proofs.Common.{◌≡◌, List, [], ◌∷◌, ◌⊎◌, inl, inr, refl, subst}
 use Rattle.dcsctp_machine.specs.Event.{Event, sent, connected, closed, connection_restarted, aborted, error, buffered_amount_low, total_buffered_amount_low, streams_reset_failed, streams_reset_performed, incoming_stream_reset, lifecycle_message_fully_sent, lifecycle_message_maybe_expired, lifecycle_message_expired, lifecycle_message_delivered, lifecycle_end}
 use Rattle.dcsctp_machine.specs.Packet.{Packet, Emission}
-use Rattle.dcsctp_machine.specs.control.Effect.{Link, Effect, draws, sends, holds, connects, ends, begins, completes, fails, accepts, performs}
+use Rattle.dcsctp_machine.specs.control.Effect.{Link, Effect, draws, sends, holds, connects, ends, begins, completes, fails, accepts, performs, resumes}
 use Rattle.dcsctp_machine.specs.Controlled.{Sign, packet_sent, has_connected, has_ended, own_reset_performed, own_reset_failed, peer_reset_performed, signs_of_events, signs_of_effects}
 use Rattle.dcsctp_machine.specs.Past.{Has}
 use Rattle.dcsctp_machine.specs.World.{after_effects}
@@ -75,6 +75,7 @@ shown_is_effect packet (fails number ∷ effects) (inr shown) = inr (shown_is_ef
 shown_is_effect packet (accepts number ∷ effects) shown = inr (shown_is_effect packet effects shown)
 shown_is_effect packet (performs peer number ∷ effects) (inl is) = absurd (cc)
 shown_is_effect packet (performs peer number ∷ effects) (inr shown) = inr (shown_is_effect packet effects shown)
+shown_is_effect packet (resumes link own last ∷ effects) shown = inr (shown_is_effect packet effects shown)
 
 abbrev pub WasSent : List Effect → Emission → Type 0
 WasSent past emission = Has (sends emission.packet) past
@@ -129,6 +130,7 @@ shown_connects (fails number ∷ effects) (inr shown) = behind (fails number) ef
 shown_connects (accepts number ∷ effects) shown = behind (accepts number) effects (shown_connects effects shown)
 shown_connects (performs peer number ∷ effects) (inl is) = absurd (cc)
 shown_connects (performs peer number ∷ effects) (inr shown) = behind (performs peer number) effects (shown_connects effects shown)
+shown_connects (resumes link own last ∷ effects) shown = behind (resumes link own last) effects (shown_connects effects shown)
 
 pub connected_connects : (events : List (Event Emission)) (effects : List Effect) → signs_of_events events ≡ signs_of_effects effects → HasConnected events → Connects effects
 connected_connects events effects same h = shown_connects effects (subst (IsSign has_connected) same (connected_is_shown events h))

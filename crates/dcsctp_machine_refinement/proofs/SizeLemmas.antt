@@ -10,12 +10,13 @@ use Rattle.dcsctp_machine.specs.Event.{Event, sent, event_map, packets_in}
 use Rattle.dcsctp_machine.specs.Packet.{Content, init, init_ack, cookie_echo, cookie_ack, re_config, abort, shutdown, shutdown_ack, shutdown_complete, plain, chunk_out, Emission, emission_bytes}
 use Rattle.dcsctp_machine.specs.Endpoint.{Endpoint, fresh_endpoint}
 use Rattle.dcsctp_machine.specs.Outcome.{Outcome, contents_len}
-use Rattle.dcsctp_machine.specs.Turn.{Input, arrival, refusal, packet_begins, chunk_input, packet_ends, act_input, user_sets, user_sends, user_resets, user_takes, timer_expires, time_passes, has_data, ContentTurn, ActTurn}
+use Rattle.dcsctp_machine.specs.Turn.{Input, arrival, refusal, packet_begins, chunk_input, packet_ends, act_input, user_sets, user_sends, user_resets, user_takes, timer_expires, time_passes, restores, has_data, ContentTurn, ActTurn}
 use Rattle.dcsctp_machine.specs.turns.TimerOutcomes.{t1_goes_on}
 use Rattle.dcsctp_machine.specs.control.Acts.{Act, connect, t1_expires, shut_down, step_of_shutdown, shutdown_repeats, abort_with, hands_over, flushes, request_again}
 use Rattle.dcsctp_machine.specs.CallTurns.{Turned, IsTurn, AlongTurns, events_of}
 use Rattle.dcsctp_machine.specs.Sockets.{of_side, turns_after}
 use Rattle.dcsctp_machine.proofs.AlongLemmas.{run_along_where}
+use Rattle.dcsctp_machine_refinement.proofs.RestoreTurns.{restore_sizes}
 use Rattle.dcsctp_machine_refinement.specs.OneSocket.{IsWithinLimit, SocketsKeepSizes}
 use Rattle.dcsctp_machine_refinement.proofs.HandoverTurns.{hand_over_sizes}
 use Rattle.dcsctp_machine_refinement.proofs.Sizes.{AtLimit, AllShort, TurnSizes, short_append}
@@ -67,6 +68,7 @@ turn_sizes limit e (user_resets ids) t may turn h = resets_sizes limit e ids t.o
 turn_sizes limit e user_takes t may turn h = take_sizes limit e e.below.transfer t.outcome turn.comes h
 turn_sizes limit e (timer_expires timer) t may turn h = timer_sizes limit e timer t.outcome turn.comes h
 turn_sizes limit e (time_passes moment) t may turn h = subst (TurnSizes limit) (sym turn.comes) (h, tt)
+turn_sizes limit e (restores state) t may turn h = restore_sizes limit e state t.outcome turn.comes h
 
 all_short : (limit : ℕ) (e : Endpoint) (ts : List Turned) → AlongTurns (KeepsSize limit) e ts → AtLimit limit e → AllShort limit (events_of ts)
 all_short limit e [] along h = tt

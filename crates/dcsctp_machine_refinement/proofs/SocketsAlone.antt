@@ -8,7 +8,7 @@ use Rattle.dcsctp_machine.specs.Outcome.{Outcome}
 use Rattle.dcsctp_machine.proofs.DataLemmas.{flushed_act, end_at, send_at, resets_at, take_at}
 use Rattle.dcsctp_machine.specs.turns.OwnTimers.{timer_act}
 use Rattle.dcsctp_machine.proofs.HeartbeatLemmas.{timer_controlled}
-use Rattle.dcsctp_machine.specs.Turn.{Input, arrival, refusal, packet_begins, chunk_input, packet_ends, act_input, user_sets, user_sends, user_resets, user_takes, timer_expires, time_passes, has_data}
+use Rattle.dcsctp_machine.specs.Turn.{Input, arrival, refusal, packet_begins, chunk_input, packet_ends, act_input, user_sets, user_sends, user_resets, user_takes, timer_expires, time_passes, restores, has_data}
 use Rattle.dcsctp_machine.specs.control.Effect.{Effect, noted, Change}
 use Rattle.dcsctp_machine.specs.control.Choices.{Choices}
 use Rattle.dcsctp_machine.specs.control.Acts.{Act, connect, t1_expires, shut_down, step_of_shutdown, shutdown_repeats, abort_with, hands_over, flushes, request_again, act_change, chunk_change}
@@ -16,7 +16,7 @@ use Rattle.dcsctp_machine.specs.Controlled.{IsControlled, ControlledChunk, Contr
 use Rattle.dcsctp_machine.specs.CallTurns.{Turned, IsTurn, AlongTurns, effects_of}
 use Rattle.dcsctp_machine.specs.Laws.{ChunksAreControlled, ActsAreControlled}
 use Rattle.dcsctp_machine.specs.Past.{Each, InPlace}
-use Rattle.dcsctp_machine.specs.World.{SideState, after_effects, ControlTurn, acted, worked, SideRun, side_after}
+use Rattle.dcsctp_machine.specs.World.{SideState, after_effects, ControlTurn, acted, worked, resumed, SideRun, side_after}
 use Rattle.dcsctp_machine.specs.Sockets.{of_side, turns_after}
 use Rattle.dcsctp_machine.proofs.TurnLemmas.{same_after}
 use Rattle.dcsctp_machine.proofs.AlongLemmas.{run_along}
@@ -24,6 +24,8 @@ use Rattle.dcsctp_machine.proofs.ControlLemmas.{begin_stands}
 use Rattle.dcsctp_machine.proofs.ControlInit.{init_moves}
 use Rattle.dcsctp_machine.proofs.DeliveryLemmas.{chunk_same, longest_connects}
 use Rattle.dcsctp_machine_agreement.specs.OneSide.{EffectsInPlace}
+use Rattle.dcsctp_machine.proofs.ControlRestores.{resumed_by, restore_stands}
+use Rattle.dcsctp_machine_refinement.proofs.RestoreTurns.{resumed_turn}
 use Rattle.dcsctp_machine_refinement.specs.OneSocket.{SocketEffectsInPlace}
 use Rattle.dcsctp_machine_refinement.proofs.Follow.{noted_after, after_both}
 use Rattle.dcsctp_machine_refinement.proofs.NotedLemmas.{in_place-noted}
@@ -82,6 +84,11 @@ turn_moves law e (user_resets ids) t h valid = moves_by_act e flushes t (flushed
 turn_moves law e user_takes t h valid = moves_by_act e flushes t (flushed_act e t.outcome (take_at e e.below.transfer t.outcome h.comes))
 turn_moves law e (timer_expires timer) t h valid = moves_by_act e (timer_act e timer) t (timer_controlled e timer t.outcome h.comes)
 turn_moves law e (time_passes moment) t h valid = rests_as e t _ h.comes refl refl refl
+turn_moves law e (restores state) t h valid =
+    elim (restore_stands e state t.outcome h.comes) [
+      | inl rests ↦ rests_as e t _ rests refl refl refl
+      | inr restored ↦ it_moves (resumed_by e state) (resumed_turn e state t.outcome restored) restored.controlled
+    ]
 
 -- ---- the longest message has no part in it
 
@@ -99,6 +106,7 @@ longest_acts p n core (request_again reset) choices = refl
 longest_turns : (p : Options) (n : ℕ) (core : Core) (change : Change) → ControlTurn (record p { max_message_size = n }) core change → ControlTurn p core change
 longest_turns p n core change (acted act choices is) = acted act choices (is ∙ longest_acts p n core act choices)
 longest_turns p n core change (worked header content choices is) = worked header content choices (is ∙ chunk_same p n core header content choices)
+longest_turns p n core change (resumed my peer capabilities own last none is) = resumed my peer capabilities own last none is
 
 same_turn : (p q : Options) (core : Core) (change : Change) → SameOptions p q → ControlTurn q core change → ControlTurn p core change
 same_turn p q core change same turn = longest_turns p q.max_message_size core change (subst (λ (x : Options). ControlTurn x core change) same turn)

@@ -5,12 +5,13 @@ use Rattle.dcsctp_machine.specs.Packet.{Content, init, init_ack, cookie_echo, co
 use Rattle.dcsctp_machine.specs.Endpoint.{Endpoint, fresh_endpoint}
 use Rattle.dcsctp_machine.specs.Timers.{going_on}
 use Rattle.dcsctp_machine.specs.Outcome.{Outcome}
-use Rattle.dcsctp_machine.specs.Turn.{Input, arrival, refusal, packet_begins, chunk_input, packet_ends, act_input, user_sets, user_sends, user_resets, user_takes, timer_expires, time_passes, has_data, ContentTurn, ActTurn}
+use Rattle.dcsctp_machine.specs.Turn.{Input, arrival, refusal, packet_begins, chunk_input, packet_ends, act_input, user_sets, user_sends, user_resets, user_takes, timer_expires, time_passes, restores, has_data, ContentTurn, ActTurn}
 use Rattle.dcsctp_machine.specs.turns.TimerOutcomes.{t1_goes_on}
 use Rattle.dcsctp_machine.specs.control.Acts.{Act, connect, t1_expires, shut_down, step_of_shutdown, shutdown_repeats, abort_with, hands_over, flushes, request_again}
 use Rattle.dcsctp_machine.specs.CallTurns.{Turned, IsTurn, AlongTurns, after_all}
 use Rattle.dcsctp_machine.specs.Sockets.{of_side, turns_after}
 use Rattle.dcsctp_machine.proofs.AlongLemmas.{MayCome, run_along_where}
+use Rattle.dcsctp_machine_refinement.proofs.RestoreTurns.{restore_up}
 use Rattle.dcsctp_machine_refinement.specs.Deadlines.{SocketsRunT1}
 use Rattle.dcsctp_machine_refinement.proofs.HandoverTurns.{hand_over_up}
 use Rattle.dcsctp_machine_refinement.proofs.Resets.{reset_up}
@@ -50,6 +51,7 @@ these_may_come =
       resets = λ ids. tt;
       takes = tt;
       hands_over = tt;
+      restored = λ state. tt;
       own_expires = λ timer. tt;
       passes = λ moment. tt;
     }
@@ -97,6 +99,7 @@ turn_up e (user_resets ids) t may turn h = resets_up e ids t.outcome turn.comes 
 turn_up e user_takes t may turn h = take_up e e.below.transfer t.outcome turn.comes h
 turn_up e (timer_expires timer) t may turn h = timer_up e timer t.outcome turn.comes h
 turn_up e (time_passes moment) t may turn h = subst UpAfter (sym turn.comes) h
+turn_up e (restores state) t may turn h = restore_up e state t.outcome turn.comes h
 
 -- ---- a run
 

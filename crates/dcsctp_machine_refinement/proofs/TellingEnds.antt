@@ -10,9 +10,9 @@ use Rattle.dcsctp_machine.specs.Outcome.{Outcome, still, quiet, sends as sends_p
 use Rattle.dcsctp_machine.proofs.DataLemmas.{flushed_act, end_at, send_at, resets_at, take_at}
 use Rattle.dcsctp_machine.specs.turns.OwnTimers.{timer_act}
 use Rattle.dcsctp_machine.proofs.HeartbeatLemmas.{timer_controlled}
-use Rattle.dcsctp_machine.specs.Turn.{Input, arrival, refusal, packet_begins, chunk_input, packet_ends, act_input, user_sets, user_sends, user_resets, user_takes, timer_expires, time_passes, has_data}
+use Rattle.dcsctp_machine.specs.Turn.{Input, arrival, refusal, packet_begins, chunk_input, packet_ends, act_input, user_sets, user_sends, user_resets, user_takes, timer_expires, time_passes, restores, has_data}
 use Rattle.dcsctp_machine.specs.turns.HandshakeOutcomes.{pair_from, renewed_pair, init_ack_emission, init_outcome}
-use Rattle.dcsctp_machine.specs.control.Effect.{Effect, draws, sends, holds, connects, ends, begins, completes, fails, accepts, performs, Change}
+use Rattle.dcsctp_machine.specs.control.Effect.{Effect, draws, sends, holds, connects, ends, begins, completes, fails, accepts, performs, resumes, Change}
 use Rattle.dcsctp_machine.specs.control.Acts.{Act, act_change, shutdown_repeats, flushes}
 use Rattle.dcsctp_machine.specs.Controlled.{Sign, packet_sent, has_connected, has_ended, own_reset_performed, own_reset_failed, peer_reset_performed, signs_of_events, signs_of_effects, IsControlled, ControlledChunk, ControlledAct}
 use Rattle.dcsctp_machine.specs.CallTurns.{Turned, IsTurn}
@@ -26,6 +26,8 @@ use Rattle.dcsctp_machine.proofs.ControlLemmas.{begin_stands}
 use Rattle.dcsctp_machine.proofs.PlainLemmas.{plain_controlled}
 use Rattle.dcsctp_machine.proofs.ResetLemmas.{reset_controlled}
 use Rattle.dcsctp_machine_agreement.specs.OneSide.{ends_in, OneEnd, it_ends, it_stays, EndsOnce}
+use Rattle.dcsctp_machine.proofs.ControlRestores.{resumed_by, restore_stands}
+use Rattle.dcsctp_machine_refinement.proofs.RestoreTurns.{resumed_turn}
 use Rattle.dcsctp_machine_refinement.specs.OneSocket.{ends_told, TellsEnd, SocketsTellEnds}
 use Rattle.dcsctp_machine_refinement.specs.OneSocket as told
 
@@ -73,6 +75,7 @@ effects_among (completes my number ∷ effects) = effects_among effects
 effects_among (fails number ∷ effects) = effects_among effects
 effects_among (accepts number ∷ effects) = effects_among effects
 effects_among (performs peer number ∷ effects) = effects_among effects
+effects_among (resumes link own last ∷ effects) = effects_among effects
 
 -- ---- one turn
 
@@ -159,6 +162,11 @@ turn_tells law e (user_resets ids) t h = by_act law.once e flushes t (flushed_ac
 turn_tells law e user_takes t h = by_act law.once e flushes t (flushed_act e t.outcome (take_at e e.below.transfer t.outcome h.comes))
 turn_tells law e (timer_expires timer) t h = by_act law.once e (timer_act e timer) t (timer_controlled e timer t.outcome h.comes)
 turn_tells law e (time_passes moment) t h = rests e t _ h.comes (record { core = refl; none = refl })
+turn_tells law e (restores state) t h =
+    elim (restore_stands e state t.outcome h.comes) [
+      | inl nothing ↦ rests e t _ nothing (still_rests e)
+      | inr restored ↦ told_by e t (resumed_by e state) restored.controlled (law.once e.options e.core (resumed_by e state) (resumed_turn e state t.outcome restored))
+    ]
 
 pub ends_are_told : EndLaws → SocketsTellEnds
 ends_are_told law options run runs side = run_along TellsEnd (turn_tells law) options run runs side

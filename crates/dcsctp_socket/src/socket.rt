@@ -4,7 +4,7 @@ ghost use Rattle.dcsctp_socket.specs.SocketView.{Settles};
 
 use dcsctp_api::{
     Association, BatchSendError, DcSctpSocket, HandoverError, HandoverReadiness, Message, Metrics, Options, Pair,
-    ResetStreamsError, SendError, SendOptions, SocketEvent, SocketFault, SocketState, SocketTime,
+    ResetStreamsError, RestoreError, SendError, SendOptions, SocketEvent, SocketFault, SocketState, SocketTime,
     StreamId,
 };
 use dcsctp_api::handover::SocketHandoverState;
@@ -119,13 +119,15 @@ impl<R: Rng + Drop> Socket<R> {
 }
 
 impl<R: Rng + Drop> DcSctpSocket for Socket<R> {
-    ghost use Rattle.std.specs.Prelude.{◌≡◌, ◌≢◌, ◌<◌, true, false, map, IsOk, OnOk, IsErrOf};
+    ghost use Rattle.std.specs.Prelude.{◌≡◌, ◌≢◌, ◌<◌, [], true, false, map, IsOk, OnOk, IsErrOf};
     ghost use Rattle.dcsctp_api.specs.Calls.{PollsEvent, HandlesInput, Connects, Closes, ShutsDown, takes_shutdown, Sets, with_setting, is_closed};
     ghost use Rattle.dcsctp_machine.specs.turns.SettingOutcomes.{stream_priority, stream_low_threshold, longest_message};
     ghost use Rattle.dcsctp_machine.specs.TimeTurns.{Waits, next_moment};
     ghost use Rattle.dcsctp_api.specs.Time.{Advances, OnlyMovesClock};
-    ghost use Rattle.dcsctp_api.specs.Handover.{HandsOver};
+    ghost use Rattle.dcsctp_api.specs.Handover.{HandsOver, Restores};
     ghost use Rattle.dcsctp_machine.specs.Handover.{readiness_of};
+    ghost use Rattle.dcsctp_machine.specs.Snapshot.{snapshot};
+    ghost use Rattle.dcsctp_machine.specs.Sockets.{inputs_of_restore};
     ghost use Rattle.dcsctp_api.specs.Messages.{Sends, SendsMany, TakesNext};
     ghost use Rattle.dcsctp_api.specs.Resets.{ResetsOwn};
     ghost use Rattle.dcsctp_machine.specs.Ids.{stream_numbers};
@@ -329,6 +331,26 @@ impl<R: Rng + Drop> DcSctpSocket for Socket<R> {
             return Err(SocketFault::Failed);
         }
         let outcome = dcsctp_socket_calls::get_handover_state_and_close(&mut self.context);
+        settled(&mut self.failed, outcome)
+    }
+
+    fn restore_from_state(
+        &mut self,
+        state: &SocketHandoverState,
+    ) -> Result<Result<(), RestoreError>, SocketFault>
+        ensures call { Restores (snapshot state.now) (user_view_of self.old) result (user_view_of self.new) }
+        ensures idle { self.old.failed ≡ false
+            → inputs_of_restore self.old.view.endpoint.core (snapshot state.now) ≡ [] → IsOk result }
+        // The words are what the generator gave, in order.
+        ensures drawn { OnOk result (Drawn (R.stream self.old.view.generator) self.new.view.words
+            (R.stream self.new.view.generator)) }
+        ensures failed { IsErrOf result SocketFault.Failed → self.new ≡ self.old }
+    {
+        // A socket that has failed is not restored.
+        if self.failed {
+            return Err(SocketFault::Failed);
+        }
+        let outcome = dcsctp_socket_calls::restore_from_state(&mut self.context, state);
         settled(&mut self.failed, outcome)
     }
 

@@ -1,13 +1,15 @@
-//! The call that hands a socket over, over its parts.
+//! The calls that hand a socket over and restore it, over its parts.
 
-ghost use Rattle.std.specs.Prelude.{◌≢◌, IsOk};
+ghost use Rattle.std.specs.Prelude.{◌≡◌, ◌≢◌, true, [], IsOk};
 ghost use Rattle.dcsctp_machine.specs.Handover.{readiness_of};
-ghost use Rattle.dcsctp_core.specs.View.{endpoint_of};
-ghost use Rattle.dcsctp_socket_calls.specs.HandoverParts.{WorksHandover};
+ghost use Rattle.dcsctp_machine.specs.Snapshot.{snapshot, is_valid_snapshot};
+ghost use Rattle.dcsctp_machine.specs.Sockets.{inputs_of_restore};
+ghost use Rattle.dcsctp_core.specs.View.{core_of, endpoint_of};
+ghost use Rattle.dcsctp_socket_calls.specs.HandoverParts.{WorksHandover, WorksRestore};
 
-use dcsctp_api::HandoverError;
-use dcsctp_api::handover::SocketHandoverState;
-use dcsctp_core::Context;
+use dcsctp_api::handover::{HandoverSocketState, SocketHandoverState};
+use dcsctp_api::{HandoverError, RestoreError};
+use dcsctp_core::{Context, State};
 use dcsctp_core_handover::{hand_over, handover_state};
 use rand_core::Rng;
 use std::alloc::AllocError;
@@ -28,4 +30,28 @@ pub fn get_handover_state_and_close<R: Rng>(
     let state = handover_state(context)?;
     hand_over(context)?;
     Ok(Ok(state))
+}
+
+/// A closed socket goes on from a snapshot, which has to be valid for its options, and sends what waits. `Err`:
+/// an allocation failed; the first of the call's events may already have been added.
+pub fn restore_from_state<R: Rng>(
+    context: &mut Context<R>,
+    state: &SocketHandoverState,
+) -> Result<Result<(), RestoreError>, AllocError>
+    requires { is_valid_snapshot context.old.options (snapshot state.now) ≡ true }
+    ensures call { WorksRestore R.stream (snapshot state.now) context.old result context.new }
+    ensures idle { inputs_of_restore (core_of context.old.state) (snapshot state.now) ≡ [] → IsOk result }
+{
+    context.begin_call();
+    if !context.state.is_closed() {
+        return Ok(Err(RestoreError::SocketNotClosed));
+    }
+    match state.socket_state {
+        HandoverSocketState::Closed => {}
+        HandoverSocketState::Connected => {
+            dcsctp_core_handover::restore(context, state)?;
+            context.send_buffered_packets()?;
+        }
+    }
+    Ok(Ok(()))
 }

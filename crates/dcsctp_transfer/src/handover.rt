@@ -1,10 +1,12 @@
-//! What a snapshot has of what is sent and what was received.
+//! What a snapshot has of what is sent and what was received, and how both go on from it.
 
-ghost use Rattle.std.specs.Prelude.{◌≡◌, OnOk};
-ghost use Rattle.dcsctp_machine.specs.Snapshot.{send_part, received_part};
+ghost use Rattle.std.specs.Prelude.{◌≡◌, true, [], OnOk};
+ghost use Rattle.std.specs.List.{list_all};
+ghost use Rattle.dcsctp_machine.specs.Snapshot.{send_part, received_part, is_valid_queued};
 ghost use Rattle.dcsctp_machine.specs.transfer.OutstandingParts.{with_retransmission};
-ghost use Rattle.dcsctp_machine.specs.transfer.QueuedParts.{with_queue};
+ghost use Rattle.dcsctp_machine.specs.transfer.QueuedParts.{with_queue, queue_restored};
 ghost use Rattle.dcsctp_machine.specs.transfer.ReceivedParts.{with_tracker, with_reassembly};
+ghost use Rattle.dcsctp_machine.specs.turns.RestoreOutcomes.{RestoresTransfer};
 
 use crate::queued_messages::QueuedMessages;
 use crate::transfer::Transfer;
@@ -26,6 +28,19 @@ impl QueuedMessages {
         self.queue
             .add_to_handover_state(now, with_outstanding_data, tx)
     }
+
+    /// Puts what the snapshot has, restored at the moment `now`, in the place of what waits. `Err`: an
+    /// allocation failed, and only some of it is restored.
+    pub fn restore_from_state(
+        &mut self,
+        now: SocketTime,
+        tx: &HandoverTransmission,
+    ) -> Result<(), AllocError>
+        requires { list_all is_valid_queued (send_part tx.now).queued_messages ≡ true }
+        ensures { OnOk result (self.new ≡ queue_restored now (send_part tx.now) self.old) }
+    {
+        self.queue.restore_from_state(now, tx)
+    }
 }
 
 impl Transfer {
@@ -45,5 +60,22 @@ impl Transfer {
             .add_to_handover_state(now, with_outstanding_data, tx)?;
         self.data_tracker.add_to_handover_state(rx);
         self.reassembly_queue.add_to_handover_state(rx)
+    }
+
+    /// An association that was just made goes on from the snapshot, restored at the moment `now`. `Err`: an
+    /// allocation failed, and only some of it is restored.
+    pub fn restore_from_state(
+        &mut self,
+        now: SocketTime,
+        tx: &HandoverTransmission,
+        rx: &HandoverReceive,
+    ) -> Result<(), AllocError>
+        requires tsns { self.old.tracker.ranges ≡ [] }
+        requires streams { self.old.reassembly.incoming.streams ≡ [] }
+        ensures { OnOk result (RestoresTransfer now (send_part tx.now) (received_part rx.now) self.old self.new) }
+    {
+        self.retransmission_queue.restore_from_state(now, tx)?;
+        self.data_tracker.restore_from_state(rx);
+        self.reassembly_queue.restore_from_state(rx)
     }
 }

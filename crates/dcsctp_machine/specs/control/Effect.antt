@@ -34,6 +34,9 @@ pub data Effect : Type 0 where
   accepts : ℕ → Effect
   -- OnIncomingStreamReset: the peer's request of this number was performed, under this peer's pair.
   performs : Pair → ℕ → Effect
+  -- From here on this is the association, restored from a snapshot. Its next own request has the first number, and the peer's
+  -- last one that was accepted had the second.
+  resumes : Link → ℕ → ℕ → Effect
 
 -- the pairs that were drawn
 abbrev pub drawn_in : List Effect → List Pair
@@ -48,6 +51,7 @@ drawn_in (completes my number ∷ effects) = drawn_in effects
 drawn_in (fails number ∷ effects) = drawn_in effects
 drawn_in (accepts number ∷ effects) = drawn_in effects
 drawn_in (performs peer number ∷ effects) = drawn_in effects
+drawn_in (resumes link own last ∷ effects) = drawn_in effects
 
 -- all but the packets
 abbrev pub noted : List Effect → List Effect
@@ -62,6 +66,7 @@ noted (completes my number ∷ effects) = completes my number ∷ noted effects
 noted (fails number ∷ effects) = fails number ∷ noted effects
 noted (accepts number ∷ effects) = accepts number ∷ noted effects
 noted (performs peer number ∷ effects) = performs peer number ∷ noted effects
+noted (resumes link own last ∷ effects) = resumes link own last ∷ noted effects
 
 -- What one turn makes of the association, and its effects in order.
 pub record Change : Type 0 where
