@@ -7,7 +7,7 @@ use dcsctp_api::{DcSctpSocket, Message, PpId, SendOptions, SocketEvent, StreamId
 use dcsctp_machine::{Call, Outside, Side, Step};
 use dcsctp_script_lines::{Command, Line, parse_line};
 use dcsctp_script_printing::{
-    print_association, print_event, print_refusal, print_reset_refusal, print_state, print_taken,
+    print_association, print_event, print_handover_refusal, print_refusal, print_reset_refusal, print_state, print_taken,
     print_timeout,
 };
 use dcsctp_world::{Reply, World};
@@ -131,6 +131,7 @@ impl Run {
             Command::Show(side) => written(self.print_association(side, output)),
             Command::State(side) => written(self.print_state(side, output)),
             Command::Timeout(side) => written(self.print_timeout(side, output)),
+            Command::Handover(side) => self.hand_over(side, output),
         }
     }
 
@@ -165,6 +166,19 @@ impl Run {
         written(self.print_events(output))?;
         match reply {
             Reply::Reset(Err(error)) => written(print_reset_refusal(side, &error, output)),
+            _ => Ok(()),
+        }
+    }
+
+    // Hands the socket over and restores it from its snapshot. Prints the outcome, and why it is refused, if it
+    // is.
+    fn hand_over<W: Write>(&mut self, side: Side, output: &mut W) -> Result<(), Failure> {
+        let reply = self.world.outside(Outside::Handover(side))?;
+        written(self.print_events(output))?;
+        match reply {
+            Reply::HandedOver(Err(error)) => {
+                written(print_handover_refusal(side, &error, output))
+            }
             _ => Ok(()),
         }
     }

@@ -46,6 +46,9 @@ pub enum Command {
 
     /// This socket's next deadline is printed.
     Timeout(Side),
+
+    /// This socket is handed over, and restored from its own snapshot.
+    Handover(Side),
 }
 
 /// A line.
@@ -102,6 +105,7 @@ fn plain_line<'a>(keyword: &str, name: &str) -> Option<Line<'a>> {
         "recv" => Command::Receive(side),
         "state" => Command::State(side),
         "timeout" => Command::Timeout(side),
+        "handover" => Command::Handover(side),
         _ => return None,
     };
     Some(Line::Command(command))

@@ -7,6 +7,6 @@ mod packet_text;
 mod printing;
 mod showing;
 
-pub use messages::{print_refusal, print_reset_refusal, print_taken};
+pub use messages::{print_handover_refusal, print_refusal, print_reset_refusal, print_taken};
 pub use printing::print_event;
 pub use showing::{print_association, print_state, print_timeout};

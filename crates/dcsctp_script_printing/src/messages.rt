@@ -1,7 +1,7 @@
-//! Printing messages that are taken, and why a message or a reset is refused, on a line.
+//! Printing messages that are taken, and why a message, a reset or a handover is refused, on a line.
 
 use crate::printing::side_name;
-use dcsctp_api::{Message, ResetStreamsError, SendError};
+use dcsctp_api::{HandoverError, Message, ResetStreamsError, SendError};
 use dcsctp_machine::Side;
 use std::io::{self, Write};
 
@@ -60,4 +60,17 @@ pub fn print_reset_refusal<W: Write>(
         ResetStreamsError::NotSupported => 7,
     };
     writeln!(output, "{name} refused E{number}")
+}
+
+/// Prints why a side wasn't handed over, by the number of the refusal and the names of the reasons.
+///
+/// `Err`: the writer failed, and may have taken a part of the line.
+pub fn print_handover_refusal<W: Write>(
+    side: Side,
+    error: &HandoverError,
+    output: &mut W,
+) -> io::Result<()> {
+    let name = side_name(side);
+    let HandoverError::NotReady(readiness) = error;
+    writeln!(output, "{name} refused E8 {readiness}")
 }

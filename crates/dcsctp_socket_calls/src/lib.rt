@@ -1,7 +1,7 @@
 //! The calls of a socket, over its parts. Each is a list of turns, and fails only if an allocation failed. A
 //! packet is counted, read and admitted, and its chunks are handled. When the clock moves, timers that are
 //! due expire. Messages are sent and taken, streams are reset, settings are kept, and a socket is handed over
-//! and restored.//! `dcsctp_socket` calls them, and keeps a socket that has failed from calling any.
+//! and restored. `dcsctp_socket` calls them, and keeps a socket that has failed from calling any.
 #![tactic(auto)]
 
 mod calls;

@@ -1,22 +1,25 @@
 -- How one side grows in an act.
-use Rattle.std.specs.Prelude.{◌≡◌, ℕ, true, false, Option, None, Some, Result, Ok, Err, List, [], ◌∷◌, ◌++◌, ◌⊎◌, map, length}
-use Rattle.dcsctp_machine.specs.Schedule.{CallContent, connect_call, close_call, shutdown_call, ActContent, call_step, delivery_step, step_act, advance_call, set_call, send_call, send_many_call, reset_call, take_call, hand_over_call, OutsideContent, input_outside, outside_act}
+use Rattle.std.specs.Prelude.{◌≡◌, ℕ, zero, suc, Bool, true, false, Option, None, Some, Result, Ok, Err, List, [], ◌∷◌, ◌++◌, ◌⊎◌, map, length}
+use Rattle.dcsctp_machine.specs.Schedule.{CallContent, connect_call, close_call, shutdown_call, ActContent, call_step, delivery_step, step_act, advance_call, set_call, send_call, send_many_call, reset_call, take_call, hand_over_call, OutsideContent, input_outside, handover_outside, restore_outside, outside_act}
 use Rattle.dcsctp_machine.specs.Event.{Event, packets_in}
-use Rattle.dcsctp_machine.specs.Endpoint.{Endpoint, association_of}
+use Rattle.dcsctp_machine.specs.Endpoint.{Endpoint, Core, association_of}
+use Rattle.dcsctp_machine.specs.Handover.{readiness_of}
+use Rattle.dcsctp_machine.specs.Snapshot.{is_valid_snapshot}
+use Rattle.dcsctp_machine.specs.SocketSnapshot.{snapshot_of}
 use Rattle.dcsctp_machine.specs.Settings.{ports_of}
 use Rattle.dcsctp_machine.specs.CallTurns.{Turned, after_all, words_of, events_of, pairs_of}
 use Rattle.dcsctp_machine.specs.Sockets.{numbered}
 use Rattle.dcsctp_api.specs.declared.errors.SocketFault.{SocketFault}
 use Rattle.dcsctp_api.specs.declared.errors.SocketFault.TheVariants.{OutOfMemory, Failed}
 use Rattle.dcsctp_api.specs.Calls.{UserView, user_event, Follows}
-use Rattle.dcsctp_api.specs.Handover.{IsHandoverAnswer}
+use Rattle.dcsctp_api.specs.Handover.{IsHandoverAnswer, IsRestoreAnswer}
 use Rattle.dcsctp_api.specs.Messages.{refusal_in, IsBatchAnswer, ready_messages, IsFirst}
 use Rattle.dcsctp_api.specs.Resets.{reset_refusal_in}
 use Rattle.dcsctp_machine.specs.transfer.Messages.{MessageContent}
 use Rattle.dcsctp_machine.specs.turns.MessageOutcomes.{MessageRefusal, message_refusal, sending_of, RefusedMessage, refused_from}
 use Rattle.dcsctp_machine.specs.turns.PreparedResets.{ResetRefusal, reset_refusal}
 use Rattle.dcsctp_world.specs.declared.act.Reply.{Reply}
-use Rattle.dcsctp_world.specs.declared.act.Reply.TheVariants.{NoCall, Done, Sent, SentMany, Reset, Taken, HandedOver}
+use Rattle.dcsctp_world.specs.declared.act.Reply.TheVariants.{NoCall, Done, Sent, SentMany, Reset, Taken, HandedOver, Restored}
 use Rattle.dcsctp_world.specs.Shown.{SideShown}
 
 -- The new list begins with the old one.
@@ -99,6 +102,7 @@ WasCalled (SentMany answer) = Unit {0}
 WasCalled (Reset answer) = Unit {0}
 WasCalled (Taken message) = Unit {0}
 WasCalled (HandedOver answer) = Unit {0}
+WasCalled (Restored answer) = Unit {0}
 
 -- Turns of this kind move the socket, and each list grows by what they show; no event waits. If a call was made, its words and
 -- pairs are theirs; if none was, nothing changed.
@@ -218,12 +222,26 @@ IsCallReply e (reset_call ids) reply = IsReset (reset_refusal e) reply
 IsCallReply e take_call reply = IsTaken (ready_messages e) reply
 IsCallReply e hand_over_call reply = IsHandedOver e reply
 
+-- It is what `restore_from_state` answers if the snapshot is valid. Else no call is made.
+abbrev pub IsRestored : Bool → Core → Reply → Type 0
+IsRestored true core (Restored answer) = IsRestoreAnswer core answer
+IsRestored true core reply = ⊥
+IsRestored false core reply = reply ≡ NoCall
+
+-- It is what is answered if a socket of this readiness is handed over, and restored from its snapshot if that is valid.
+abbrev pub IsHandedOn : ℕ → Bool → Endpoint → Reply → Type 0
+IsHandedOn zero true e reply = reply ≡ Restored (Ok tt)
+IsHandedOn zero false e reply = IsHandedOver e reply
+IsHandedOn (suc reasons) is_valid e reply = IsHandedOver e reply
+
 -- It is what an act from outside answers.
-abbrev pub IsOutsideReply : OutsideContent → Reply → Type 0
-IsOutsideReply (input_outside side bytes) reply = reply ≡ Done
+abbrev pub IsOutsideReply : Endpoint → OutsideContent → Reply → Type 0
+IsOutsideReply e (input_outside side bytes) reply = reply ≡ Done
+IsOutsideReply e (handover_outside side) reply = IsHandedOn (readiness_of e) (is_valid_snapshot e.options (snapshot_of e)) e reply
+IsOutsideReply e (restore_outside side state) reply = IsRestored (is_valid_snapshot e.options state) e.core reply
 
 -- It is what an act answers from this endpoint, where the other side has emitted these packets.
 abbrev pub IsReply : Endpoint → List (List ℕ) → ActContent → Reply → Type 0
 IsReply e packets (step_act (call_step side call)) reply = IsCallReply e call reply
 IsReply e packets (step_act (delivery_step side number)) reply = IsDeliveryReply (numbered number packets) reply
-IsReply e packets (outside_act outside) reply = IsOutsideReply outside reply
+IsReply e packets (outside_act outside) reply = IsOutsideReply e outside reply

@@ -1,6 +1,7 @@
 pub mod Acts
 pub mod Agreement
 pub mod Growth
+pub mod Outside
 pub mod Parts
 pub mod Run
 pub mod Shown

@@ -5,13 +5,13 @@ ghost use Rattle.dcsctp_machine.specs.Schedule.{act_content, AreHonest};
 ghost use Rattle.dcsctp_machine.specs.Sockets.{side_of_act};
 
 use dcsctp_api::handover::SocketHandoverState;
-use dcsctp_api::{BatchSendError, HandoverError, Message, ResetStreamsError, SendError};
+use dcsctp_api::{BatchSendError, HandoverError, Message, ResetStreamsError, RestoreError, SendError};
 use dcsctp_machine::{Act, Outside, Side, Step};
 
 /// What the call of an act answered.
 #[derive(Debug, PartialEq, Eq, Drop)]
 pub enum Reply {
-    /// No call was made: the number of a delivery names no packet.
+    /// No call was made: the number of a delivery names no packet, or a snapshot isn't valid.
     NoCall,
 
     /// The call was made, and has nothing to answer.
@@ -31,6 +31,9 @@ pub enum Reply {
 
     /// What `get_handover_state_and_close` answered.
     HandedOver(Result<SocketHandoverState, HandoverError>),
+
+    /// What `restore_from_state` answered.
+    Restored(Result<(), RestoreError>),
 }
 
 /// The side at which an act happens.
@@ -41,6 +44,8 @@ pub(crate) fn side_of(act: &Act) -> Side
         Act::Step(Step::Call(side, _)) => *side,
         Act::Step(Step::Deliver(side, _)) => *side,
         Act::Outside(Outside::Input(side, _)) => *side,
+        Act::Outside(Outside::Handover(side)) => *side,
+        Act::Outside(Outside::Restore(side, _)) => *side,
     }
 }
 

@@ -1,21 +1,25 @@
 //! One of the two sockets, with all that it ever showed.
 
-ghost use Rattle.std.specs.Prelude.{◌≡◌, [], ◌∷◌, map, IfOk, IsErrOf, IsOkUnless};
+ghost use Rattle.std.specs.Prelude.{◌≡◌, true, [], ◌∷◌, map, IfOk, IsErrOf, IsOkUnless};
 ghost use Rattle.std.specs.Option.{option_map};
 ghost use Rattle.dcsctp_machine.specs.Settings.{IsValid};
 ghost use Rattle.dcsctp_machine.specs.Schedule.{call_content, act_content, send_call, send_many_call, reset_call, take_call, hand_over_call};
 ghost use Rattle.dcsctp_machine.specs.Ids.{stream_numbers};
 ghost use Rattle.dcsctp_machine.specs.transfer.Messages.{message_content};
 ghost use Rattle.dcsctp_machine.specs.CallTurns.{HandleInput};
+ghost use Rattle.dcsctp_machine.specs.Snapshot.{snapshot, is_valid_snapshot};
 ghost use Rattle.dcsctp_machine.specs.Sockets.{numbered, UserTurns, DeliveryTurns, TurnsOfAct};
 ghost use Rattle.dcsctp_api.specs.Events.{event_content};
+ghost use Rattle.dcsctp_api.specs.Handover.{RestoreTurns};
 ghost use Rattle.dcsctp_world.specs.declared.act.Reply.TheVariants.{Done};
 ghost use Rattle.dcsctp_socket.specs.SocketView.{user_view_of};
 ghost use Rattle.dcsctp_world.specs.Shown.{fresh_side};
-ghost use Rattle.dcsctp_world.specs.Growth.{Keeps, TakesAll, CollectsAll, Called, Works, Notes, IsReply, IsDeliveryReply, IsCallReply};
+ghost use Rattle.dcsctp_world.specs.Growth.{Keeps, TakesAll, CollectsAll, Called, Works, Notes, IsReply, IsDeliveryReply, IsCallReply, IsRestored};
+ghost use Rattle.dcsctp_world.specs.Outside.{HandoverTurns, IsHandedOnBy, ValidTurns, IsRestoredBy};
 ghost use Rattle.dcsctp_world.specs.Parts.{packet_bytes, kept, shown};
 
 use crate::act::Reply;
+use dcsctp_api::handover::SocketHandoverState;
 use dcsctp_machine::{Act, Call, Outside, Step, copied_messages};
 use dcsctp_socket::{
     Association, DcSctpSocket, Message, Options, Pair, SendOptions, Socket, SocketEvent,
@@ -203,6 +207,38 @@ fn hand_over<R: Rng + Drop>(socket: &mut Socket<R>) -> Result<Reply, SocketFault
     Ok(Reply::HandedOver(answer))
 }
 
+// Restores the socket from a snapshot that is valid. The errors are those of the call.
+fn restore<R: Rng + Drop>(
+    socket: &mut Socket<R>,
+    state: &SocketHandoverState,
+) -> Result<Reply, SocketFault>
+    requires { is_valid_snapshot socket.old.view.endpoint.options (snapshot state.now) ≡ true }
+    ensures call { Called (RestoreTurns socket.old.view.endpoint (snapshot state.now))
+        (IsRestored true socket.old.view.endpoint.core)
+        (user_view_of socket.old) result (user_view_of socket.new) }
+    ensures failed { IsErrOf result SocketFault.Failed → socket.new ≡ socket.old }
+{
+    let answer = socket.restore_from_state(state)?;
+    Ok(Reply::Restored(answer))
+}
+
+// Hands the socket over, and restores it from its snapshot if that is valid. The errors are those of the calls.
+fn hand_on<R: Rng + Drop>(socket: &mut Socket<R>) -> Result<Reply, SocketFault>
+    ensures call { Called (HandoverTurns socket.old.view.endpoint) (IsHandedOnBy socket.old.view.endpoint)
+        (user_view_of socket.old) result (user_view_of socket.new) }
+    ensures failed { IsErrOf result SocketFault.Failed → socket.new ≡ socket.old }
+{
+    match socket.get_handover_state_and_close()? {
+        Err(error) => Ok(Reply::HandedOver(Err(error))),
+        Ok(state) => {
+            if !state.is_valid(&socket.options()) {
+                return Ok(Reply::HandedOver(Ok(state)));
+            }
+            restore(socket, &state)
+        }
+    }
+}
+
 // The packet of this number, counted from 1.
 fn packet_numbered(packets: &[Vec<u8>], number: usize) -> Option<&Vec<u8>>
     ensures { numbered number (packet_bytes packets.now) ≡ option_map (λ packet. packet.now.items)
@@ -286,6 +322,32 @@ impl<R: Rng + Drop> WatchedSocket<R> {
         }
     }
 
+    // Hands the socket over, and restores it from its own snapshot. The errors are as those of `call`.
+    fn hand_on(&mut self) -> Result<Reply, SocketFault>
+        requires { self.old.socket.view.events ≡ [] }
+        ensures { Works (HandoverTurns self.old.socket.view.endpoint)
+            (IsHandedOnBy self.old.socket.view.endpoint) (shown self.old) result (shown self.new) }
+    {
+        let reply = hand_on(&mut self.socket)?;
+        self.keep_all()?;
+        Ok(reply)
+    }
+
+    // Restores the socket from this snapshot, if it is valid. The errors are as those of `call`.
+    fn restore(&mut self, state: &SocketHandoverState) -> Result<Reply, SocketFault>
+        requires { self.old.socket.view.events ≡ [] }
+        ensures { Works (ValidTurns self.old.socket.view.endpoint (snapshot state.now))
+            (IsRestoredBy self.old.socket.view.endpoint (snapshot state.now)) (shown self.old) result
+            (shown self.new) }
+    {
+        if !state.is_valid(&self.socket.options()) {
+            return Ok(Reply::NoCall);
+        }
+        let reply = restore(&mut self.socket, state)?;
+        self.keep_all()?;
+        Ok(reply)
+    }
+
     /// Performs an act at this side, where the other has emitted these packets. `SocketFault::OutOfMemory`: an
     /// allocation failed, in the socket or here; the first part of what the act brings may have been kept.
     /// `SocketFault::Failed`: the socket had failed, and nothing has changed.
@@ -298,6 +360,8 @@ impl<R: Rng + Drop> WatchedSocket<R> {
             Act::Step(Step::Call(_, call)) => self.call(call),
             Act::Step(Step::Deliver(_, number)) => self.deliver(packets, *number),
             Act::Outside(Outside::Input(_, bytes)) => self.hand_in(bytes),
+            Act::Outside(Outside::Handover(_)) => self.hand_on(),
+            Act::Outside(Outside::Restore(_, state)) => self.restore(state),
         }
     }
 

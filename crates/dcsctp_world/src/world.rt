@@ -180,8 +180,12 @@ impl<R: Rng + Drop> World<R> {
         }
     }
 
-    /// Applies an act from outside: the bytes are handed to the socket, whatever they say. Then all events
-    /// are taken from it, and what they show is kept. Returns `Reply::Done`.
+    /// Applies an act from outside, whatever its bytes or its snapshot say. Then all events are taken from the
+    /// socket, and what they show is kept.
+    ///
+    /// Bytes are handed to it: `Reply::Done`. It is restored from a snapshot: `Reply::Restored`, or
+    /// `Reply::NoCall` if the snapshot isn't valid, and nothing has changed. Or it is handed over and restored
+    /// from its own snapshot: `Reply::Restored`, or `Reply::HandedOver` if that is refused.
     ///
     /// From here on `is_honest` is false, and the agreement of the two sockets is promised only up to here.
     /// What `run` says of one socket still holds. The errors are those of `apply`.

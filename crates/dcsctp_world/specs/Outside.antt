@@ -1,0 +1,26 @@
+-- What the acts from outside are to a socket, without their side.
+use Rattle.std.specs.Prelude.{List}
+use Rattle.dcsctp_machine.specs.Endpoint.{Endpoint}
+use Rattle.dcsctp_machine.specs.Handover.{readiness_of}
+use Rattle.dcsctp_machine.specs.Snapshot.{Snapshot, is_valid_snapshot}
+use Rattle.dcsctp_machine.specs.SocketSnapshot.{snapshot_of}
+use Rattle.dcsctp_machine.specs.Sockets.{inputs_of_both, inputs_where_valid}
+use Rattle.dcsctp_machine.specs.CallTurns.{Turned, Turns}
+use Rattle.dcsctp_world.specs.declared.act.Reply.{Reply}
+use Rattle.dcsctp_world.specs.Growth.{IsHandedOn, IsRestored}
+
+-- ---- a socket that is handed over and restored
+
+abbrev pub HandoverTurns : Endpoint → List Turned → Type 0
+HandoverTurns e turns = Turns e (inputs_of_both (readiness_of e) (is_valid_snapshot e.options (snapshot_of e)) (snapshot_of e)) turns
+
+abbrev pub IsHandedOnBy : Endpoint → Reply → Type 0
+IsHandedOnBy e reply = IsHandedOn (readiness_of e) (is_valid_snapshot e.options (snapshot_of e)) e reply
+
+-- ---- one that is restored from any snapshot
+
+abbrev pub ValidTurns : Endpoint → Snapshot → List Turned → Type 0
+ValidTurns e state turns = Turns e (inputs_where_valid (is_valid_snapshot e.options state) e.core state) turns
+
+abbrev pub IsRestoredBy : Endpoint → Snapshot → Reply → Type 0
+IsRestoredBy e state reply = IsRestored (is_valid_snapshot e.options state) e.core reply
