@@ -10,6 +10,6 @@ mod turns;
 
 pub use data::DataToSend;
 pub use dcsctp_machine::{Pause, Turn, UnderWay};
-pub use message::QueuedMessage;
+pub use message::{NO_LIMIT, QueuedMessage, limit_of, name_of};
 pub use stream::OutgoingStream;
 pub use streams::Streams;

@@ -17,11 +17,11 @@ use std::marker::Model;
 // last fragment, until that is acknowledged.
 const LONGEST_MOVED: usize = 2048;
 
-// How often a message of a snapshot may be sent again if there is no limit.
-const NO_LIMIT: u16 = 65535;
+/// The number that a snapshot has for a message that may be sent again without a limit.
+pub const NO_LIMIT: u16 = 65535;
 
-// How often a message may be sent again, by the number that a snapshot has for it.
-fn limit_of(count: u16) -> Option<u16>
+/// How often a message may be sent again, by the number that a snapshot has for it.
+pub fn limit_of(count: u16) -> Option<u16>
     ensures { result ≡ limit_of count }
 {
     if count == NO_LIMIT {
@@ -30,8 +30,8 @@ fn limit_of(count: u16) -> Option<u16>
     Some(count)
 }
 
-// The name of a message, by the number that a snapshot has for it.
-fn name_of(number: u64) -> Option<LifecycleId>
+/// The name of a message, by the number that a snapshot has for it.
+pub fn name_of(number: u64) -> Option<LifecycleId>
     ensures { option_map lifecycle_number result ≡ name_of number }
 {
     if number == 0 {
