@@ -168,9 +168,28 @@ slice_get_pushed [] (suc k) new x h = absurd (cc)
 slice_get_pushed (y ∷ ys) zero new x h = inr h
 slice_get_pushed (y ∷ ys) (suc k) new x h = slice_get_pushed ys k new x h
 
+-- the same, where it lies
+slice_get_pushed_at : {X : Type 0} (xs : List X) (k : ℕ) (new x : X) → slice_get (xs ++ new ∷ []) k ≡ Some x → ((k ≡ length xs) × (x ≡ new)) ⊎ (slice_get xs k ≡ Some x)
+slice_get_pushed_at [] zero new x h = inl (refl, cc)
+slice_get_pushed_at [] (suc k) new x h = absurd (cc)
+slice_get_pushed_at (y ∷ ys) zero new x h = inr h
+slice_get_pushed_at (y ∷ ys) (suc k) new x h =
+    elim (slice_get_pushed_at ys k new x h) [ inl e ↦ inl (ap suc e.0, e.1) | inr e ↦ inr e ]
+
+-- no item before the cursor is marked, also after one was added
+scanned_pushed : (items : List Item) (cursor : ℕ) (new : Item) → NoneMarkedBefore cursor items → NoneMarkedBefore (cursor_after (is_marked new.progress.state) (length items) cursor) (items ++ new ∷ [])
+scanned_pushed items cursor new scanned k item below is =
+    go (is_marked new.progress.state) refl below (slice_get_pushed_at items k new item is)
+  where
+    go : (b : Bool) → is_marked new.progress.state ≡ b → k < cursor_after b (length items) cursor → ((k ≡ length items) × (item ≡ new)) ⊎ (slice_get items k ≡ Some item) → is_marked item.progress.state ≡ false
+    go true e below (inl same) = absurd (omega (arith, same.0))
+    go true e below (inr here) = scanned k item (omega arith) here
+    go false e below (inl same) = ap (λ (x : Item). is_marked x.progress.state) same.1 ∙ e
+    go false e below (inr here) = scanned k item below here
+
 -- what is kept of the items, with one more
-pub kept_pushed : (is_interleaved : Bool) (cursor : ℕ) (items : List Item) (totals : Totals) (named : NamedPlaces) (new : Item) (size : ℕ) (more : Totals) → IsKept is_interleaved cursor items totals named → length items + 1 < 2 ^ 31 → size ≡ size_of (header_of is_interleaved) new → more ≡ total_with new.progress size totals → is_marked new.progress.state ≡ false → AreSettled named (items ++ new ∷ []) → IsKept is_interleaved cursor (items ++ new ∷ []) more named
-kept_pushed is_interleaved cursor items totals named new size more kept room sized is_more unmarked settled =
+pub kept_added : (is_interleaved : Bool) (cursor : ℕ) (items : List Item) (totals : Totals) (named : NamedPlaces) (new : Item) (size : ℕ) (more : Totals) (is_now_marked : Bool) (cursor' : ℕ) → IsKept is_interleaved cursor items totals named → length items + 1 < 2 ^ 31 → size ≡ size_of (header_of is_interleaved) new → more ≡ total_with new.progress size totals → is_now_marked ≡ is_marked new.progress.state → cursor' ≡ cursor_after is_now_marked (length items) cursor → AreSettled named (items ++ new ∷ []) → IsKept is_interleaved cursor' (items ++ new ∷ []) more named
+kept_added is_interleaved cursor items totals named new size more is_now_marked cursor' kept room sized is_more marks moves settled =
     record {
       few = omega (arith, length-append items (new ∷ []));
       sums = rw (is_more, sized) (record {
@@ -180,9 +199,14 @@ kept_pushed is_interleaved cursor items totals named new size more kept room siz
         never = let e = sum_by_push never_acknowledged_count items new in let was = kept.sums.never in omega arith;
         marked = let e = sum_by_push marked_count items new in let was = kept.sums.marked in omega arith;
       });
-      scanned = λ k item below is. elim (slice_get_pushed items k new item is) [ inl same ↦ ap (λ (x : Item). is_marked x.progress.state) same ∙ unmarked | inr here ↦ kept.scanned k item below here ];
+      scanned = rw (moves, marks) (scanned_pushed items cursor new kept.scanned);
       settled = settled;
     }
+
+-- the same, with one that isn't marked
+pub kept_pushed : (is_interleaved : Bool) (cursor : ℕ) (items : List Item) (totals : Totals) (named : NamedPlaces) (new : Item) (size : ℕ) (more : Totals) → IsKept is_interleaved cursor items totals named → length items + 1 < 2 ^ 31 → size ≡ size_of (header_of is_interleaved) new → more ≡ total_with new.progress size totals → is_marked new.progress.state ≡ false → AreSettled named (items ++ new ∷ []) → IsKept is_interleaved cursor (items ++ new ∷ []) more named
+kept_pushed is_interleaved cursor items totals named new size more kept room sized is_more unmarked settled =
+    kept_added is_interleaved cursor items totals named new size more false cursor kept room sized is_more (sym unmarked) refl settled
 
 -- what is kept of the items, without the first
 pub kept_removed : (is_interleaved : Bool) (cursor : ℕ) (item : Item) (items : List Item) (totals : Totals) (named : NamedPlaces) (size : ℕ) (less : Totals) (named' : NamedPlaces) → IsKept is_interleaved cursor (item ∷ items) totals named → size ≡ size_of (header_of is_interleaved) item → less ≡ total_without item.progress size totals → AreSettled named' items → IsKept is_interleaved (cursor - 1) items less named'

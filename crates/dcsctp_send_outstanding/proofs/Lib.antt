@@ -1,3 +1,4 @@
+pub mod HandoverLemmas
 pub mod ItemsLemmas
 pub mod MessageLemmas
 pub mod NextLemmas

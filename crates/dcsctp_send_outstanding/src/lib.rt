@@ -1,6 +1,7 @@
 //! What was sent and isn't acknowledged cumulatively yet, by TSN: its items, what becomes of them, and their sums.
 #![tactic(auto)]
 
+mod handover;
 mod item;
 mod named_places;
 mod outstanding;

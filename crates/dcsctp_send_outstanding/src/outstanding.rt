@@ -3,6 +3,7 @@
 ghost use Rattle.std.specs.Prelude.{◌≡◌, ◌<◌, ◌≤◌, ◌+◌, ◌-◌, ◌^◌};
 ghost use Rattle.dcsctp_send_outstanding.specs.Outstanding.{cursor_after};
 
+mod handover;
 mod messages;
 mod reporting;
 
