@@ -8,10 +8,16 @@
 #[cfg(test)]
 mod amounts;
 #[cfg(test)]
+mod handover;
+#[cfg(test)]
 mod order;
 #[cfg(test)]
 mod resets;
 #[cfg(test)]
+mod restoring;
+#[cfg(test)]
 mod script;
 #[cfg(test)]
 mod sender;
+#[cfg(test)]
+mod snapshot;

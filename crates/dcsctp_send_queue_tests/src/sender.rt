@@ -1,18 +1,20 @@
 //! A queue with the events that it adds, and the lines that it runs.
 
+use crate::snapshot::Snapshot;
 use dcsctp_api::{Events, LifecycleId, Message, Options, PpId, SendOptions, SocketTime, StreamId};
 use dcsctp_send_queue::{DataToSend, SendQueue};
 use dcsctp_testing::{Row, Takes};
 use std::alloc::{AllocError, Global};
 use std::time::Duration;
 
-/// A queue, its events, the moment, and how the next message is sent.
+/// A queue, its events, the moment, how the next message is sent, and the last snapshot.
 pub struct Sender {
     alloc: Global,
     queue: SendQueue,
     events: Events,
-    now: u64,
+    now: SocketTime,
     how: SendOptions,
+    snapshot: Snapshot,
 }
 
 // Written out: a derived one costs more to prove.
@@ -24,6 +26,7 @@ impl Drop for Sender {
             events: _,
             now: _,
             how: _,
+            snapshot: _,
         } = self;
     }
 }
@@ -47,6 +50,8 @@ static FRAGMENT: &[&str] = &[
     "unordered",
     "times",
     "expires-at-25",
+    "has-limit",
+    "name",
 ];
 
 // The names of the numbers of a stream and of the whole queue.
@@ -77,29 +82,57 @@ fn shows(row: &mut Row, data: &DataToSend) {
             data.is_unordered as u128,
             data.max_retransmissions.unwrap_or(0) as u128,
             (expires_at == at(25)) as u128,
+            data.max_retransmissions.is_some() as u128,
+            data.lifecycle_id.map_or(0, |id| id.value()) as u128,
         ],
     );
     row.check_bytes(&data.payload);
 }
 
+// The options with the two thresholds of a line.
+fn read_thresholds(row: &mut Row) -> Options {
+    let mut options = Options::default();
+    options.default_stream_buffered_amount_low_threshold = row.number();
+    options.total_buffered_amount_low_threshold = row.number();
+    options
+}
+
 impl Sender {
-    /// A sender whose streams have this threshold, and all together that one.
-    pub fn new(alloc: Global, threshold: u64, total_threshold: u64) -> Sender {
-        let mut options = Options::default();
-        options.default_stream_buffered_amount_low_threshold = threshold as usize;
-        options.total_buffered_amount_low_threshold = total_threshold as usize;
+    /// A sender with these options and no snapshot.
+    pub fn new(alloc: Global, options: &Options) -> Sender {
         Sender {
             alloc,
-            queue: SendQueue::new(alloc, &options),
+            queue: SendQueue::new(alloc, options),
             events: Events::new(alloc),
-            now: 0,
+            now: SocketTime::zero(),
             how: SendOptions::default(),
+            snapshot: Snapshot::new(alloc),
         }
     }
 
     // Replaces it with a new one.
-    fn begin(&mut self, threshold: u64, total_threshold: u64) {
-        *self = Sender::new(self.alloc, threshold, total_threshold);
+    fn begin(&mut self, row: &mut Row) {
+        *self = Sender::new(self.alloc, &read_thresholds(row));
+    }
+
+    // Takes a new queue on another clock. The snapshot stays.
+    fn begin_another(&mut self, row: &mut Row) {
+        let mut options = read_thresholds(row);
+        options.default_stream_priority = row.number();
+        self.queue = SendQueue::new(self.alloc, &options);
+        self.events = Events::new(self.alloc);
+        self.now = SocketTime::zero();
+    }
+
+    // Takes a snapshot, with messages or without.
+    fn hand_over(&mut self, row: &mut Row) {
+        let with_messages = row.number::<u64>() == 1;
+        row.done(self.snapshot.take(&self.queue, self.now, with_messages));
+    }
+
+    // Restores the snapshot.
+    fn restore(&mut self, row: &mut Row) {
+        row.done(self.snapshot.restore_into(&mut self.queue, self.now));
     }
 
     // Adds a message of these bytes, in the way that was asked for.
@@ -111,7 +144,7 @@ impl Sender {
                     false
                 } else {
                     let message = Message::new(stream, PpId(53), payload);
-                    self.queue.add(at(self.now), message, &self.how).is_ok()
+                    self.queue.add(self.now, message, &self.how).is_ok()
                 }
             }
         };
@@ -122,7 +155,7 @@ impl Sender {
     // Takes a fragment of at most this many bytes, of one at least.
     fn fragment(&mut self, row: &mut Row, max: u64) {
         let max = max.max(1) as usize;
-        match self.queue.produce(&mut self.events, at(self.now), max) {
+        match self.queue.produce(&mut self.events, self.now, max) {
             Err(_) => row.done(false),
             Ok(None) => row.check("size", 0),
             Ok(Some(data)) => shows(row, &data),
@@ -207,8 +240,8 @@ impl Sender {
     // Takes a line that begins with a number.
     fn take_number(&mut self, row: &mut Row, keyword: &str) {
         match keyword {
-            "begin" => self.begin(row.number(), row.number()),
-            "now" => self.now = row.number(),
+            "now" => self.now = at(row.number()),
+            "later" => self.now = self.now + Duration::from_nanos(row.number()),
             "name" => self.how.lifecycle_id = LifecycleId::new(row.number()),
             "lifetime" => self.how.lifetime = Some(Duration::from_millis(row.number())),
             "times" => self.how.max_retransmissions = Some(row.number()),
@@ -226,6 +259,12 @@ impl Sender {
 impl Takes<&'static str> for Sender {
     fn take(&mut self, row: &mut Row, keyword: &'static str) {
         match keyword {
+            "begin" => self.begin(row),
+            "another" => self.begin_another(row),
+            "hand-over" => self.hand_over(row),
+            "snapshot" => self.snapshot.shows(row),
+            "write" => self.snapshot.write(row),
+            "restore" => self.restore(row),
             "unordered" => self.how.unordered = true,
             "commit" => self.queue.commit_reset_streams(),
             "roll-back" => self.queue.rollback_reset_streams(),
