@@ -6,6 +6,7 @@ ghost use Rattle.std.specs.Prelude.{◌≡◌};
 mod abandoning;
 mod acknowledging;
 mod forwarding;
+mod handover;
 mod resending;
 mod sending;
 
