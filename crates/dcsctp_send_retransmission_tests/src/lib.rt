@@ -10,6 +10,8 @@ mod abandoning;
 #[cfg(test)]
 mod acknowledging;
 #[cfg(test)]
+mod handover;
+#[cfg(test)]
 mod line;
 #[cfg(test)]
 mod script;

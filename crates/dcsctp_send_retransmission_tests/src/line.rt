@@ -1,7 +1,9 @@
 //! A retransmission queue with the send queue in front of it, and the lines that they take.
 
+mod snapshot;
+
 use dcsctp_api::{Events, LifecycleId, Message, PpId, SendOptions, SocketTime, StreamId};
-use dcsctp_machine::Options;
+use dcsctp_machine::{HandoverTransmission, Options};
 use dcsctp_send_queue::{DataToSend, SendQueue};
 use dcsctp_send_retransmission::{HandleSackResult, RetransmissionQueue};
 use dcsctp_testing::{Row, Takes};
@@ -9,7 +11,8 @@ use dcsctp_wire::GapAckBlock;
 use std::alloc::Global;
 use std::time::Duration;
 
-/// The two queues, their events, the moment, how the next message is sent, and what the latest SACK did.
+/// The two queues, their events, the moment, how the next message is sent, what the latest SACK did, and the
+/// latest snapshot.
 pub struct Line {
     alloc: Global,
     queue: SendQueue,
@@ -19,6 +22,7 @@ pub struct Line {
     how: SendOptions,
     rtt: Option<Duration>,
     is_new: bool,
+    snapshot: HandoverTransmission,
 }
 
 // Written out: a derived one costs more to prove.
@@ -33,6 +37,7 @@ impl Drop for Line {
             how: _,
             rtt: _,
             is_new: _,
+            snapshot: _,
         } = self;
     }
 }
@@ -122,6 +127,7 @@ impl Line {
             how: SendOptions::default(),
             rtt: None,
             is_new: false,
+            snapshot: HandoverTransmission::empty(alloc),
         }
     }
 
@@ -302,6 +308,18 @@ impl Line {
         }
     }
 
+    // Takes a line on a snapshot.
+    fn take_snapshot(&mut self, row: &mut Row, keyword: &str) {
+        match keyword {
+            "hand-over" => self.hand_over(row),
+            "snapshot" => self.shows_snapshot(row),
+            "part" => self.part(row),
+            "part-expires" => self.part_expires(row),
+            "restore" => self.restore(row),
+            _ => self.take_number(row, keyword),
+        }
+    }
+
     // Takes a line on what is given up, or on the timer.
     fn take_forward(&mut self, row: &mut Row, keyword: &str) {
         match keyword {
@@ -314,7 +332,7 @@ impl Line {
             "skip-bytes" => self.skip_bytes(row),
             "begin-reset" => self.sent.begin_reset_streams(),
             "unordered" => self.how.unordered = true,
-            _ => self.take_number(row, keyword),
+            _ => self.take_snapshot(row, keyword),
         }
     }
 }

@@ -21,9 +21,15 @@
 //!     chunk TSN NUMBERS           the chunk of a TSN; `size 0`: there is none
 //!     state NUMBERS               what the queue answers, and what the latest SACK did
 //!     tells [EVENT]               the next event, as `Debug` writes it; without one: there is none
+//!     hand-over N                 a snapshot is made, and what is outstanding goes along or doesn't
+//!     snapshot NUMBERS            what it says
+//!     part N NUMBERS              what it has of the item at that place
+//!     part-expires N TIME         the milliseconds after which that item is abandoned, as `Debug` writes it
+//!     restore N N N               new queues at this moment, with the same two flags as `begin`, which go on
+//!                                 from the snapshot
 //!
-//! NUMBERS are some of the names that `line` lists, in that order, with a number after each. For a flag it is
-//! 1 for yes, 0 for no. `expires` is in milliseconds, and `rtt` in nanoseconds.
+//! NUMBERS are some of the names that `line` and `line/snapshot` list, in that order, with a number after each.
+//! For a flag it is 1 for yes, 0 for no. `expires` and `ago` are in milliseconds, and `rtt` in nanoseconds.
 
 use crate::line::Line;
 use dcsctp_testing::run_text;
