@@ -9,7 +9,7 @@ ghost use Rattle.dcsctp_socket_calls.specs.HandoverParts.{WorksHandover, WorksRe
 
 use dcsctp_api::handover::{HandoverSocketState, SocketHandoverState};
 use dcsctp_api::{HandoverError, RestoreError};
-use dcsctp_core::{Context, State};
+use dcsctp_core::Context;
 use dcsctp_core_handover::{hand_over, handover_state};
 use rand_core::Rng;
 use std::alloc::AllocError;
