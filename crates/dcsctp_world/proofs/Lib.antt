@@ -1,5 +1,6 @@
 mod Agreeing
 mod Applying
+mod HandingOn
 mod Honest
 mod Keeping
 mod Running

@@ -10,11 +10,10 @@ ghost use Rattle.dcsctp_machine.specs.CallTurns.{HandleInput};
 ghost use Rattle.dcsctp_machine.specs.Snapshot.{snapshot, is_valid_snapshot};
 ghost use Rattle.dcsctp_machine.specs.Sockets.{numbered, UserTurns, DeliveryTurns, TurnsOfAct};
 ghost use Rattle.dcsctp_api.specs.Events.{event_content};
-ghost use Rattle.dcsctp_api.specs.Handover.{RestoreTurns};
 ghost use Rattle.dcsctp_world.specs.declared.act.Reply.TheVariants.{Done};
 ghost use Rattle.dcsctp_socket.specs.SocketView.{user_view_of};
 ghost use Rattle.dcsctp_world.specs.Shown.{fresh_side};
-ghost use Rattle.dcsctp_world.specs.Growth.{Keeps, TakesAll, CollectsAll, Called, Works, Notes, IsReply, IsDeliveryReply, IsCallReply, IsRestored};
+ghost use Rattle.dcsctp_world.specs.Growth.{Keeps, TakesAll, CollectsAll, Called, Works, Notes, IsReply, IsDeliveryReply, IsCallReply};
 ghost use Rattle.dcsctp_world.specs.Outside.{HandoverTurns, IsHandedOnBy, ValidTurns, IsRestoredBy};
 ghost use Rattle.dcsctp_world.specs.Parts.{packet_bytes, kept, shown};
 
@@ -213,8 +212,8 @@ fn restore<R: Rng + Drop>(
     state: &SocketHandoverState,
 ) -> Result<Reply, SocketFault>
     requires { is_valid_snapshot socket.old.view.endpoint.options (snapshot state.now) ≡ true }
-    ensures call { Called (RestoreTurns socket.old.view.endpoint (snapshot state.now))
-        (IsRestored true socket.old.view.endpoint.core)
+    ensures call { Called (ValidTurns socket.old.view.endpoint (snapshot state.now))
+        (IsRestoredBy socket.old.view.endpoint (snapshot state.now))
         (user_view_of socket.old) result (user_view_of socket.new) }
     ensures failed { IsErrOf result SocketFault.Failed → socket.new ≡ socket.old }
 {

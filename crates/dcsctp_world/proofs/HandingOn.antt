@@ -1,0 +1,208 @@
+-- A socket that is handed over, and restored from its snapshot, has the turns of both.
+use Rattle.std.proofs.Common.{◌≡◌, ◌≢◌, ℕ, zero, suc, Bool, true, false, Result, Ok, Err, Option, List, [], ◌∷◌, ◌++◌, map, refl, sym, ap, subst, ◌∙◌, append_assoc}
+use Rattle.std.proofs.lemmas.List.{map-append}
+use Rattle.dcsctp_machine.specs.declared.association.Pair.{Pair}
+use Rattle.dcsctp_machine.specs.declared.word.Word.{Word}
+use Rattle.dcsctp_machine.specs.declared.options.Options.{Options}
+use Rattle.dcsctp_machine.specs.declared.snapshot.SocketHandoverState.{SocketHandoverState}
+use Rattle.dcsctp_machine.specs.Endpoint.{Endpoint, Core, closed, cookie_wait, cookie_echoed, open_in, established, shutdown_pending, shutdown_sent, shutdown_received, shutdown_ack_sent}
+use Rattle.dcsctp_machine.specs.Event.{Event}
+use Rattle.dcsctp_machine.specs.Packet.{Emission}
+use Rattle.dcsctp_machine.specs.Handover.{readiness_of, readiness_in}
+use Rattle.dcsctp_machine.specs.Outcome.{Outcome}
+use Rattle.dcsctp_machine.specs.Settings.{Ports, ports_of}
+use Rattle.dcsctp_machine.specs.Snapshot.{Snapshot, snapshot, is_valid_snapshot}
+use Rattle.dcsctp_machine.specs.SocketSnapshot.{snapshot_of}
+use Rattle.dcsctp_machine.specs.Turn.{Input, act_input}
+use Rattle.dcsctp_machine.specs.control.Acts.{hands_over}
+use Rattle.dcsctp_machine.specs.control.Effect.{drawn_in}
+use Rattle.dcsctp_machine.specs.CallTurns.{Turned, IsTurn, Turns, after_all, words_of, effects_of, pairs_of, events_of}
+use Rattle.dcsctp_machine.specs.Sockets.{inputs_of_handover, inputs_where_valid, inputs_of_both}
+use Rattle.dcsctp_machine.specs.turns.HandoverOutcomes.{hand_over_outcome}
+use Rattle.dcsctp_machine.proofs.TurnLemmas.{drawn_in-append, events_of-append}
+use Rattle.dcsctp_api.specs.declared.errors.SocketFault.{SocketFault}
+use Rattle.dcsctp_api.specs.declared.errors.SocketFault.TheVariants.{OutOfMemory, Failed}
+use Rattle.dcsctp_api.specs.Calls.{UserView, Follows, user_event}
+use Rattle.dcsctp_api.specs.declared.errors.HandoverError.{HandoverError}
+use Rattle.dcsctp_api.specs.declared.errors.RestoreError.TheVariants.{SocketNotClosed}
+use Rattle.dcsctp_api.specs.declared.errors.RestoreError.{RestoreError}
+use Rattle.dcsctp_api.specs.Handover.{IsHandoverAnswer, Restores}
+use Rattle.dcsctp_world.specs.declared.act.Reply.{Reply}
+use Rattle.dcsctp_world.specs.declared.act.Reply.TheVariants.{NoCall, Done, Sent, SentMany, Reset, Taken, HandedOver, Restored}
+use Rattle.dcsctp_world.specs.Growth.{CallMade, Called, IsHandedOn, IsRestored}
+use Rattle.dcsctp_world.specs.Outside.{HandoverTurns, IsHandedOnBy, ValidTurns, IsRestoredBy}
+
+-- ---- what the handover leaves
+
+-- The socket is closed, its options are as they were, and no word was drawn.
+record LeavesClosed (e : Endpoint) (o : Outcome) : Type 0 where
+  core : o.after.core ≡ closed
+  options : o.after.options ≡ e.options
+  words : o.words ≡ []
+  pairs : drawn_in o.effects ≡ []
+
+ready_leaves_closed : (e : Endpoint) (core : Core) → e.core ≡ core → readiness_in e core ≡ 0 → LeavesClosed e (hand_over_outcome e core)
+ready_leaves_closed e closed is ready = record { core = is; options = refl; words = refl; pairs = refl }
+ready_leaves_closed e (cookie_wait my) is ready = absurd (cc)
+ready_leaves_closed e (cookie_echoed my held cookie) is ready = absurd (cc)
+ready_leaves_closed e (open_in established my held) is ready = record { core = refl; options = refl; words = refl; pairs = refl }
+ready_leaves_closed e (open_in shutdown_pending my held) is ready = absurd (cc)
+ready_leaves_closed e (open_in shutdown_sent my held) is ready = absurd (cc)
+ready_leaves_closed e (open_in shutdown_received my held) is ready = absurd (cc)
+ready_leaves_closed e (open_in shutdown_ack_sent my held) is ready = absurd (cc)
+
+-- ---- two calls as one
+
+-- the turn of the first, and the turns of the second
+follows_both : (old mid new : UserView) (t : Turned) (ts : List Turned) → t.outcome.words ≡ [] → drawn_in t.outcome.effects ≡ []
+    → mid.endpoint.options ≡ old.endpoint.options → Follows old (t ∷ []) mid → Follows mid ts new → Follows old (t ∷ ts) new
+follows_both old mid new t ts words pairs options first second =
+    let shown : Event Emission → Event (List ℕ) = user_event (ports_of old.endpoint.options) in
+    record {
+      runs = first.runs;
+      goes_on = second.goes_on;
+      endpoint = second.endpoint ∙ ap (λ (e : Endpoint). after_all e ts) first.endpoint;
+      events = second.events
+          ∙ ap (λ (o : Options). mid.events ++ map (user_event (ports_of o)) (events_of ts)) options
+          ∙ ap (λ (es : List (Event (List ℕ))). es ++ map shown (events_of ts)) first.events
+          ∙ append_assoc old.events (map shown (events_of (t ∷ []))) (map shown (events_of ts))
+          ∙ ap (λ (es : List (Event (List ℕ))). old.events ++ es) (sym (map-append shown (events_of (t ∷ [])) (events_of ts)) ∙ ap (map shown) (sym (events_of-append (t ∷ []) ts)));
+      words = second.words ∙ ap (λ (ws : List Word). ws ++ words_of ts) (sym words);
+      pairs = second.pairs ∙ ap (λ (ps : List Pair). ps ++ pairs_of ts) (sym pairs) ∙ sym (drawn_in-append t.outcome.effects (effects_of ts));
+    }
+
+-- a socket that was handed over: its turn, and what it leaves
+record Left (old mid : UserView) : Type 0 where
+  turn : Turned
+  comes : IsTurn old.endpoint (act_input hands_over) turn
+  follows : Follows old (turn ∷ []) mid
+  words : turn.outcome.words ≡ []
+  pairs : drawn_in turn.outcome.effects ≡ []
+  core : mid.endpoint.core ≡ closed
+  options : mid.endpoint.options ≡ old.endpoint.options
+
+handed_by : (old mid : UserView) (t : Turned) → readiness_of old.endpoint ≡ 0 → IsTurn old.endpoint (act_input hands_over) t → Follows old (t ∷ []) mid → Left old mid
+handed_by old mid t ready comes follows =
+    let left : LeavesClosed old.endpoint t.outcome = subst (LeavesClosed old.endpoint) (sym comes.comes) (ready_leaves_closed old.endpoint old.endpoint.core refl ready) in
+    record {
+      turn = t;
+      comes = comes;
+      follows = follows;
+      words = left.words;
+      pairs = left.pairs;
+      core = ap (λ (e : Endpoint). e.core) follows.endpoint ∙ left.core;
+      options = ap (λ (e : Endpoint). e.options) follows.endpoint ∙ left.options;
+    }
+
+handed_over : (old mid : UserView) (readiness : ℕ) (turns : List Turned) → readiness_of old.endpoint ≡ 0 → readiness ≡ 0
+    → Turns old.endpoint (inputs_of_handover readiness) turns → Follows old turns mid → Left old mid
+handed_over old mid zero [] ready is are follows = absurd are
+handed_over old mid zero (t ∷ []) ready is are follows = handed_by old mid t ready are.0 follows
+handed_over old mid zero (t ∷ next ∷ turns) ready is are follows = absurd are.1
+handed_over old mid (suc reasons) turns ready is are follows = absurd (cc)
+
+-- ---- the answers
+
+-- both took place
+turns_of_both : (old mid : UserView) (h : Left old mid) (state : Snapshot) (ts : List Turned) → ValidTurns mid.endpoint state ts → is_valid_snapshot mid.endpoint.options state ≡ true
+    → Turns old.endpoint (inputs_of_both 0 true state) (h.turn ∷ ts)
+turns_of_both old mid h state ts are valid =
+    let from_mid : Turns mid.endpoint (inputs_where_valid true mid.endpoint.core state) ts = subst (λ (b : Bool). Turns mid.endpoint (inputs_where_valid b mid.endpoint.core state) ts) valid are in
+    let from_closed : Turns mid.endpoint (inputs_where_valid true closed state) ts = subst (λ (c : Core). Turns mid.endpoint (inputs_where_valid true c state) ts) h.core from_mid in
+    (h.comes, subst (λ (e : Endpoint). Turns e (inputs_where_valid true closed state) ts) h.follows.endpoint from_closed)
+
+-- what a closed socket answers
+answer_of : (answer : Reply) → IsRestored true closed answer → answer ≡ Restored (Ok tt)
+answer_of NoCall is = absurd is
+answer_of Done is = absurd is
+answer_of (Sent result) is = absurd is
+answer_of (SentMany result) is = absurd is
+answer_of (Reset result) is = absurd is
+answer_of (Taken message) is = absurd is
+answer_of (HandedOver result) is = absurd is
+answer_of (Restored (Ok done)) is = refl
+answer_of (Restored (Err SocketNotClosed)) is = absurd (cc)
+
+-- its own snapshot, with its own options
+abbrev OwnIsValid : Endpoint → Bool
+OwnIsValid e = is_valid_snapshot e.options (snapshot_of e)
+
+own_is : (old mid : UserView) (state : Snapshot) (valid : Bool) → mid.endpoint.options ≡ old.endpoint.options → state ≡ snapshot_of old.endpoint
+    → is_valid_snapshot mid.endpoint.options state ≡ valid → OwnIsValid old.endpoint ≡ valid
+own_is old mid state valid options same is =
+    ap (λ (s : Snapshot). is_valid_snapshot old.endpoint.options s) (sym same) ∙ ap (λ (o : Options). is_valid_snapshot o state) (sym options) ∙ is
+
+pub hands_on : (old mid new : UserView) (state : Snapshot) (result : Result Reply SocketFault) (turns : List Turned)
+    → readiness_of old.endpoint ≡ 0 → state ≡ snapshot_of old.endpoint → Turns old.endpoint (inputs_of_handover (readiness_of old.endpoint)) turns → Follows old turns mid
+    → is_valid_snapshot mid.endpoint.options state ≡ true → Called (ValidTurns mid.endpoint state) (IsRestoredBy mid.endpoint state) mid result new
+    → Called (HandoverTurns old.endpoint) (IsHandedOnBy old.endpoint) old result new
+hands_on old mid new state (Ok answer) turns ready same are follows valid made =
+    let h : Left old mid = handed_over old mid (readiness_of old.endpoint) turns ready ready are follows in
+    let own : OwnIsValid old.endpoint ≡ true = own_is old mid state true h.options same valid in
+    let at_mid : IsRestored true mid.endpoint.core answer = subst (λ (b : Bool). IsRestored b mid.endpoint.core answer) valid made.reply in
+    let is : answer ≡ Restored (Ok tt) = answer_of answer (subst (λ (c : Core). IsRestored true c answer) h.core at_mid) in
+    let turned : Turns old.endpoint (inputs_of_both 0 true (snapshot_of old.endpoint)) (h.turn ∷ made.turns) =
+    subst (λ (s : Snapshot). Turns old.endpoint (inputs_of_both 0 true s) (h.turn ∷ made.turns)) same (turns_of_both old mid h state made.turns made.are valid) in
+    record {
+      reply = subst (λ (n : ℕ). IsHandedOn n (OwnIsValid old.endpoint) old.endpoint answer) (sym ready)
+          (subst (λ (b : Bool). IsHandedOn 0 b old.endpoint answer) (sym own) is);
+      called = made.called;
+      turns = h.turn ∷ made.turns;
+      are = subst (λ (n : ℕ). Turns old.endpoint (inputs_of_both n (OwnIsValid old.endpoint) (snapshot_of old.endpoint)) (h.turn ∷ made.turns)) (sym ready)
+          (subst (λ (b : Bool). Turns old.endpoint (inputs_of_both 0 b (snapshot_of old.endpoint)) (h.turn ∷ made.turns)) (sym own) turned);
+      follows = follows_both old mid new h.turn made.turns h.words h.pairs h.options h.follows made.follows;
+    }
+hands_on old mid new state (Err OutOfMemory) turns ready same are follows valid made = follows.runs
+hands_on old mid new state (Err Failed) turns ready same are follows valid made = let runs : mid.failed ≡ false = follows.goes_on in let failed : mid.failed ≡ true = made in absurd (cc)
+
+-- a snapshot that isn't valid isn't restored
+pub hands_over_alone : (old mid : UserView) (state : SocketHandoverState) (turns : List Turned) → readiness_of old.endpoint ≡ 0 → snapshot state ≡ snapshot_of old.endpoint
+    → Turns old.endpoint (inputs_of_handover (readiness_of old.endpoint)) turns → Follows old turns mid → is_valid_snapshot mid.endpoint.options (snapshot state) ≡ false
+    → Called (HandoverTurns old.endpoint) (IsHandedOnBy old.endpoint) old (Ok (HandedOver (Ok state))) mid
+hands_over_alone old mid state turns ready same are follows invalid =
+    let h : Left old mid = handed_over old mid (readiness_of old.endpoint) turns ready ready are follows in
+    let own : OwnIsValid old.endpoint ≡ false = own_is old mid (snapshot state) false h.options same invalid in
+    record {
+      reply = subst (λ (n : ℕ). IsHandedOn n (OwnIsValid old.endpoint) old.endpoint (HandedOver (Ok state))) (sym ready)
+          (subst (λ (b : Bool). IsHandedOn 0 b old.endpoint (HandedOver (Ok state))) (sym own) (ready, same));
+      called = tt;
+      turns = h.turn ∷ [];
+      are = subst (λ (n : ℕ). Turns old.endpoint (inputs_of_both n (OwnIsValid old.endpoint) (snapshot_of old.endpoint)) (h.turn ∷ [])) (sym ready)
+          (subst (λ (b : Bool). Turns old.endpoint (inputs_of_both 0 b (snapshot_of old.endpoint)) (h.turn ∷ [])) (sym own) (h.comes, tt));
+      follows = h.follows;
+    }
+
+-- one that isn't ready
+refused_at : (e : Endpoint) (readiness : ℕ) (turns : List Turned) (is_valid : Bool) (state : Snapshot) → readiness ≢ 0 → Turns e (inputs_of_handover readiness) turns
+    → Turns e (inputs_of_both readiness is_valid state) turns
+refused_at e zero turns is_valid state some are = absurd (some refl)
+refused_at e (suc reasons) turns is_valid state some are = are
+
+refused_reply : (e : Endpoint) (readiness : ℕ) (is_valid : Bool) (error : HandoverError) → readiness ≢ 0 → IsHandoverAnswer e (Err error) → IsHandedOn readiness is_valid e (HandedOver (Err error))
+refused_reply e zero is_valid error some is = absurd (some refl)
+refused_reply e (suc reasons) is_valid error some is = is
+
+pub hand_over_refused : (old new : UserView) (error : HandoverError) (turns : List Turned) → readiness_of old.endpoint ≢ 0 → IsHandoverAnswer old.endpoint (Err error)
+    → Turns old.endpoint (inputs_of_handover (readiness_of old.endpoint)) turns → Follows old turns new
+    → Called (HandoverTurns old.endpoint) (IsHandedOnBy old.endpoint) old (Ok (HandedOver (Err error))) new
+hand_over_refused old new error turns some is are follows =
+    record {
+      reply = refused_reply old.endpoint (readiness_of old.endpoint) (OwnIsValid old.endpoint) error some is;
+      called = tt;
+      turns = turns;
+      are = refused_at old.endpoint (readiness_of old.endpoint) turns (OwnIsValid old.endpoint) (snapshot_of old.endpoint) some are;
+      follows = follows;
+    }
+
+-- ---- a restore alone
+
+pub restore_called : (old new : UserView) (state : Snapshot) (answer : Result (Unit {0}) RestoreError) → is_valid_snapshot old.endpoint.options state ≡ true
+    → Restores state old (Ok answer) new → Called (ValidTurns old.endpoint state) (IsRestoredBy old.endpoint state) old (Ok (Restored answer)) new
+restore_called old new state answer valid made =
+    record {
+      reply = subst (λ (b : Bool). IsRestored b old.endpoint.core (Restored answer)) (sym valid) made.0;
+      called = tt;
+      turns = made.1;
+      are = subst (λ (b : Bool). Turns old.endpoint (inputs_where_valid b old.endpoint.core state) made.1) (sym valid) made.2;
+      follows = made.3;
+    }
