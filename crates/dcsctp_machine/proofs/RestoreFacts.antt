@@ -1,5 +1,5 @@
 -- Outside examples of what a restore does, and that a snapshot brings the association back.
-use Rattle.std.proofs.Common.{◌≡◌, ℕ, true, false, None, Some, [], ◌∷◌, refl}
+use Rattle.std.proofs.Common.{◌≡◌, ◌-◌, ◌^◌, true, None, Some, [], ◌∷◌, refl}
 use Rattle.dcsctp_wire.specs.declared.reconfiguration.ReconfigurationResponseResult.TheVariants.{SuccessNothingToDo}
 use Rattle.dcsctp_machine.specs.declared.association.Held.{Held}
 use Rattle.dcsctp_machine.specs.declared.association.Pair.{Pair}
@@ -11,6 +11,9 @@ use Rattle.dcsctp_machine.specs.Snapshot.{Snapshot, empty_snapshot, no_capabilit
 use Rattle.dcsctp_machine.specs.Sockets.{inputs_of_restore}
 use Rattle.dcsctp_machine.specs.Turn.{act_input, restores}
 use Rattle.dcsctp_machine.specs.control.Acts.{flushes}
+use Rattle.dcsctp_machine.specs.control.Effect.{Link, holds, connects, ends, resumes}
+use Rattle.dcsctp_machine.specs.Offer.{no_capabilities as no_offer}
+use Rattle.dcsctp_machine.specs.Past.{number_to_begin, number_to_accept, InPlace}
 use Rattle.dcsctp_machine.specs.transfer.Transfer.{Transfer}
 use Rattle.dcsctp_machine.specs.turns.RestoreOutcomes.{capabilities_restored, restored_outcome}
 
@@ -80,3 +83,32 @@ one_that_connects_stays = refl
 
 open_one_stays : (held : Held) → inputs_of_restore (open_in established own held) state ≡ []
 open_one_stays held = refl
+
+-- ---- numbers go on from the snapshot
+
+link : Link
+link =
+    record { my = own; peer = record { tag = 9; first_tsn = 200 }; capabilities = no_offer }
+
+own_requests_go_on : number_to_begin (resumes link 102 202 ∷ ends ∷ []) ≡ Some 102
+own_requests_go_on = refl
+
+requests_of_the_peer_go_on : number_to_accept (resumes link 102 202 ∷ ends ∷ []) ≡ Some 203
+requests_of_the_peer_go_on = refl
+
+they_wrap : number_to_accept (resumes link 102 (2 ^ 32 - 1) ∷ []) ≡ Some 0
+they_wrap = refl
+
+-- It may have connected once.
+it_connects : InPlace (connects link) (resumes link 102 202 ∷ [])
+it_connects = refl
+
+not_twice : InPlace (connects link) (connects link ∷ resumes link 102 202 ∷ []) → ⊥
+not_twice same = cc
+
+-- It doesn't take the place of another.
+only_where_none_is : InPlace (resumes link 102 202) (connects link ∷ holds link ∷ []) → ⊥
+only_where_none_is same = cc
+
+behind_an_end : InPlace (resumes link 102 202) (ends ∷ connects link ∷ holds link ∷ [])
+behind_an_end = refl
