@@ -95,6 +95,17 @@ now 70050
 sack 10 8000 valid 1
 state unacked 0 has-timer 0 is-new 1 has-rtt 1 rtt 350000000
 
+# a younger clock cuts ages off at its first moment
+begin 10 8000 0 0
+add 1 100
+send 1000 [10]
+now 900
+hand-over 1
+part 0 ago 900
+restore 500 0 0
+hand-over 1
+part 0 ago 500
+
 # a lost item goes out again first
 begin 10 8000 0 0
 add-many 2 100
