@@ -168,9 +168,9 @@ pub trait DcSctpSocket {
 
     /// Hands the socket over to another process: returns its snapshot, from which a socket there is restored,
     /// and ends the association here. The peer isn't told, and the last event is `SocketEvent::OnClosed`. The
-    /// snapshot has what is sent as well, with the option `enable_handover_with_outstanding_data`. What waits
-    /// stays here too, so don't use this socket for the same messages again. On a closed socket the snapshot is
-    /// that of a closed one, and nothing happens.
+    /// snapshot has what waits and what is in flight, too, with the option
+    /// `enable_handover_with_outstanding_data`. What waits stays here as well, so drop this socket. On a closed
+    /// one the snapshot is that of a closed socket, and nothing happens.
     ///
     /// `HandoverError::NotReady`: the socket can't be handed over now, for the reasons that
     /// `get_handover_readiness` gives. Nothing has changed, and nothing is allocated. If an allocation fails,
@@ -187,6 +187,9 @@ pub trait DcSctpSocket {
     /// waits is sent. What waited here before is dropped. No heartbeat is sent until data is. Use each
     /// snapshot once: two sockets that go on from it confuse the peer. The snapshot of a closed socket changes
     /// nothing.
+    ///
+    /// What was sent before this socket's moment zero, or was over then, counts as at moment zero. So advance the
+    /// time of a new socket before you restore it, by a minute say.
     ///
     /// The snapshot has to be valid for the options of this socket, which `SocketHandoverState::is_valid` tells.
     /// `RestoreError::SocketNotClosed`: the socket has an association, or begins one. Nothing has changed, and
