@@ -32,6 +32,9 @@
 //!
 //! The socket reads no clock. After each call ask `poll_timeout`, and call `advance_time` at that moment or
 //! earlier. A packet that the peer never answered is sent again then. Each call may move that moment.
+//!
+//! A socket moves to another process by a snapshot: `get_handover_state_and_close` gives it, and a new socket
+//! with the same options goes on from it by `restore_from_state`. The snapshot's types stand in `api::handover`.
 #![tactic(auto)]
 
 mod socket;

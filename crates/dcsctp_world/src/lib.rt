@@ -3,7 +3,8 @@
 //! A `World` applies steps one after another. A step is a call of one socket's user, or the delivery of a
 //! packet that the other socket emitted. Any packet may be delivered, at any moment, as often as the schedule
 //! says. So a list of steps says what a network between two sockets may do: lose, repeat, delay and reorder.
-//! What no such network does, such as handing in bytes that no socket emitted, is an act from outside.
+//! What no such network does is an act from outside: handing in bytes that no socket emitted, or restoring a
+//! socket from a snapshot.
 #![tactic(auto)]
 
 mod act;
