@@ -22,7 +22,7 @@ fn capabilities_given(capabilities: &Capabilities) -> HandoverCapabilities
         partial_reliability: capabilities.partial_reliability,
         message_interleaving: capabilities.message_interleaving,
         reconfig: capabilities.reconfig,
-        zero_checksum: capabilities.zero_checksum_enabled(),
+        zero_checksum: capabilities.zero_checksum_method.0 != 0,
         negotiated_maximum_incoming_streams: capabilities.negotiated_maximum_incoming_streams,
         negotiated_maximum_outgoing_streams: capabilities.negotiated_maximum_outgoing_streams,
     }

@@ -1,0 +1,63 @@
+-- A socket that is restored has the turn of a restore.
+use Rattle.std.proofs.Common.{◌≡◌, ℕ, None, Some, List, [], ◌∷◌, ◌++◌, map, refl, sym, subst}
+use Rattle.std.proofs.lemmas.List.{append-nil}
+use Rattle.rand_core.specs.Stream.{Stream}
+use Rattle.dcsctp_machine.specs.Endpoint.{Endpoint, Core, closed, open_in, established}
+use Rattle.dcsctp_machine.specs.Event as events
+use Rattle.dcsctp_machine.specs.Outcome.{Outcome}
+use Rattle.dcsctp_machine.specs.Snapshot.{Snapshot}
+use Rattle.dcsctp_machine.specs.transfer.QueuedParts.{queue_restored}
+use Rattle.dcsctp_machine.specs.transfer.SendQueue.{SendQueueState, numbered_for}
+use Rattle.dcsctp_machine.specs.turns.RestoreOutcomes.{restored_endpoint, restored_outcome, RestoreTurn}
+use Rattle.dcsctp_api.specs.declared.events.SocketEvent.{SocketEvent}
+use Rattle.dcsctp_api.specs.Events.{event_content}
+use Rattle.dcsctp_core.specs.declared.context.Context.{Context}
+use Rattle.dcsctp_core.specs.declared.state.OpenPhase.TheVariants as phases
+use Rattle.dcsctp_core.specs.declared.state.State.{State}
+use Rattle.dcsctp_core.specs.declared.state.State.TheVariants.{Closed, CookieWait, CookieEchoed, Open}
+use Rattle.dcsctp_core.specs.declared.transmission_control_block.TransmissionControlBlock.{TransmissionControlBlock}
+use Rattle.dcsctp_core.specs.Handling.{TakesIn}
+use Rattle.dcsctp_core.specs.View.{View, core_of, endpoint_of, view_of}
+use Rattle.dcsctp_core_handover.specs.Handover.{IsRestored, restore_turn}
+
+state_is_closed : (state : State) → core_of state ≡ closed → state ≡ Closed
+state_is_closed Closed is = refl
+state_is_closed (CookieWait wait) is = absurd (cc)
+state_is_closed (CookieEchoed echoed) is = absurd (cc)
+state_is_closed (Open opened) is = absurd (cc)
+
+-- with this association, these events and this queue
+abbrev with_association : {R : Type 0} → Context R → TransmissionControlBlock → List SocketEvent → SendQueueState → Context R
+with_association context tcb added queue = record context { state = Open (record { phase = phases.Established; tcb = tcb }); events = added; send_queue = queue }
+
+-- the queue with what the snapshot has
+abbrev queue_by : {R : Type 0} → Context R → Snapshot → SendQueueState
+queue_by context state = queue_restored context.moment state.tx (numbered_for state.capabilities.message_interleaving context.send_queue)
+
+endpoint_is : {R : Type 0} (old : Context R) (state : Snapshot) (tcb : TransmissionControlBlock) (added : List SocketEvent) (queue : SendQueueState)
+    → IsRestored old.options old.moment state tcb → queue ≡ queue_by old state
+    → endpoint_of (with_association old tcb added queue) ≡ restored_endpoint (endpoint_of (record old { state = Closed })) state tcb.transfer
+endpoint_is old state tcb added queue h waits = simp (h.my, h.held, h.outstanding, h.reconfiguration, h.tie_tag, waits) refl
+
+from_closed : {R : Type 0} (stream : R → Stream) (old : Context R) (state : Snapshot) (tcb : TransmissionControlBlock) (added : List SocketEvent) (queue : SendQueueState)
+    → IsRestored old.options old.moment state tcb → queue ≡ queue_by old state → map event_content added ≡ map event_content old.events ++ events.connected ∷ []
+    → TakesIn stream (restore_turn state) (view_of (record old { state = Closed })) (view_of (with_association old tcb added queue))
+from_closed stream old state tcb added queue h waits told =
+    record {
+      outcome = restored_outcome (endpoint_of (record old { state = Closed })) state tcb.transfer;
+      turn = (tcb.transfer, h.transfer, refl);
+      moves = record {
+        endpoint = endpoint_is old state tcb added queue h waits;
+        events = told;
+        words = sym (append-nil old.words.items);
+        pairs = sym (append-nil old.pairs.items);
+        drawn = refl;
+      };
+    }
+
+pub restores : {R : Type 0} (stream : R → Stream) (old : Context R) (state : Snapshot) (tcb : TransmissionControlBlock) (added : List SocketEvent) (queue : SendQueueState)
+    → core_of old.state ≡ closed → IsRestored old.options old.moment state tcb → queue ≡ queue_by old state → map event_content added ≡ map event_content old.events ++ events.connected ∷ []
+    → TakesIn stream (restore_turn state) (view_of old) (view_of (with_association old tcb added queue))
+restores {R} stream old state tcb added queue none h waits told =
+    subst (λ (s : State). TakesIn stream (restore_turn state) (view_of (record old { state = s })) (view_of (with_association old tcb added queue))) (sym (state_is_closed old.state none))
+    (from_closed stream old state tcb added queue h waits told)
