@@ -1,5 +1,6 @@
 mod Agreeing
 mod Applying
+mod ComingBack
 mod HandingOn
 mod Honest
 mod Keeping

@@ -53,12 +53,13 @@ impl<R> Model for World<R> {
 ghost use Rattle.std.specs.Prelude.{◌≡◌, ◌↔◌, IsTrue, [], false, map, OnOk, IfOk, IsOkUnless};
 ghost use Rattle.dcsctp_machine.specs.Settings.{IsValid};
 ghost use Rattle.dcsctp_machine.specs.Schedule.{act_content, step_content, step_act, outside_content, outside_act, AreHonest};
-ghost use Rattle.dcsctp_machine.specs.Sockets.{of_side};
+ghost use Rattle.dcsctp_machine.specs.Sockets.{of_side, side_of_outside};
 ghost use Rattle.dcsctp_api.specs.Events.{event_content};
 ghost use Rattle.dcsctp_world.specs.Shown.{fresh_world, options_of};
 ghost use Rattle.dcsctp_world.specs.Run.{IsRun};
 ghost use Rattle.dcsctp_world.specs.Agreement.{Agrees, HandshakeConnects};
 ghost use Rattle.dcsctp_world.specs.Acts.{MovesSide, WorksAct, Applies, Runs};
+ghost use Rattle.dcsctp_world.specs.Returning.{RestoresBy};
 ghost use Rattle.dcsctp_world.specs.Parts.{packet_bytes, shown, both, world_of};
 
 // Performs an act at its side. The errors are those of `WatchedSocket::perform`; the other side is unchanged.
@@ -185,12 +186,16 @@ impl<R: Rng + Drop> World<R> {
     ///
     /// Bytes are handed to it: `Reply::Done`. It is restored from a snapshot: `Reply::Restored`, or
     /// `Reply::NoCall` if the snapshot isn't valid, and nothing has changed. Or it is handed over and restored
-    /// from its own snapshot: `Reply::Restored`, or `Reply::HandedOver` if that is refused.
+    /// from its own snapshot: `Reply::Restored`, or `Reply::HandedOver` if that is refused. A restore brings back
+    /// both pairs, the tie tag, what both ends support, and the numbers of requests to reset streams.
     ///
     /// From here on `is_honest` is false, and the agreement of the two sockets is promised only up to here.
     /// What `run` says of one socket still holds. The errors are those of `apply`.
     pub fn outside(&mut self, outside: Outside) -> Result<Reply, SocketFault>
         ensures call { Applies (outside_act (outside_content outside)) self.old result self.new }
+        ensures restored { IfOk result (λ reply. RestoresBy (outside_content outside) reply
+            (of_side (side_of_outside (outside_content outside)) self.old.sides).socket.view.endpoint
+            (of_side (side_of_outside (outside_content outside)) self.new.sides).socket.view.endpoint) }
         ensures agreement { OnOk result (Agrees (options_of self.old) self.new) }
         ensures handshake { OnOk result (HandshakeConnects (options_of self.old) self.new) }
         ensures options { OnOk result (options_of self.new ≡ options_of self.old) }

@@ -1,0 +1,45 @@
+-- What a restore brings back of an association.
+use Rattle.std.specs.Prelude.{◌≡◌, ℕ, Option, None, Ok, List}
+use Rattle.dcsctp_wire.specs.declared.reconfiguration.ReconfigurationResponseResult.TheVariants.{SuccessNothingToDo}
+use Rattle.dcsctp_machine.specs.declared.association.Held.{Held}
+use Rattle.dcsctp_machine.specs.declared.association.Pair.{Pair}
+use Rattle.dcsctp_machine.specs.declared.options.Options.{Options}
+use Rattle.dcsctp_machine.specs.declared.snapshot.HandoverSocketState.TheVariants.{Connected}
+use Rattle.dcsctp_machine.specs.Endpoint.{Endpoint, open_in, established}
+use Rattle.dcsctp_machine.specs.Schedule.{OutsideContent, input_outside, handover_outside, restore_outside}
+use Rattle.dcsctp_machine.specs.Snapshot.{Snapshot}
+use Rattle.dcsctp_machine.specs.SocketSnapshot.{capabilities_given}
+use Rattle.dcsctp_machine.specs.turns.BegunResets.{BegunReset, held_begun}
+use Rattle.dcsctp_machine.specs.turns.RestoreOutcomes.{capabilities_restored, own_pair, peer_pair, held_restored}
+use Rattle.dcsctp_world.specs.declared.act.Reply.{Reply}
+use Rattle.dcsctp_world.specs.declared.act.Reply.TheVariants.{Restored}
+
+-- Both pairs, the tie tag, what both ends support, and the numbers of requests are those of the snapshot. The flush behind it may
+-- have begun an own request.
+pub record GoesOnFrom (options : Options) (state : Snapshot) (new : Endpoint) : Type 0 where
+  pub begun : Option BegunReset
+  pub core : new.core ≡ open_in established (own_pair state) (held_begun begun (held_restored options state))
+  pub tie : new.tie ≡ state.tie_tag
+
+-- what is known of the peer, once it was handed over and restored with the same options
+abbrev pub held_again : Options → Held → Held
+held_again options held =
+    record held {
+      capabilities = capabilities_restored options (capabilities_given held.capabilities);
+      own_outstanding = None;
+      peer_result = SuccessNothingToDo;
+    }
+
+-- A socket that was established goes on as it was: with both pairs, the tie tag, what both ends support, and the numbers of
+-- requests. The kept answer is 'nothing to do'.
+pub record GoesOn (old : Endpoint) (my : Pair) (held : Held) (new : Endpoint) : Type 0 where
+  pub begun : Option BegunReset
+  pub core : new.core ≡ open_in established my (held_begun begun (held_again old.options held))
+  pub tie : new.tie ≡ old.tie
+
+-- What an act from outside that restores a socket brings back.
+abbrev pub RestoresBy : OutsideContent → Reply → Endpoint → Endpoint → Type 0
+RestoresBy (input_outside side bytes) reply old new = Unit {0}
+RestoresBy (handover_outside side) reply old new =
+    reply ≡ Restored (Ok tt) → (my : Pair) (held : Held) → old.core ≡ open_in established my held → GoesOn old my held new
+RestoresBy (restore_outside side state) reply old new = reply ≡ Restored (Ok tt) → state.socket_state ≡ Connected → GoesOnFrom old.options state new
