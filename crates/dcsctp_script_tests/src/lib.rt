@@ -1,6 +1,6 @@
 //! Tests of `dcsctp_script` by its public calls, for what no text shows. These are letters that no script
-//! has, failing readers and writers, events that no script causes, and options that nothing printed depends
-//! on. All other scripts are cases of the program (crates/dcsctp_run/cases).
+//! has, failing readers and writers, events and refusals that no script causes, and options that nothing
+//! printed depends on. The command `handover` stands here too. All other scripts are cases of the program (crates/dcsctp_run/cases).
 #![tactic(auto)]
 
 #[cfg(test)]
@@ -9,6 +9,8 @@ mod bad_lines;
 mod checks;
 #[cfg(test)]
 mod faults;
+#[cfg(test)]
+mod handovers;
 #[cfg(test)]
 mod printing;
 #[cfg(test)]
