@@ -1,4 +1,5 @@
-//! Tests of `dcsctp_world` by its public calls: two sockets that find each other, and bytes from outside.
+//! Tests of `dcsctp_world` by its public calls: two sockets that find each other, bytes from outside, and sockets
+//! that are handed over.
 //!
 //! A helper asserts and returns no error, and a world is dropped by a call. Otherwise each early end of a
 //! function that owns a world, and each end of a block, would be proved to drop all of it.
@@ -7,8 +8,14 @@
 #[cfg(test)]
 mod checks;
 #[cfg(test)]
+mod handovers;
+#[cfg(test)]
+mod invalid_snapshots;
+#[cfg(test)]
 mod messages;
 #[cfg(test)]
 mod outside;
+#[cfg(test)]
+mod snapshots;
 #[cfg(test)]
 mod worlds;
