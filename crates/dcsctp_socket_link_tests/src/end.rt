@@ -1,9 +1,11 @@
 //! One end: a socket, the link by which its packets leave, and the messages that it sends.
 
+use crate::handovers::{Handovers, is_left, restored};
 use crate::link::Link;
 use crate::messages::{COUNT, Messages};
 use crate::resets::Resets;
-use crate::run::{Closing, Run};
+use crate::run::{Closing, Handing, Run};
+use dcsctp_socket::api::handover::SocketHandoverState;
 use dcsctp_socket::{
     DcSctpSocket, Options, Socket, SocketEvent, SocketState, SocketTime, StreamId,
     ZERO_CHECKSUM_ALTERNATE_ERROR_DETECTION_METHOD_LOWER_LAYER_DTLS,
@@ -20,6 +22,7 @@ pub struct End {
     pub link: Link,
     pub sent: Messages,
     pub resets: Resets,
+    pub handovers: Handovers,
 
     // How many messages the socket was given.
     added: usize,
@@ -37,6 +40,7 @@ impl Drop for End {
             link: _,
             sent: _,
             resets: _,
+            handovers: _,
             added: _,
             connections: _,
             closings: _,
@@ -56,6 +60,7 @@ fn options_of(run: &Run) -> Options {
     options.max_init_retransmits = None;
     options.enable_message_interleaving = run.interleaving;
     options.mtu = run.mtu;
+    options.enable_handover_with_outstanding_data = run.handing == Handing::WithData;
     if run.zero_checksum {
         options.zero_checksum_alternate_error_detection_method =
             ZERO_CHECKSUM_ALTERNATE_ERROR_DETECTION_METHOD_LOWER_LAYER_DTLS;
@@ -64,8 +69,8 @@ fn options_of(run: &Run) -> Options {
 }
 
 impl End {
-    /// A closed end.
-    pub fn new(rt: &impl Abort, alloc: Global, run: &Run) -> End {
+    /// A closed end, whose first handover is due before this message.
+    pub fn new(rt: &impl Abort, alloc: Global, run: &Run, first_handover: usize) -> End {
         let options = options_of(run);
         assert!(rt; options.is_valid(), "the options are not valid");
         let generator = Xoshiro256PlusPlus::seed_from_u64(run.seed);
@@ -74,6 +79,7 @@ impl End {
             link: Link::new(alloc, run),
             sent: Messages::plan(rt, alloc, run),
             resets: Resets::new(alloc, run),
+            handovers: Handovers::new(run, first_handover),
             added: 0,
             connections: 0,
             closings: 0,
@@ -121,12 +127,48 @@ impl End {
         }
         for _ in 0..=COUNT {
             self.reset_next(rt);
-            let is_held = self.resets.are_due(self.added);
+            let is_held = self.resets.are_due(self.added) || self.handovers.hold(self.added);
             if is_held || COUNT <= self.added || 20_000 <= self.buffered() {
                 return;
             }
             self.send_next(rt);
         }
+    }
+
+    /// Is it to be handed over now?
+    pub fn is_leaving(&self) -> bool {
+        self.socket.state() == SocketState::Connected && self.handovers.are_due(self.added)
+    }
+
+    // Asks for the snapshot of the socket, if it is ready; all messages that were ready have been taken.
+    fn snapshot(&mut self, rt: &impl Abort) -> Option<SocketHandoverState> {
+        assert_eq!(rt; self.socket.messages_ready_count(), 0, "messages are lost");
+        let is_ready = self.socket.get_handover_readiness().is_ready();
+        let answer = self.socket.get_handover_state_and_close();
+        let snapshot = answer.expect(rt, "no answer").ok();
+        assert_eq!(rt; snapshot.is_some(), is_ready, "is it ready?");
+        snapshot
+    }
+
+    /// Goes on with another socket, if that is due and the present one is ready. Does it?
+    pub fn hand_over(
+        &mut self,
+        rt: &impl Abort,
+        alloc: Global,
+        run: &Run,
+        now: SocketTime,
+    ) -> bool {
+        if !self.is_leaving() {
+            return false;
+        }
+        let Some(state) = self.snapshot(rt) else {
+            return false;
+        };
+        is_left(rt, &mut self.socket);
+        self.handovers.note(&state);
+        self.socket = restored(rt, alloc, &options_of(run), now, &state);
+        self.drain(rt, now);
+        true
     }
 
     /// Have all messages left the queue?

@@ -12,6 +12,10 @@ mod end;
 #[cfg(test)]
 mod far_ahead;
 #[cfg(test)]
+mod handing_over;
+#[cfg(test)]
+mod handovers;
+#[cfg(test)]
 mod link;
 #[cfg(test)]
 mod messages;

@@ -48,6 +48,19 @@ pub enum Closing {
     ByBoth,
 }
 
+/// When ends are handed over to other sockets, ten times each, once the association is open.
+#[derive(Clone, Copy, Debug, PartialEq, Eq)]
+pub enum Handing {
+    /// Never.
+    Never,
+
+    /// While nothing that they have sent is unfinished.
+    AtRest,
+
+    /// While messages may wait or be in flight, which go along.
+    WithData,
+}
+
 /// How a run is, at both ends.
 #[derive(Clone, Copy)]
 pub struct Run {
@@ -81,6 +94,9 @@ pub struct Run {
     /// Which streams are reset (RFC 6525)?
     pub resetting: Resetting,
 
+    /// When are ends handed over?
+    pub handing: Handing,
+
     /// Which ends shut the association down (RFC 9260, section 9.2)?
     pub closing: Closing,
 
@@ -88,7 +104,7 @@ pub struct Run {
     pub lost: [[usize; 2]; 2],
 }
 
-/// Ordered and reliable messages, no faults, no resets, and no shutdown.
+/// Ordered and reliable messages, no faults, no resets, no handovers, and no shutdown.
 pub const PLAIN: Run = Run {
     name: "plain",
     seed: 0,
@@ -100,6 +116,7 @@ pub const PLAIN: Run = Run {
     mtu: 1191,
     longest: 5000,
     resetting: Resetting::Never,
+    handing: Handing::Never,
     closing: Closing::Never,
     lost: [[0; 2]; 2],
 };

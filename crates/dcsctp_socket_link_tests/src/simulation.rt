@@ -20,10 +20,35 @@ fn step(rt: &impl Abort, a: &mut End, b: &mut End, now: SocketTime) {
     b.drain(rt, now);
     b.receive(rt, a, now);
     a.receive(rt, b, now);
-    a.offer(rt);
-    b.offer(rt);
+    offer_each(rt, a, b, now);
+}
+
+// Both send messages. While one is to be handed over, the other sends none: what is received can't go along
+// unfinished.
+fn offer_each(rt: &impl Abort, a: &mut End, b: &mut End, now: SocketTime) {
+    if !b.is_leaving() {
+        a.offer(rt);
+    }
+    if !a.is_leaving() {
+        b.offer(rt);
+    }
     a.drain(rt, now);
     b.drain(rt, now);
+}
+
+// Hands over the ends for which that is due. Then both may send messages again.
+fn hand_over_each(
+    rt: &impl Abort,
+    alloc: Global,
+    run: &Run,
+    (a, b): (&mut End, &mut End),
+    now: SocketTime,
+) {
+    let is_a = a.hand_over(rt, alloc, run, now);
+    let is_b = b.hand_over(rt, alloc, run, now);
+    if is_a || is_b {
+        offer_each(rt, a, b, now);
+    }
 }
 
 // The earlier of two moments.
@@ -57,10 +82,11 @@ fn shut_down(rt: &impl Abort, a: &mut End, b: &mut End, run: &Run, now: SocketTi
 }
 
 // Runs until both ends are at rest; false if they don't come to it.
-fn comes_to_rest(rt: &impl Abort, a: &mut End, b: &mut End, run: &Run) -> bool {
+fn comes_to_rest(rt: &impl Abort, alloc: Global, run: &Run, a: &mut End, b: &mut End) -> bool {
     let mut now = SocketTime::zero();
     for _ in 0..MOST_MOMENTS {
         step(rt, a, b, now);
+        hand_over_each(rt, alloc, run, (a, b), now);
         shut_down(rt, a, b, run, now);
         now = next_moment(a, b);
         if now == SocketTime::infinite_future() {
@@ -99,25 +125,30 @@ fn resets_are_over(rt: &impl Abort, run: &Run, end: &End, other: &End) {
 }
 
 // What is the same of each run: A connects to B, both send all that they have, and come to rest.
-fn runs_between(rt: &impl Abort, run: &Run, a: &mut End, b: &mut End) {
+fn runs_between(rt: &impl Abort, alloc: Global, run: &Run, a: &mut End, b: &mut End) {
     a.socket.connect().expect(rt, "no association was begun");
-    let has_rest = comes_to_rest(rt, a, b, run);
+    let has_rest = comes_to_rest(rt, alloc, run, a, b);
     assert!(rt; has_rest, "{}, seed {}: no rest", run.name, run.seed);
     a.is_over(rt, run, "A");
     b.is_over(rt, run, "B");
+    a.handovers.are_over(rt, run, "A");
+    b.handovers.are_over(rt, run, "B");
 }
 
 // The two ends of a run.
 fn ends_of(rt: &impl Abort, alloc: Global, run: &Run) -> (End, End) {
     let mut other = *run;
     other.seed = run.seed.wrapping_add(500_000);
-    (End::new(rt, alloc, run), End::new(rt, alloc, &other))
+    (
+        End::new(rt, alloc, run, 20),
+        End::new(rt, alloc, &other, 32),
+    )
 }
 
 /// A connects to B, and both send all that they have. Returns the first TSN of A.
 pub fn runs(rt: &impl Abort, alloc: Global, run: &Run) -> u32 {
     let (mut a, mut b) = ends_of(rt, alloc, run);
-    runs_between(rt, run, &mut a, &mut b);
+    runs_between(rt, alloc, run, &mut a, &mut b);
     resets_are_over(rt, run, &a, &b);
     resets_are_over(rt, run, &b, &a);
     let (first_tsn, _, _) = numbers_of(rt, &a);
@@ -129,7 +160,7 @@ pub fn runs(rt: &impl Abort, alloc: Global, run: &Run) -> u32 {
 /// A connects to B, both send all that they have, and the association is shut down: it is gone at both ends.
 pub fn closes(rt: &impl Abort, alloc: Global, run: &Run) {
     let (mut a, mut b) = ends_of(rt, alloc, run);
-    runs_between(rt, run, &mut a, &mut b);
+    runs_between(rt, alloc, run, &mut a, &mut b);
     let states = (a.socket.state(), b.socket.state());
     assert_eq!(rt;
         states,
