@@ -6,6 +6,7 @@ mod ChunkLoop
 mod DataTurns
 mod DispatchLemmas
 mod ExpiryLemmas
+mod HandoverLemmas
 mod MessageLemmas
 mod ResettingLemmas
 mod TimeLemmas

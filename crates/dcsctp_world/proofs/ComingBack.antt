@@ -145,7 +145,7 @@ handed_on e my held (t ∷ ts) core turns =
 -- ---- an act of a world
 
 not_restored : (core : Core) → is_closed core ≡ false → IsRestored true core (Restored (Ok tt)) → ⊥
-not_restored core open answer = let closes : is_closed core ≡ true = answer in absurd (cc)
+not_restored core is_open answer = let closes : is_closed core ≡ true = answer in absurd (cc)
 
 restored_by : (e new : Endpoint) (core : Core) (is_valid : Bool) (state : Snapshot) (reply : Reply) (ts : List Turned) → e.core ≡ core → IsRestored is_valid core reply
     → Turns e (inputs_where_valid is_valid core state) ts → new ≡ after_all e ts → reply ≡ Restored (Ok tt) → state.socket_state ≡ states.Connected → GoesOnFrom e.options state new
