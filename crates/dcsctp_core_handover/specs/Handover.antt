@@ -7,7 +7,7 @@ use Rattle.dcsctp_machine.specs.Outcome.{Outcome}
 use Rattle.dcsctp_machine.specs.Snapshot.{Snapshot}
 use Rattle.dcsctp_machine.specs.SocketSnapshot.{connected_snapshot}
 use Rattle.dcsctp_machine.specs.turns.HandoverOutcomes.{hand_over_outcome}
-use Rattle.dcsctp_machine.specs.turns.RestoreOutcomes.{own_pair, held_restored, transfer_begun, RestoresTransfer, RestoreTurn}
+use Rattle.dcsctp_machine.specs.turns.RestoreOutcomes.{own_pair, held_restored, was_reset, transfer_begun, RestoresTransfer, RestoreTurn}
 use Rattle.dcsctp_core.specs.Handling.{TakesIn}
 use Rattle.dcsctp_core.specs.View.{View, view_of, held_of, request_of, timer_of}
 use Rattle.dcsctp_core.specs.declared.context.Context.{Context}
@@ -32,7 +32,7 @@ pub record IsRestored (options : Options) (now : ℕ) (state : Snapshot) (tcb : 
   pub outstanding : request_of tcb.reset_request ≡ None
   pub reconfiguration : timer_of tcb.reset_request ≡ None
   pub tie_tag : tcb.tie_tag ≡ state.tie_tag
-  pub transfer : RestoresTransfer now state.tx state.rx (transfer_begun options state) tcb.transfer
+  pub transfer : RestoresTransfer now (was_reset state) state.tx state.rx (transfer_begun options state) tcb.transfer
 
 abbrev pub restore_turn : {R : Type 0} → Snapshot → View R → Outcome → Type 0
 restore_turn state view outcome = RestoreTurn view.endpoint view.endpoint.core state outcome

@@ -3,7 +3,7 @@
 ghost use Rattle.std.specs.Prelude.{◌≡◌, true, IfOk};
 ghost use Rattle.dcsctp_machine.specs.Endpoint.{closed};
 ghost use Rattle.dcsctp_machine.specs.Snapshot.{snapshot, is_valid_send_part};
-ghost use Rattle.dcsctp_machine.specs.turns.RestoreOutcomes.{capabilities_restored, own_pair, peer_pair};
+ghost use Rattle.dcsctp_machine.specs.turns.RestoreOutcomes.{capabilities_restored, own_pair, peer_pair, was_reset};
 ghost use Rattle.dcsctp_core.specs.View.{core_of};
 ghost use Rattle.dcsctp_core_handover.specs.Handover.{IsRestored, Restores};
 
@@ -54,6 +54,13 @@ fn peer_pair(state: &SocketHandoverState) -> Pair
     }
 }
 
+// Was an own request to reset streams begun? The number of the first is that of our first TSN.
+fn was_reset(state: &SocketHandoverState) -> bool
+    ensures { result ≡ was_reset (snapshot state.now) }
+{
+    state.tx.next_reset_req_sn != state.my_initial_tsn
+}
+
 // The association of the snapshot, which is restored at the moment `now`. `Err`: an allocation failed.
 fn restored_association(
     alloc: Global,
@@ -73,7 +80,7 @@ fn restored_association(
     tcb.next_outgoing_reset_req_seq_nbr = state.tx.next_reset_req_sn;
     tcb.last_processed_req_seq_nbr = state.rx.last_completed_reset_req_sn;
     tcb.transfer
-        .restore_from_state(now, &state.tx, &state.rx)?;
+        .restore_from_state(now, was_reset(state), &state.tx, &state.rx)?;
     Ok(tcb)
 }
 

@@ -1,5 +1,5 @@
 -- Outside examples of specs/transfer/OutstandingParts: four TSNs are outstanding, one in each state that an item has.
-use Rattle.std.proofs.Common.{◌≡◌, ℕ, negsuc, pos, true, false, None, Some, List, [], ◌∷◌, refl}
+use Rattle.std.proofs.Common.{◌≡◌, ℕ, negsuc, pos, true, false, None, Some, List, [], ◌∷◌, map, refl}
 use Rattle.dcsctp_machine.specs.declared.congestion.CongestionControl.{CongestionControl}
 use Rattle.dcsctp_machine.specs.declared.kinds.BackoffAlgorithm.TheVariants.{Exponential}
 use Rattle.dcsctp_machine.specs.declared.progress.ItemState.{ItemState}
@@ -8,7 +8,7 @@ use Rattle.dcsctp_machine.specs.declared.progress.Progress.{Progress}
 use Rattle.dcsctp_machine.specs.Snapshot.{empty_send_part}
 use Rattle.dcsctp_machine.specs.Timers.{TimerModel}
 use Rattle.dcsctp_machine.specs.transfer.Items.{Item}
-use Rattle.dcsctp_machine.specs.transfer.OutstandingParts.{millis_since, moment_before, with_retransmission, retransmission_restored}
+use Rattle.dcsctp_machine.specs.transfer.OutstandingParts.{millis_since, moment_before, outstanding_given, with_retransmission, items_again, retransmission_restored}
 use Rattle.dcsctp_machine.specs.transfer.Retransmission.{RetransmissionState}
 use Rattle.dcsctp_machine.specs.transfer.Sending.{Fragment}
 
@@ -95,7 +95,7 @@ other =
 -- ---- what comes of it
 
 -- It comes back whole, at the moment at which it was given.
-comes_back : retransmission_restored 3000000 (with_retransmission 3000000 true state empty_send_part) other ≡ state
+comes_back : retransmission_restored 3000000 false (with_retransmission 3000000 true state empty_send_part) other ≡ state
 comes_back = refl
 
 -- The last TSN that was acknowledged, and the next one.
@@ -106,6 +106,13 @@ next_is : (with_retransmission 3000000 true state empty_send_part).next_tsn ≡ 
 next_is = refl
 
 -- Without the data nothing is outstanding, and no timer runs.
-numbers_come_back : retransmission_restored 3000000 (with_retransmission 3000000 false state empty_send_part) other
+numbers_come_back : retransmission_restored 3000000 false (with_retransmission 3000000 false state empty_send_part) other
     ≡ record state { outstanding = record state.outstanding { items = [] }; timer = record timer { running = None } }
 numbers_come_back = refl
+
+-- Where streams were reset, no FORWARD-TSN reaches across an item, nor from these to what is sent next.
+each_ends_a_forward_tsn : map (λ (item : Item). item.begins_after_reset) (items_again 3000000 true (map (outstanding_given 3000000) items)) ≡ true ∷ true ∷ true ∷ true ∷ []
+each_ends_a_forward_tsn = refl
+
+next_begins_after_it : (retransmission_restored 3000000 true (with_retransmission 3000000 true state empty_send_part) other).reset_begun ≡ true
+next_begins_after_it = refl

@@ -1,5 +1,5 @@
 -- Items that are given and restored one after another.
-use Rattle.std.proofs.Common.{◌≡◌, ℕ, ◌+◌, ◌-◌, ◌^◌, min, Some, List, ◌∷◌, ◌++◌, [], length, take, map, ap, sym, ◌∙◌}
+use Rattle.std.proofs.Common.{◌≡◌, ℕ, ◌+◌, ◌-◌, ◌^◌, min, Bool, Some, List, ◌∷◌, ◌++◌, [], length, take, map, ap, sym, ◌∙◌}
 use Rattle.std.specs.List.{slice_get}
 use Rattle.std.proofs.lemmas.List.{take_min, take-map, map_more, map-append}
 use Rattle.std.proofs.lemmas.Option.{slice_get_within, get_or_from_slice_get}
@@ -20,7 +20,7 @@ given_further now place items item parts part so_far at is =
     ∙ sym (map_more (outstanding_given now) items place item (slice_get_within items place item at))
 
 -- All that can be restored are, once so many of them are.
-pub all_restored : (now count : ℕ) (parts : List HandoverOutstandingData) → count ≡ min (2 ^ 31 - 1) (length parts)
-    → map (item_again now) (map outstanding_part (take count parts)) ≡ items_again now (map outstanding_part parts)
-all_restored now count parts is =
-    rw is (ap (map (item_again now)) (ap (map outstanding_part) (take_min (2 ^ 31 - 1) parts) ∙ sym (take-map outstanding_part (2 ^ 31 - 1) parts)))
+pub all_restored : (now : ℕ) (was_reset : Bool) (count : ℕ) (parts : List HandoverOutstandingData) → count ≡ min (2 ^ 31 - 1) (length parts)
+    → map (item_again now was_reset) (map outstanding_part (take count parts)) ≡ items_again now was_reset (map outstanding_part parts)
+all_restored now was_reset count parts is =
+    rw is (ap (map (item_again now was_reset)) (ap (map outstanding_part) (take_min (2 ^ 31 - 1) parts) ∙ sym (take-map outstanding_part (2 ^ 31 - 1) parts)))

@@ -97,20 +97,21 @@ fn fragment_again(
 impl Item {
     ghost use Rattle.dcsctp_machine.specs.transfer.OutstandingParts.{outstanding_given, item_again};
 
-    /// The item that a snapshot has, if the snapshot is restored at the moment `now`. The payload is copied.
-    /// `Err`: an allocation failed.
+    /// The item that a snapshot has, if the snapshot is restored at the moment `now`. `was_reset`: streams were
+    /// reset before. The payload is copied. `Err`: an allocation failed.
     pub fn from_handover(
         alloc: Global,
         now: SocketTime,
+        was_reset: bool,
         part: &HandoverOutstandingData,
     ) -> Result<Item, AllocError>
-        ensures { IfOk result (λ item. item ≡ item_again now (outstanding_part part.now)) }
+        ensures { IfOk result (λ item. item ≡ item_again now was_reset (outstanding_part part.now)) }
     {
         Ok(Item {
             fragment: fragment_again(alloc, now, part)?,
             progress: progress_again(part),
             sent_at: moment_before(now, part.time_since_sent_ms),
-            begins_after_reset: false,
+            begins_after_reset: was_reset,
         })
     }
 

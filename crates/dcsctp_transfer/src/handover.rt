@@ -62,19 +62,21 @@ impl Transfer {
         self.reassembly_queue.add_to_handover_state(rx)
     }
 
-    /// An association that was just made goes on from the snapshot, restored at the moment `now`. `Err`: an
-    /// allocation failed, and only some of it is restored.
+    /// An association that was just made goes on from the snapshot, restored at the moment `now`. `was_reset`:
+    /// own streams were reset before. `Err`: an allocation failed, and only some of it is restored.
     pub fn restore_from_state(
         &mut self,
         now: SocketTime,
+        was_reset: bool,
         tx: &HandoverTransmission,
         rx: &HandoverReceive,
     ) -> Result<(), AllocError>
         requires tsns { self.old.tracker.ranges ≡ [] }
         requires streams { self.old.reassembly.incoming.streams ≡ [] }
-        ensures { OnOk result (RestoresTransfer now (send_part tx.now) (received_part rx.now) self.old self.new) }
+        ensures { OnOk result (RestoresTransfer now was_reset (send_part tx.now) (received_part rx.now) self.old self.new) }
     {
-        self.retransmission_queue.restore_from_state(now, tx)?;
+        self.retransmission_queue
+            .restore_from_state(now, was_reset, tx)?;
         self.data_tracker.restore_from_state(rx);
         self.reassembly_queue.restore_from_state(rx)
     }

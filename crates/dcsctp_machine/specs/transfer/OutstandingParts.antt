@@ -92,9 +92,10 @@ fragment_again now part =
       lifecycle = name_of part.lifecycle_id;
     }
 
--- its misses count anew, and each SACK tells of it
-abbrev pub item_again : ℕ → OutstandingPart → Item
-item_again now part =
+-- Its misses count anew, and each SACK tells of it. `was_reset`: streams were reset before. Which items were sent before that isn't
+-- kept, so no FORWARD-TSN reaches across any.
+abbrev pub item_again : ℕ → Bool → OutstandingPart → Item
+item_again now was_reset part =
     record {
       fragment = fragment_again now part;
       progress = record {
@@ -105,22 +106,23 @@ item_again now part =
         misses = 0;
       };
       sent_at = moment_before now part.time_since_sent_ms;
-      begins_after_reset = false;
+      begins_after_reset = was_reset;
     }
 
 -- Items whose TSNs can be compared; no snapshot of a socket has more.
-abbrev pub items_again : ℕ → List OutstandingPart → List Item
-items_again now parts = map (item_again now) (take (2 ^ 31 - 1) parts)
+abbrev pub items_again : ℕ → Bool → List OutstandingPart → List Item
+items_again now was_reset parts = map (item_again now was_reset) (take (2 ^ 31 - 1) parts)
 
 -- A queue that was just made goes on behind the last TSN that was acknowledged. The timer starts anew if something is outstanding.
-abbrev pub retransmission_restored : ℕ → SendPart → RetransmissionState → RetransmissionState
-retransmission_restored now tx state =
+abbrev pub retransmission_restored : ℕ → Bool → SendPart → RetransmissionState → RetransmissionState
+retransmission_restored now was_reset tx state =
     record state {
       outstanding = record state.outstanding {
         first_tsn = (tx.last_cumulative_tsn_ack + 1) % 2 ^ 32;
-        items = items_again now tx.outstanding_data;
+        items = items_again now was_reset tx.outstanding_data;
       };
       congestion = record state.congestion { cwnd = tx.cwnd; ssthresh = tx.ssthresh; partial_bytes_acked = tx.partial_bytes_acked };
       peer_window = tx.rwnd;
-      timer = timer_with now (items_again now tx.outstanding_data) state.timer;
+      timer = timer_with now (items_again now was_reset tx.outstanding_data) state.timer;
+      reset_begun = was_reset;
     }

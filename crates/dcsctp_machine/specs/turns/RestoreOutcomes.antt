@@ -1,5 +1,5 @@
 -- How a socket goes on from a snapshot.
-use Rattle.std.specs.Prelude.{◌≡◌, ℕ, None, Some, [], ◌∷◌, if◌then◌else◌}
+use Rattle.std.specs.Prelude.{◌≡◌, ◌==◌, ℕ, Bool, not, None, Some, [], ◌∷◌, if◌then◌else◌}
 use Rattle.dcsctp_machine.specs.declared.association.Held.{Held}
 use Rattle.dcsctp_machine.specs.declared.association.Pair.{Pair}
 use Rattle.dcsctp_machine.specs.declared.capabilities.Capabilities.{Capabilities}
@@ -51,12 +51,16 @@ abbrev pub transfer_begun : Options → Snapshot → Transfer
 transfer_begun options state =
     new_transfer options (capabilities_restored options state.capabilities) state.my_initial_tsn state.peer_initial_tsn state.tx.rwnd
 
+-- Was an own request to reset streams begun? The number of the first is that of the own first TSN.
+abbrev pub was_reset : Snapshot → Bool
+was_reset state = not (state.tx.next_reset_req_sn == state.my_initial_tsn)
+
 -- What is in flight and what was received is as the snapshot has it. The round trip is measured anew.
-pub record RestoresTransfer (now : ℕ) (tx : SendPart) (rx : ReceivePart) (old new : Transfer) : Type 0 where
+pub record RestoresTransfer (now : ℕ) (was_reset : Bool) (tx : SendPart) (rx : ReceivePart) (old new : Transfer) : Type 0 where
   pub reassembly : ReassemblyState
   pub messages : RestoresReassembly rx old.reassembly reassembly
   pub is : new ≡ record old {
-    retransmission = retransmission_restored now tx old.retransmission;
+    retransmission = retransmission_restored now was_reset tx old.retransmission;
     tracker = tracker_restored rx old.tracker;
     reassembly = reassembly;
   }
@@ -93,5 +97,5 @@ restored_outcome e state transfer =
 -- Only a closed socket is restored.
 abbrev pub RestoreTurn : Endpoint → Core → Snapshot → Outcome → Type 0
 RestoreTurn e closed state o =
-    (transfer : Transfer) × RestoresTransfer e.moment state.tx state.rx (transfer_begun e.options state) transfer × (o ≡ restored_outcome e state transfer)
+    (transfer : Transfer) × RestoresTransfer e.moment (was_reset state) state.tx state.rx (transfer_begun e.options state) transfer × (o ≡ restored_outcome e state transfer)
 RestoreTurn e core state o = o ≡ still e

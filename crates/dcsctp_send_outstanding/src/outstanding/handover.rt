@@ -57,21 +57,23 @@ impl Outstanding {
     }
 
     /// Replaces all items with those that a snapshot has, from `first_tsn` on, if the snapshot is restored at
-    /// the moment `now`. It takes the first 2^31 - 1 of them, since no more TSNs can be compared. `Err`: an
+    /// the moment `now`. `was_reset`: streams were reset before, and which items were sent before that isn't
+    /// known. It takes the first 2^31 - 1 of them, since no more TSNs can be compared. `Err`: an
     /// allocation failed, and only some of them are restored.
     pub fn restore(
         &mut self,
         now: SocketTime,
+        was_reset: bool,
         first_tsn: u32,
         parts: &[HandoverOutstandingData],
     ) -> Result<(), AllocError>
-        ensures { OnOk result (self.new ≡ record self.old { first_tsn = first_tsn; items = items_again now (map outstanding_part parts.now) }) }
+        ensures { OnOk result (self.new ≡ record self.old { first_tsn = first_tsn; items = items_again now was_reset (map outstanding_part parts.now) }) }
     {
         let alloc = self.alloc;
         self.empty(first_tsn);
         let count = MOST_ITEMS.min(parts.len());
         for place in 0..count {
-            let item = Item::from_handover(alloc, now, &parts[place])?;
+            let item = Item::from_handover(alloc, now, was_reset, &parts[place])?;
             self.push(item)?;
         }
         Ok(())

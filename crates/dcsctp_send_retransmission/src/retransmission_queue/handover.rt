@@ -50,21 +50,24 @@ impl RetransmissionQueue {
 
     /// Puts what the snapshot has, restored at the moment `now`, in the place of what is in flight. A lost item
     /// waits to be sent again. The retransmission timer is started if something is outstanding, unless it
-    /// runs. `Err`: an allocation failed, and only some of it is restored.
+    /// runs. `was_reset`: streams were reset before. Then no FORWARD-TSN reaches across an item, since which of
+    /// them were sent before that isn't known. `Err`: an allocation failed, and only some of it is restored.
     pub fn restore_from_state(
         &mut self,
         now: SocketTime,
+        was_reset: bool,
         tx: &HandoverTransmission,
     ) -> Result<(), AllocError>
-        ensures { OnOk result (self.new ≡ retransmission_restored now (send_part tx.now) self.old) }
+        ensures { OnOk result (self.new ≡ retransmission_restored now was_reset (send_part tx.now) self.old) }
     {
         let first_tsn = tx.last_cumulative_tsn_ack.wrapping_add(1);
         self.outstanding
-            .restore(now, first_tsn, tx.outstanding_data.as_slice())?;
+            .restore(now, was_reset, first_tsn, tx.outstanding_data.as_slice())?;
         self.congestion.cwnd = tx.cwnd as usize;
         self.congestion.ssthresh = tx.ssthresh as usize;
         self.congestion.partial_bytes_acked = tx.partial_bytes_acked as usize;
         self.peer_window = tx.rwnd as usize;
+        self.reset_begun = was_reset;
         self.keep_timer(now);
         Ok(())
     }

@@ -6,4 +6,4 @@ use Rattle.dcsctp_send_outstanding.proofs.outstanding.Outstanding.restore.Given 
 -- The items so far.
 abbrev pub invariant-loop-place : goal.invariant-loop-place
 invariant-loop-place l =
-    l.self ≡ record l.initial.self { first_tsn = l.first_tsn; items = map (item_again l.now) (map outstanding_part (take l.place l.parts)) }
+    l.self ≡ record l.initial.self { first_tsn = l.first_tsn; items = map (item_again l.now l.was_reset) (map outstanding_part (take l.place l.parts)) }
