@@ -95,3 +95,21 @@ fn streams_are_reset_between_handovers(rt: HostRuntime) {
         runs_each(&rt, rt.alloc(), &run);
     }
 }
+
+// With DATA a late part of such a message may stay at the other end until its stream is reset. Till then that
+// end isn't ready.
+#[test]
+fn a_reset_parts_messages_that_are_given_up(rt: HostRuntime) {
+    let mut run = PLAIN;
+    run.name = "resets of messages that are given up, at rest, I-DATA";
+    run.efforts = [
+        Effort::SentOnce,
+        Effort::Reliable,
+        Effort::Lifetime,
+        Effort::SentTwice,
+    ];
+    run.interleaving = true;
+    run.resetting = Resetting::AmongMessages;
+    run.handing = Handing::AtRest;
+    runs_each(&rt, rt.alloc(), &run);
+}
