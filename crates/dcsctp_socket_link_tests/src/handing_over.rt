@@ -113,3 +113,31 @@ fn a_reset_parts_messages_that_are_given_up(rt: HostRuntime) {
     run.handing = Handing::AtRest;
     runs_each(&rt, rt.alloc(), &run);
 }
+
+// Which items were sent before a reset is not known after the handover, so no FORWARD-TSN reaches across any.
+#[test]
+fn a_reset_parts_messages_that_are_given_up_and_go_along(rt: HostRuntime) {
+    for (name, resetting) in [
+        (
+            "resets among messages that are given up",
+            Resetting::AmongMessages,
+        ),
+        (
+            "resets between messages that are given up",
+            Resetting::BetweenMessages,
+        ),
+    ] {
+        let mut run = PLAIN;
+        run.name = name;
+        run.efforts = [
+            Effort::SentOnce,
+            Effort::Reliable,
+            Effort::Lifetime,
+            Effort::SentTwice,
+        ];
+        run.interleaving = true;
+        run.resetting = resetting;
+        run.handing = Handing::WithData;
+        runs_each(&rt, rt.alloc(), &run);
+    }
+}

@@ -8,6 +8,8 @@
 #[cfg(test)]
 mod checks;
 #[cfg(test)]
+mod handover_resets;
+#[cfg(test)]
 mod handovers;
 #[cfg(test)]
 mod invalid_snapshots;

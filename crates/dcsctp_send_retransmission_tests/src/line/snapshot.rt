@@ -113,7 +113,7 @@ impl Line {
         let negotiated = (row.number::<u8>() == 1, row.number::<u8>() == 1);
         let mut line = Line::new(self.alloc, 0, 0, negotiated);
         line.now = now;
-        let restored = line.sent.restore_from_state(at(now), &self.snapshot);
+        let restored = line.sent.restore_from_state(at(now), false, &self.snapshot);
         row.done(restored.is_ok());
         *self = line;
     }
