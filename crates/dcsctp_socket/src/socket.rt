@@ -126,7 +126,7 @@ impl<R: Rng + Drop> DcSctpSocket for Socket<R> {
     ghost use Rattle.dcsctp_api.specs.Time.{Advances, OnlyMovesClock};
     ghost use Rattle.dcsctp_api.specs.Handover.{HandsOver, Restores};
     ghost use Rattle.dcsctp_machine.specs.Handover.{readiness_of};
-    ghost use Rattle.dcsctp_machine.specs.Snapshot.{snapshot};
+    ghost use Rattle.dcsctp_machine.specs.Snapshot.{snapshot, is_valid_snapshot};
     ghost use Rattle.dcsctp_machine.specs.Sockets.{inputs_of_restore};
     ghost use Rattle.dcsctp_api.specs.Messages.{Sends, SendsMany, TakesNext};
     ghost use Rattle.dcsctp_api.specs.Resets.{ResetsOwn};
@@ -338,6 +338,7 @@ impl<R: Rng + Drop> DcSctpSocket for Socket<R> {
         &mut self,
         state: &SocketHandoverState,
     ) -> Result<Result<(), RestoreError>, SocketFault>
+        requires { is_valid_snapshot self.old.view.endpoint.options (snapshot state.now) ≡ true }
         ensures call { Restores (snapshot state.now) (user_view_of self.old) result (user_view_of self.new) }
         ensures idle { self.old.failed ≡ false
             → inputs_of_restore self.old.view.endpoint.core (snapshot state.now) ≡ [] → IsOk result }
