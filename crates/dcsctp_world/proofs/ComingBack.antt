@@ -1,5 +1,5 @@
 -- A restore brings back what the snapshot has of the association.
-use Rattle.std.proofs.Common.{◌≡◌, ℕ, zero, suc, Bool, true, false, Option, None, Some, Ok, List, [], ◌∷◌, map, refl, sym, subst, ap, ◌∙◌}
+use Rattle.std.proofs.Common.{◌≡◌, ℕ, zero, suc, Bool, true, false, Option, None, Some, Result, Ok, Err, IfOk, List, [], ◌∷◌, map, refl, sym, subst, ap, ◌∙◌}
 use Rattle.dcsctp_machine.specs.declared.association.Held.{Held}
 use Rattle.dcsctp_machine.specs.declared.association.Pair.{Pair}
 use Rattle.dcsctp_machine.specs.declared.options.Options.{Options}
@@ -8,11 +8,11 @@ use Rattle.dcsctp_machine.specs.declared.snapshot.HandoverSocketState.TheVariant
 use Rattle.dcsctp_machine.specs.Endpoint.{Endpoint, Core, closed, cookie_wait, cookie_echoed, open_in, established, held_in}
 use Rattle.dcsctp_machine.specs.Event.{Event}
 use Rattle.dcsctp_machine.specs.Packet.{Content, Emission}
-use Rattle.dcsctp_machine.specs.Outcome.{Outcome, quiet, sends}
-use Rattle.dcsctp_machine.specs.Snapshot.{SendPart, ReceivePart, Snapshot, empty_send_part, empty_received_part}
+use Rattle.dcsctp_machine.specs.Outcome.{Outcome}
+use Rattle.dcsctp_machine.specs.Snapshot.{SendPart, ReceivePart, Snapshot, empty_received_part}
 use Rattle.dcsctp_machine.specs.SocketSnapshot.{with_flight, with_received, connected_snapshot, snapshot_in, snapshot_of}
-use Rattle.dcsctp_machine.specs.Turn.{Input, act_input, restores}
-use Rattle.dcsctp_machine.specs.control.Acts.{flushes, hands_over}
+use Rattle.dcsctp_machine.specs.Turn.{act_input}
+use Rattle.dcsctp_machine.specs.control.Acts.{hands_over}
 use Rattle.dcsctp_machine.specs.CallTurns.{Turned, Turns, after_all}
 use Rattle.dcsctp_machine.specs.declared.schedule.Side.{Side}
 use Rattle.dcsctp_machine.specs.declared.schedule.Side.TheVariants as sides
@@ -20,10 +20,11 @@ use Rattle.dcsctp_machine.specs.Handover.{readiness_of}
 use Rattle.dcsctp_machine.specs.Schedule.{OutsideContent, input_outside, handover_outside, restore_outside, outside_act}
 use Rattle.dcsctp_machine.specs.Snapshot.{is_valid_snapshot}
 use Rattle.dcsctp_machine.specs.Sockets.{inputs_of_snapshot, inputs_where_valid, inputs_of_both, Both, of_side, of_other, side_of_outside, TurnsOfAct}
+use Rattle.dcsctp_api.specs.declared.errors.SocketFault.{SocketFault}
 use Rattle.dcsctp_api.specs.Calls.{is_closed}
 use Rattle.dcsctp_world.specs.declared.act.Reply.{Reply}
 use Rattle.dcsctp_world.specs.declared.act.Reply.TheVariants.{Restored}
-use Rattle.dcsctp_world.specs.Acts.{Applied, with_associations}
+use Rattle.dcsctp_world.specs.Acts.{Applied, Applies, with_associations}
 use Rattle.dcsctp_world.specs.Growth.{IsReply, IsRestored, IsHandedOver, IsHandedOn}
 use Rattle.dcsctp_world.specs.Shown.{SideShown, WorldView}
 use Rattle.dcsctp_machine.specs.transfer.Transfer.{Transfer}
@@ -31,7 +32,7 @@ use Rattle.dcsctp_machine.specs.turns.BegunResets.{BegunReset, held_begun, core_
 use Rattle.dcsctp_machine.specs.turns.DataOutcomes.{FlushTurn, AnswersTo, flush_by}
 use Rattle.dcsctp_machine.specs.turns.FlushOutcomes.{Answer, Ask, Answers, at_limit, at_empty, after_packet, Answered, goes_out, filled, answer_contents, asked, next_draft, flush_of, draft_to, told_event, FlushAnswers}
 use Rattle.dcsctp_machine.specs.turns.HandoverOutcomes.{hand_over_outcome}
-use Rattle.dcsctp_machine.specs.turns.RestoreOutcomes.{own_pair, held_restored, restored_endpoint, restored_outcome, RestoreTurn}
+use Rattle.dcsctp_machine.specs.turns.RestoreOutcomes.{own_pair, held_restored, RestoreTurn}
 use Rattle.dcsctp_machine.proofs.FlushKeeps.{begun_by, flush_keeps}
 use Rattle.dcsctp_world.specs.Returning.{GoesOnFrom, held_again, GoesOn, RestoresBy}
 
@@ -181,10 +182,15 @@ noted_keeps : {R : Type 0} (side : Side) (both : Both (SideShown R)) → Endpoin
 noted_keeps sides.A both = refl
 noted_keeps sides.B both = refl
 
-pub restores_by : {R : Type 0} (outside : OutsideContent) (reply : Reply) (old new : WorldView R) → Applied (outside_act outside) reply old new
+restores_by : {R : Type 0} (outside : OutsideContent) (reply : Reply) (old new : WorldView R) → Applied (outside_act outside) reply old new
     → RestoresBy outside reply (EndpointAt (side_of_outside outside) old.sides) (EndpointAt (side_of_outside outside) new.sides)
 restores_by {R} outside reply old new h =
     let side : Side = side_of_outside outside in
     let grows = h.moves.grows in
     by_act (EndpointAt side old.sides) (EndpointAt side new.sides) (of_other side old.sides).packets outside reply grows.turns h.moves.reply grows.are
     (ap (λ (both : Both (SideShown R)). EndpointAt side both) h.sides ∙ noted_keeps side h.moved ∙ grows.endpoint)
+
+pub restores_where : {R : Type 0} (outside : OutsideContent) (old new : WorldView R) (result : Result Reply SocketFault) → Applies (outside_act outside) old result new
+    → IfOk result (λ (reply : Reply). RestoresBy outside reply (EndpointAt (side_of_outside outside) old.sides) (EndpointAt (side_of_outside outside) new.sides))
+restores_where outside old new (Ok reply) h = restores_by outside reply old new h
+restores_where outside old new (Err fault) h = tt

@@ -1,5 +1,5 @@
 -- A socket that is handed over, and restored from its snapshot, has the turns of both.
-use Rattle.std.proofs.Common.{◌≡◌, ◌≢◌, ℕ, zero, suc, Bool, true, false, Result, Ok, Err, Option, List, [], ◌∷◌, ◌++◌, map, refl, sym, ap, subst, ◌∙◌, append_assoc}
+use Rattle.std.proofs.Common.{◌≡◌, ◌≢◌, ℕ, zero, suc, Bool, true, false, Result, Ok, Err, List, [], ◌∷◌, ◌++◌, map, refl, sym, ap, subst, ◌∙◌, append_assoc}
 use Rattle.std.proofs.lemmas.List.{map-append}
 use Rattle.dcsctp_machine.specs.declared.association.Pair.{Pair}
 use Rattle.dcsctp_machine.specs.declared.word.Word.{Word}
@@ -10,10 +10,10 @@ use Rattle.dcsctp_machine.specs.Event.{Event}
 use Rattle.dcsctp_machine.specs.Packet.{Emission}
 use Rattle.dcsctp_machine.specs.Handover.{readiness_of, readiness_in}
 use Rattle.dcsctp_machine.specs.Outcome.{Outcome}
-use Rattle.dcsctp_machine.specs.Settings.{Ports, ports_of}
+use Rattle.dcsctp_machine.specs.Settings.{ports_of}
 use Rattle.dcsctp_machine.specs.Snapshot.{Snapshot, snapshot, is_valid_snapshot}
 use Rattle.dcsctp_machine.specs.SocketSnapshot.{snapshot_of}
-use Rattle.dcsctp_machine.specs.Turn.{Input, act_input}
+use Rattle.dcsctp_machine.specs.Turn.{act_input}
 use Rattle.dcsctp_machine.specs.control.Acts.{hands_over}
 use Rattle.dcsctp_machine.specs.control.Effect.{drawn_in}
 use Rattle.dcsctp_machine.specs.CallTurns.{Turned, IsTurn, Turns, after_all, words_of, effects_of, pairs_of, events_of}
@@ -24,13 +24,16 @@ use Rattle.dcsctp_api.specs.declared.errors.SocketFault.{SocketFault}
 use Rattle.dcsctp_api.specs.declared.errors.SocketFault.TheVariants.{OutOfMemory, Failed}
 use Rattle.dcsctp_api.specs.Calls.{UserView, Follows, user_event}
 use Rattle.dcsctp_api.specs.declared.errors.HandoverError.{HandoverError}
+use Rattle.dcsctp_api.specs.declared.errors.HandoverError.TheVariants.{NotReady}
 use Rattle.dcsctp_api.specs.declared.errors.RestoreError.TheVariants.{SocketNotClosed}
 use Rattle.dcsctp_api.specs.declared.errors.RestoreError.{RestoreError}
 use Rattle.dcsctp_api.specs.Handover.{IsHandoverAnswer, Restores}
 use Rattle.dcsctp_world.specs.declared.act.Reply.{Reply}
 use Rattle.dcsctp_world.specs.declared.act.Reply.TheVariants.{NoCall, Done, Sent, SentMany, Reset, Taken, HandedOver, Restored}
-use Rattle.dcsctp_world.specs.Growth.{CallMade, Called, IsHandedOn, IsRestored}
+use Rattle.dcsctp_world.specs.Growth.{Called, Works, IsHandedOn, IsRestored}
+use Rattle.dcsctp_world.specs.Shown.{SideShown}
 use Rattle.dcsctp_world.specs.Outside.{HandoverTurns, IsHandedOnBy, ValidTurns, IsRestoredBy}
+use Rattle.dcsctp_world.proofs.Stopping.{grows_by_nothing}
 
 -- ---- what the handover leaves
 
@@ -173,6 +176,9 @@ hands_over_alone old mid state turns ready same are follows invalid =
     }
 
 -- one that isn't ready
+is_not_ready : (e : Endpoint) (error : HandoverError) → IsHandoverAnswer e (Err error) → readiness_of e ≢ 0
+is_not_ready e (NotReady readiness) is = is.0
+
 refused_at : (e : Endpoint) (readiness : ℕ) (turns : List Turned) (is_valid : Bool) (state : Snapshot) → readiness ≢ 0 → Turns e (inputs_of_handover readiness) turns
     → Turns e (inputs_of_both readiness is_valid state) turns
 refused_at e zero turns is_valid state some are = absurd (some refl)
@@ -182,10 +188,11 @@ refused_reply : (e : Endpoint) (readiness : ℕ) (is_valid : Bool) (error : Hand
 refused_reply e zero is_valid error some is = absurd (some refl)
 refused_reply e (suc reasons) is_valid error some is = is
 
-pub hand_over_refused : (old new : UserView) (error : HandoverError) (turns : List Turned) → readiness_of old.endpoint ≢ 0 → IsHandoverAnswer old.endpoint (Err error)
+pub hand_over_refused : (old new : UserView) (error : HandoverError) (turns : List Turned) → IsHandoverAnswer old.endpoint (Err error)
     → Turns old.endpoint (inputs_of_handover (readiness_of old.endpoint)) turns → Follows old turns new
     → Called (HandoverTurns old.endpoint) (IsHandedOnBy old.endpoint) old (Ok (HandedOver (Err error))) new
-hand_over_refused old new error turns some is are follows =
+hand_over_refused old new error turns is are follows =
+    let some : readiness_of old.endpoint ≢ 0 = is_not_ready old.endpoint error is in
     record {
       reply = refused_reply old.endpoint (readiness_of old.endpoint) (OwnIsValid old.endpoint) error some is;
       called = tt;
@@ -206,3 +213,12 @@ restore_called old new state answer valid made =
       are = subst (λ (b : Bool). Turns old.endpoint (inputs_where_valid b old.endpoint.core state) made.1) (sym valid) made.2;
       follows = made.3;
     }
+
+-- a snapshot that isn't valid
+pub not_restored_by : {R : Type 0} (old : SideShown R) (state : Snapshot) → is_valid_snapshot old.socket.view.endpoint.options state ≡ false → old.socket.view.events ≡ []
+    → Works (ValidTurns old.socket.view.endpoint state) (IsRestoredBy old.socket.view.endpoint state) old (Ok NoCall) old
+not_restored_by {R} old state invalid waiting =
+    let e : Endpoint = old.socket.view.endpoint in
+    let Restoring : Bool → Type 0 = λ is_valid.
+    Works (λ (ts : List Turned). Turns e (inputs_where_valid is_valid e.core state) ts) (λ (reply : Reply). IsRestored is_valid e.core reply) old (Ok NoCall) old in
+    subst Restoring (sym invalid) (refl, grows_by_nothing _ old tt waiting)

@@ -1,6 +1,5 @@
 -- What a restore brings back of an association.
-use Rattle.std.specs.Prelude.{◌≡◌, ℕ, Option, None, Ok, List}
-use Rattle.dcsctp_wire.specs.declared.reconfiguration.ReconfigurationResponseResult.TheVariants.{SuccessNothingToDo}
+use Rattle.std.specs.Prelude.{◌≡◌, Option, Ok}
 use Rattle.dcsctp_machine.specs.declared.association.Held.{Held}
 use Rattle.dcsctp_machine.specs.declared.association.Pair.{Pair}
 use Rattle.dcsctp_machine.specs.declared.options.Options.{Options}
@@ -9,8 +8,9 @@ use Rattle.dcsctp_machine.specs.Endpoint.{Endpoint, open_in, established}
 use Rattle.dcsctp_machine.specs.Schedule.{OutsideContent, input_outside, handover_outside, restore_outside}
 use Rattle.dcsctp_machine.specs.Snapshot.{Snapshot}
 use Rattle.dcsctp_machine.specs.SocketSnapshot.{capabilities_given}
+use Rattle.dcsctp_machine.specs.control.ResumeChanges.{resumed_held}
 use Rattle.dcsctp_machine.specs.turns.BegunResets.{BegunReset, held_begun}
-use Rattle.dcsctp_machine.specs.turns.RestoreOutcomes.{capabilities_restored, own_pair, peer_pair, held_restored}
+use Rattle.dcsctp_machine.specs.turns.RestoreOutcomes.{capabilities_restored, own_pair, held_restored}
 use Rattle.dcsctp_world.specs.declared.act.Reply.{Reply}
 use Rattle.dcsctp_world.specs.declared.act.Reply.TheVariants.{Restored}
 
@@ -23,12 +23,7 @@ pub record GoesOnFrom (options : Options) (state : Snapshot) (new : Endpoint) : 
 
 -- what is known of the peer, once it was handed over and restored with the same options
 abbrev pub held_again : Options → Held → Held
-held_again options held =
-    record held {
-      capabilities = capabilities_restored options (capabilities_given held.capabilities);
-      own_outstanding = None;
-      peer_result = SuccessNothingToDo;
-    }
+held_again options held = resumed_held held.peer (capabilities_restored options (capabilities_given held.capabilities)) held.own_next held.peer_last
 
 -- A socket that was established goes on as it was: with both pairs, the tie tag, what both ends support, and the numbers of
 -- requests. The kept answer is 'nothing to do'.

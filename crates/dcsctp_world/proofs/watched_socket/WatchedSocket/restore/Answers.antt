@@ -1,10 +1,11 @@
-use Rattle.std.proofs.Common.{Err, List, ap}
+use Rattle.std.proofs.Common.{◌≡◌, false, Err, List, ap}
 use Rattle.std.proofs.lemmas.Result.{err_from_is_err_and}
 use Rattle.dcsctp_api.specs.declared.errors.SocketFault.{SocketFault}
 use Rattle.dcsctp_machine.specs.CallTurns.{Turned}
-use Rattle.dcsctp_machine.specs.Snapshot.{snapshot}
+use Rattle.dcsctp_machine.specs.Snapshot.{snapshot, is_valid_snapshot}
 use Rattle.dcsctp_world.specs.Outside.{ValidTurns, IsRestoredBy}
 use Rattle.dcsctp_world.specs.Parts.{shown}
+use Rattle.dcsctp_world.proofs.HandingOn.{not_restored_by}
 use Rattle.dcsctp_world.proofs.Stopping.{call_fails, stops_after}
 use Rattle.dcsctp_world.proofs.watched_socket.WatchedSocket.restore.Goals as goal
 
@@ -26,3 +27,11 @@ returns-in_err-keep_all g c =
       stops_after Turns (shown c.args.self.now) (shown c.keep_all.new.self) c.restore.new.socket worked.turns
           worked.are c.requires worked.follows c.in_err-keep_all.ensures,
     )
+
+pub returns-then-not-is_valid : goal.returns-then-not-is_valid
+returns-then-not-is_valid g c =
+    let is = c.is_valid.ensures in
+    let no = c.if-not-is_valid.true in
+    let options = c.options.ensures in
+    let invalid : is_valid_snapshot c.args.self.now.socket.view.endpoint.options (snapshot c.args.state.now) ≡ false = cc in
+    not_restored_by (shown c.args.self.now) (snapshot c.args.state.now) invalid c.requires

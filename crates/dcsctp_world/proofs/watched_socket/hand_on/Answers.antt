@@ -1,0 +1,39 @@
+use Rattle.std.proofs.Common.{◌≡◌, false, true, Result, Ok, subst}
+use Rattle.dcsctp_machine.specs.declared.snapshot.SocketHandoverState.{SocketHandoverState}
+use Rattle.dcsctp_machine.specs.Snapshot.{snapshot, is_valid_snapshot}
+use Rattle.dcsctp_api.specs.declared.errors.HandoverError.{HandoverError}
+use Rattle.dcsctp_api.specs.Calls.{UserView}
+use Rattle.dcsctp_api.specs.Handover.{HandsOver}
+use Rattle.dcsctp_socket.specs.SocketView.{user_view_of}
+use Rattle.dcsctp_world.proofs.HandingOn.{hands_on, hands_over_alone, hand_over_refused}
+use Rattle.dcsctp_world.proofs.watched_socket.hand_on.Goals as goal
+
+pub returns-then-not-is_valid-clause-call : goal.returns-then-not-is_valid-clause-call
+returns-then-not-is_valid-clause-call g c =
+    let old : UserView = user_view_of c.args.socket.now in
+    let mid : UserView = user_view_of c.get_handover_state_and_close.new.self in
+    let handed = subst (λ (answer : Result SocketHandoverState HandoverError). HandsOver old (Ok answer) mid) c.in-Ok.is c.in_ok-error.ensures.call in
+    let is = c.is_valid.ensures in
+    let no = c.if-not-is_valid.true in
+    let options = c.options.ensures in
+    let invalid : is_valid_snapshot mid.endpoint.options (snapshot c.in-Ok.state) ≡ false = cc in
+    hands_over_alone old mid c.in-Ok.state handed.1 handed.0.0 handed.0.1 handed.2 handed.3 invalid
+
+pub returns-in-Err-clause-call : goal.returns-in-Err-clause-call
+returns-in-Err-clause-call g c =
+    let old : UserView = user_view_of c.args.socket.now in
+    let new : UserView = user_view_of c.get_handover_state_and_close.new.self in
+    let refused = subst (λ (answer : Result SocketHandoverState HandoverError). HandsOver old (Ok answer) new) c.in-Err.is c.in_ok-error.ensures.call in
+    hand_over_refused old new c.in-Err.error refused.1 refused.0 refused.2 refused.3
+
+pub returns-else-not-is_valid-clause-call : goal.returns-else-not-is_valid-clause-call
+returns-else-not-is_valid-clause-call g c =
+    let old : UserView = user_view_of c.args.socket.now in
+    let mid : UserView = user_view_of c.get_handover_state_and_close.new.self in
+    let new : UserView = user_view_of c.restore.new.socket in
+    let handed = subst (λ (answer : Result SocketHandoverState HandoverError). HandsOver old (Ok answer) mid) c.in-Ok.is c.in_ok-error.ensures.call in
+    let is = c.is_valid.ensures in
+    let yes = c.if-not-is_valid.false in
+    let options = c.options.ensures in
+    let valid : is_valid_snapshot mid.endpoint.options (snapshot c.in-Ok.state) ≡ true = cc in
+    hands_on old mid new (snapshot c.in-Ok.state) c.restore.result handed.1 handed.0.0 handed.0.1 handed.2 handed.3 valid c.restore.ensures.call
