@@ -7,8 +7,8 @@ use dcsctp_api::{DcSctpSocket, Message, PpId, SendOptions, SocketEvent, StreamId
 use dcsctp_machine::{Call, Outside, Side, Step};
 use dcsctp_script_lines::{Command, Line, parse_line};
 use dcsctp_script_printing::{
-    print_association, print_event, print_handover_refusal, print_refusal, print_reset_refusal, print_state, print_taken,
-    print_timeout,
+    print_association, print_event, print_handover_refusal, print_refusal, print_reset_refusal,
+    print_state, print_taken, print_timeout,
 };
 use dcsctp_world::{Reply, World};
 use std::alloc::Global;

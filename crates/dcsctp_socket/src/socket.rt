@@ -2,12 +2,12 @@
 
 ghost use Rattle.dcsctp_socket.specs.SocketView.{Settles};
 
-use dcsctp_api::{
-    Association, BatchSendError, DcSctpSocket, HandoverError, HandoverReadiness, Message, Metrics, Options, Pair,
-    ResetStreamsError, RestoreError, SendError, SendOptions, SocketEvent, SocketFault, SocketState, SocketTime,
-    StreamId,
-};
 use dcsctp_api::handover::SocketHandoverState;
+use dcsctp_api::{
+    Association, BatchSendError, DcSctpSocket, HandoverError, HandoverReadiness, Message, Metrics,
+    Options, Pair, ResetStreamsError, RestoreError, SendError, SendOptions, SocketEvent,
+    SocketFault, SocketState, SocketTime, StreamId,
+};
 use dcsctp_core::Context;
 use dcsctp_core_decisions::poll_timeout;
 use dcsctp_machine::time_passes_quietly;

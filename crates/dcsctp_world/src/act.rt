@@ -5,7 +5,9 @@ ghost use Rattle.dcsctp_machine.specs.Schedule.{act_content, AreHonest};
 ghost use Rattle.dcsctp_machine.specs.Sockets.{side_of_act};
 
 use dcsctp_api::handover::SocketHandoverState;
-use dcsctp_api::{BatchSendError, HandoverError, Message, ResetStreamsError, RestoreError, SendError};
+use dcsctp_api::{
+    BatchSendError, HandoverError, Message, ResetStreamsError, RestoreError, SendError,
+};
 use dcsctp_machine::{Act, Outside, Side, Step};
 
 /// What the call of an act answered.
