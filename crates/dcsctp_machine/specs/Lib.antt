@@ -31,3 +31,4 @@ pub mod Following
 pub mod Handover
 pub mod TimeTurns
 pub mod Deadlines
+pub mod Soundness
