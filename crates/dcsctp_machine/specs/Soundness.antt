@@ -1,12 +1,12 @@
 -- What holds of an endpoint whatever it is handed, so that each of its snapshots is valid.
-use Rattle.std.specs.Prelude.{◌≡◌, ◌≤◌, ◌<◌, ◌⊎◌, ℕ, true, Option, None, Some, List, length}
+use Rattle.std.specs.Prelude.{◌≡◌, ◌≤◌, ◌<◌, ◌^◌, ◌⊎◌, ℕ, true, Option, None, Some, List, length}
 use Rattle.std.specs.List.{AllByRecursion}
 use Rattle.dcsctp_machine.specs.declared.association.Held.{Held}
 use Rattle.dcsctp_machine.specs.declared.capabilities.Capabilities.{Capabilities}
 use Rattle.dcsctp_machine.specs.declared.options.Options.{Options}
 use Rattle.dcsctp_machine.specs.declared.progress.ItemState.TheVariants.{Abandoned}
 use Rattle.dcsctp_machine.specs.Schedule.{CallContent}
-use Rattle.dcsctp_machine.specs.Endpoint.{Endpoint, Core, closed, cookie_wait, cookie_echoed, open_in}
+use Rattle.dcsctp_machine.specs.Endpoint.{Endpoint, Core, closed, cookie_wait, cookie_echoed, open_in, held_in}
 use Rattle.dcsctp_machine.specs.Handover.{readiness_of}
 use Rattle.dcsctp_machine.specs.Snapshot.{Snapshot, is_valid_snapshot}
 use Rattle.dcsctp_machine.specs.SocketSnapshot.{snapshot_of}
@@ -15,7 +15,7 @@ use Rattle.dcsctp_machine.specs.CallTurns.{Turned, Turns, HandleInput, after_all
 use Rattle.dcsctp_machine.specs.transfer.Incoming.{AreInOrder}
 use Rattle.dcsctp_machine.specs.transfer.Items.{Item}
 use Rattle.dcsctp_machine.specs.transfer.SendQueue.{IsWellFormed}
-use Rattle.dcsctp_machine.specs.transfer.Transfer.{Transfer, Below}
+use Rattle.dcsctp_machine.specs.transfer.Transfer.{Transfer}
 
 -- ---- the association
 
@@ -54,19 +54,24 @@ HasBytes item = (0 < length item.fragment.payload) ⊎ (item.progress.state ≡ 
 
 pub record IsSoundTransfer (transfer : Transfer) : Type 0 where
   pub items : AllByRecursion HasBytes transfer.retransmission.outstanding.items
+  -- TSNs can be compared (RFC 9260, section 1.6).
+  pub few : length transfer.retransmission.outstanding.items < 2 ^ 31
   -- Each stream stands once.
   pub streams : AreInOrder transfer.reassembly.incoming.streams
 
-abbrev pub IsSoundAfterInit : Option Transfer → Type 0
-IsSoundAfterInit None = Unit {0}
-IsSoundAfterInit (Some transfer) = IsSoundTransfer transfer
+-- Once the peer is known there is such a layer of the association.
+abbrev pub IsSoundIfKnown : Option Held → Option Transfer → Type 0
+IsSoundIfKnown None transfer = Unit {0}
+IsSoundIfKnown (Some held) None = ⊥
+IsSoundIfKnown (Some held) (Some transfer) = IsSoundTransfer transfer
 
-pub record IsSoundBelow (below : Below) : Type 0 where
-  pub queue : IsWellFormed below.queue
-  pub transfer : IsSoundAfterInit below.transfer
+-- what lies below the association
+pub record IsSoundBelow (e : Endpoint) : Type 0 where
+  pub queue : IsWellFormed e.below.queue
+  pub transfer : IsSoundIfKnown (held_in e.core) e.below.transfer
 
 -- ---- its snapshot
 
 -- If it is ready to be handed over, its snapshot is valid for its options.
 abbrev pub SnapshotsAreValid : Type 0
-SnapshotsAreValid = (e : Endpoint) → IsSound e → IsSoundBelow e.below → readiness_of e ≡ 0 → is_valid_snapshot e.options (snapshot_of e) ≡ true
+SnapshotsAreValid = (e : Endpoint) → IsSound e → IsSoundBelow e → readiness_of e ≡ 0 → is_valid_snapshot e.options (snapshot_of e) ≡ true
