@@ -1,5 +1,5 @@
 -- What holds of each turn of a socket that may come, whatever goes in, holds along each call and each run.
-use Rattle.std.proofs.Common.{◌≡◌, ℕ, zero, suc, Bool, true, false, Option, None, Some, List, [], ◌∷◌, ◌++◌, map, sym, subst}
+use Rattle.std.proofs.Common.{◌≡◌, ℕ, zero, suc, Bool, true, false, Option, None, Some, List, [], ◌∷◌, ◌++◌, map, drop, sym, subst}
 use Rattle.std.specs.Prelude.{nat_le, if◌then◌else◌}
 use Rattle.std.specs.List.{AllByRecursion}
 use Rattle.dcsctp_machine.specs.declared.options.Options.{Options}
@@ -11,6 +11,7 @@ use Rattle.dcsctp_machine.specs.declared.ends.AbortReason.TheVariants.{CloseCall
 use Rattle.dcsctp_machine.specs.declared.ends.AbortReason.{AbortReason}
 use Rattle.dcsctp_machine.specs.Schedule.{connect_call, close_call, shutdown_call, advance_call, set_call, send_call, send_many_call, reset_call, take_call, hand_over_call, StepContent, call_step, delivery_step, OutsideContent, input_outside, handover_outside, restore_outside, ActContent, step_act, outside_act}
 use Rattle.dcsctp_wire.specs.Content.{ChunkContent}
+use Rattle.dcsctp_wire.specs.ReadsBack.{HasMinima}
 use Rattle.dcsctp_machine.specs.Packet.{Content, init, init_ack, cookie_echo, cookie_ack, re_config, abort, shutdown, shutdown_ack, shutdown_complete, plain, Packet, content_in, packet_in}
 use Rattle.dcsctp_machine.specs.Admission.{Admission, all_chunks, shutdown_acks_alone, refused, admits, shutdown_acks_in}
 use Rattle.dcsctp_machine.specs.Endpoint.{Endpoint, Core, closed, cookie_wait, cookie_echoed, open_in, fresh_endpoint}
@@ -28,6 +29,7 @@ use Rattle.dcsctp_machine.specs.Handover.{readiness_of}
 use Rattle.dcsctp_machine.specs.Snapshot.{Snapshot, is_valid_snapshot}
 use Rattle.dcsctp_machine.specs.SocketSnapshot.{snapshot_of}
 use Rattle.dcsctp_machine.specs.Sockets.{inputs_of_handover, inputs_of_snapshot, inputs_of_restore, inputs_where_valid, inputs_of_both, Both, of_side, of_other, StepTurns, DeliveryTurns, numbered, with_turns, Worked, SocketRun, turns_after, endpoint_after, packets_shown, side_of_act, OutsideTurns, TurnsOfAct}
+use Rattle.dcsctp_machine.proofs.ReadMinima.{chunks_have_minima}
 
 pub along_append : (Good : Endpoint → Turned → Type 0) (e : Endpoint) (xs ys : List Turned) → AlongTurns Good e xs → AlongTurns Good (after_all e xs) ys → AlongTurns Good e (xs ++ ys)
 along_append Good e [] ys first second = second
@@ -40,7 +42,7 @@ pub record MayCome (May : Input → Type 0) : Type 0 where
   pub arrives : May arrival
   pub refuses : (text : List ℕ) → May (refusal text)
   pub begins : (contents : List Content) → May (packet_begins contents)
-  pub is_read : (tag : ℕ) (chunk : ChunkContent) → May (chunk_input tag (content_in chunk))
+  pub is_read : (tag : ℕ) (chunk : ChunkContent) → HasMinima chunk → May (chunk_input tag (content_in chunk))
   pub ends : May packet_ends
   pub connects : May (act_input connect)
   pub aborts : (reason : AbortReason) → May (act_input (abort_with reason))
@@ -53,7 +55,6 @@ pub record MayCome (May : Input → Type 0) : Type 0 where
   pub resets : (ids : List ℕ) → May (user_resets ids)
   pub takes : May user_takes
   pub hands_over : May (act_input acts.hands_over)
-  pub restored : (state : Snapshot) → May (restores state)
   pub own_expires : (timer : OwnTimer) → May (timer_expires timer)
   pub passes : (moment : ℕ) → May (time_passes moment)
 
@@ -66,7 +67,7 @@ anything_may_come =
       arrives = tt;
       refuses = λ text. tt;
       begins = λ contents. tt;
-      is_read = λ tag chunk. tt;
+      is_read = λ tag chunk minima. tt;
       ends = tt;
       connects = tt;
       aborts = λ reason. tt;
@@ -79,7 +80,6 @@ anything_may_come =
       resets = λ ids. tt;
       takes = tt;
       hands_over = tt;
-      restored = λ state. tt;
       own_expires = λ timer. tt;
       passes = λ moment. tt;
     }
@@ -88,9 +88,9 @@ anything_may_come =
 abbrev EachMay : (Input → Type 0) → List Content → Type 0
 EachMay May contents = AllByRecursion (λ content. (tag : ℕ) → May (chunk_input tag content)) contents
 
-read_may : (May : Input → Type 0) → MayCome May → (chunks : List ChunkContent) → EachMay May (map content_in chunks)
-read_may May come [] = tt
-read_may May come (chunk ∷ chunks) = ((λ tag. come.is_read tag chunk), read_may May come chunks)
+read_may : (May : Input → Type 0) → MayCome May → (chunks : List ChunkContent) → AllByRecursion HasMinima chunks → EachMay May (map content_in chunks)
+read_may May come [] minima = tt
+read_may May come (chunk ∷ chunks) minima = ((λ tag. come.is_read tag chunk minima.0), read_may May come chunks minima.1)
 
 acks_may : (May : Input → Type 0) (contents : List Content) → EachMay May contents → EachMay May (shutdown_acks_in contents)
 acks_may May [] each = tt
@@ -134,23 +134,29 @@ handover_may : (May : Input → Type 0) → MayCome May → (readiness : ℕ) �
 handover_may May come zero = (come.hands_over, tt)
 handover_may May come (suc reasons) = tt
 
-snapshot_may : (May : Input → Type 0) → MayCome May → (connection : HandoverSocketState) (state : Snapshot) → AllByRecursion May (inputs_of_snapshot connection state)
-snapshot_may May come states.Closed state = tt
-snapshot_may May come states.Connected state = (come.restored state, (come.flushed, tt))
+-- whatever is restored
+abbrev pub MayRestore : (Input → Type 0) → Type 0
+MayRestore May = (state : Snapshot) → May (restores state)
 
-restore_may : (May : Input → Type 0) → MayCome May → (core : Core) (state : Snapshot) → AllByRecursion May (inputs_of_restore core state)
-restore_may May come closed state = snapshot_may May come state.socket_state state
-restore_may May come (cookie_wait my) state = tt
-restore_may May come (cookie_echoed my held cookie) state = tt
-restore_may May come (open_in phase my held) state = tt
+snapshot_may : (May : Input → Type 0) → MayCome May → MayRestore May → (connection : HandoverSocketState) (state : Snapshot)
+    → AllByRecursion May (inputs_of_snapshot connection state)
+snapshot_may May come restored states.Closed state = tt
+snapshot_may May come restored states.Connected state = (restored state, (come.flushed, tt))
 
-valid_may : (May : Input → Type 0) → MayCome May → (is_valid : Bool) (core : Core) (state : Snapshot) → AllByRecursion May (inputs_where_valid is_valid core state)
-valid_may May come true core state = restore_may May come core state
-valid_may May come false core state = tt
+restore_may : (May : Input → Type 0) → MayCome May → MayRestore May → (core : Core) (state : Snapshot) → AllByRecursion May (inputs_of_restore core state)
+restore_may May come restored closed state = snapshot_may May come restored state.socket_state state
+restore_may May come restored (cookie_wait my) state = tt
+restore_may May come restored (cookie_echoed my held cookie) state = tt
+restore_may May come restored (open_in phase my held) state = tt
 
-both_may : (May : Input → Type 0) → MayCome May → (readiness : ℕ) (is_valid : Bool) (state : Snapshot) → AllByRecursion May (inputs_of_both readiness is_valid state)
-both_may May come zero is_valid state = (come.hands_over, valid_may May come is_valid closed state)
-both_may May come (suc reasons) is_valid state = tt
+valid_may : (May : Input → Type 0) → MayCome May → MayRestore May → (is_valid : Bool) (core : Core) (state : Snapshot)
+    → AllByRecursion May (inputs_where_valid is_valid core state)
+valid_may May come restored true core state = restore_may May come restored core state
+valid_may May come restored false core state = tt
+
+both_may : (May : Input → Type 0) → MayCome May → MayRestore May → (readiness : ℕ) (state : Snapshot) → AllByRecursion May (inputs_of_both readiness state)
+both_may May come restored zero state = (come.hands_over, restore_may May come restored closed state)
+both_may May come restored (suc reasons) state = tt
 
 -- ---- each call
 
@@ -159,7 +165,7 @@ module _ (Good : Endpoint → Turned → Type 0) (May : Input → Type 0) (come 
   none_along : (e : Endpoint) (ts : List Turned) → ts ≡ [] → AlongTurns Good e ts
   none_along e ts none = subst (AlongTurns Good e) (sym none) tt
 
-  turns_along : (e : Endpoint) (inputs : List Input) (ts : List Turned) → AllByRecursion May inputs → Turns e inputs ts → AlongTurns Good e ts
+  pub turns_along : (e : Endpoint) (inputs : List Input) (ts : List Turned) → AllByRecursion May inputs → Turns e inputs ts → AlongTurns Good e ts
   turns_along e [] [] may turns = tt
   turns_along e [] (t ∷ ts) may turns = absurd turns
   turns_along e (input ∷ inputs) [] may turns = absurd turns
@@ -195,11 +201,11 @@ module _ (Good : Endpoint → Turned → Type 0) (May : Input → Type 0) (come 
       chunks_along e packet.tag (shutdown_acks_in packet.contents) [] ts (acks_may May packet.contents chunks) tt turns
   admitted_along e packet (refused text) ts chunks turns = turns_along e (refusal text ∷ []) ts (come.refuses text, tt) turns
 
-  input_along_where : (e : Endpoint) (bytes : List ℕ) (ts : List Turned) → HandleInput e bytes ts → AlongTurns Good e ts
+  pub input_along_where : (e : Endpoint) (bytes : List ℕ) (ts : List Turned) → HandleInput e bytes ts → AlongTurns Good e ts
   input_along_where e bytes _ (unreadable ts none turns) = turns_along e (arrival ∷ refusal unreadable_text ∷ []) ts (come.arrives, (come.refuses unreadable_text, tt)) turns
   input_along_where e bytes _ (readable packet counted ts found counts turns) = (
     each e arrival counted come.arrives counts,
-    admitted_along counted.outcome.after (packet_in packet) (admits e.core (packet_in packet)) ts (read_may May come packet.chunks) turns,
+    admitted_along counted.outcome.after (packet_in packet) (admits e.core (packet_in packet)) ts (read_may May come packet.chunks (chunks_have_minima packet.chunks (drop 12 bytes) found.chunks)) turns,
   )
 
   delivery_along : (e : Endpoint) (bytes : Option (List ℕ)) (ts : List Turned) → DeliveryTurns e bytes ts → AlongTurns Good e ts
@@ -230,7 +236,7 @@ module _ (Good : Endpoint → Turned → Type 0) (May : Input → Type 0) (come 
   time_along true e moment ts turns = moment_along e moment ts turns
   time_along false e moment ts none = none_along e ts none
 
-  step_along : (e : Endpoint) (packets : List (List ℕ)) (step : StepContent) (ts : List Turned) → StepTurns e packets step ts → AlongTurns Good e ts
+  pub step_along : (e : Endpoint) (packets : List (List ℕ)) (step : StepContent) (ts : List Turned) → StepTurns e packets step ts → AlongTurns Good e ts
   step_along e packets (call_step side connect_call) ts turns = turns_along e (act_input connect ∷ []) ts (come.connects, tt) turns
   step_along e packets (call_step side close_call) ts turns = turns_along e (act_input (abort_with CloseCalled) ∷ []) ts (come.aborts CloseCalled, tt) turns
   step_along e packets (call_step side shutdown_call) ts turns = turns_along e (act_input shut_down ∷ []) ts (come.shuts_down, tt) turns
@@ -245,17 +251,16 @@ module _ (Good : Endpoint → Turned → Type 0) (May : Input → Type 0) (come 
   step_along e packets (call_step side hand_over_call) ts turns = turns_along e (inputs_of_handover (readiness_of e)) ts (handover_may May come (readiness_of e)) turns
   step_along e packets (delivery_step side number) ts turns = delivery_along e (numbered number packets) ts turns
 
-  outside_along : (e : Endpoint) (outside : OutsideContent) (ts : List Turned) → OutsideTurns e outside ts → AlongTurns Good e ts
-  outside_along e (input_outside side bytes) ts turns = input_along_where e bytes ts turns
-  outside_along e (handover_outside side) ts turns =
-      turns_along e (inputs_of_both (readiness_of e) (is_valid_snapshot e.options (snapshot_of e)) (snapshot_of e)) ts
-      (both_may May come (readiness_of e) (is_valid_snapshot e.options (snapshot_of e)) (snapshot_of e)) turns
-  outside_along e (restore_outside side state) ts turns =
-      turns_along e (inputs_where_valid (is_valid_snapshot e.options state) e.core state) ts (valid_may May come (is_valid_snapshot e.options state) e.core state) turns
+  outside_along : MayRestore May → (e : Endpoint) (outside : OutsideContent) (ts : List Turned) → OutsideTurns e outside ts → AlongTurns Good e ts
+  outside_along restored e (input_outside side bytes) ts turns = input_along_where e bytes ts turns
+  outside_along restored e (handover_outside side) ts turns =
+      turns_along e (inputs_of_both (readiness_of e) (snapshot_of e)) ts (both_may May come restored (readiness_of e) (snapshot_of e)) turns
+  outside_along restored e (restore_outside side state) ts turns =
+      turns_along e (inputs_where_valid (is_valid_snapshot e.options state) e.core state) ts (valid_may May come restored (is_valid_snapshot e.options state) e.core state) turns
 
-  act_along_where : (e : Endpoint) (packets : List (List ℕ)) (act : ActContent) (ts : List Turned) → TurnsOfAct e packets act ts → AlongTurns Good e ts
-  act_along_where e packets (step_act step) ts turns = step_along e packets step ts turns
-  act_along_where e packets (outside_act outside) ts turns = outside_along e outside ts turns
+  act_along_where : MayRestore May → (e : Endpoint) (packets : List (List ℕ)) (act : ActContent) (ts : List Turned) → TurnsOfAct e packets act ts → AlongTurns Good e ts
+  act_along_where restored e packets (step_act step) ts turns = step_along e packets step ts turns
+  act_along_where restored e packets (outside_act outside) ts turns = outside_along restored e outside ts turns
 
 module _ (Good : Endpoint → Turned → Type 0) (each : (e : Endpoint) (input : Input) (t : Turned) → IsTurn e input t → Good e t) where
   any_along : (e : Endpoint) (input : Input) (t : Turned) → Anything input → IsTurn e input t → Good e t
@@ -265,7 +270,7 @@ module _ (Good : Endpoint → Turned → Type 0) (each : (e : Endpoint) (input :
   input_along e bytes ts turns = input_along_where Good Anything anything_may_come any_along e bytes ts turns
 
   pub act_along : (e : Endpoint) (packets : List (List ℕ)) (act : ActContent) (ts : List Turned) → TurnsOfAct e packets act ts → AlongTurns Good e ts
-  act_along e packets act ts turns = act_along_where Good Anything anything_may_come any_along e packets act ts turns
+  act_along e packets act ts turns = act_along_where Good Anything anything_may_come any_along (λ state. tt) e packets act ts turns
 
 -- ---- a run
 
@@ -280,18 +285,18 @@ next_along Good options turns sides.A more here before sides.B = before sides.B
 next_along Good options turns sides.B more here before sides.A = before sides.A
 next_along Good options turns sides.B more here before sides.B = along_append Good (fresh_endpoint options.b) turns.b more (before sides.B) here
 
-pub run_along_where : (Good : Endpoint → Turned → Type 0) (May : Input → Type 0) → MayCome May
+pub run_along_where : (Good : Endpoint → Turned → Type 0) (May : Input → Type 0) → MayCome May → MayRestore May
     → ((e : Endpoint) (input : Input) (t : Turned) → May input → IsTurn e input t → Good e t)
     → (options : Both Options) (run : List Worked) → SocketRun options run → (side : Side) → GoodSide Good options (turns_after run) side
-run_along_where Good May come each options [] runs sides.A = tt
-run_along_where Good May come each options [] runs sides.B = tt
-run_along_where Good May come each options (worked ∷ earlier) runs side =
+run_along_where Good May come restored each options [] runs sides.A = tt
+run_along_where Good May come restored each options [] runs sides.B = tt
+run_along_where Good May come restored each options (worked ∷ earlier) runs side =
     let before : Both (List Turned) = turns_after earlier in
     let mover : Side = side_of_act worked.act in
     next_along Good options before mover worked.turns
-    (act_along_where Good May come each (endpoint_after (of_side mover options) (of_side mover before)) (packets_shown (of_other mover options) (of_other mover before)) worked.act worked.turns runs.0)
-    (λ (s : Side). run_along_where Good May come each options earlier runs.1 s) side
+    (act_along_where Good May come each restored (endpoint_after (of_side mover options) (of_side mover before)) (packets_shown (of_other mover options) (of_other mover before)) worked.act worked.turns runs.0)
+    (λ (s : Side). run_along_where Good May come restored each options earlier runs.1 s) side
 
 pub run_along : (Good : Endpoint → Turned → Type 0) → ((e : Endpoint) (input : Input) (t : Turned) → IsTurn e input t → Good e t)
     → (options : Both Options) (run : List Worked) → SocketRun options run → (side : Side) → GoodSide Good options (turns_after run) side
-run_along Good each options run runs side = run_along_where Good Anything anything_may_come (λ e input t may turn. each e input t turn) options run runs side
+run_along Good each options run runs side = run_along_where Good Anything anything_may_come (λ state. tt) (λ e input t may turn. each e input t turn) options run runs side

@@ -84,3 +84,9 @@ pub mod TrackerLemmas
 pub mod TurnFacts
 pub mod TurnLemmas
 pub mod TurnOutcomes
+pub mod ReadMinima
+pub mod SoundHandshakes
+pub mod SoundResets
+pub mod SoundEnds
+pub mod SoundChanges
+pub mod SoundTurns

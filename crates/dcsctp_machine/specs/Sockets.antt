@@ -94,9 +94,9 @@ inputs_where_valid true core state = inputs_of_restore core state
 inputs_where_valid false core state = []
 
 -- A socket that is ready is handed over, and restored from its snapshot.
-abbrev pub inputs_of_both : ℕ → Bool → Snapshot → List Input
-inputs_of_both zero is_valid state = act_input hands_over ∷ inputs_where_valid is_valid closed state
-inputs_of_both (suc reasons) is_valid state = []
+abbrev pub inputs_of_both : ℕ → Snapshot → List Input
+inputs_of_both zero state = act_input hands_over ∷ inputs_of_restore closed state
+inputs_of_both (suc reasons) state = []
 
 abbrev pub side_of_outside : OutsideContent → Side
 side_of_outside (input_outside side bytes) = side
@@ -106,7 +106,7 @@ side_of_outside (restore_outside side state) = side
 -- its outcome at its side: whatever the bytes say, and whatever the snapshot has
 abbrev pub OutsideTurns : Endpoint → OutsideContent → List Turned → Type 0
 OutsideTurns e (input_outside side bytes) turns = HandleInput e bytes turns
-OutsideTurns e (handover_outside side) turns = Turns e (inputs_of_both (readiness_of e) (is_valid_snapshot e.options (snapshot_of e)) (snapshot_of e)) turns
+OutsideTurns e (handover_outside side) turns = Turns e (inputs_of_both (readiness_of e) (snapshot_of e)) turns
 OutsideTurns e (restore_outside side state) turns = Turns e (inputs_where_valid (is_valid_snapshot e.options state) e.core state) turns
 
 -- ---- acts

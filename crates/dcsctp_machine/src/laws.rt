@@ -4,6 +4,7 @@ ghost use Rattle.std.specs.Prelude.{◌≡◌, ◌<◌, ◌^◌, ◌||◌, ℕ, 
 ghost use Rattle.dcsctp_machine.specs.Readiness.{has_reason};
 ghost use Rattle.dcsctp_machine.specs.Settings.{FitsOptions};
 ghost use Rattle.dcsctp_machine.specs.Laws.{NegotiationIsMutual, AnswerKeepsAgreement, CookieReadsBack, InitLeavesAssociation, InitBringsOnePacket, InitPacketLeavesAssociation, OfferReadsBack, CapabilitiesHoldOffer, RefusedPacketAddsOneError, AdmittedPacketsMayBeWorked, ChunksAreControlled, ActsAreControlled, TimersAreControlled, PacketsAreControlled, DeliveriesAreControlled, FlushKeepsLimits, SocketsKeepOptions};
+ghost use Rattle.dcsctp_machine.specs.Soundness.{CallsKeepSoundness};
 ghost use Rattle.dcsctp_machine.specs.TimeTurns.{TimePassesQuietly};
 ghost use Rattle.dcsctp_machine.specs.transfer.ReceivedReadBack.{TrackerReadsBack, SameTsnsAreNew, StreamsReadBack};
 
@@ -149,4 +150,11 @@ pub fn received_parts_read_back()
     ensures tracker { TrackerReadsBack }
     ensures tsns { SameTsnsAreNew }
     ensures streams { StreamsReadBack }
+{}
+
+/// Each call of a socket leaves verification tags other than 0, and the zero checksum method of the options or
+/// none (RFC 9260, section 3.1; RFC 9653, section 5.1): whatever bytes it is handed, whatever its user does, and
+/// when it is restored from any valid snapshot.
+pub fn calls_keep_soundness()
+    ensures { CallsKeepSoundness }
 {}

@@ -113,4 +113,4 @@ sockets_keep_sizes options run runs side valid =
     let limit : ℕ = packet_size_limit own in
     let turns : List Turned = of_side side (turns_after run) in
     shown_short own (events_of turns)
-    (all_short limit (fresh_endpoint own) turns (run_along_where (KeepsSize limit) MayBe these_may_come (turn_sizes limit) options run runs side) (refl, valid.least_size))
+    (all_short limit (fresh_endpoint own) turns (run_along_where (KeepsSize limit) MayBe these_may_come (λ state. tt) (turn_sizes limit) options run runs side) (refl, valid.least_size))

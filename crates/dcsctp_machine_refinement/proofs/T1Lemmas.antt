@@ -38,7 +38,7 @@ these_may_come =
       arrives = tt;
       refuses = λ text. tt;
       begins = λ contents. tt;
-      is_read = λ tag chunk. tt;
+      is_read = λ tag chunk minima. tt;
       ends = tt;
       connects = tt;
       aborts = λ reason. tt;
@@ -51,7 +51,6 @@ these_may_come =
       resets = λ ids. tt;
       takes = tt;
       hands_over = tt;
-      restored = λ state. tt;
       own_expires = λ timer. tt;
       passes = λ moment. tt;
     }
@@ -110,5 +109,5 @@ all_up e (t ∷ ts) along h = all_up t.outcome.after ts along.1 (along.0 h)
 pub sockets_run_t1 : SocketsRunT1
 sockets_run_t1 options run are is_run side =
     record {
-      runs = all_up (fresh_endpoint (of_side side options)) (of_side side (turns_after run)) (run_along_where KeepsUp MayBe these_may_come turn_up options run is_run side) tt;
+      runs = all_up (fresh_endpoint (of_side side options)) (of_side side (turns_after run)) (run_along_where KeepsUp MayBe these_may_come (λ state. tt) turn_up options run is_run side) tt;
     }
