@@ -2,7 +2,7 @@
 use Rattle.std.specs.Prelude.{◌≡◌, ◌≢◌, ◌⊎◌, true, false, Result, Ok, Err, List, []}
 use Rattle.dcsctp_machine.specs.Endpoint.{Endpoint, Core}
 use Rattle.dcsctp_machine.specs.Handover.{readiness_of}
-use Rattle.dcsctp_machine.specs.Snapshot.{Snapshot, snapshot}
+use Rattle.dcsctp_machine.specs.Snapshot.{Snapshot, snapshot, is_valid_snapshot}
 use Rattle.dcsctp_machine.specs.SocketSnapshot.{snapshot_of}
 use Rattle.dcsctp_machine.specs.Sockets.{inputs_of_handover, inputs_of_restore}
 use Rattle.dcsctp_machine.specs.CallTurns.{Turned, Turns}
@@ -15,9 +15,10 @@ use Rattle.dcsctp_api.specs.declared.errors.SocketFault.{SocketFault}
 use Rattle.dcsctp_api.specs.declared.errors.SocketFault.TheVariants.{OutOfMemory, Failed}
 use Rattle.dcsctp_api.specs.Calls.{UserView, Follows, FailsWhole, RanOut, StaysFailed, is_closed}
 
--- What is answered: the snapshot of a socket that is ready, or why it isn't.
+-- What is answered: the snapshot of a socket that is ready, which is valid for its options, or why it isn't ready.
 abbrev pub IsHandoverAnswer : Endpoint → Result SocketHandoverState HandoverError → Type 0
-IsHandoverAnswer e (Ok state) = (readiness_of e ≡ 0) × (snapshot state ≡ snapshot_of e)
+IsHandoverAnswer e (Ok state) =
+    (readiness_of e ≡ 0) × (snapshot state ≡ snapshot_of e) × (is_valid_snapshot e.options (snapshot state) ≡ true)
 IsHandoverAnswer e (Err (NotReady readiness)) = (readiness_of e ≢ 0) × (readiness.0 ≡ readiness_of e)
 
 -- The call has the turns of a handover, and returns what it has to. Or an allocation failed, and nothing else has changed.

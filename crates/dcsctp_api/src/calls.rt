@@ -170,7 +170,8 @@ pub trait DcSctpSocket {
     /// and ends the association here. The peer isn't told, and the last event is `SocketEvent::OnClosed`. The
     /// snapshot has what waits and what is in flight, too, with the option
     /// `enable_handover_with_outstanding_data`. What waits stays here as well, so drop this socket. On a closed
-    /// one the snapshot is that of a closed socket, and nothing happens.
+    /// one the snapshot is that of a closed socket, and nothing happens. Each snapshot is valid for the options
+    /// of the socket that gave it (`SocketHandoverState::is_valid`).
     ///
     /// `HandoverError::NotReady`: the socket can't be handed over now, for the reasons that
     /// `get_handover_readiness` gives. Nothing has changed, and nothing is allocated. If an allocation fails,

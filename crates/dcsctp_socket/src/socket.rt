@@ -38,12 +38,17 @@ impl<R: Drop> Drop for Socket<R> {
 }
 
 impl<R> Model for Socket<R> {
+    ghost use Rattle.std.specs.Prelude.{◌≡◌, false};
+    ghost use Rattle.dcsctp_machine.specs.Soundness.{IsSound};
     ghost use Rattle.dcsctp_core.specs.View.{view_of};
     ghost use Rattle.dcsctp_socket.specs.SocketView.{SocketView};
 
     ghost Value = { SocketView R };
 
     ghost view = { λ s. record { view = view_of s.context.value; failed = s.failed } };
+
+    // So that its snapshots are valid.
+    ghost invariant = { λ s. s.failed ≡ false → IsSound (view_of s.context.value).endpoint };
 }
 
 // The result of a call. Once an allocation has failed, the socket has failed for good.

@@ -10,8 +10,9 @@ use Rattle.dcsctp_machine.specs.Event.{Event}
 use Rattle.dcsctp_machine.specs.Handover.{readiness_of}
 use Rattle.dcsctp_machine.specs.Outcome.{Outcome}
 use Rattle.dcsctp_machine.specs.Settings.{Ports, ports_of}
-use Rattle.dcsctp_machine.specs.Snapshot.{Snapshot, snapshot}
+use Rattle.dcsctp_machine.specs.Snapshot.{Snapshot, snapshot, is_valid_snapshot}
 use Rattle.dcsctp_machine.specs.SocketSnapshot.{snapshot_of}
+use Rattle.dcsctp_machine.specs.Soundness.{IsSound, IsSoundBelow, SnapshotsAreValid}
 use Rattle.dcsctp_machine.specs.Turn.{act_input, restores}
 use Rattle.dcsctp_machine.specs.control.Acts.{flushes, hands_over}
 use Rattle.dcsctp_machine.specs.turns.DataOutcomes.{FlushTurn}
@@ -161,12 +162,17 @@ works_refused {R} stream old start is_ready readiness begins is ready test =
     let some : readiness_of old.endpoint ≢ 0 = subst (λ (n : ℕ). n ≢ 0) own (refused_by is_ready readiness ready test) in
     ((some, own), handover_refused stream old start begins some)
 
-pub works_handed_over : {R : Type 0} (stream : R → Stream) (old start new : View R) (is_ready : Bool) (readiness : ℕ) (state : Snapshot) → start ≡ call_start old
+pub works_handed_over : {R : Type 0} (stream : R → Stream) (old start new : View R) (is_ready : Bool) (readiness : ℕ) (state : Snapshot) → SnapshotsAreValid
+    → IsSound old.endpoint → IsSoundBelow start.endpoint → start ≡ call_start old
     → readiness ≡ readiness_of start.endpoint → is_ready ≡ (readiness == 0) → is_ready ≡ true → state ≡ snapshot_of start.endpoint → Moves stream start (hand_over_turn start) new
-    → ((readiness_of old.endpoint ≡ 0) × (state ≡ snapshot_of old.endpoint)) × CallMoved stream HandoverTurns old new
-works_handed_over {R} stream old start new is_ready readiness state begins is ready test same moves =
+    → ((readiness_of old.endpoint ≡ 0) × (state ≡ snapshot_of old.endpoint) × (is_valid_snapshot old.endpoint.options state ≡ true)) × CallMoved stream HandoverTurns old new
+works_handed_over {R} stream old start new is_ready readiness state law sound below begins is ready test same moves =
     let none : readiness_of old.endpoint ≡ 0 = sym (ap (λ (v : View R). readiness_of v.endpoint) begins) ∙ sym is ∙ ready_by is_ready readiness ready test in
-    ((none, same ∙ ap (λ (v : View R). snapshot_of v.endpoint) begins), handed_over stream old start new begins none moves)
+    let own : state ≡ snapshot_of old.endpoint = same ∙ ap (λ (v : View R). snapshot_of v.endpoint) begins in
+    let here : IsSoundBelow old.endpoint = subst (λ (v : View R). IsSoundBelow v.endpoint) begins below in
+    let valid : is_valid_snapshot old.endpoint.options state ≡ true =
+    subst (λ (s : Snapshot). is_valid_snapshot old.endpoint.options s ≡ true) (sym own) (law old.endpoint sound here none) in
+    ((none, (own, valid)), handed_over stream old start new begins none moves)
 
 pub works_restored : {R : Type 0} (stream : R → Stream) (old start mid new : View R) (is_closed_now : Bool) (state : Snapshot) → start ≡ call_start old
     → is_closed_now ≡ is_closed start.endpoint.core → is_closed_now ≡ true → state.socket_state ≡ states.Connected

@@ -4,24 +4,28 @@ ghost use Rattle.std.specs.Prelude.{◌≡◌, ◌≢◌, true, [], IsOk};
 ghost use Rattle.dcsctp_machine.specs.Handover.{readiness_of};
 ghost use Rattle.dcsctp_machine.specs.Snapshot.{snapshot, is_valid_snapshot};
 ghost use Rattle.dcsctp_machine.specs.Sockets.{inputs_of_restore};
+ghost use Rattle.dcsctp_machine.specs.Soundness.{IsSound};
 ghost use Rattle.dcsctp_core.specs.View.{core_of, endpoint_of};
 ghost use Rattle.dcsctp_socket_calls.specs.HandoverParts.{WorksHandover, WorksRestore};
 
 use dcsctp_api::handover::{HandoverSocketState, SocketHandoverState};
 use dcsctp_api::{HandoverError, RestoreError};
 use dcsctp_core::Context;
+use dcsctp_machine::snapshots_are_valid;
 use dcsctp_core_handover::{hand_over, handover_state};
 use rand_core::Rng;
 use std::alloc::AllocError;
 
-/// Makes the socket's snapshot, and ends its association here. `Err`: an allocation failed, and nothing has
-/// changed.
+/// Makes the socket's snapshot, and ends its association here. The snapshot is valid for the socket's options.
+/// `Err`: an allocation failed, and nothing has changed.
 pub fn get_handover_state_and_close<R: Rng>(
     context: &mut Context<R>,
 ) -> Result<Result<SocketHandoverState, HandoverError>, AllocError>
+    requires { IsSound (endpoint_of context.old) }
     ensures call { WorksHandover R.stream context.old result context.new }
     ensures refused { readiness_of (endpoint_of context.old) ≢ 0 → IsOk result }
 {
+    snapshots_are_valid();
     context.begin_call();
     let readiness = context.get_handover_readiness();
     if !readiness.is_ready() {
