@@ -1,6 +1,6 @@
 -- Outside examples of specs/Lifetimes.
 use Rattle.std.proofs.Common.{◌≡◌, pos, negsuc, ◌-◌, ◌*◌, ◌^◌, refl}
-use Rattle.dcsctp_machine.specs.Lifetimes.{millis_ahead, moment_at}
+use Rattle.dcsctp_machine.specs.Lifetimes.{millis_ahead, moment_at, millis_since, moment_before}
 
 now_is_not_over : millis_ahead 5 5 ≡ pos 0
 now_is_not_over = refl
@@ -28,3 +28,21 @@ two_behind = refl
 
 not_before_zero : moment_at 5 (negsuc 0) ≡ 0
 not_before_zero = refl
+
+now_is_none_ago : millis_since 5 5 ≡ pos 0
+now_is_none_ago = refl
+
+ago_is_rounded_down : millis_since 2999999 1000000 ≡ pos 1
+ago_is_rounded_down = refl
+
+ahead_is_not_ago : millis_since 5 7000000 ≡ pos 0
+ahead_is_not_ago = refl
+
+two_before : moment_before 3000000 (pos 2) ≡ 1000000
+two_before = refl
+
+none_before_zero : moment_before 5 (pos 1) ≡ 0
+none_before_zero = refl
+
+ahead_is_now : moment_before 5 (negsuc 6) ≡ 5
+ahead_is_now = refl

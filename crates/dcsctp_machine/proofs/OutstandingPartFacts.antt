@@ -1,5 +1,5 @@
 -- Outside examples of specs/transfer/OutstandingParts: four TSNs are outstanding, one in each state that an item has.
-use Rattle.std.proofs.Common.{◌≡◌, ℕ, negsuc, pos, true, false, None, Some, List, [], ◌∷◌, map, refl}
+use Rattle.std.proofs.Common.{◌≡◌, ℕ, true, false, None, Some, List, [], ◌∷◌, map, refl}
 use Rattle.dcsctp_machine.specs.declared.congestion.CongestionControl.{CongestionControl}
 use Rattle.dcsctp_machine.specs.declared.kinds.BackoffAlgorithm.TheVariants.{Exponential}
 use Rattle.dcsctp_machine.specs.declared.progress.ItemState.{ItemState}
@@ -8,29 +8,9 @@ use Rattle.dcsctp_machine.specs.declared.progress.Progress.{Progress}
 use Rattle.dcsctp_machine.specs.Snapshot.{empty_send_part}
 use Rattle.dcsctp_machine.specs.Timers.{TimerModel}
 use Rattle.dcsctp_machine.specs.transfer.Items.{Item}
-use Rattle.dcsctp_machine.specs.transfer.OutstandingParts.{millis_since, moment_before, outstanding_given, with_retransmission, items_again, retransmission_restored}
+use Rattle.dcsctp_machine.specs.transfer.OutstandingParts.{outstanding_given, with_retransmission, items_again, retransmission_restored}
 use Rattle.dcsctp_machine.specs.transfer.Retransmission.{RetransmissionState}
 use Rattle.dcsctp_machine.specs.transfer.Sending.{Fragment}
-
--- ---- moments
-
-now_is_not_ago : millis_since 5 5 ≡ pos 0
-now_is_not_ago = refl
-
-rounded_down : millis_since 2999999 1000000 ≡ pos 1
-rounded_down = refl
-
-ahead_is_not_ago : millis_since 5 7000000 ≡ pos 0
-ahead_is_not_ago = refl
-
-two_ago : moment_before 3000000 (pos 2) ≡ 1000000
-two_ago = refl
-
-not_before_zero : moment_before 5 (pos 1) ≡ 0
-not_before_zero = refl
-
-ahead_is_now : moment_before 5 (negsuc 6) ≡ 5
-ahead_is_now = refl
 
 -- ---- a queue
 

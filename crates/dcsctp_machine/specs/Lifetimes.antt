@@ -17,3 +17,12 @@ millis_ahead now moment =
 abbrev pub moment_at : ℕ → ℤ → ℕ
 moment_at now (pos ahead) = min (now + ahead * millisecond) max_nanos
 moment_at now (negsuc behind) = now - (behind + 1) * millisecond
+
+-- how long ago the moment was, in milliseconds, rounded down
+abbrev pub millis_since : ℕ → ℕ → ℤ
+millis_since now moment = pos (min ((now - moment) / millisecond) (2 ^ 31 - 1))
+
+-- the moment so many milliseconds ago; a time ahead counts as now
+abbrev pub moment_before : ℕ → ℤ → ℕ
+moment_before now (pos ago) = now - ago * millisecond
+moment_before now (negsuc ahead) = now

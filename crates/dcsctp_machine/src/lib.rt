@@ -45,7 +45,7 @@ pub use laws::{
     refused_packet_adds_one_error, sockets_keep_options, time_passes_quietly,
     timers_are_controlled,
 };
-pub use lifetimes::{millis_ahead, moment_at};
+pub use lifetimes::{millis_ahead, millis_since, moment_at, moment_before};
 pub use message::{Message, SendOptions, copied_messages};
 pub use options::Options;
 pub use progress::{Change, ItemState, Progress};

@@ -2,7 +2,7 @@
 //! milliseconds from the moment at which the snapshot is made.
 
 ghost use Rattle.std.specs.Prelude.{◌≡◌};
-ghost use Rattle.dcsctp_machine.specs.Lifetimes.{millis_ahead, moment_at};
+ghost use Rattle.dcsctp_machine.specs.Lifetimes.{millis_ahead, millis_since, moment_at, moment_before};
 
 use crate::time::SocketTime;
 use std::time::Duration;
@@ -40,4 +40,23 @@ pub fn moment_at(now: SocketTime, millis: i32) -> SocketTime
     } else {
         now + distance
     }
+}
+
+/// How many milliseconds ago the moment was, rounded down. It stops at the greatest `i32`, and a moment ahead
+/// of `now` was 0 ago.
+pub fn millis_since(now: SocketTime, moment: SocketTime) -> i32
+    ensures { result ≡ millis_since now moment }
+{
+    let since = now.as_nanos().saturating_sub(moment.as_nanos()) / MILLISECOND;
+    since.min(GREATEST) as i32
+}
+
+/// The moment so many milliseconds ago, not before moment zero. A number below 0 counts as 0.
+pub fn moment_before(now: SocketTime, millis: i32) -> SocketTime
+    ensures { result ≡ moment_before now millis }
+{
+    if millis < 0 {
+        return now;
+    }
+    now - Duration::from_millis(u64::from(millis.unsigned_abs()))
 }

@@ -2,40 +2,14 @@
 
 ghost use Rattle.std.specs.Prelude.{◌≡◌, ◌||◌, None, IfOk};
 ghost use Rattle.dcsctp_machine.specs.SnapshotItems.{outstanding_part};
-ghost use Rattle.dcsctp_machine.specs.transfer.OutstandingParts.{millis_since, moment_before, state_again, fragment_again};
+ghost use Rattle.dcsctp_machine.specs.transfer.OutstandingParts.{state_again, fragment_again};
 
 use crate::item::Item;
 use dcsctp_api::{PpId, SocketTime, StreamId};
-use dcsctp_machine::{HandoverOutstandingData, ItemState, Progress, millis_ahead, moment_at};
+use dcsctp_machine::{HandoverOutstandingData, ItemState, Progress, millis_ahead, millis_since, moment_at, moment_before};
 use dcsctp_send_queue::DataToSend;
 use dcsctp_send_streams::{NO_LIMIT, limit_of, name_of};
 use std::alloc::{AllocError, Global};
-use std::time::Duration;
-
-// A millisecond in nanoseconds.
-const MILLISECOND: u128 = 1_000_000;
-
-// The greatest number of 32 bits with a sign.
-const GREATEST: u128 = 0x7fff_ffff;
-
-// How many milliseconds ago the moment was, rounded down. It stops at the greatest `i32`, and a moment ahead
-// of `now` was 0 ago.
-fn millis_since(now: SocketTime, moment: SocketTime) -> i32
-    ensures { result ≡ millis_since now moment }
-{
-    let since = now.as_nanos().saturating_sub(moment.as_nanos()) / MILLISECOND;
-    since.min(GREATEST) as i32
-}
-
-// The moment so many milliseconds ago, not before moment zero. A number below 0 counts as 0.
-fn moment_before(now: SocketTime, millis: i32) -> SocketTime
-    ensures { result ≡ moment_before now millis }
-{
-    if millis < 0 {
-        return now;
-    }
-    now - Duration::from_millis(u64::from(millis.unsigned_abs()))
-}
 
 // How far an item is. Abandoned goes before acknowledged, and that before lost.
 fn state_again(is_abandoned: bool, acked: bool, is_lost: bool) -> ItemState

@@ -210,7 +210,8 @@ impl SendQueue {
 
     /// Why what waits can't be handed over to another process. `with_outstanding_data`: messages go along.
     pub fn get_handover_readiness(&self, with_outstanding_data: bool) -> HandoverReadiness
-        ensures { result.0 ≡ queue_readiness with_outstanding_data self.now }
+        ensures value { result.0 ≡ queue_readiness with_outstanding_data self.now }
+        ensures queue { IsWellFormed self.now }
     {
         let waits = !with_outstanding_data && self.backlog.streams.has_messages();
         HandoverReadiness::SEND_QUEUE_NOT_EMPTY & waits

@@ -1,3 +1,4 @@
+pub mod BytesLemmas
 pub mod CountLemmas
 pub mod Mapped
 pub mod NextLemmas

@@ -195,6 +195,12 @@ counted-pausing false true s = refl
 counted-pausing true false s = refl
 counted-pausing true true s = refl
 
+pub counted-messages : (is_interleaved is_unordered : Bool) (s : Stream) → (counted is_interleaved is_unordered s).messages ≡ s.messages
+counted-messages false false s = refl
+counted-messages false true s = refl
+counted-messages true false s = refl
+counted-messages true true s = refl
+
 -- the number of a stream that was read
 pub id_read : (streams inside : List Stream) (m n : ℕ) (x : Stream) → inside ≡ streams → m < length streams → x ≡ get_or inside m x → n ≡ x.id → n ≡ (stream_at streams m).id
 id_read streams inside m n x same lt e is =

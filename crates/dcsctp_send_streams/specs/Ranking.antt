@@ -1,8 +1,9 @@
 -- Whose turn it is among streams.
 use Rattle.std.specs.Prelude.{◌≡◌, ℕ, ◌<◌, ◌≤◌, Result, Ok, Err, List, length}
-use Rattle.std.specs.List.{count_by}
+use Rattle.std.specs.List.{count_by, AllByRecursion}
 use Rattle.dcsctp_machine.specs.declared.sending.Turn.{Turn}
 use Rattle.dcsctp_machine.specs.transfer.SendStreams.{Stream, IsAscending, is_pausing, turns_of, stream_at}
+use Rattle.dcsctp_machine.specs.transfer.SendQueue.{HaveBytes}
 
 -- These are the streams and their turns, and there is room for one turn of each.
 pub record IsRanked (streams : List Stream) (turns : List Turn) (room : ℕ) : Type 0 where
@@ -14,10 +15,11 @@ pub record IsRanked (streams : List Stream) (turns : List Turn) (room : ℕ) : T
 abbrev pub count_pausing : List Stream → ℕ
 count_pausing streams = count_by (λ stream. is_pausing stream.pause) streams
 
--- These are kept beside the streams: their turns, with room, and how many of them are to be reset.
+-- These are kept beside the streams: their turns, with room, and how many of them are to be reset. Each message has bytes.
 pub record IsKept (streams : List Stream) (turns : List Turn) (room pausing : ℕ) : Type 0 where
   pub ranked : IsRanked streams turns room
   pub counted : pausing ≡ count_pausing streams
+  pub bytes : AllByRecursion HaveBytes streams
 
 -- what a search for this number finds: its place, or the place at which it would stand
 abbrev pub IsFound : List Stream → ℕ → Result ℕ ℕ → Type 0

@@ -32,7 +32,9 @@ pub struct OutgoingStream {
 }
 
 impl Model for OutgoingStream {
-    ghost use Rattle.dcsctp_machine.specs.transfer.SendStreams.{Stream};
+    ghost use Rattle.std.specs.Prelude.{◌<◌, ℕ, length};
+    ghost use Rattle.std.specs.List.{AllByRecursion};
+    ghost use Rattle.dcsctp_machine.specs.transfer.SendStreams.{Waiting, Stream};
 
     ghost Value = { Stream };
 
@@ -47,6 +49,8 @@ impl Model for OutgoingStream {
       pause = stream.pause;
       messages = stream.messages.items;
     } };
+
+    ghost invariant = { λ stream. AllByRecursion (λ (message : Waiting). 0 < length message.payload) stream.messages.items };
 }
 
 impl OutgoingStream {
@@ -55,6 +59,7 @@ impl OutgoingStream {
     ghost use Rattle.dcsctp_machine.specs.transfer.SendEvents.{expiries};
     ghost use Rattle.dcsctp_machine.specs.transfer.SendStreams.{size_of, unused, is_pausing, front_of, with_message, without_front, paused, resumed, handed_out, begun_anew, raised, next_numbers, counted, committed, rolled_back, turn_of};
     ghost use Rattle.std.specs.Option.{option_copied};
+    ghost use Rattle.dcsctp_machine.specs.transfer.SendQueue.{HaveBytes};
     ghost use Rattle.dcsctp_machine.specs.transfer.Readiness.{is_paused};
     ghost use Rattle.std.specs.Prelude.{map, IfOk};
     ghost use Rattle.dcsctp_machine.specs.SnapshotItems.{queued_part};
@@ -134,7 +139,8 @@ impl OutgoingStream {
 
     /// The stream's turn; none if it is paused or has no message.
     pub fn turn(&self) -> Option<Turn>
-        ensures { result ≡ turn_of self.now }
+        ensures turn { result ≡ turn_of self.now }
+        ensures bytes { HaveBytes self.now }
     {
         match self.pause {
             Pause::Open => {
@@ -228,6 +234,8 @@ impl OutgoingStream {
         ensures ok { OnOk result (self.new ≡ with_rest message rest self.old) }
         ensures err { OnErr result (self.new ≡ self.old) }
     {
+        let size = message.size();
+        let _ = size;
         self.messages.push_back(message)?;
         self.amount = self.amount.saturating_add(rest);
         Ok(())

@@ -33,9 +33,10 @@ impl Model for Streams {
 }
 
 impl Streams {
-    ghost use Rattle.std.specs.List.{list_any};
+    ghost use Rattle.std.specs.List.{list_any, AllByRecursion};
     ghost use Rattle.std.specs.Prelude.{◌≡◌, ◌-◌, ◌<◌, [], length, is_some, map, slice_set, insert, OnOk, OnErr, IfSome, IfNone};
     ghost use Rattle.dcsctp_machine.specs.transfer.SendStreams.{front_of, with_message, without_front, paused, handed_out, begun_anew, raised, counted, committed, rolled_back, stream_at, turn_of, turns_of, IsNext, IsAscending};
+    ghost use Rattle.dcsctp_machine.specs.transfer.SendQueue.{HaveBytes};
     ghost use Rattle.dcsctp_machine.specs.transfer.Readiness.{has_messages, is_paused};
     ghost use Rattle.dcsctp_send_streams.specs.Ranking.{count_pausing, IsFound};
     ghost use Rattle.dcsctp_machine.specs.transfer.QueuedParts.{emptied, stream_restored, with_rest};
@@ -63,6 +64,7 @@ impl Streams {
     pub fn find(&self, id: StreamId) -> Result<usize, usize>
         ensures found { IsFound self.now id.0 result }
         ensures ascending { IsAscending self.now }
+        ensures bytes { AllByRecursion HaveBytes self.now }
     {
         let mut low = 0;
         let mut high = self.items.len();
@@ -141,7 +143,9 @@ impl Streams {
 
     /// Is any stream to be reset, or was its reset requested?
     pub fn has_paused(&self) -> bool
-        ensures { result ≡ list_any is_paused self.now }
+        ensures paused { result ≡ list_any is_paused self.now }
+        ensures ascending { IsAscending self.now }
+        ensures bytes { AllByRecursion HaveBytes self.now }
     {
         self.items.iter().any(|stream| stream.is_paused())
     }

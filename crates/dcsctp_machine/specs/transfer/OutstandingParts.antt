@@ -1,9 +1,9 @@
 -- What a snapshot has of what is in flight, and what is restored from it.
-use Rattle.std.specs.Prelude.{ℕ, ℤ, pos, negsuc, ◌+◌, ◌-◌, ◌*◌, ◌/◌, ◌%◌, ◌^◌, ◌||◌, min, Bool, true, false, if◌then◌else◌, None, List, [], take, map}
+use Rattle.std.specs.Prelude.{ℕ, ◌+◌, ◌-◌, ◌%◌, ◌^◌, ◌||◌, min, Bool, true, false, if◌then◌else◌, None, List, [], take, map}
 use Rattle.std.specs.Option.{option_map, unwrap_or}
 use Rattle.dcsctp_machine.specs.declared.progress.ItemState.{ItemState}
 use Rattle.dcsctp_machine.specs.declared.progress.ItemState.TheVariants.{InFlight, Marked, Acknowledged, Abandoned}
-use Rattle.dcsctp_machine.specs.Lifetimes.{millisecond, millis_ahead, moment_at}
+use Rattle.dcsctp_machine.specs.Lifetimes.{millis_ahead, moment_at, millis_since, moment_before}
 use Rattle.dcsctp_machine.specs.Snapshot.{SendPart}
 use Rattle.dcsctp_machine.specs.SnapshotItems.{OutstandingPart}
 use Rattle.dcsctp_machine.specs.transfer.Items.{Item}
@@ -14,10 +14,6 @@ use Rattle.dcsctp_machine.specs.transfer.Retransmission.{RetransmissionState, ti
 use Rattle.dcsctp_machine.specs.transfer.Sending.{Fragment}
 
 -- ---- what is given
-
--- how long ago the moment was, in milliseconds, rounded down
-abbrev pub millis_since : ℕ → ℕ → ℤ
-millis_since now moment = pos (min ((now - moment) / millisecond) (2 ^ 31 - 1))
 
 abbrev pub outstanding_given : ℕ → Item → OutstandingPart
 outstanding_given now item =
@@ -68,11 +64,6 @@ state_again true acknowledged lost = Abandoned
 state_again false true lost = Acknowledged
 state_again false false true = Marked
 state_again false false false = InFlight
-
--- the moment so many milliseconds ago; a time ahead counts as now
-abbrev pub moment_before : ℕ → ℤ → ℕ
-moment_before now (pos ago) = now - ago * millisecond
-moment_before now (negsuc ahead) = now
 
 abbrev pub fragment_again : ℕ → OutstandingPart → Fragment
 fragment_again now part =

@@ -1,5 +1,6 @@
 use Rattle.std.proofs.Common.{Err, length, arith, refl, ap, ◌∙◌}
 use Rattle.dcsctp_send_streams.specs.Ranking.{IsFound}
+use Rattle.dcsctp_send_streams.proofs.BytesLemmas.{bytes_insert}
 use Rattle.dcsctp_send_streams.proofs.CountLemmas.{counted_insert}
 use Rattle.dcsctp_send_streams.proofs.PlaceLemmas.{ranked-insert}
 use Rattle.dcsctp_send_streams.proofs.StreamLemmas.{IsOrdered-turns_of, length-turns_of}
@@ -28,10 +29,12 @@ invariant_of-self-2 c =
     record {
       ranked = rw (c.in_ok-insert.ensures.items, c.reserve.ensures.items)
           (ranked-insert c.self.inside.items.items c.self.inside.turns.items _ _ _ _ c.args.place c.args.stream _
-          c.self.invariant.ranked found c.turn-turn.ensures
+          c.self.invariant.ranked found c.turn-turn.ensures.turn
           (λ others are. c.move_turn.ensures.turns others (c.reserve-2.ensures.items ∙ are))
           (omega (arith, room, more, kept)) c.move_turn.ensures.capacity);
       counted = rw (c.in_ok-insert.ensures.items, c.reserve.ensures.items)
           (counted_insert c.self.inside.items.items _ _ _ c.args.place c.args.stream c.self.invariant.counted found.0 c.count_pausing-pausing.ensures
           (omega (arith, c.self.inside.items.ok.0, c.self.inside.items.ok.1, c.self.inside.items.small)) c.saturating_add-self-inside.ensures);
+      bytes = rw (c.in_ok-insert.ensures.items, c.reserve.ensures.items)
+          (bytes_insert c.self.inside.items.items c.args.place c.args.stream c.self.invariant.bytes c.turn-turn.ensures.bytes found.0);
     }

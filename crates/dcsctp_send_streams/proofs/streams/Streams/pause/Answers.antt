@@ -1,4 +1,5 @@
 use Rattle.std.proofs.Common.{◌<◌, ◌+◌, ◌-◌, ◌^◌, ℕ, min, length, refl, ap, ◌∙◌, arith}
+use Rattle.dcsctp_send_streams.proofs.BytesLemmas.{bytes_set}
 use Rattle.dcsctp_send_streams.proofs.CountLemmas.{counted_more}
 use Rattle.dcsctp_send_streams.proofs.StreamLemmas.{holds_read, ranked_read}
 use Rattle.dcsctp_send_streams.proofs.streams.Streams.pause.Goals as goal
@@ -6,15 +7,16 @@ use Rattle.dcsctp_send_streams.proofs.streams.Streams.pause.Goals as goal
 pub move_turn-requires : goal.move_turn-requires
 move_turn-requires c =
     let lt : c.args.place < length c.self.inside.items.items = rw c.self.view_is c.requires in
-    holds_read _ _ _ c.args.place _ _ c.self.invariant.ranked lt c.index_mut-stream.ensures.value c.turn-before.ensures
+    holds_read _ _ _ c.args.place _ _ c.self.invariant.ranked lt c.index_mut-stream.ensures.value c.turn-before.ensures.turn
 
 pub invariant_of-self : goal.invariant_of-self
 invariant_of-self c =
     let lt : c.args.place < length c.self.inside.items.items = rw c.self.view_is c.requires in
     let fits : length c.self.inside.items.items < 2 ^ 64 = omega (arith, c.self.inside.items.ok.0, c.self.inside.items.ok.1, c.self.inside.items.small) in
     record {
-      ranked = ranked_read _ _ _ _ _ c.args.place _ _ _ _ c.self.invariant.ranked lt c.index_mut-stream.ensures.value c.turn-before.ensures c.turn-after.ensures
+      ranked = ranked_read _ _ _ _ _ c.args.place _ _ _ _ c.self.invariant.ranked lt c.index_mut-stream.ensures.value c.turn-before.ensures.turn c.turn-after.ensures.turn
           (rw c.pause.ensures refl) c.move_turn.ensures.turns c.move_turn.ensures.capacity;
       counted = counted_more _ _ _ _ c.args.place _ _ c.self.invariant.counted lt c.index_mut-stream.ensures.value c.count_pausing-was_pausing.ensures (rw c.pause.ensures refl) fits
           (c.saturating_add-self-inside.ensures ∙ ap (λ (n : ℕ). min (n + 1) (2 ^ 64 - 1)) c.saturating_sub.ensures);
+      bytes = bytes_set _ c.args.place _ c.self.invariant.bytes c.turn-after.ensures.bytes;
     }
