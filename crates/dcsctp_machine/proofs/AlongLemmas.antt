@@ -208,7 +208,7 @@ module _ (Good : Endpoint → Turned → Type 0) (May : Input → Type 0) (come 
     admitted_along counted.outcome.after (packet_in packet) (admits e.core (packet_in packet)) ts (read_may May come packet.chunks (chunks_have_minima packet.chunks (drop 12 bytes) found.chunks)) turns,
   )
 
-  delivery_along : (e : Endpoint) (bytes : Option (List ℕ)) (ts : List Turned) → DeliveryTurns e bytes ts → AlongTurns Good e ts
+  pub delivery_along : (e : Endpoint) (bytes : Option (List ℕ)) (ts : List Turned) → DeliveryTurns e bytes ts → AlongTurns Good e ts
   delivery_along e None ts none = none_along e ts none
   delivery_along e (Some bytes) ts turns = input_along_where e bytes ts turns
 
@@ -274,10 +274,10 @@ module _ (Good : Endpoint → Turned → Type 0) (each : (e : Endpoint) (input :
 
 -- ---- a run
 
-abbrev GoodSide : (Endpoint → Turned → Type 0) → Both Options → Both (List Turned) → Side → Type 0
+abbrev pub GoodSide : (Endpoint → Turned → Type 0) → Both Options → Both (List Turned) → Side → Type 0
 GoodSide Good options turns side = AlongTurns Good (fresh_endpoint (of_side side options)) (of_side side turns)
 
-next_along : (Good : Endpoint → Turned → Type 0) (options : Both Options) (turns : Both (List Turned)) (mover : Side) (more : List Turned)
+pub next_along : (Good : Endpoint → Turned → Type 0) (options : Both Options) (turns : Both (List Turned)) (mover : Side) (more : List Turned)
     → AlongTurns Good (endpoint_after (of_side mover options) (of_side mover turns)) more
     → ((side : Side) → GoodSide Good options turns side) → (side : Side) → GoodSide Good options (with_turns mover more turns) side
 next_along Good options turns sides.A more here before sides.A = along_append Good (fresh_endpoint options.a) turns.a more (before sides.A) here

@@ -90,3 +90,4 @@ pub mod SoundResets
 pub mod SoundEnds
 pub mod SoundChanges
 pub mod SoundTurns
+pub mod SoundRuns

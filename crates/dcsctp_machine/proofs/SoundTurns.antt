@@ -44,7 +44,7 @@ use Rattle.std.proofs.lemmas.Bool.Decides.{nat_tests}
 use Rattle.std.specs.List.{AllByRecursion}
 
 -- no tag of the snapshot is 0
-abbrev SaysTags : Snapshot → Type 0
+abbrev pub SaysTags : Snapshot → Type 0
 SaysTags state = (1 ≤ state.my_verification_tag) × (1 ≤ state.peer_verification_tag)
 
 -- what holds of an outcome's endpoint
@@ -102,7 +102,7 @@ restored_sound e state transfer said =
 -- ---- every turn
 
 -- what may come: no announced tag is 0
-abbrev MaySound : Input → Type 0
+abbrev pub MaySound : Input → Type 0
 MaySound (chunk_input tag content) = SaysTag content
 MaySound (restores state) = SaysTags state
 MaySound input = Unit {0}
@@ -142,10 +142,10 @@ timer_is_other e reconfiguration = tt
 setting_sound : (e : Endpoint) (setting : Setting) → IsSound e → SoundAfter (setting_outcome e setting)
 setting_sound e setting h = controlled_sound e (setting_outcome e setting) e.core refl refl h
 
-abbrev KeepsSound : Endpoint → Turned → Type 0
+abbrev pub KeepsSound : Endpoint → Turned → Type 0
 KeepsSound e t = IsSound e → SoundAfter t.outcome
 
-turn_sound : (e : Endpoint) (input : Input) (t : Turned) → MaySound input → IsTurn e input t → KeepsSound e t
+pub turn_sound : (e : Endpoint) (input : Input) (t : Turned) → MaySound input → IsTurn e input t → KeepsSound e t
 turn_sound e arrival t may turn h = subst SoundAfter (sym turn.comes) h
 turn_sound e (refusal text) t may turn h = subst SoundAfter (sym turn.comes) h
 turn_sound e (packet_begins contents) t may turn h =
@@ -187,7 +187,7 @@ chunk_says (forward_tsn_chunk tsn streams) minima = tt
 chunk_says (i_forward_tsn_chunk tsn streams) minima = tt
 chunk_says (unknown_chunk chunk_type flags value) minima = tt
 
-these_may_come : MayCome MaySound
+pub these_may_come : MayCome MaySound
 these_may_come =
     record {
       arrives = tt;
@@ -210,7 +210,7 @@ these_may_come =
       passes = λ moment. tt;
     }
 
-all_sound : (e : Endpoint) (ts : List Turned) → AlongTurns KeepsSound e ts → IsSound e → IsSound (after_all e ts)
+pub all_sound : (e : Endpoint) (ts : List Turned) → AlongTurns KeepsSound e ts → IsSound e → IsSound (after_all e ts)
 all_sound e [] along h = h
 all_sound e (t ∷ ts) along h = all_sound t.outcome.after ts along.1 (along.0 h)
 
@@ -231,7 +231,7 @@ snapshot_says p states.Connected state valid = (
   (tt, tt),
 )
 
-restore_says : (p : Options) (core : Core) (state : Snapshot) → is_valid_snapshot p state ≡ true → AllByRecursion MaySound (inputs_of_restore core state)
+pub restore_says : (p : Options) (core : Core) (state : Snapshot) → is_valid_snapshot p state ≡ true → AllByRecursion MaySound (inputs_of_restore core state)
 restore_says p closed state valid = snapshot_says p state.socket_state state valid
 restore_says p (cookie_wait my) state valid = tt
 restore_says p (cookie_echoed my held cookie) state valid = tt

@@ -5,12 +5,13 @@ use Rattle.dcsctp_machine.specs.declared.association.Held.{Held}
 use Rattle.dcsctp_machine.specs.declared.capabilities.Capabilities.{Capabilities}
 use Rattle.dcsctp_machine.specs.declared.options.Options.{Options}
 use Rattle.dcsctp_machine.specs.declared.progress.ItemState.TheVariants.{Abandoned}
+use Rattle.dcsctp_machine.specs.declared.schedule.Side.{Side}
 use Rattle.dcsctp_machine.specs.Schedule.{CallContent}
 use Rattle.dcsctp_machine.specs.Endpoint.{Endpoint, Core, closed, cookie_wait, cookie_echoed, open_in, held_in}
 use Rattle.dcsctp_machine.specs.Handover.{readiness_of}
 use Rattle.dcsctp_machine.specs.Snapshot.{Snapshot, is_valid_snapshot}
 use Rattle.dcsctp_machine.specs.SocketSnapshot.{snapshot_of}
-use Rattle.dcsctp_machine.specs.Sockets.{UserTurns, inputs_of_restore}
+use Rattle.dcsctp_machine.specs.Sockets.{UserTurns, inputs_of_restore, Both, of_side, Worked, SocketRun, turns_after, endpoint_after}
 use Rattle.dcsctp_machine.specs.CallTurns.{Turned, Turns, HandleInput, after_all}
 use Rattle.dcsctp_machine.specs.transfer.Incoming.{AreInOrder}
 use Rattle.dcsctp_machine.specs.transfer.Items.{Item}
@@ -45,6 +46,12 @@ pub record CallsKeepSoundness : Type 0 where
   pub calls : (e : Endpoint) (call : CallContent) (turns : List Turned) → UserTurns e call turns → IsSound e → IsSound (after_all e turns)
   pub restores : (e : Endpoint) (state : Snapshot) (turns : List Turned) → is_valid_snapshot e.options state ≡ true
       → Turns e (inputs_of_restore e.core state) turns → IsSound e → IsSound (after_all e turns)
+
+-- So each socket of a run stays sound, whatever it is handed.
+abbrev pub SocketsStaySound : Type 0
+SocketsStaySound =
+    (options : Both Options) (run : List Worked) → SocketRun options run → (side : Side)
+    → IsSound (endpoint_after (of_side side options) (of_side side (turns_after run)))
 
 -- ---- what is in flight, and what was received
 

@@ -4,7 +4,7 @@ ghost use Rattle.std.specs.Prelude.{◌≡◌, ◌<◌, ◌^◌, ◌||◌, ℕ, 
 ghost use Rattle.dcsctp_machine.specs.Readiness.{has_reason};
 ghost use Rattle.dcsctp_machine.specs.Settings.{FitsOptions};
 ghost use Rattle.dcsctp_machine.specs.Laws.{NegotiationIsMutual, AnswerKeepsAgreement, CookieReadsBack, InitLeavesAssociation, InitBringsOnePacket, InitPacketLeavesAssociation, OfferReadsBack, CapabilitiesHoldOffer, RefusedPacketAddsOneError, AdmittedPacketsMayBeWorked, ChunksAreControlled, ActsAreControlled, TimersAreControlled, PacketsAreControlled, DeliveriesAreControlled, FlushKeepsLimits, SocketsKeepOptions};
-ghost use Rattle.dcsctp_machine.specs.Soundness.{CallsKeepSoundness};
+ghost use Rattle.dcsctp_machine.specs.Soundness.{CallsKeepSoundness, SocketsStaySound};
 ghost use Rattle.dcsctp_machine.specs.TimeTurns.{TimePassesQuietly};
 ghost use Rattle.dcsctp_machine.specs.transfer.ReceivedReadBack.{TrackerReadsBack, SameTsnsAreNew, StreamsReadBack};
 
@@ -157,4 +157,9 @@ pub fn received_parts_read_back()
 /// when it is restored from any valid snapshot.
 pub fn calls_keep_soundness()
     ensures { CallsKeepSoundness }
+{}
+
+/// Each socket of a run of two keeps that, whatever bytes it is handed.
+pub fn sockets_stay_sound()
+    ensures { SocketsStaySound }
 {}

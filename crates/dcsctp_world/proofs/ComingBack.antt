@@ -159,18 +159,17 @@ restored_by e new (open_in phase my held) true state reply ts is answer turns af
     absurd (not_restored (open_in phase my held) refl (subst (IsRestored true (open_in phase my held)) restored answer))
 restored_by e new core false state reply ts is answer turns after restored connected = absurd (cc)
 
-handed_on_by : (e new : Endpoint) (readiness : ℕ) (is_valid : Bool) (reply : Reply) (ts : List Turned) → IsHandedOn readiness is_valid e reply
-    → Turns e (inputs_of_both readiness is_valid (snapshot_of e)) ts → new ≡ after_all e ts → reply ≡ Restored (Ok tt)
+handed_on_by : (e new : Endpoint) (readiness : ℕ) (reply : Reply) (ts : List Turned) → IsHandedOn readiness e reply
+    → Turns e (inputs_of_both readiness (snapshot_of e)) ts → new ≡ after_all e ts → reply ≡ Restored (Ok tt)
     → (my : Pair) (held : Held) → e.core ≡ open_in established my held → GoesOn e my held new
-handed_on_by e new zero true reply ts answer turns after restored my held core = subst (GoesOn e my held) (sym after) (handed_on e my held ts core turns)
-handed_on_by e new zero false reply ts answer turns after restored my held core = absurd (subst (IsHandedOver e) restored answer)
-handed_on_by e new (suc reasons) is_valid reply ts answer turns after restored my held core = absurd (subst (IsHandedOver e) restored answer)
+handed_on_by e new zero reply ts answer turns after restored my held core = subst (GoesOn e my held) (sym after) (handed_on e my held ts core turns)
+handed_on_by e new (suc reasons) reply ts answer turns after restored my held core = absurd (subst (IsHandedOver e) restored answer)
 
 by_act : (e new : Endpoint) (packets : List (List ℕ)) (outside : OutsideContent) (reply : Reply) (ts : List Turned) → IsReply e packets (outside_act outside) reply
     → TurnsOfAct e packets (outside_act outside) ts → new ≡ after_all e ts → RestoresBy outside reply e new
 by_act e new packets (input_outside side bytes) reply ts answer turns after = tt
 by_act e new packets (handover_outside side) reply ts answer turns after =
-    handed_on_by e new (readiness_of e) (is_valid_snapshot e.options (snapshot_of e)) reply ts answer turns after
+    handed_on_by e new (readiness_of e) reply ts answer turns after
 by_act e new packets (restore_outside side state) reply ts answer turns after =
     restored_by e new e.core (is_valid_snapshot e.options state) state reply ts refl answer turns after
 

@@ -17,7 +17,7 @@ use Rattle.dcsctp_machine.specs.Turn.{act_input}
 use Rattle.dcsctp_machine.specs.control.Acts.{hands_over}
 use Rattle.dcsctp_machine.specs.control.Effect.{drawn_in}
 use Rattle.dcsctp_machine.specs.CallTurns.{Turned, IsTurn, Turns, after_all, words_of, effects_of, pairs_of, events_of}
-use Rattle.dcsctp_machine.specs.Sockets.{inputs_of_handover, inputs_where_valid, inputs_of_both}
+use Rattle.dcsctp_machine.specs.Sockets.{inputs_of_handover, inputs_of_restore, inputs_where_valid, inputs_of_both}
 use Rattle.dcsctp_machine.specs.turns.HandoverOutcomes.{hand_over_outcome}
 use Rattle.dcsctp_machine.proofs.TurnLemmas.{drawn_in-append, events_of-append}
 use Rattle.dcsctp_api.specs.declared.errors.SocketFault.{SocketFault}
@@ -108,11 +108,11 @@ handed_over old mid (suc reasons) turns ready is are follows = absurd (cc)
 
 -- both took place
 turns_of_both : (old mid : UserView) (h : Left old mid) (state : Snapshot) (ts : List Turned) → ValidTurns mid.endpoint state ts → is_valid_snapshot mid.endpoint.options state ≡ true
-    → Turns old.endpoint (inputs_of_both 0 true state) (h.turn ∷ ts)
+    → Turns old.endpoint (inputs_of_both 0 state) (h.turn ∷ ts)
 turns_of_both old mid h state ts are valid =
     let from_mid : Turns mid.endpoint (inputs_where_valid true mid.endpoint.core state) ts = subst (λ (b : Bool). Turns mid.endpoint (inputs_where_valid b mid.endpoint.core state) ts) valid are in
-    let from_closed : Turns mid.endpoint (inputs_where_valid true closed state) ts = subst (λ (c : Core). Turns mid.endpoint (inputs_where_valid true c state) ts) h.core from_mid in
-    (h.comes, subst (λ (e : Endpoint). Turns e (inputs_where_valid true closed state) ts) h.follows.endpoint from_closed)
+    let from_closed : Turns mid.endpoint (inputs_of_restore closed state) ts = subst (λ (c : Core). Turns mid.endpoint (inputs_of_restore c state) ts) h.core from_mid in
+    (h.comes, subst (λ (e : Endpoint). Turns e (inputs_of_restore closed state) ts) h.follows.endpoint from_closed)
 
 -- what a closed socket answers
 answer_of : (answer : Reply) → IsRestored true closed answer → answer ≡ Restored (Ok tt)
@@ -126,67 +126,47 @@ answer_of (HandedOver result) is = absurd is
 answer_of (Restored (Ok done)) is = refl
 answer_of (Restored (Err SocketNotClosed)) is = absurd (cc)
 
--- its own snapshot, with its own options
-abbrev OwnIsValid : Endpoint → Bool
-OwnIsValid e = is_valid_snapshot e.options (snapshot_of e)
-
-own_is : (old mid : UserView) (state : Snapshot) (valid : Bool) → mid.endpoint.options ≡ old.endpoint.options → state ≡ snapshot_of old.endpoint
-    → is_valid_snapshot mid.endpoint.options state ≡ valid → OwnIsValid old.endpoint ≡ valid
-own_is old mid state valid options same is =
-    ap (λ (s : Snapshot). is_valid_snapshot old.endpoint.options s) (sym same) ∙ ap (λ (o : Options). is_valid_snapshot o state) (sym options) ∙ is
-
+-- The snapshot is valid for the options of the socket that gave it, and they are as they were.
 pub hands_on : (old mid new : UserView) (state : Snapshot) (result : Result Reply SocketFault) (turns : List Turned)
-    → readiness_of old.endpoint ≡ 0 → state ≡ snapshot_of old.endpoint → Turns old.endpoint (inputs_of_handover (readiness_of old.endpoint)) turns → Follows old turns mid
-    → is_valid_snapshot mid.endpoint.options state ≡ true → Called (ValidTurns mid.endpoint state) (IsRestoredBy mid.endpoint state) mid result new
+    → readiness_of old.endpoint ≡ 0 → state ≡ snapshot_of old.endpoint → is_valid_snapshot mid.endpoint.options state ≡ true
+    → Turns old.endpoint (inputs_of_handover (readiness_of old.endpoint)) turns → Follows old turns mid
+    → Called (ValidTurns mid.endpoint state) (IsRestoredBy mid.endpoint state) mid result new
     → Called (HandoverTurns old.endpoint) (IsHandedOnBy old.endpoint) old result new
-hands_on old mid new state (Ok answer) turns ready same are follows valid made =
+hands_on old mid new state (Ok answer) turns ready same valid are follows made =
     let h : Left old mid = handed_over old mid (readiness_of old.endpoint) turns ready ready are follows in
-    let own : OwnIsValid old.endpoint ≡ true = own_is old mid state true h.options same valid in
     let at_mid : IsRestored true mid.endpoint.core answer = subst (λ (b : Bool). IsRestored b mid.endpoint.core answer) valid made.reply in
     let is : answer ≡ Restored (Ok tt) = answer_of answer (subst (λ (c : Core). IsRestored true c answer) h.core at_mid) in
-    let turned : Turns old.endpoint (inputs_of_both 0 true (snapshot_of old.endpoint)) (h.turn ∷ made.turns) =
-    subst (λ (s : Snapshot). Turns old.endpoint (inputs_of_both 0 true s) (h.turn ∷ made.turns)) same (turns_of_both old mid h state made.turns made.are valid) in
+    let turned : Turns old.endpoint (inputs_of_both 0 (snapshot_of old.endpoint)) (h.turn ∷ made.turns) =
+    subst (λ (s : Snapshot). Turns old.endpoint (inputs_of_both 0 s) (h.turn ∷ made.turns)) same (turns_of_both old mid h state made.turns made.are valid) in
     record {
-      reply = subst (λ (n : ℕ). IsHandedOn n (OwnIsValid old.endpoint) old.endpoint answer) (sym ready)
-          (subst (λ (b : Bool). IsHandedOn 0 b old.endpoint answer) (sym own) is);
+      reply = subst (λ (n : ℕ). IsHandedOn n old.endpoint answer) (sym ready) is;
       called = made.called;
       turns = h.turn ∷ made.turns;
-      are = subst (λ (n : ℕ). Turns old.endpoint (inputs_of_both n (OwnIsValid old.endpoint) (snapshot_of old.endpoint)) (h.turn ∷ made.turns)) (sym ready)
-          (subst (λ (b : Bool). Turns old.endpoint (inputs_of_both 0 b (snapshot_of old.endpoint)) (h.turn ∷ made.turns)) (sym own) turned);
+      are = subst (λ (n : ℕ). Turns old.endpoint (inputs_of_both n (snapshot_of old.endpoint)) (h.turn ∷ made.turns)) (sym ready) turned;
       follows = follows_both old mid new h.turn made.turns h.words h.pairs h.options h.follows made.follows;
     }
-hands_on old mid new state (Err OutOfMemory) turns ready same are follows valid made = follows.runs
-hands_on old mid new state (Err Failed) turns ready same are follows valid made = let runs : mid.failed ≡ false = follows.goes_on in let failed : mid.failed ≡ true = made in absurd (cc)
+hands_on old mid new state (Err OutOfMemory) turns ready same valid are follows made = follows.runs
+hands_on old mid new state (Err Failed) turns ready same valid are follows made = let runs : mid.failed ≡ false = follows.goes_on in let failed : mid.failed ≡ true = made in absurd (cc)
 
--- a snapshot that isn't valid isn't restored
-pub hands_over_alone : (old mid : UserView) (state : SocketHandoverState) (turns : List Turned) → readiness_of old.endpoint ≡ 0 → snapshot state ≡ snapshot_of old.endpoint
-    → Turns old.endpoint (inputs_of_handover (readiness_of old.endpoint)) turns → Follows old turns mid → is_valid_snapshot mid.endpoint.options (snapshot state) ≡ false
-    → Called (HandoverTurns old.endpoint) (IsHandedOnBy old.endpoint) old (Ok (HandedOver (Ok state))) mid
-hands_over_alone old mid state turns ready same are follows invalid =
+-- The options stay, so the snapshot is valid where it is restored.
+pub valid_there : (old mid : UserView) (state : Snapshot) (turns : List Turned) → readiness_of old.endpoint ≡ 0 → is_valid_snapshot old.endpoint.options state ≡ true
+    → Turns old.endpoint (inputs_of_handover (readiness_of old.endpoint)) turns → Follows old turns mid → is_valid_snapshot mid.endpoint.options state ≡ true
+valid_there old mid state turns ready valid are follows =
     let h : Left old mid = handed_over old mid (readiness_of old.endpoint) turns ready ready are follows in
-    let own : OwnIsValid old.endpoint ≡ false = own_is old mid (snapshot state) false h.options same invalid in
-    record {
-      reply = subst (λ (n : ℕ). IsHandedOn n (OwnIsValid old.endpoint) old.endpoint (HandedOver (Ok state))) (sym ready)
-          (subst (λ (b : Bool). IsHandedOn 0 b old.endpoint (HandedOver (Ok state))) (sym own) (ready, same));
-      called = tt;
-      turns = h.turn ∷ [];
-      are = subst (λ (n : ℕ). Turns old.endpoint (inputs_of_both n (OwnIsValid old.endpoint) (snapshot_of old.endpoint)) (h.turn ∷ [])) (sym ready)
-          (subst (λ (b : Bool). Turns old.endpoint (inputs_of_both 0 b (snapshot_of old.endpoint)) (h.turn ∷ [])) (sym own) (h.comes, tt));
-      follows = h.follows;
-    }
+    subst (λ (p : Options). is_valid_snapshot p state ≡ true) (sym h.options) valid
 
 -- one that isn't ready
 is_not_ready : (e : Endpoint) (error : HandoverError) → IsHandoverAnswer e (Err error) → readiness_of e ≢ 0
 is_not_ready e (NotReady readiness) is = is.0
 
-refused_at : (e : Endpoint) (readiness : ℕ) (turns : List Turned) (is_valid : Bool) (state : Snapshot) → readiness ≢ 0 → Turns e (inputs_of_handover readiness) turns
-    → Turns e (inputs_of_both readiness is_valid state) turns
-refused_at e zero turns is_valid state some are = absurd (some refl)
-refused_at e (suc reasons) turns is_valid state some are = are
+refused_at : (e : Endpoint) (readiness : ℕ) (turns : List Turned) (state : Snapshot) → readiness ≢ 0 → Turns e (inputs_of_handover readiness) turns
+    → Turns e (inputs_of_both readiness state) turns
+refused_at e zero turns state some are = absurd (some refl)
+refused_at e (suc reasons) turns state some are = are
 
-refused_reply : (e : Endpoint) (readiness : ℕ) (is_valid : Bool) (error : HandoverError) → readiness ≢ 0 → IsHandoverAnswer e (Err error) → IsHandedOn readiness is_valid e (HandedOver (Err error))
-refused_reply e zero is_valid error some is = absurd (some refl)
-refused_reply e (suc reasons) is_valid error some is = is
+refused_reply : (e : Endpoint) (readiness : ℕ) (error : HandoverError) → readiness ≢ 0 → IsHandoverAnswer e (Err error) → IsHandedOn readiness e (HandedOver (Err error))
+refused_reply e zero error some is = absurd (some refl)
+refused_reply e (suc reasons) error some is = is
 
 pub hand_over_refused : (old new : UserView) (error : HandoverError) (turns : List Turned) → IsHandoverAnswer old.endpoint (Err error)
     → Turns old.endpoint (inputs_of_handover (readiness_of old.endpoint)) turns → Follows old turns new
@@ -194,10 +174,10 @@ pub hand_over_refused : (old new : UserView) (error : HandoverError) (turns : Li
 hand_over_refused old new error turns is are follows =
     let some : readiness_of old.endpoint ≢ 0 = is_not_ready old.endpoint error is in
     record {
-      reply = refused_reply old.endpoint (readiness_of old.endpoint) (OwnIsValid old.endpoint) error some is;
+      reply = refused_reply old.endpoint (readiness_of old.endpoint) error some is;
       called = tt;
       turns = turns;
-      are = refused_at old.endpoint (readiness_of old.endpoint) turns (OwnIsValid old.endpoint) (snapshot_of old.endpoint) some are;
+      are = refused_at old.endpoint (readiness_of old.endpoint) turns (snapshot_of old.endpoint) some are;
       follows = follows;
     }
 

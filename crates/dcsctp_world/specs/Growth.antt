@@ -228,16 +228,15 @@ IsRestored true core (Restored answer) = IsRestoreAnswer core answer
 IsRestored true core reply = ⊥
 IsRestored false core reply = reply ≡ NoCall
 
--- It is what is answered if a socket of this readiness is handed over, and restored from its snapshot if that is valid.
-abbrev pub IsHandedOn : ℕ → Bool → Endpoint → Reply → Type 0
-IsHandedOn zero true e reply = reply ≡ Restored (Ok tt)
-IsHandedOn zero false e reply = IsHandedOver e reply
-IsHandedOn (suc reasons) is_valid e reply = IsHandedOver e reply
+-- It is what is answered if a socket of this readiness is handed over, and restored from its snapshot.
+abbrev pub IsHandedOn : ℕ → Endpoint → Reply → Type 0
+IsHandedOn zero e reply = reply ≡ Restored (Ok tt)
+IsHandedOn (suc reasons) e reply = IsHandedOver e reply
 
 -- It is what an act from outside answers.
 abbrev pub IsOutsideReply : Endpoint → OutsideContent → Reply → Type 0
 IsOutsideReply e (input_outside side bytes) reply = reply ≡ Done
-IsOutsideReply e (handover_outside side) reply = IsHandedOn (readiness_of e) (is_valid_snapshot e.options (snapshot_of e)) e reply
+IsOutsideReply e (handover_outside side) reply = IsHandedOn (readiness_of e) e reply
 IsOutsideReply e (restore_outside side state) reply = IsRestored (is_valid_snapshot e.options state) e.core reply
 
 -- It is what an act answers from this endpoint, where the other side has emitted these packets.

@@ -12,10 +12,10 @@ use Rattle.dcsctp_world.specs.Growth.{IsHandedOn, IsRestored}
 -- ---- a socket that is handed over and restored
 
 abbrev pub HandoverTurns : Endpoint → List Turned → Type 0
-HandoverTurns e turns = Turns e (inputs_of_both (readiness_of e) (is_valid_snapshot e.options (snapshot_of e)) (snapshot_of e)) turns
+HandoverTurns e turns = Turns e (inputs_of_both (readiness_of e) (snapshot_of e)) turns
 
 abbrev pub IsHandedOnBy : Endpoint → Reply → Type 0
-IsHandedOnBy e reply = IsHandedOn (readiness_of e) (is_valid_snapshot e.options (snapshot_of e)) e reply
+IsHandedOnBy e reply = IsHandedOn (readiness_of e) e reply
 
 -- ---- one that is restored from any snapshot
 

@@ -221,20 +221,15 @@ fn restore<R: Rng + Drop>(
     Ok(Reply::Restored(answer))
 }
 
-// Hands the socket over, and restores it from its snapshot if that is valid. The errors are those of the calls.
-fn hand_on<R: Rng + Drop>(socket: &mut Socket<R>) -> Result<Reply, SocketFault>
+// Hands the socket over, and restores it from its snapshot. The errors are those of the calls.
+fn hand_over_and_restore<R: Rng + Drop>(socket: &mut Socket<R>) -> Result<Reply, SocketFault>
     ensures call { Called (HandoverTurns socket.old.view.endpoint) (IsHandedOnBy socket.old.view.endpoint)
         (user_view_of socket.old) result (user_view_of socket.new) }
     ensures failed { IsErrOf result SocketFault.Failed → socket.new ≡ socket.old }
 {
     match socket.get_handover_state_and_close()? {
         Err(error) => Ok(Reply::HandedOver(Err(error))),
-        Ok(state) => {
-            if !state.is_valid(&socket.options()) {
-                return Ok(Reply::HandedOver(Ok(state)));
-            }
-            restore(socket, &state)
-        }
+        Ok(state) => restore(socket, &state),
     }
 }
 
@@ -322,12 +317,12 @@ impl<R: Rng + Drop> WatchedSocket<R> {
     }
 
     // Hands the socket over, and restores it from its own snapshot. The errors are as those of `call`.
-    fn hand_on(&mut self) -> Result<Reply, SocketFault>
+    fn hand_over_and_restore(&mut self) -> Result<Reply, SocketFault>
         requires { self.old.socket.view.events ≡ [] }
         ensures { Works (HandoverTurns self.old.socket.view.endpoint)
             (IsHandedOnBy self.old.socket.view.endpoint) (shown self.old) result (shown self.new) }
     {
-        let reply = hand_on(&mut self.socket)?;
+        let reply = hand_over_and_restore(&mut self.socket)?;
         self.keep_all()?;
         Ok(reply)
     }
@@ -359,7 +354,7 @@ impl<R: Rng + Drop> WatchedSocket<R> {
             Act::Step(Step::Call(_, call)) => self.call(call),
             Act::Step(Step::Deliver(_, number)) => self.deliver(packets, *number),
             Act::Outside(Outside::Input(_, bytes)) => self.hand_in(bytes),
-            Act::Outside(Outside::Handover(_)) => self.hand_on(),
+            Act::Outside(Outside::Handover(_)) => self.hand_over_and_restore(),
             Act::Outside(Outside::Restore(_, state)) => self.restore(state),
         }
     }

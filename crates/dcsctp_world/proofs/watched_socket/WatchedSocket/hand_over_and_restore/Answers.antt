@@ -5,14 +5,14 @@ use Rattle.dcsctp_machine.specs.CallTurns.{Turned}
 use Rattle.dcsctp_world.specs.Outside.{HandoverTurns, IsHandedOnBy}
 use Rattle.dcsctp_world.specs.Parts.{shown}
 use Rattle.dcsctp_world.proofs.Stopping.{call_fails, stops_after}
-use Rattle.dcsctp_world.proofs.watched_socket.WatchedSocket.hand_on.Goals as goal
+use Rattle.dcsctp_world.proofs.watched_socket.WatchedSocket.hand_over_and_restore.Goals as goal
 
 pub returns-in_err-reply : goal.returns-in_err-reply
 returns-in_err-reply g c =
     let Turns : List Turned → Type 0 = HandoverTurns c.args.self.now.socket.view.endpoint in
     let p = err_from_is_err_and c.from_residual.result c.from_residual.ensures.1 in
     rw (p.1, p.2)
-    (call_fails Turns (shown c.args.self.now) c.hand_on.new.socket (IsHandedOnBy c.args.self.now.socket.view.endpoint) _ c.in_err-reply.ensures.call
+    (call_fails Turns (shown c.args.self.now) c.hand_over_and_restore.new.socket (IsHandedOnBy c.args.self.now.socket.view.endpoint) _ c.in_err-reply.ensures.call
     (λ is. c.in_err-reply.ensures.failed (ap (λ (fault : SocketFault). Err fault) is)))
 
 pub returns-in_err-keep_all : goal.returns-in_err-keep_all
@@ -22,6 +22,6 @@ returns-in_err-keep_all g c =
     let p = err_from_is_err_and c.from_residual-in_err-keep_all.result c.from_residual-in_err-keep_all.ensures.1 in
     rw (p.1, p.2) (
       worked.follows.runs,
-      stops_after Turns (shown c.args.self.now) (shown c.keep_all.new.self) c.hand_on.new.socket worked.turns
+      stops_after Turns (shown c.args.self.now) (shown c.keep_all.new.self) c.hand_over_and_restore.new.socket worked.turns
           worked.are c.requires worked.follows c.in_err-keep_all.ensures,
     )
