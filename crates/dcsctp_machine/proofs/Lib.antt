@@ -47,6 +47,7 @@ pub mod PackingLemmas
 pub mod PlainLemmas
 pub mod PreparedFacts
 pub mod QueuedPartFacts
+pub mod QueuedValidityLemmas
 pub mod RangesFacts
 pub mod RangesLemmas
 pub mod ReadBackLemmas
@@ -84,3 +85,4 @@ pub mod TrackerLemmas
 pub mod TurnFacts
 pub mod TurnLemmas
 pub mod TurnOutcomes
+pub mod ValidityLemmas
