@@ -47,6 +47,7 @@ pub mod PackingLemmas
 pub mod PlainLemmas
 pub mod PreparedFacts
 pub mod QueuedPartFacts
+pub mod QueuedValidityLemmas
 pub mod RangesFacts
 pub mod RangesLemmas
 pub mod ReadBackLemmas
@@ -91,3 +92,4 @@ pub mod SoundEnds
 pub mod SoundChanges
 pub mod SoundTurns
 pub mod SoundRuns
+pub mod ValidityLemmas

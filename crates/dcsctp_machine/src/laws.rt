@@ -4,7 +4,7 @@ ghost use Rattle.std.specs.Prelude.{◌≡◌, ◌<◌, ◌^◌, ◌||◌, ℕ, 
 ghost use Rattle.dcsctp_machine.specs.Readiness.{has_reason};
 ghost use Rattle.dcsctp_machine.specs.Settings.{FitsOptions};
 ghost use Rattle.dcsctp_machine.specs.Laws.{NegotiationIsMutual, AnswerKeepsAgreement, CookieReadsBack, InitLeavesAssociation, InitBringsOnePacket, InitPacketLeavesAssociation, OfferReadsBack, CapabilitiesHoldOffer, RefusedPacketAddsOneError, AdmittedPacketsMayBeWorked, ChunksAreControlled, ActsAreControlled, TimersAreControlled, PacketsAreControlled, DeliveriesAreControlled, FlushKeepsLimits, SocketsKeepOptions};
-ghost use Rattle.dcsctp_machine.specs.Soundness.{CallsKeepSoundness, SocketsStaySound};
+ghost use Rattle.dcsctp_machine.specs.Soundness.{CallsKeepSoundness, SocketsStaySound, SnapshotsAreValid};
 ghost use Rattle.dcsctp_machine.specs.TimeTurns.{TimePassesQuietly};
 ghost use Rattle.dcsctp_machine.specs.transfer.ReceivedReadBack.{TrackerReadsBack, SameTsnsAreNew, StreamsReadBack};
 
@@ -162,4 +162,12 @@ pub fn calls_keep_soundness()
 /// Each socket of a run of two keeps that, whatever bytes it is handed.
 pub fn sockets_stay_sound()
     ensures { SocketsStaySound }
+{}
+
+/// If a socket is ready to be handed over, its snapshot is valid for its options. This rests on what holds
+/// at all times. No verification tag is 0, and packets go without a checksum only by the method of the
+/// options. The send queue is well-formed. Once the peer is known, there is a transfer layer. Data in flight
+/// has bytes or is abandoned, and there are fewer than 2^31 items of it. Each incoming stream stands once.
+pub fn snapshots_are_valid()
+    ensures { SnapshotsAreValid }
 {}

@@ -42,8 +42,8 @@ pub use laws::{
     flush_keeps_limits, init_brings_one_packet, init_leaves_association,
     init_packet_leaves_association, negotiation_is_mutual, offer_reads_back, options_fit,
     packets_are_controlled, readiness_contains, received_parts_read_back,
-    refused_packet_adds_one_error, sockets_keep_options, time_passes_quietly,
-    timers_are_controlled,
+    refused_packet_adds_one_error, snapshots_are_valid, sockets_keep_options, sockets_stay_sound,
+    time_passes_quietly, timers_are_controlled,
 };
 pub use lifetimes::{millis_ahead, millis_since, moment_at, moment_before};
 pub use message::{Message, SendOptions, copied_messages};
