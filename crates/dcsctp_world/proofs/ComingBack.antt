@@ -1,5 +1,10 @@
 -- A restore brings back what the snapshot has of the association.
-use Rattle.std.proofs.Common.{◌≡◌, ℕ, zero, suc, Bool, true, false, Option, None, Some, Result, Ok, Err, IfOk, List, [], ◌∷◌, map, refl, sym, subst, ap, ◌∙◌}
+use Rattle.std.proofs.Common.{◌≡◌, ◌⊎◌, inl, inr, ◌==◌, not, cond, OnOk, ℕ, zero, suc, Bool, true, false, Option, None, Some, Result, Ok, Err, IfOk, List, [], ◌∷◌, map, refl, sym, subst, ap, ◌∙◌, arith}
+use Rattle.std.proofs.lemmas.Bool.Decides.{nat_tests}
+use Rattle.dcsctp_machine.specs.declared.capabilities.Capabilities.{Capabilities}
+use Rattle.dcsctp_machine.specs.declared.kinds.ZeroChecksumAlternateErrorDetectionMethod.{ZeroChecksumAlternateErrorDetectionMethod}
+use Rattle.dcsctp_machine.specs.Soundness.{UsesOwnMethod, IsSoundCore, IsSound, SocketsStaySound}
+use Rattle.dcsctp_machine.specs.control.ResumeChanges.{resumed_held}
 use Rattle.dcsctp_machine.specs.declared.association.Held.{Held}
 use Rattle.dcsctp_machine.specs.declared.association.Pair.{Pair}
 use Rattle.dcsctp_machine.specs.declared.options.Options.{Options}
@@ -10,7 +15,7 @@ use Rattle.dcsctp_machine.specs.Event.{Event}
 use Rattle.dcsctp_machine.specs.Packet.{Content, Emission}
 use Rattle.dcsctp_machine.specs.Outcome.{Outcome}
 use Rattle.dcsctp_machine.specs.Snapshot.{SendPart, ReceivePart, Snapshot, empty_received_part}
-use Rattle.dcsctp_machine.specs.SocketSnapshot.{with_flight, with_received, connected_snapshot, snapshot_in, snapshot_of}
+use Rattle.dcsctp_machine.specs.SocketSnapshot.{capabilities_given, with_flight, with_received, connected_snapshot, snapshot_in, snapshot_of}
 use Rattle.dcsctp_machine.specs.Turn.{act_input}
 use Rattle.dcsctp_machine.specs.control.Acts.{hands_over}
 use Rattle.dcsctp_machine.specs.CallTurns.{Turned, Turns, after_all}
@@ -32,9 +37,10 @@ use Rattle.dcsctp_machine.specs.turns.BegunResets.{BegunReset, held_begun, core_
 use Rattle.dcsctp_machine.specs.turns.DataOutcomes.{FlushTurn, AnswersTo, flush_by}
 use Rattle.dcsctp_machine.specs.turns.FlushOutcomes.{Answer, Ask, Answers, at_limit, at_empty, after_packet, Answered, goes_out, filled, answer_contents, asked, next_draft, flush_of, draft_to, told_event, FlushAnswers}
 use Rattle.dcsctp_machine.specs.turns.HandoverOutcomes.{hand_over_outcome}
-use Rattle.dcsctp_machine.specs.turns.RestoreOutcomes.{own_pair, held_restored, RestoreTurn}
+use Rattle.dcsctp_machine.specs.turns.RestoreOutcomes.{capabilities_restored, own_pair, held_restored, RestoreTurn}
 use Rattle.dcsctp_machine.proofs.FlushKeeps.{begun_by, flush_keeps}
-use Rattle.dcsctp_world.specs.Returning.{GoesOnFrom, held_again, GoesOn, RestoresBy}
+use Rattle.dcsctp_world.specs.Returning.{GoesOnFrom, GoesOn, BothSound, RestoresBy}
+use Rattle.dcsctp_world.specs.Run.{IsRun}
 
 -- ---- a flush keeps the tie tag
 
@@ -107,20 +113,38 @@ received_keeps : (found : Option Transfer) (rx : ReceivePart) → (with_received
 received_keeps None rx = refl
 received_keeps (Some transfer) rx = refl
 
--- The snapshot has what is known of the peer.
-held_is : (options : Options) (e : Endpoint) (my : Pair) (held : Held) → held_restored options (connected_snapshot e my held) ≡ held_again options held
-held_is options e my held =
+-- The method is that of the options, or none: so it comes back by them.
+method_by : (is_none : Bool) (method own : ZeroChecksumAlternateErrorDetectionMethod) → (method.0 == 0) ≡ is_none → (method.0 ≡ 0) ⊎ (method ≡ own)
+    → cond (not is_none) own (record { 0 = 0 }) ≡ method
+method_by true method own test either = let none : method.0 ≡ 0 = grind (arith, nat_tests) in ap (λ (n : ℕ). let m : ZeroChecksumAlternateErrorDetectionMethod = record { 0 = n } in m) (sym none)
+method_by false method own test (inl none) = absurd (cc (test, none))
+method_by false method own test (inr is) = sym is
+
+capabilities_again : (options : Options) (capabilities : Capabilities) → UsesOwnMethod options capabilities → capabilities_restored options (capabilities_given capabilities) ≡ capabilities
+capabilities_again options capabilities either =
+    ap (λ (m : ZeroChecksumAlternateErrorDetectionMethod). record capabilities { zero_checksum_method = m })
+    (method_by (capabilities.zero_checksum_method.0 == 0) capabilities.zero_checksum_method options.zero_checksum_alternate_error_detection_method refl either)
+
+-- what is known of the peer comes back
+abbrev held_again : Held → Held
+held_again held = resumed_held held.peer held.capabilities held.own_next held.peer_last
+
+held_is : (options : Options) (e : Endpoint) (my : Pair) (held : Held) → UsesOwnMethod options held.capabilities → held_restored options (connected_snapshot e my held) ≡ held_again held
+held_is options e my held method =
     ap (λ (n : ℕ). record (held_restored options (connected_snapshot e my held)) { own_next = n }) (flight_keeps e e.below.transfer _)
-    ∙ ap (λ (n : ℕ). record (held_again options held) { peer_last = n }) (received_keeps e.below.transfer (record empty_received_part { last_completed_reset_req_sn = held.peer_last }))
+    ∙ ap (λ (n : ℕ). record (resumed_held held.peer (capabilities_restored options (capabilities_given held.capabilities)) held.own_next held.peer_last) { peer_last = n })
+    (received_keeps e.below.transfer (record empty_received_part { last_completed_reset_req_sn = held.peer_last }))
+    ∙ ap (λ (c : Capabilities). record (held_again held) { capabilities = c }) (capabilities_again options held.capabilities method)
 
 -- what is restored from it
-pub goes_on : (old mid new : Endpoint) (my : Pair) (held : Held) → mid.options ≡ old.options → GoesOnFrom mid.options (connected_snapshot old my held) new → GoesOn old my held new
-goes_on old mid new my held options h =
+pub goes_on : (old mid new : Endpoint) (my : Pair) (held : Held) → UsesOwnMethod old.options held.capabilities → mid.options ≡ old.options
+    → GoesOnFrom mid.options (connected_snapshot old my held) new → GoesOn old my held new
+goes_on old mid new my held method options h =
     record {
       begun = h.begun;
       core = h.core
           ∙ ap (λ (p : Options). open_in established my (held_begun h.begun (held_restored p (connected_snapshot old my held)))) options
-          ∙ ap (λ (k : Held). open_in established my (held_begun h.begun k)) (held_is old.options old my held);
+          ∙ ap (λ (k : Held). open_in established my (held_begun h.begun k)) (held_is old.options old my held method);
       tie = h.tie;
     }
 
@@ -132,15 +156,16 @@ left_by e core my held o is left =
     let ends : o ≡ hand_over_outcome e (open_in established my held) = left ∙ ap (hand_over_outcome e) is in
     (ap (λ (x : Outcome). x.after.core) ends, ap (λ (x : Outcome). x.after.options) ends)
 
-pub handed_on : (e : Endpoint) (my : Pair) (held : Held) (ts : List Turned) → e.core ≡ open_in established my held
+pub handed_on : (e : Endpoint) (my : Pair) (held : Held) (ts : List Turned) → IsSound e → e.core ≡ open_in established my held
     → Turns e (act_input hands_over ∷ inputs_of_snapshot (snapshot_of e).socket_state (snapshot_of e)) ts → GoesOn e my held (after_all e ts)
-handed_on e my held [] core turns = absurd turns
-handed_on e my held (t ∷ ts) core turns =
+handed_on e my held [] sound core turns = absurd turns
+handed_on e my held (t ∷ ts) sound core turns =
+    let here : IsSoundCore e.options (open_in established my held) = subst (IsSoundCore e.options) core sound in
     let left = left_by e e.core my held t.outcome core turns.0.comes in
     let own : snapshot_of e ≡ connected_snapshot e my held = ap (snapshot_in e) core in
     let rest : Turns t.outcome.after (inputs_of_snapshot states.Connected (connected_snapshot e my held)) ts =
     subst (λ (s : Snapshot). Turns t.outcome.after (inputs_of_snapshot s.socket_state s) ts) own turns.1 in
-    goes_on e t.outcome.after (after_all t.outcome.after ts) my held left.1
+    goes_on e t.outcome.after (after_all t.outcome.after ts) my held here.1.method left.1
     (goes_on_from t.outcome.after states.Connected (connected_snapshot e my held) ts left.0 refl rest)
 
 -- ---- an act of a world
@@ -159,18 +184,18 @@ restored_by e new (open_in phase my held) true state reply ts is answer turns af
     absurd (not_restored (open_in phase my held) refl (subst (IsRestored true (open_in phase my held)) restored answer))
 restored_by e new core false state reply ts is answer turns after restored connected = absurd (cc)
 
-handed_on_by : (e new : Endpoint) (readiness : ℕ) (reply : Reply) (ts : List Turned) → IsHandedOn readiness e reply
+handed_on_by : (e new : Endpoint) (readiness : ℕ) (reply : Reply) (ts : List Turned) → IsSound e → IsHandedOn readiness e reply
     → Turns e (inputs_of_both readiness (snapshot_of e)) ts → new ≡ after_all e ts → reply ≡ Restored (Ok tt)
     → (my : Pair) (held : Held) → e.core ≡ open_in established my held → GoesOn e my held new
-handed_on_by e new zero reply ts answer turns after restored my held core = subst (GoesOn e my held) (sym after) (handed_on e my held ts core turns)
-handed_on_by e new (suc reasons) reply ts answer turns after restored my held core = absurd (subst (IsHandedOver e) restored answer)
+handed_on_by e new zero reply ts sound answer turns after restored my held core =
+    subst (GoesOn e my held) (sym after) (handed_on e my held ts sound core turns)
+handed_on_by e new (suc reasons) reply ts sound answer turns after restored my held core = absurd (subst (IsHandedOver e) restored answer)
 
-by_act : (e new : Endpoint) (packets : List (List ℕ)) (outside : OutsideContent) (reply : Reply) (ts : List Turned) → IsReply e packets (outside_act outside) reply
+by_act : (e new : Endpoint) (packets : List (List ℕ)) (outside : OutsideContent) (reply : Reply) (ts : List Turned) → IsSound e → IsReply e packets (outside_act outside) reply
     → TurnsOfAct e packets (outside_act outside) ts → new ≡ after_all e ts → RestoresBy outside reply e new
-by_act e new packets (input_outside side bytes) reply ts answer turns after = tt
-by_act e new packets (handover_outside side) reply ts answer turns after =
-    handed_on_by e new (readiness_of e) reply ts answer turns after
-by_act e new packets (restore_outside side state) reply ts answer turns after =
+by_act e new packets (input_outside side bytes) reply ts sound answer turns after = tt
+by_act e new packets (handover_outside side) reply ts sound answer turns after = handed_on_by e new (readiness_of e) reply ts sound answer turns after
+by_act e new packets (restore_outside side state) reply ts sound answer turns after =
     restored_by e new e.core (is_valid_snapshot e.options state) state reply ts refl answer turns after
 
 -- the endpoint of a side
@@ -181,15 +206,20 @@ noted_keeps : {R : Type 0} (side : Side) (both : Both (SideShown R)) → Endpoin
 noted_keeps sides.A both = refl
 noted_keeps sides.B both = refl
 
-restores_by : {R : Type 0} (outside : OutsideContent) (reply : Reply) (old new : WorldView R) → Applied (outside_act outside) reply old new
+restores_by : {R : Type 0} (outside : OutsideContent) (reply : Reply) (old new : WorldView R) → BothSound old → Applied (outside_act outside) reply old new
     → RestoresBy outside reply (EndpointAt (side_of_outside outside) old.sides) (EndpointAt (side_of_outside outside) new.sides)
-restores_by {R} outside reply old new h =
+restores_by {R} outside reply old new sound h =
     let side : Side = side_of_outside outside in
     let grows = h.moves.grows in
-    by_act (EndpointAt side old.sides) (EndpointAt side new.sides) (of_other side old.sides).packets outside reply grows.turns h.moves.reply grows.are
+    by_act (EndpointAt side old.sides) (EndpointAt side new.sides) (of_other side old.sides).packets outside reply grows.turns (sound side) h.moves.reply grows.are
     (ap (λ (both : Both (SideShown R)). EndpointAt side both) h.sides ∙ noted_keeps side h.moved ∙ grows.endpoint)
 
-pub restores_where : {R : Type 0} (outside : OutsideContent) (old new : WorldView R) (result : Result Reply SocketFault) → Applies (outside_act outside) old result new
+pub restores_where : {R : Type 0} (outside : OutsideContent) (old new : WorldView R) (result : Result Reply SocketFault) → OnOk result (BothSound old) → Applies (outside_act outside) old result new
     → IfOk result (λ (reply : Reply). RestoresBy outside reply (EndpointAt (side_of_outside outside) old.sides) (EndpointAt (side_of_outside outside) new.sides))
-restores_where outside old new (Ok reply) h = restores_by outside reply old new h
-restores_where outside old new (Err fault) h = tt
+restores_where outside old new (Ok reply) sound h = restores_by outside reply old new sound h
+restores_where outside old new (Err fault) sound h = tt
+
+-- ---- both sockets of a run
+
+pub both_sound : {R : Type 0} → SocketsStaySound → (options : Both Options) (world : WorldView R) → IsRun options world → BothSound world
+both_sound law options world is side = subst IsSound (sym (is.sides side).endpoint) (law options is.steps is.run side)

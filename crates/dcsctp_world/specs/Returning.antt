@@ -7,10 +7,13 @@ use Rattle.dcsctp_machine.specs.declared.snapshot.HandoverSocketState.TheVariant
 use Rattle.dcsctp_machine.specs.Endpoint.{Endpoint, open_in, established}
 use Rattle.dcsctp_machine.specs.Schedule.{OutsideContent, input_outside, handover_outside, restore_outside}
 use Rattle.dcsctp_machine.specs.Snapshot.{Snapshot}
-use Rattle.dcsctp_machine.specs.SocketSnapshot.{capabilities_given}
+use Rattle.dcsctp_machine.specs.Sockets.{of_side}
+use Rattle.dcsctp_machine.specs.Soundness.{IsSound}
+use Rattle.dcsctp_machine.specs.declared.schedule.Side.{Side}
+use Rattle.dcsctp_world.specs.Shown.{WorldView}
 use Rattle.dcsctp_machine.specs.control.ResumeChanges.{resumed_held}
 use Rattle.dcsctp_machine.specs.turns.BegunResets.{BegunReset, held_begun}
-use Rattle.dcsctp_machine.specs.turns.RestoreOutcomes.{capabilities_restored, own_pair, held_restored}
+use Rattle.dcsctp_machine.specs.turns.RestoreOutcomes.{own_pair, held_restored}
 use Rattle.dcsctp_world.specs.declared.act.Reply.{Reply}
 use Rattle.dcsctp_world.specs.declared.act.Reply.TheVariants.{Restored}
 
@@ -21,16 +24,16 @@ pub record GoesOnFrom (options : Options) (state : Snapshot) (new : Endpoint) : 
   pub core : new.core ≡ open_in established (own_pair state) (held_begun begun (held_restored options state))
   pub tie : new.tie ≡ state.tie_tag
 
--- what is known of the peer, once it was handed over and restored with the same options
-abbrev pub held_again : Options → Held → Held
-held_again options held = resumed_held held.peer (capabilities_restored options (capabilities_given held.capabilities)) held.own_next held.peer_last
-
 -- A socket that was established goes on as it was: with both pairs, the tie tag, what both ends support, and the numbers of
--- requests. The kept answer is 'nothing to do'.
+-- requests. No own request is outstanding, and the kept answer is 'nothing to do'.
 pub record GoesOn (old : Endpoint) (my : Pair) (held : Held) (new : Endpoint) : Type 0 where
   pub begun : Option BegunReset
-  pub core : new.core ≡ open_in established my (held_begun begun (held_again old.options held))
+  pub core : new.core ≡ open_in established my (held_begun begun (resumed_held held.peer held.capabilities held.own_next held.peer_last))
   pub tie : new.tie ≡ old.tie
+
+-- No verification tag of either side's association is 0, and its zero checksum method is that of the options or none.
+abbrev pub BothSound : {R : Type 0} → WorldView R → Type 0
+BothSound world = (side : Side) → IsSound (of_side side world.sides).socket.view.endpoint
 
 -- What an act from outside that restores a socket brings back.
 abbrev pub RestoresBy : OutsideContent → Reply → Endpoint → Endpoint → Type 0

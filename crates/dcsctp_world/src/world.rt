@@ -2,7 +2,7 @@
 
 use crate::act::{Reply, are_honest, side_of};
 use crate::watched_socket::WatchedSocket;
-use dcsctp_machine::{Act, Outside, Side, Step, options_fit};
+use dcsctp_machine::{Act, Outside, Side, Step, options_fit, sockets_stay_sound};
 use dcsctp_machine_refinement::socket_laws;
 use dcsctp_socket::{Association, Options, Pair, Socket, SocketEvent, SocketFault};
 use rand_core::Rng;
@@ -59,7 +59,7 @@ ghost use Rattle.dcsctp_world.specs.Shown.{fresh_world, options_of};
 ghost use Rattle.dcsctp_world.specs.Run.{IsRun};
 ghost use Rattle.dcsctp_world.specs.Agreement.{Agrees, HandshakeConnects};
 ghost use Rattle.dcsctp_world.specs.Acts.{MovesSide, WorksAct, Applies, Runs};
-ghost use Rattle.dcsctp_world.specs.Returning.{RestoresBy};
+ghost use Rattle.dcsctp_world.specs.Returning.{BothSound, RestoresBy};
 ghost use Rattle.dcsctp_world.specs.Parts.{packet_bytes, shown, both, world_of};
 
 // Performs an act at its side. The errors are those of `WatchedSocket::perform`; the other side is unchanged.
@@ -139,6 +139,7 @@ impl<R: Rng + Drop> World<R> {
         ensures call { Applies (act_content act) self.old result self.new }
         ensures agreement { OnOk result (Agrees (options_of self.old) self.new) }
         ensures handshake { OnOk result (HandshakeConnects (options_of self.old) self.new) }
+        ensures sound { OnOk result (BothSound self.old) }
         ensures options { OnOk result (options_of self.new ≡ options_of self.old) }
     {
         // A world that has failed applies nothing.
@@ -146,6 +147,7 @@ impl<R: Rng + Drop> World<R> {
             return Err(SocketFault::Failed);
         }
         socket_laws();
+        sockets_stay_sound();
         match perform_and_keep(&mut self.a, &mut self.b, &mut self.acts, act) {
             Ok(reply) => Ok(reply),
             Err(_fault) => {

@@ -7,6 +7,8 @@ use Rattle.dcsctp_world.specs.Acts.{RanOut}
 use Rattle.dcsctp_world.specs.Parts.{world_of}
 use Rattle.dcsctp_world.proofs.Running.{is_run_options, is_run_of_own}
 use Rattle.dcsctp_world.proofs.Applying.{applied_is_run, ran_out_in}
+use Rattle.dcsctp_world.specs.Returning.{BothSound}
+use Rattle.dcsctp_world.proofs.ComingBack.{both_sound}
 use Rattle.dcsctp_world.proofs.Agreeing.{world_agrees, handshake_connects}
 use Rattle.dcsctp_world.proofs.world.World.apply_act.Goals as goal
 
@@ -28,6 +30,12 @@ pub returns-in-Ok-clause-handshake : goal.returns-in-Ok-clause-handshake
 returns-in-Ok-clause-handshake g c =
     handshake_connects c.socket_laws.ensures.connect (options_of c.args.self.now) (world_of c.perform_and_keep.new.a c.perform_and_keep.new.b c.perform_and_keep.new.acts.items c.self.inside.failed)
     (returns-in-Ok-clause-agreement g c).is_run
+
+pub returns-in-Ok-clause-sound : goal.returns-in-Ok-clause-sound
+returns-in-Ok-clause-sound g c =
+    subst (λ (w : WorldView g.row.R.Denot). BothSound w) c.self.view_is
+    (both_sound c.sockets_stay_sound.ensures (options_of (world_of c.self.inside.a c.self.inside.b c.self.inside.acts.items c.self.inside.failed))
+    (world_of c.self.inside.a c.self.inside.b c.self.inside.acts.items c.self.inside.failed) (c.self.invariant c.if-self.false))
 
 pub returns-in-Ok-clause-options : goal.returns-in-Ok-clause-options
 returns-in-Ok-clause-options g c =
