@@ -1,6 +1,7 @@
 mod Aborting
 mod ActMoves
 mod BegunSends
+pub mod Bursts
 mod Bytes
 mod DataFits
 mod Deliver
@@ -19,6 +20,7 @@ mod IdleTurns
 mod Moves
 mod PacketMoves
 mod PlainFits
+mod Quiet
 mod RequestAgain
 mod Resets
 mod RestoreTurns

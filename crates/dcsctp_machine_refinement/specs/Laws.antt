@@ -1,8 +1,9 @@
 -- All that holds of the sockets of a run.
+use Rattle.dcsctp_machine.specs.Laws.{FlushKeepsLimits}
 use Rattle.dcsctp_machine_refinement.specs.Agreement.{SocketsAgree}
 use Rattle.dcsctp_machine_refinement.specs.Deadlines.{SocketsRunT1}
 use Rattle.dcsctp_machine_refinement.specs.Handshake.{FittingSocketsConnect}
-use Rattle.dcsctp_machine_refinement.specs.OneSocket.{SocketEffectsInPlace, SocketRequestsEndByAnswers, SocketsTellEnds, SocketsKeepSizes}
+use Rattle.dcsctp_machine_refinement.specs.OneSocket.{SocketEffectsInPlace, SocketRequestsEndByAnswers, SocketsTellEnds, SocketsKeepSizes, SocketsKeepBursts, SocketsWaitQuietly}
 
 pub record SocketLaws : Type 0 where
   pub agree : SocketsAgree
@@ -12,3 +13,7 @@ pub record SocketLaws : Type 0 where
   pub ends : SocketsTellEnds
   pub t1 : SocketsRunT1
   pub sizes : SocketsKeepSizes
+  pub bursts : SocketsKeepBursts
+  -- of each flush, also of one behind a chunk
+  pub flushes : FlushKeepsLimits
+  pub quiet : SocketsWaitQuietly

@@ -1,6 +1,6 @@
 -- What holds of one socket of a run, whatever bytes it is handed. It is about the numbers of requests, by what they end, how its
--- ends are reported, and how long its packets are.
-use Rattle.std.specs.Prelude.{◌≡◌, ◌≢◌, ◌≤◌, ℕ, suc, List, [], ◌∷◌, length}
+-- ends are reported, how long its packets are and how many a flush sends, and what time does.
+use Rattle.std.specs.Prelude.{◌≡◌, ◌≢◌, ◌≤◌, ◌<◌, ℕ, suc, List, [], ◌∷◌, length}
 use Rattle.std.specs.List.{AllByRecursion}
 use Rattle.dcsctp_wire.specs.declared.reconfiguration.ReconfigurationResponseResult.{ReconfigurationResponseResult}
 use Rattle.dcsctp_machine.specs.declared.association.Pair.{Pair}
@@ -8,14 +8,18 @@ use Rattle.dcsctp_machine.specs.declared.options.Options.{Options}
 use Rattle.dcsctp_machine.specs.declared.schedule.Side.{Side}
 use Rattle.dcsctp_machine.specs.Settings.{packet_size_limit, IsValid}
 use Rattle.dcsctp_machine.specs.control.Effect.{completes, fails}
-use Rattle.dcsctp_machine.specs.Event.{Event, closed, aborted}
+use Rattle.dcsctp_machine.specs.Event.{Event, closed, aborted, packets_in}
 use Rattle.dcsctp_machine.specs.Packet.{Emission}
 use Rattle.dcsctp_machine.specs.Endpoint.{Endpoint, fresh_endpoint}
 use Rattle.dcsctp_machine.specs.Endpoint as machine
-use Rattle.dcsctp_machine.specs.Turn.{Input, chunk_input}
+use Rattle.dcsctp_machine.specs.Turn.{Input, chunk_input, packet_ends, act_input, user_sends, user_resets}
 use Rattle.dcsctp_machine.specs.CallTurns.{Turned, AlongTurns}
+use Rattle.dcsctp_machine.specs.Schedule.{call_step, advance_call, ActContent, step_act}
+use Rattle.dcsctp_machine.specs.TimeTurns.{Waits, MoveClock}
+use Rattle.dcsctp_machine.specs.control.Acts.{flushes}
+use Rattle.dcsctp_machine.specs.turns.FlushOutcomes.{packets_allowed}
 use Rattle.dcsctp_machine.specs.Past.{Has, Each, InPlace}
-use Rattle.dcsctp_machine.specs.Sockets.{Worked, Both, of_side, turns_after, packets_shown, SocketRun}
+use Rattle.dcsctp_machine.specs.Sockets.{Worked, Both, of_side, turns_after, endpoint_after, packets_shown, side_of_act, SocketRun}
 use Rattle.dcsctp_machine_agreement.specs.OneSide.{IsSuccess, IsRefusal, HasResponse, parameters_in}
 use Rattle.dcsctp_machine_refinement.specs.Agreement.{AreUsable, noted_past}
 
@@ -72,3 +76,43 @@ abbrev pub SocketsKeepSizes : Type 0
 SocketsKeepSizes =
     (options : Both Options) (run : List Worked) → SocketRun options run → (side : Side) → IsValid (of_side side options)
     → AllByRecursion (IsWithinLimit (of_side side options)) (packets_shown (of_side side options) (of_side side (turns_after run)))
+
+-- ---- flushes
+
+-- At most as many packets as `max_burst` allows: none if it is 0 or below, and one while the COOKIE ECHO isn't answered.
+abbrev pub IsWithinBurst : Endpoint → List (Event Emission) → Type 0
+IsWithinBurst e events = length (packets_in events) ≤ packets_allowed e.options.max_burst e.core
+
+-- A turn that sends by a flush alone keeps within it: what the user sends and resets, the end of a packet, and the end of what time
+-- brings. Of the flush behind a chunk `FlushKeepsLimits` says it.
+abbrev pub KeepsBurst : Endpoint → Input → List (Event Emission) → Type 0
+KeepsBurst e (act_input flushes) events = IsWithinBurst e events
+KeepsBurst e (user_sends messages) events = IsWithinBurst e events
+KeepsBurst e (user_resets ids) events = IsWithinBurst e events
+KeepsBurst e packet_ends events = IsWithinBurst e events
+KeepsBurst e input events = Unit {0}
+
+abbrev pub TurnKeepsBurst : Endpoint → Turned → Type 0
+TurnKeepsBurst e turn = KeepsBurst e turn.input turn.outcome.events
+
+abbrev pub SocketsKeepBursts : Type 0
+SocketsKeepBursts =
+    (options : Both Options) (run : List Worked) → SocketRun options run → (side : Side)
+    → AlongTurns TurnKeepsBurst (fresh_endpoint (of_side side options)) (of_side side (turns_after run))
+
+-- ---- time
+
+-- The user moves the time. Before the next deadline only the clock moves, but in CookieEchoed. An earlier moment changes nothing.
+abbrev pub IsQuiet : Endpoint → ActContent → List Turned → Type 0
+IsQuiet e (step_act (call_step side (advance_call moment))) turns = (Waits e moment → MoveClock e moment turns) × (moment < e.moment → turns ≡ [])
+IsQuiet e act turns = Unit {0}
+
+-- each act of a run, from what the acts before it left
+abbrev pub TimeIsQuiet : Both Options → List Worked → Type 0
+TimeIsQuiet options [] = Unit {0}
+TimeIsQuiet options (worked ∷ earlier) =
+    IsQuiet (endpoint_after (of_side (side_of_act worked.act) options) (of_side (side_of_act worked.act) (turns_after earlier))) worked.act worked.turns
+    × TimeIsQuiet options earlier
+
+abbrev pub SocketsWaitQuietly : Type 0
+SocketsWaitQuietly = (options : Both Options) (run : List Worked) → SocketRun options run → TimeIsQuiet options run

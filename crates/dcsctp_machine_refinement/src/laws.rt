@@ -4,11 +4,12 @@ ghost use Rattle.dcsctp_machine_refinement.specs.Agreement.{SocketsAgree};
 ghost use Rattle.dcsctp_machine_refinement.specs.Deadlines.{SocketsRunT1};
 ghost use Rattle.dcsctp_machine_refinement.specs.Handshake.{FittingSocketsConnect};
 ghost use Rattle.dcsctp_machine_refinement.specs.Laws.{SocketLaws};
-ghost use Rattle.dcsctp_machine_refinement.specs.OneSocket.{SocketEffectsInPlace, SocketRequestsEndByAnswers, SocketsTellEnds, SocketsKeepSizes};
+ghost use Rattle.dcsctp_machine_refinement.specs.OneSocket.{SocketEffectsInPlace, SocketRequestsEndByAnswers, SocketsTellEnds, SocketsKeepSizes, SocketsKeepBursts, SocketsWaitQuietly};
 
 use dcsctp_machine::{
     acts_are_controlled, admitted_packets_may_be_worked, answer_keeps_agreement,
-    chunks_are_controlled, cookie_reads_back, offer_reads_back, packets_are_controlled,
+    chunks_are_controlled, cookie_reads_back, flush_keeps_limits, offer_reads_back,
+    packets_are_controlled, time_passes_quietly,
 };
 use dcsctp_machine_agreement::{
     answers_end_requests, effects_in_place, effects_mean, ends_once, sides_agree,
@@ -84,7 +85,21 @@ pub fn sockets_keep_sizes()
     ensures { SocketsKeepSizes }
 {}
 
-/// All that holds of the sockets of a run: the theorems above.
+/// No flush that a socket of a run makes by itself sends more packets than `max_burst` allows: none if that
+/// is 0 or below, and one while its COOKIE ECHO isn't answered (RFC 9260, sections 5.1 and 6.1).
+pub fn sockets_keep_bursts()
+    ensures { SocketsKeepBursts }
+{}
+
+/// Time that passes before a socket's next deadline only moves its clock, except while it awaits a COOKIE ACK.
+/// An earlier moment changes nothing.
+pub fn sockets_wait_quietly()
+    ensures { SocketsWaitQuietly }
+{
+    time_passes_quietly();
+}
+
+/// All that holds of the sockets of a run: the theorems above, and that each flush keeps its limits.
 pub fn socket_laws()
     ensures { SocketLaws }
 {
@@ -95,4 +110,7 @@ pub fn socket_laws()
     sockets_tell_ends();
     sockets_run_t1();
     sockets_keep_sizes();
+    sockets_keep_bursts();
+    flush_keeps_limits();
+    sockets_wait_quietly();
 }

@@ -12,6 +12,7 @@ use Rattle.dcsctp_api.specs.declared.events.SocketEvent.{SocketEvent}
 use Rattle.dcsctp_api.specs.declared.events.SocketEvent.TheVariants.{SendPacket}
 use Rattle.dcsctp_api.specs.Events.{event_content}
 use Rattle.dcsctp_api.specs.Calls.{UserView, PollsEvent}
+use Rattle.dcsctp_machine_refinement.proofs.Bursts.{packets_in-append}
 use Rattle.dcsctp_world.specs.Growth.{Extends, AddsFront, Kept, with_events, KeptFront}
 use Rattle.dcsctp_world.specs.Parts.{packet_bytes, kept}
 
@@ -48,13 +49,6 @@ front_behind whole first all rest old mid new is before next =
       front = is ∙ ap (λ l. first ++ (l ++ rest)) next.front ∙ ap (λ l. first ++ l) (append_assoc next.added next.rest rest)
           ∙ sym (append_assoc first next.added (next.rest ++ rest));
     }
-
--- ---- packets among events
-
-pub packets_in-append : {P : Type 0} (xs ys : List (Event P)) → packets_in (xs ++ ys) ≡ packets_in xs ++ packets_in ys
-packets_in-append [] ys = refl
-packets_in-append (sent packet ∷ xs) ys = ap (λ l. packet ∷ l) (packets_in-append xs ys)
-packets_in-append (event ∷ xs) ys = packets_in-append xs ys
 
 -- ---- events that are kept
 

@@ -26,7 +26,7 @@ use Rattle.dcsctp_machine_refinement.specs.Agreement.{IsUsable}
 use Rattle.dcsctp_world.specs.Run.{SideRuns, IsRun}
 use Rattle.dcsctp_world.specs.Acts.{with_associations, Applied}
 use Rattle.dcsctp_world.specs.Parts.{shown, world_of}
-use Rattle.dcsctp_world.proofs.Keeping.{packets_in-append}
+use Rattle.dcsctp_machine_refinement.proofs.Bursts.{packets_in-append}
 
 -- what holds of each side
 pub by_side : (P : Side → Type 0) → P sides.A → P sides.B → (side : Side) → P side
