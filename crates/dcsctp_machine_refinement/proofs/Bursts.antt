@@ -1,5 +1,5 @@
 -- A turn that sends by a flush alone sends no more packets than the flush may.
-use Rattle.std.proofs.Common.{◌≡◌, ◌≤◌, ℕ, suc, Bool, true, false, Option, None, Some, List, [], ◌∷◌, ◌++◌, map, length, refl, sym, subst, ap, ◌∙◌, arith, append_assoc}
+use Rattle.std.proofs.Common.{◌≡◌, ◌≤◌, ℕ, suc, Bool, true, false, Option, None, Some, List, [], ◌∷◌, ◌++◌, map, length, refl, sym, subst, ap, ◌∙◌, arith, append_assoc, append-nil}
 use Rattle.dcsctp_machine.specs.declared.association.Held.{Held}
 use Rattle.dcsctp_machine.specs.Event.{Event, sent, packets_in}
 use Rattle.dcsctp_machine.specs.Packet.{Content, Emission}
@@ -7,7 +7,7 @@ use Rattle.dcsctp_machine.specs.Endpoint.{Endpoint, held_in}
 use Rattle.dcsctp_machine.specs.Outcome.{Outcome}
 use Rattle.dcsctp_machine.specs.CallTurns.{Turned, IsTurn}
 use Rattle.dcsctp_machine.specs.Turn.{Input, arrival, refusal, packet_begins, chunk_input, packet_ends, act_input, user_sets, user_sends, user_resets, user_takes, timer_expires, time_passes, restores}
-use Rattle.dcsctp_machine.specs.control.Acts.{Act, connect, t1_expires, shut_down, step_of_shutdown, shutdown_repeats, abort_with, hands_over, flushes, request_again}
+use Rattle.dcsctp_machine.specs.control.Acts.{connect, t1_expires, shut_down, step_of_shutdown, shutdown_repeats, abort_with, hands_over, flushes, request_again}
 use Rattle.dcsctp_machine.specs.transfer.OwnResets.{prepared_all, prepare_all_events}
 use Rattle.dcsctp_machine.specs.transfer.Tracker.{TrackerState, after_packet_end, is_acknowledgement_due}
 use Rattle.dcsctp_machine.specs.transfer.Transfer.{Transfer}
@@ -86,13 +86,13 @@ end_counts e (Some transfer) o turn =
 -- ---- what the user sends
 
 -- A message that waits or is refused is no packet.
-refusal_none : (refusal : MessageRefusal) (name : Option ℕ) → packets_in (refusal_events refusal name) ≡ []
-refusal_none refusal None = refl
-refusal_none refusal (Some id) = refl
+refusal_none : (why : MessageRefusal) (name : Option ℕ) → packets_in (refusal_events why name) ≡ []
+refusal_none why None = refl
+refusal_none why (Some id) = refl
 
-one_none : (e : Endpoint) (message : Sending) (refusal : Option MessageRefusal) → packets_in (queue_by e message refusal).events ≡ []
+one_none : (e : Endpoint) (message : Sending) (why : Option MessageRefusal) → packets_in (queue_by e message why).events ≡ []
 one_none e message None = refl
-one_none e message (Some refusal) = refusal_none refusal (name_of message)
+one_none e message (Some why) = refusal_none why (name_of message)
 
 queue_none : (e : Endpoint) (messages : List Sending) → packets_in (queue_all e messages).events ≡ []
 queue_none e [] = refl
@@ -103,12 +103,12 @@ queue_none e (message ∷ messages) =
     ∙ queue_none one.after messages
 
 -- It leaves how many are allowed.
-allowed_at : Endpoint → ℕ
+abbrev allowed_at : Endpoint → ℕ
 allowed_at e = packets_allowed e.options.max_burst e.core
 
-one_allowed : (e : Endpoint) (message : Sending) (refusal : Option MessageRefusal) → allowed_at (queue_by e message refusal).after ≡ allowed_at e
+one_allowed : (e : Endpoint) (message : Sending) (why : Option MessageRefusal) → allowed_at (queue_by e message why).after ≡ allowed_at e
 one_allowed e message None = refl
-one_allowed e message (Some refusal) = refl
+one_allowed e message (Some why) = refl
 
 queue_allowed : (e : Endpoint) (messages : List Sending) → allowed_at (queue_all e messages).after ≡ allowed_at e
 queue_allowed e [] = refl
@@ -133,13 +133,13 @@ send_counts e messages o turn =
 
 -- ---- what the user resets
 
-resets_where_counts : (refusal : Option ResetRefusal) (e : Endpoint) (ids : List ℕ) (o : Outcome) → OwnResetsWhere refusal e ids o → Within e o
+resets_where_counts : (why : Option ResetRefusal) (e : Endpoint) (ids : List ℕ) (o : Outcome) → OwnResetsWhere why e ids o → Within e o
 resets_where_counts None e ids o turn =
     let told = told_prepared ids e.below.queue in
     let none : packets_in (prepare_all_events ids e.below.queue) ≡ [] =
-    ap packets_in told.is ∙ ap packets_in (sym (append_nil (map told_event told.told))) ∙ told_none told.told [] in
+    ap packets_in told.is ∙ ap packets_in (sym (append-nil (map told_event told.told))) ∙ told_none told.told [] in
     subst (Within e) (sym turn.is) (behind_none e (prepare_all_events ids e.below.queue) turn.flushed.events none (flush_turn_counts (with_queue e (prepared_all ids e.below.queue)) turn.flushed turn.flushes))
-resets_where_counts (Some refusal) e ids o turn = subst (Within e) (sym turn) (omega arith)
+resets_where_counts (Some why) e ids o turn = subst (Within e) (sym turn) (omega arith)
 
 -- ---- every turn
 

@@ -1,5 +1,5 @@
 -- Time before the next deadline moves the clock alone, in every run.
-use Rattle.std.proofs.Common.{◌≡◌, ◌<◌, ℕ, Bool, true, false, List, [], ◌∷◌, refl, subst, arith}
+use Rattle.std.proofs.Common.{◌≡◌, ◌<◌, ℕ, Bool, true, false, List, [], ◌∷◌, refl, arith}
 use Rattle.std.specs.Prelude.{nat_le}
 use Rattle.std.proofs.lemmas.Bool.Decides.{nat_tests}
 use Rattle.dcsctp_machine.specs.CallTurns.{Turned}
@@ -30,7 +30,8 @@ act_is_quiet law e packets (outside_act outside) turns are = tt
 
 pub sockets_wait_quietly : TimePassesQuietly → SocketsWaitQuietly
 sockets_wait_quietly law options [] runs = tt
-sockets_wait_quietly law options (worked ∷ earlier) runs =
-    (act_is_quiet law (endpoint_after (of_side (side_of_act worked.act) options) (of_side (side_of_act worked.act) (turns_after earlier)))
-    (packets_shown (of_other (side_of_act worked.act) options) (of_other (side_of_act worked.act) (turns_after earlier))) worked.act worked.turns runs.0,
-    sockets_wait_quietly law options earlier runs.1)
+sockets_wait_quietly law options (worked ∷ earlier) runs = (
+  act_is_quiet law (endpoint_after (of_side (side_of_act worked.act) options) (of_side (side_of_act worked.act) (turns_after earlier)))
+      (packets_shown (of_other (side_of_act worked.act) options) (of_other (side_of_act worked.act) (turns_after earlier))) worked.act worked.turns runs.0,
+  sockets_wait_quietly law options earlier runs.1,
+)
