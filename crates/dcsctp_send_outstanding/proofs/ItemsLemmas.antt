@@ -14,8 +14,10 @@ use Rattle.dcsctp_send_outstanding.specs.declared.totals.Totals.{Totals}
 use Rattle.dcsctp_machine.specs.transfer.Progress.{is_in_flight, is_marked, is_unacknowledged, changed}
 use Rattle.dcsctp_send_outstanding.specs.Outstanding.{cursor_after, IsSummed, NoneMarkedBetween, IsKept}
 use Rattle.dcsctp_machine.specs.transfer.NextItem.{NoneMarkedBefore}
+use Rattle.dcsctp_machine.specs.Soundness.{HasBytes}
 use Rattle.dcsctp_send_outstanding.specs.NamedPlaces.{AreSettled}
 use Rattle.dcsctp_send_outstanding.specs.Totals.{total_with, total_without, HasRoom}
+use Rattle.dcsctp_send_outstanding.proofs.BytesLemmas.{bytes_set, bytes_pushed}
 use Rattle.dcsctp_machine.specs.transfer.Outstanding.{OutstandingState, header_of, reported}
 
 -- a sum of terms that have a bound
@@ -114,13 +116,14 @@ changed_is change place items item progress within is e =
     rw (add-one, e) (sym (changed_one change place items item within is))
 
 -- what is kept of the items, with one replaced
-pub kept_replaced : (is_interleaved : Bool) (cursor : ℕ) (items : List Item) (totals : Totals) (named : NamedPlaces) (place : ℕ) (item new : Item) (size : ℕ) (less more : Totals) (is_now_marked : Bool) (cursor' : ℕ) (named' : NamedPlaces) → IsKept is_interleaved cursor items totals named → place < length items → item ≡ get_or items place item → size ≡ size_of (header_of is_interleaved) item → size_of (header_of is_interleaved) item ≡ size_of (header_of is_interleaved) new → less ≡ total_without item.progress size totals → more ≡ total_with new.progress size less → is_now_marked ≡ is_marked new.progress.state → cursor' ≡ cursor_after is_now_marked place cursor → AreSettled named' (set items place new) → IsKept is_interleaved cursor' (set items place new) more named'
-kept_replaced is_interleaved cursor items totals named place item new size less more is_now_marked cursor' named' kept within is sized same is_less is_more marks moves settled =
+pub kept_replaced : (is_interleaved : Bool) (cursor : ℕ) (items : List Item) (totals : Totals) (named : NamedPlaces) (place : ℕ) (item new : Item) (size : ℕ) (less more : Totals) (is_now_marked : Bool) (cursor' : ℕ) (named' : NamedPlaces) → IsKept is_interleaved cursor items totals named → place < length items → item ≡ get_or items place item → size ≡ size_of (header_of is_interleaved) item → size_of (header_of is_interleaved) item ≡ size_of (header_of is_interleaved) new → less ≡ total_without item.progress size totals → more ≡ total_with new.progress size less → is_now_marked ≡ is_marked new.progress.state → cursor' ≡ cursor_after is_now_marked place cursor → AreSettled named' (set items place new) → HasBytes new → IsKept is_interleaved cursor' (set items place new) more named'
+kept_replaced is_interleaved cursor items totals named place item new size less more is_now_marked cursor' named' kept within is sized same is_less is_more marks moves settled some =
     record {
       few = let few = kept.few in omega (arith, length-set {A = Item});
       sums = let summed = sums_replaced (header_of is_interleaved) items totals place item new within is same kept.sums in rw (is_more, is_less, sized) (rw (← same) at summed);
       scanned = rw (moves, marks) (scanned_replaced items place cursor new kept.scanned);
       settled = settled;
+      bytes = bytes_set items place new kept.bytes some;
     }
 
 -- a change that ends where it begins, or before
@@ -188,8 +191,8 @@ scanned_pushed items cursor new scanned k item below is =
     go false e below (inr here) = scanned k item below here
 
 -- what is kept of the items, with one more
-pub kept_added : (is_interleaved : Bool) (cursor : ℕ) (items : List Item) (totals : Totals) (named : NamedPlaces) (new : Item) (size : ℕ) (more : Totals) (is_now_marked : Bool) (cursor' : ℕ) → IsKept is_interleaved cursor items totals named → length items + 1 < 2 ^ 31 → size ≡ size_of (header_of is_interleaved) new → more ≡ total_with new.progress size totals → is_now_marked ≡ is_marked new.progress.state → cursor' ≡ cursor_after is_now_marked (length items) cursor → AreSettled named (items ++ new ∷ []) → IsKept is_interleaved cursor' (items ++ new ∷ []) more named
-kept_added is_interleaved cursor items totals named new size more is_now_marked cursor' kept room sized is_more marks moves settled =
+pub kept_added : (is_interleaved : Bool) (cursor : ℕ) (items : List Item) (totals : Totals) (named : NamedPlaces) (new : Item) (size : ℕ) (more : Totals) (is_now_marked : Bool) (cursor' : ℕ) → IsKept is_interleaved cursor items totals named → length items + 1 < 2 ^ 31 → size ≡ size_of (header_of is_interleaved) new → more ≡ total_with new.progress size totals → is_now_marked ≡ is_marked new.progress.state → cursor' ≡ cursor_after is_now_marked (length items) cursor → AreSettled named (items ++ new ∷ []) → HasBytes new → IsKept is_interleaved cursor' (items ++ new ∷ []) more named
+kept_added is_interleaved cursor items totals named new size more is_now_marked cursor' kept room sized is_more marks moves settled some =
     record {
       few = omega (arith, length-append items (new ∷ []));
       sums = rw (is_more, sized) (record {
@@ -201,12 +204,13 @@ kept_added is_interleaved cursor items totals named new size more is_now_marked 
       });
       scanned = rw (moves, marks) (scanned_pushed items cursor new kept.scanned);
       settled = settled;
+      bytes = bytes_pushed items new kept.bytes some;
     }
 
 -- the same, with one that isn't marked
-pub kept_pushed : (is_interleaved : Bool) (cursor : ℕ) (items : List Item) (totals : Totals) (named : NamedPlaces) (new : Item) (size : ℕ) (more : Totals) → IsKept is_interleaved cursor items totals named → length items + 1 < 2 ^ 31 → size ≡ size_of (header_of is_interleaved) new → more ≡ total_with new.progress size totals → is_marked new.progress.state ≡ false → AreSettled named (items ++ new ∷ []) → IsKept is_interleaved cursor (items ++ new ∷ []) more named
-kept_pushed is_interleaved cursor items totals named new size more kept room sized is_more unmarked settled =
-    kept_added is_interleaved cursor items totals named new size more false cursor kept room sized is_more (sym unmarked) refl settled
+pub kept_pushed : (is_interleaved : Bool) (cursor : ℕ) (items : List Item) (totals : Totals) (named : NamedPlaces) (new : Item) (size : ℕ) (more : Totals) → IsKept is_interleaved cursor items totals named → length items + 1 < 2 ^ 31 → size ≡ size_of (header_of is_interleaved) new → more ≡ total_with new.progress size totals → is_marked new.progress.state ≡ false → AreSettled named (items ++ new ∷ []) → HasBytes new → IsKept is_interleaved cursor (items ++ new ∷ []) more named
+kept_pushed is_interleaved cursor items totals named new size more kept room sized is_more unmarked settled some =
+    kept_added is_interleaved cursor items totals named new size more false cursor kept room sized is_more (sym unmarked) refl settled some
 
 -- what is kept of the items, without the first
 pub kept_removed : (is_interleaved : Bool) (cursor : ℕ) (item : Item) (items : List Item) (totals : Totals) (named : NamedPlaces) (size : ℕ) (less : Totals) (named' : NamedPlaces) → IsKept is_interleaved cursor (item ∷ items) totals named → size ≡ size_of (header_of is_interleaved) item → less ≡ total_without item.progress size totals → AreSettled named' items → IsKept is_interleaved (cursor - 1) items less named'
@@ -222,6 +226,7 @@ kept_removed is_interleaved cursor item items totals named size less named' kept
       });
       scanned = λ k x below is. kept.scanned (suc k) x (omega arith) is;
       settled = settled;
+      bytes = kept.bytes.1;
     }
 
 pub le_or_lt : (a b : ℕ) → (a ≤ b) ⊎ (b < a)

@@ -1,3 +1,4 @@
+pub mod BytesLemmas
 pub mod HandoverLemmas
 pub mod ItemsLemmas
 pub mod MessageLemmas

@@ -219,7 +219,7 @@ settled_added old named items start end limit settled row is adds k is_named =
 -- other places are named
 pub kept_with_named : (is_interleaved : Bool) (cursor : ℕ) (items : List Item) (totals : Totals) (old named : NamedPlaces) → IsKept is_interleaved cursor items totals old → AreSettled named items → IsKept is_interleaved cursor items totals named
 kept_with_named is_interleaved cursor items totals old named kept settled =
-    record { few = kept.few; sums = kept.sums; scanned = kept.scanned; settled = settled }
+    record { few = kept.few; sums = kept.sums; scanned = kept.scanned; settled = settled; bytes = kept.bytes }
 
 -- ---- what the blocks name
 

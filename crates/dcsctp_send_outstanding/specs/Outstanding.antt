@@ -1,14 +1,18 @@
 -- What is kept beside the items of consecutive TSNs, and how items come (RFC 9260, section 6.1).
 use Rattle.std.specs.Prelude.{◌≡◌, ◌⊎◌, Result, Ok, Err, ℕ, ◌^◌, ◌<◌, ◌≤◌, min, max, Bool, false, Option, None, Some, List, [], ◌∷◌, ◌++◌, length, slice_get, if◌then◌else◌}
+use Rattle.std.specs.List.{AllByRecursion}
 use Rattle.std.specs.declared.alloc.AllocError.{AllocError}
 use Rattle.dcsctp_machine.specs.transfer.Items.{Item, bytes_in_flight, unacknowledged_bytes, unacknowledged_items, never_acknowledged_items, marked_items}
 use Rattle.dcsctp_send_outstanding.specs.declared.named_places.NamedPlaces.{NamedPlaces}
+use Rattle.dcsctp_machine.specs.declared.progress.Change.{Change}
+use Rattle.dcsctp_machine.specs.declared.progress.Change.TheVariants.{SendAgain, Miss, Mark, Acknowledge, Abandon}
 use Rattle.dcsctp_machine.specs.declared.progress.ItemState.TheVariants.{Abandoned}
 use Rattle.dcsctp_send_outstanding.specs.declared.totals.Totals.{Totals}
 use Rattle.dcsctp_send_outstanding.specs.NamedPlaces.{AreSettled}
 use Rattle.dcsctp_machine.specs.transfer.Outstanding.{OutstandingState, header_of, tsn_at, next_tsn, distance_to, acknowledged_by}
 use Rattle.dcsctp_machine.specs.transfer.Progress.{just_sent, is_marked}
-use Rattle.dcsctp_machine.specs.transfer.NextItem.{NoneMarkedBefore}
+use Rattle.dcsctp_machine.specs.transfer.NextItem.{NoneMarkedBefore, IsMarkedAt}
+use Rattle.dcsctp_machine.specs.Soundness.{HasBytes}
 
 -- The TSN of each item leads to its place.
 abbrev pub FindsPlaces : OutstandingState → Type 0
@@ -36,6 +40,23 @@ pub record IsKept (is_interleaved : Bool) (cursor : ℕ) (items : List Item) (to
   pub sums : IsSummed (header_of is_interleaved) items totals
   pub scanned : NoneMarkedBefore cursor items
   pub settled : AreSettled named items
+  pub bytes : AllByRecursion HasBytes items
+
+-- The change leaves what is abandoned so: it isn't that an item is sent again.
+abbrev pub KeepsAbandoned : Change → Type 0
+KeepsAbandoned (SendAgain next) = ⊥
+KeepsAbandoned (Miss newest) = Unit {0}
+KeepsAbandoned Mark = Unit {0}
+KeepsAbandoned Acknowledge = Unit {0}
+KeepsAbandoned Abandon = Unit {0}
+
+-- Only an item that waits for it is sent again.
+abbrev pub MayChange : Change → ℕ → List Item → Type 0
+MayChange (SendAgain next) place items = IsMarkedAt place items
+MayChange (Miss newest) place items = Unit {0}
+MayChange Mark place items = Unit {0}
+MayChange Acknowledge place items = Unit {0}
+MayChange Abandon place items = Unit {0}
 
 -- the place before which no item is marked, once the state of one was changed
 abbrev pub cursor_after : Bool → ℕ → ℕ → ℕ

@@ -6,7 +6,10 @@ ghost use Rattle.dcsctp_machine.specs.transfer.OutstandingParts.{state_again, fr
 
 use crate::item::Item;
 use dcsctp_api::{PpId, SocketTime, StreamId};
-use dcsctp_machine::{HandoverOutstandingData, ItemState, Progress, millis_ahead, millis_since, moment_at, moment_before};
+use dcsctp_machine::{
+    HandoverOutstandingData, ItemState, Progress, millis_ahead, millis_since, moment_at,
+    moment_before,
+};
 use dcsctp_send_queue::DataToSend;
 use dcsctp_send_streams::{NO_LIMIT, limit_of, name_of};
 use std::alloc::{AllocError, Global};

@@ -60,10 +60,13 @@ impl Model for Outstanding {
 
 impl Outstanding {
     ghost use Rattle.std.specs.Prelude.{◌<◌, ◌-◌, ◌%◌, ◌^◌, ◌↔◌, [], IsTrue, IfSome, IfNone, IfOk, Some, None, length, drop, slice_get};
+    ghost use Rattle.std.specs.List.{AllByRecursion};
+    ghost use Rattle.dcsctp_machine.specs.Soundness.{HasBytes};
+    ghost use Rattle.dcsctp_machine.specs.declared.progress.Change.TheVariants.{SendAgain};
     ghost use Rattle.dcsctp_machine.specs.transfer.Items.{size_of, bytes_in_flight, unacknowledged_bytes, unacknowledged_items, never_acknowledged_items, marked_items, changed_between};
     ghost use Rattle.dcsctp_machine.specs.transfer.Progress.{is_marked};
     ghost use Rattle.dcsctp_machine.specs.transfer.NextItem.{IsNextMarked, HasNone, IsMarkedAt};
-    ghost use Rattle.dcsctp_send_outstanding.specs.Outstanding.{FindsPlaces, TriesNext, NoneMarkedBetween};
+    ghost use Rattle.dcsctp_send_outstanding.specs.Outstanding.{FindsPlaces, KeepsAbandoned, MayChange, TriesNext, NoneMarkedBetween};
     ghost use Rattle.dcsctp_machine.specs.transfer.Outstanding.{header, next_tsn, tsn_at, distance_to};
     ghost use Rattle.dcsctp_send_outstanding.specs.Handing.{TriesItem};
     ghost use Rattle.dcsctp_send_outstanding.specs.NamedPlaces.{IsLeftBetween};
@@ -123,6 +126,7 @@ impl Outstanding {
     pub fn len(&self) -> usize
         ensures value { result ≡ length self.now.items }
         ensures few { result < 2 ^ 31 }
+        ensures bytes { AllByRecursion HasBytes self.now.items }
     {
         self.items.len()
     }
@@ -190,7 +194,8 @@ impl Outstanding {
     // A caller knows which change it is: for an acknowledgement most of the sums then fall away.
     #[inline(always)]
     fn change_at(&mut self, change: Change, place: usize)
-        requires { place < length self.old.items }
+        requires place { place < length self.old.items }
+        requires may { MayChange change place self.old.items }
         ensures { self.new ≡ record self.old { items = changed_between change place (place + 1) self.old.items } }
     {
         let interleaving = self.interleaving;
@@ -208,6 +213,7 @@ impl Outstanding {
     // Makes the change at each place from `start` on and before `end`, as far as there are items.
     #[inline(always)]
     fn change_each(&mut self, change: Change, start: usize, end: usize)
+        requires { KeepsAbandoned change }
         ensures { self.new ≡ record self.old { items = changed_between change start end self.old.items } }
     {
         let limit = end.min(self.len());
@@ -218,7 +224,8 @@ impl Outstanding {
 
     // Makes the change at one place, unless it leaves the item there as it is.
     fn change_one(&mut self, change: Change, place: usize)
-        requires { place < length self.old.items }
+        requires place { place < length self.old.items }
+        requires keeps { KeepsAbandoned change }
         ensures { self.new ≡ record self.old { items = changed_between change place (place + 1) self.old.items } }
     {
         if is_left_by(change, self.item(place).progress) {
@@ -244,6 +251,7 @@ impl Outstanding {
     // The same, past the named places where the change leaves their items as they are. Of these places it looks
     // at those from this row on, and returns the row at which it ends.
     fn change_from(&mut self, change: Change, start: usize, end: usize, row: usize) -> usize
+        requires { KeepsAbandoned change }
         ensures { self.new ≡ record self.old { items = changed_between change start end self.old.items } }
     {
         let limit = end.min(self.len());
@@ -263,9 +271,11 @@ impl Outstanding {
         row
     }
 
-    /// Makes the change from the place `start` to before the place `end`, as far as there are items.
+    /// Makes the change from the place `start` to before the place `end`, as far as there are items. For what
+    /// is sent again there is `send_again`.
     #[inline(always)]
     pub fn change_between(&mut self, change: Change, start: usize, end: usize)
+        requires { KeepsAbandoned change }
         ensures { self.new ≡ record self.old { items = changed_between change start end self.old.items } }
     {
         if self.named.is_empty() {
@@ -273,6 +283,15 @@ impl Outstanding {
         } else {
             let _ = self.change_from(change, start, end, 0);
         }
+    }
+
+    /// Sends the item at the place again, before the TSN that is sent next for the first time.
+    #[inline(always)]
+    pub fn send_again(&mut self, place: usize, next: u32)
+        requires { IsMarkedAt place self.old.items }
+        ensures { self.new ≡ record self.old { items = changed_between (SendAgain next) place (place + 1) self.old.items } }
+    {
+        self.change_at(Change::SendAgain(next), place);
     }
 
     /// The first place with an item that waits to be sent again.

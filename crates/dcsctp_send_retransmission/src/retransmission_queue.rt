@@ -65,7 +65,9 @@ impl Model for RetransmissionQueue {
 
 impl RetransmissionQueue {
     ghost use Rattle.std.specs.Prelude.{true, ◌&&◌, IfNone, ◌+◌, ◌-◌, ◌/◌, ◌%◌, ◌^◌, ◌<◌, ◌≤◌, IfSome, length};
+    ghost use Rattle.std.specs.List.{AllByRecursion};
     ghost use Rattle.std.specs.Duration.{as_nanos};
+    ghost use Rattle.dcsctp_machine.specs.Soundness.{HasBytes};
     ghost use Rattle.dcsctp_machine.specs.transfer.Retransmission.{new_retransmission, outstanding_count, window_left, retransmission_deadline, can_send, timer_with, with_duration, with_reset_begun, counted_again};
     ghost use Rattle.dcsctp_machine.specs.Timers.{expires_at};
     ghost use Rattle.dcsctp_machine.specs.transfer.Readiness.{retransmission_readiness};
@@ -189,9 +191,11 @@ impl RetransmissionQueue {
 
     /// Why what is in flight can't be handed over to another process. `with_outstanding_data`: it goes along.
     pub fn get_handover_readiness(&self, with_outstanding_data: bool) -> HandoverReadiness
-        ensures { result.0 ≡ retransmission_readiness with_outstanding_data self.now }
+        ensures value { result.0 ≡ retransmission_readiness with_outstanding_data self.now }
+        ensures items { AllByRecursion HasBytes self.now.outstanding.items }
     {
-        let flies = !with_outstanding_data && self.outstanding.len() != 0;
+        let items = self.outstanding.len();
+        let flies = !with_outstanding_data && items != 0;
         let lost = !with_outstanding_data && self.outstanding.marked_items() != 0;
         HandoverReadiness::RETRANSMISSION_QUEUE_OUTSTANDING_DATA & flies
             | HandoverReadiness::RETRANSMISSION_QUEUE_FAST_RECOVERY

@@ -12,7 +12,10 @@ use std::collections::VecDeque;
 const MOST_ITEMS: usize = 0x7fff_ffff;
 
 impl Outstanding {
-    ghost use Rattle.std.specs.Prelude.{◌≡◌, ◌+◌, ◌^◌, ◌<◌, [], ◌∷◌, ◌++◌, length, map, IfOk, OnOk, OnErr};
+    ghost use Rattle.std.specs.Prelude.{◌≡◌, ◌+◌, ◌^◌, ◌<◌, true, [], ◌∷◌, ◌++◌, length, map, IfOk, OnOk, OnErr};
+    ghost use Rattle.std.specs.List.{list_all};
+    ghost use Rattle.dcsctp_machine.specs.Snapshot.{has_bytes_or_is_abandoned};
+    ghost use Rattle.dcsctp_machine.specs.Soundness.{HasBytes};
     ghost use Rattle.dcsctp_machine.specs.SnapshotItems.{outstanding_part};
     ghost use Rattle.dcsctp_machine.specs.transfer.OutstandingParts.{outstanding_given, items_again};
 
@@ -43,7 +46,8 @@ impl Outstanding {
 
     // Adds an item behind the others. `Err`: an allocation failed, and nothing has changed.
     fn push(&mut self, item: Item) -> Result<(), AllocError>
-        requires { length self.old.items + 1 < 2 ^ 31 }
+        requires room { length self.old.items + 1 < 2 ^ 31 }
+        requires bytes { HasBytes item }
         ensures ok { OnOk result (self.new ≡ record self.old { items = self.old.items ++ item ∷ [] }) }
         ensures err { OnErr result (self.new ≡ self.old) }
     {
@@ -67,6 +71,7 @@ impl Outstanding {
         first_tsn: u32,
         parts: &[HandoverOutstandingData],
     ) -> Result<(), AllocError>
+        requires { list_all has_bytes_or_is_abandoned (map outstanding_part parts.now) ≡ true }
         ensures { OnOk result (self.new ≡ record self.old { first_tsn = first_tsn; items = items_again now was_reset (map outstanding_part parts.now) }) }
     {
         let alloc = self.alloc;

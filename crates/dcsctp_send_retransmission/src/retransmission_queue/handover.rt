@@ -16,8 +16,9 @@ fn in_32_bits(size: usize) -> u32
 }
 
 impl RetransmissionQueue {
-    ghost use Rattle.std.specs.Prelude.{OnOk, OnErr};
-    ghost use Rattle.dcsctp_machine.specs.Snapshot.{send_part};
+    ghost use Rattle.std.specs.Prelude.{true, OnOk, OnErr};
+    ghost use Rattle.std.specs.List.{list_all};
+    ghost use Rattle.dcsctp_machine.specs.Snapshot.{send_part, has_bytes_or_is_abandoned};
     ghost use Rattle.dcsctp_machine.specs.transfer.OutstandingParts.{with_retransmission, retransmission_restored};
 
     /// Adds what a snapshot that is made at the moment `now` has of it: the next TSN, the last one that was
@@ -58,6 +59,7 @@ impl RetransmissionQueue {
         was_reset: bool,
         tx: &HandoverTransmission,
     ) -> Result<(), AllocError>
+        requires { list_all has_bytes_or_is_abandoned (send_part tx.now).outstanding_data ≡ true }
         ensures { OnOk result (self.new ≡ retransmission_restored now was_reset (send_part tx.now) self.old) }
     {
         let first_tsn = tx.last_cumulative_tsn_ack.wrapping_add(1);

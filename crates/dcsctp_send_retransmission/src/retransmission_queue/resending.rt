@@ -3,7 +3,6 @@
 use super::RetransmissionQueue;
 use crate::packet::Packet;
 use dcsctp_api::{Events, SocketTime};
-use dcsctp_send_outstanding::Change;
 use dcsctp_send_queue::SendQueue;
 use std::alloc::AllocError;
 
@@ -13,7 +12,7 @@ impl RetransmissionQueue {
     ghost use Rattle.dcsctp_api.specs.declared.events.SocketEvent.{SocketEvent};
     ghost use Rattle.dcsctp_machine.specs.transfer.Items.{marked_items};
     ghost use Rattle.dcsctp_machine.specs.transfer.Retransmission.{has_fast_retransmit, timer_with};
-    ghost use Rattle.dcsctp_machine.specs.transfer.NextItem.{IsNextMarked, HaltsAgain, is_due};
+    ghost use Rattle.dcsctp_machine.specs.transfer.NextItem.{IsNextMarked, IsMarkedAt, HaltsAgain, is_due};
     ghost use Rattle.dcsctp_send_retransmission.specs.Halting.{SendsAgain, GoesAgain};
     ghost use Rattle.dcsctp_send_retransmission.specs.States.{TriesAtOnce, stage, Goes, SendsAt};
     ghost use Rattle.dcsctp_machine.specs.transfer.Filling.{SendsMarked, StepAgain};
@@ -66,9 +65,9 @@ impl RetransmissionQueue {
         }
     }
 
-    // Sends the chunk at the place again, if it fits into the packet.
+    // Sends the chunk at the place again, which waits for that, if it fits into the packet.
     fn send_again_at(&mut self, place: usize, packet: &mut Packet) -> Result<bool, AllocError>
-        requires { place < length self.old.outstanding.items }
+        requires { IsMarkedAt place self.old.outstanding.items }
         ensures fills { Fills self.old packet.old self.new packet.new }
         ensures one { IfOk result (λ sent. length packet.new.tsns.items ≡ length packet.old.tsns.items + (if sent then 1 else 0)) }
         ensures again { IfOk result (SendsAgain place self.old.outstanding packet.old.room self.new.outstanding packet.new.room) }
@@ -84,8 +83,7 @@ impl RetransmissionQueue {
         packet.tsns.push(self.outstanding.tsn_at(place))?;
         packet.room -= size;
         let next = self.outstanding.next_tsn();
-        self.outstanding
-            .change_between(Change::SendAgain(next), place, place + 1);
+        self.outstanding.send_again(place, next);
         Ok(true)
     }
 

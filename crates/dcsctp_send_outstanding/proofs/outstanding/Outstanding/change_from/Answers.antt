@@ -22,8 +22,8 @@ loop-place-preserved-then-place-next c =
       omega arith,
     )
 
-pub change_one-requires : goal.change_one-requires
-change_one-requires c =
+pub change_one-requires-clause-place : goal.change_one-requires-clause-place
+change_one-requires-clause-place c =
     let same = ap (λ (m : OutstandingState). length m.items) c.loop-place.invariant.0 in
     let kept = length-changed_between c.args.change c.args.start c.loop-place.place c.args.self.now.items in
     omega (arith, c.loop-place-test.true, c.min-limit.ensures, c.len.ensures.value)

@@ -27,7 +27,7 @@ invariant_of-self-then-branch c =
     let P : Item → Type 0 = λ item. c.add.new.self ≡ total_with item.progress c.size-size.result c.self.inside.totals in
     let added = subst P c.item.view_is c.add.ensures in
     rw (c.push_back_reserved.ensures.items, c.in_ok-reserve.ensures.items)
-    (kept_pushed _ _ _ _ _ _ _ _ c.self.invariant room c.size-size.ensures added (ap (λ (p : Progress). is_marked p.state) (let e = c.end_of_message-item.ensures in e.progress)) (settled_pushed _ _ _ c.self.invariant.settled))
+    (kept_pushed _ _ _ _ _ _ _ _ c.self.invariant room c.size-size.ensures added (ap (λ (p : Progress). is_marked p.state) (let e = c.end_of_message-item.ensures in e.progress)) (settled_pushed _ _ _ c.self.invariant.settled) (inr (ap (λ (p : Progress). p.state) (let e = c.end_of_message-item.ensures in e.progress))))
 
 pub returns-then-branch-clause-may : goal.returns-then-branch-clause-may
 returns-then-branch-clause-may c =

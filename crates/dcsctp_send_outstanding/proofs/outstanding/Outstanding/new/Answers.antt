@@ -9,4 +9,5 @@ invariant_of-result c =
       sums = record { in_flight = refl; bytes = refl; count = refl; never = refl; marked = refl };
       scanned = λ k item below at. absurd (omega arith);
       settled = λ k named. absurd (c.new-2.ensures k named);
+      bytes = tt;
     })

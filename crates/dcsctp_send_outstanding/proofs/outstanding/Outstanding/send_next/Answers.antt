@@ -15,9 +15,10 @@ add-requires c =
 
 pub invariant_of-self-in-Some : goal.invariant_of-self-in-Some
 invariant_of-self-in-Some c =
+    let some = rw c.in-Some.is at c.in_ok-produce.ensures.size in
     let room : length c.self.inside.items.items + 1 < 2 ^ 31 = omega (arith, c.requires.room, ap (λ (m : OutstandingState). length m.items) c.self.view_is) in
     rw (c.push_back_reserved.ensures.items, c.in_ok-reserve.ensures.items)
-    (kept_pushed _ _ _ _ _ _ _ _ c.self.invariant room c.size-size.ensures c.add.ensures (ap (λ (p : Progress). is_marked p.state) c.new.ensures) (settled_pushed _ _ _ c.self.invariant.settled))
+    (kept_pushed _ _ _ _ _ _ _ _ c.self.invariant room c.size-size.ensures c.add.ensures (ap (λ (p : Progress). is_marked p.state) c.new.ensures) (settled_pushed _ _ _ c.self.invariant.settled) (inl some.0))
 
 pub returns-in-Some-clause-tries : goal.returns-in-Some-clause-tries
 returns-in-Some-clause-tries c =

@@ -14,7 +14,7 @@ returns-clause-fills c =
     c.size-size.ensures ∙ ap (λ (b : Bool). size_of (header_of b) c.item-item.result.now) (c.is_interleaving.ensures ∙ ap (λ (q : RetransmissionState). q.outstanding.is_interleaved) c.self.view_is) in
     let after : Packet = record { tsns = c.push.new.self; room = c.args.packet.now.room - c.size-size.result } in
     let stage : RetransmissionState = record {
-      outstanding = c.change_between.new.self;
+      outstanding = c.send_again.new.self;
       congestion = c.self.inside.congestion;
       timer = c.self.inside.timer;
       peer_window = c.self.inside.peer_window;
@@ -25,7 +25,7 @@ returns-clause-fills c =
       bytes_retransmitted = c.self.inside.bytes_retransmitted;
     } in
     let keeps : Keeps c.args.self.now stage =
-    rw (c.change_between.ensures, ← c.self.view_is)
+    rw (c.send_again.ensures, ← c.self.view_is)
     (keeps_with _ _ (fragments_changed (SendAgain c.next_tsn-next.result) c.args.place (c.args.place + 1) c.self.inside.outstanding.items)) in
     record {
       keeps = keeps;
