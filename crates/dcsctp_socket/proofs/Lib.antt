@@ -1,1 +1,2 @@
 mod AnsweredCalls
+mod SoundCalls

@@ -10,7 +10,7 @@ use dcsctp_api::{
 };
 use dcsctp_core::Context;
 use dcsctp_core_decisions::poll_timeout;
-use dcsctp_machine::time_passes_quietly;
+use dcsctp_machine::{calls_keep_soundness, time_passes_quietly};
 use rand_core::Rng;
 use std::alloc::{AllocError, Global};
 use std::marker::Model;
@@ -161,6 +161,7 @@ impl<R: Rng + Drop> DcSctpSocket for Socket<R> {
         if self.failed {
             return Err(SocketFault::Failed);
         }
+        calls_keep_soundness();
         let outcome = dcsctp_socket_calls::handle_input(&mut self.context, packet);
         settled(&mut self.failed, outcome)
     }
@@ -178,6 +179,7 @@ impl<R: Rng + Drop> DcSctpSocket for Socket<R> {
         if self.failed {
             return Err(SocketFault::Failed);
         }
+        calls_keep_soundness();
         let outcome = dcsctp_socket_calls::connect(&mut self.context);
         settled(&mut self.failed, outcome)
     }
@@ -195,6 +197,7 @@ impl<R: Rng + Drop> DcSctpSocket for Socket<R> {
         if self.failed {
             return Err(SocketFault::Failed);
         }
+        calls_keep_soundness();
         let outcome = dcsctp_socket_calls::close(&mut self.context);
         settled(&mut self.failed, outcome)
     }
@@ -212,6 +215,7 @@ impl<R: Rng + Drop> DcSctpSocket for Socket<R> {
         if self.failed {
             return Err(SocketFault::Failed);
         }
+        calls_keep_soundness();
         let outcome = dcsctp_socket_calls::shutdown(&mut self.context);
         settled(&mut self.failed, outcome)
     }
@@ -230,6 +234,7 @@ impl<R: Rng + Drop> DcSctpSocket for Socket<R> {
         if self.failed {
             return Err(SocketFault::Failed);
         }
+        calls_keep_soundness();
         time_passes_quietly();
         let outcome = dcsctp_socket_calls::advance_time(&mut self.context, now);
         settled(&mut self.failed, outcome)
@@ -256,6 +261,7 @@ impl<R: Rng + Drop> DcSctpSocket for Socket<R> {
         if self.failed {
             return Err(SocketFault::Failed);
         }
+        calls_keep_soundness();
         let outcome = dcsctp_socket_calls::send(&mut self.context, message, options);
         settled(&mut self.failed, outcome)
     }
@@ -275,6 +281,7 @@ impl<R: Rng + Drop> DcSctpSocket for Socket<R> {
         if self.failed {
             return Err(SocketFault::Failed);
         }
+        calls_keep_soundness();
         let outcome = dcsctp_socket_calls::send_many(&mut self.context, messages, options);
         settled(&mut self.failed, outcome)
     }
@@ -293,6 +300,7 @@ impl<R: Rng + Drop> DcSctpSocket for Socket<R> {
         if self.failed {
             return Err(SocketFault::Failed);
         }
+        calls_keep_soundness();
         let outcome = dcsctp_socket_calls::reset_streams(&mut self.context, stream_ids);
         settled(&mut self.failed, outcome)
     }
@@ -302,6 +310,7 @@ impl<R: Rng + Drop> DcSctpSocket for Socket<R> {
         ensures generator { self.new.view.generator ≡ self.old.view.generator }
         ensures failed { self.new.failed ≡ self.old.failed }
     {
+        calls_keep_soundness();
         dcsctp_socket_calls::get_next_message(&mut self.context)
     }
 
@@ -335,6 +344,7 @@ impl<R: Rng + Drop> DcSctpSocket for Socket<R> {
         if self.failed {
             return Err(SocketFault::Failed);
         }
+        calls_keep_soundness();
         let outcome = dcsctp_socket_calls::get_handover_state_and_close(&mut self.context);
         settled(&mut self.failed, outcome)
     }
@@ -356,6 +366,7 @@ impl<R: Rng + Drop> DcSctpSocket for Socket<R> {
         if self.failed {
             return Err(SocketFault::Failed);
         }
+        calls_keep_soundness();
         let outcome = dcsctp_socket_calls::restore_from_state(&mut self.context, state);
         settled(&mut self.failed, outcome)
     }
@@ -372,6 +383,7 @@ impl<R: Rng + Drop> DcSctpSocket for Socket<R> {
         ensures call { user_view_of self.new ≡ with_setting (longest_message max_message_size) (user_view_of self.old) }
         ensures generator { self.new.view.generator ≡ self.old.view.generator }
     {
+        calls_keep_soundness();
         dcsctp_socket_calls::set_max_message_size(&mut self.context, max_message_size);
     }
 
@@ -384,6 +396,7 @@ impl<R: Rng + Drop> DcSctpSocket for Socket<R> {
         if self.failed {
             return Err(SocketFault::Failed);
         }
+        calls_keep_soundness();
         let outcome = dcsctp_socket_calls::set_stream_priority(
             &mut self.context,
             stream_id,
@@ -419,6 +432,7 @@ impl<R: Rng + Drop> DcSctpSocket for Socket<R> {
         if self.failed {
             return Err(SocketFault::Failed);
         }
+        calls_keep_soundness();
         let outcome = dcsctp_socket_calls::set_buffered_amount_low_threshold(
             &mut self.context,
             stream_id,
