@@ -166,6 +166,20 @@ impl<R: Rng> Context<R> {
         Ok(())
     }
 
+    /// The words of the present call, or of the last one. Allocates nothing.
+    pub fn drawn_words(&self) -> &[Word]
+        ensures { result.now ≡ (view_of self.now).words }
+    {
+        &self.words
+    }
+
+    /// The generator, as it is now. Allocates nothing.
+    pub fn generator(&self) -> &R
+        ensures { result.now ≡ (view_of self.now).generator }
+    {
+        &self.generator
+    }
+
     /// The pairs of the present call, or of the last one. Allocates nothing.
     pub fn drawn_pairs(&self) -> &[Pair]
         ensures { result.now ≡ (view_of self.now).pairs }

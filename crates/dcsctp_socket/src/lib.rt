@@ -44,7 +44,7 @@ pub use dcsctp_api::{
     Association, BatchSendError, Capabilities, DcSctpSocket, ErrorKind, Events, HandoverError,
     HandoverReadiness, Held, LifecycleId, Message, Metrics, Options, Pair, Phase, PpId,
     ReconfigurationResponseResult, ResetStreamsError, RestoreError, SctpImplementation, SendError,
-    SendOptions, SocketEvent, SocketFault, SocketState, SocketTime, StateCookie, StreamId,
+    SendOptions, SocketEvent, SocketFault, SocketState, SocketTime, StateCookie, StreamId, Word,
     ZERO_CHECKSUM_ALTERNATE_ERROR_DETECTION_METHOD_LOWER_LAYER_DTLS,
     ZERO_CHECKSUM_ALTERNATE_ERROR_DETECTION_METHOD_NONE, ZeroChecksumAlternateErrorDetectionMethod,
 };

@@ -6,7 +6,7 @@ use dcsctp_api::handover::SocketHandoverState;
 use dcsctp_api::{
     Association, BatchSendError, DcSctpSocket, HandoverError, HandoverReadiness, Message, Metrics,
     Options, Pair, ResetStreamsError, RestoreError, SendError, SendOptions, SocketEvent,
-    SocketFault, SocketState, SocketTime, StreamId,
+    SocketFault, SocketState, SocketTime, StreamId, Word,
 };
 use dcsctp_core::Context;
 use dcsctp_core_decisions::poll_timeout;
@@ -113,6 +113,21 @@ impl<R: Rng + Drop> Socket<R> {
         ensures { result.now ≡ self.now.view.pairs }
     {
         self.context.drawn_pairs()
+    }
+
+    /// The random words that the last call of this socket drew, in order: those that its pairs and tie tags
+    /// were made of. Allocates nothing.
+    pub fn drawn_words(&self) -> &[Word]
+        ensures { result.now ≡ self.now.view.words }
+    {
+        self.context.drawn_words()
+    }
+
+    /// The generator, as it is now. Allocates nothing.
+    pub fn generator(&self) -> &R
+        ensures { result.now ≡ self.now.view.generator }
+    {
+        self.context.generator()
     }
 
     /// Did an allocation fail in an earlier call? Allocates nothing.

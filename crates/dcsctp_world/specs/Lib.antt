@@ -3,6 +3,7 @@ pub mod Agreement
 pub mod Growth
 pub mod Outside
 pub mod Parts
+pub mod Recording
 pub mod Returning
 pub mod Run
 pub mod Shown

@@ -8,10 +8,12 @@
 #![tactic(auto)]
 
 mod act;
+mod recorded;
 mod watched_socket;
 mod world;
 
 pub use act::Reply;
 pub use dcsctp_machine::{Act, Call, Outside, Side, Step};
 pub use dcsctp_socket as socket;
+pub use recorded::Recorded;
 pub use world::World;

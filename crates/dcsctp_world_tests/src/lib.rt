@@ -1,5 +1,5 @@
-//! Tests of `dcsctp_world` by its public calls: two sockets that find each other, bytes from outside, and sockets
-//! that are handed over.
+//! Tests of `dcsctp_world` by its public calls: two sockets that find each other, the words that they draw, bytes from
+//! outside, and sockets that are handed over.
 //!
 //! A helper asserts and returns no error, and a world is dropped by a call. Otherwise each early end of a
 //! function that owns a world, and each end of a block, would be proved to drop all of it.
@@ -19,5 +19,7 @@ mod messages;
 mod outside;
 #[cfg(test)]
 mod snapshots;
+#[cfg(test)]
+mod words;
 #[cfg(test)]
 mod worlds;
