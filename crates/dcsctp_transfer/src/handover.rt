@@ -2,7 +2,7 @@
 
 ghost use Rattle.std.specs.Prelude.{◌≡◌, true, [], OnOk};
 ghost use Rattle.std.specs.List.{list_all};
-ghost use Rattle.dcsctp_machine.specs.Snapshot.{send_part, received_part, is_valid_queued};
+ghost use Rattle.dcsctp_machine.specs.Snapshot.{send_part, received_part, has_bytes_or_is_abandoned, is_valid_queued};
 ghost use Rattle.dcsctp_machine.specs.transfer.OutstandingParts.{with_retransmission};
 ghost use Rattle.dcsctp_machine.specs.transfer.QueuedParts.{with_queue, queue_restored};
 ghost use Rattle.dcsctp_machine.specs.transfer.ReceivedParts.{with_tracker, with_reassembly};
@@ -73,6 +73,7 @@ impl Transfer {
     ) -> Result<(), AllocError>
         requires tsns { self.old.tracker.ranges ≡ [] }
         requires streams { self.old.reassembly.incoming.streams ≡ [] }
+        requires items { list_all has_bytes_or_is_abandoned (send_part tx.now).outstanding_data ≡ true }
         ensures { OnOk result (RestoresTransfer now was_reset (send_part tx.now) (received_part rx.now) self.old self.new) }
     {
         self.retransmission_queue

@@ -82,7 +82,8 @@ impl QueuedMessages {
 
     /// Why they can't be handed over to another process. `with_outstanding_data`: they go along.
     pub fn get_handover_readiness(&self, with_outstanding_data: bool) -> HandoverReadiness
-        ensures { result.0 ≡ queue_readiness with_outstanding_data self.now }
+        ensures value { result.0 ≡ queue_readiness with_outstanding_data self.now }
+        ensures queue { IsWellFormed self.now }
     {
         self.queue.get_handover_readiness(with_outstanding_data)
     }

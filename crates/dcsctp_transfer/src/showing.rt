@@ -1,7 +1,7 @@
 //! What a user is shown of an association's data, and why it can't be handed over.
 
 ghost use Rattle.std.specs.Prelude.{◌≡◌, ◌<◌};
-ghost use Rattle.dcsctp_machine.specs.transfer.Incoming.{AreInOrder};
+ghost use Rattle.dcsctp_machine.specs.Soundness.{IsSoundTransfer};
 ghost use Rattle.dcsctp_machine.specs.transfer.Readiness.{transfer_readiness};
 ghost use Rattle.dcsctp_api.specs.Metrics.{headers, ShowsTransfer};
 
@@ -47,7 +47,7 @@ impl Transfer {
     /// flight goes along.
     pub fn get_handover_readiness(&self, with_outstanding_data: bool) -> HandoverReadiness
         ensures reasons { result.0 ≡ transfer_readiness with_outstanding_data self.now }
-        ensures streams { AreInOrder self.now.reassembly.incoming.streams }
+        ensures sound { IsSoundTransfer self.now }
     {
         self.retransmission_queue
             .get_handover_readiness(with_outstanding_data)
