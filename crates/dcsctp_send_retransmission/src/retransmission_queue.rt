@@ -193,6 +193,7 @@ impl RetransmissionQueue {
     pub fn get_handover_readiness(&self, with_outstanding_data: bool) -> HandoverReadiness
         ensures value { result.0 ≡ retransmission_readiness with_outstanding_data self.now }
         ensures items { AllByRecursion HasBytes self.now.outstanding.items }
+        ensures few { length self.now.outstanding.items < 2 ^ 31 }
     {
         let items = self.outstanding.len();
         let flies = !with_outstanding_data && items != 0;
