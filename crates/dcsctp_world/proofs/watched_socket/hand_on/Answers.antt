@@ -5,7 +5,8 @@ use Rattle.dcsctp_api.specs.declared.errors.HandoverError.{HandoverError}
 use Rattle.dcsctp_api.specs.Calls.{UserView}
 use Rattle.dcsctp_api.specs.Handover.{HandsOver}
 use Rattle.dcsctp_socket.specs.SocketView.{user_view_of}
-use Rattle.dcsctp_world.proofs.HandingOn.{hands_on, hands_over_alone, hand_over_refused}
+use Rattle.dcsctp_world.proofs.Drawing.{behind_nothing}
+use Rattle.dcsctp_world.proofs.HandingOn.{hands_on, hands_over_alone, hand_over_refused, hand_over_draws_nothing}
 use Rattle.dcsctp_world.proofs.watched_socket.hand_on.Goals as goal
 
 pub returns-then-not-is_valid-clause-call : goal.returns-then-not-is_valid-clause-call
@@ -37,3 +38,11 @@ returns-else-not-is_valid-clause-call g c =
     let options = c.options.ensures in
     let valid : is_valid_snapshot mid.endpoint.options (snapshot c.in-Ok.state) ≡ true = cc in
     hands_on old mid new (snapshot c.in-Ok.state) c.restore.result handed.1 handed.0.0 handed.0.1 handed.2 handed.3 valid c.restore.ensures.call
+
+pub returns-else-not-is_valid-clause-drawn : goal.returns-else-not-is_valid-clause-drawn
+returns-else-not-is_valid-clause-drawn g c =
+    let old : UserView = user_view_of c.args.socket.now in
+    let mid : UserView = user_view_of c.get_handover_state_and_close.new.self in
+    let handed = subst (λ (answer : Result SocketHandoverState HandoverError). HandsOver old (Ok answer) mid) c.in-Ok.is c.in_ok-error.ensures.call in
+    behind_nothing g.R.Rng.stream c.args.socket.now c.get_handover_state_and_close.new.self c.restore.new.socket c.restore.result c.in_ok-error.ensures.drawn
+    (hand_over_draws_nothing old mid handed.1 handed.0.0 handed.2 handed.3) c.restore.ensures.drawn
