@@ -21,3 +21,5 @@ mod run;
 mod side;
 #[cfg(test)]
 mod told;
+#[cfg(test)]
+mod worlds;

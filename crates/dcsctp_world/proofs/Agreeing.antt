@@ -1,6 +1,7 @@
 -- What a world shows is what a run shows: so its sockets agree.
 use Rattle.std.proofs.Common.{◌≡◌, ◌<◌, ℕ, zero, suc, arith, true, false, Result, Ok, Err, IsErrAnd, take, drop, get_or, length, List, [], ◌∷◌, ◌++◌, map, reverse, refl, sym, ap, subst, ◌∙◌}
 use Rattle.std.specs.List.{AllByRecursion}
+use Rattle.rand_core.specs.Stream.{Stream}
 use Rattle.std.proofs.lemmas.List.{map-append, reverse-reverse}
 use Rattle.dcsctp_machine.specs.declared.association.Pair.{Pair}
 use Rattle.dcsctp_machine.specs.declared.options.Options.{Options}
@@ -24,6 +25,7 @@ use Rattle.dcsctp_world.specs.Run.{SideRuns, IsRun}
 use Rattle.dcsctp_api.specs.declared.errors.SocketFault.{SocketFault}
 use Rattle.dcsctp_api.specs.declared.errors.SocketFault.TheVariants.{OutOfMemory, Failed}
 use Rattle.dcsctp_world.specs.Acts.{Applies, Ran, Runs}
+use Rattle.dcsctp_world.specs.Drawing.{DrawOn}
 use Rattle.dcsctp_world.proofs.Honest.{honest_run}
 use Rattle.dcsctp_world.specs.Agreement.{Agrees, ShowsConnected, BothConnected, HandshakeConnects}
 
@@ -101,9 +103,10 @@ split_at (x ∷ xs) zero default within = refl
 split_at (x ∷ xs) (suc i) default within = ap (λ (l : List Step). x ∷ l) (split_at xs i default (omega (arith, within)))
 
 -- the steps before the one that was refused ran
-refused_at : {R : Type 0} → SocketLaws → (steps : List Step) (i : ℕ) (default : Step) (fault : SocketFault) (old now new : WorldView R) → i < length steps
-    → Ran (map step_content (take i steps)) old now → Applies (step_act (step_content (get_or steps i default))) now (Err fault) new → Runs (map step_content steps) old (Err fault) new
-refused_at law steps i default OutOfMemory old now new within ran out =
+refused_at : {R : Type 0} (stream : R → Stream) → SocketLaws → (steps : List Step) (i : ℕ) (default : Step) (fault : SocketFault) (old now new : WorldView R) → i < length steps
+    → Ran (map step_content (take i steps)) old now → DrawOn stream old.sides now.sides → Applies (step_act (step_content (get_or steps i default))) now (Err fault) new
+    → Runs stream (map step_content steps) old (Err fault) new
+refused_at stream law steps i default OutOfMemory old now new within ran drawn out =
     record {
       done = map step_content (take i steps);
       refused = step_content (get_or steps i default);
@@ -114,16 +117,17 @@ refused_at law steps i default OutOfMemory old now new within ran out =
       ran = ran;
       agrees = world_agrees law (options_of old) now ran.is_run;
       connects = handshake_connects law.connect (options_of old) now ran.is_run;
+      drawn = drawn;
       ran_out = out;
     }
-refused_at law steps i default Failed old now new within ran out =
+refused_at stream law steps i default Failed old now new within ran drawn out =
     let goes_on : now.failed ≡ false = ran.goes_on in
     let had_failed : now.failed ≡ true = out.had_failed in
     absurd (cc)
 
-pub ran_out_among : {R : Type 0} → SocketLaws → (steps : List Step) (i : ℕ) (default : Step) (fault : SocketFault) (old now new : WorldView R) → i < length steps
-    → Ran (map step_content (take i steps)) old now → Applies (step_act (step_content (get_or steps i default))) now (Err fault) new
-    → (result : Result (Unit {0}) SocketFault) → IsErrAnd result (λ given. given ≡ fault) → Runs (map step_content steps) old result new
-ran_out_among law steps i default fault old now new within ran out (Ok done) is = absurd is
-ran_out_among law steps i default fault old now new within ran out (Err given) is =
-    subst (λ (f : SocketFault). Runs (map step_content steps) old (Err f) new) (sym is) (refused_at law steps i default fault old now new within ran out)
+pub ran_out_among : {R : Type 0} (stream : R → Stream) → SocketLaws → (steps : List Step) (i : ℕ) (default : Step) (fault : SocketFault) (old now new : WorldView R) → i < length steps
+    → Ran (map step_content (take i steps)) old now → DrawOn stream old.sides now.sides → Applies (step_act (step_content (get_or steps i default))) now (Err fault) new
+    → (result : Result (Unit {0}) SocketFault) → IsErrAnd result (λ given. given ≡ fault) → Runs stream (map step_content steps) old result new
+ran_out_among stream law steps i default fault old now new within ran drawn out (Ok done) is = absurd is
+ran_out_among stream law steps i default fault old now new within ran drawn out (Err given) is =
+    subst (λ (f : SocketFault). Runs stream (map step_content steps) old (Err f) new) (sym is) (refused_at stream law steps i default fault old now new within ran drawn out)

@@ -8,7 +8,7 @@ use Rattle.dcsctp_machine.specs.declared.schedule.Step.{Step}
 use Rattle.dcsctp_machine.specs.Event.{Event, packets_in}
 use Rattle.dcsctp_machine.specs.Settings.{ports_of}
 use Rattle.dcsctp_machine.specs.Endpoint.{association_of}
-use Rattle.dcsctp_machine.specs.CallTurns.{Turned, events_of, pairs_of}
+use Rattle.dcsctp_machine.specs.CallTurns.{Turned, events_of, words_of, pairs_of}
 use Rattle.dcsctp_machine.specs.Sockets.{Both, of_side, of_other, side_of_act, TurnsOfAct}
 use Rattle.dcsctp_api.specs.declared.errors.SocketFault.{SocketFault}
 use Rattle.dcsctp_api.specs.declared.errors.SocketFault.TheVariants.{OutOfMemory, Failed}
@@ -30,13 +30,14 @@ use Rattle.dcsctp_world.proofs.Running.{is_run_next}
 
 pub side_extends_itself : {R : Type 0} (side : SideShown R) → SideExtends side side
 side_extends_itself side =
-    record { events = extends_itself side.events; packets = extends_itself side.packets; pairs = extends_itself side.pairs; associations = extends_itself side.associations }
+    record { events = extends_itself side.events; packets = extends_itself side.packets; words = extends_itself side.words; pairs = extends_itself side.pairs; associations = extends_itself side.associations }
 
 pub side_extends_further : {R : Type 0} (a b c : SideShown R) → SideExtends a b → SideExtends b c → SideExtends a c
 side_extends_further a b c first second =
     record {
       events = extends_further a.events b.events c.events first.events second.events;
       packets = extends_further a.packets b.packets c.packets first.packets second.packets;
+      words = extends_further a.words b.words c.words first.words second.words;
       pairs = extends_further a.pairs b.pairs c.pairs first.pairs second.pairs;
       associations = extends_further a.associations b.associations c.associations first.associations second.associations;
     }
@@ -50,6 +51,7 @@ grows_extends Turns old new grows =
     record {
       events = extends_by told grows.events;
       packets = extends_by (packets_in told) grows.packets;
+      words = extends_by (words_of grows.turns) grows.words;
       pairs = extends_by (pairs_of grows.turns) grows.pairs;
       associations = extends_by [] (grows.associations ∙ sym (append-nil old.associations));
     }
@@ -87,6 +89,7 @@ noted_side_extends {R = R} side new is =
     (record {
       events = extends_itself side.events;
       packets = extends_itself side.packets;
+      words = extends_itself side.words;
       pairs = extends_itself side.pairs;
       associations = extends_by (association_of side.socket.view.endpoint.core ∷ []) refl;
     })
@@ -160,8 +163,8 @@ copy_refused {R = R} act old runs =
       runs = runs;
       fails = refl;
       stops = record {
-        mover = record { turns = []; are = inl refl; shows = shows_nothing [] mover mover refl refl refl refl refl };
-        other = shows_nothing [] other other refl refl refl refl refl;
+        mover = record { turns = []; are = inl refl; shows = shows_nothing [] mover mover refl refl refl refl refl refl };
+        other = shows_nothing [] other other refl refl refl refl refl refl;
         other_socket = refl;
       };
       acts = refl;

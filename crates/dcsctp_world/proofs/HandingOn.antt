@@ -148,6 +148,13 @@ hands_on old mid new state (Ok answer) turns ready same valid are follows made =
 hands_on old mid new state (Err OutOfMemory) turns ready same valid are follows made = follows.runs
 hands_on old mid new state (Err Failed) turns ready same valid are follows made = let runs : mid.failed ≡ false = follows.goes_on in let failed : mid.failed ≡ true = made in absurd (cc)
 
+-- the handover drew no word
+pub hand_over_draws_nothing : (old mid : UserView) (turns : List Turned) → readiness_of old.endpoint ≡ 0 → Turns old.endpoint (inputs_of_handover (readiness_of old.endpoint)) turns
+    → Follows old turns mid → mid.words ≡ []
+hand_over_draws_nothing old mid turns ready are follows =
+    let h : Left old mid = handed_over old mid (readiness_of old.endpoint) turns ready ready are follows in
+    h.follows.words ∙ ap (λ (ws : List Word). ws ++ []) h.words
+
 -- The options stay, so the snapshot is valid where it is restored.
 pub valid_there : (old mid : UserView) (state : Snapshot) (turns : List Turned) → readiness_of old.endpoint ≡ 0 → is_valid_snapshot old.endpoint.options state ≡ true
     → Turns old.endpoint (inputs_of_handover (readiness_of old.endpoint)) turns → Follows old turns mid → is_valid_snapshot mid.endpoint.options state ≡ true

@@ -1,6 +1,7 @@
 mod Agreeing
 mod Applying
 mod ComingBack
+mod Drawing
 mod HandingOn
 mod Honest
 mod Keeping
@@ -8,3 +9,4 @@ mod Running
 mod Setting
 mod Stopping
 mod Taking
+mod Whole

@@ -3,6 +3,7 @@ use Rattle.std.proofs.Common.{◌≡◌, ℕ, false, Option, List, [], ◌∷◌
 use Rattle.std.proofs.lemmas.List.{map-append}
 use Rattle.std.proofs.lemmas.Grind.{reverse_onto}
 use Rattle.dcsctp_machine.specs.declared.association.Pair.{Pair}
+use Rattle.dcsctp_machine.specs.declared.word.Word.{Word}
 use Rattle.dcsctp_machine.specs.declared.association.Association.{Association}
 use Rattle.dcsctp_machine.specs.declared.options.Options.{Options}
 use Rattle.dcsctp_machine.specs.declared.schedule.Side.{Side}
@@ -11,9 +12,9 @@ use Rattle.dcsctp_machine.specs.Event.{Event, event_map, packets_in}
 use Rattle.dcsctp_machine.specs.Packet.{Emission, emission_bytes}
 use Rattle.dcsctp_machine.specs.Settings.{Ports, SameOptions, ports_of}
 use Rattle.dcsctp_machine.specs.Endpoint.{Endpoint, association_of, fresh_endpoint}
-use Rattle.dcsctp_machine.specs.CallTurns.{Turned, after_all, events_of, pairs_of}
+use Rattle.dcsctp_machine.specs.CallTurns.{Turned, after_all, events_of, words_of, pairs_of}
 use Rattle.dcsctp_machine.specs.Sockets.{Both, of_side, of_other, side_of_act, TurnsOfAct, NextTurns, Worked, turns_after, with_turns, endpoint_after, events_shown, packets_shown, acts_of, associations_of}
-use Rattle.dcsctp_machine.proofs.TurnLemmas.{after_all-append, pairs_of-append, events_of-append}
+use Rattle.dcsctp_machine.proofs.TurnLemmas.{after_all-append, words_of-append, pairs_of-append, events_of-append}
 use Rattle.dcsctp_machine.proofs.SocketLemmas.{sockets_keep_options}
 use Rattle.dcsctp_api.specs.Calls.{user_event}
 use Rattle.dcsctp_machine.specs.declared.schedule.Act.{Act}
@@ -39,7 +40,7 @@ reverse-cons x xs = reverse_onto xs x []
 -- ---- a world that was just made
 
 fresh_side_runs : {R : Type 0} (options : Options) (generator : R) → SideRuns options [] (fresh_side options generator)
-fresh_side_runs options generator = record { made_with = refl; goes_on = refl; endpoint = refl; waiting = refl; events = refl; packets = refl; pairs = refl }
+fresh_side_runs options generator = record { made_with = refl; goes_on = refl; endpoint = refl; waiting = refl; events = refl; packets = refl; words = refl; pairs = refl }
 
 fresh_world_runs : {R : Type 0} (options : Both Options) (generators : Both R) → IsUsable options.a → IsUsable options.b → IsRun options (fresh_world options generators)
 fresh_world_runs options generators a b =
@@ -98,6 +99,7 @@ side_grows options turns Turns old new grows kept h =
       packets = grows.packets ∙ ap (λ (l : List (List ℕ)). l ++ packets_in (map (user_event (ports_of old.socket.view.endpoint.options)) (events_of os))) h.packets
           ∙ ap (λ (l : List (Event (List ℕ))). packets_shown options turns ++ packets_in l) told
           ∙ sym (packets_in-append (events_shown options turns) (events_shown options os)) ∙ ap packets_in (sym (events_shown-append options turns os));
+      words = grows.words ∙ ap (λ (l : List Word). l ++ words_of os) h.words ∙ sym (words_of-append turns os);
       pairs = grows.pairs ∙ ap (λ (l : List Pair). l ++ pairs_of os) h.pairs ∙ sym (pairs_of-append turns os);
     }
 
@@ -133,8 +135,8 @@ noted moved sides.B = refl
 
 noted_runs : {R : Type 0} (options : Both Options) (turns : Both (List Turned)) (moved : Both (SideShown R)) (side : Side) → SidesRun options turns moved side
     → SidesRun options turns (with_associations moved) side
-noted_runs options turns moved sides.A h = record { made_with = h.made_with; goes_on = h.goes_on; endpoint = h.endpoint; waiting = h.waiting; events = h.events; packets = h.packets; pairs = h.pairs }
-noted_runs options turns moved sides.B h = record { made_with = h.made_with; goes_on = h.goes_on; endpoint = h.endpoint; waiting = h.waiting; events = h.events; packets = h.packets; pairs = h.pairs }
+noted_runs options turns moved sides.A h = record { made_with = h.made_with; goes_on = h.goes_on; endpoint = h.endpoint; waiting = h.waiting; events = h.events; packets = h.packets; words = h.words; pairs = h.pairs }
+noted_runs options turns moved sides.B h = record { made_with = h.made_with; goes_on = h.goes_on; endpoint = h.endpoint; waiting = h.waiting; events = h.events; packets = h.packets; words = h.words; pairs = h.pairs }
 
 other_packets : {R : Type 0} (options : Both Options) (turns : Both (List Turned)) (old : Both (SideShown R)) (mover : Side) → ((side : Side) → SidesRun options turns old side)
     → (of_other mover old).packets ≡ packets_shown (of_other mover options) (of_other mover turns)

@@ -2,12 +2,13 @@
 use Rattle.std.proofs.Common.{◌≡◌, ℕ, true, false, Option, Err, List, [], ◌∷◌, ◌++◌, ◌⊎◌, inl, inr, map, refl, sym, ap, subst, ◌∙◌}
 use Rattle.std.proofs.lemmas.List.{append-nil}
 use Rattle.dcsctp_machine.specs.declared.association.Pair.{Pair}
+use Rattle.dcsctp_machine.specs.declared.word.Word.{Word}
 use Rattle.dcsctp_machine.specs.declared.association.Association.{Association}
 use Rattle.dcsctp_machine.specs.declared.schedule.Side.{Side}
 use Rattle.dcsctp_machine.specs.declared.schedule.Side.TheVariants as sides
 use Rattle.dcsctp_machine.specs.Event.{Event, packets_in}
 use Rattle.dcsctp_machine.specs.Endpoint.{Endpoint, association_of}
-use Rattle.dcsctp_machine.specs.CallTurns.{Turned, after_all, pairs_of}
+use Rattle.dcsctp_machine.specs.CallTurns.{Turned, after_all, words_of, pairs_of}
 use Rattle.dcsctp_machine.specs.Sockets.{Both, of_side, of_other, side_of_act, TurnsOfAct}
 use Rattle.dcsctp_api.specs.declared.errors.SocketFault.{SocketFault}
 use Rattle.dcsctp_api.specs.declared.errors.SocketFault.TheVariants.{OutOfMemory, Failed}
@@ -37,6 +38,7 @@ grows_by_nothing Turns side turned empty =
       waiting = empty;
       events = sym (append-nil side.events);
       packets = sym (append-nil side.packets);
+      words = sym (append-nil side.words);
       pairs = sym (append-nil side.pairs);
       associations = refl;
       last_words = λ is. absurd is;
@@ -48,12 +50,13 @@ grows_by_nothing Turns side turned empty =
 
 -- nothing was added yet
 pub shows_nothing : {R : Type 0} (turns : List Turned) (old new : SideShown R) → new.options ≡ old.options → new.events ≡ old.events → new.packets ≡ old.packets
-    → new.pairs ≡ old.pairs → new.associations ≡ old.associations → ShowsFront turns old new
-shows_nothing turns old new options events packets pairs associations =
+    → new.words ≡ old.words → new.pairs ≡ old.pairs → new.associations ≡ old.associations → ShowsFront turns old new
+shows_nothing turns old new options events packets words pairs associations =
     record {
       options = options;
       events = front_same (told old turns) events;
       packets = front_same (packets_in (told old turns)) packets;
+      words = front_same (words_of turns) words;
       pairs = front_same (pairs_of turns) pairs;
       associations = front_same (association_of (after_all old.socket.view.endpoint turns).core ∷ []) associations;
     }
@@ -62,7 +65,7 @@ shows_nothing turns old new options events packets pairs associations =
 stops_before : {R : Type 0} (Turns : List Turned → Type 0) (old : SideShown R) (socket : SocketView R) → Stops Turns old (record old { socket = socket })
 stops_before Turns old socket =
     let new = record old { socket = socket } in
-    record { turns = []; are = inl refl; shows = shows_nothing [] old new refl refl refl refl refl }
+    record { turns = []; are = inl refl; shows = shows_nothing [] old new refl refl refl refl refl refl }
 
 -- the call's turns were worked, and then what they brought was taken in part
 pub stops_after : {R : Type 0} (Turns : List Turned → Type 0) (old new : SideShown R) (socket : SocketView R) (turns : List Turned) → Turns turns
@@ -77,6 +80,7 @@ stops_after Turns old new socket turns turned empty follows part =
         options = part.options;
         events = subst (λ (l : List (Event (List ℕ))). AddsFront l old.events new.events) waiting part.events;
         packets = subst (λ (l : List (Event (List ℕ))). AddsFront (packets_in l) old.packets new.packets) waiting part.packets;
+        words = subst (λ (l : List Word). AddsFront l old.words new.words) follows.words part.words;
         pairs = subst (λ (l : List Pair). AddsFront l old.pairs new.pairs) follows.pairs part.pairs;
         associations = front_same (association_of (after_all old.socket.view.endpoint turns).core ∷ []) part.associations;
       };
@@ -117,6 +121,7 @@ grows_in_part {R = R} Turns old moved new grows noted =
       options = grows.options;
       events = front_whole (told old os) grows.events;
       packets = front_whole (packets_in (told old os)) grows.packets;
+      words = front_whole (words_of os) grows.words;
       pairs = front_whole (pairs_of os) grows.pairs;
       associations = h;
     } in
@@ -134,8 +139,8 @@ other_in_part : {R : Type 0} (old moved new : SideShown R) → moved ≡ old →
 other_in_part {R = R} old moved new stays noted =
     let now : List (Option Association) = association_of old.socket.view.endpoint.core ∷ [] in
     let same : MaybeNoted old new = subst (λ (side : SideShown R). MaybeNoted side new) stays noted in
-    at_noted old new same (λ (side : SideShown R). ShowsFront [] old side) (shows_nothing [] old old refl refl refl refl refl)
-    (record { options = refl; events = front_same [] refl; packets = front_same [] refl; pairs = front_same [] refl; associations = front_whole now refl })
+    at_noted old new same (λ (side : SideShown R). ShowsFront [] old side) (shows_nothing [] old old refl refl refl refl refl refl)
+    (record { options = refl; events = front_same [] refl; packets = front_same [] refl; words = front_same [] refl; pairs = front_same [] refl; associations = front_whole now refl })
 
 -- ---- an act
 

@@ -1,5 +1,6 @@
 -- What the calls of a world do.
 use Rattle.std.specs.Prelude.{◌≡◌, true, false, Result, Ok, Err, List, [], ◌∷◌, ◌++◌, map}
+use Rattle.rand_core.specs.Stream.{Stream}
 use Rattle.dcsctp_machine.specs.Schedule.{StepContent, ActContent, step_act}
 use Rattle.dcsctp_machine.specs.Sockets.{Both, of_side, of_other, side_of_act, TurnsOfAct}
 use Rattle.dcsctp_api.specs.declared.errors.SocketFault.{SocketFault}
@@ -9,6 +10,7 @@ use Rattle.dcsctp_world.specs.Shown.{SideShown, WorldView, options_of}
 use Rattle.dcsctp_world.specs.Growth.{Extends, Fails, Grows, ShowsFront, Stops, SideExtends, with_association, IsReply}
 use Rattle.dcsctp_world.specs.Run.{IsRun}
 use Rattle.dcsctp_world.specs.Agreement.{Agrees, HandshakeConnects}
+use Rattle.dcsctp_world.specs.Drawing.{DrawOn}
 
 -- An act moved its own side, and left the other. No association was noted yet.
 pub record ActMoves {R : Type 0} (act : ActContent) (answer : Reply) (old new : Both (SideShown R)) : Type 0 where
@@ -91,7 +93,7 @@ pub record Ran {R : Type 0} (steps : List StepContent) (old new : WorldView R) :
 
 -- An allocation failed at one of these steps: those before it were applied, one after another. What is promised of applied steps
 -- holds of them. The world has failed at this one, and those after it weren't tried.
-pub record RanOutAmong {R : Type 0} (steps : List StepContent) (old new : WorldView R) : Type 0 where
+pub record RanOutAmong {R : Type 0} (stream : R → Stream) (steps : List StepContent) (old new : WorldView R) : Type 0 where
   pub done : List StepContent
   pub refused : StepContent
   pub rest : List StepContent
@@ -100,9 +102,10 @@ pub record RanOutAmong {R : Type 0} (steps : List StepContent) (old new : WorldV
   pub ran : Ran done old before
   pub agrees : Agrees (options_of old) before
   pub connects : HandshakeConnects (options_of old) before
+  pub drawn : DrawOn stream old.sides before.sides
   pub ran_out : RanOut (step_act refused) before new
 
-abbrev pub Runs : {R : Type 0} → List StepContent → WorldView R → Result (Unit {0}) SocketFault → WorldView R → Type 0
-Runs steps old (Ok done) new = Ran steps old new
-Runs steps old (Err OutOfMemory) new = RanOutAmong steps old new
-Runs steps old (Err Failed) new = StaysFailed old new
+abbrev pub Runs : {R : Type 0} → (R → Stream) → List StepContent → WorldView R → Result (Unit {0}) SocketFault → WorldView R → Type 0
+Runs stream steps old (Ok done) new = Ran steps old new
+Runs stream steps old (Err OutOfMemory) new = RanOutAmong stream steps old new
+Runs stream steps old (Err Failed) new = StaysFailed old new

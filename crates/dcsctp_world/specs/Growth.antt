@@ -63,24 +63,28 @@ TakesAll old kept_before (Err error) new kept_now = KeptFront old.events kept_be
 
 -- ---- a side
 
--- What waits in the socket is taken and kept, with the pairs of the last call; the endpoint is unchanged.
+-- What waits in the socket is taken and kept, with the words and pairs of the last call; the endpoint and the generator are
+-- unchanged.
 pub record Collects {R : Type 0} (old new : SideShown R) : Type 0 where
   pub endpoint : new.socket.view.endpoint ≡ old.socket.view.endpoint
+  pub generator : new.socket.view.generator ≡ old.socket.view.generator
   pub failed : new.socket.failed ≡ old.socket.failed
   pub options : new.options ≡ old.options
   pub waiting : new.socket.view.events ≡ []
   pub events : new.events ≡ old.events ++ old.socket.view.events
   pub packets : new.packets ≡ old.packets ++ packets_in old.socket.view.events
+  pub words : new.words ≡ old.words ++ old.socket.view.words
   pub pairs : new.pairs ≡ old.pairs ++ old.socket.view.pairs
   pub associations : new.associations ≡ old.associations
   pub last_words : new.socket.view.words ≡ old.socket.view.words
   pub last_pairs : new.socket.view.pairs ≡ old.socket.view.pairs
 
--- The first of what waits in the socket, and of the pairs of the last call, were kept.
+-- The first of what waits in the socket, and of the words and pairs of the last call, were kept.
 pub record CollectsFront {R : Type 0} (old new : SideShown R) : Type 0 where
   pub options : new.options ≡ old.options
   pub events : AddsFront old.socket.view.events old.events new.events
   pub packets : AddsFront (packets_in old.socket.view.events) old.packets new.packets
+  pub words : AddsFront old.socket.view.words old.words new.words
   pub pairs : AddsFront old.socket.view.pairs old.pairs new.pairs
   pub associations : new.associations ≡ old.associations
 
@@ -115,6 +119,7 @@ pub record Grows {R : Type 0} (Turns : List Turned → Type 0) (answer : Reply) 
   pub waiting : new.socket.view.events ≡ []
   pub events : new.events ≡ old.events ++ told old turns
   pub packets : new.packets ≡ old.packets ++ packets_in (told old turns)
+  pub words : new.words ≡ old.words ++ words_of turns
   pub pairs : new.pairs ≡ old.pairs ++ pairs_of turns
   pub associations : new.associations ≡ old.associations
   pub last_words : WasCalled answer → new.socket.view.words ≡ words_of turns
@@ -127,6 +132,7 @@ pub record ShowsFront {R : Type 0} (turns : List Turned) (old new : SideShown R)
   pub options : new.options ≡ old.options
   pub events : AddsFront (told old turns) old.events new.events
   pub packets : AddsFront (packets_in (told old turns)) old.packets new.packets
+  pub words : AddsFront (words_of turns) old.words new.words
   pub pairs : AddsFront (pairs_of turns) old.pairs new.pairs
   pub associations : AddsFront (association_of (after_all old.socket.view.endpoint turns).core ∷ []) old.associations new.associations
 
@@ -165,6 +171,7 @@ Works Turns IsIt old (Err fault) new = Fails Turns old fault new
 pub record SideExtends {R : Type 0} (old new : SideShown R) : Type 0 where
   pub events : Extends old.events new.events
   pub packets : Extends old.packets new.packets
+  pub words : Extends old.words new.words
   pub pairs : Extends old.pairs new.pairs
   pub associations : Extends old.associations new.associations
 

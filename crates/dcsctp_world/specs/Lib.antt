@@ -1,5 +1,6 @@
 pub mod Acts
 pub mod Agreement
+pub mod Drawing
 pub mod Growth
 pub mod Outside
 pub mod Parts

@@ -25,6 +25,7 @@ shown watched =
       options = watched.options;
       events = map event_content watched.events.items;
       packets = packet_bytes watched.packets.items;
+      words = watched.words.items;
       pairs = watched.pairs.items;
       associations = watched.associations.items;
     }

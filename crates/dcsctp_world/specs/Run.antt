@@ -2,10 +2,12 @@
 use Rattle.std.specs.Prelude.{◌≡◌, false, List, [], reverse}
 use Rattle.dcsctp_machine.specs.declared.options.Options.{Options}
 use Rattle.dcsctp_machine.specs.declared.schedule.Side.{Side}
-use Rattle.dcsctp_machine.specs.CallTurns.{Turned, pairs_of}
+use Rattle.dcsctp_machine.specs.CallTurns.{Turned, words_of, pairs_of}
 use Rattle.dcsctp_machine.specs.Sockets.{Both, of_side, Worked, SocketRun, turns_after, endpoint_after, events_shown, packets_shown, acts_of, associations_of}
 use Rattle.dcsctp_machine_refinement.specs.Agreement.{AreUsable}
-use Rattle.dcsctp_world.specs.Shown.{SideShown, WorldView}
+use Rattle.dcsctp_world.specs.Shown.{SideShown, WorldView, options_of}
+use Rattle.dcsctp_world.specs.Recording.{Recording}
+use Rattle.dcsctp_world.specs.Drawing.{AreWhole}
 
 -- A side after these turns: it has not failed, no event waits in it, and it shows what they brought.
 pub record SideRuns {R : Type 0} (options : Options) (turns : List Turned) (side : SideShown R) : Type 0 where
@@ -15,6 +17,7 @@ pub record SideRuns {R : Type 0} (options : Options) (turns : List Turned) (side
   pub waiting : side.socket.view.events ≡ []
   pub events : side.events ≡ events_shown options turns
   pub packets : side.packets ≡ packets_shown options turns
+  pub words : side.words ≡ words_of turns
   pub pairs : side.pairs ≡ pairs_of turns
 
 -- All that the world shows is what two sockets with these options show, along one run of what was applied.
@@ -25,3 +28,9 @@ pub record IsRun {R : Type 0} (options : Both Options) (world : WorldView R) : T
   pub acts : world.acts ≡ reverse (acts_of steps)
   pub sides : (side : Side) → SideRuns (of_side side options) (of_side side (turns_after steps)) (of_side side world.sides)
   pub associations : (side : Side) → (of_side side world.sides).associations ≡ reverse (associations_of side options steps)
+
+-- What holds of a world that has not failed: it shows a run of sockets with the options that they were made with, and their
+-- generators have kept all that they gave.
+pub record GoesWell {R : Type 0} (world : WorldView (Recording R)) : Type 0 where
+  pub is_run : IsRun (options_of world) world
+  pub whole : AreWhole world.sides

@@ -5,6 +5,8 @@
 //! says. So a list of steps says what a network between two sockets may do: lose, repeat, delay and reorder.
 //! What no such network does is an act from outside: handing in bytes that no socket emitted, or restoring a
 //! socket from a snapshot.
+//!
+//! Each socket draws its random words from a `Recorded`, which is over the generator that the world is made with.
 #![tactic(auto)]
 
 mod act;

@@ -1,6 +1,6 @@
 //! One of the two sockets, with all that it ever showed.
 
-ghost use Rattle.std.specs.Prelude.{◌≡◌, true, [], ◌∷◌, map, IfOk, IsErrOf, IsOkUnless};
+ghost use Rattle.std.specs.Prelude.{◌≡◌, true, [], ◌∷◌, map, OnOk, IfOk, IsErrOf, IsOkUnless};
 ghost use Rattle.std.specs.Option.{option_map};
 ghost use Rattle.dcsctp_machine.specs.Settings.{IsValid};
 ghost use Rattle.dcsctp_machine.specs.Schedule.{call_content, act_content, send_call, send_many_call, reset_call, take_call, hand_over_call};
@@ -12,6 +12,7 @@ ghost use Rattle.dcsctp_machine.specs.Sockets.{numbered, UserTurns, DeliveryTurn
 ghost use Rattle.dcsctp_api.specs.Events.{event_content};
 ghost use Rattle.dcsctp_world.specs.declared.act.Reply.TheVariants.{Done};
 ghost use Rattle.dcsctp_socket.specs.SocketView.{user_view_of};
+ghost use Rattle.dcsctp_world.specs.Drawing.{CallDraws, SideDraws};
 ghost use Rattle.dcsctp_world.specs.Shown.{fresh_side};
 ghost use Rattle.dcsctp_world.specs.Growth.{Keeps, TakesAll, CollectsAll, Called, Works, Notes, IsReply, IsDeliveryReply, IsCallReply};
 ghost use Rattle.dcsctp_world.specs.Outside.{HandoverTurns, IsHandedOnBy, ValidTurns, IsRestoredBy};
@@ -22,7 +23,7 @@ use dcsctp_api::handover::SocketHandoverState;
 use dcsctp_machine::{Act, Call, Outside, Step, copied_messages};
 use dcsctp_socket::{
     Association, DcSctpSocket, Message, Options, Pair, SendOptions, Socket, SocketEvent,
-    SocketFault, StreamId,
+    SocketFault, StreamId, Word,
 };
 use rand_core::Rng;
 use std::alloc::{AllocError, Global};
@@ -42,7 +43,10 @@ pub struct WatchedSocket<R> {
     /// The packets among them.
     pub packets: Vec<Vec<u8>>,
 
-    /// The pairs that it drew.
+    /// The random words that it drew.
+    pub words: Vec<Word>,
+
+    /// The pairs that it made of them.
     pub pairs: Vec<Pair>,
 
     /// Its association at the start and after each act of either side.
@@ -73,8 +77,9 @@ fn take_events<R: Rng + Drop>(
     events: &mut Vec<SocketEvent>,
     packets: &mut Vec<Vec<u8>>,
 ) -> Result<(), AllocError>
-    ensures { TakesAll (user_view_of socket.old) (kept events.old.items packets.old.items) result
+    ensures taken { TakesAll (user_view_of socket.old) (kept events.old.items packets.old.items) result
         (user_view_of socket.new) (kept events.new.items packets.new.items) }
+    ensures generator { socket.new.view.generator ≡ socket.old.view.generator }
 {
     while let Some(event) = socket.poll_event() {
         keep_event(events, packets, event)?;
@@ -87,6 +92,7 @@ fn make_call<R: Rng + Drop>(socket: &mut Socket<R>, call: &Call) -> Result<Reply
     ensures call { Called (UserTurns socket.old.view.endpoint (call_content call.now))
         (IsCallReply socket.old.view.endpoint (call_content call.now))
         (user_view_of socket.old) result (user_view_of socket.new) }
+    ensures drawn { OnOk result (CallDraws R.stream socket.old socket.new) }
     ensures failed { IsErrOf result SocketFault.Failed → socket.new ≡ socket.old }
 {
     match call {
@@ -139,6 +145,7 @@ fn send<R: Rng + Drop>(
     ensures call { Called (UserTurns socket.old.view.endpoint (send_call (message_content message.now) options.now))
         (IsCallReply socket.old.view.endpoint (send_call (message_content message.now) options.now))
         (user_view_of socket.old) result (user_view_of socket.new) }
+    ensures drawn { OnOk result (CallDraws R.stream socket.old socket.new) }
     ensures failed { IsErrOf result SocketFault.Failed → socket.new ≡ socket.old }
 {
     if socket.has_failed() {
@@ -159,6 +166,7 @@ fn send_many<R: Rng + Drop>(
         (IsCallReply socket.old.view.endpoint
         (send_many_call (map message_content messages.now.items) options.now))
         (user_view_of socket.old) result (user_view_of socket.new) }
+    ensures drawn { OnOk result (CallDraws R.stream socket.old socket.new) }
     ensures failed { IsErrOf result SocketFault.Failed → socket.new ≡ socket.old }
 {
     if socket.has_failed() {
@@ -176,6 +184,7 @@ fn reset_streams<R: Rng + Drop>(
     ensures call { Called (UserTurns socket.old.view.endpoint (reset_call (stream_numbers stream_ids.now)))
         (IsCallReply socket.old.view.endpoint (reset_call (stream_numbers stream_ids.now)))
         (user_view_of socket.old) result (user_view_of socket.new) }
+    ensures drawn { OnOk result (CallDraws R.stream socket.old socket.new) }
     ensures failed { IsErrOf result SocketFault.Failed → socket.new ≡ socket.old }
 {
     let answer = socket.reset_streams(stream_ids)?;
@@ -187,6 +196,7 @@ fn take_message<R: Rng + Drop>(socket: &mut Socket<R>) -> Result<Reply, SocketFa
     ensures call { Called (UserTurns socket.old.view.endpoint take_call)
         (IsCallReply socket.old.view.endpoint take_call)
         (user_view_of socket.old) result (user_view_of socket.new) }
+    ensures drawn { OnOk result (CallDraws R.stream socket.old socket.new) }
     ensures failed { IsErrOf result SocketFault.Failed → socket.new ≡ socket.old }
 {
     if socket.has_failed() {
@@ -200,6 +210,7 @@ fn hand_over<R: Rng + Drop>(socket: &mut Socket<R>) -> Result<Reply, SocketFault
     ensures call { Called (UserTurns socket.old.view.endpoint hand_over_call)
         (IsCallReply socket.old.view.endpoint hand_over_call)
         (user_view_of socket.old) result (user_view_of socket.new) }
+    ensures drawn { OnOk result (CallDraws R.stream socket.old socket.new) }
     ensures failed { IsErrOf result SocketFault.Failed → socket.new ≡ socket.old }
 {
     let answer = socket.get_handover_state_and_close()?;
@@ -215,6 +226,7 @@ fn restore<R: Rng + Drop>(
     ensures call { Called (ValidTurns socket.old.view.endpoint (snapshot state.now))
         (IsRestoredBy socket.old.view.endpoint (snapshot state.now))
         (user_view_of socket.old) result (user_view_of socket.new) }
+    ensures drawn { OnOk result (CallDraws R.stream socket.old socket.new) }
     ensures failed { IsErrOf result SocketFault.Failed → socket.new ≡ socket.old }
 {
     let answer = socket.restore_from_state(state)?;
@@ -225,6 +237,7 @@ fn restore<R: Rng + Drop>(
 fn hand_over_and_restore<R: Rng + Drop>(socket: &mut Socket<R>) -> Result<Reply, SocketFault>
     ensures call { Called (HandoverTurns socket.old.view.endpoint) (IsHandedOnBy socket.old.view.endpoint)
         (user_view_of socket.old) result (user_view_of socket.new) }
+    ensures drawn { OnOk result (CallDraws R.stream socket.old socket.new) }
     ensures failed { IsErrOf result SocketFault.Failed → socket.new ≡ socket.old }
 {
     match socket.get_handover_state_and_close()? {
@@ -264,17 +277,19 @@ impl<R: Rng + Drop> WatchedSocket<R> {
             options: *options,
             events: Vec::new(alloc),
             packets: Vec::new(alloc),
+            words: Vec::new(alloc),
             pairs: Vec::new(alloc),
             associations,
         })
     }
 
-    // Keeps what the last call brought: its events and the pairs that it drew. `Err`: an allocation failed;
-    // the first of them have been kept.
+    // Keeps what the last call brought: its events, the words that it drew, and the pairs that it made of them.
+    // `Err`: an allocation failed; the first of them have been kept.
     fn keep_all(&mut self) -> Result<(), AllocError>
         ensures { CollectsAll (shown self.old) result (shown self.new) }
     {
         take_events(&mut self.socket, &mut self.events, &mut self.packets)?;
+        self.words.extend_from_slice(self.socket.drawn_words())?;
         self.pairs.extend_from_slice(self.socket.drawn_pairs())?;
         Ok(())
     }
@@ -283,9 +298,10 @@ impl<R: Rng + Drop> WatchedSocket<R> {
     // can't be kept.
     fn call(&mut self, call: &Call) -> Result<Reply, SocketFault>
         requires { self.old.socket.view.events ≡ [] }
-        ensures { Works (UserTurns self.old.socket.view.endpoint (call_content call.now))
+        ensures call { Works (UserTurns self.old.socket.view.endpoint (call_content call.now))
             (IsCallReply self.old.socket.view.endpoint (call_content call.now)) (shown self.old) result
             (shown self.new) }
+        ensures drawn { OnOk result (SideDraws R.stream (shown self.old) (shown self.new)) }
     {
         let reply = make_call(&mut self.socket, call)?;
         self.keep_all()?;
@@ -295,8 +311,9 @@ impl<R: Rng + Drop> WatchedSocket<R> {
     // Hands over these bytes. The errors are as those of `call`.
     fn hand_in(&mut self, bytes: &[u8]) -> Result<Reply, SocketFault>
         requires { self.old.socket.view.events ≡ [] }
-        ensures { Works (HandleInput self.old.socket.view.endpoint bytes.now) (λ reply. reply ≡ Done)
+        ensures call { Works (HandleInput self.old.socket.view.endpoint bytes.now) (λ reply. reply ≡ Done)
             (shown self.old) result (shown self.new) }
+        ensures drawn { OnOk result (SideDraws R.stream (shown self.old) (shown self.new)) }
     {
         self.socket.handle_input(bytes)?;
         self.keep_all()?;
@@ -306,9 +323,10 @@ impl<R: Rng + Drop> WatchedSocket<R> {
     // Hands over the packet of this number, if there is one. The errors are as those of `call`.
     fn deliver(&mut self, packets: &[Vec<u8>], number: usize) -> Result<Reply, SocketFault>
         requires { self.old.socket.view.events ≡ [] }
-        ensures { Works (DeliveryTurns self.old.socket.view.endpoint (numbered number
+        ensures call { Works (DeliveryTurns self.old.socket.view.endpoint (numbered number
             (packet_bytes packets.now))) (IsDeliveryReply (numbered number (packet_bytes packets.now)))
             (shown self.old) result (shown self.new) }
+        ensures drawn { OnOk result (SideDraws R.stream (shown self.old) (shown self.new)) }
     {
         match packet_numbered(packets, number) {
             None => Ok(Reply::NoCall),
@@ -319,8 +337,9 @@ impl<R: Rng + Drop> WatchedSocket<R> {
     // Hands the socket over, and restores it from its own snapshot. The errors are as those of `call`.
     fn hand_over_and_restore(&mut self) -> Result<Reply, SocketFault>
         requires { self.old.socket.view.events ≡ [] }
-        ensures { Works (HandoverTurns self.old.socket.view.endpoint)
+        ensures call { Works (HandoverTurns self.old.socket.view.endpoint)
             (IsHandedOnBy self.old.socket.view.endpoint) (shown self.old) result (shown self.new) }
+        ensures drawn { OnOk result (SideDraws R.stream (shown self.old) (shown self.new)) }
     {
         let reply = hand_over_and_restore(&mut self.socket)?;
         self.keep_all()?;
@@ -330,9 +349,10 @@ impl<R: Rng + Drop> WatchedSocket<R> {
     // Restores the socket from this snapshot, if it is valid. The errors are as those of `call`.
     fn restore(&mut self, state: &SocketHandoverState) -> Result<Reply, SocketFault>
         requires { self.old.socket.view.events ≡ [] }
-        ensures { Works (ValidTurns self.old.socket.view.endpoint (snapshot state.now))
+        ensures call { Works (ValidTurns self.old.socket.view.endpoint (snapshot state.now))
             (IsRestoredBy self.old.socket.view.endpoint (snapshot state.now)) (shown self.old) result
             (shown self.new) }
+        ensures drawn { OnOk result (SideDraws R.stream (shown self.old) (shown self.new)) }
     {
         if !state.is_valid(&self.socket.options()) {
             return Ok(Reply::NoCall);
@@ -347,8 +367,9 @@ impl<R: Rng + Drop> WatchedSocket<R> {
     /// `SocketFault::Failed`: the socket had failed, and nothing has changed.
     pub fn perform(&mut self, packets: &[Vec<u8>], act: &Act) -> Result<Reply, SocketFault>
         requires { self.old.socket.view.events ≡ [] }
-        ensures { Works (TurnsOfAct self.old.socket.view.endpoint (packet_bytes packets.now) (act_content act.now))
+        ensures call { Works (TurnsOfAct self.old.socket.view.endpoint (packet_bytes packets.now) (act_content act.now))
             (IsReply self.old.socket.view.endpoint (packet_bytes packets.now) (act_content act.now)) (shown self.old) result (shown self.new) }
+        ensures drawn { OnOk result (SideDraws R.stream (shown self.old) (shown self.new)) }
     {
         match act {
             Act::Step(Step::Call(_, call)) => self.call(call),

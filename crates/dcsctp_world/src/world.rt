@@ -1,10 +1,11 @@
 //! Two sockets, and what happens to them.
 
 use crate::act::{Reply, are_honest, side_of};
+use crate::recorded::Recorded;
 use crate::watched_socket::WatchedSocket;
 use dcsctp_machine::{Act, Outside, Side, Step, options_fit, sockets_stay_sound};
 use dcsctp_machine_refinement::socket_laws;
-use dcsctp_socket::{Association, Options, Pair, Socket, SocketEvent, SocketFault};
+use dcsctp_socket::{Association, Options, Pair, Socket, SocketEvent, SocketFault, Word};
 use rand_core::Rng;
 use std::alloc::Global;
 use std::marker::Model;
@@ -16,8 +17,8 @@ use std::marker::Model;
 /// failed from here on. Each later call that applies something returns `SocketFault::Failed` and changes
 /// nothing. What the world shows then starts with what it showed before the call that failed.
 pub struct World<R> {
-    a: WatchedSocket<R>,
-    b: WatchedSocket<R>,
+    a: WatchedSocket<Recorded<R>>,
+    b: WatchedSocket<Recorded<R>>,
     acts: Vec<Act>,
     failed: bool,
 }
@@ -36,18 +37,17 @@ impl<R: Drop> Drop for World<R> {
 
 impl<R> Model for World<R> {
     ghost use Rattle.std.specs.Prelude.{◌≡◌, false};
-    ghost use Rattle.dcsctp_world.specs.Shown.{WorldView, options_of};
+    ghost use Rattle.dcsctp_world.specs.Recording.{Recording};
+    ghost use Rattle.dcsctp_world.specs.Shown.{WorldView};
 
-    ghost Value = { WorldView R };
+    ghost Value = { WorldView (Recording R) };
 
     ghost use Rattle.dcsctp_world.specs.Parts.{world_of};
-    ghost use Rattle.dcsctp_world.specs.Run.{IsRun};
+    ghost use Rattle.dcsctp_world.specs.Run.{GoesWell};
 
     ghost view = { λ w. world_of w.a w.b w.acts.items w.failed };
 
-    ghost invariant = { λ w. w.failed ≡ false → IsRun
-        (options_of (world_of w.a w.b w.acts.items w.failed))
-        (world_of w.a w.b w.acts.items w.failed) };
+    ghost invariant = { λ w. w.failed ≡ false → GoesWell (world_of w.a w.b w.acts.items w.failed) };
 }
 
 ghost use Rattle.std.specs.Prelude.{◌≡◌, ◌↔◌, IsTrue, [], false, map, OnOk, IfOk, IsOkUnless};
@@ -56,6 +56,8 @@ ghost use Rattle.dcsctp_machine.specs.Schedule.{act_content, step_content, step_
 ghost use Rattle.dcsctp_machine.specs.Sockets.{of_side, side_of_outside};
 ghost use Rattle.dcsctp_api.specs.Events.{event_content};
 ghost use Rattle.dcsctp_world.specs.Shown.{fresh_world, options_of};
+ghost use Rattle.dcsctp_world.specs.Recording.{fresh_recording, recorded_stream};
+ghost use Rattle.dcsctp_world.specs.Drawing.{DrawOn, AreWhole};
 ghost use Rattle.dcsctp_world.specs.Run.{IsRun};
 ghost use Rattle.dcsctp_world.specs.Agreement.{Agrees, HandshakeConnects};
 ghost use Rattle.dcsctp_world.specs.Acts.{MovesSide, WorksAct, Applies, Runs};
@@ -70,7 +72,8 @@ fn move_side<R: Rng + Drop>(
 ) -> Result<Reply, SocketFault>
     requires a { a.old.socket.view.events ≡ [] }
     requires b { b.old.socket.view.events ≡ [] }
-    ensures { MovesSide (act_content act.now) (both a.old b.old) result (both a.new b.new) }
+    ensures call { MovesSide (act_content act.now) (both a.old b.old) result (both a.new b.new) }
+    ensures drawn { OnOk result (DrawOn R.stream (both a.old b.old) (both a.new b.new)) }
 {
     match side_of(act) {
         Side::A => {
@@ -84,20 +87,32 @@ fn move_side<R: Rng + Drop>(
     }
 }
 
+// Have both generators kept all that they gave?
+fn are_whole<R: Rng + Drop>(a: &WatchedSocket<Recorded<R>>, b: &WatchedSocket<Recorded<R>>) -> bool
+    ensures { IsTrue result ↔ AreWhole (both a.now b.now) }
+{
+    a.socket.generator().is_whole() && b.socket.generator().is_whole()
+}
+
 // Performs an act, and keeps it and its outcome. The errors are those of `move_side`, and
-// `SocketFault::OutOfMemory` if an association or the act can't be kept.
+// `SocketFault::OutOfMemory` if a word, an association or the act can't be kept.
 fn perform_and_keep<R: Rng + Drop>(
-    a: &mut WatchedSocket<R>,
-    b: &mut WatchedSocket<R>,
+    a: &mut WatchedSocket<Recorded<R>>,
+    b: &mut WatchedSocket<Recorded<R>>,
     acts: &mut Vec<Act>,
     act: Act,
 ) -> Result<Reply, SocketFault>
     requires a { a.old.socket.view.events ≡ [] }
     requires b { b.old.socket.view.events ≡ [] }
-    ensures { WorksAct (act_content act) (world_of a.old b.old acts.old.items false) result
+    ensures call { WorksAct (act_content act) (world_of a.old b.old acts.old.items false) result
         (world_of a.new b.new acts.new.items false) }
+    ensures drawn { OnOk result (DrawOn (recorded_stream R.stream) (both a.old b.old) (both a.new b.new)) }
+    ensures whole { OnOk result (AreWhole (both a.new b.new)) }
 {
     let reply = move_side(a, b, &act)?;
+    if !are_whole(a, b) {
+        return Err(SocketFault::OutOfMemory);
+    }
     a.keep_association()?;
     b.keep_association()?;
     acts.push(act)?;
@@ -105,7 +120,8 @@ fn perform_and_keep<R: Rng + Drop>(
 }
 
 impl<R: Rng + Drop> World<R> {
-    /// Makes two closed sockets with these options; random words come from a generator for each.
+    /// Makes two closed sockets with these options; random words come from a generator for each, which keeps
+    /// those that it gave.
     ///
     /// The options have to be valid, which `Options::is_valid` tells.
     pub fn new(
@@ -118,14 +134,14 @@ impl<R: Rng + Drop> World<R> {
         requires a { IsValid a.now }
         requires b { IsValid b.now }
         ensures fresh { IfOk result (λ world. world ≡ fresh_world (record { a = a.now; b = b.now })
-            (record { a = rng_a; b = rng_b })) }
+            (record { a = fresh_recording rng_a; b = fresh_recording rng_b })) }
         ensures run { IfOk result (λ world. IsRun (record { a = a.now; b = b.now }) world) }
         ensures fault { IsOkUnless result SocketFault.OutOfMemory }
     {
         options_fit(a);
         options_fit(b);
-        let a = WatchedSocket::new(alloc, "a", a, rng_a)?;
-        let b = WatchedSocket::new(alloc, "b", b, rng_b)?;
+        let a = WatchedSocket::new(alloc, "a", a, Recorded::new(alloc, rng_a))?;
+        let b = WatchedSocket::new(alloc, "b", b, Recorded::new(alloc, rng_b))?;
         Ok(World {
             a,
             b,
@@ -140,6 +156,8 @@ impl<R: Rng + Drop> World<R> {
         ensures agreement { OnOk result (Agrees (options_of self.old) self.new) }
         ensures handshake { OnOk result (HandshakeConnects (options_of self.old) self.new) }
         ensures sound { OnOk result (BothSound self.old) }
+        ensures drawn { OnOk result (DrawOn (recorded_stream R.stream) self.old.sides self.new.sides) }
+        ensures whole { OnOk result (AreWhole self.new.sides) }
         ensures options { OnOk result (options_of self.new ≡ options_of self.old) }
     {
         // A world that has failed applies nothing.
@@ -168,6 +186,8 @@ impl<R: Rng + Drop> World<R> {
         ensures call { Applies (step_act (step_content step.now)) self.old result self.new }
         ensures agreement { OnOk result (Agrees (options_of self.old) self.new) }
         ensures handshake { OnOk result (HandshakeConnects (options_of self.old) self.new) }
+        ensures drawn { OnOk result (DrawOn (recorded_stream R.stream) self.old.sides self.new.sides) }
+        ensures whole { OnOk result (AreWhole self.new.sides) }
         ensures options { OnOk result (options_of self.new ≡ options_of self.old) }
     {
         // A world that has failed copies no step.
@@ -200,6 +220,8 @@ impl<R: Rng + Drop> World<R> {
             (of_side (side_of_outside (outside_content outside)) self.new.sides).socket.view.endpoint) }
         ensures agreement { OnOk result (Agrees (options_of self.old) self.new) }
         ensures handshake { OnOk result (HandshakeConnects (options_of self.old) self.new) }
+        ensures drawn { OnOk result (DrawOn (recorded_stream R.stream) self.old.sides self.new.sides) }
+        ensures whole { OnOk result (AreWhole self.new.sides) }
         ensures options { OnOk result (options_of self.new ≡ options_of self.old) }
     {
         self.apply_act(Act::Outside(outside))
@@ -219,9 +241,11 @@ impl<R: Rng + Drop> World<R> {
     /// ACK or a COOKIE ACK has T1 running, so it will send again. No packet is longer than the `mtu` of its
     /// side, rounded down to a multiple of 4.
     pub fn run(&mut self, steps: &[Step]) -> Result<(), SocketFault>
-        ensures call { Runs (map step_content steps.now) self.old result self.new }
+        ensures call { Runs (recorded_stream R.stream) (map step_content steps.now) self.old result self.new }
         ensures agreement { OnOk result (Agrees (options_of self.old) self.new) }
         ensures handshake { OnOk result (HandshakeConnects (options_of self.old) self.new) }
+        ensures drawn { OnOk result (DrawOn (recorded_stream R.stream) self.old.sides self.new.sides) }
+        ensures whole { OnOk result (AreWhole self.new.sides) }
     {
         // Nor does it run no steps at all.
         if self.failed {
@@ -235,7 +259,7 @@ impl<R: Rng + Drop> World<R> {
     }
 
     // One of the two sockets, with all that it showed.
-    fn watched(&self, side: Side) -> &WatchedSocket<R>
+    fn watched(&self, side: Side) -> &WatchedSocket<Recorded<R>>
         ensures { shown result.now ≡ of_side side self.now.sides }
     {
         match side {
@@ -272,6 +296,15 @@ impl<R: Rng + Drop> World<R> {
         &self.watched(side).events
     }
 
+    /// The random words that this side ever drew, in order: those that its generator gave first. They are kept
+    /// after each call, and while the world hasn't failed, `socket(side).generator().words()` has the same ones.
+    /// Allocates nothing.
+    pub fn words(&self, side: Side) -> &[Word]
+        ensures { result.now ≡ (of_side side self.now.sides).words }
+    {
+        &self.watched(side).words
+    }
+
     /// The pairs of a tag and a first TSN that this side drew, in order: its own, and those of answers to an
     /// INIT (RFC 9260, section 5.1). Allocates nothing.
     pub fn pairs(&self, side: Side) -> &[Pair]
@@ -287,8 +320,9 @@ impl<R: Rng + Drop> World<R> {
         &self.watched(side).associations
     }
 
-    /// This side's socket. Allocates nothing.
-    pub fn socket(&self, side: Side) -> &Socket<R>
+    /// This side's socket. Its generator is the one that this side was made with, in a `Recorded`, so it also has
+    /// the words that it gave. Allocates nothing.
+    pub fn socket(&self, side: Side) -> &Socket<Recorded<R>>
         ensures { result.now ≡ (of_side side self.now.sides).socket }
     {
         &self.watched(side).socket

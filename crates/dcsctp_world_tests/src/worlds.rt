@@ -4,11 +4,12 @@ use crate::checks::{holds, same};
 use dcsctp_testing::TwoWords;
 use dcsctp_world::socket::{DcSctpSocket, Options, SocketEvent, SocketState, StreamId};
 use dcsctp_world::{Act, Call, Reply, Side, Step, World};
+use rand_core::Rng;
 use std::alloc::Global;
 use std::process::Abort;
 
 // A connects, and four packets go back and forth.
-const HANDSHAKE: [Step; 5] = [
+pub const HANDSHAKE: [Step; 5] = [
     Step::Call(Side::A, Call::Connect),
     Step::Deliver(Side::B, 1),
     Step::Deliver(Side::A, 1),
@@ -50,7 +51,7 @@ pub fn world_behind_handshake(rt: &impl Abort, alloc: Global, method: u32) -> Wo
 }
 
 // Both sides have to be connected.
-pub fn are_connected(rt: &impl Abort, world: &World<TwoWords>, name: &str) {
+pub fn are_connected<R: Rng + Drop>(rt: &impl Abort, world: &World<R>, name: &str) {
     let states = [world.socket(Side::A).state(), world.socket(Side::B).state()];
     same(
         rt,

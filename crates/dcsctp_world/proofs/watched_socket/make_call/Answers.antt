@@ -1,11 +1,13 @@
-use Rattle.std.proofs.Common.{Ok, sym, subst, ◌∙◌}
+use Rattle.std.proofs.Common.{Ok, sym, ap, subst, ◌∙◌}
 use Rattle.dcsctp_machine.specs.declared.schedule.Call.{Call}
 use Rattle.dcsctp_machine.specs.Schedule.{call_content}
 use Rattle.dcsctp_machine.specs.Sockets.{UserTurns}
 use Rattle.dcsctp_machine.specs.turns.SettingOutcomes.{stream_priority, stream_low_threshold, longest_message}
+use Rattle.dcsctp_api.specs.Calls.{UserView}
 use Rattle.dcsctp_socket.specs.SocketView.{user_view_of}
 use Rattle.dcsctp_world.specs.declared.act.Reply.TheVariants.{Done}
 use Rattle.dcsctp_world.specs.Growth.{Called, IsCallReply}
+use Rattle.dcsctp_world.proofs.Drawing.{draws_nothing}
 use Rattle.dcsctp_world.proofs.Setting.{setting_called}
 use Rattle.dcsctp_world.proofs.watched_socket.make_call.Goals as goal
 
@@ -27,3 +29,19 @@ pub returns-else-has_failed-clause-call : goal.returns-else-has_failed-clause-ca
 returns-else-has_failed-clause-call g c =
     subst (λ (call : Call). Called (UserTurns c.args.socket.now.view.endpoint (call_content call)) (IsCallReply c.args.socket.now.view.endpoint (call_content call)) (user_view_of c.args.socket.now) (Ok Done) (user_view_of c.set_max_message_size.new.self)) (sym c.in-SetMaxMessageSize.is)
     (setting_called (longest_message c.in-SetMaxMessageSize.bytes) (user_view_of c.args.socket.now) (user_view_of c.set_max_message_size.new.self) (sym c.has_failed.ensures ∙ c.if-has_failed.false) c.set_max_message_size.ensures.call)
+
+pub returns-in_ok-set_stream_priority-in-SetStreamPriority-clause-drawn :
+    goal.returns-in_ok-set_stream_priority-in-SetStreamPriority-clause-drawn
+returns-in_ok-set_stream_priority-in-SetStreamPriority-clause-drawn g c =
+    draws_nothing g.R.Rng.stream c.args.socket.now c.set_stream_priority.new.self (ap (λ (view : UserView). view.words) c.in_ok-set_stream_priority-in-SetStreamPriority.ensures.call.1)
+    c.in_ok-set_stream_priority-in-SetStreamPriority.ensures.generator
+
+pub returns-in_ok-set_buffered_amount_low_threshold-in-SetBufferedAmountLowThreshold-clause-drawn :
+    goal.returns-in_ok-set_buffered_amount_low_threshold-in-SetBufferedAmountLowThreshold-clause-drawn
+returns-in_ok-set_buffered_amount_low_threshold-in-SetBufferedAmountLowThreshold-clause-drawn g c =
+    draws_nothing g.R.Rng.stream c.args.socket.now c.set_buffered_amount_low_threshold.new.self (ap (λ (view : UserView). view.words) c.in_ok-set_buffered_amount_low_threshold-in-SetBufferedAmountLowThreshold.ensures.call.1)
+    c.in_ok-set_buffered_amount_low_threshold-in-SetBufferedAmountLowThreshold.ensures.generator
+
+pub returns-else-has_failed-clause-drawn : goal.returns-else-has_failed-clause-drawn
+returns-else-has_failed-clause-drawn g c =
+    draws_nothing g.R.Rng.stream c.args.socket.now c.set_max_message_size.new.self (ap (λ (view : UserView). view.words) c.set_max_message_size.ensures.call) c.set_max_message_size.ensures.generator

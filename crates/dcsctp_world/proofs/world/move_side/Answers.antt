@@ -6,23 +6,32 @@ use Rattle.dcsctp_machine.specs.Schedule.{act_content}
 use Rattle.dcsctp_machine.specs.Sockets.{TurnsOfAct}
 use Rattle.dcsctp_world.specs.Growth.{Fails}
 use Rattle.dcsctp_world.specs.Parts.{packet_bytes, shown, both}
+use Rattle.dcsctp_world.proofs.Drawing.{draw_on_at}
 use Rattle.dcsctp_world.proofs.Stopping.{fails_at}
 use Rattle.dcsctp_world.proofs.world.move_side.Goals as goal
 
-pub returns-in_err-reply-in-A : goal.returns-in_err-reply-in-A
-returns-in_err-reply-in-A g c =
+pub returns-in_err-reply-in-A-clause-call : goal.returns-in_err-reply-in-A-clause-call
+returns-in_err-reply-in-A-clause-call g c =
     let fault = c.in_err-reply-in-A.field-0.0 in
     let p = err_from_is_err_and c.from_residual.result c.from_residual.ensures.1 in
     rw (p.1, p.2)
     (fails_at (act_content c.args.act.now) sides.A fault (both c.args.a.now c.args.b.now) (both c.perform.new.self c.args.b.now) (sym c.side_of.ensures ∙ c.in-A.is)
     (subst (λ (bytes : List (Vec ℕ Global)). Fails (TurnsOfAct c.args.a.now.socket.view.endpoint (packet_bytes bytes) (act_content c.args.act.now)) (shown c.args.a.now) fault (shown c.perform.new.self))
-    c.deref.ensures.value c.in_err-reply-in-A.ensures) refl)
+    c.deref.ensures.value c.in_err-reply-in-A.ensures.call) refl)
 
-pub returns-in_err-reply-in-B : goal.returns-in_err-reply-in-B
-returns-in_err-reply-in-B g c =
+pub returns-in_err-reply-in-B-clause-call : goal.returns-in_err-reply-in-B-clause-call
+returns-in_err-reply-in-B-clause-call g c =
     let fault = c.in_err-reply-in-B.field-0.0 in
     let p = err_from_is_err_and c.from_residual-in_err-reply-in-B.result c.from_residual-in_err-reply-in-B.ensures.1 in
     rw (p.1, p.2)
     (fails_at (act_content c.args.act.now) sides.B fault (both c.args.a.now c.args.b.now) (both c.args.a.now c.perform-in-B.new.self) (sym c.side_of.ensures ∙ c.in-B.is)
     (subst (λ (bytes : List (Vec ℕ Global)). Fails (TurnsOfAct c.args.b.now.socket.view.endpoint (packet_bytes bytes) (act_content c.args.act.now)) (shown c.args.b.now) fault (shown c.perform-in-B.new.self))
-    c.deref-in-B.ensures.value c.in_err-reply-in-B.ensures) refl)
+    c.deref-in-B.ensures.value c.in_err-reply-in-B.ensures.call) refl)
+
+pub returns-in-A-clause-drawn : goal.returns-in-A-clause-drawn
+returns-in-A-clause-drawn g c =
+    draw_on_at g.R.Rng.stream sides.A (both c.args.a.now c.args.b.now) (both c.perform.new.self c.args.b.now) c.in_ok-reply-in-A.ensures.drawn refl
+
+pub returns-in-B-clause-drawn : goal.returns-in-B-clause-drawn
+returns-in-B-clause-drawn g c =
+    draw_on_at g.R.Rng.stream sides.B (both c.args.a.now c.args.b.now) (both c.args.a.now c.perform-in-B.new.self) c.in_ok-reply-in-B.ensures.drawn refl

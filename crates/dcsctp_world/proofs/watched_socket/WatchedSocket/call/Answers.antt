@@ -6,19 +6,20 @@ use Rattle.dcsctp_machine.specs.CallTurns.{Turned}
 use Rattle.dcsctp_machine.specs.Sockets.{UserTurns}
 use Rattle.dcsctp_world.specs.Growth.{IsCallReply}
 use Rattle.dcsctp_world.specs.Parts.{shown}
+use Rattle.dcsctp_world.proofs.Drawing.{side_draws}
 use Rattle.dcsctp_world.proofs.Stopping.{call_fails, stops_after}
 use Rattle.dcsctp_world.proofs.watched_socket.WatchedSocket.call.Goals as goal
 
-pub returns-in_err-reply : goal.returns-in_err-reply
-returns-in_err-reply g c =
+pub returns-in_err-reply-clause-call : goal.returns-in_err-reply-clause-call
+returns-in_err-reply-clause-call g c =
     let Turns : List Turned → Type 0 = UserTurns c.args.self.now.socket.view.endpoint (call_content c.args.call.now) in
     let p = err_from_is_err_and c.from_residual.result c.from_residual.ensures.1 in
     rw (p.1, p.2)
     (call_fails Turns (shown c.args.self.now) c.make_call.new.socket (IsCallReply c.args.self.now.socket.view.endpoint (call_content c.args.call.now)) _ c.in_err-reply.ensures.call
     (λ is. c.in_err-reply.ensures.failed (ap (λ (fault : SocketFault). Err fault) is)))
 
-pub returns-in_err-keep_all : goal.returns-in_err-keep_all
-returns-in_err-keep_all g c =
+pub returns-in_err-keep_all-clause-call : goal.returns-in_err-keep_all-clause-call
+returns-in_err-keep_all-clause-call g c =
     let Turns : List Turned → Type 0 = UserTurns c.args.self.now.socket.view.endpoint (call_content c.args.call.now) in
     let worked = c.in_ok-reply.ensures.call in
     let p = err_from_is_err_and c.from_residual-in_err-keep_all.result c.from_residual-in_err-keep_all.ensures.1 in
@@ -27,3 +28,7 @@ returns-in_err-keep_all g c =
       stops_after Turns (shown c.args.self.now) (shown c.keep_all.new.self) c.make_call.new.socket worked.turns
           worked.are c.requires worked.follows c.in_err-keep_all.ensures,
     )
+
+pub returns-clause-drawn : goal.returns-clause-drawn
+returns-clause-drawn g c =
+    side_draws g.R.Rng.stream (shown c.args.self.now) (shown c.keep_all.new.self) c.make_call.new.socket c.in_ok-reply.ensures.drawn c.in_ok-keep_all.ensures

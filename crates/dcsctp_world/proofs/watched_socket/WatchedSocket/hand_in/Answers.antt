@@ -3,19 +3,20 @@ use Rattle.std.proofs.lemmas.Result.{err_from_is_err_and}
 use Rattle.dcsctp_api.specs.declared.errors.SocketFault.{SocketFault}
 use Rattle.dcsctp_machine.specs.CallTurns.{Turned, HandleInput}
 use Rattle.dcsctp_world.specs.Parts.{shown}
+use Rattle.dcsctp_world.proofs.Drawing.{side_draws}
 use Rattle.dcsctp_world.proofs.Stopping.{input_fails, stops_after}
 use Rattle.dcsctp_world.proofs.watched_socket.WatchedSocket.hand_in.Goals as goal
 
-pub returns-in_err-handle_input : goal.returns-in_err-handle_input
-returns-in_err-handle_input g c =
+pub returns-in_err-handle_input-clause-call : goal.returns-in_err-handle_input-clause-call
+returns-in_err-handle_input-clause-call g c =
     let Turns : List Turned → Type 0 = HandleInput c.args.self.now.socket.view.endpoint c.args.bytes.now in
     let p = err_from_is_err_and c.from_residual.result c.from_residual.ensures.1 in
     rw (p.1, p.2)
     (input_fails Turns (shown c.args.self.now) c.handle_input.new.self _ _ c.in_err-handle_input.ensures.call
     (λ is. c.in_err-handle_input.ensures.failed (ap (λ (fault : SocketFault). Err fault) is)))
 
-pub returns-in_err-keep_all : goal.returns-in_err-keep_all
-returns-in_err-keep_all g c =
+pub returns-in_err-keep_all-clause-call : goal.returns-in_err-keep_all-clause-call
+returns-in_err-keep_all-clause-call g c =
     let Turns : List Turned → Type 0 = HandleInput c.args.self.now.socket.view.endpoint c.args.bytes.now in
     let worked = c.in_ok-handle_input.ensures.call in
     let p = err_from_is_err_and c.from_residual-in_err-keep_all.result c.from_residual-in_err-keep_all.ensures.1 in
@@ -23,3 +24,7 @@ returns-in_err-keep_all g c =
       worked.2.runs,
       stops_after Turns (shown c.args.self.now) (shown c.keep_all.new.self) c.handle_input.new.self worked.0 worked.1 c.requires worked.2 c.in_err-keep_all.ensures,
     )
+
+pub returns-clause-drawn : goal.returns-clause-drawn
+returns-clause-drawn g c =
+    side_draws g.R.Rng.stream (shown c.args.self.now) (shown c.keep_all.new.self) c.handle_input.new.self c.in_ok-handle_input.ensures.drawn c.in_ok-keep_all.ensures

@@ -13,10 +13,10 @@ use Rattle.dcsctp_world.proofs.Agreeing.{world_agrees, handshake_connects}
 use Rattle.dcsctp_world.proofs.world.World.apply_act.Goals as goal
 
 pub perform_and_keep-requires-clause-a : goal.perform_and_keep-requires-clause-a
-perform_and_keep-requires-clause-a g c = ((c.self.invariant c.if-self.false).sides sides.A).waiting
+perform_and_keep-requires-clause-a g c = ((c.self.invariant c.if-self.false).is_run.sides sides.A).waiting
 
 pub perform_and_keep-requires-clause-b : goal.perform_and_keep-requires-clause-b
-perform_and_keep-requires-clause-b g c = ((c.self.invariant c.if-self.false).sides sides.B).waiting
+perform_and_keep-requires-clause-b g c = ((c.self.invariant c.if-self.false).is_run.sides sides.B).waiting
 
 pub returns-in-Ok-clause-agreement : goal.returns-in-Ok-clause-agreement
 returns-in-Ok-clause-agreement g c =
@@ -24,7 +24,7 @@ returns-in-Ok-clause-agreement g c =
     world_agrees c.socket_laws.ensures (options_of c.args.self.now) new
     (subst (λ (w : WorldView g.row.R.Denot). IsRun (options_of w) new) c.self.view_is
     (applied_is_run (act_content c.args.act) c.in-Ok.reply c.self.inside.a c.self.inside.b c.perform_and_keep.new.a c.perform_and_keep.new.b c.self.inside.acts.items c.perform_and_keep.new.acts.items
-    c.self.inside.failed c.if-self.false c.self.invariant c.in-Ok.ensures))
+    c.self.inside.failed c.if-self.false (λ runs. (c.self.invariant runs).is_run) c.in-Ok.ensures.call))
 
 pub returns-in-Ok-clause-handshake : goal.returns-in-Ok-clause-handshake
 returns-in-Ok-clause-handshake g c =
@@ -46,8 +46,9 @@ returns-in-Err-clause-call g c =
     let new = world_of c.perform_and_keep.new.a c.perform_and_keep.new.b c.perform_and_keep.new.acts.items true in
     subst (λ (w : WorldView g.row.R.Denot). RanOut (act_content c.args.act) w new) c.self.view_is
     (ran_out_in (act_content c.args.act) _ c.self.inside.a c.self.inside.b c.perform_and_keep.new.a c.perform_and_keep.new.b c.self.inside.acts.items c.perform_and_keep.new.acts.items
-    c.self.inside.failed c.if-self.false c.self.invariant c.in-Err.ensures)
+    c.self.inside.failed c.if-self.false (λ runs. (c.self.invariant runs).is_run) c.in-Err.ensures.call)
 
 pub invariant_of-self : goal.invariant_of-self
 invariant_of-self g c =
-    λ runs. is_run_of_own (options_of c.args.self.now) (world_of c.perform_and_keep.new.a c.perform_and_keep.new.b c.perform_and_keep.new.acts.items c.self.inside.failed) (returns-in-Ok-clause-agreement g c).is_run
+    let new = world_of c.perform_and_keep.new.a c.perform_and_keep.new.b c.perform_and_keep.new.acts.items c.self.inside.failed in
+    λ runs. record { is_run = is_run_of_own (options_of c.args.self.now) new (returns-in-Ok-clause-agreement g c).is_run; whole = c.in-Ok.ensures.whole }

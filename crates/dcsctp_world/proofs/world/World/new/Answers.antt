@@ -1,19 +1,33 @@
-use Rattle.std.proofs.Common.{false}
+use Rattle.std.proofs.Common.{◌≡◌, false, ap, ◌∙◌}
 use Rattle.dcsctp_machine.specs.declared.options.Options.{Options}
 use Rattle.dcsctp_machine.specs.Sockets.{Both}
 use Rattle.dcsctp_world.specs.Parts.{world_of}
+use Rattle.dcsctp_world.specs.Recording.{Recording, fresh_recording}
+use Rattle.dcsctp_world.specs.Shown.{WorldView, fresh_side, fresh_world}
 use Rattle.dcsctp_world.proofs.Running.{is_fresh, fresh_is_run, is_run_of_own}
+use Rattle.dcsctp_world.proofs.Whole.{fresh_whole}
 use Rattle.dcsctp_world.proofs.world.World.new.Goals as goal
-use Rattle.dcsctp_world.proofs.world.World.new.Goals.{After-new-3}
+use Rattle.dcsctp_world.proofs.world.World.new.Goals.{After-new-5}
+
+pub returns-clause-fresh : goal.returns-clause-fresh
+returns-clause-fresh g c =
+    let options : Both Options = record { a = c.args.a.now; b = c.args.b.now } in
+    let generators : Both (Recording g.row.R.Denot) = record { a = fresh_recording c.args.rng_a; b = fresh_recording c.args.rng_b } in
+    is_fresh c.in_ok-a.a c.in_ok-b.b c.new-5.result.items options generators
+    (c.in_ok-a.ensures.fresh ∙ ap (fresh_side options.a) c.new.ensures) (c.in_ok-b.ensures.fresh ∙ ap (fresh_side options.b) c.new-3.ensures) c.new-5.ensures.items
 
 pub returns-clause-run : goal.returns-clause-run
 returns-clause-run g c =
     let options : Both Options = record { a = c.args.a.now; b = c.args.b.now } in
-    let generators : Both g.row.R.Denot = record { a = c.args.rng_a; b = c.args.rng_b } in
-    fresh_is_run options generators (world_of c.in_ok-a.a c.in_ok-b.b c.new-3.result.items false)
-    (is_fresh c.in_ok-a.a c.in_ok-b.b c.new-3.result.items options generators c.in_ok-a.ensures.fresh c.in_ok-b.ensures.fresh c.new-3.ensures.items)
+    let generators : Both (Recording g.row.R.Denot) = record { a = fresh_recording c.args.rng_a; b = fresh_recording c.args.rng_b } in
+    fresh_is_run options generators (world_of c.in_ok-a.a c.in_ok-b.b c.new-5.result.items false) (returns-clause-fresh g c)
     (record { valid = c.requires.a; fits = c.options_fit.ensures }) (record { valid = c.requires.b; fits = c.options_fit-2.ensures })
 
 pub invariant_of-result : goal.invariant_of-result
 invariant_of-result g c =
-    λ runs. is_run_of_own (record { a = c.args.a.now; b = c.args.b.now }) (world_of c.in_ok-a.a c.in_ok-b.b c.new-3.result.items false) (returns-clause-run g c)
+    let options : Both Options = record { a = c.args.a.now; b = c.args.b.now } in
+    let world : WorldView (Recording g.row.R.Denot) = world_of c.in_ok-a.a c.in_ok-b.b c.new-5.result.items false in
+    λ runs. record {
+      is_run = is_run_of_own options world (returns-clause-run g c);
+      whole = fresh_whole options c.args.rng_a c.args.rng_b world (returns-clause-fresh g c);
+    }

@@ -4,24 +4,29 @@ use Rattle.dcsctp_machine.specs.Schedule.{step_content, step_act}
 use Rattle.dcsctp_world.specs.Acts.{Applied, Applies}
 use Rattle.dcsctp_world.specs.Shown.{options_of}
 use Rattle.dcsctp_world.proofs.Agreeing.{world_agrees, ran_out_among, handshake_connects}
+use Rattle.dcsctp_world.specs.Recording.{recorded_stream}
 use Rattle.dcsctp_world.proofs.Applying.{ran_next}
+use Rattle.dcsctp_world.proofs.Drawing.{draw_on_further}
 use Rattle.dcsctp_world.proofs.world.World.run.Goals as goal
 
 pub loop-step-preserved : goal.loop-step-preserved
-loop-step-preserved g c =
-    ran_next c.args.steps.now c.loop-step.step-index c.step-item.result c.in_ok-apply.field-0 c.args.self.now c.loop-step.self c.apply.new.self
-    c.loop-step-test.true c.loop-step.invariant
-    (subst (λ (s : Step). Applied (step_act (step_content s)) c.in_ok-apply.field-0 c.loop-step.self c.apply.new.self) c.step-item.is c.in_ok-apply.ensures.call) c.in_ok-apply.ensures.agreement.is_run c.in_ok-apply.ensures.options
+loop-step-preserved g c = (
+  ran_next c.args.steps.now c.loop-step.step-index c.step-item.result c.in_ok-apply.field-0 c.args.self.now c.loop-step.self c.apply.new.self
+      c.loop-step-test.true c.loop-step.invariant.0
+      (subst (λ (s : Step). Applied (step_act (step_content s)) c.in_ok-apply.field-0 c.loop-step.self c.apply.new.self) c.step-item.is c.in_ok-apply.ensures.call) c.in_ok-apply.ensures.agreement.is_run c.in_ok-apply.ensures.options,
+  draw_on_further (recorded_stream g.R.Rng.stream) c.args.self.now.sides c.loop-step.self.sides c.apply.new.self.sides c.loop-step.invariant.1 c.in_ok-apply.ensures.drawn,
+  c.in_ok-apply.ensures.whole,
+)
 
 pub returns-clause-agreement : goal.returns-clause-agreement
-returns-clause-agreement g c = world_agrees c.socket_laws.ensures (options_of c.args.self.now) c.loop-step.self c.loop-step.invariant.is_run
+returns-clause-agreement g c = world_agrees c.socket_laws.ensures (options_of c.args.self.now) c.loop-step.self c.loop-step.invariant.0.is_run
 
 pub returns-clause-handshake : goal.returns-clause-handshake
 returns-clause-handshake g c =
-    handshake_connects c.socket_laws.ensures.connect (options_of c.args.self.now) c.loop-step.self c.loop-step.invariant.is_run
+    handshake_connects c.socket_laws.ensures.connect (options_of c.args.self.now) c.loop-step.self c.loop-step.invariant.0.is_run
 
 pub returns-in_err-apply-clause-call : goal.returns-in_err-apply-clause-call
 returns-in_err-apply-clause-call g c =
-    ran_out_among c.socket_laws.ensures c.args.steps.now c.loop-step.step-index c.step-item.result c.in_err-apply.field-0.0 c.args.self.now c.loop-step.self c.apply.new.self
-    c.loop-step-test.true c.loop-step.invariant
+    ran_out_among (recorded_stream g.R.Rng.stream) c.socket_laws.ensures c.args.steps.now c.loop-step.step-index c.step-item.result c.in_err-apply.field-0.0 c.args.self.now c.loop-step.self c.apply.new.self
+    c.loop-step-test.true c.loop-step.invariant.0 c.loop-step.invariant.1
     (subst (λ (s : Step). Applies (step_act (step_content s)) c.loop-step.self (Err c.in_err-apply.field-0.0) c.apply.new.self) c.step-item.is c.in_err-apply.ensures.call) c.from_residual.result c.from_residual.ensures.1
