@@ -1,7 +1,7 @@
 -- The send queue: every message that waits to be sent (RFC 9260, section 6.9; RFC 8260, section 2.1). It outlasts an association.
 use Rattle.std.specs.Prelude.{◌≡◌, ℕ, ◌+◌, ◌-◌, ◌^◌, ◌%◌, ◌==◌, ◌<◌, min, nat_lt, not, Bool, true, false, Option, None, Some, is_some, List, [], ◌∷◌, length, map, if◌then◌else◌}
 use Rattle.std.specs.Option.{option_map}
-use Rattle.std.specs.List.{list_any, AllByRecursion}
+use Rattle.std.specs.List.{list_any}
 use Rattle.std.specs.Duration.{as_nanos, max_nanos}
 use Rattle.dcsctp_machine.specs.declared.options.Options.{Options}
 use Rattle.dcsctp_machine.specs.declared.message.SendOptions.{SendOptions}
@@ -59,14 +59,9 @@ abbrev pub CanGoOn : List Stream → Option UnderWay → Type 0
 CanGoOn streams None = Unit {0}
 CanGoOn streams (Some under_way) = IsUnderWay streams under_way
 
--- A message without bytes never waits.
-abbrev pub HaveBytes : Stream → Type 0
-HaveBytes stream = AllByRecursion (λ (message : Waiting). 0 < length message.payload) stream.messages
-
--- Each stream stands once, each message has bytes, and the message under way can go on.
+-- Each stream stands once, and the message under way can go on.
 pub record IsWellFormed (queue : SendQueueState) : Type 0 where
   pub ascending : IsAscending queue.streams
-  pub bytes : AllByRecursion HaveBytes queue.streams
   pub can : CanGoOn queue.streams queue.under_way
 
 -- ---- a stream of it
