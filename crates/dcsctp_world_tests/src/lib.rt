@@ -1,5 +1,4 @@
-//! Tests of `dcsctp_world` by its public calls: two sockets that find each other, bytes from outside, and sockets
-//! that are handed over.
+//! Tests of `dcsctp_world` by its public calls: two sockets that find each other, messages, and bytes from outside.
 //!
 //! A helper asserts and returns no error, and a world is dropped by a call. Otherwise each early end of a
 //! function that owns a world, and each end of a block, would be proved to drop all of it.
@@ -8,16 +7,8 @@
 #[cfg(test)]
 mod checks;
 #[cfg(test)]
-mod handover_resets;
-#[cfg(test)]
-mod handovers;
-#[cfg(test)]
-mod invalid_snapshots;
-#[cfg(test)]
 mod messages;
 #[cfg(test)]
 mod outside;
-#[cfg(test)]
-mod snapshots;
 #[cfg(test)]
 mod worlds;
