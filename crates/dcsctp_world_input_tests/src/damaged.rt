@@ -31,6 +31,14 @@ enum Damage {
     Set(usize, u8),
 }
 
+// What a socket is handed, and when.
+#[derive(Clone, Copy, Debug)]
+struct Case {
+    stage: Stage,
+    place: Place,
+    damage: Damage,
+}
+
 // A damaged copy.
 fn damaged(rt: &impl Abort, alloc: Global, packet: &[u8], damage: Damage) -> Vec<u8> {
     let mut copy = Vec::from_slice(alloc, packet).expect(rt, "no copy");
@@ -71,25 +79,30 @@ fn goes_on(rt: &impl Abort, world: &mut World<TwoWords>, name: &str, side: Side)
     same(rt, name, world.socket(side).state(), SocketState::Closed);
 }
 
-// A socket at this stage is handed these bytes.
-fn takes(rt: &impl Abort, alloc: Global, stage: Stage, place: Place, bytes: Vec<u8>, name: &str) {
-    let side = other(place.from);
-    let mut world = stage.world(rt, alloc, place);
+// The packet comes in at a socket, which goes on.
+fn takes(rt: &impl Abort, alloc: Global, case: Case, packet: &[u8]) {
+    let name = format!(in alloc; "{case:?}").expect(rt, "no name");
+    let side = other(case.place.from);
+    let mut world = case.stage.world(rt, alloc, case.place);
     let before = world.events(side).len();
-    comes_in(rt, name, &mut world, side, bytes);
+    let bytes = damaged(rt, alloc, packet, case.damage);
+    comes_in(rt, &name, &mut world, side, bytes);
     let count = world.events(side).len().saturating_sub(before);
-    holds(rt, name, count <= MOST_EVENTS);
-    answers(rt, &world, name, side);
-    goes_on(rt, &mut world, name, side);
+    holds(rt, &name, count <= MOST_EVENTS);
+    answers(rt, &world, &name, side);
+    goes_on(rt, &mut world, &name, side);
     drop(world);
 }
 
-// Sockets at all stages are.
+// It comes in at sockets of all stages.
 fn all_take(rt: &impl Abort, alloc: Global, place: Place, packet: &[u8], damage: Damage) {
     for stage in STAGES {
-        let bytes = damaged(rt, alloc, packet, damage);
-        let name = format!(in alloc; "{stage:?}, {place:?}, {damage:?}").expect(rt, "no name");
-        takes(rt, alloc, stage, place, bytes, &name);
+        let case = Case {
+            stage,
+            place,
+            damage,
+        };
+        takes(rt, alloc, case, packet);
     }
 }
 

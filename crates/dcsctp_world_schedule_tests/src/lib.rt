@@ -5,10 +5,12 @@
 //! function that owns a world, and each end of a block, would be proved to drop all of it.
 #![tactic(auto)]
 
+mod counter;
+
+pub use counter::Counter;
+
 #[cfg(test)]
 mod agreed;
-#[cfg(test)]
-mod counter;
 #[cfg(test)]
 mod counts;
 #[cfg(test)]

@@ -6,7 +6,7 @@ use crate::drawing::Drawing;
 use crate::pairs::{Both, interleaved, narrow, one_sided, plain, unlike};
 use crate::seen::Seen;
 use crate::steps::next_step;
-use crate::view::View;
+use crate::view::{Schedule, View};
 use dcsctp_world::socket::Pair;
 use dcsctp_world::{Side, World};
 use std::alloc::Global;
@@ -44,10 +44,12 @@ fn words(seed: u64, side: Side) -> Counter {
 }
 
 // Two closed sockets.
-fn new_world(rt: &impl Abort, alloc: Global, both: &Both, seed: u64) -> World<Counter> {
-    assert!(rt; both.a.is_valid() && both.b.is_valid(), "{}", both.name);
-    let (a, b) = (words(seed, Side::A), words(seed, Side::B));
-    World::new(alloc, &both.a, &both.b, a, b).expect(rt, "no world")
+fn new_world(rt: &impl Abort, alloc: Global, schedule: Schedule<'_>) -> World<Counter> {
+    let Both { name, a, b } = schedule.both;
+    assert!(rt; a.is_valid() && b.is_valid(), "{name}");
+    let rng_a = words(schedule.seed, Side::A);
+    let rng_b = words(schedule.seed, Side::B);
+    World::new(alloc, a, b, rng_a, rng_b).expect(rt, "no world")
 }
 
 // Has no pair among these the tag of one before it?
@@ -61,25 +63,23 @@ fn are_distinct(pairs: &[Pair]) -> bool {
 }
 
 // What the agreement needs: nothing came from outside, and no side has drawn a tag twice.
-fn is_fair(rt: &impl Abort, both: &Both, seed: u64, world: &World<Counter>) {
+fn is_fair(rt: &impl Abort, schedule: Schedule<'_>, world: &World<Counter>) {
     let is_fair = world.is_honest()
         && are_distinct(world.pairs(Side::A))
         && are_distinct(world.pairs(Side::B));
-    assert!(rt; is_fair, "{}, seed {seed}", both.name);
+    assert!(rt; is_fair, "{}, seed {}", schedule.both.name, schedule.seed);
 }
 
-// Both sides after the last act.
+// Looks at both sides after an act.
 fn look(
     rt: &impl Abort,
-    both: &Both,
-    seed: u64,
+    schedule: Schedule<'_>,
     world: &World<Counter>,
     (a, b): (&mut Seen, &mut Seen),
     counts: &mut Counts,
 ) {
     let mut view = View {
-        both,
-        seed,
+        schedule,
         world,
         side: Side::A,
     };
@@ -88,18 +88,29 @@ fn look(
     b.look_on(rt, &view, counts);
 }
 
-// Goes through a schedule.
-fn runs(rt: &impl Abort, alloc: Global, both: &Both, seed: u64, counts: &mut Counts) {
-    let mut world = new_world(rt, alloc, both, seed);
-    let mut drawing = Drawing::new(seed);
+// Takes the steps of a schedule.
+fn goes_through(
+    rt: &impl Abort,
+    alloc: Global,
+    schedule: Schedule<'_>,
+    world: &mut World<Counter>,
+    counts: &mut Counts,
+) {
+    let mut drawing = Drawing::new(schedule.seed);
     let mut a = Seen::new(alloc);
     let mut b = Seen::new(alloc);
     for _ in 0..STEPS {
-        let step = [next_step(rt, alloc, &mut drawing, &world)];
+        let step = [next_step(rt, alloc, &mut drawing, world)];
         world.run(&step).expect(rt, "no step");
-        look(rt, both, seed, &world, (&mut a, &mut b), counts);
+        look(rt, schedule, world, (&mut a, &mut b), counts);
     }
-    is_fair(rt, both, seed, &world);
+}
+
+// Goes through a schedule.
+fn runs(rt: &impl Abort, alloc: Global, schedule: Schedule<'_>, counts: &mut Counts) {
+    let mut world = new_world(rt, alloc, schedule);
+    goes_through(rt, alloc, schedule, &mut world, counts);
+    is_fair(rt, schedule, &world);
     drop(world);
 }
 
@@ -108,7 +119,7 @@ fn runs_each(rt: &impl Abort, alloc: Global, both: &Both, first: u32) {
     let mut counts = Counts::zero();
     for at in 0..SCHEDULES {
         let seed = u64::from(first) + at;
-        runs(rt, alloc, both, seed, &mut counts);
+        runs(rt, alloc, Schedule { both, seed }, &mut counts);
     }
     counts.reach(rt, both.name, &LEAST);
 }

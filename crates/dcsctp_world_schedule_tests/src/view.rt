@@ -8,11 +8,17 @@ use dcsctp_world::socket::{Association, Held, Pair, ReconfigurationResponseResul
 use dcsctp_world::{Side, World};
 use std::process::Abort;
 
-/// A side of a world, and by what a failure names the schedule.
+/// By what a failure names a schedule: its options, and the seed that it is drawn from.
 #[derive(Clone, Copy)]
-pub struct View<'a> {
+pub struct Schedule<'a> {
     pub both: &'a Both,
     pub seed: u64,
+}
+
+/// A side of a world.
+#[derive(Clone, Copy)]
+pub struct View<'a> {
+    pub schedule: Schedule<'a>,
     pub world: &'a World<Counter>,
     pub side: Side,
 }
@@ -35,8 +41,8 @@ impl View<'_> {
     pub fn fails(&self, rt: &impl Abort, text: &str) -> ! {
         panic!(rt;
             "{}, seed {}, act {}, {:?}: {text}",
-            self.both.name,
-            self.seed,
+            self.schedule.both.name,
+            self.schedule.seed,
             self.world.acts().len(),
             self.side
         )
@@ -51,7 +57,7 @@ impl View<'_> {
 
     // What the options of both sides say that they agree on, as this side and as its peer sees it.
     fn agreed(&self) -> (Agreed, Agreed) {
-        let (a, b) = (&self.both.a, &self.both.b);
+        let Both { a, b, .. } = self.schedule.both;
         match self.side {
             Side::A => (agreed(a, b), agreed(b, a)),
             Side::B => (agreed(b, a), agreed(a, b)),
