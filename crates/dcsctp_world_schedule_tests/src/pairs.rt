@@ -11,68 +11,81 @@ pub struct Both {
     pub b: Options,
 }
 
-fn defaults(name: &'static str) -> Both {
+// A method of zero checksum.
+fn method(number: u32) -> ZeroChecksumAlternateErrorDetectionMethod {
+    ZeroChecksumAlternateErrorDetectionMethod(number)
+}
+
+/// All as by default.
+pub fn plain() -> Both {
     Both {
-        name,
+        name: "plain",
         a: Options::default(),
         b: Options::default(),
     }
 }
 
-/// All as by default.
-pub fn plain() -> Both {
-    defaults("plain")
-}
-
 /// Other numbers of streams, and methods of zero checksum that aren't the same.
 pub fn unlike() -> Both {
-    let mut both = defaults("unlike");
-    both.a.announced_maximum_incoming_streams = 7;
-    both.a.announced_maximum_outgoing_streams = 300;
-    both.a.zero_checksum_alternate_error_detection_method =
-        ZeroChecksumAlternateErrorDetectionMethod(1);
-    both.b.announced_maximum_incoming_streams = 20;
-    both.b.announced_maximum_outgoing_streams = 9;
-    both.b.zero_checksum_alternate_error_detection_method =
-        ZeroChecksumAlternateErrorDetectionMethod(2);
-    both
+    let mut a = Options::default();
+    a.announced_maximum_incoming_streams = 7;
+    a.announced_maximum_outgoing_streams = 300;
+    a.zero_checksum_alternate_error_detection_method = method(1);
+    let mut b = Options::default();
+    b.announced_maximum_incoming_streams = 20;
+    b.announced_maximum_outgoing_streams = 9;
+    b.zero_checksum_alternate_error_detection_method = method(2);
+    Both {
+        name: "unlike",
+        a,
+        b,
+    }
 }
 
 /// Message interleaving at both, and one method of zero checksum.
 pub fn interleaved() -> Both {
-    let mut both = defaults("interleaved");
-    both.a.enable_message_interleaving = true;
-    both.b.enable_message_interleaving = true;
-    both.a.zero_checksum_alternate_error_detection_method =
-        ZeroChecksumAlternateErrorDetectionMethod(1);
-    both.b.zero_checksum_alternate_error_detection_method =
-        ZeroChecksumAlternateErrorDetectionMethod(1);
-    both
+    let mut options = Options::default();
+    options.enable_message_interleaving = true;
+    options.zero_checksum_alternate_error_detection_method = method(1);
+    Both {
+        name: "interleaved",
+        a: options,
+        b: options,
+    }
 }
 
-/// Extensions that one end alone has, and a handover whatever waits.
+/// Extensions that one end alone has, and a handover of A whatever waits.
 pub fn one_sided() -> Both {
-    let mut both = defaults("one-sided");
-    both.a.enable_partial_reliability = false;
-    both.a.enable_handover_with_outstanding_data = true;
-    both.b.enable_message_interleaving = true;
-    both.b.zero_checksum_alternate_error_detection_method =
-        ZeroChecksumAlternateErrorDetectionMethod(1);
-    both
+    let mut a = Options::default();
+    a.enable_partial_reliability = false;
+    a.enable_handover_with_outstanding_data = true;
+    let mut b = Options::default();
+    b.enable_message_interleaving = true;
+    b.zero_checksum_alternate_error_detection_method = method(1);
+    Both {
+        name: "one-sided",
+        a,
+        b,
+    }
 }
 
 /// Small packets, few at once, and little patience at A; no heartbeats at B.
 pub fn narrow() -> Both {
-    let mut both = defaults("narrow");
-    both.a.mtu = 128;
-    both.a.max_burst = 1;
-    both.a.max_retransmissions = Some(2);
-    both.a.max_init_retransmits = Some(1);
-    both.a.heartbeat_interval = Duration::from_secs(5);
-    both.b.mtu = 200;
-    both.b.max_burst = 2;
-    both.b.cwnd_mtus_initial = 1;
-    both.b.heartbeat_interval = Duration::from_secs(0);
-    both.b.max_receiver_window_buffer_size = 10_000;
-    both
+    let mut a = Options::default();
+    a.mtu = 128;
+    a.max_burst = 1;
+    a.max_retransmissions = Some(2);
+    a.max_init_retransmits = Some(1);
+    a.heartbeat_interval = Duration::from_secs(5);
+    let mut b = Options::default();
+    b.mtu = 200;
+    b.max_burst = 2;
+    b.cwnd_mtus_initial = 1;
+    b.heartbeat_interval = Duration::from_secs(0);
+    b.max_receiver_window_buffer_size = 10_000;
+    Both {
+        name: "narrow",
+        a,
+        b,
+    }
 }

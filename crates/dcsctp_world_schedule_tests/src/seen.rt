@@ -99,10 +99,10 @@ impl Seen {
     /// Looks at what the last act has brought to this side.
     pub fn look_on(&mut self, rt: &impl Abort, view: &View<'_>, counts: &mut Counts) {
         counts_on(rt, view);
-        let events = view.events_behind(self.events);
-        for event in events {
+        let events = view.world.events(view.side);
+        for event in events.get(self.events..).unwrap_or(&[]) {
             self.look(rt, view, counts, event);
         }
-        self.events = self.events.saturating_add(events.len());
+        self.events = events.len();
     }
 }

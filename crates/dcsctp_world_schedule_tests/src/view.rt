@@ -4,7 +4,7 @@ use crate::agreed::{Agreed, agreed, shown};
 use crate::counter::Counter;
 use crate::pairs::Both;
 use crate::steps::other;
-use dcsctp_world::socket::{Association, Held, Pair, ReconfigurationResponseResult, SocketEvent};
+use dcsctp_world::socket::{Association, Held, Pair, ReconfigurationResponseResult};
 use dcsctp_world::{Side, World};
 use std::process::Abort;
 
@@ -62,11 +62,6 @@ impl View<'_> {
             Side::A => (agreed(a, b), agreed(b, a)),
             Side::B => (agreed(b, a), agreed(a, b)),
         }
-    }
-
-    /// Its events behind the first of them, so many.
-    pub fn events_behind(&self, count: usize) -> &[SocketEvent] {
-        self.world.events(self.side).get(count..).unwrap_or(&[])
     }
 
     /// What it knew of its peer this many acts ago.
