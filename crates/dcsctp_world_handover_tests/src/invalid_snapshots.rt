@@ -54,7 +54,7 @@ fn add_stream(rt: &impl Abort, state: &mut SocketHandoverState, change: Change) 
     }
 }
 
-// Changes what waits or is in flight.
+// Changes what waits.
 fn change_data(state: &mut SocketHandoverState, change: Change) {
     for message in &mut state.tx.queued_messages {
         match change {

@@ -237,7 +237,7 @@ fn resets_a_stream(rt: &impl Abort, alloc: Global, world: &mut World<TwoWords>) 
 // The call alone: the socket stays closed, and its peer isn't told.
 #[test]
 fn a_handover_answers_what_the_socket_had(rt: HostRuntime) {
-    let mut world = world_behind_handshake(&rt, rt.alloc(), 0);
+    let mut world = world_behind_handshake(&rt, rt.alloc());
     resets_a_stream(&rt, rt.alloc(), &mut world);
     let state = snapshot_behind_reset(&rt, rt.alloc());
     asks(&rt, &mut world, "connected", Reply::HandedOver(Ok(state)));

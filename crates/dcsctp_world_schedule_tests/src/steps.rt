@@ -1,0 +1,76 @@
+//! The steps of a schedule.
+
+use crate::counter::Counter;
+use crate::drawing::Drawing;
+use dcsctp_world::socket::{Message, PpId, SendOptions, StreamId};
+use dcsctp_world::{Call, Side, Step, World};
+use std::alloc::Global;
+use std::process::Abort;
+use std::time::Duration;
+
+/// The other side.
+pub fn other(side: Side) -> Side {
+    match side {
+        Side::A => Side::B,
+        Side::B => Side::A,
+    }
+}
+
+// How long a message is tried, and whether it is ordered.
+fn options(drawing: &mut Drawing) -> SendOptions {
+    let mut options = SendOptions::default();
+    options.unordered = drawing.below(3) == 0;
+    match drawing.below(6) {
+        0 => options.lifetime = Some(Duration::from_millis(100)),
+        1 => options.max_retransmissions = Some(0),
+        _ => {}
+    }
+    options
+}
+
+// A message: one of eight fills several packets.
+fn sending(rt: &impl Abort, alloc: Global, drawing: &mut Drawing) -> Call {
+    let most = if drawing.below(8) == 0 { 3000 } else { 100 };
+    let len = drawing.below(most).saturating_add(1) as usize;
+    let mut payload = Vec::new(alloc);
+    payload.resize(len, 7).expect(rt, "no payload");
+    let message = Message::new(drawing.stream(), PpId(51), payload);
+    Call::Send(message, options(drawing))
+}
+
+// One to three streams are reset.
+fn resetting(rt: &impl Abort, alloc: Global, drawing: &mut Drawing) -> Call {
+    let ids: [StreamId; 3] = [drawing.stream(), drawing.stream(), drawing.stream()];
+    let count = drawing.below(3) as usize;
+    let some = ids.get(count..).unwrap_or(&[]);
+    Call::ResetStreams(Vec::from_slice(alloc, some).expect(rt, "no list"))
+}
+
+// A call of a user.
+fn call(rt: &impl Abort, alloc: Global, drawing: &mut Drawing) -> Call {
+    match drawing.below(40) {
+        0..=6 => Call::Connect,
+        7 => Call::Close,
+        8 => Call::Shutdown,
+        9..=15 => resetting(rt, alloc, drawing),
+        16..=26 => sending(rt, alloc, drawing),
+        27..=31 => Call::GetNextMessage,
+        32..=38 => Call::AdvanceTime(drawing.later()),
+        _ => Call::GetHandoverStateAndClose,
+    }
+}
+
+/// The next step: three of five hand over a packet.
+pub fn next_step(
+    rt: &impl Abort,
+    alloc: Global,
+    drawing: &mut Drawing,
+    world: &World<Counter>,
+) -> Step {
+    let side = drawing.side();
+    if drawing.below(5) < 3 {
+        let from = other(side);
+        return Step::Deliver(side, drawing.packet(from, world.packets(from).len()));
+    }
+    Step::Call(side, call(rt, alloc, drawing))
+}
